@@ -1,0 +1,13 @@
+ghost use Rattle.std.specs.Prelude.{◌≡◌, List, ℕ};
+ghost use Rattle.knx_model.specs.declared.frames.tpdu.Tpdu.{Tpdu};
+ghost use Rattle.knx_model.specs.Apdu.{Reads, Written, IsInRange};
+
+/// What is written is read as the frame that was written.
+pub fn written_reads()
+    ensures { (frame : Tpdu) → IsInRange frame → Reads (Written frame) frame }
+{}
+
+/// Octets are read as one frame.
+pub fn reads_once()
+    ensures { (octets : List ℕ) (one other : Tpdu) → Reads octets one → Reads octets other → one ≡ other }
+{}

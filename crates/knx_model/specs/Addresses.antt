@@ -1,0 +1,34 @@
+-- Words that are addresses (ISO/IEC 14543-3, network layer): three numbers of 1 to 3 decimal digits.
+use Rattle.std.specs.Prelude.{◌≡◌, ℕ, ◌+◌, ◌*◌, Bool, ◌==◌, List, [], ◌∷◌, Option, Some, None, if◌then◌else◌}
+use Rattle.std.specs.List.{slice_split}
+use Rattle.knx_model.specs.declared.address.GroupAddr.{GroupAddr}
+use Rattle.knx_model.specs.declared.address.IndAddr.{IndAddr}
+use Rattle.knx_model.specs.Numbers.{part_value}
+
+infixl 10 ◌>>=◌
+abbrev pub ◌>>=◌ : {A B : Type 0} → Option A → (A → Option B) → Option B
+(Some x) >>= f = f x
+None >>= f = None
+
+-- just three parts
+abbrev pub three : List (List ℕ) → Option (List ℕ × List ℕ × List ℕ)
+three (a ∷ b ∷ c ∷ []) = Some (a, b, c)
+three _ = None
+
+-- three numbers of 1 to 3 digits joined by dots: area, line and device
+unfoldable pub ind_value : List ℕ → Option IndAddr
+ind_value word = do
+  parts ← three (slice_split (λ b. b == 46) word)
+  area ← part_value 15 parts.0
+  line ← part_value 15 parts.1
+  device ← part_value 254 parts.2
+  if device == 0 then None else Some (record { raw = area * 4096 + line * 256 + device })
+
+-- three numbers of 1 to 3 digits joined by slashes: main, middle and sub. 0/0/0 is broadcast
+unfoldable pub group_value : List ℕ → Option GroupAddr
+group_value word = do
+  parts ← three (slice_split (λ b. b == 47) word)
+  main ← part_value 31 parts.0
+  middle ← part_value 7 parts.1
+  sub ← part_value 255 parts.2
+  if main * 2048 + middle * 256 + sub == 0 then None else Some (record { raw = main * 2048 + middle * 256 + sub })

@@ -1,0 +1,121 @@
+-- The texts that the program prints: the report of a run, and the line of a call that stops before it. Each line ends with a line
+-- feed; numbers are decimal.
+use Rattle.std.specs.Prelude.{ℕ, ◌≡◌, ◌+◌, ◌/◌, ◌%◌, Bool, ◌==◌, codes, List, [], ◌∷◌, ◌++◌, map, Option, Some, None, if◌then◌else◌}
+use Rattle.std.specs.List.{join_with_byte, flat_map, filter_map, enumerate_from}
+use Rattle.std.specs.Fmt.{decimal}
+use Rattle.knx_model.specs.declared.address.IndAddr.{IndAddr}
+use Rattle.knx_model.specs.declared.command.SimFile.{SimFile}
+use Rattle.knx_model.specs.declared.command.SimFile.TheVariants as file
+use Rattle.knx_model.specs.declared.command.Stop.{Stop}
+use Rattle.knx_model.specs.declared.command.Stop.TheVariants as stop
+use Rattle.knx_model.specs.declared.log.Case.{Case}
+use Rattle.knx_model.specs.declared.log.Case.TheVariants as case
+use Rattle.knx_model.specs.declared.log.DeviceCase.{DeviceCase}
+use Rattle.knx_model.specs.declared.log.JobWord.{JobWord}
+use Rattle.knx_model.specs.declared.log.LogEntry.{LogEntry}
+use Rattle.knx_model.specs.declared.log.LogWhat.{LogWhat}
+use Rattle.knx_model.specs.declared.log.LogWhat.TheVariants as told
+use Rattle.knx_model.specs.declared.log.Report.{Report}
+use Rattle.knx_model.specs.declared.log.Sign.{Sign}
+use Rattle.knx_model.specs.declared.log.Sign.TheVariants as sign
+use Rattle.knx_model.specs.declared.refusal.Refused.{Refused}
+use Rattle.knx_model.specs.declared.refusal.Why.{Why}
+use Rattle.knx_model.specs.declared.refusal.Why.TheVariants.{TooMany}
+use Rattle.knx_model.specs.declared.status.Status.{Status}
+use Rattle.knx_model.specs.declared.status.Status.TheVariants as status
+use Rattle.knx_model.specs.Refusal.{why_number, why_word}
+
+-- words apart by one space, and a line feed
+abbrev pub line : List (List ℕ) → List ℕ
+line words = join_with_byte 32 words ++ 10 ∷ []
+
+abbrev pub device_text : IndAddr → List ℕ
+device_text d = join_with_byte 46 (decimal (d.raw / 4096) ∷ decimal (d.raw / 256 % 16) ∷ decimal (d.raw % 256) ∷ [])
+
+-- ---- the report
+
+abbrev pub sign_word : Sign → List ℕ
+sign_word (sign.Silent ms) = codes "silent"
+sign_word sign.Closed = codes "closed"
+sign_word sign.NoCon = codes "nocon"
+sign_word sign.TunnelLost = codes "tunnel"
+
+-- how an entry of the log ends job k
+abbrev pub end_of : ℕ → LogWhat → Option (List (List ℕ))
+end_of k (told.Took job) = None
+end_of k (told.Done job) = if job == k then Some (codes "done" ∷ []) else None
+end_of k (told.Failed job signs) = if job == k then Some (codes "failed" ∷ map sign_word signs) else None
+
+abbrev pub first_or_open : List (List (List ℕ)) → List (List ℕ)
+first_or_open [] = codes "open" ∷ []
+first_or_open (ends ∷ others) = ends
+
+-- the end of job k by the log; without one it is open
+abbrev pub end_words : List LogEntry → ℕ → List (List ℕ)
+end_words log k = first_or_open (filter_map (λ entry. end_of k entry.what) log)
+
+abbrev pub job_word : Bool → List ℕ
+job_word check = if check then codes "check" else codes "load"
+
+abbrev pub job_line : List LogEntry → ℕ → JobWord → List ℕ
+job_line log k job = line (codes "job" ∷ decimal k ∷ job_word job.check ∷ device_text job.device ∷ end_words log k)
+
+abbrev pub case_word : Case → List ℕ
+case_word case.New = codes "new"
+case_word case.Old = codes "old"
+case_word case.Stopped = codes "stopped"
+
+abbrev pub device_line : DeviceCase → List ℕ
+device_line d = line (codes "device" ∷ device_text d.device ∷ case_word d.case ∷ [])
+
+-- a line for each job, a line for each device, and the count of missed indications
+unfoldable pub report_text : Report → List JobWord → List DeviceCase → List ℕ
+report_text report jobs devices =
+    flat_map (λ p. job_line report.log p.0 p.1) (enumerate_from 1 jobs) ++ (flat_map device_line devices ++ line (codes "missed" ∷ decimal report.missed ∷ []))
+
+-- ---- a call that stops before its report
+
+abbrev pub usage_line : List ℕ
+usage_line = line (codes "usage: knx check, tables, sim, download, gateway, decode or big, with their words" ∷ [])
+
+abbrev pub file_word : SimFile → List ℕ
+file_word file.New = codes "new"
+file_word file.Old = codes "old"
+file_word file.Script = codes "script"
+
+abbrev pub optional_number : Option ℕ → List (List ℕ)
+optional_number None = []
+optional_number (Some n) = decimal n ∷ []
+
+abbrev pub limit_of : Why → Option ℕ
+limit_of (TooMany limit) = Some limit
+limit_of why = None
+
+-- new line L: N WHY, or old, or script; too many of something is followed by its limit
+abbrev pub refusal_line : SimFile → Refused → List ℕ
+refusal_line place refused =
+    line (file_word place ∷ codes "line" ∷ (decimal refused.line ++ codes ":") ∷ (optional_number (why_number refused.why) ++ (why_word refused.why ∷ optional_number (limit_of refused.why))))
+
+-- read fault NAME WHY
+abbrev pub read_fault_line : List ℕ → List ℕ → List ℕ
+read_fault_line name why = line (codes "read" ∷ codes "fault" ∷ name ∷ why ∷ [])
+
+-- what is printed at a stop, where each file's name is given
+abbrev pub stop_text : (SimFile → List ℕ) → Stop → List ℕ
+stop_text name stop.Usage = usage_line
+stop_text name (stop.NotThere place) = read_fault_line (name place) (codes "NotThere")
+stop_text name (stop.ReadFailed place) = read_fault_line (name place) (codes "Failed")
+stop_text name (stop.Refused place refused) = refusal_line place refused
+stop_text name stop.NoMemory = line (codes "no memory" ∷ [])
+
+abbrev pub refusal_status : SimFile → Status
+refusal_status file.New = status.Project
+refusal_status file.Old = status.Project
+refusal_status file.Script = status.Script
+
+abbrev pub stop_status : Stop → Status
+stop_status stop.Usage = status.Usage
+stop_status (stop.NotThere place) = status.Read
+stop_status (stop.ReadFailed place) = status.Read
+stop_status (stop.Refused place refused) = refusal_status place
+stop_status stop.NoMemory = status.NoMemory

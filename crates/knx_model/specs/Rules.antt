@@ -1,0 +1,175 @@
+-- The rules that look at a whole project text and at the lines before a line. Each is a sentence of its own; a line breaks the one of
+-- the least number, and a text is refused at its least line that breaks one.
+use Rattle.std.specs.Prelude.{◌≡◌, ℕ, ◌+◌, Bool, true, false, ◌&&◌, ◌||◌, not, ◌==◌, nat_le, is_some, is_none, bytes_eq, codes, count_by, List, [], ◌∷◌, take, Option, Some, None, if◌then◌else◌}
+use Rattle.std.specs.List.{list_any, filter_map, enumerate_from}
+use Rattle.knx_model.specs.declared.address.GroupAddr.{GroupAddr}
+use Rattle.knx_model.specs.declared.address.IndAddr.{IndAddr}
+use Rattle.knx_model.specs.declared.project.Statement.{Statement}
+use Rattle.knx_model.specs.declared.project.What.{What}
+use Rattle.knx_model.specs.declared.project.What.TheVariants.{Title, Group, Device, Object, Link}
+use Rattle.knx_model.specs.declared.refusal.Refused.{Refused}
+use Rattle.knx_model.specs.declared.refusal.Why.{Why}
+use Rattle.knx_model.specs.declared.refusal.Why.TheVariants.{DuplicateDevice, DuplicateGroup, UnknownGroup, UnknownModel, DuplicateObject, UnknownObject, DuplicateLink, SizeDiffers, TooMany, NoDevice}
+use Rattle.knx_model.specs.Statements.{reading}
+
+-- ---- what statements declare. A device, an object and a group are named by their numbers.
+
+-- a `ga` line declares the group
+abbrev pub declares_group : ℕ → What → Bool
+declares_group g (Group group name) = group.raw == g
+declares_group g _ = false
+
+-- a `device` line declares the device
+abbrev pub declares_device : ℕ → What → Bool
+declares_device d (Device device model) = device.raw == d
+declares_device d _ = false
+
+abbrev pub is_device_line : What → Bool
+is_device_line (Device device model) = true
+is_device_line _ = false
+
+-- an `object` line declares object n of the device
+abbrev pub declares_object : ℕ → ℕ → What → Bool
+declares_object d n (Object device number size flags) = (device.raw == d) && (number == n)
+declares_object d n _ = false
+
+-- a `link` line links object n of the device to the group
+abbrev pub links_to : ℕ → ℕ → ℕ → What → Bool
+links_to d n g (Link device object group) = (device.raw == d) && (object == n) && (group.raw == g)
+links_to d n g _ = false
+
+abbrev pub links_device : ℕ → What → Bool
+links_device d (Link device object group) = device.raw == d
+links_device d _ = false
+
+abbrev pub some_line : (What → Bool) → List Statement → Bool
+some_line test ss = list_any (λ s. test s.what) ss
+
+abbrev pub count_lines : (What → Bool) → List Statement → ℕ
+count_lines test ss = count_by (λ s. test s.what) ss
+
+-- the size in an `object` line of object n of the device
+abbrev pub size_in : ℕ → ℕ → What → Option ℕ
+size_in d n (Object device number size flags) = if (device.raw == d) && (number == n) then Some size else None
+size_in d n _ = None
+
+-- the device and the object of a `link` line of the group
+abbrev pub linked_in : ℕ → What → Option (ℕ × ℕ)
+linked_in g (Link device object group) = if group.raw == g then Some (device.raw, object) else None
+linked_in g _ = None
+
+abbrev pub first_some : {X : Type 0} → (What → Option X) → List Statement → Option X
+first_some f [] = None
+first_some {X = X} f (s ∷ ss) = elim (f s.what) as (λ _. Option X) [ None ↦ first_some f ss | Some x ↦ Some x ]
+
+-- the size of object n of the device: that of its first `object` line
+abbrev pub size_of : List Statement → ℕ → ℕ → Option ℕ
+size_of whole d n = first_some (size_in d n) whole
+
+-- the device and the object of the group's first `link` line
+abbrev pub first_linked : List Statement → ℕ → Option (ℕ × ℕ)
+first_linked whole g = first_some (linked_in g) whole
+
+-- ---- the rules, of a line, the lines before it and the whole text
+
+-- 9: a `device` line's address stands in an earlier one
+abbrev pub duplicate_device : List Statement → What → Bool
+duplicate_device earlier (Device device model) = some_line (declares_device device.raw) earlier
+duplicate_device earlier _ = false
+
+-- 10: a `ga` line's address stands in an earlier one
+abbrev pub duplicate_group : List Statement → What → Bool
+duplicate_group earlier (Group group name) = some_line (declares_group group.raw) earlier
+duplicate_group earlier _ = false
+
+-- 11: a `link` line's group stands in no `ga` line
+abbrev pub unknown_group : List Statement → What → Bool
+unknown_group whole (Link device object group) = not (some_line (declares_group group.raw) whole)
+unknown_group whole _ = false
+
+-- 12: a `device` line's model isn't known; `inline` is
+abbrev pub unknown_model : What → Bool
+unknown_model (Device device model) = not (bytes_eq model (codes "inline"))
+unknown_model _ = false
+
+-- 13: an `object` line's number stands in an earlier one of its device
+abbrev pub duplicate_object : List Statement → What → Bool
+duplicate_object earlier (Object device n size flags) = some_line (declares_object device.raw n) earlier
+duplicate_object earlier _ = false
+
+-- 14: a `link` line's object stands in no `object` line of its device
+abbrev pub unknown_object : List Statement → What → Bool
+unknown_object whole (Link device object group) = not (some_line (declares_object device.raw object) whole)
+unknown_object whole _ = false
+
+-- 15: a `link` line's device, object and group stand in an earlier one
+abbrev pub duplicate_link : List Statement → What → Bool
+duplicate_link earlier (Link device object group) = some_line (links_to device.raw object group.raw) earlier
+duplicate_link earlier _ = false
+
+-- two sizes that are known and differ
+abbrev pub differ : Option ℕ → Option ℕ → Bool
+differ None other = false
+differ (Some one) None = false
+differ (Some one) (Some other) = not (one == other)
+
+abbrev pub size_of_first : List Statement → Option (ℕ × ℕ) → Option ℕ
+size_of_first whole None = None
+size_of_first whole (Some first) = size_of whole first.0 first.1
+
+-- 18: a `link` line's object has another size than the object of the first `link` line of that group
+abbrev pub size_differs : List Statement → What → Bool
+size_differs whole (Link device object group) = differ (size_of whole device.raw object) (size_of_first whole (first_linked whole group.raw))
+size_differs whole _ = false
+
+-- 19: the 256th `device` line
+abbrev pub too_many_devices : List Statement → What → Bool
+too_many_devices earlier (Device device model) = nat_le 255 (count_lines is_device_line earlier)
+too_many_devices earlier _ = false
+
+-- 19: the 2,048th `link` line of a device
+abbrev pub too_many_links : List Statement → What → Bool
+too_many_links earlier (Link device object group) = nat_le 2047 (count_lines (links_device device.raw) earlier)
+too_many_links earlier _ = false
+
+-- 20: an `object` or `link` line's address stands in no `device` line
+abbrev pub no_device : List Statement → What → Bool
+no_device whole (Object device n size flags) = not (some_line (declares_device device.raw) whole)
+no_device whole (Link device object group) = not (some_line (declares_device device.raw) whole)
+no_device whole _ = false
+
+-- the rule of the least number that a line breaks. The rules 13, 14 and 18 aren't asked of a line whose device is unknown.
+unfoldable pub rule_of : List Statement → List Statement → What → Option Why
+rule_of earlier whole what =
+    if duplicate_device earlier what then Some DuplicateDevice
+    else (if duplicate_group earlier what then Some DuplicateGroup
+    else (if unknown_group whole what then Some UnknownGroup
+    else (if unknown_model what then Some UnknownModel
+    else (if not (no_device whole what) && duplicate_object earlier what then Some DuplicateObject
+    else (if not (no_device whole what) && unknown_object whole what then Some UnknownObject
+    else (if duplicate_link earlier what then Some DuplicateLink
+    else (if not (no_device whole what) && size_differs whole what then Some SizeDiffers
+    else (if too_many_devices earlier what then Some (TooMany 255)
+    else (if too_many_links earlier what then Some (TooMany 2047)
+    else (if no_device whole what then Some NoDevice
+    else None))))))))))
+
+abbrev pub broken_at : ℕ → Option Why → Option Refused
+broken_at line None = None
+broken_at line (Some why) = Some (record { line = line; why = why })
+
+-- the lines from place k on that break a rule, each judged by those before it and by all
+unfoldable pub broken_from : List Statement → ℕ → List Statement → List Refused
+broken_from ss k rest = filter_map (λ p. broken_at p.1.line (rule_of (take p.0 ss) ss p.1.what)) (enumerate_from k rest)
+
+abbrev pub first_of : List Refused → Option Refused
+first_of [] = None
+first_of (r ∷ rs) = Some r
+
+-- the least line that breaks a rule
+abbrev pub first_broken : List Statement → Option Refused
+first_broken ss = first_of (broken_from ss 0 ss)
+
+-- the devices of a text: just those of its `device` lines
+abbrev pub has_device : List Statement → ℕ → Bool
+has_device ss d = some_line (declares_device d) ss

@@ -1,0 +1,187 @@
+-- The project text: what a line says, and what a whole text reads as. A line says a statement, nothing, or the first rule that it
+-- breaks; a text is refused at the least line that breaks a rule. The language is this project's own.
+use Rattle.std.specs.Prelude.{◌≡◌, ◌≢◌, ℕ, ◌+◌, ◌-◌, ◌<◌, ◌%◌, slice_get, IsOk, Bool, true, ◌&&◌, ◌||◌, not, ◌==◌, nat_lt, nat_le, bytes_eq, codes, List, [], ◌∷◌, length, Option, Some, None, Result, Ok, Err, if◌then◌else◌}
+use Rattle.std.specs.List.{list_all, filter_map, enumerate_from}
+use Rattle.std.specs.Str.Lines.{lines}
+use Rattle.knx_model.specs.declared.address.GroupAddr.{GroupAddr}
+use Rattle.knx_model.specs.declared.address.IndAddr.{IndAddr}
+use Rattle.knx_model.specs.declared.project.Statement.{Statement}
+use Rattle.knx_model.specs.declared.project.What.{What}
+use Rattle.knx_model.specs.declared.project.What.TheVariants.{Title, Group, Device, Object, Link}
+use Rattle.knx_model.specs.declared.refusal.Refused.{Refused}
+use Rattle.knx_model.specs.declared.refusal.Why.{Why}
+use Rattle.knx_model.specs.declared.refusal.Why.TheVariants.{NotText, LongLine, UnknownWord, BadAddress, BadNumber, BadName, MissingWord, ExtraWord, TooMany}
+use Rattle.knx_model.specs.Words.{words, is_text, without_comment}
+use Rattle.knx_model.specs.Numbers.{number_value, is_name}
+use Rattle.knx_model.specs.Addresses.{group_value, ind_value}
+use Rattle.knx_model.specs.Flags.{flags_value}
+use Rattle.knx_model.specs.Sizes.{size_value}
+
+infixl 10 ◌>>=◌
+abbrev pub ◌>>=◌ : {A B : Type 0} → Result A Why → (A → Result B Why) → Result B Why
+(Ok x) >>= f = f x
+(Err e) >>= f = Err e
+
+-- ---- words in their places
+
+-- a word in its place, and the words after it
+abbrev pub placed : {A : Type 0} → Option A → Why → List (List ℕ) → Result (A × List (List ℕ)) Why
+placed None why ws = Err why
+placed (Some x) why ws = Ok (x, ws)
+
+abbrev pub field : {A : Type 0} → (List ℕ → Option A) → Why → List (List ℕ) → Result (A × List (List ℕ)) Why
+field read why [] = Err MissingWord
+field read why (w ∷ ws) = placed (read w) why ws
+
+-- no word is left
+abbrev pub ended : {A : Type 0} → A → List (List ℕ) → Result A Why
+ended x [] = Ok x
+ended x (w ∷ ws) = Err ExtraWord
+
+-- the number of an object, 1 to 255
+abbrev pub from_1_to_255 : Option ℕ → Option ℕ
+from_1_to_255 None = None
+from_1_to_255 (Some n) = if (n == 0) || nat_lt 255 n then None else Some n
+
+abbrev pub object_value : List ℕ → Option ℕ
+object_value word = from_1_to_255 (number_value word)
+
+abbrev pub name_value : List ℕ → Option (List ℕ)
+name_value word = if is_name word then Some word else None
+
+-- ---- statements
+
+-- project NAME
+unfoldable pub title_says : List (List ℕ) → Result What Why
+title_says ws = do
+  name ← field name_value BadName ws
+  ended (Title name.0) name.1
+
+-- ga GA NAME
+unfoldable pub ga_says : List (List ℕ) → Result What Why
+ga_says ws = do
+  group ← field group_value BadAddress ws
+  name ← field name_value BadName group.1
+  ended (Group group.0 name.0) name.1
+
+-- device IA MODEL
+unfoldable pub device_says : List (List ℕ) → Result What Why
+device_says ws = do
+  device ← field ind_value BadAddress ws
+  model ← field name_value BadName device.1
+  ended (Device device.0 model.0) model.1
+
+-- object IA N SIZE FLAGS
+unfoldable pub object_says : List (List ℕ) → Result What Why
+object_says ws = do
+  device ← field ind_value BadAddress ws
+  n ← field object_value BadNumber device.1
+  size ← field size_value BadNumber n.1
+  flags ← field flags_value BadName size.1
+  ended (Object device.0 n.0 size.0 flags.0) flags.1
+
+-- link IA N GA
+unfoldable pub link_says : List (List ℕ) → Result What Why
+link_says ws = do
+  device ← field ind_value BadAddress ws
+  object ← field object_value BadNumber device.1
+  group ← field group_value BadAddress object.1
+  ended (Link device.0 object.0 group.0) group.1
+
+abbrev pub some_what : Result What Why → Result (Option What) Why
+some_what (Ok x) = Ok (Some x)
+some_what (Err why) = Err why
+
+-- what the words of a line say
+unfoldable pub words_say : List (List ℕ) → Result (Option What) Why
+words_say [] = Ok None
+words_say (w ∷ ws) =
+    if bytes_eq w (codes "project") then some_what (title_says ws)
+    else (if bytes_eq w (codes "ga") then some_what (ga_says ws)
+    else (if bytes_eq w (codes "device") then some_what (device_says ws)
+    else (if bytes_eq w (codes "object") then some_what (object_says ws)
+    else (if bytes_eq w (codes "link") then some_what (link_says ws)
+    else Err UnknownWord))))
+
+-- what a line says
+unfoldable pub line_says : List ℕ → Result (Option What) Why
+line_says line =
+    if not (is_text line) then Err NotText
+    else (if nat_lt 512 (length line) then Err LongLine
+    else words_say (words (without_comment line)))
+
+-- ---- the whole text
+
+-- a statement in its line
+abbrev pub stated : ℕ → Result (Option What) Why → Option Statement
+stated n (Ok (Some what)) = Some (record { line = n; what = what })
+stated n (Ok None) = None
+stated n (Err why) = None
+
+-- a line that breaks a rule
+abbrev pub refused : ℕ → Result (Option What) Why → Option Refused
+refused n (Ok said) = None
+refused n (Err why) = Some (record { line = n; why = why })
+
+-- the statements of lines that are numbered from n
+unfoldable pub statements_from : ℕ → List (List ℕ) → List Statement
+statements_from n ls = filter_map (λ p. stated p.0 (line_says p.1)) (enumerate_from n ls)
+
+-- the lines that break a rule, the least first
+unfoldable pub refusals_from : ℕ → List (List ℕ) → List Refused
+refusals_from n ls = filter_map (λ p. refused p.0 (line_says p.1)) (enumerate_from n ls)
+
+abbrev pub statements : List ℕ → List Statement
+statements octets = statements_from 1 (lines octets)
+
+abbrev pub refusals : List ℕ → List Refused
+refusals octets = refusals_from 1 (lines octets)
+
+-- the first refusal, or what is read where there is none
+abbrev pub unless_refused : List Refused → List Statement → Result (List Statement) Refused
+unless_refused [] ss = Ok ss
+unless_refused (r ∷ rs) ss = Err r
+
+-- what a text reads as; a text has at most 4,194,304 octets
+unfoldable pub reading : List ℕ → Result (List Statement) Refused
+reading octets = if nat_lt 4194304 (length octets) then Err (record { line = 0; why = TooMany 4194304 }) else unless_refused (refusals octets) (statements octets)
+
+-- ---- the same in the language's own words
+
+-- the line of this number breaks the rule, and no line before it breaks any
+pub record IsLeastRefusal (octets : List ℕ) (r : Refused) : Type 0 where
+  pub text : List ℕ
+  pub from_1 : 0 < r.line
+  pub there : slice_get (lines octets) (r.line - 1) ≡ Some text
+  pub breaks : line_says text ≡ Err r.why
+  pub before : (k : ℕ) (earlier : List ℕ) → k + 1 < r.line → slice_get (lines octets) k ≡ Some earlier → IsOk (line_says earlier)
+
+-- no line breaks a rule
+abbrev pub AllSay : List ℕ → Type 0
+AllSay octets = (k : ℕ) (text : List ℕ) → slice_get (lines octets) k ≡ Some text → IsOk (line_says text)
+
+-- ---- statements that can be spelled, and lines that ascend
+
+abbrev pub is_group : GroupAddr → Bool
+is_group g = nat_lt 0 g.raw && nat_lt g.raw 65536
+
+abbrev pub is_device : IndAddr → Bool
+is_device d = nat_lt d.raw 65536 && nat_lt 0 (d.raw % 256) && nat_lt (d.raw % 256) 255
+
+abbrev pub is_object : ℕ → Bool
+is_object n = nat_lt 0 n && nat_lt n 256
+
+abbrev pub is_spellable : What → Bool
+is_spellable (Title name) = is_name name
+is_spellable (Group group name) = is_group group && is_name name
+is_spellable (Device device model) = is_device device && is_name model
+is_spellable (Object device n size flags) = is_device device && is_object n && nat_lt size 15 && nat_lt flags 256 && (flags % 4 == 3)
+is_spellable (Link device object group) = is_device device && is_object object && is_group group
+
+abbrev pub are_spellable : List Statement → Bool
+are_spellable ss = list_all (λ s. is_spellable s.what) ss
+
+-- each line is above the one before, and the first above n
+abbrev pub are_numbered : ℕ → List Statement → Bool
+are_numbered n [] = true
+are_numbered n (s ∷ ss) = nat_lt n s.line && are_numbered s.line ss

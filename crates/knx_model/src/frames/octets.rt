@@ -1,0 +1,123 @@
+//! Octets in buffers of fixed size, which take no memory.
+
+ghost use Rattle.std.specs.Prelude.{◌≡◌, ◌+◌, ◌<◌, ◌≤◌, [], ◌∷◌, ◌++◌, length, IsTrue, ◌↔◌};
+
+use arrayvec::ArrayVec;
+use std::marker::Model;
+
+/// A TPDU, or an APDU with its transport bits 0: at most 16 octets.
+#[derive(Clone, Debug, Drop, PartialEq, Eq)]
+pub struct ApduOctets {
+    octets: ArrayVec<u8, 16>,
+}
+
+impl Model for ApduOctets {
+    ghost use Rattle.std.specs.Prelude.{List, ℕ, ◌≤◌, length};
+
+    ghost Value = { List ℕ };
+
+    ghost view = { λ a. a.octets.items };
+
+    ghost inverse = { λ xs. record { octets = record { items = xs } } };
+}
+
+impl ApduOctets {
+    pub const CAPACITY: usize = 16;
+
+    /// No octets.
+    pub fn new() -> Self
+        ensures { result ≡ [] }
+    {
+        ApduOctets {
+            octets: ArrayVec::new(),
+        }
+    }
+
+    pub fn len(&self) -> usize
+        ensures value { result ≡ length self.now }
+        ensures fits { result ≤ 16 }
+    {
+        self.octets.len()
+    }
+
+    pub fn is_empty(&self) -> bool
+        ensures { IsTrue result ↔ (length self.now ≡ 0) }
+    {
+        self.octets.is_empty()
+    }
+
+    pub fn as_slice(&self) -> &[u8]
+        ensures value { result.now ≡ self.now }
+        ensures fits { length self.now ≤ 16 }
+    {
+        self.octets.as_slice()
+    }
+
+    /// Appends an octet.
+    pub fn push(&mut self, octet: u8)
+        requires { length self.old < 16 }
+        ensures { self.new ≡ self.old ++ octet ∷ [] }
+    {
+        self.octets.push(octet);
+    }
+
+    /// Appends octets.
+    pub fn extend(&mut self, octets: &[u8])
+        requires { length self.old + length octets.now ≤ 16 }
+        ensures { self.new ≡ self.old ++ octets.now }
+    {
+        let _ = self.octets.try_extend_from_slice(octets);
+    }
+
+    /// The same octets again. It takes no memory.
+    pub fn copied(&self) -> Self
+        ensures { result ≡ self.now }
+    {
+        ApduOctets::from_slice(self.octets.as_slice())
+    }
+
+    /// These octets.
+    pub fn from_slice(octets: &[u8]) -> Self
+        requires { length octets.now ≤ 16 }
+        ensures { result ≡ octets.now }
+    {
+        let mut all = ApduOctets::new();
+        all.extend(octets);
+        all
+    }
+}
+
+/// The octets of a group value that does not fit into six bits.
+#[derive(Clone, Debug, Drop, PartialEq, Eq)]
+pub struct LongValue {
+    octets: ArrayVec<u8, 14>,
+}
+
+impl Model for LongValue {
+    ghost use Rattle.std.specs.Prelude.{List, ℕ};
+
+    ghost Value = { List ℕ };
+
+    ghost view = { λ a. a.octets.items };
+
+    ghost inverse = { λ xs. record { octets = record { items = xs } } };
+}
+
+impl LongValue {
+    pub fn as_slice(&self) -> &[u8]
+        ensures value { result.now ≡ self.now }
+        ensures fits { length self.now ≤ 14 }
+    {
+        self.octets.as_slice()
+    }
+
+    /// These octets.
+    pub fn from_slice(octets: &[u8]) -> Self
+        requires { length octets.now ≤ 14 }
+        ensures { result ≡ octets.now }
+    {
+        let mut all = ArrayVec::new();
+        let _ = all.try_extend_from_slice(octets);
+        LongValue { octets: all }
+    }
+}

@@ -1,0 +1,37 @@
+//! The words of the field that every crate shares: addresses and values, words and lines, frames, projects, configurations
+//! and images, plans, log and report, and the outside. `specs/` holds the definitions that the contracts cite.
+#![tactic(auto)]
+
+mod address;
+mod bench;
+mod command;
+mod config;
+mod frames;
+mod lists;
+mod loading;
+mod log;
+mod outside;
+mod plan;
+mod project;
+mod refusal;
+mod status;
+mod words;
+
+pub use address::{GroupAddr, IndAddr};
+pub use bench::BenchEvent;
+pub use command::{SimFile, Stop};
+pub use config::{Config, Image, LinkSpec, ObjSpec};
+pub use frames::{Apdu, ApduOctets, LongValue, Tpdu, TpduRefused, Value};
+pub use lists::{List, NoMemory, Octets};
+pub use loading::{LoadEvent, LoadState, LoadableObject};
+pub use log::{Case, DeviceCase, JobWord, LogEntry, LogWhat, Report, Sign};
+pub use outside::{FileFault, Files, Sink, SinkFailed};
+pub use plan::{Expect, Op};
+pub use project::{Statement, What};
+pub use refusal::{Refused, Why};
+pub use status::Status;
+pub use words::{
+    Span, first_line, first_word, flags_in, flags_of, group_in, group_of, group_spelled, ind_in,
+    ind_of, is_name, is_name_in, next_line, next_word, number_in, number_of, size_code_in,
+    size_code_of,
+};

@@ -1,0 +1,68 @@
+//! What a run told of its jobs, and what it left.
+
+use crate::address::IndAddr;
+use crate::lists::List;
+
+/// Why an attempt ended before its plan's end.
+#[derive(Clone, Copy, Debug, Drop, PartialEq, Eq)]
+pub enum Sign {
+    /// The device kept silent for so many milliseconds.
+    Silent { ms: u32 },
+    /// The connection was closed, or the device lost its power.
+    Closed,
+    /// The device didn't take the connect.
+    NoCon,
+    /// The tunnel's channel was lost.
+    TunnelLost,
+}
+
+/// What is told; jobs are numbered from 1.
+#[derive(Clone, Copy, Debug, Drop, PartialEq, Eq)]
+pub enum LogWhat {
+    /// A worker took the job.
+    Took(u32),
+    /// The job ended, and the project's configuration runs.
+    Done(u32),
+    /// The job ended after three attempts, each with its sign.
+    Failed(u32, [Sign; 3]),
+}
+
+/// An entry of the log: after how many events, by which worker, what.
+#[derive(Clone, Copy, Debug, Drop, PartialEq, Eq)]
+pub struct LogEntry {
+    pub at: u64,
+    pub worker: u8,
+    pub what: LogWhat,
+}
+
+/// What a run tells.
+#[derive(Debug, Drop)]
+pub struct Report {
+    pub log: List<LogEntry>,
+    pub missed: u64,
+}
+
+/// A job of a run, as its word names it.
+#[derive(Clone, Copy, Debug, Drop, PartialEq, Eq)]
+pub struct JobWord {
+    pub device: IndAddr,
+    pub check: bool,
+}
+
+/// What the final content of a device is, beside the project's.
+#[derive(Clone, Copy, Debug, Drop, PartialEq, Eq)]
+pub enum Case {
+    /// It stands for the project's meaning.
+    New,
+    /// The four objects are Loaded, with another content.
+    Old,
+    /// The device doesn't run.
+    Stopped,
+}
+
+/// A device of the simulated line at the end of a run.
+#[derive(Clone, Copy, Debug, Drop, PartialEq, Eq)]
+pub struct DeviceCase {
+    pub device: IndAddr,
+    pub case: Case,
+}

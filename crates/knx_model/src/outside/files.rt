@@ -1,0 +1,35 @@
+//! Files that are read by their names.
+
+ghost use Rattle.std.specs.Prelude.{◌≡◌, ℕ, List, ◌≤◌, Err};
+ghost use Rattle.knx_model.specs.Outside.{Told, MayRead, Rose};
+ghost use Rattle.knx_model.specs.declared.outside.files.FileFault.TheVariants.{Failed};
+
+use crate::lists::Octets;
+use std::alloc::Global;
+
+/// Why a file wasn't read.
+#[derive(Clone, Copy, Debug, Drop, PartialEq, Eq)]
+pub enum FileFault {
+    /// There is no file of this name.
+    NotThere,
+    /// The read failed.
+    Failed,
+    /// There was no memory.
+    NoMemory,
+}
+
+/// Files by name.
+pub trait Files: Drop {
+    /// How many reads failed; it never falls.
+    ghost faults: { Self → ℕ };
+
+    /// What is told of the file of a name.
+    ghost file: { Self → List ℕ → Told };
+
+    /// The first `limit` octets of the named file.
+    fn read(&mut self, alloc: Global, name: &str, limit: usize) -> Result<Octets, FileFault>
+        ensures answer { MayRead (file self.old name.now) limit result }
+        ensures failed { result ≡ Err Failed → Rose (faults self.old) (faults self.new) }
+        ensures count { faults self.old ≤ faults self.new }
+        ensures stays { (other : List ℕ) → file self.new other ≡ file self.old other };
+}

@@ -1,0 +1,41 @@
+//! The statements of a project text.
+
+use crate::address::{GroupAddr, IndAddr};
+use crate::lists::Octets;
+
+/// What a statement says. Flags are the flag octet and sizes the size code of the group objects' table.
+#[derive(Debug, Drop)]
+pub enum What {
+    /// `project NAME`
+    Title(Octets),
+    /// `ga GA NAME`
+    Group {
+        group: GroupAddr,
+        name: Octets,
+    },
+    /// `device IA MODEL`
+    Device {
+        device: IndAddr,
+        model: Octets,
+    },
+    /// `object IA N SIZE FLAGS`
+    Object {
+        device: IndAddr,
+        n: u8,
+        size: u8,
+        flags: u8,
+    },
+    /// `link IA N GA`
+    Link {
+        device: IndAddr,
+        object: u8,
+        group: GroupAddr,
+    },
+}
+
+/// A statement, and the number of its line, from 1.
+#[derive(Debug, Drop)]
+pub struct Statement {
+    pub line: u32,
+    pub what: What,
+}

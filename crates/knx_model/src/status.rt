@@ -1,0 +1,61 @@
+//! How the program ends.
+
+ghost use Rattle.std.specs.Prelude.{◌≡◌};
+ghost use Rattle.knx_model.specs.Refusal.{status_number};
+
+/// The status of a call, each with the number that is the program's exit status.
+#[derive(Clone, Copy, Debug, Drop, PartialEq, Eq)]
+pub enum Status {
+    /// 0: the defined end.
+    Done,
+    /// 1: some job failed.
+    SomeFailed,
+    /// 2: the words aren't a command's.
+    Usage,
+    /// 3: a project is refused.
+    Project,
+    /// 4: the catalogue is refused.
+    Catalogue,
+    /// 5: the script is refused.
+    Script,
+    /// 6: a file couldn't be read.
+    Read,
+    /// 7: the output couldn't be written.
+    Write,
+    /// 8: there was no memory.
+    NoMemory,
+    /// 9: a link failed.
+    Link,
+    /// 10: the gateway refused three connects in turn.
+    GatewayRefused,
+    /// 11: too many datagrams came.
+    Flooded,
+    /// 12: a job's device isn't on the tunnel's line.
+    WrongLine,
+    /// 13: the turns were used up before the end.
+    OpenTurns,
+}
+
+impl Status {
+    /// Its number, 0 to 13.
+    pub fn number(self) -> u8
+        ensures { result ≡ status_number self }
+    {
+        match self {
+            Status::Done => 0,
+            Status::SomeFailed => 1,
+            Status::Usage => 2,
+            Status::Project => 3,
+            Status::Catalogue => 4,
+            Status::Script => 5,
+            Status::Read => 6,
+            Status::Write => 7,
+            Status::NoMemory => 8,
+            Status::Link => 9,
+            Status::GatewayRefused => 10,
+            Status::Flooded => 11,
+            Status::WrongLine => 12,
+            Status::OpenTurns => 13,
+        }
+    }
+}

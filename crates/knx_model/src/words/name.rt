@@ -1,0 +1,31 @@
+//! Words that are names.
+
+ghost use Rattle.std.specs.Prelude.{◌≡◌};
+ghost use Rattle.std.specs.List.{list_all};
+ghost use Rattle.knx_model.specs.Numbers.{is_name, is_name_octet};
+
+fn is_name_octet(c: u8) -> bool
+    ensures { result ≡ is_name_octet c }
+{
+    c.is_ascii_alphanumeric() || c == b'_' || c == b'-' || c == b'.'
+}
+
+fn are_name_octets(word: &[u8]) -> bool
+    ensures { result ≡ list_all is_name_octet word.now }
+{
+    word.iter().all(|c| is_name_octet(*c))
+}
+
+/// Whether a word is a name.
+pub fn is_name_in(word: &[u8]) -> bool
+    ensures { result ≡ is_name word.now }
+{
+    !word.is_empty() && word.len() <= 32 && are_name_octets(word)
+}
+
+/// Whether a word is a name: 1 to 32 letters, digits, `_`, `-` and `.`.
+pub fn is_name(word: &str) -> bool
+    ensures { result ≡ is_name word.now }
+{
+    is_name_in(word.as_bytes())
+}

@@ -1,0 +1,78 @@
+//! Words that are numbers.
+
+ghost use Rattle.std.specs.Prelude.{◌≡◌, ◌≤◌, IfSome};
+ghost use Rattle.std.specs.Char.{digit_value};
+ghost use Rattle.knx_model.specs.Numbers.{numeral, number_value, part_value};
+
+/// What a digit is worth in a base up to 36, or 36 for what is none.
+fn digit_value(c: u8) -> u64
+    ensures { result ≡ digit_value c }
+{
+    match c {
+        b'0'..=b'9' => u64::from(c - b'0'),
+        b'A'..=b'Z' => u64::from(c - b'A') + 10,
+        b'a'..=b'z' => u64::from(c - b'a') + 10,
+        _ => 36,
+    }
+}
+
+/// The number that 1 to `most` digits write.
+#[tactic(auto, using(crate::proofs::Numbers::times_fits, crate::proofs::Numbers::fits, std::proofs::lemmas::Grind::common_steps), unfolding(crate::specs::Numbers::numeral))]
+pub fn numeral(radix: u64, most: usize, digits: &[u8]) -> Option<u64>
+    requires base { radix ≤ 16 }
+    requires short { most ≤ 10 }
+    ensures { result ≡ numeral radix most digits.now }
+{
+    if digits.is_empty() {
+        return None;
+    }
+    if digits.len() > most {
+        return None;
+    }
+    let mut number = 0;
+    for c in digits {
+        let digit = digit_value(*c);
+        if digit >= radix {
+            return None;
+        }
+        number = number * radix + digit;
+    }
+    Some(number)
+}
+
+#[tactic(auto, unfolding(crate::specs::Numbers::number_value))]
+/// The number that a word writes, in decimal or behind `0x` in hexadecimal.
+pub fn number_in(word: &[u8]) -> Option<u32>
+    ensures { result ≡ number_value word.now }
+{
+    let number = match word {
+        [b'0', b'x', digits @ ..] => numeral(16, 8, digits)?,
+        _ => numeral(10, 10, word)?,
+    };
+    if number <= 0xFFFF_FFFF {
+        Some(number as u32)
+    } else {
+        None
+    }
+}
+
+#[tactic(auto, unfolding(crate::specs::Numbers::part_value))]
+/// A part of an address: 1 to 3 decimal digits.
+pub fn part_in(most: u32, word: &[u8]) -> Option<u32>
+    ensures value { result ≡ part_value most word.now }
+    ensures within { IfSome result (λ n. n ≤ most) }
+{
+    let number = numeral(10, 3, word)?;
+    if number <= u64::from(most) {
+        Some(number as u32)
+    } else {
+        None
+    }
+}
+
+/// The number that a word writes, in decimal or behind `0x` in hexadecimal, up to 4,294,967,295; none for another word.
+pub fn number_of(word: &str) -> Option<u32>
+    ensures { result ≡ number_value word.now }
+{
+    number_in(word.as_bytes())
+}
