@@ -1,4 +1,5 @@
 pub mod Outside
+pub mod Memory
 pub mod Refusal
 pub mod Words
 pub mod Numbers

@@ -25,7 +25,7 @@ pub use frames::{Apdu, ApduOctets, LongValue, Tpdu, TpduRefused, Value};
 pub use lists::{List, NoMemory, Octets};
 pub use loading::{LoadEvent, LoadState, LoadableObject};
 pub use log::{Case, DeviceCase, JobWord, LogEntry, LogWhat, Report, Sign};
-pub use outside::{FileFault, Files, Sink, SinkFailed};
+pub use outside::{FileFault, Files, MemoryFile, MemoryFiles, MemorySink, Sink, SinkFailed};
 pub use plan::{Expect, Op};
 pub use project::{Statement, What};
 pub use refusal::{Refused, Why};
