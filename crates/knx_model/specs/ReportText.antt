@@ -50,15 +50,18 @@ abbrev pub first_or_open : List (List (List ℕ)) → List (List ℕ)
 first_or_open [] = codes "open" ∷ []
 first_or_open (ends ∷ others) = ends
 
--- the end of job k by the log; without one it is open
+-- the end of job k by the log, its words apart by spaces; without one it is open
 abbrev pub end_words : List LogEntry → ℕ → List (List ℕ)
 end_words log k = first_or_open (filter_map (λ entry. end_of k entry.what) log)
+
+unfoldable pub end_text : List LogEntry → ℕ → List ℕ
+end_text log k = join_with_byte 32 (end_words log k)
 
 abbrev pub job_word : Bool → List ℕ
 job_word check = if check then codes "check" else codes "load"
 
 abbrev pub job_line : List LogEntry → ℕ → JobWord → List ℕ
-job_line log k job = line (codes "job" ∷ decimal k ∷ job_word job.check ∷ device_text job.device ∷ end_words log k)
+job_line log k job = line (codes "job" ∷ decimal k ∷ job_word job.check ∷ device_text job.device ∷ end_text log k ∷ [])
 
 abbrev pub case_word : Case → List ℕ
 case_word case.New = codes "new"

@@ -1,0 +1,13 @@
+//! The report of a run as text.
+#![tactic(auto)]
+
+mod job;
+mod pieces;
+mod report;
+
+pub use knx_model::{Case, DeviceCase, JobWord, LogEntry, LogWhat, Report, Sign};
+pub use pieces::{put_number, put_device};
+pub use report::report_of;
+
+#[cfg(test)]
+mod tests;
