@@ -1,7 +1,6 @@
 -- What a call of the program does, from its words to its status: what it reads, where it stops, what a run did, what it wrote.
-use Rattle.std.specs.Prelude.{ℕ, ◌≡◌, ◌+◌, ◌≤◌, Bool, false, ◌&&◌, ◌==◌, nat_le, nat_lt, is_none, bytes_eq, codes, List, [], ◌∷◌, length, Option, Some, None, Result, Ok, Err, ◌⊎◌, if◌then◌else◌}
-use Rattle.std.specs.List.{list_all, filter_map}
-use Rattle.std.specs.Str.Lines.{lines}
+use Rattle.std.specs.Prelude.{ℕ, ◌≡◌, ◌+◌, ◌≤◌, ◌<◌, Bool, true, false, ◌&&◌, ◌==◌, nat_le, nat_lt, is_none, bytes_eq, codes, List, [], ◌∷◌, length, Option, Some, None, Result, Ok, Err, ◌⊎◌, if◌then◌else◌}
+use Rattle.std.specs.List.{list_all, list_any, filter_map}
 use Rattle.knx_model.specs.declared.address.IndAddr.{IndAddr}
 use Rattle.knx_model.specs.declared.command.SimFile.{SimFile}
 use Rattle.knx_model.specs.declared.command.SimFile.TheVariants as file
@@ -11,10 +10,14 @@ use Rattle.knx_model.specs.declared.log.Case.{Case}
 use Rattle.knx_model.specs.declared.log.DeviceCase.{DeviceCase}
 use Rattle.knx_model.specs.declared.log.JobWord.{JobWord}
 use Rattle.knx_model.specs.declared.log.LogEntry.{LogEntry}
-use Rattle.knx_model.specs.declared.log.LogWhat.TheVariants.{Took, Done}
+use Rattle.knx_model.specs.declared.log.LogWhat.{LogWhat}
+use Rattle.knx_model.specs.declared.log.LogWhat.TheVariants.{Took, Done, Failed}
+use Rattle.knx_model.specs.declared.log.Sign.TheVariants.{Closed}
 use Rattle.knx_model.specs.declared.log.Report.{Report}
 use Rattle.knx_model.specs.declared.outside.files.FileFault.{FileFault}
 use Rattle.knx_model.specs.declared.outside.files.FileFault.TheVariants as fault
+use Rattle.knx_model.specs.declared.config.Image.{Image}
+use Rattle.knx_model.specs.declared.script.Cut.{Cut}
 use Rattle.knx_model.specs.declared.project.Statement.{Statement}
 use Rattle.knx_model.specs.declared.project.What.{What}
 use Rattle.knx_model.specs.declared.project.What.TheVariants.{Device}
@@ -28,7 +31,10 @@ use Rattle.knx_model.specs.Promises.{StartOf, AtEveryMoment, ToldTruly, IsCase}
 use Rattle.knx_model.specs.ReportText.{report_text, stop_text, stop_status}
 use Rattle.knx_model.specs.Rules.{first_broken}
 use Rattle.knx_model.specs.Statements.{reading}
-use Rattle.knx_model.specs.Words.{words, is_text, without_comment}
+use Rattle.knx_model.specs.Meaning.{meaning}
+use Rattle.knx_model.specs.Tables.{StandsFor}
+use Rattle.knx_model.specs.Plan.{load_plan, GaveWhole}
+use Rattle.knx_model.specs.Script.{script_of, Follows, cut_count}
 
 -- ---- the words
 
@@ -123,19 +129,12 @@ abbrev pub before_of : IndAddr → Option (List Statement) → Option (List Stat
 before_of device None = None
 before_of device (Some ss) = if list_all (λ d. d.raw == device.raw) (devices_of ss) then Some ss else None
 
--- a line of text without words, of at most 512 octets
-abbrev pub is_wordless : List ℕ → Bool
-is_wordless line = is_text line && nat_le (length line) 512 && nat_lt (length (words (without_comment line))) 1
-
--- a script without words
-abbrev pub script_of : List ℕ → Option (List ℕ)
-script_of octets = if nat_le (length octets) 4194304 && list_all is_wordless (lines octets) then Some [] else None
-
--- what a run is begun with: NEW's statements and its one device, and OLD's statements
+-- what a run is begun with: NEW's statements and its one device, OLD's statements, and the script's cuts
 pub record Commission : Type 0 where
   pub project : List Statement
   pub device : IndAddr
   pub before : List Statement
+  pub cuts : List Cut
 
 -- the words, then the files in their order, then NEW, OLD and the script: the first that stops the call, or a run
 abbrev pub judged : Reads → Result Commission Stop
@@ -145,8 +144,8 @@ judged reads = do
   script ← read_of file.Script reads.script
   line ← built file.New (line_of (project_of new))
   before ← built file.Old (before_of line.device (project_of old))
-  lines ← built file.Script (script_of script)
-  Ok (record { project = line.statements; device = line.device; before = before })
+  cuts ← built file.Script (script_of line.device script)
+  Ok (record { project = line.statements; device = line.device; before = before; cuts = cuts })
 
 abbrev pub judged_words : Option SimWords → Reads → Result Commission Stop
 judged_words None reads = Err stop.Usage
@@ -154,17 +153,33 @@ judged_words (Some names) reads = judged reads
 
 -- ---- what a run did
 
--- a run that has begun: its start is the one that is stated, and each moment is old, stopped or new
+-- a run that has begun: its start is the one that is stated, its events follow the script, and each moment is old, stopped or new
 pub record Began (c : Commission) (t : Trace) : Type 0 where
   pub start : StartOf c.before c.device t.start
+  pub follows : Follows c.cuts t.start 0 t.events
   pub moments : AtEveryMoment c.project c.device t
 
--- a run that has ended: what was told is true, the one job is done, and the report is of this job and this device
+-- `done` is told after the whole plan of the project's image, each answer the expected one
+pub record PlanWasGiven (c : Commission) (t : Trace) : Type 0 where
+  pub image : Image
+  pub stands : StandsFor image (meaning c.project c.device)
+  pub whole : GaveWhole (load_plan image) t
+
+abbrev pub entry : ℕ → LogWhat → LogEntry
+entry at what = record { at = at; worker = 1; what = what }
+
+-- the one job was taken at the beginning and told of at the end: done after its whole plan and fewer than three cuts, or failed after
+-- three attempts that each had a cut
+pub data IsOver (c : Commission) (t : Trace) : List LogEntry → Type 0 where
+  IsDone : cut_count t.events < 3 → PlanWasGiven c t → IsOver c t (entry 0 (Took 1) ∷ entry (length t.events) (Done 1) ∷ [])
+  HasFailed : cut_count t.events ≡ 3 → IsOver c t (entry 0 (Took 1) ∷ entry (length t.events) (Failed 1 (Closed ∷ Closed ∷ Closed ∷ [])) ∷ [])
+
+-- a run that has ended: what was told is true, and the report is of this job and this device
 pub record Ran (c : Commission) (t : Trace) (report : Report) (jobs : List JobWord) (devices : List DeviceCase) : Type 0 where
   pub began : Began c t
   pub told : ToldTruly c.project c.device t report.log
+  pub over : IsOver c t report.log
   pub job : jobs ≡ record { device = c.device; check = false } ∷ []
-  pub ended : report.log ≡ record { at = 0; worker = 1; what = Took 1 } ∷ record { at = length t.events; worker = 1; what = Done 1 } ∷ []
   pub missed : report.missed ≡ 0
   pub case : Case
   pub case_is : IsCase c.project c.device (now t).kept case
@@ -184,10 +199,17 @@ Decided (Err why) before after (Reports report jobs devices) = ⊥
 Decided (Ok c) before after (Stops told) = (told ≡ stop.NoMemory) × ((after ≡ before) ⊎ ((t : Trace) × ((after ≡ Some t) × Began c t)))
 Decided (Ok c) before after (Reports report jobs devices) = (t : Trace) × ((after ≡ Some t) × Ran c t report jobs devices)
 
--- a report's status is 0, since each job of it is done
+abbrev pub is_failed : LogWhat → Bool
+is_failed (Failed job signs) = true
+is_failed _ = false
+
+-- 1 where the log tells of a failed job, else 0
+abbrev pub log_status : List LogEntry → Status
+log_status log = if list_any (λ e. is_failed e.what) log then status.SomeFailed else status.Done
+
 abbrev pub outcome_status : Outcome → Status
 outcome_status (Stops why) = stop_status why
-outcome_status (Reports report jobs devices) = status.Done
+outcome_status (Reports report jobs devices) = log_status report.log
 
 abbrev pub names_or_none : Option SimWords → SimFile → List ℕ
 names_or_none None place = []

@@ -18,6 +18,7 @@ pub mod Loading
 pub mod Device
 pub mod Bench
 pub mod Plan
+pub mod Script
 pub mod Promises
 pub mod ReportText
 pub mod Command

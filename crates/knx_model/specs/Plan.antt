@@ -15,10 +15,13 @@ use Rattle.knx_model.specs.declared.plan.Expect.{Expect}
 use Rattle.knx_model.specs.declared.plan.Expect.TheVariants.{AckOnly, Is}
 use Rattle.knx_model.specs.declared.plan.Op.{Op}
 use Rattle.knx_model.specs.declared.plan.Op.TheVariants.{Send}
+use Rattle.knx_model.specs.declared.bench.BenchEvent.{BenchEvent}
+use Rattle.knx_model.specs.declared.bench.BenchEvent.TheVariants.{Give}
+use Rattle.knx_model.specs.Bench.{Trace, happens, replay, answered}
 use Rattle.knx_model.specs.Apdu.{word}
 use Rattle.knx_model.specs.ApduReading.{apdu_octets}
 use Rattle.knx_model.specs.Loading.{Loadable, capacity_of, state_number}
-use Rattle.knx_model.specs.Device.{NonVolatile, object, object_index, base, capacity, runs, effect_in, answer_in, whole, torn, taken, table_reference, Fits}
+use Rattle.knx_model.specs.Device.{NonVolatile, DeviceState, object, object_index, base, capacity, runs, effect_in, answer_in, whole, torn, taken, table_reference, Fits}
 
 -- ---- the load plan
 
@@ -133,3 +136,21 @@ pub record HasCapacities (nv : NonVolatile) : Type 0 where
   pub assoc : capacity_of nv.association_table ≡ 0x2000
   pub objs : capacity_of nv.group_objects ≡ 0x0400
   pub params : capacity_of nv.application ≡ 0x2000
+
+-- ---- a plan that was given whole
+
+-- the events that give these operations whole, in order
+abbrev pub gives : List Op → List BenchEvent
+gives [] = []
+gives (op ∷ ops) = Give (apdu_of op) ∷ gives ops
+
+-- from d on each of these operations is answered as expected
+abbrev pub AnswersAll : DeviceState → List Op → Type 0
+AnswersAll d [] = Unit {0}
+AnswersAll d (op ∷ ops) = (answered d (apdu_of op) ≡ expected_of op) × AnswersAll (happens d (Give (apdu_of op))) ops
+
+-- the last events of a trace gave the whole plan, and each answer was the expected one
+pub record GaveWhole (ops : List Op) (t : Trace) : Type 0 where
+  pub front : List BenchEvent
+  pub events : t.events ≡ front ++ gives ops
+  pub answers : AnswersAll (replay t.start front) ops

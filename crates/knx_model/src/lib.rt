@@ -14,6 +14,7 @@ mod outside;
 mod plan;
 mod project;
 mod refusal;
+mod script;
 mod status;
 mod words;
 
@@ -29,6 +30,7 @@ pub use outside::{FileFault, Files, MemoryFile, MemoryFiles, MemorySink, Sink, S
 pub use plan::{Expect, Op};
 pub use project::{Statement, What};
 pub use refusal::{Refused, Why};
+pub use script::Cut;
 pub use status::Status;
 pub use words::{
     Span, first_line, first_word, flags_in, flags_of, group_in, group_of, group_spelled, ind_in,
