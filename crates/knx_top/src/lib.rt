@@ -1,0 +1,6 @@
+//! The top call: all that the program does, from its words to its exit status.
+#![tactic(auto)]
+
+mod asked;
+mod stop;
+mod texts;
