@@ -1,5 +1,5 @@
 -- The priority in a flag octet.
-use Rattle.std.proofs.Common.{◌≡◌, ℕ, ◌+◌, ◌*◌, ◌%◌, Bool, true, false, ◌&&◌, ◌||◌, cond, eqb, ltb, bytes_eq, codes, List, length, Option, Some, None, sym, ap, ◌∙◌, arith}
+use Rattle.std.proofs.Common.{◌≡◌, ℕ, ◌+◌, ◌*◌, ◌%◌, Bool, true, false, ◌&&◌, ◌||◌, cond, eqb, ltb, bytes_eq, codes, List, length, Option, Some, None, sym, ap, arith}
 use Rattle.std.proofs.lemmas.Option.{same_Some, none-some}
 use Rattle.knx_model.specs.Flags.{times, flags_value}
 

@@ -46,7 +46,12 @@ pub fn read_project(alloc: Global, octets: &[u8]) -> Result<Project, Refused>
     ensures memory { IfErr result (λ e. e.why ≡ OutOfMemory → e.line ≡ 0) }
 {
     if octets.len() > LONGEST_TEXT as usize {
-        return Err(refused(0, Why::TooMany { limit: LONGEST_TEXT }));
+        return Err(refused(
+            0,
+            Why::TooMany {
+                limit: LONGEST_TEXT,
+            },
+        ));
     }
     let mut statements = List::new(alloc);
     let mut line = 1;

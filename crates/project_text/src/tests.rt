@@ -1,39 +1,58 @@
 use super::*;
 use std::test::*;
 
-const HALL: &[u8] = b"project hall\nga 1/2/3 light\nga 0/0/1 all\ndevice 1.1.5 inline\nobject 1.1.5 1 1 CWT\nobject 1.1.5 2 1 CW\nlink 1.1.5 1 1/2/3\nlink 1.1.5 2 0/0/1\n";
+const HALL: &[u8] =
+    b"project hall\nga 1/2/3 light\nga 0/0/1 all\ndevice 1.1.5 inline\nobject 1.1.5 1 1 CWT\nobject 1.1.5 2 1 CW\nlink 1.1.5 1 1/2/3\nlink 1.1.5 2 0/0/1\n";
 
 #[test]
 fn a_text_is_read(rt: HostRuntime) -> Result<(), Fail> {
     let project = read_project(rt.alloc(), HALL).ok().ok_or("a project")?;
     let statements = project.statements.as_slice();
     assert_eq!(rt; statements.len(), 8);
-    match statements {
-        [Statement { line: 1, what: What::Title(name) }, .., Statement { line: 8, what: What::Link { device, object: 2, group } }] => {
-            assert_eq!(rt; name.as_slice(), b"hall".as_slice());
-            assert_eq!(rt; device.raw, 0x1105);
-            assert_eq!(rt; group.raw, 1);
-        }
-        _ => return Err("the first and the last statement".into()),
-    }
+    let What::Title(name) = &statements[0].what else {
+        return Err("a title".into());
+    };
+    assert_eq!(rt; name.as_slice(), b"hall".as_slice());
+    let What::Link {
+        device,
+        object,
+        group,
+    } = &statements[7].what
+    else {
+        return Err("a link".into());
+    };
+    assert_eq!(rt;
+        (statements[7].line, device.raw, *object, group.raw),
+        (8, 0x1105, 2, 1)
+    );
     Ok(())
 }
 
 #[test]
 fn each_octet_of_a_line_has_its_place(rt: HostRuntime) -> Result<(), Fail> {
-    let text = b"# a comment\r\n\tdevice  1.1.5\tinline # the hall\r\n\r\n\nobject 1.1.5 0x07 8 CWT#\n   \nga 1/2/3 a_B-c.9";
+    let text =
+        b"# a comment\r\n\tdevice  1.1.5\tinline # the hall\r\n\r\n\nobject 1.1.5 0x07 8 CWT#\n   \nga 1/2/3 a_B-c.9";
     let project = read_project(rt.alloc(), text).ok().ok_or("a project")?;
-    match project.statements.as_slice() {
-        [
-            Statement { line: 2, what: What::Device { model, .. } },
-            Statement { line: 5, what: What::Object { n: 7, size: 7, flags: 0x57, .. } },
-            Statement { line: 7, what: What::Group { name, .. } },
-        ] => {
-            assert_eq!(rt; model.as_slice(), b"inline".as_slice());
-            assert_eq!(rt; name.as_slice(), b"a_B-c.9".as_slice());
-        }
-        _ => return Err("three statements".into()),
-    }
+    let statements = project.statements.as_slice();
+    assert_eq!(rt; statements.len(), 3);
+    let What::Device { model, .. } = &statements[0].what else {
+        return Err("a device".into());
+    };
+    assert_eq!(rt;
+        (statements[0].line, model.as_slice()),
+        (2, b"inline".as_slice())
+    );
+    let What::Object { n, size, flags, .. } = &statements[1].what else {
+        return Err("an object".into());
+    };
+    assert_eq!(rt; (statements[1].line, *n, *size, *flags), (5, 7, 7, 0x57));
+    let What::Group { name, .. } = &statements[2].what else {
+        return Err("a group".into());
+    };
+    assert_eq!(rt;
+        (statements[2].line, name.as_slice()),
+        (7, b"a_B-c.9".as_slice())
+    );
     Ok(())
 }
 
