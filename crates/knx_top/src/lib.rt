@@ -2,5 +2,6 @@
 #![tactic(auto)]
 
 mod asked;
+mod script;
 mod stop;
 mod texts;

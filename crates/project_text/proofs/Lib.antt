@@ -1,4 +1,3 @@
-pub mod Text
 pub mod Flags
 pub mod Steps
 pub mod Least

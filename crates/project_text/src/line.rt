@@ -1,15 +1,14 @@
 //! What a line says: one function a statement.
 
-ghost use Rattle.std.specs.Prelude.{◌≡◌, ◌==◌, position, IfOk, IfSome, IsTrue};
-ghost use Rattle.std.specs.List.{list_all};
-ghost use Rattle.knx_model.specs.Words.{words, is_text, is_text_octet, without_comment};
+ghost use Rattle.std.specs.Prelude.{IfOk, IfSome, IsTrue};
+ghost use Rattle.knx_model.specs.Words.{words};
 ghost use Rattle.knx_model.specs.Statements.{is_spellable, title_says, ga_says, device_says, object_says, link_says, words_say, line_says};
 ghost use Rattle.project_text.specs.Reading.{Answers, Gives};
 
 use crate::fields::{
     device_field, flags_field, group_field, name_field, no_more, object_field, size_field,
 };
-use knx_model::{What, Why, first_word};
+use knx_model::{What, Why, first_word, is_text, without_comment};
 use std::alloc::Global;
 
 /// The longest line, in octets without its end.
@@ -108,44 +107,6 @@ fn words_in(alloc: Global, rest: &[u8]) -> Result<Option<What>, Why>
                 Err(Why::UnknownWord)
             }
         }
-    }
-}
-
-fn is_text_octet(b: u8) -> bool
-    ensures { result ≡ is_text_octet b }
-{
-    b >= 0x20 && b != 0x7F || b == b'\t'
-}
-
-fn are_text_octets(line: &[u8]) -> bool
-    ensures { result ≡ list_all is_text_octet line.now }
-{
-    line.iter().all(|b| is_text_octet(*b))
-}
-
-#[tactic(auto, using(crate::proofs::Text::utf8_true, crate::proofs::Text::utf8_false))]
-fn is_text(line: &[u8]) -> bool
-    ensures { result ≡ is_text line.now }
-{
-    match str::from_utf8(line) {
-        Ok(_) => are_text_octets(line),
-        Err(_) => false,
-    }
-}
-
-fn comment_at(line: &[u8]) -> Option<usize>
-    ensures { result ≡ position (λ b. b == 35) line.now }
-{
-    line.iter().position(|b| *b == b'#')
-}
-
-/// A line up to its first `#`.
-fn without_comment(line: &[u8]) -> &[u8]
-    ensures { result.now ≡ without_comment line.now }
-{
-    match comment_at(line) {
-        None => line,
-        Some(i) => &line[..i],
     }
 }
 

@@ -3,6 +3,7 @@
 mod address;
 mod cut;
 mod flags;
+mod line;
 mod name;
 mod number;
 mod size;
@@ -10,6 +11,7 @@ mod size;
 pub use address::{group_in, group_of, group_spelled, ind_in, ind_of};
 pub use cut::{Span, first_line, first_word, next_line, next_word};
 pub use flags::{flags_in, flags_of};
+pub use line::{is_text, without_comment};
 pub use name::{is_name, is_name_in};
 pub use number::{number_in, number_of};
 pub use size::{size_code_in, size_code_of};
