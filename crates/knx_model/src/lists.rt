@@ -180,14 +180,4 @@ impl<T: Drop> List<T> {
             Err(_) => Err(NoMemory),
         }
     }
-
-    /// Takes the memory for one more item, so that the next `push` can't fail. The list stays.
-    pub fn reserve_one(&mut self) -> Result<(), NoMemory>
-        ensures { self.new ≡ self.old }
-    {
-        match self.items.reserve(1) {
-            Ok(()) => Ok(()),
-            Err(_) => Err(NoMemory),
-        }
-    }
 }

@@ -1,0 +1,31 @@
+-- What may come of one operation of an attempt.
+use Rattle.std.specs.Prelude.{ℕ, ◌≡◌, Bool, List, Option, ◌⊎◌}
+use Rattle.knx_model.specs.declared.bench.BenchEvent.TheVariants.{Give, GiveTorn, On}
+use Rattle.knx_model.specs.declared.plan.Op.{Op}
+use Rattle.knx_model.specs.declared.script.Cut.{Cut}
+use Rattle.knx_model.specs.Bench.{Trace, now, after, answered, cut_after}
+use Rattle.knx_model.specs.Plan.{apdu_of, expected_of}
+use Rattle.knx_model.specs.Script.{Follows, write_count}
+
+-- nothing yet, or it was taken whole, or it was torn, and then power may have come back
+abbrev pub Moves : Op → Trace → Trace → Type 0
+Moves op old new =
+    (new ≡ old) ⊎ ((new ≡ after old (Give (apdu_of op)))
+    ⊎ ((fresh : Bool) × ((octets : List ℕ) × ((new ≡ after old (GiveTorn (apdu_of op) fresh octets))
+    ⊎ (new ≡ after (after old (GiveTorn (apdu_of op) fresh octets)) On)))))
+
+-- it was taken whole and answered as expected
+pub record Passes (op : Op) (old new : Trace) : Type 0 where
+  pub taken : new ≡ after old (Give (apdu_of op))
+  pub answer : answered (now old) (apdu_of op) ≡ expected_of op
+
+-- power was cut in it, and came back
+pub record CutsOff (op : Op) (old new : Trace) : Type 0 where
+  pub fresh : Bool
+  pub octets : List ℕ
+  pub is : new ≡ after (after old (GiveTorn (apdu_of op) fresh octets)) On
+
+-- all events of a bench follow the script, and so many writes came
+pub record IsScripted (cuts : List Cut) (n : ℕ) (t : Trace) : Type 0 where
+  pub follows : Follows cuts t.start 0 t.events
+  pub count : n ≡ write_count t.start 0 t.events

@@ -1,0 +1,149 @@
+//! A bench: one simulated device with all that was done to it.
+
+ghost use Rattle.std.specs.Prelude.{◌≡◌, [], None, Some, true, length, IfOk, OnOk, OnErr};
+ghost use Rattle.knx_model.specs.declared.bench.BenchEvent.TheVariants.{Give, On};
+ghost use Rattle.knx_model.specs.Device.{blank, loaded_with, effect_in, is_write, runs, Fits};
+ghost use Rattle.knx_model.specs.Bench.{now, after, answered, cut_after};
+
+use device_sim::{Device, written_front};
+use knx_model::{ApduOctets, BenchEvent, Image, IndAddr, NoMemory};
+use std::alloc::Global;
+use std::marker::Model;
+
+/// A device, what it began as, and the events since: the device is what start and events give.
+#[derive(Drop)]
+pub struct Run {
+    start: Device,
+    events: Vec<BenchEvent>,
+    device: Device,
+}
+
+impl Model for Run {
+    ghost use Rattle.std.specs.Prelude.{◌≡◌};
+    ghost use Rattle.knx_model.specs.Bench.{Trace, replay};
+
+    ghost Value = { Trace };
+
+    ghost view = { λ r. record { start = r.start; events = r.events.items } };
+
+    ghost invariant = { λ r. r.device ≡ replay r.start r.events.items };
+}
+
+impl Run {
+    /// A blank device to which nothing was done.
+    pub fn blank(alloc: Global, address: IndAddr) -> Result<Run, NoMemory>
+        ensures { IfOk result (λ made. made ≡ record { start = blank address; events = [] }) }
+    {
+        Ok(Run {
+            start: Device::blank(alloc, address)?,
+            events: Vec::new(alloc),
+            device: Device::blank(alloc, address)?,
+        })
+    }
+
+    /// A device that is loaded with an image.
+    pub fn loaded(alloc: Global, address: IndAddr, image: &Image) -> Result<Run, NoMemory>
+        requires { Fits image.now }
+        ensures { IfOk result (λ made. made ≡ record { start = loaded_with address image.now; events = [] }) }
+    {
+        Ok(Run {
+            start: Device::loaded(alloc, address, image)?,
+            events: Vec::new(alloc),
+            device: Device::loaded(alloc, address, image)?,
+        })
+    }
+
+    /// The image that the device runs; none where it doesn't run.
+    pub fn image(&self, alloc: Global) -> Result<Option<Image>, NoMemory>
+        ensures { IfOk result (λ image. image ≡ runs (now self.now).kept) }
+    {
+        self.device.image(alloc)
+    }
+
+    /// The number of events.
+    pub fn len(&self) -> u64
+        ensures { result ≡ length self.now.events }
+    {
+        self.events.len() as u64
+    }
+
+    /// Whether the service would be a write of the device.
+    pub fn would_write(&self, apdu: &[u8]) -> bool
+        ensures { result ≡ is_write (now self.now).kept (effect_in apdu.now) }
+    {
+        self.device.would_write(apdu)
+    }
+
+    /// The device takes a service whole. At `Err` nothing was done.
+    #[tactic(auto, using(crate::proofs::Traces::replay_last))]
+    pub fn give(&mut self, apdu: ApduOctets) -> Result<Option<ApduOctets>, NoMemory>
+        ensures next { OnOk result (self.new ≡ after self.old (Give apdu)) }
+        ensures answer { IfOk result (λ answer. answer ≡ answered (now self.old) apdu) }
+        ensures err { OnErr result (self.new ≡ self.old) }
+    {
+        self.events.reserve(1)?;
+        let answer = self.device.give(apdu.as_slice());
+        self.events.push(BenchEvent::Give(apdu))?;
+        Ok(answer)
+    }
+
+    /// Power is cut after the first `k` octets of what the service writes. At `Err` nothing was done.
+    #[tactic(auto, using(crate::proofs::Traces::replay_last))]
+    pub fn give_torn(&mut self, alloc: Global, apdu: ApduOctets, k: u32) -> Result<(), NoMemory>
+        requires { is_write (now self.old).kept (effect_in apdu) ≡ true }
+        ensures next { OnOk result (self.new ≡ after self.old (cut_after apdu k)) }
+        ensures err { OnErr result (self.new ≡ self.old) }
+    {
+        let octets = written_front(alloc, apdu.as_slice(), k)?;
+        self.events.reserve(1)?;
+        self.device.give_torn(apdu.as_slice(), k);
+        self.events.push(BenchEvent::GiveTorn {
+            apdu,
+            fresh: k > 0,
+            octets,
+        })?;
+        Ok(())
+    }
+
+    /// Power comes back. At `Err` nothing was done.
+    #[tactic(auto, using(crate::proofs::Traces::replay_last))]
+    pub fn on(&mut self) -> Result<(), NoMemory>
+        ensures next { OnOk result (self.new ≡ after self.old On) }
+        ensures err { OnErr result (self.new ≡ self.old) }
+    {
+        self.events.push(BenchEvent::On)?;
+        self.device.on();
+        Ok(())
+    }
+}
+
+/// What the program runs on: nothing yet, or the line of the last run.
+#[derive(Drop)]
+pub struct Bench {
+    run: Option<Run>,
+}
+
+impl Model for Bench {
+    ghost use Rattle.std.specs.Prelude.{Option};
+    ghost use Rattle.knx_model.specs.Bench.{Trace};
+
+    ghost Value = { Option Trace };
+
+    ghost view = { λ b. b.run };
+}
+
+impl Bench {
+    /// A bench on which nothing was run. It takes no memory.
+    pub fn empty(_alloc: Global) -> Bench
+        ensures { result ≡ None }
+    {
+        Bench { run: None }
+    }
+
+    /// Puts a run on the bench.
+    pub fn put(&mut self, run: Run)
+        ensures { self.new ≡ Some run }
+    {
+        self.run = Some(run);
+    }
+}
