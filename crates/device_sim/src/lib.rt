@@ -2,4 +2,7 @@
 //! which outlive a power cut, and what each service does and is answered.
 #![tactic(auto)]
 
+mod effect;
+mod kept;
+mod places;
 mod segment;

@@ -1,6 +1,6 @@
 //! A loadable object: the load machine, and the memory of which its segment is the front.
 
-ghost use Rattle.std.specs.Prelude.{◌≡◌, ◌+◌, ◌≤◌, length, IfOk, take, drop, [], ◌++◌, replicate, nat_lt, if◌then◌else◌};
+ghost use Rattle.std.specs.Prelude.{◌≡◌, ◌+◌, ◌-◌, ◌≤◌, length, IfOk, take, drop, [], ◌++◌, replicate, nat_lt, if◌then◌else◌};
 ghost use Rattle.knx_model.specs.Loading.{Loadable, load_step, load_torn, written, scribbled, takes_write, allocates, has_range, octets_of, overlaid, is_loading, is_loaded, with_memory};
 ghost use Rattle.knx_model.specs.Device.{blank_object, loaded_object};
 ghost use Rattle.knx_model.specs.Bench.{front_of_load};
@@ -46,8 +46,7 @@ impl Segment {
         requires { length list.now ≤ size }
         ensures { IfOk result (λ made. made ≡ loaded_object size list.now) }
     {
-        let mut memory = vec![in alloc; 0; size]?;
-        put_front(memory.as_mut_slice(), list);
+        let memory = memory_with(alloc, size, list)?;
         Ok(Segment {
             state: LoadState::Loaded,
             len: list.len(),
@@ -157,7 +156,7 @@ impl Segment {
         ensures { self.new ≡ load_torn self.old (LoadEvent.Allocate size fill) (nat_lt 0 k) (take k (replicate size fill)) }
     {
         if self.allocates(size) {
-            fill_front(self.memory.as_mut_slice(), k.min(size) as usize, fill);
+            fill_torn(self.memory.as_mut_slice(), size as usize, fill, k as usize);
             if k > 0 {
                 self.len = size as usize;
             }
@@ -203,7 +202,7 @@ impl Segment {
         ensures { result.now ≡ (if has_range self.now at n then take n (drop at (octets_of self.now)) else []) }
     {
         if self.has_range(at, n) {
-            part(self.octets(), at, n)
+            part(&self.memory[..self.len], at, n)
         } else {
             &[]
         }
@@ -234,6 +233,26 @@ fn fill_front(memory: &mut [u8], n: usize, fill: u8)
     ensures { memory.new ≡ replicate n fill ++ drop n memory.old }
 {
     memory[..n].fill(fill);
+}
+
+/// Of the n octets of the fill the first `k` are written.
+#[tactic(auto, using(crate::proofs::Memory::overlaid_filled))]
+fn fill_torn(memory: &mut [u8], n: usize, fill: u8, k: usize)
+    requires { n ≤ length memory.old }
+    ensures { memory.new ≡ overlaid memory.old 0 (take n (take k (replicate n fill))) }
+{
+    fill_front(memory, k.min(n), fill);
+}
+
+/// A memory of `size` octets that begins with a list, and is else 0.
+#[tactic(auto, using(crate::proofs::Memory::rest_blank))]
+fn memory_with(alloc: Global, size: usize, list: &[u8]) -> Result<Vec<u8>, NoMemory>
+    requires { length list.now ≤ size }
+    ensures { IfOk result (λ memory. memory.items ≡ list.now ++ replicate (size - length list.now) 0) }
+{
+    let mut memory = vec![in alloc; 0; size]?;
+    put_front(memory.as_mut_slice(), list);
+    Ok(memory)
 }
 
 fn put_front(memory: &mut [u8], list: &[u8])
