@@ -8,9 +8,9 @@ use Rattle.knx_model.specs.Loading.{overlaid}
 
 take_filled : (k n fill : ℕ) → take k (replicate n fill) ≡ replicate (min k n) fill
 take_filled k n fill = elim (cases_lt k n) as (λ _. take k (replicate n fill) ≡ replicate (min k n) fill) [
-    | inl h ↦ let le : k ≤ n = omega arith in let e : min k n ≡ k = omega arith in rw e (take-replicate k n fill le)
-    | inr h ↦ let le : length (replicate n fill) ≤ k = rw (length-replicate n fill) h in let e : min k n ≡ n = omega arith in rw e (take_all k (replicate n fill) le)
-  ]
+  | inl h ↦ let le : k ≤ n = omega arith in let e : min k n ≡ k = omega arith in rw e (take-replicate k n fill le)
+  | inr h ↦ let le : length (replicate n fill) ≤ k = rw (length-replicate n fill) h in let e : min k n ≡ n = omega arith in rw e (take_all k (replicate n fill) le)
+]
 
 overlaid_front : (memory octets : List ℕ) → length octets ≤ length memory → overlaid memory 0 octets ≡ octets ++ drop (length octets) memory
 overlaid_front memory octets h = grind (arith, common_steps)

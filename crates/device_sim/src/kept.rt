@@ -1,8 +1,7 @@
 //! What a device keeps without power.
 
-ghost use Rattle.std.specs.Prelude.{◌≡◌, ◌≤◌, ℕ, List, length, IfOk, nat_lt, Bool, take};
-ghost use Rattle.knx_model.specs.Loading.{Loadable};
-ghost use Rattle.knx_model.specs.Device.{object as content, whole, torn, is_write, all_loaded, runs, Effect as Done, Loads, Stores, range_octets};
+ghost use Rattle.std.specs.Prelude.{◌≡◌, ◌≤◌, ℕ, List, length, IfOk, nat_lt, take};
+ghost use Rattle.knx_model.specs.Device.{object as content, whole, torn, is_write, all_loaded, Loads, Stores, range_octets};
 ghost use Rattle.knx_model.specs.Bench.{written_front, front_of_load};
 ghost use Rattle.device_sim.specs.Effects.{meant};
 
@@ -79,7 +78,7 @@ impl Kept {
 
     /// Stores the first `k` of these octets.
     fn store_torn(&mut self, address: u16, octets: &[u8], k: u32)
-        ensures { (fresh : Bool) → self.new ≡ torn self.old (Stores address octets.now) fresh (take k octets.now) }
+        ensures { self.new ≡ torn self.old (Stores address octets.now) (nat_lt 0 k) (take k octets.now) }
     {
         if let Some(object) = object_at(address) {
             let at = (address - base(object)) as usize;
@@ -116,7 +115,7 @@ impl Kept {
         }
     }
 
-    /// Whether memory of four octets `n` from an address on lies within one segment, and is taken there.
+    /// Whether a memory write of n octets is taken.
     fn takes_store(&self, address: u16, n: usize) -> bool
         ensures { (octets : List ℕ) → length octets ≡ n → result ≡ is_write self.now (Stores address octets) }
     {

@@ -2,7 +2,14 @@
 //! which outlive a power cut, and what each service does and is answered.
 #![tactic(auto)]
 
+mod answer;
+mod device;
 mod effect;
 mod kept;
 mod places;
 mod segment;
+mod service;
+
+pub use device::Device;
+pub use knx_model::{ApduOctets, Image, IndAddr, NoMemory, Octets};
+pub use service::written_front;

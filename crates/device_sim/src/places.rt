@@ -7,8 +7,11 @@ use knx_model::LoadableObject;
 
 /// The octets of each object's memory.
 pub const ADDRESS_TABLE_CAPACITY: usize = 0x1000;
+
 pub const ASSOCIATION_TABLE_CAPACITY: usize = 0x2000;
+
 pub const GROUP_OBJECTS_CAPACITY: usize = 0x0400;
+
 pub const APPLICATION_CAPACITY: usize = 0x2000;
 
 /// The address of the first octet of an object's memory.
