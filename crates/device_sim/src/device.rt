@@ -11,9 +11,8 @@ use crate::places::{
     GROUP_OBJECTS_CAPACITY,
 };
 use crate::segment::Segment;
-use crate::service::{effect_in, service_in};
-use apdu_frames::encode;
-use knx_model::{ApduOctets, Image, IndAddr, NoMemory, Octets, Tpdu};
+use crate::service::{effect_in, octets_of, service_in};
+use knx_model::{ApduOctets, Image, IndAddr, NoMemory, Octets};
 use std::alloc::Global;
 use std::marker::Model;
 
@@ -98,7 +97,7 @@ impl Device {
         }
         let service = service_in(apdu)?;
         let answer = self.kept.serve(&service)?;
-        Some(encode(&Tpdu::Unnumbered(answer)))
+        Some(octets_of(answer))
     }
 
     /// Whether the service would be a write of the device, at which power can be cut.

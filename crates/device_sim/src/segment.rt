@@ -30,6 +30,7 @@ impl Model for Segment {
 
 impl Segment {
     /// An object to which nothing was loaded, with a memory of `size` octets.
+    #[tactic(auto, unfolding(knx_model::specs::Device::blank_object))]
     pub fn blank(alloc: Global, size: usize) -> Result<Segment, NoMemory>
         ensures { IfOk result (λ made. made ≡ blank_object size) }
     {

@@ -2,14 +2,14 @@
 
 ghost use Rattle.std.specs.Prelude.{◌≡◌, IfOk, IfSome};
 ghost use Rattle.knx_model.specs.Apdu.{IsApduInRange};
-ghost use Rattle.knx_model.specs.ApduReading.{service_in};
+ghost use Rattle.knx_model.specs.ApduReading.{service_in, apdu_octets};
 ghost use Rattle.knx_model.specs.Device.{effect_in};
 ghost use Rattle.knx_model.specs.Bench.{written_front};
 ghost use Rattle.device_sim.specs.Effects.{meant};
 
 use crate::effect::{Effect, effect_of, front_of};
-use apdu_frames::decode;
-use knx_model::{Apdu, NoMemory, Octets, Tpdu};
+use apdu_frames::{decode, encode};
+use knx_model::{Apdu, ApduOctets, NoMemory, Octets, Tpdu};
 use std::alloc::Global;
 
 /// The service, and none where the octets ask for none.
@@ -22,6 +22,14 @@ pub fn service_in(octets: &[u8]) -> Option<Apdu>
         Ok(Tpdu::Unnumbered(apdu)) => Some(apdu),
         _ => None,
     }
+}
+
+/// A service as octets.
+pub fn octets_of(apdu: Apdu) -> ApduOctets
+    requires { IsApduInRange apdu }
+    ensures { result ≡ apdu_octets apdu }
+{
+    encode(&Tpdu::Unnumbered(apdu))
 }
 
 /// What the service does that the octets ask for.
