@@ -6,7 +6,7 @@ ghost use Rattle.knx_model.specs.ApduReading.{option_map};
 ghost use Rattle.knx_model.specs.Loading.{state_number};
 ghost use Rattle.knx_model.specs.Device.{object_type, object_of_index, load_state, table_reference, property_value, property_response, where_one, whole, effect_of, answer};
 
-use crate::effect::{effect_of, is_load_control};
+use crate::effect::{LOAD_CONTROL, effect_of, is_load_control};
 use crate::kept::Kept;
 use crate::places::{base, object_of_index};
 use knx_model::{Apdu, ApduOctets, LoadState};
@@ -20,13 +20,19 @@ const NO_DESCRIPTOR: u8 = 0x3F;
 /// The greatest length of an APDU, in octets.
 const MAX_APDU_LENGTH: u16 = 15;
 
+const OBJECT_TYPE: u8 = 1;
+
+const TABLE_REFERENCE: u8 = 7;
+
+const GREATEST_LENGTH: u8 = 56;
+
 fn word(n: u16) -> ApduOctets
     ensures { result ≡ word n }
 {
     ApduOctets::from_slice(&n.to_be_bytes())
 }
 
-/// The object type of the object of an index.
+/// The type of the object of an index: device, address table, association table, group objects, application.
 fn object_type(index: u8) -> Option<u16>
     ensures { result ≡ object_type index }
 {
@@ -114,10 +120,10 @@ impl Kept {
         ensures { result ≡ property_value self.now index property }
     {
         match property {
-            1 => Some(word(object_type(index)?)),
-            5 => self.load_state(index),
-            7 => table_reference(index),
-            56 if index == 0 => Some(word(MAX_APDU_LENGTH)),
+            OBJECT_TYPE => Some(word(object_type(index)?)),
+            LOAD_CONTROL => self.load_state(index),
+            TABLE_REFERENCE => table_reference(index),
+            GREATEST_LENGTH if index == 0 => Some(word(MAX_APDU_LENGTH)),
             _ => None,
         }
     }

@@ -11,8 +11,8 @@ use crate::segment::first;
 use knx_model::{Apdu, ApduOctets, LoadEvent, LoadableObject, NoMemory, Octets};
 use std::alloc::Global;
 
-/// The object index, property and start that name load control.
-const LOAD_CONTROL: u8 = 5;
+/// The property that takes load events and tells the load state.
+pub const LOAD_CONTROL: u8 = 5;
 
 /// What a service does to a device: a load event of an object, octets that are stored from an address on, or nothing.
 #[derive(Drop)]

@@ -13,3 +13,6 @@ mod service;
 pub use device::Device;
 pub use knx_model::{ApduOctets, Image, IndAddr, NoMemory, Octets};
 pub use service::written_front;
+
+#[cfg(test)]
+mod tests;

@@ -71,19 +71,13 @@ impl Segment {
     fn is_loading(&self) -> bool
         ensures { result ≡ is_loading self.now.state }
     {
-        match self.state {
-            LoadState::Loading => true,
-            _ => false,
-        }
+        matches!(self.state, LoadState::Loading)
     }
 
     pub fn is_loaded(&self) -> bool
         ensures { result ≡ is_loaded self.now.state }
     {
-        match self.state {
-            LoadState::Loaded => true,
-            _ => false,
-        }
+        matches!(self.state, LoadState::Loaded)
     }
 
     /// Takes a load event.
