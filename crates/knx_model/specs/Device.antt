@@ -220,7 +220,7 @@ answer_in nv octets = answer_at nv (service_in octets)
 
 -- ---- devices at rest
 
-abbrev pub blank_object : ℕ → Loadable
+unfoldable pub blank_object : ℕ → Loadable
 blank_object size = record { state = Unloaded; len = 0; memory = replicate size 0 }
 
 -- a device with power to which nothing was loaded

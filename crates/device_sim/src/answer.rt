@@ -1,0 +1,175 @@
+//! What a service is answered.
+
+ghost use Rattle.std.specs.Prelude.{◌≡◌, ◌+◌, ◌≤◌, ◌<◌, IfSome, Some, None, ◌==◌, if◌then◌else◌};
+ghost use Rattle.knx_model.specs.Apdu.{word, IsApduInRange};
+ghost use Rattle.knx_model.specs.ApduReading.{option_map};
+ghost use Rattle.knx_model.specs.Loading.{state_number};
+ghost use Rattle.knx_model.specs.Device.{object_type, object_of_index, load_state, table_reference, property_value, property_response, where_one, whole, effect_of, answer};
+
+use crate::effect::{LOAD_CONTROL, effect_of, is_load_control};
+use crate::kept::Kept;
+use crate::places::{base, object_of_index};
+use knx_model::{Apdu, ApduOctets, LoadState};
+
+/// The mask of a System B device.
+const DEVICE_DESCRIPTOR: u16 = 0x07B0;
+
+/// The descriptor type of a device that has no descriptor of the type that is asked for.
+const NO_DESCRIPTOR: u8 = 0x3F;
+
+/// The greatest length of an APDU, in octets.
+const MAX_APDU_LENGTH: u16 = 15;
+
+const OBJECT_TYPE: u8 = 1;
+
+const TABLE_REFERENCE: u8 = 7;
+
+const GREATEST_LENGTH: u8 = 56;
+
+fn word(n: u16) -> ApduOctets
+    ensures { result ≡ word n }
+{
+    ApduOctets::from_slice(&n.to_be_bytes())
+}
+
+/// The type of the object of an index: device, address table, association table, group objects, application.
+fn object_type(index: u8) -> Option<u16>
+    ensures { result ≡ object_type index }
+{
+    match index {
+        0 => Some(0),
+        1 => Some(1),
+        2 => Some(2),
+        3 => Some(9),
+        4 => Some(3),
+        _ => None,
+    }
+}
+
+fn state_number(state: LoadState) -> u8
+    ensures { result ≡ state_number state }
+{
+    match state {
+        LoadState::Unloaded => 0,
+        LoadState::Loaded => 1,
+        LoadState::Loading => 2,
+        LoadState::Error => 3,
+    }
+}
+
+/// The base of the object of an index, in four octets.
+fn table_reference(index: u8) -> Option<ApduOctets>
+    ensures { result ≡ option_map table_reference (object_of_index index) }
+{
+    let base = base(object_of_index(index)?);
+    let mut octets = ApduOctets::from_slice(&[0, 0]);
+    octets.extend(&base.to_be_bytes());
+    Some(octets)
+}
+
+/// The device has a descriptor of type 0 alone.
+fn descriptor(kind: u8) -> Apdu
+    ensures value { result ≡ (if kind == 0 then Apdu.DescriptorResponse 0 (Some 0x07B0) else Apdu.DescriptorResponse 0x3F None) }
+    ensures range { IsApduInRange result }
+{
+    if kind == 0 {
+        Apdu::DescriptorResponse {
+            kind: 0,
+            value: Some(DEVICE_DESCRIPTOR),
+        }
+    } else {
+        Apdu::DescriptorResponse {
+            kind: NO_DESCRIPTOR,
+            value: None,
+        }
+    }
+}
+
+fn property_response(object: u8, property: u8, start: u16, value: Option<ApduOctets>) -> Apdu
+    ensures { result ≡ property_response object property start value }
+{
+    match value {
+        Some(octets) => Apdu::PropertyResponse {
+            object,
+            property,
+            count: 1,
+            start,
+            octets,
+        },
+        None => Apdu::PropertyResponse {
+            object,
+            property,
+            count: 0,
+            start,
+            octets: ApduOctets::new(),
+        },
+    }
+}
+
+impl Kept {
+    /// The load state of the object of an index.
+    fn load_state(&self, index: u8) -> Option<ApduOctets>
+        ensures { result ≡ option_map (load_state self.now) (object_of_index index) }
+    {
+        let object = object_of_index(index)?;
+        let state = self.segment(object).state();
+        Some(ApduOctets::from_slice(&[state_number(state)]))
+    }
+
+    fn property_value(&self, index: u8, property: u8) -> Option<ApduOctets>
+        ensures { result ≡ property_value self.now index property }
+    {
+        match property {
+            OBJECT_TYPE => Some(word(object_type(index)?)),
+            LOAD_CONTROL => self.load_state(index),
+            TABLE_REFERENCE => table_reference(index),
+            GREATEST_LENGTH if index == 0 => Some(word(MAX_APDU_LENGTH)),
+            _ => None,
+        }
+    }
+
+    /// Takes a service whole, and answers it.
+    pub fn serve(&mut self, apdu: &Apdu) -> Option<Apdu>
+        requires { IsApduInRange apdu.now }
+        ensures next { self.new ≡ whole self.old (effect_of apdu.now) }
+        ensures answer { result ≡ answer self.old apdu.now }
+        ensures range { IfSome result (λ response. IsApduInRange response) }
+    {
+        self.take(&effect_of(apdu));
+        match apdu {
+            Apdu::DescriptorRead(kind) => Some(descriptor(*kind)),
+            Apdu::MemoryRead { count, address } => Some(Apdu::MemoryResponse {
+                address: *address,
+                octets: ApduOctets::from_slice(self.range(*address, *count as usize)),
+            }),
+            Apdu::PropertyRead {
+                object,
+                property,
+                count,
+                start,
+            } => {
+                let value = if *count == 1 && *start == 1 {
+                    self.property_value(*object, *property)
+                } else {
+                    None
+                };
+                Some(property_response(*object, *property, *start, value))
+            }
+            Apdu::PropertyWrite {
+                object,
+                property,
+                count,
+                start,
+                octets,
+            } => {
+                let value = if is_load_control(*property, *count, *start, octets.as_slice()) {
+                    self.load_state(*object)
+                } else {
+                    None
+                };
+                Some(property_response(*object, *property, *start, value))
+            }
+            _ => None,
+        }
+    }
+}

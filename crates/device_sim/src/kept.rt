@@ -1,0 +1,165 @@
+//! What a device keeps without power.
+
+ghost use Rattle.std.specs.Prelude.{◌≡◌, ◌≤◌, ℕ, List, length, IfOk, nat_lt, take};
+ghost use Rattle.knx_model.specs.Device.{object as content, whole, torn, is_write, all_loaded, Loads, Stores, range_octets};
+ghost use Rattle.knx_model.specs.Bench.{written_front, front_of_load};
+ghost use Rattle.device_sim.specs.Effects.{meant};
+
+use crate::effect::Effect;
+use crate::places::{base, object_at};
+use crate::segment::{Segment, first};
+use knx_model::{LoadEvent, LoadableObject};
+use std::marker::Model;
+
+/// The four loadable objects of a device.
+#[derive(Drop)]
+pub struct Kept {
+    pub address_table: Segment,
+    pub association_table: Segment,
+    pub group_objects: Segment,
+    pub application: Segment,
+}
+
+impl Model for Kept {
+    ghost use Rattle.knx_model.specs.Device.{NonVolatile};
+
+    ghost Value = { NonVolatile };
+
+    ghost view = { λ k. record { address_table = k.address_table; association_table = k.association_table; group_objects = k.group_objects; application = k.application } };
+}
+
+impl Kept {
+    pub fn segment(&self, object: LoadableObject) -> &Segment
+        ensures { result.now ≡ content self.now object }
+    {
+        match object {
+            LoadableObject::AddressTable => &self.address_table,
+            LoadableObject::AssociationTable => &self.association_table,
+            LoadableObject::GroupObjects => &self.group_objects,
+            LoadableObject::Application => &self.application,
+        }
+    }
+
+    fn load(&mut self, object: LoadableObject, event: LoadEvent)
+        ensures { self.new ≡ whole self.old (Loads object event) }
+    {
+        match object {
+            LoadableObject::AddressTable => self.address_table.load(event),
+            LoadableObject::AssociationTable => self.association_table.load(event),
+            LoadableObject::GroupObjects => self.group_objects.load(event),
+            LoadableObject::Application => self.application.load(event),
+        }
+    }
+
+    fn load_torn(&mut self, object: LoadableObject, event: LoadEvent, k: u32)
+        ensures { self.new ≡ torn self.old (Loads object event) (nat_lt 0 k) (front_of_load event k) }
+    {
+        match object {
+            LoadableObject::AddressTable => self.address_table.load_torn(event, k),
+            LoadableObject::AssociationTable => self.association_table.load_torn(event, k),
+            LoadableObject::GroupObjects => self.group_objects.load_torn(event, k),
+            LoadableObject::Application => self.application.load_torn(event, k),
+        }
+    }
+
+    fn store(&mut self, address: u16, octets: &[u8])
+        ensures { self.new ≡ whole self.old (Stores address octets.now) }
+    {
+        if let Some(object) = object_at(address) {
+            let at = (address - base(object)) as usize;
+            match object {
+                LoadableObject::AddressTable => self.address_table.write(at, octets),
+                LoadableObject::AssociationTable => self.association_table.write(at, octets),
+                LoadableObject::GroupObjects => self.group_objects.write(at, octets),
+                LoadableObject::Application => self.application.write(at, octets),
+            }
+        }
+    }
+
+    /// Stores the first `k` of these octets.
+    fn store_torn(&mut self, address: u16, octets: &[u8], k: u32)
+        ensures { self.new ≡ torn self.old (Stores address octets.now) (nat_lt 0 k) (take k octets.now) }
+    {
+        if let Some(object) = object_at(address) {
+            let at = (address - base(object)) as usize;
+            let n = octets.len();
+            let front = first(octets, k as usize);
+            match object {
+                LoadableObject::AddressTable => self.address_table.write_torn(at, n, front),
+                LoadableObject::AssociationTable => self.association_table.write_torn(at, n, front),
+                LoadableObject::GroupObjects => self.group_objects.write_torn(at, n, front),
+                LoadableObject::Application => self.application.write_torn(at, n, front),
+            }
+        }
+    }
+
+    /// Takes an effect whole.
+    pub fn take(&mut self, effect: &Effect)
+        ensures { self.new ≡ whole self.old (meant effect.now) }
+    {
+        match effect {
+            Effect::Loads(object, event) => self.load(*object, *event),
+            Effect::Stores { address, octets } => self.store(*address, octets.as_slice()),
+            Effect::Nothing => {}
+        }
+    }
+
+    /// Takes an effect that a power cut tears after `k` written octets.
+    pub fn take_torn(&mut self, effect: &Effect, k: u32)
+        ensures { self.new ≡ torn self.old (meant effect.now) (nat_lt 0 k) (written_front (meant effect.now) k) }
+    {
+        match effect {
+            Effect::Loads(object, event) => self.load_torn(*object, *event, k),
+            Effect::Stores { address, octets } => self.store_torn(*address, octets.as_slice(), k),
+            Effect::Nothing => {}
+        }
+    }
+
+    /// Whether a memory write of n octets is taken.
+    fn takes_store(&self, address: u16, n: usize) -> bool
+        ensures { (octets : List ℕ) → length octets ≡ n → result ≡ is_write self.now (Stores address octets) }
+    {
+        match object_at(address) {
+            Some(object) => {
+                let at = (address - base(object)) as usize;
+                self.segment(object).takes_write(at, n)
+            }
+            None => false,
+        }
+    }
+
+    /// Whether an effect is a write of the device.
+    pub fn is_write(&self, effect: &Effect) -> bool
+        ensures { result ≡ is_write self.now (meant effect.now) }
+    {
+        match effect {
+            Effect::Loads(_, LoadEvent::NoOperation) => false,
+            Effect::Loads(_, _) => true,
+            Effect::Stores { address, octets } => self.takes_store(*address, octets.len()),
+            Effect::Nothing => false,
+        }
+    }
+
+    /// The n octets from an address on, and none where these don't lie within one segment.
+    pub fn range(&self, address: u16, n: usize) -> &[u8]
+        ensures { result.now ≡ range_octets self.now address n }
+    {
+        match object_at(address) {
+            Some(object) => {
+                let at = (address - base(object)) as usize;
+                self.segment(object).range(at, n)
+            }
+            None => &[],
+        }
+    }
+
+    /// Whether all four objects are Loaded.
+    pub fn runs(&self) -> bool
+        ensures { result ≡ all_loaded self.now }
+    {
+        self.address_table.is_loaded()
+            && self.association_table.is_loaded()
+            && self.group_objects.is_loaded()
+            && self.application.is_loaded()
+    }
+}
