@@ -1,0 +1,7 @@
+//! The load plan of an image: its operations, and that each beginning of them leaves a device as it was, stopped, or with the
+//! image.
+#![tactic(auto)]
+
+mod laws;
+
+pub use laws::each_plan_is_good;
