@@ -1,3 +1,5 @@
 pub mod Lists
 pub mod Steps
 pub mod Filling
+pub mod Good
+pub mod Served
