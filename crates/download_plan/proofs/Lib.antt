@@ -3,3 +3,4 @@ pub mod Steps
 pub mod Filling
 pub mod Good
 pub mod Served
+pub mod Capacities

@@ -102,3 +102,32 @@ filling_serve nv o list f r =
     (serves_load R nv o p1 StartLoading Loading ops2 tt refl
     (serves_load R nv o p2 (Allocate (length list) 0) Loading ops3 (capacity_short o (length list) r) s3
     (serves_step R (PropertyRead (object_index o) 7 1 1) based rest (with_object nv o p3) (with_object nv o p3) Nothing refl refl (answer_base (with_object nv o p3) o) last))))
+
+pub loading_serve : (nv : NonVolatile) (o : LoadableObject) (list : List ℕ) → length list ≤ capacity_of (object nv o) → length list ≤ capacity o → OperationsServe (IsLoaded nv o list) (loading o list) nv
+unfolding loading
+loading_serve nv o list f r =
+    serves-append (IsFilled nv o list) (IsLoaded nv o list) (filling o list) (loads o LoadCompleted Loaded ∷ []) nv (filling_serve nv o list f r)
+    (λ u g. subst (OperationsServe (IsLoaded nv o list) (loads o LoadCompleted Loaded ∷ [])) (sym g.is)
+    (let t : (load_step g.p LoadCompleted).state ≡ Loaded = rw g.state refl in
+    serves_load (IsLoaded nv o list) nv o g.p LoadCompleted Loaded [] tt t (record { p = load_step g.p LoadCompleted; is = refl; state = t; octets = g.octets })))
+
+pub operations_serve : (image : Image) → Fits image → (nv : NonVolatile) → HasCapacities nv → OperationsServe (λ u. runs u ≡ Some image) (load_operations image) nv
+unfolding load_operations
+operations_serve image fits nv h =
+    let R : NonVolatile → Type 0 = λ u. runs u ≡ Some image in
+    let u1 : NonVolatile = whole nv (Loads Application Unload) in (
+      refl,
+      (
+        refl,
+        serves-append (IsLoaded u1 AddressTable image.addr) R (loading AddressTable image.addr) _ u1
+            (loading_serve u1 AddressTable image.addr (rw h.addr fits.addr) fits.addr)
+            (λ u2 f2. serves-append (IsLoaded u2 AssociationTable image.assoc) R (loading AssociationTable image.assoc) _ u2
+            (loading_serve u2 AssociationTable image.assoc (rw f2.is (rw h.assoc fits.assoc)) fits.assoc)
+            (λ u3 f3. serves-append (IsLoaded u3 GroupObjects image.objs) R (loading GroupObjects image.objs) _ u3
+            (loading_serve u3 GroupObjects image.objs (rw (f3.is, f2.is) (rw h.objs fits.objs)) fits.objs)
+            (λ u4 f4. serves-weaker (IsLoaded u4 Application image.params) R
+            (λ u5 f5. rw (f5.is, f4.is, f3.is, f2.is) (runs_image image u1 f2.p f3.p f4.p f5.p f2.state f3.state f4.state f5.state f2.octets f3.octets f4.octets f5.octets))
+            (loading Application image.params) u4
+            (loading_serve u4 Application image.params (rw (f4.is, f3.is, f2.is) (rw h.params fits.params)) fits.params)))),
+      ),
+    )
