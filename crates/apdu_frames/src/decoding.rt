@@ -1,6 +1,8 @@
 ghost use Rattle.std.specs.Prelude.{◌≡◌, ◌+◌, ◌*◌, ◌/◌, ◌%◌, ◌<◌, ◌≤◌, ◌^◌, [], ◌∷◌, ◌++◌, length, IfOk, IfErr, IfSome, IfNone, Ok};
 ghost use Rattle.knx_model.specs.declared.frames.tpdu.Tpdu.{Tpdu as Frame};
 ghost use Rattle.knx_model.specs.Apdu.{Reads, ReadsApdu, ReadsControl, IsLeastBroken, IsControlForm, IsValue, IsDescriptor, code_of, low};
+ghost use Rattle.knx_model.specs.ApduReading.{tpdu_in};
+ghost use Rattle.std.specs.Result.{result_ok};
 ghost use Rattle.apdu_frames.specs.Refusing.{RefusesApdu};
 
 use knx_model::{Apdu, ApduOctets, IndAddr, LongValue, Tpdu, TpduRefused, Value};
@@ -216,6 +218,7 @@ pub fn decode(octets: &[u8]) -> Result<Tpdu, TpduRefused>
     ensures read { IfOk result (λ frame. Reads octets.now frame) }
     ensures only { (frame : Frame) → Reads octets.now frame → result ≡ Ok frame }
     ensures refused { IfErr result (λ why. IsLeastBroken why octets.now) }
+    ensures gives { result_ok result ≡ tpdu_in octets.now }
 {
     frame_of(octets)
 }
