@@ -4,3 +4,4 @@ pub mod Filling
 pub mod Good
 pub mod Served
 pub mod Capacities
+pub mod Octets
