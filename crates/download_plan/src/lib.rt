@@ -3,5 +3,7 @@
 #![tactic(auto)]
 
 mod laws;
+mod operation;
+mod step;
 
 pub use laws::each_plan_is_good;
