@@ -5,3 +5,4 @@ pub mod Good
 pub mod Served
 pub mod Capacities
 pub mod Octets
+pub mod Places

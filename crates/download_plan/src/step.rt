@@ -16,6 +16,7 @@ pub enum Step {
     Complete,
 }
 
+#[tactic(auto, unfolding(knx_model::specs::Plan::loading, knx_model::specs::Plan::filling))]
 /// The k-th step of the loading of a list of this many pieces.
 pub fn step_at(k: u32, pieces: u32) -> Step
     requires { k < 5 + 2 * pieces }
