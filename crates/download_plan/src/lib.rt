@@ -4,6 +4,9 @@
 
 mod laws;
 mod operation;
+mod place;
+mod plan;
 mod step;
 
 pub use laws::each_plan_is_good;
+pub use plan::LoadPlan;

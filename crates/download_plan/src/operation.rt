@@ -15,7 +15,7 @@ const LOAD_CONTROL: u8 = 5;
 /// The property of a loadable object that answers its base.
 const TABLE_REFERENCE: u8 = 7;
 /// The octets of a memory service.
-const PIECE: usize = 12;
+pub const PIECE: usize = 12;
 
 fn octets_of(service: Apdu) -> ApduOctets
     requires { IsApduInRange service }
