@@ -16,8 +16,10 @@ struct Place {
 }
 
 fn list_of(image: &Image, object: LoadableObject) -> &[u8]
+    requires { Fits image.now }
     ensures value { result.now ≡ list_of image.now object }
-    ensures room { Fits image.now → length result.now ≤ capacity object }
+    ensures room { length result.now ≤ capacity object }
+    ensures bound { length result.now ≤ 0x2000 }
 {
     match object {
         LoadableObject::AddressTable => image.addr.as_slice(),
@@ -34,45 +36,49 @@ fn piece_count(list: &[u8]) -> u32
     list.len().div_ceil(PIECE) as u32
 }
 
-/// How many operations load an object with a list.
-pub fn operation_count(list: &[u8]) -> u32
-    requires { length list.now ≤ 0x2000 }
-    ensures { result ≡ 5 + 2 * piece_count list.now }
+/// How many operations load an object.
+pub fn operation_count(image: &Image, object: LoadableObject) -> u32
+    requires { Fits image.now }
+    ensures value { result ≡ 5 + 2 * piece_count (list_of image.now object) }
+    ensures bound { result ≤ 0x1000 }
 {
-    5 + 2 * piece_count(list)
+    5 + 2 * piece_count(list_of(image, object))
 }
 
 /// The place of the k-th operation after the two that come before all objects.
+#[tactic(auto, using(crate::proofs::Places::operations_length, crate::proofs::Places::addr_at, crate::proofs::Places::assoc_at, crate::proofs::Places::objs_at, crate::proofs::Places::params_at))]
 fn place_at(image: &Image, k: u32) -> Place
     requires fits { Fits image.now }
     requires within { k + 2 < length (load_operations image.now) }
     ensures place { slice_get (load_operations image.now) (k + 2) ≡ slice_get (loading result.object (list_of image.now result.object)) result.number }
     ensures within { result.number < 5 + 2 * piece_count (list_of image.now result.object) }
 {
-    let addr = operation_count(image.addr.as_slice());
+    let addr = operation_count(image, LoadableObject::AddressTable);
     if k < addr {
         return Place {
             object: LoadableObject::AddressTable,
             number: k,
         };
     }
-    let assoc = operation_count(image.assoc.as_slice());
-    if k - addr < assoc {
+    let k = k - addr;
+    let assoc = operation_count(image, LoadableObject::AssociationTable);
+    if k < assoc {
         return Place {
             object: LoadableObject::AssociationTable,
-            number: k - addr,
+            number: k,
         };
     }
-    let objs = operation_count(image.objs.as_slice());
-    if k - addr - assoc < objs {
+    let k = k - assoc;
+    let objs = operation_count(image, LoadableObject::GroupObjects);
+    if k < objs {
         return Place {
             object: LoadableObject::GroupObjects,
-            number: k - addr - assoc,
+            number: k,
         };
     }
     Place {
         object: LoadableObject::Application,
-        number: k - addr - assoc - objs,
+        number: k - objs,
     }
 }
 

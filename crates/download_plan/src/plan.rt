@@ -48,10 +48,10 @@ impl LoadPlan {
         ensures { result ≡ length (load_plan self.now) }
     {
         let image = &self.image;
-        let tables = operation_count(image.addr.as_slice())
-            + operation_count(image.assoc.as_slice())
-            + operation_count(image.objs.as_slice());
-        2 + tables + operation_count(image.params.as_slice())
+        2 + operation_count(image, LoadableObject::AddressTable)
+            + operation_count(image, LoadableObject::AssociationTable)
+            + operation_count(image, LoadableObject::GroupObjects)
+            + operation_count(image, LoadableObject::Application)
     }
 
     /// The k-th operation, from 0 on. It takes no memory.
