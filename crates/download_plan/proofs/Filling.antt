@@ -90,9 +90,9 @@ allocates_within p n e = grind (arith, common_steps)
 pub allocated_is : (p : Loadable) (n fill : ℕ) → (allocated p n fill).state ≡ Loading → IsAllocated n (allocated p n fill)
 allocated_is p n fill =
     let by : (v : Bool) → allocates p n ≡ v → (if v then record { state = Loading; len = n; memory = replicate n fill ++ drop n p.memory } else with_state p Error).state ≡ Loading
-        → IsAllocated n (if v then record { state = Loading; len = n; memory = replicate n fill ++ drop n p.memory } else with_state p Error)
+    → IsAllocated n (if v then record { state = Loading; len = n; memory = replicate n fill ++ drop n p.memory } else with_state p Error)
     = λ v. elim v as (λ v. allocates p n ≡ v → (if v then record { state = Loading; len = n; memory = replicate n fill ++ drop n p.memory } else with_state p Error).state ≡ Loading
-        → IsAllocated n (if v then record { state = Loading; len = n; memory = replicate n fill ++ drop n p.memory } else with_state p Error)) [
+    → IsAllocated n (if v then record { state = Loading; len = n; memory = replicate n fill ++ drop n p.memory } else with_state p Error)) [
       | true ↦ λ e s. record { state = s; len = refl; room = omega (arith, length-append (replicate n fill) (drop n p.memory), length-replicate n fill) }
       | false ↦ λ e s. cc
     ] in

@@ -146,9 +146,19 @@ loading_writable : (o : LoadableObject) (list : List ℕ) → AllWritable (loadi
 unfolding loading filling
 loading_writable o list =
     let event : (e : LoadEvent) (s : LoadState) → IsWritable (loads o e s) = λ e s. ((omega arith, omega arith, omega (arith, length_load e)), (omega arith, omega arith, omega arith)) in
-    AllWritable-append (filling o list) (loads o LoadCompleted Loaded ∷ [])
-    (event Unload Unloaded, (event StartLoading Loading, (event (Allocate (length list) 0) Loading, (((omega arith, omega arith), (omega arith, omega arith, omega arith)),
-    AllWritable-append (each_piece (writes_piece o list) list) (each_piece (reads_piece o list) list) (writes_writable o list 0 (piece_count list) (omega arith)) (reads_writable o list 0 (piece_count list) (omega arith))))))
+    AllWritable-append (filling o list) (loads o LoadCompleted Loaded ∷ []) (
+      event Unload Unloaded,
+      (
+        event StartLoading Loading,
+        (
+          event (Allocate (length list) 0) Loading,
+          (
+            ((omega arith, omega arith), (omega arith, omega arith, omega arith)),
+            AllWritable-append (each_piece (writes_piece o list) list) (each_piece (reads_piece o list) list) (writes_writable o list 0 (piece_count list) (omega arith)) (reads_writable o list 0 (piece_count list) (omega arith)),
+          ),
+        ),
+      ),
+    )
     (event LoadCompleted Loaded, tt)
 
 pub operations_writable : (image : Image) → AllWritable (load_operations image)

@@ -92,13 +92,13 @@ pub op_at : (image : Image) (k : ℕ) (operation : Operation) → slice_get (loa
 unfolding load_plan
 op_at image k operation e = slice_get-map op_of (load_operations image) k ∙ ap (option_map op_of) e
 
-pub first_at : (image : Image) → slice_get (load_operations image) 0 ≡ Some (asks (DescriptorRead 0) (DescriptorResponse 0 (Some 0x07B0)))
-unfolding load_operations
-first_at image = refl
+pub first_at : (image : Image) (k : ℕ) → k ≡ 0 → slice_get (load_plan image) k ≡ Some (op_of (asks (DescriptorRead 0) (DescriptorResponse 0 (Some 0x07B0))))
+unfolding load_operations load_plan
+first_at image k e = ap (slice_get (map op_of (load_operations image))) e
 
-pub second_at : (image : Image) → slice_get (load_operations image) 1 ≡ Some (loads Application Unload Unloaded)
-unfolding load_operations
-second_at image = refl
+pub second_at : (image : Image) (k : ℕ) → k ≡ 1 → slice_get (load_plan image) k ≡ Some (op_of (loads Application Unload Unloaded))
+unfolding load_operations load_plan
+second_at image k e = ap (slice_get (map op_of (load_operations image))) e
 
 abbrev head : List Operation
 head = asks (DescriptorRead 0) (DescriptorResponse 0 (Some 0x07B0)) ∷ loads Application Unload Unloaded ∷ []

@@ -10,3 +10,6 @@ mod step;
 
 pub use laws::each_plan_is_good;
 pub use plan::LoadPlan;
+
+#[cfg(test)]
+mod tests;

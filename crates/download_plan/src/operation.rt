@@ -90,7 +90,18 @@ fn load_octets(event: LoadEvent) -> ApduOctets
         LoadEvent::StartLoading => [1, 0, 0, 0, 0, 0, 0, 0, 0, 0],
         LoadEvent::LoadCompleted => [2, 0, 0, 0, 0, 0, 0, 0, 0, 0],
         LoadEvent::Allocate { size, fill } => {
-            [3, 0x0B, 0, 0, (size >> 8) as u8, (size & 0xFF) as u8, 1, fill, 0, 0]
+            [
+                3,
+                0x0B,
+                0,
+                0,
+                (size >> 8) as u8,
+                (size & 0xFF) as u8,
+                1,
+                fill,
+                0,
+                0,
+            ]
         }
         LoadEvent::Unload => [4, 0, 0, 0, 0, 0, 0, 0, 0, 0],
         LoadEvent::Undefined => [5, 0, 0, 0, 0, 0, 0, 0, 0, 0],
@@ -152,7 +163,11 @@ fn piece_at(list: &[u8], k: u32) -> ApduOctets
     ensures few { length result ≤ 12 }
 {
     let rest = &list[PIECE * k as usize..];
-    let piece = if rest.len() <= PIECE { rest } else { &rest[..PIECE] };
+    let piece = if rest.len() <= PIECE {
+        rest
+    } else {
+        &rest[..PIECE]
+    };
     ApduOctets::from_slice(piece)
 }
 
@@ -195,7 +210,11 @@ pub fn step_operation(object: LoadableObject, list: &[u8], step: Step) -> Op
         Step::Start => load(object, LoadEvent::StartLoading, LoadState::Loading),
         Step::Allocate => {
             let size = list.len() as u32;
-            load(object, LoadEvent::Allocate { size, fill: 0 }, LoadState::Loading)
+            load(
+                object,
+                LoadEvent::Allocate { size, fill: 0 },
+                LoadState::Loading,
+            )
         }
         Step::ReadBase => read_base(object),
         Step::WritePiece(k) => write_piece(object, list, k),

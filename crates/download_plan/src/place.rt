@@ -83,6 +83,7 @@ fn place_at(image: &Image, k: u32) -> Place
 }
 
 /// The k-th operation after the two that come before all objects.
+#[tactic(auto, using(crate::proofs::Places::op_at))]
 pub fn object_op(image: &Image, k: u32) -> Op
     requires fits { Fits image.now }
     requires within { k + 2 < length (load_operations image.now) }

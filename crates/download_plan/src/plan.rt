@@ -44,6 +44,7 @@ impl LoadPlan {
     }
 
     /// How many operations there are.
+    #[tactic(auto, using(crate::proofs::Places::plan_length, crate::proofs::Places::operations_length))]
     pub fn len(&self) -> u32
         ensures { result ≡ length (load_plan self.now) }
     {
@@ -55,6 +56,7 @@ impl LoadPlan {
     }
 
     /// The k-th operation, from 0 on. It takes no memory.
+    #[tactic(auto, using(crate::proofs::Places::first_at, crate::proofs::Places::second_at, crate::proofs::Places::plan_length))]
     pub fn op(&self, k: u32) -> Op
         requires { k < length (load_plan self.now) }
         ensures { slice_get (load_plan self.now) k ≡ Some result }
@@ -78,6 +80,7 @@ impl LoadPlan {
 
     /// Whatever a device holds, any beginning of the plan leaves it as it was, or stopped, or with the image, and a device that
     /// nothing disturbs gives every expected answer and then runs the image.
+    #[tactic(auto, using(crate::proofs::Octets::plan_good, crate::proofs::Octets::plan_serves))]
     pub fn keeps(&self)
         ensures good { GoodPlan (load_plan self.now) self.now }
         ensures serves { (nv : NonVolatile) → HasCapacities nv → Serves (λ after. runs after ≡ Some self.now) (load_plan self.now) nv }

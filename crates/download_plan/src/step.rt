@@ -32,6 +32,7 @@ pub fn step_at(k: u32, pieces: u32) -> Step
     }
 }
 
+#[tactic(auto, using(crate::proofs::Places::write_at, crate::proofs::Places::read_at, crate::proofs::Places::complete_at))]
 fn piece_step(k: u32, pieces: u32) -> Step
     requires { k < 1 + 2 * pieces }
     ensures step { IsStepOf pieces result }
