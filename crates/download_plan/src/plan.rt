@@ -1,0 +1,90 @@
+ghost use Rattle.std.specs.Prelude.{◌≡◌, ◌<◌, length, Some};
+ghost use Rattle.std.specs.List.{slice_get};
+ghost use Rattle.knx_model.specs.Device.{Fits, NonVolatile, runs};
+ghost use Rattle.knx_model.specs.Plan.{load_plan, GoodPlan, Serves, HasCapacities};
+
+use crate::operation::{asks, load};
+use crate::place::{object_op, operation_count};
+use knx_model::{Apdu, Image, LoadEvent, LoadState, LoadableObject, Op};
+use std::marker::Model;
+
+/// The device descriptor of the mask version that a plan is for.
+const MASK_VERSION: u16 = 0x07B0;
+
+/// The operations that load an image.
+#[derive(Drop)]
+pub struct LoadPlan {
+    image: Image,
+}
+
+impl Model for LoadPlan {
+    ghost use Rattle.knx_model.specs.declared.config.Image.{Image as Contents};
+    ghost use Rattle.knx_model.specs.Device.{Fits};
+
+    ghost Value = { Contents };
+
+    ghost view = { λ p. p.image };
+
+    ghost invariant = { λ p. Fits p.image };
+}
+
+impl LoadPlan {
+    /// The plan of an image. It takes no memory.
+    pub fn of(image: Image) -> LoadPlan
+        requires { Fits image }
+        ensures { result ≡ image }
+    {
+        LoadPlan { image }
+    }
+
+    pub fn image(&self) -> &Image
+        ensures { result.now ≡ self.now }
+    {
+        &self.image
+    }
+
+    /// How many operations there are.
+    #[tactic(auto, using(crate::proofs::Places::plan_length, crate::proofs::Places::operations_length))]
+    pub fn len(&self) -> u32
+        ensures { result ≡ length (load_plan self.now) }
+    {
+        let image = &self.image;
+        2 + operation_count(image, LoadableObject::AddressTable)
+            + operation_count(image, LoadableObject::AssociationTable)
+            + operation_count(image, LoadableObject::GroupObjects)
+            + operation_count(image, LoadableObject::Application)
+    }
+
+    /// The k-th operation, from 0 on. It takes no memory.
+    #[tactic(auto, using(crate::proofs::Places::first_at, crate::proofs::Places::second_at, crate::proofs::Places::plan_length))]
+    pub fn op(&self, k: u32) -> Op
+        requires { k < length (load_plan self.now) }
+        ensures { slice_get (load_plan self.now) k ≡ Some result }
+    {
+        match k {
+            0 => asks(
+                Apdu::DescriptorRead(0),
+                Apdu::DescriptorResponse {
+                    kind: 0,
+                    value: Some(MASK_VERSION),
+                },
+            ),
+            1 => load(
+                LoadableObject::Application,
+                LoadEvent::Unload,
+                LoadState::Unloaded,
+            ),
+            _ => object_op(&self.image, k - 2),
+        }
+    }
+
+    /// Whatever a device holds, any beginning of the plan leaves it as it was, or stopped, or with the image, and a device that
+    /// nothing disturbs gives every expected answer and then runs the image.
+    #[tactic(auto, using(crate::proofs::Octets::plan_good, crate::proofs::Octets::plan_serves))]
+    pub fn keeps(&self)
+        ensures good { GoodPlan (load_plan self.now) self.now }
+        ensures serves { (nv : NonVolatile) → HasCapacities nv → Serves (λ after. runs after ≡ Some self.now) (load_plan self.now) nv }
+    {
+        let _image = &self.image;
+    }
+}
