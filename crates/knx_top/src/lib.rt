@@ -2,6 +2,8 @@
 #![tactic(auto)]
 
 mod asked;
+mod bench;
+mod download;
 mod script;
 mod stop;
 mod texts;
