@@ -2,3 +2,4 @@ pub mod Cutting
 pub mod Numbers
 pub mod Parts
 pub mod Spells
+pub mod Values

@@ -32,6 +32,9 @@ pub use refusal::{Refused, Why};
 pub use status::Status;
 pub use words::{
     Span, first_line, first_word, flags_in, flags_of, group_in, group_of, group_spelled, ind_in,
-    ind_of, is_name, is_name_in, next_line, next_word, number_in, number_of, size_code_in,
-    size_code_of,
+    ind_of, ind_spelled, is_name, is_name_in, next_line, next_word, number_in, number_of,
+    size_code_in, size_code_of, value_in, value_of,
 };
+
+#[cfg(test)]
+mod tests;
