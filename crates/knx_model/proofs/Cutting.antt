@@ -1,12 +1,12 @@
 -- The first line of a text, and the first word of a line.
-use Rattle.std.proofs.Common.{◌≡◌, ℕ, zero, suc, ◌+◌, ◌-◌, ◌<◌, ◌≤◌, Bool, true, false, cond, eqb, ltb, not, List, [], ◌∷◌, ◌++◌, length, get_or, take, drop, Option, Some, None, refl, sym, ap, ◌∙◌, subst, arith, add-one, drop-cons, drop-drop, length-drop, length-take-le, take-take, inl, inr, ◌⊎◌}
-use Rattle.std.specs.List.{slice_split, onto_first, position_or_len, position, before_first, after_first, filter, slice_range}
+use Rattle.std.proofs.Common.{◌≡◌, ℕ, suc, ◌+◌, ◌-◌, ◌<◌, ◌≤◌, Bool, true, false, cond, ltb, not, List, [], ◌∷◌, length, get_or, take, drop, Some, None, refl, sym, ap, ◌∙◌, arith, add-one, drop-cons, drop-drop, length-drop, take-take, inl, inr}
+use Rattle.std.specs.List.{slice_split, onto_first, position_or_len, position, filter, slice_range}
 use Rattle.std.specs.Str.Lines.{lines, lines_of_parts, strip_carriage_return}
 use Rattle.std.proofs.Math.Seq.{take-length, drop-length}
-use Rattle.std.proofs.lemmas.Bool.{cases_lt, cases_Bool, not-false, not_from_true, ltb-true, ltb-false, le-ltb, lt-ltb}
+use Rattle.std.proofs.lemmas.Bool.{cases_lt, cases_Bool, not-false, le-ltb, lt-ltb}
 use Rattle.std.proofs.lemmas.List.Sums.{prefix_len-le-length, prefix_len_stops}
 use Rattle.std.proofs.lemmas.List.Folds.{length-prefix_len}
-use Rattle.std.proofs.lemmas.List.Splits.{slice_split_first, slice_split_none}
+use Rattle.std.proofs.lemmas.List.Splits.{slice_split_first}
 use Rattle.knx_model.specs.Words.{words, is_feed, is_blank, is_not_blank}
 
 -- what `position` answers, as a length

@@ -1,5 +1,5 @@
 -- A word that is cut three times has more than three parts.
-use Rattle.std.proofs.Common.{◌≡◌, ℕ, Bool, List, [], ◌∷◌, Option, None, refl, ap, ◌∙◌}
+use Rattle.std.proofs.Common.{◌≡◌, ℕ, Bool, List, ◌∷◌, None, refl}
 use Rattle.std.specs.List.{slice_split}
 use Rattle.knx_model.specs.Addresses.{three}
 use Rattle.knx_model.proofs.Cutting.{has_part}

@@ -3,8 +3,9 @@
 ghost use Rattle.std.specs.Prelude.{◌≡◌, ℕ, List, ◌↔◌, ◌==◌, ◌∷◌, ◌<◌, ◌%◌, [], MatchOption, IfSome, position};
 ghost use Rattle.std.specs.List.{slice_split, list_all};
 ghost use Rattle.std.specs.Option.{option_map};
-ghost use Rattle.knx_model.specs.Spells.{SpellsGroup};
+ghost use Rattle.knx_model.specs.Spells.{SpellsGroup, SpellsDevice};
 ghost use Rattle.knx_model.specs.declared.address.GroupAddr.{GroupAddr};
+ghost use Rattle.knx_model.specs.declared.address.IndAddr.{IndAddr};
 ghost use Rattle.knx_model.specs.Addresses.{three, group_value, ind_value};
 
 use crate::address::{GroupAddr, IndAddr};
@@ -92,4 +93,9 @@ pub fn group_of(word: &str) -> Option<GroupAddr>
 /// What `group_in` reads is just what the grammar spells.
 pub fn group_spelled()
     ensures { (word : List ℕ) (g : GroupAddr) → (group_value word ≡ Some g) ↔ SpellsGroup word g }
+{}
+
+/// What `ind_in` reads is just what the grammar spells.
+pub fn ind_spelled()
+    ensures { (word : List ℕ) (d : IndAddr) → (ind_value word ≡ Some d) ↔ SpellsDevice word d }
 {}

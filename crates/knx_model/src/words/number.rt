@@ -5,7 +5,7 @@ ghost use Rattle.std.specs.Char.{digit_value};
 ghost use Rattle.knx_model.specs.Numbers.{numeral, number_value, part_value};
 
 /// What a digit is worth in a base up to 36, or 36 for what is none.
-fn digit_value(c: u8) -> u64
+pub fn digit_value(c: u8) -> u64
     ensures { result ≡ digit_value c }
 {
     match c {

@@ -1,7 +1,6 @@
 use Rattle.std.proofs.Common.{◌+◌, arith, length-drop}
 use Rattle.std.proofs.lemmas.List.{take_rest}
 use Rattle.knx_model.proofs.Cutting.{words_none, word_found, IsWord}
-use Rattle.knx_model.proofs.words.cut.next_word.Given as given
 use Rattle.knx_model.proofs.words.cut.next_word.Goals as goal
 
 pub returns-then-skipped-rest-clause-none : goal.returns-then-skipped-rest-clause-none
