@@ -1,0 +1,7 @@
+//! The rules that look at a whole project text.
+#![tactic(auto)]
+
+mod declared;
+mod earlier;
+mod keys;
+mod rules;
