@@ -25,10 +25,10 @@ object_choice known twice = if not known then Some NoDevice else (if twice then 
 
 object_chosen : (known twice : Bool)
     → (if not (not known) && twice then Some DuplicateObject
-      else (if not (not known) && false then Some UnknownObject
-      else (if not (not known) && false then Some SizeDiffers
-      else (if not known then Some NoDevice
-      else None)))) ≡ object_choice known twice
+    else (if not (not known) && false then Some UnknownObject
+    else (if not (not known) && false then Some SizeDiffers
+    else (if not known then Some NoDevice
+    else None)))) ≡ object_choice known twice
 object_chosen true twice = refl
 object_chosen false twice = refl
 
@@ -49,23 +49,23 @@ link_choice group lacks twice differs full known =
 
 link_chosen : (group object twice differs full known : Bool)
     → (if not group then Some UnknownGroup
-      else (if not (not known) && false then Some DuplicateObject
-      else (if not (not known) && not object then Some UnknownObject
-      else (if twice then Some DuplicateLink
-      else (if not (not known) && differs then Some SizeDiffers
-      else (if full then Some (TooMany 2047)
-      else (if not known then Some NoDevice
-      else None))))))) ≡ link_choice group (known && not object) twice (known && differs) full known
+    else (if not (not known) && false then Some DuplicateObject
+    else (if not (not known) && not object then Some UnknownObject
+    else (if twice then Some DuplicateLink
+    else (if not (not known) && differs then Some SizeDiffers
+    else (if full then Some (TooMany 2047)
+    else (if not known then Some NoDevice
+    else None))))))) ≡ link_choice group (known && not object) twice (known && differs) full known
 link_chosen group object twice differs full true = refl
 link_chosen group object twice differs full false = refl
 
 pub link_ruled : (before all : List Statement) (d : IndAddr) (n : ℕ) (g : GroupAddr)
     → rule_of before all (Link d n g) ≡ link_choice (some_line (declares_group g.raw) all)
-        (some_line (declares_device d.raw) all && not (some_line (declares_object d.raw n) all))
-        (some_line (links_to d.raw n g.raw) before)
-        (some_line (declares_device d.raw) all && size_differs all (Link d n g))
-        (nat_le 2047 (count_lines (links_device d.raw) before))
-        (some_line (declares_device d.raw) all)
+    (some_line (declares_device d.raw) all && not (some_line (declares_object d.raw n) all))
+    (some_line (links_to d.raw n g.raw) before)
+    (some_line (declares_device d.raw) all && size_differs all (Link d n g))
+    (nat_le 2047 (count_lines (links_device d.raw) before))
+    (some_line (declares_device d.raw) all)
 unfolding rule_of
 link_ruled before all d n g = link_chosen (some_line (declares_group g.raw) all) (some_line (declares_object d.raw n) all) (some_line (links_to d.raw n g.raw) before) (size_differs all (Link d n g)) (nat_le 2047 (count_lines (links_device d.raw) before)) (some_line (declares_device d.raw) all)
 

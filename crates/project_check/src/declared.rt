@@ -48,7 +48,13 @@ fn add_device(devices: &mut BTreeSet<IndAddr>, what: &What) -> Result<(), AllocE
 fn add_size(sizes: &mut BTreeMap<GroupObject, u8>, what: &What) -> Result<(), AllocError>
     ensures { OnOk result ((o : GroupObject) → get object_cmp sizes.new o ≡ option_or (get object_cmp sizes.old o) (size_in o.device.raw o.number what.now)) }
 {
-    if let What::Object { device, n, size, .. } = what {
+    if let What::Object {
+        device,
+        n,
+        size,
+        ..
+    } = what
+    {
         let object = GroupObject {
             device: *device,
             number: *n,
@@ -67,7 +73,12 @@ fn add_first_link(
 ) -> Result<(), AllocError>
     ensures { OnOk result ((g : GroupAddr) → option_map numbers_of (get group_cmp first_links.new g) ≡ option_or (option_map numbers_of (get group_cmp first_links.old g)) (linked_in g.raw what.now)) }
 {
-    if let What::Link { device, object, group } = what {
+    if let What::Link {
+        device,
+        object,
+        group,
+    } = what
+    {
         let object = GroupObject {
             device: *device,
             number: *object,

@@ -27,7 +27,12 @@ pub struct Earlier {
 fn add_link(links: &mut BTreeSet<Link>, what: &What) -> Result<(), AllocError>
     ensures { OnOk result ((l : Link) → contains link_cmp links.new l ≡ (contains link_cmp links.old l || links_to l.object.device.raw l.object.number l.group.raw what.now)) }
 {
-    if let What::Link { device, object, group } = what {
+    if let What::Link {
+        device,
+        object,
+        group,
+    } = what
+    {
         links.insert(Link {
             object: GroupObject {
                 device: *device,

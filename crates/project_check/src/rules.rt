@@ -138,7 +138,11 @@ pub fn rule_of(earlier: &Earlier, whole: &Declared, what: &What) -> Option<Why>
             };
             object_rule(earlier, whole, object)
         }
-        What::Link { device, object, group } => {
+        What::Link {
+            device,
+            object,
+            group,
+        } => {
             let object = GroupObject {
                 device: *device,
                 number: *object,
