@@ -1,5 +1,5 @@
 -- Which rule a line of each kind breaks.
-use Rattle.std.proofs.Common.{◌≡◌, ℕ, ◌<◌, ◌≤◌, Bool, true, false, cond, ◌&&◌, not, List, Option, Some, None, refl, sym, ap, ◌∙◌, arith}
+use Rattle.std.proofs.Common.{◌≡◌, ℕ, ◌<◌, ◌≤◌, Bool, true, false, ◌&&◌, not, List, Option, Some, None, refl, arith}
 use Rattle.std.specs.Prelude.{nat_le, bytes_eq, codes, if◌then◌else◌}
 use Rattle.std.proofs.lemmas.Bool.{le-leb, lt-leb}
 use Rattle.project_check.specs.Knowing.{capped}

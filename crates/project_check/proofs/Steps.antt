@@ -1,7 +1,6 @@
 -- One statement more.
 use Rattle.std.proofs.Common.{◌≡◌, ℕ, ◌+◌, Bool, true, false, cond, ◌||◌, List, [], ◌∷◌, ◌++◌, Option, Some, None, refl, sym, ap, ◌∙◌, arith}
-use Rattle.std.specs.Prelude.{min, count_by, is_some, if◌then◌else◌}
-use Rattle.std.specs.List.{list_any}
+use Rattle.std.specs.Prelude.{is_some}
 use Rattle.std.specs.Option.{option_map, option_or}
 use Rattle.std.specs.BTreeSet.{contains}
 use Rattle.std.specs.BTreeMap.{get}
@@ -12,7 +11,7 @@ use Rattle.knx_model.specs.declared.address.IndAddr.{IndAddr}
 use Rattle.knx_model.specs.declared.project.Statement.{Statement}
 use Rattle.knx_model.specs.declared.project.What.{What}
 use Rattle.knx_model.specs.declared.project.What.TheVariants.{Title, Group, Device, Object, Link}
-use Rattle.knx_model.specs.Rules.{some_line, count_lines, first_some, declares_group, declares_device, declares_object, links_to, links_device, is_device_line, size_in, linked_in, size_of, first_linked}
+use Rattle.knx_model.specs.Rules.{some_line, count_lines, first_some, declares_group, declares_device, declares_object, links_to, links_device, is_device_line, size_in, linked_in, size_of}
 use Rattle.project_check.specs.Keys.{group_cmp, device_cmp, object_cmp, link_cmp, numbers_of}
 use Rattle.project_check.specs.Knowing.{Declares, Precedes, capped, counted, count_of}
 use Rattle.project_check.specs.declared.keys.GroupObject.{GroupObject}

@@ -1,4 +1,4 @@
-use Rattle.std.proofs.Common.{◌≡◌, true, false, ◌∙◌, sym, ap, refl, arith, not}
+use Rattle.std.proofs.Common.{◌≡◌, true, false, ◌∙◌, sym, ap, refl, arith}
 use Rattle.std.specs.Prelude.{bytes_eq, codes}
 use Rattle.std.proofs.lemmas.Bool.{not-true, not-false}
 use Rattle.knx_model.specs.Rules.{is_device_line, count_lines}

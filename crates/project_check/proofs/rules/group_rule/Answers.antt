@@ -1,5 +1,4 @@
-use Rattle.std.proofs.Common.{◌∙◌, sym, refl, arith}
-use Rattle.std.proofs.lemmas.Grind.{common_steps}
+use Rattle.std.proofs.Common.{◌∙◌, sym, refl}
 use Rattle.knx_model.specs.Rules.{rule_of}
 use Rattle.project_check.proofs.rules.group_rule.Goals as goal
 

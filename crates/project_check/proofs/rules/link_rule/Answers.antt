@@ -1,4 +1,4 @@
-use Rattle.std.proofs.Common.{◌≡◌, true, false, ◌∙◌, sym, refl, arith, not}
+use Rattle.std.proofs.Common.{refl, arith}
 use Rattle.knx_model.specs.Rules.{links_device, count_lines}
 use Rattle.project_check.proofs.Ruled.{link_ruled, reaches, stays_below}
 use Rattle.project_check.proofs.rules.link_rule.Goals as goal

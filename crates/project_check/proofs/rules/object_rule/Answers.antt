@@ -1,4 +1,4 @@
-use Rattle.std.proofs.Common.{◌≡◌, true, false, ◌∙◌, sym, refl, arith, not}
+use Rattle.std.proofs.Common.{refl}
 use Rattle.project_check.proofs.Ruled.{object_ruled}
 use Rattle.project_check.proofs.rules.object_rule.Goals as goal
 
