@@ -60,8 +60,8 @@ fn table_of(lines: &[(u8, ObjSpec)]) -> [ObjSpec; 256]
     ensures { (n : ℕ) → n < 256 → slice_index_or result n NO_OBJECT ≡ object_of lines.now n }
 {
     let mut table = [NO_OBJECT; 256];
-    for line in lines.iter().rev() {
-        let (number, spec) = *line;
+    for i in (0..lines.len()).rev() {
+        let (number, spec) = lines[i];
         table[usize::from(number)] = spec;
     }
     table

@@ -1,0 +1,44 @@
+-- The links that lines give a device.
+use Rattle.std.proofs.Common.{◌≡◌, ◌≢◌, ℕ, zero, suc, ◌+◌, ◌*◌, ◌<◌, ◌≤◌, Bool, true, false, cond, ◌||◌, not, List, [], ◌∷◌, ◌++◌, length, get_or, set, take, map, eqb, All, refl, sym, ap, ◌∙◌, subst, arith, inl, inr, zero-add}
+use Rattle.std.specs.List.{AllPairs, IsDistinct, enumerate_from, list_any}
+use Rattle.std.proofs.lemmas.Bool.Decides.{Decides-eqb}
+use Rattle.std.proofs.lemmas.List.{get_or-map, length-map}
+use Rattle.std.proofs.lemmas.List.FromFn.{length-enumerate_from, get_or-enumerate_from}
+use Rattle.std.proofs.lemmas.Map.Made.{IsDistinct-from_AllPairs}
+use Rattle.knx_model.specs.declared.address.GroupAddr.{GroupAddr}
+use Rattle.knx_model.specs.declared.config.LinkSpec.{LinkSpec}
+use Rattle.knx_model.specs.Meaning.{is_of_object, link_at, links_of}
+use Rattle.knx_model.specs.Tables.{raw_of, precedence}
+use Rattle.table_compiler.proofs.Places.{no_link}
+use Rattle.table_compiler.proofs.Sound.{Apart}
+
+pub length-links_of : (lines : List (ℕ × GroupAddr)) → length (links_of lines) ≡ length lines
+unfolding links_of
+length-links_of lines = length-map (enumerate_from 0 lines) (λ p. link_at lines p.0 p.1) ∙ length-enumerate_from 0 lines
+
+pub get_or-links_of : (lines : List (ℕ × GroupAddr)) (i : ℕ) (d : ℕ × GroupAddr) (e : LinkSpec) → i < length lines → get_or (links_of lines) i e ≡ link_at lines i (get_or lines i d)
+unfolding links_of
+get_or-links_of lines i d e lt =
+    let within : i < length (enumerate_from 0 lines) = rw (length-enumerate_from 0 lines) lt in
+    get_or-map (λ p. link_at lines p.0 p.1) (enumerate_from 0 lines) i (0, d) e within
+    ∙ ap (λ (p : ℕ × (ℕ × GroupAddr)). link_at lines p.0 p.1) (get_or-enumerate_from 0 lines i (0, d) lt)
+    ∙ ap (λ (n : ℕ). link_at lines n (get_or lines i d)) (zero-add i)
+
+-- the precedence tells the object and the group
+ranks : (o r p s : ℕ) (a b : Bool) → r < 65536 → s < 65536 → o * 131072 + cond a 0 65536 + r ≡ p * 131072 + cond b 0 65536 + s → (o ≡ p) × (r ≡ s)
+ranks o r p s true true lt lt' e = (omega arith, omega arith)
+ranks o r p s true false lt lt' e = (omega arith, omega arith)
+ranks o r p s false true lt lt' e = (omega arith, omega arith)
+ranks o r p s false false lt lt' e = (omega arith, omega arith)
+
+pub distinct : (lines : List (ℕ × GroupAddr)) → AllPairs Apart lines → All (λ l. raw_of l < 65536) (links_of lines) → IsDistinct eqb (map precedence (links_of lines))
+distinct lines apart small = IsDistinct-from_AllPairs Decides-eqb (map precedence (links_of lines)) (λ i j d below lt same.
+    let lt' : j < length (links_of lines) = omega (arith, lt, length-map (links_of lines) precedence) in
+    let within : j < length lines = omega (arith, length-links_of lines) in
+    let none : ℕ × GroupAddr = (0, record { raw = 0 }) in
+    let at : (k : ℕ) → k < length lines → get_or (map precedence (links_of lines)) k d ≡ precedence (link_at lines k (get_or lines k none)) = λ k less. get_or-map precedence (links_of lines) k no_link d (let h : k < length (links_of lines) = omega (arith, less, length-links_of lines) in h) ∙ ap precedence (get_or-links_of lines k none no_link less) in
+    let is_small : (k : ℕ) → k < length lines → (get_or lines k none).1.raw < 65536 = λ k less. subst (λ (l : LinkSpec). raw_of l < 65536) (get_or-links_of lines k none no_link less) (small k no_link (omega (arith, less, length-links_of lines))) in
+    let less : i < length lines = omega (arith, below, within) in
+    let e = sym (at i less) ∙ same ∙ at j within in
+    let both = ranks (get_or lines i none).0 (get_or lines i none).1.raw (get_or lines j none).0 (get_or lines j none).1.raw (link_at lines i (get_or lines i none)).sending (link_at lines j (get_or lines j none)).sending (is_small i less) (is_small j within) e in
+    apart i j none below within both.0 both.1)
