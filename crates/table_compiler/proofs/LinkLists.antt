@@ -1,8 +1,12 @@
 -- The links that lines give a device.
-use Rattle.std.proofs.Common.{◌≡◌, ◌≢◌, ℕ, zero, suc, ◌+◌, ◌*◌, ◌<◌, ◌≤◌, Bool, true, false, cond, ◌||◌, not, List, [], ◌∷◌, ◌++◌, length, get_or, set, take, map, eqb, All, refl, sym, ap, ◌∙◌, subst, arith, inl, inr, zero-add}
+use Rattle.std.proofs.Common.{◌≡◌, ◌≢◌, ℕ, zero, suc, ◌+◌, ◌*◌, ◌<◌, ◌≤◌, Bool, true, false, cond, ◌||◌, not, List, [], ◌∷◌, ◌++◌, length, get_or, set, take, map, eqb, All, refl, sym, ap, ◌∙◌, subst, arith, inl, inr, zero-add, replicate}
 use Rattle.std.specs.List.{AllPairs, IsDistinct, enumerate_from, list_any}
-use Rattle.std.proofs.lemmas.Bool.Decides.{Decides-eqb}
-use Rattle.std.proofs.lemmas.List.{get_or-map, length-map}
+use Rattle.std.proofs.lemmas.Bool.Decides.{Decides-eqb, eqb_tells}
+use Rattle.std.proofs.lemmas.List.{get_or-map, length-map, take_more, take_all, get_or-replicate, length-replicate, get_or-set_same, get_or-set_other, length-set}
+use Rattle.std.proofs.lemmas.List.Elements.{All-push}
+use Rattle.std.proofs.lemmas.List.Folds.{list_any_more}
+use Rattle.std.proofs.lemmas.Bool.{or_right}
+use Rattle.std.proofs.Math.Bool.{or-false}
 use Rattle.std.proofs.lemmas.List.FromFn.{length-enumerate_from, get_or-enumerate_from}
 use Rattle.std.proofs.lemmas.Map.Made.{IsDistinct-from_AllPairs}
 use Rattle.knx_model.specs.declared.address.GroupAddr.{GroupAddr}
@@ -42,3 +46,39 @@ distinct lines apart small = IsDistinct-from_AllPairs Decides-eqb (map precedenc
     let e = sym (at i less) ∙ same ∙ at j within in
     let both = ranks (get_or lines i none).0 (get_or lines i none).1.raw (get_or lines j none).0 (get_or lines j none).1.raw (link_at lines i (get_or lines i none)).sending (link_at lines j (get_or lines j none)).sending (is_small i less) (is_small j within) e in
     apart i j none below within both.0 both.1)
+
+-- ---- the links of the first i lines, and the objects that they have
+
+pub record Linked (lines : List (ℕ × GroupAddr)) (seen : List Bool) (links : List LinkSpec) (i : ℕ) : Type 0 where
+  pub whole : length seen ≡ 256
+  pub seen_is : (n : ℕ) → n < 256 → get_or seen n false ≡ list_any (is_of_object n) (take i lines)
+  pub made : links ≡ take i (links_of lines)
+  pub small : All (λ l. raw_of l < 65536) links
+
+pub no_links : (lines : List (ℕ × GroupAddr)) → Linked lines (replicate 256 false) [] 0
+no_links lines = record {
+  whole = length-replicate 256 false;
+  seen_is = λ n lt. get_or-replicate 256 n false false lt;
+  made = refl;
+  small = λ k d lt. absurd (omega arith);
+}
+
+pub one_link : (lines : List (ℕ × GroupAddr)) (seen : List Bool) (links : List LinkSpec) (i : ℕ) (line : ℕ × GroupAddr) → i < length lines → line ≡ get_or lines i line → line.0 < 256 → line.1.raw < 65536 → Linked lines seen links i
+    → Linked lines (set seen line.0 true) (links ++ record { object = line.0; group = line.1; sending = not (get_or seen line.0 false) } ∷ []) (i + 1)
+one_link lines seen links i line lt is object_small group_small linked = record {
+  whole = length-set seen line.0 true ∙ linked.whole;
+  seen_is = λ n less.
+      let more : list_any (is_of_object n) (take (i + 1) lines) ≡ (list_any (is_of_object n) (take i lines) || eqb line.0 n) = list_any_more (is_of_object n) lines i line lt ∙ ap (λ (l : ℕ × GroupAddr). list_any (is_of_object n) (take i lines) || eqb l.0 n) (sym is) in
+      elim (eqb_tells line.0 n) [
+        | inl (here, same) ↦ (let inside : n < length seen = omega (arith, less, linked.whole) in rw (same, get_or-set_same seen n true false inside) refl) ∙ sym (more ∙ or_right _ _ here)
+        | inr (away, apart) ↦ get_or-set_other seen line.0 n true false (λ e. apart (sym e)) ∙ linked.seen_is n less ∙ sym (more ∙ ap (λ (b : Bool). list_any (is_of_object n) (take i lines) || b) away ∙ or-false _)
+      ];
+  made =
+      let within : i < length (links_of lines) = omega (arith, lt, length-links_of lines) in
+      let last : get_or (links_of lines) i no_link ≡ record { object = line.0; group = line.1; sending = not (get_or seen line.0 false) } = get_or-links_of lines i line no_link lt ∙ ap (λ (l : ℕ × GroupAddr). link_at lines i l) (sym is) ∙ ap (λ (b : Bool). record { object = line.0; group = line.1; sending = not b }) (sym (linked.seen_is line.0 object_small)) in
+      (λ k. linked.made k ++ sym last k ∷ []) ∙ sym (take_more (links_of lines) i no_link within);
+  small = All-push (λ l. raw_of l < 65536) links (record { object = line.0; group = line.1; sending = not (get_or seen line.0 false) }) linked.small group_small;
+}
+
+pub all_links : (lines : List (ℕ × GroupAddr)) (seen : List Bool) (links : List LinkSpec) (i : ℕ) → length lines ≤ i → Linked lines seen links i → links ≡ links_of lines
+all_links lines seen links i le linked = linked.made ∙ take_all i (links_of lines) (omega (arith, le, length-links_of lines))

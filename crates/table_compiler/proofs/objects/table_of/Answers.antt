@@ -1,15 +1,11 @@
-use Rattle.std.proofs.Common.{rules, ◌≡◌, ◌<◌, ◌≤◌, ℕ, length, slice_index_or, IfOk, ◌+◌, ◌-◌, ◌*◌, ◌/◌, ◌%◌, Bool, true, false, nat_eq, nat_lt, List, [], ◌∷◌, ◌++◌, slice_set, bit_and, bit_or, Fits, w8, w32, w64, Bor, MutBor}
-use Rattle.knx_model.specs.Meaning.{object_line, object_lines, object_of, objects_of, greatest}
+use Rattle.table_compiler.proofs.ObjectLists.{Tabled, none_yet, one_more, all_tabled}
 use Rattle.table_compiler.proofs.objects.table_of.Goals as goal
 
--- src/objects.rt:63:5
 pub loop-i-init : goal.loop-i-init
-loop-i-init c = ?
+loop-i-init c = none_yet c.args.lines.now
 
--- src/objects.rt:63:5
 pub loop-i-preserved : goal.loop-i-preserved
-loop-i-preserved c = ?
+loop-i-preserved c = one_more c.args.lines.now c.loop-i.table c.loop-i.i c.from.result c.loop-i-test.true c.loop-i.auto.i c.from.ensures c.loop-i-test.element_fits.fits c.loop-i.invariant
 
--- src/objects.rt:59:1
 pub returns : goal.returns
-returns c = ?
+returns c = all_tabled c.args.lines.now c.loop-i.table c.loop-i.i c.loop-i-test.false c.loop-i.invariant
