@@ -1,5 +1,5 @@
 -- The links that lines give a device.
-use Rattle.std.proofs.Common.{◌≡◌, ◌≢◌, ℕ, zero, suc, ◌+◌, ◌*◌, ◌<◌, ◌≤◌, Bool, true, false, cond, ◌||◌, not, List, [], ◌∷◌, ◌++◌, length, get_or, set, take, map, eqb, All, refl, sym, ap, ◌∙◌, subst, arith, inl, inr, zero-add, replicate}
+use Rattle.std.proofs.Common.{◌≡◌, ◌≢◌, ℕ, zero, suc, ◌+◌, ◌*◌, ◌<◌, ◌≤◌, Bool, true, false, cond, ◌||◌, not, List, [], ◌∷◌, ◌++◌, length, get_or, set, take, map, eqb, All, None, refl, sym, ap, ◌∙◌, subst, arith, inl, inr, zero-add, replicate}
 use Rattle.std.specs.List.{AllPairs, IsDistinct, enumerate_from, list_any}
 use Rattle.std.proofs.lemmas.Bool.Decides.{Decides-eqb, eqb_tells}
 use Rattle.std.proofs.lemmas.List.{get_or-map, length-map, take_more, take_all, get_or-replicate, length-replicate, get_or-set_same, get_or-set_other, length-set}
@@ -10,11 +10,14 @@ use Rattle.std.proofs.Math.Bool.{or-false}
 use Rattle.std.proofs.lemmas.List.FromFn.{length-enumerate_from, get_or-enumerate_from}
 use Rattle.std.proofs.lemmas.Map.Made.{IsDistinct-from_AllPairs}
 use Rattle.knx_model.specs.declared.address.GroupAddr.{GroupAddr}
+use Rattle.knx_model.specs.declared.address.IndAddr.{IndAddr}
 use Rattle.knx_model.specs.declared.config.LinkSpec.{LinkSpec}
-use Rattle.knx_model.specs.Meaning.{is_of_object, link_at, links_of}
+use Rattle.knx_model.specs.declared.project.Statement.{Statement}
+use Rattle.knx_model.specs.Meaning.{is_of_object, link_at, links_of, link_lines}
+use Rattle.knx_model.specs.Rules.{first_broken}
 use Rattle.knx_model.specs.Tables.{raw_of, precedence}
 use Rattle.table_compiler.proofs.Places.{no_link}
-use Rattle.table_compiler.proofs.Sound.{Apart}
+use Rattle.table_compiler.proofs.Sound.{Apart, few_lines, lines_apart}
 
 pub length-links_of : (lines : List (ℕ × GroupAddr)) → length (links_of lines) ≡ length lines
 unfolding links_of
@@ -82,3 +85,11 @@ one_link lines seen links i line lt is object_small group_small linked = record 
 
 pub all_links : (lines : List (ℕ × GroupAddr)) (seen : List Bool) (links : List LinkSpec) (i : ℕ) → length lines ≤ i → Linked lines seen links i → links ≡ links_of lines
 all_links lines seen links i le linked = linked.made ∙ take_all i (links_of lines) (omega (arith, le, length-links_of lines))
+
+-- ---- the links of a device in a text that breaks no rule
+
+pub few_links : (device : IndAddr) (ss : List Statement) → first_broken ss ≡ None → length (links_of (link_lines device ss)) ≤ 2047
+few_links device ss sound = rw (length-links_of (link_lines device ss)) (few_lines device ss sound)
+
+pub once : (device : IndAddr) (ss : List Statement) → first_broken ss ≡ None → All (λ l. raw_of l < 65536) (links_of (link_lines device ss)) → IsDistinct eqb (map precedence (links_of (link_lines device ss)))
+once device ss sound small = distinct (link_lines device ss) (lines_apart device ss sound) small

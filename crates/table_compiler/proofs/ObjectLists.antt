@@ -3,7 +3,8 @@ use Rattle.std.proofs.Common.{◌≡◌, ◌≢◌, ℕ, zero, suc, ◌+◌, ◌
 use Rattle.std.specs.Prelude.{slice_range}
 use Rattle.std.specs.List.{range_with_len}
 use Rattle.std.proofs.lemmas.Bool.Decides.{eqb_tells}
-use Rattle.std.proofs.lemmas.List.{get_or-replicate, length-replicate, drop_all, drop_more, get_or-set_same, get_or-set_other, length-set, ext_get_or}
+use Rattle.std.proofs.lemmas.List.{get_or-replicate, length-replicate, drop_all, drop_more, get_or-set_same, get_or-set_other, length-set, ext_get_or, length-drop, length-take-le, get_or-take}
+use Rattle.std.proofs.lemmas.Grind.{get_or_after_one}
 use Rattle.std.proofs.lemmas.List.FromFn.{get_or-map-range_with_len, length-map-range_with_len}
 use Rattle.knx_model.specs.declared.config.ObjSpec.{ObjSpec}
 use Rattle.knx_model.specs.Meaning.{object_of, objects_of, greatest}
@@ -41,3 +42,13 @@ pub all_tabled : (lines : List (ℕ × ObjSpec)) (table : List ObjSpec) (i : ℕ
 all_tabled lines table i le tabled n lt =
     let none : i ≡ 0 = omega arith in
     (rw none at tabled.each) n lt
+
+-- the part of the table from number 1 to the greatest
+pub made : (lines : List (ℕ × ObjSpec)) (table : List ObjSpec) (most : ℕ) → length table ≡ 256 → ((n : ℕ) → n < 256 → get_or table n no_object ≡ object_of lines n) → most < 256 → slice_range table 1 (most + 1) ≡ map (object_of lines) (range_with_len 1 most)
+made lines table most whole each few =
+    let front : most + 1 - 1 ≡ most = omega arith in
+    let rest : length (drop 1 table) ≡ 255 = omega (arith, length-drop 1 table) in
+    let long : length (take most (drop 1 table)) ≡ most = length-take-le most (drop 1 table) (omega arith) in
+    rw front (ext_get_or no_object (take most (drop 1 table)) (map (object_of lines) (range_with_len 1 most)) (long ∙ sym (length-map-range_with_len (object_of lines) 1 most)) (λ i lt.
+        let less : i < most = omega arith in
+        get_or-take most (drop 1 table) i no_object less ∙ get_or_after_one table i no_object ∙ each (1 + i) (omega arith) ∙ sym (get_or-map-range_with_len (object_of lines) 1 most i (1 + i) no_object less refl)))

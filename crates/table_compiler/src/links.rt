@@ -41,6 +41,18 @@ pub fn link_lines(
         .collect(alloc)
 }
 
+/// The link of a line.
+fn link(object: u8, group: GroupAddr, sending: bool) -> LinkSpec
+    ensures value { result ≡ record { object = object; group = group; sending = sending } }
+    ensures small { raw_of result < 65536 }
+{
+    LinkSpec {
+        object,
+        group,
+        sending,
+    }
+}
+
 /// One link for each line, in order.
 pub fn links_of(alloc: Global, lines: &[(u8, GroupAddr)]) -> Result<Vec<LinkSpec>, AllocError>
     ensures links { IfOk result (λ links. links.items ≡ links_of lines.now) }
@@ -52,11 +64,7 @@ pub fn links_of(alloc: Global, lines: &[(u8, GroupAddr)]) -> Result<Vec<LinkSpec
         let (object, group) = *line;
         let sending = !seen[usize::from(object)];
         seen[usize::from(object)] = true;
-        links.push(LinkSpec {
-            object,
-            group,
-            sending,
-        })?;
+        links.push(link(object, group, sending))?;
     }
     Ok(links)
 }

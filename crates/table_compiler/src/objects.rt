@@ -57,7 +57,8 @@ fn greatest(lines: &[(u8, ObjSpec)]) -> u8
 
 /// The object of each number; the first line of a number counts.
 fn table_of(lines: &[(u8, ObjSpec)]) -> [ObjSpec; 256]
-    ensures { (n : ℕ) → n < 256 → slice_index_or result n NO_OBJECT ≡ object_of lines.now n }
+    ensures whole { length result ≡ 256 }
+    ensures each { (n : ℕ) → n < 256 → slice_index_or result n NO_OBJECT ≡ object_of lines.now n }
 {
     let mut table = [NO_OBJECT; 256];
     for i in (0..lines.len()).rev() {
