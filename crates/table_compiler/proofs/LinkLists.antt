@@ -2,7 +2,7 @@
 use Rattle.std.proofs.Common.{◌≡◌, ◌≢◌, ℕ, zero, suc, ◌+◌, ◌*◌, ◌<◌, ◌≤◌, Bool, true, false, cond, ◌||◌, not, List, [], ◌∷◌, ◌++◌, length, get_or, set, take, map, eqb, All, None, refl, sym, ap, ◌∙◌, subst, arith, inl, inr, zero-add, replicate}
 use Rattle.std.specs.List.{AllPairs, IsDistinct, enumerate_from, list_any}
 use Rattle.std.proofs.lemmas.Bool.Decides.{Decides-eqb, eqb_tells}
-use Rattle.std.proofs.lemmas.List.{get_or-map, length-map, take_more, take_all, get_or-replicate, length-replicate, get_or-set_same, get_or-set_other, length-set}
+use Rattle.std.proofs.lemmas.List.{get_or_default, get_or-map, length-map, take_more, take_all, get_or-replicate, length-replicate, get_or-set_same, get_or-set_other, length-set}
 use Rattle.std.proofs.lemmas.List.Elements.{All-push}
 use Rattle.std.proofs.lemmas.List.Folds.{list_any_more}
 use Rattle.std.proofs.lemmas.Bool.{or_right}
@@ -66,7 +66,7 @@ no_links lines = record {
   small = λ k d lt. absurd (omega arith);
 }
 
-pub one_link : (lines : List (ℕ × GroupAddr)) (seen : List Bool) (links : List LinkSpec) (i : ℕ) (line : ℕ × GroupAddr) → i < length lines → line ≡ get_or lines i line → line.0 < 256 → line.1.raw < 65536 → Linked lines seen links i
+one_link : (lines : List (ℕ × GroupAddr)) (seen : List Bool) (links : List LinkSpec) (i : ℕ) (line : ℕ × GroupAddr) → i < length lines → line ≡ get_or lines i line → line.0 < 256 → line.1.raw < 65536 → Linked lines seen links i
     → Linked lines (set seen line.0 true) (links ++ record { object = line.0; group = line.1; sending = not (get_or seen line.0 false) } ∷ []) (i + 1)
 one_link lines seen links i line lt is object_small group_small linked = record {
   whole = length-set seen line.0 true ∙ linked.whole;
@@ -82,6 +82,16 @@ one_link lines seen links i line lt is object_small group_small linked = record 
       (λ k. linked.made k ++ sym last k ∷ []) ∙ sym (take_more (links_of lines) i no_link within);
   small = All-push (λ l. raw_of l < 65536) links (record { object = line.0; group = line.1; sending = not (get_or seen line.0 false) }) linked.small group_small;
 }
+
+abbrev pub no_line : ℕ × GroupAddr
+no_line = (0, record { raw = 0 })
+
+pub link_step : (lines : List (ℕ × GroupAddr)) (seen : List Bool) (links now : List LinkSpec) (i at number : ℕ) (link : LinkSpec) → i < length lines → at ≡ (get_or lines i no_line).0 → number ≡ (get_or lines i no_line).0 → number < 256
+    → link ≡ record { object = (get_or lines i no_line).0; group = (get_or lines i no_line).1; sending = not (get_or seen at false) } → raw_of link < 65536 → now ≡ links ++ link ∷ [] → Linked lines seen links i → Linked lines (set seen number true) now (i + 1)
+link_step lines seen links now i at number link lt at_is number_is object_small link_is group_small now_is linked =
+    let line : ℕ × GroupAddr = get_or lines i no_line in
+    let made : link ≡ record { object = line.0; group = line.1; sending = not (get_or seen line.0 false) } = link_is ∙ ap (λ (n : ℕ). record { object = line.0; group = line.1; sending = not (get_or seen n false) }) at_is in
+    rw (now_is, made, number_is) (one_link lines seen links i line lt (get_or_default lines i no_line line lt) (rw number_is at object_small) (rw made at group_small) linked)
 
 pub all_links : (lines : List (ℕ × GroupAddr)) (seen : List Bool) (links : List LinkSpec) (i : ℕ) → length lines ≤ i → Linked lines seen links i → links ≡ links_of lines
 all_links lines seen links i le linked = linked.made ∙ take_all i (links_of lines) (omega (arith, le, length-links_of lines))
