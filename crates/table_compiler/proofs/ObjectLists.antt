@@ -50,5 +50,5 @@ made lines table most whole each few =
     let rest : length (drop 1 table) ≡ 255 = omega (arith, length-drop 1 table) in
     let long : length (take most (drop 1 table)) ≡ most = length-take-le most (drop 1 table) (omega arith) in
     rw front (ext_get_or no_object (take most (drop 1 table)) (map (object_of lines) (range_with_len 1 most)) (long ∙ sym (length-map-range_with_len (object_of lines) 1 most)) (λ i lt.
-        let less : i < most = omega arith in
-        get_or-take most (drop 1 table) i no_object less ∙ get_or_after_one table i no_object ∙ each (1 + i) (omega arith) ∙ sym (get_or-map-range_with_len (object_of lines) 1 most i (1 + i) no_object less refl)))
+    let less : i < most = omega arith in
+    get_or-take most (drop 1 table) i no_object less ∙ get_or_after_one table i no_object ∙ each (1 + i) (omega arith) ∙ sym (get_or-map-range_with_len (object_of lines) 1 most i (1 + i) no_object less refl)))

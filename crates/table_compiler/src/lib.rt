@@ -9,3 +9,6 @@ mod tables;
 
 pub use compiler::compile_statements;
 pub use laws::{linked_exactly, one_image};
+
+#[cfg(test)]
+mod tests;

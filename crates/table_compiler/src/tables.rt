@@ -77,11 +77,7 @@ fn address_table(alloc: Global, groups: &[u16]) -> Result<Octets, NoMemory>
 }
 
 /// A count, and a pair for each link.
-fn association_table(
-    alloc: Global,
-    groups: &[u16],
-    order: &[LinkSpec],
-) -> Result<Octets, NoMemory>
+fn association_table(alloc: Global, groups: &[u16], order: &[LinkSpec]) -> Result<Octets, NoMemory>
     requires ascending { IsStrictlyIncreasing groups.now }
     requires listed { All (λ l. Contains groups.now (raw_of l)) order.now }
     requires few { length groups.now < 65536 }
@@ -112,11 +108,7 @@ fn group_objects(alloc: Global, objects: &[ObjSpec]) -> Result<Octets, NoMemory>
 }
 
 /// The tables of links and objects; no parameter is known.
-pub fn image_of(
-    alloc: Global,
-    links: &[LinkSpec],
-    objects: &[ObjSpec],
-) -> Result<Image, NoMemory>
+pub fn image_of(alloc: Global, links: &[LinkSpec], objects: &[ObjSpec]) -> Result<Image, NoMemory>
     requires few_links { length links.now ≤ 2047 }
     // No object is linked to a group twice.
     requires once { IsDistinct nat_eq (map precedence links.now) }
