@@ -1,0 +1,4 @@
+pub mod Text
+pub mod Flags
+pub mod Steps
+pub mod Least

@@ -1,0 +1,130 @@
+//! The words of a statement, each read as its place wants.
+
+ghost use Rattle.std.specs.Prelude.{◌≡◌, ◌<◌, ◌%◌, IfSome, IfOk, IsTrue};
+ghost use Rattle.knx_model.specs.Words.{words};
+ghost use Rattle.knx_model.specs.Numbers.{is_name};
+ghost use Rattle.knx_model.specs.Addresses.{group_value, ind_value};
+ghost use Rattle.knx_model.specs.Flags.{flags_value};
+ghost use Rattle.knx_model.specs.Sizes.{size_value};
+ghost use Rattle.knx_model.specs.Statements.{field, object_value, name_value, ended};
+ghost use Rattle.knx_model.specs.declared.refusal.Why.TheVariants.{BadAddress, BadNumber, BadName};
+ghost use Rattle.project_text.specs.Reading.{Answers, Gives};
+
+use knx_model::{
+    GroupAddr, IndAddr, Octets, Why, first_word, flags_in, group_in, ind_in, is_name_in, number_in,
+    size_code_in,
+};
+use std::alloc::Global;
+
+/// A group address.
+pub fn group_field(rest: &[u8]) -> Result<(GroupAddr, &[u8]), Why>
+    ensures read { Answers (λ x. (x.0, words x.1.now)) result (field group_value BadAddress (words rest.now)) }
+    ensures fits { IfOk result (λ x. 0 < x.0.raw) }
+{
+    match first_word(rest) {
+        None => Err(Why::MissingWord),
+        Some((word, rest)) => match group_in(word) {
+            None => Err(Why::BadAddress),
+            Some(group) => Ok((group, rest)),
+        },
+    }
+}
+
+/// The individual address of a device.
+pub fn device_field(rest: &[u8]) -> Result<(IndAddr, &[u8]), Why>
+    ensures read { Answers (λ x. (x.0, words x.1.now)) result (field ind_value BadAddress (words rest.now)) }
+    ensures fits { IfOk result (λ x. (0 < x.0.raw % 256) × (x.0.raw % 256 < 255)) }
+{
+    match first_word(rest) {
+        None => Err(Why::MissingWord),
+        Some((word, rest)) => match ind_in(word) {
+            None => Err(Why::BadAddress),
+            Some(device) => Ok((device, rest)),
+        },
+    }
+}
+
+fn object_in(word: &[u8]) -> Option<u8>
+    ensures value { result ≡ object_value word.now }
+    ensures fits { IfSome result (λ n. 0 < n) }
+{
+    let number = number_in(word)?;
+    if number == 0 || number > 255 {
+        None
+    } else {
+        Some(number as u8)
+    }
+}
+
+/// The number of an object, 1 to 255.
+pub fn object_field(rest: &[u8]) -> Result<(u8, &[u8]), Why>
+    ensures read { Answers (λ x. (x.0, words x.1.now)) result (field object_value BadNumber (words rest.now)) }
+    ensures fits { IfOk result (λ x. 0 < x.0) }
+{
+    match first_word(rest) {
+        None => Err(Why::MissingWord),
+        Some((word, rest)) => match object_in(word) {
+            None => Err(Why::BadNumber),
+            Some(object) => Ok((object, rest)),
+        },
+    }
+}
+
+/// The size of an object, as its size code.
+pub fn size_field(rest: &[u8]) -> Result<(u8, &[u8]), Why>
+    ensures read { Answers (λ x. (x.0, words x.1.now)) result (field size_value BadNumber (words rest.now)) }
+    ensures fits { IfOk result (λ x. x.0 < 15) }
+{
+    match first_word(rest) {
+        None => Err(Why::MissingWord),
+        Some((word, rest)) => match size_code_in(word) {
+            None => Err(Why::BadNumber),
+            Some(size) => Ok((size, rest)),
+        },
+    }
+}
+
+/// The flags of an object, as their octet.
+#[tactic(auto, using(crate::proofs::Flags::priority))]
+pub fn flags_field(rest: &[u8]) -> Result<(u8, &[u8]), Why>
+    ensures read { Answers (λ x. (x.0, words x.1.now)) result (field flags_value BadName (words rest.now)) }
+    ensures fits { IfOk result (λ x. x.0 % 4 ≡ 3) }
+{
+    match first_word(rest) {
+        None => Err(Why::MissingWord),
+        Some((word, rest)) => match flags_in(word) {
+            None => Err(Why::BadName),
+            Some(flags) => Ok((flags, rest)),
+        },
+    }
+}
+
+/// A name, copied.
+pub fn name_field(alloc: Global, rest: &[u8]) -> Result<(Octets, &[u8]), Why>
+    ensures read { Gives (λ x. (x.0, words x.1.now)) result (field name_value BadName (words rest.now)) }
+    ensures fits { IfOk result (λ x. IsTrue (is_name x.0)) }
+{
+    match first_word(rest) {
+        None => Err(Why::MissingWord),
+        Some((word, rest)) => {
+            if is_name_in(word) {
+                match Octets::from_slice(alloc, word) {
+                    Ok(name) => Ok((name, rest)),
+                    Err(_) => Err(Why::NoMemory),
+                }
+            } else {
+                Err(Why::BadName)
+            }
+        }
+    }
+}
+
+/// No word is left.
+pub fn no_more(rest: &[u8]) -> Result<(), Why>
+    ensures { Answers (λ x. x) result (ended tt (words rest.now)) }
+{
+    match first_word(rest) {
+        None => Ok(()),
+        Some(_) => Err(Why::ExtraWord),
+    }
+}

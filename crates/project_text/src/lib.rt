@@ -1,0 +1,14 @@
+//! The text of a project: its statements, line by line.
+#![tactic(auto)]
+
+mod fields;
+mod line;
+mod project;
+mod read;
+
+pub use knx_model::{Refused, Statement, What, Why};
+pub use project::Project;
+pub use read::{least_line, read_project};
+
+#[cfg(test)]
+mod tests;

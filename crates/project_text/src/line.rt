@@ -1,0 +1,165 @@
+//! What a line says: one function a statement.
+
+ghost use Rattle.std.specs.Prelude.{◌≡◌, ◌==◌, position, IfOk, IfSome, IsTrue};
+ghost use Rattle.std.specs.List.{list_all};
+ghost use Rattle.knx_model.specs.Words.{words, is_text, is_text_octet, without_comment};
+ghost use Rattle.knx_model.specs.Statements.{is_spellable, title_says, ga_says, device_says, object_says, link_says, words_say, line_says};
+ghost use Rattle.project_text.specs.Reading.{Answers, Gives};
+
+use crate::fields::{
+    device_field, flags_field, group_field, name_field, no_more, object_field, size_field,
+};
+use knx_model::{What, Why, first_word};
+use std::alloc::Global;
+
+/// The longest line, in octets without its end.
+const LONGEST_LINE: usize = 512;
+
+/// `project NAME`
+#[tactic(auto, unfolding(knx_model::specs::Statements::title_says))]
+fn title_in(alloc: Global, rest: &[u8]) -> Result<What, Why>
+    ensures read { Gives (λ x. x) result (title_says (words rest.now)) }
+    ensures spelled { IfOk result (λ what. IsTrue (is_spellable what)) }
+{
+    let (name, rest) = name_field(alloc, rest)?;
+    no_more(rest)?;
+    Ok(What::Title(name))
+}
+
+/// `ga GA NAME`
+#[tactic(auto, unfolding(knx_model::specs::Statements::ga_says))]
+fn ga_in(alloc: Global, rest: &[u8]) -> Result<What, Why>
+    ensures read { Gives (λ x. x) result (ga_says (words rest.now)) }
+    ensures spelled { IfOk result (λ what. IsTrue (is_spellable what)) }
+{
+    let (group, rest) = group_field(rest)?;
+    let (name, rest) = name_field(alloc, rest)?;
+    no_more(rest)?;
+    Ok(What::Group { group, name })
+}
+
+/// `device IA MODEL`
+#[tactic(auto, unfolding(knx_model::specs::Statements::device_says))]
+fn device_in(alloc: Global, rest: &[u8]) -> Result<What, Why>
+    ensures read { Gives (λ x. x) result (device_says (words rest.now)) }
+    ensures spelled { IfOk result (λ what. IsTrue (is_spellable what)) }
+{
+    let (device, rest) = device_field(rest)?;
+    let (model, rest) = name_field(alloc, rest)?;
+    no_more(rest)?;
+    Ok(What::Device { device, model })
+}
+
+/// `object IA N SIZE FLAGS`
+#[tactic(auto, unfolding(knx_model::specs::Statements::object_says))]
+fn object_in(rest: &[u8]) -> Result<What, Why>
+    ensures read { Answers (λ x. x) result (object_says (words rest.now)) }
+    ensures spelled { IfOk result (λ what. IsTrue (is_spellable what)) }
+{
+    let (device, rest) = device_field(rest)?;
+    let (n, rest) = object_field(rest)?;
+    let (size, rest) = size_field(rest)?;
+    let (flags, rest) = flags_field(rest)?;
+    no_more(rest)?;
+    Ok(What::Object {
+        device,
+        n,
+        size,
+        flags,
+    })
+}
+
+/// `link IA N GA`
+#[tactic(auto, unfolding(knx_model::specs::Statements::link_says))]
+fn link_in(rest: &[u8]) -> Result<What, Why>
+    ensures read { Answers (λ x. x) result (link_says (words rest.now)) }
+    ensures spelled { IfOk result (λ what. IsTrue (is_spellable what)) }
+{
+    let (device, rest) = device_field(rest)?;
+    let (object, rest) = object_field(rest)?;
+    let (group, rest) = group_field(rest)?;
+    no_more(rest)?;
+    Ok(What::Link {
+        device,
+        object,
+        group,
+    })
+}
+
+#[tactic(auto, unfolding(knx_model::specs::Statements::words_say))]
+fn words_in(alloc: Global, rest: &[u8]) -> Result<Option<What>, Why>
+    ensures read { Gives (λ x. x) result (words_say (words rest.now)) }
+    ensures spelled { IfOk result (λ said. IfSome said (λ what. IsTrue (is_spellable what))) }
+{
+    match first_word(rest) {
+        None => Ok(None),
+        Some((word, rest)) => {
+            if word == b"project".as_slice() {
+                Ok(Some(title_in(alloc, rest)?))
+            } else if word == b"ga".as_slice() {
+                Ok(Some(ga_in(alloc, rest)?))
+            } else if word == b"device".as_slice() {
+                Ok(Some(device_in(alloc, rest)?))
+            } else if word == b"object".as_slice() {
+                Ok(Some(object_in(rest)?))
+            } else if word == b"link".as_slice() {
+                Ok(Some(link_in(rest)?))
+            } else {
+                Err(Why::UnknownWord)
+            }
+        }
+    }
+}
+
+fn is_text_octet(b: u8) -> bool
+    ensures { result ≡ is_text_octet b }
+{
+    b >= 0x20 && b != 0x7F || b == b'\t'
+}
+
+fn are_text_octets(line: &[u8]) -> bool
+    ensures { result ≡ list_all is_text_octet line.now }
+{
+    line.iter().all(|b| is_text_octet(*b))
+}
+
+#[tactic(auto, using(crate::proofs::Text::utf8_true, crate::proofs::Text::utf8_false))]
+fn is_text(line: &[u8]) -> bool
+    ensures { result ≡ is_text line.now }
+{
+    match str::from_utf8(line) {
+        Ok(_) => are_text_octets(line),
+        Err(_) => false,
+    }
+}
+
+fn comment_at(line: &[u8]) -> Option<usize>
+    ensures { result ≡ position (λ b. b == 35) line.now }
+{
+    line.iter().position(|b| *b == b'#')
+}
+
+/// A line up to its first `#`.
+fn without_comment(line: &[u8]) -> &[u8]
+    ensures { result.now ≡ without_comment line.now }
+{
+    match comment_at(line) {
+        None => line,
+        Some(i) => &line[..i],
+    }
+}
+
+/// What a line says: a statement, nothing, or the first rule that it breaks.
+#[tactic(auto, unfolding(knx_model::specs::Statements::line_says))]
+pub fn line_in(alloc: Global, line: &[u8]) -> Result<Option<What>, Why>
+    ensures read { Gives (λ x. x) result (line_says line.now) }
+    ensures spelled { IfOk result (λ said. IfSome said (λ what. IsTrue (is_spellable what))) }
+{
+    if !is_text(line) {
+        return Err(Why::NotText);
+    }
+    if line.len() > LONGEST_LINE {
+        return Err(Why::LongLine);
+    }
+    words_in(alloc, without_comment(line))
+}
