@@ -10,10 +10,19 @@ use crate::links::{link_lines, links_of};
 use crate::objects::{object_lines, objects_of};
 use crate::tables::image_of;
 use knx_model::{Image, IndAddr, NoMemory, Statement};
+use project_check::Checked;
 use std::alloc::Global;
 
-/// The tables and the parameter memory of a device, from the statements of a text that breaks no rule.
-pub fn compile_statements(
+/// The tables and the parameter memory of a device of the project.
+pub fn compile(alloc: Global, checked: &Checked<'_>, device: IndAddr) -> Result<Image, NoMemory>
+    ensures stands { IfOk result (λ image. StandsFor image (meaning checked.now device)) }
+    ensures fits { IfOk result (λ image. Fits image) }
+{
+    compile_statements(alloc, checked.statements(), device)
+}
+
+/// The same from statements that break no rule.
+fn compile_statements(
     alloc: Global,
     statements: &[Statement],
     device: IndAddr,

@@ -7,7 +7,7 @@ mod links;
 mod objects;
 mod tables;
 
-pub use compiler::compile_statements;
+pub use compiler::compile;
 pub use laws::{linked_exactly, one_image};
 
 #[cfg(test)]
