@@ -1,0 +1,105 @@
+-- The links that lines give a device.
+use Rattle.std.proofs.Common.{◌≡◌, ◌≢◌, ℕ, zero, suc, ◌+◌, ◌*◌, ◌<◌, ◌≤◌, Bool, true, false, cond, ◌||◌, not, List, [], ◌∷◌, ◌++◌, length, get_or, set, take, map, eqb, All, None, refl, sym, ap, ◌∙◌, subst, arith, inl, inr, zero-add, replicate}
+use Rattle.std.specs.List.{AllPairs, IsDistinct, enumerate_from, list_any}
+use Rattle.std.proofs.lemmas.Bool.Decides.{Decides-eqb, eqb_tells}
+use Rattle.std.proofs.lemmas.List.{get_or_default, get_or-map, length-map, take_more, take_all, get_or-replicate, length-replicate, get_or-set_same, get_or-set_other, length-set}
+use Rattle.std.proofs.lemmas.List.Elements.{All-push}
+use Rattle.std.proofs.lemmas.List.Folds.{list_any_more}
+use Rattle.std.proofs.lemmas.Bool.{or_right}
+use Rattle.std.proofs.Math.Bool.{or-false}
+use Rattle.std.proofs.lemmas.List.FromFn.{length-enumerate_from, get_or-enumerate_from}
+use Rattle.std.proofs.lemmas.Map.Made.{IsDistinct-from_AllPairs}
+use Rattle.knx_model.specs.declared.address.GroupAddr.{GroupAddr}
+use Rattle.knx_model.specs.declared.address.IndAddr.{IndAddr}
+use Rattle.knx_model.specs.declared.config.LinkSpec.{LinkSpec}
+use Rattle.knx_model.specs.declared.project.Statement.{Statement}
+use Rattle.knx_model.specs.Meaning.{is_of_object, link_at, links_of, link_lines}
+use Rattle.knx_model.specs.Rules.{first_broken}
+use Rattle.knx_model.specs.Tables.{raw_of, precedence}
+use Rattle.table_compiler.proofs.Places.{no_link}
+use Rattle.table_compiler.proofs.Sound.{Apart, few_lines, lines_apart}
+
+pub length-links_of : (lines : List (ℕ × GroupAddr)) → length (links_of lines) ≡ length lines
+unfolding links_of
+length-links_of lines = length-map (enumerate_from 0 lines) (λ p. link_at lines p.0 p.1) ∙ length-enumerate_from 0 lines
+
+pub get_or-links_of : (lines : List (ℕ × GroupAddr)) (i : ℕ) (d : ℕ × GroupAddr) (e : LinkSpec) → i < length lines → get_or (links_of lines) i e ≡ link_at lines i (get_or lines i d)
+unfolding links_of
+get_or-links_of lines i d e lt =
+    let within : i < length (enumerate_from 0 lines) = rw (length-enumerate_from 0 lines) lt in
+    get_or-map (λ p. link_at lines p.0 p.1) (enumerate_from 0 lines) i (0, d) e within
+    ∙ ap (λ (p : ℕ × (ℕ × GroupAddr)). link_at lines p.0 p.1) (get_or-enumerate_from 0 lines i (0, d) lt)
+    ∙ ap (λ (n : ℕ). link_at lines n (get_or lines i d)) (zero-add i)
+
+-- the precedence tells the object and the group
+ranks : (o r p s : ℕ) (a b : Bool) → r < 65536 → s < 65536 → o * 131072 + cond a 0 65536 + r ≡ p * 131072 + cond b 0 65536 + s → (o ≡ p) × (r ≡ s)
+ranks o r p s true true lt lt' e = (omega arith, omega arith)
+ranks o r p s true false lt lt' e = (omega arith, omega arith)
+ranks o r p s false true lt lt' e = (omega arith, omega arith)
+ranks o r p s false false lt lt' e = (omega arith, omega arith)
+
+pub distinct : (lines : List (ℕ × GroupAddr)) → AllPairs Apart lines → All (λ l. raw_of l < 65536) (links_of lines) → IsDistinct eqb (map precedence (links_of lines))
+distinct lines apart small = IsDistinct-from_AllPairs Decides-eqb (map precedence (links_of lines)) (λ i j d below lt same.
+    let lt' : j < length (links_of lines) = omega (arith, lt, length-map (links_of lines) precedence) in
+    let within : j < length lines = omega (arith, length-links_of lines) in
+    let none : ℕ × GroupAddr = (0, record { raw = 0 }) in
+    let at : (k : ℕ) → k < length lines → get_or (map precedence (links_of lines)) k d ≡ precedence (link_at lines k (get_or lines k none)) = λ k less. get_or-map precedence (links_of lines) k no_link d (let h : k < length (links_of lines) = omega (arith, less, length-links_of lines) in h) ∙ ap precedence (get_or-links_of lines k none no_link less) in
+    let is_small : (k : ℕ) → k < length lines → (get_or lines k none).1.raw < 65536 = λ k less. subst (λ (l : LinkSpec). raw_of l < 65536) (get_or-links_of lines k none no_link less) (small k no_link (omega (arith, less, length-links_of lines))) in
+    let less : i < length lines = omega (arith, below, within) in
+    let e = sym (at i less) ∙ same ∙ at j within in
+    let both = ranks (get_or lines i none).0 (get_or lines i none).1.raw (get_or lines j none).0 (get_or lines j none).1.raw (link_at lines i (get_or lines i none)).sending (link_at lines j (get_or lines j none)).sending (is_small i less) (is_small j within) e in
+    apart i j none below within both.0 both.1)
+
+-- ---- the links of the first i lines, and the objects that they have
+
+pub record Linked (lines : List (ℕ × GroupAddr)) (seen : List Bool) (links : List LinkSpec) (i : ℕ) : Type 0 where
+  pub whole : length seen ≡ 256
+  pub seen_is : (n : ℕ) → n < 256 → get_or seen n false ≡ list_any (is_of_object n) (take i lines)
+  pub made : links ≡ take i (links_of lines)
+  pub small : All (λ l. raw_of l < 65536) links
+
+pub no_links : (lines : List (ℕ × GroupAddr)) → Linked lines (replicate 256 false) [] 0
+no_links lines = record {
+  whole = length-replicate 256 false;
+  seen_is = λ n lt. get_or-replicate 256 n false false lt;
+  made = refl;
+  small = λ k d lt. absurd (omega arith);
+}
+
+one_link : (lines : List (ℕ × GroupAddr)) (seen : List Bool) (links : List LinkSpec) (i : ℕ) (line : ℕ × GroupAddr) → i < length lines → line ≡ get_or lines i line → line.0 < 256 → line.1.raw < 65536 → Linked lines seen links i
+    → Linked lines (set seen line.0 true) (links ++ record { object = line.0; group = line.1; sending = not (get_or seen line.0 false) } ∷ []) (i + 1)
+one_link lines seen links i line lt is object_small group_small linked = record {
+  whole = length-set seen line.0 true ∙ linked.whole;
+  seen_is = λ n less.
+      let more : list_any (is_of_object n) (take (i + 1) lines) ≡ (list_any (is_of_object n) (take i lines) || eqb line.0 n) = list_any_more (is_of_object n) lines i line lt ∙ ap (λ (l : ℕ × GroupAddr). list_any (is_of_object n) (take i lines) || eqb l.0 n) (sym is) in
+      elim (eqb_tells line.0 n) [
+        | inl (here, same) ↦ (let inside : n < length seen = omega (arith, less, linked.whole) in rw (same, get_or-set_same seen n true false inside) refl) ∙ sym (more ∙ or_right _ _ here)
+        | inr (away, apart) ↦ get_or-set_other seen line.0 n true false (λ e. apart (sym e)) ∙ linked.seen_is n less ∙ sym (more ∙ ap (λ (b : Bool). list_any (is_of_object n) (take i lines) || b) away ∙ or-false _)
+      ];
+  made =
+      let within : i < length (links_of lines) = omega (arith, lt, length-links_of lines) in
+      let last : get_or (links_of lines) i no_link ≡ record { object = line.0; group = line.1; sending = not (get_or seen line.0 false) } = get_or-links_of lines i line no_link lt ∙ ap (λ (l : ℕ × GroupAddr). link_at lines i l) (sym is) ∙ ap (λ (b : Bool). record { object = line.0; group = line.1; sending = not b }) (sym (linked.seen_is line.0 object_small)) in
+      (λ k. linked.made k ++ sym last k ∷ []) ∙ sym (take_more (links_of lines) i no_link within);
+  small = All-push (λ l. raw_of l < 65536) links (record { object = line.0; group = line.1; sending = not (get_or seen line.0 false) }) linked.small group_small;
+}
+
+abbrev pub no_line : ℕ × GroupAddr
+no_line = (0, record { raw = 0 })
+
+pub link_step : (lines : List (ℕ × GroupAddr)) (seen : List Bool) (links now : List LinkSpec) (i at number : ℕ) (link : LinkSpec) → i < length lines → at ≡ (get_or lines i no_line).0 → number ≡ (get_or lines i no_line).0 → number < 256
+    → link ≡ record { object = (get_or lines i no_line).0; group = (get_or lines i no_line).1; sending = not (get_or seen at false) } → raw_of link < 65536 → now ≡ links ++ link ∷ [] → Linked lines seen links i → Linked lines (set seen number true) now (i + 1)
+link_step lines seen links now i at number link lt at_is number_is object_small link_is group_small now_is linked =
+    let line : ℕ × GroupAddr = get_or lines i no_line in
+    let made : link ≡ record { object = line.0; group = line.1; sending = not (get_or seen line.0 false) } = link_is ∙ ap (λ (n : ℕ). record { object = line.0; group = line.1; sending = not (get_or seen n false) }) at_is in
+    rw (now_is, made, number_is) (one_link lines seen links i line lt (get_or_default lines i no_line line lt) (rw number_is at object_small) (rw made at group_small) linked)
+
+pub all_links : (lines : List (ℕ × GroupAddr)) (seen : List Bool) (links : List LinkSpec) (i : ℕ) → length lines ≤ i → Linked lines seen links i → links ≡ links_of lines
+all_links lines seen links i le linked = linked.made ∙ take_all i (links_of lines) (omega (arith, le, length-links_of lines))
+
+-- ---- the links of a device in a text that breaks no rule
+
+pub few_links : (device : IndAddr) (ss : List Statement) → first_broken ss ≡ None → length (links_of (link_lines device ss)) ≤ 2047
+few_links device ss sound = rw (length-links_of (link_lines device ss)) (few_lines device ss sound)
+
+pub once : (device : IndAddr) (ss : List Statement) → first_broken ss ≡ None → All (λ l. raw_of l < 65536) (links_of (link_lines device ss)) → IsDistinct eqb (map precedence (links_of (link_lines device ss)))
+once device ss sound small = distinct (link_lines device ss) (lines_apart device ss sound) small

@@ -1,0 +1,17 @@
+use Rattle.std.proofs.lemmas.List.Filters.{dedup_is}
+use Rattle.std.proofs.lemmas.List.Kept.{Contains-dedup_nat, Contains-from_dedup}
+use Rattle.std.proofs.lemmas.List.Sorted.{Contains-permutation, IsPermutation-sym}
+use Rattle.std.proofs.lemmas.Map.Keys.{IsStrictlyIncreasing-dedup}
+use Rattle.table_compiler.proofs.tables.groups_of.Goals as goal
+
+pub returns-clause-ascending : goal.returns-clause-ascending
+returns-clause-ascending c = rw (dedup_is _ _ _ c.dedup.ensures.filtered) (IsStrictlyIncreasing-dedup _ c.sort_unstable.ensures.sorted)
+
+pub returns-clause-exactly : goal.returns-clause-exactly
+returns-clause-exactly c = λ g.
+    let is = dedup_is _ _ _ c.dedup.ensures.filtered in
+    let moved = c.sort_unstable.ensures.permutation in
+    rw (← c.in_ok-groups.ensures) (
+      λ h. Contains-permutation _ _ g (IsPermutation-sym _ _ moved) (Contains-from_dedup _ _ g (rw is at h)),
+      λ h. rw is (Contains-dedup_nat _ g (Contains-permutation _ _ g moved h)),
+    )

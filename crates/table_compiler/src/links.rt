@@ -1,0 +1,70 @@
+//! The links of a device, in order; the first of an object is its sending one.
+
+ghost use Rattle.std.specs.Prelude.{◌≡◌, ◌<◌, not, IfOk, All};
+ghost use Rattle.knx_model.specs.Meaning.{link_line, link_lines, links_of};
+ghost use Rattle.knx_model.specs.Tables.{raw_of};
+
+use knx_model::{GroupAddr, IndAddr, LinkSpec, Statement, What};
+use std::alloc::{AllocError, Global};
+
+/// The object and the group of a `link` line of the device.
+fn link_line(device: IndAddr, what: &What) -> Option<(u8, GroupAddr)>
+    ensures { result ≡ link_line device what.now }
+{
+    match what {
+        What::Link {
+            device: of,
+            object,
+            group,
+        } => {
+            if of.raw == device.raw {
+                Some((*object, *group))
+            } else {
+                None
+            }
+        }
+        _ => None,
+    }
+}
+
+/// The objects and groups of the `link` lines of the device, in order.
+pub fn link_lines(
+    alloc: Global,
+    statements: &[Statement],
+    device: IndAddr,
+) -> Result<Vec<(u8, GroupAddr)>, AllocError>
+    ensures { IfOk result (λ lines. lines.items ≡ link_lines device statements.now) }
+{
+    statements
+        .iter()
+        .filter_map(|statement| link_line(device, &statement.what))
+        .collect(alloc)
+}
+
+/// The link of a line.
+fn link(object: u8, group: GroupAddr, sending: bool) -> LinkSpec
+    ensures value { result ≡ record { object = object; group = group; sending = sending } }
+    ensures small { raw_of result < 65536 }
+{
+    LinkSpec {
+        object,
+        group,
+        sending,
+    }
+}
+
+/// One link for each line, in order.
+pub fn links_of(alloc: Global, lines: &[(u8, GroupAddr)]) -> Result<Vec<LinkSpec>, AllocError>
+    ensures links { IfOk result (λ links. links.items ≡ links_of lines.now) }
+    ensures small { IfOk result (λ links. All (λ l. raw_of l < 65536) links.items) }
+{
+    let mut seen = [false; 256];
+    let mut links = Vec::new(alloc);
+    for line in lines {
+        let (object, group) = *line;
+        let sending = !seen[usize::from(object)];
+        seen[usize::from(object)] = true;
+        links.push(link(object, group, sending))?;
+    }
+    Ok(links)
+}

@@ -1,0 +1,132 @@
+//! The address table, the association table and the group objects' table, from links and objects.
+
+ghost use Rattle.std.specs.Prelude.{◌≡◌, ℕ, ◌<◌, ◌≤◌, ◌↔◌, length, map, IfOk, Contains, IsPermutation, nat_eq, All};
+ghost use Rattle.std.specs.List.{IsDistinct};
+ghost use Rattle.std.specs.List.Sorted.{IsStrictlyIncreasing, IsNonDecreasingBy};
+ghost use Rattle.knx_model.specs.Device.{Fits};
+ghost use Rattle.knx_model.specs.Tables.{raw_of, precedence, place, address_list, association_list, object_list, StandsFor};
+
+use knx_model::{Image, LinkSpec, NoMemory, ObjSpec, Octets};
+use std::alloc::{AllocError, Global};
+
+fn raw_groups(alloc: Global, links: &[LinkSpec]) -> Result<Vec<u16>, AllocError>
+    ensures { IfOk result (λ groups. groups.items ≡ map raw_of links.now) }
+{
+    links.iter().map(|link| link.group.raw).collect(alloc)
+}
+
+/// The groups of the links, each once, ascending.
+fn groups_of(alloc: Global, links: &[LinkSpec]) -> Result<Vec<u16>, AllocError>
+    ensures ascending { IfOk result (λ groups. IsStrictlyIncreasing groups.items) }
+    ensures exactly { IfOk result (λ groups. (g : ℕ) → Contains groups.items g ↔ Contains (map raw_of links.now) g) }
+    ensures few { IfOk result (λ groups. length groups.items ≤ length links.now) }
+{
+    let mut groups = raw_groups(alloc, links)?;
+    groups.sort_unstable();
+    groups.dedup();
+    Ok(groups)
+}
+
+/// Where a link stands: by its object, the sending one first, then by its group.
+fn precedence(link: LinkSpec) -> u32
+    ensures { result ≡ precedence link }
+{
+    let object = u32::from(link.object) * 131_072;
+    let raw = u32::from(link.group.raw);
+    if link.sending {
+        object + raw
+    } else {
+        object + 65_536 + raw
+    }
+}
+
+/// The links in the order of their pairs.
+fn in_order(alloc: Global, links: &[LinkSpec]) -> Result<Vec<LinkSpec>, AllocError>
+    ensures same { IfOk result (λ order. IsPermutation links.now order.items) }
+    ensures ascending { IfOk result (λ order. IsNonDecreasingBy precedence order.items) }
+{
+    let mut order = Vec::from_slice(alloc, links)?;
+    order.sort_unstable_by_key(|link| precedence(*link));
+    Ok(order)
+}
+
+/// The place of a group, from 1.
+fn place_of(groups: &[u16], raw: u16) -> u16
+    requires ascending { IsStrictlyIncreasing groups.now }
+    requires listed { Contains groups.now raw }
+    requires few { length groups.now < 65536 }
+    ensures { result ≡ place groups.now raw }
+{
+    match groups.binary_search(&raw) {
+        Ok(i) => i as u16 + 1,
+        Err(_) => unreachable!(),
+    }
+}
+
+/// A count, and the groups.
+fn address_table(alloc: Global, groups: &[u16]) -> Result<Octets, NoMemory>
+    requires { length groups.now < 65536 }
+    ensures { IfOk result (λ octets. octets ≡ address_list groups.now) }
+{
+    let mut out = Octets::new(alloc);
+    out.append(&(groups.len() as u16).to_be_bytes())?;
+    for group in groups {
+        out.append(&group.to_be_bytes())?;
+    }
+    Ok(out)
+}
+
+/// A count, and a pair for each link.
+fn association_table(alloc: Global, groups: &[u16], order: &[LinkSpec]) -> Result<Octets, NoMemory>
+    requires ascending { IsStrictlyIncreasing groups.now }
+    requires listed { All (λ l. Contains groups.now (raw_of l)) order.now }
+    requires few { length groups.now < 65536 }
+    requires few_links { length order.now < 65536 }
+    ensures { IfOk result (λ octets. octets ≡ association_list groups.now order.now) }
+{
+    let mut out = Octets::new(alloc);
+    out.append(&(order.len() as u16).to_be_bytes())?;
+    for link in order {
+        let place = place_of(groups, link.group.raw);
+        out.append(&place.to_be_bytes())?;
+        out.append(&u16::from(link.object).to_be_bytes())?;
+    }
+    Ok(out)
+}
+
+/// A count, and the flag octet and size code of each object.
+fn group_objects(alloc: Global, objects: &[ObjSpec]) -> Result<Octets, NoMemory>
+    requires { length objects.now < 65536 }
+    ensures { IfOk result (λ octets. octets ≡ object_list objects.now) }
+{
+    let mut out = Octets::new(alloc);
+    out.append(&(objects.len() as u16).to_be_bytes())?;
+    for object in objects {
+        out.append(&[object.flags, object.size])?;
+    }
+    Ok(out)
+}
+
+/// The tables of links and objects; no parameter is known.
+pub fn image_of(alloc: Global, links: &[LinkSpec], objects: &[ObjSpec]) -> Result<Image, NoMemory>
+    requires few_links { length links.now ≤ 2047 }
+    // No object is linked to a group twice.
+    requires once { IsDistinct nat_eq (map precedence links.now) }
+    requires few_objects { length objects.now ≤ 255 }
+    ensures stands { IfOk result (λ image. StandsFor image (record { links = links.now; objects = objects.now })) }
+    ensures fits { IfOk result (λ image. Fits image) }
+{
+    let groups = groups_of(alloc, links)?;
+    let order = in_order(alloc, links)?;
+    let groups = groups.as_slice();
+    let addr = address_table(alloc, groups)?;
+    let assoc = association_table(alloc, groups, order.as_slice())?;
+    let objs = group_objects(alloc, objects)?;
+    let params = Octets::new(alloc);
+    Ok(Image {
+        addr,
+        assoc,
+        objs,
+        params,
+    })
+}
