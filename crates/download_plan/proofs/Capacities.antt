@@ -1,6 +1,5 @@
-use Rattle.std.proofs.Common.{ℕ, ◌≡◌, ◌+◌, ◌-◌, ◌≤◌, Bool, true, false, nat_le, ◌&&◌, List, [], ◌∷◌, ◌++◌, length, length-append, length-drop, length-take, take, drop, replicate, Option, Some, None, refl, ◌∙◌, arith, if◌then◌else◌}
+use Rattle.std.proofs.Common.{ℕ, ◌≡◌, ◌-◌, ◌≤◌, Bool, true, false, List, [], ◌∷◌, ◌++◌, length, length-append, length-drop, take, drop, replicate, Some, None, refl, ◌∙◌, arith, if◌then◌else◌}
 use Rattle.std.proofs.lemmas.List.{length-replicate}
-use Rattle.std.proofs.lemmas.Grind.{common_steps}
 use Rattle.knx_model.specs.declared.loading.LoadState.TheVariants.{Loading, Error}
 use Rattle.knx_model.specs.declared.loading.LoadEvent.{LoadEvent}
 use Rattle.knx_model.specs.declared.loading.LoadEvent.TheVariants.{NoOperation, StartLoading, LoadCompleted, Allocate, Unload, Undefined}
@@ -8,7 +7,7 @@ use Rattle.knx_model.specs.declared.loading.LoadableObject.{LoadableObject}
 use Rattle.knx_model.specs.declared.loading.LoadableObject.TheVariants.{AddressTable, AssociationTable, GroupObjects, Application}
 use Rattle.knx_model.specs.declared.bench.BenchEvent.{BenchEvent}
 use Rattle.knx_model.specs.declared.bench.BenchEvent.TheVariants.{Give, GiveTorn, On}
-use Rattle.knx_model.specs.Loading.{Loadable, capacity_of, is_loading, with_state, with_memory, allocated, allocates, load_step, load_torn, old_or_new, takes_write, written, scribbled, overlaid}
+use Rattle.knx_model.specs.Loading.{Loadable, capacity_of, with_state, with_memory, allocated, allocates, load_step, load_torn, old_or_new, takes_write, written, scribbled, overlaid}
 use Rattle.knx_model.specs.Device.{NonVolatile, DeviceState, Effect, Loads, Stores, Nothing, object, with_object, base, object_at, at_address, whole, torn, effect_in}
 use Rattle.knx_model.specs.Bench.{happens, replay, with_kept}
 use Rattle.knx_model.specs.Plan.{HasCapacities}

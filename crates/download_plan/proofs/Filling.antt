@@ -1,4 +1,4 @@
-use Rattle.std.proofs.Common.{ℕ, zero, suc, ◌≡◌, ◌+◌, ◌-◌, ◌*◌, ◌/◌, ◌<◌, ◌≤◌, Bool, true, false, nat_le, ◌&&◌, List, [], ◌∷◌, ◌++◌, length, length-drop, length-take, length-append, length-take-le, take, drop, map, replicate, Option, Some, None, refl, sym, ◌∙◌, ap, subst, arith, if◌then◌else◌}
+use Rattle.std.proofs.Common.{ℕ, zero, suc, ◌≡◌, ◌+◌, ◌*◌, ◌<◌, ◌≤◌, Bool, true, false, nat_le, ◌&&◌, List, [], ◌∷◌, ◌++◌, length, length-drop, length-take, length-append, length-take-le, take, drop, map, replicate, Option, Some, None, refl, sym, ◌∙◌, ap, subst, arith, if◌then◌else◌}
 use Rattle.std.specs.List.{range_with_len}
 use Rattle.std.proofs.lemmas.List.{length-replicate, take_all}
 use Rattle.std.proofs.lemmas.Bool.Decides.{nat_tests}
@@ -9,8 +9,8 @@ use Rattle.knx_model.specs.declared.loading.LoadEvent.{LoadEvent}
 use Rattle.knx_model.specs.declared.loading.LoadEvent.TheVariants.{StartLoading, Allocate, Unload}
 use Rattle.knx_model.specs.declared.loading.LoadableObject.{LoadableObject}
 use Rattle.knx_model.specs.declared.frames.tpdu.Apdu.{Apdu}
-use Rattle.knx_model.specs.declared.frames.tpdu.Apdu.TheVariants.{MemoryRead, MemoryResponse, MemoryWrite, PropertyRead, PropertyResponse, PropertyWrite}
-use Rattle.knx_model.specs.Loading.{Loadable, octets_of, capacity_of, is_loading, is_loaded, with_state, with_memory, allocated, allocates, load_step, state_number, has_range, takes_write, written, scribbled, overlaid}
+use Rattle.knx_model.specs.declared.frames.tpdu.Apdu.TheVariants.{MemoryRead, MemoryResponse, MemoryWrite, PropertyRead, PropertyResponse}
+use Rattle.knx_model.specs.Loading.{Loadable, octets_of, capacity_of, is_loading, is_loaded, with_state, with_memory, allocated, allocates, load_step, state_number, takes_write, overlaid}
 use Rattle.knx_model.specs.Device.{NonVolatile, Loads, Stores, Nothing, object, with_object, object_index, base, capacity, table_reference}
 use Rattle.knx_model.specs.Plan.{Operation, loads, reads_base, piece, piece_count, writes_piece, reads_piece, each_piece, filling}
 use Rattle.download_plan.specs.Step.{IsShort}
