@@ -1,4 +1,4 @@
-use Rattle.std.proofs.Common.{ℕ, zero, suc, ◌≡◌, ◌+◌, ◌-◌, ◌*◌, ◌/◌, ◌<◌, ◌≤◌, Bool, true, false, nat_le, ◌&&◌, List, [], ◌∷◌, ◌++◌, length, length-drop, length-take, length-append, length-take-le, take, drop, map, replicate, Option, Some, None, refl, sym, ◌∙◌, ap, subst, arith, if◌then◌else◌}
+use Rattle.std.proofs.Common.{ℕ, zero, suc, ◌≡◌, ◌+◌, ◌*◌, ◌<◌, ◌≤◌, Bool, true, false, nat_le, ◌&&◌, List, [], ◌∷◌, ◌++◌, length, length-drop, length-take, length-append, length-take-le, take, drop, map, replicate, Option, Some, None, refl, sym, ◌∙◌, ap, subst, arith, if◌then◌else◌}
 use Rattle.std.specs.List.{range_with_len}
 use Rattle.std.proofs.lemmas.List.{length-replicate, take_all}
 use Rattle.std.proofs.lemmas.Bool.Decides.{nat_tests}
@@ -9,12 +9,13 @@ use Rattle.knx_model.specs.declared.loading.LoadEvent.{LoadEvent}
 use Rattle.knx_model.specs.declared.loading.LoadEvent.TheVariants.{StartLoading, Allocate, Unload}
 use Rattle.knx_model.specs.declared.loading.LoadableObject.{LoadableObject}
 use Rattle.knx_model.specs.declared.frames.tpdu.Apdu.{Apdu}
-use Rattle.knx_model.specs.declared.frames.tpdu.Apdu.TheVariants.{MemoryRead, MemoryResponse, MemoryWrite, PropertyRead, PropertyResponse, PropertyWrite}
-use Rattle.knx_model.specs.Loading.{Loadable, octets_of, capacity_of, is_loading, is_loaded, with_state, with_memory, allocated, allocates, load_step, state_number, has_range, takes_write, written, scribbled, overlaid}
+use Rattle.knx_model.specs.declared.frames.tpdu.Apdu.TheVariants.{MemoryRead, MemoryResponse, MemoryWrite, PropertyRead, PropertyResponse}
+use Rattle.knx_model.specs.Loading.{Loadable, octets_of, capacity_of, is_loading, is_loaded, with_state, with_memory, allocated, allocates, load_step, state_number, takes_write, overlaid}
 use Rattle.knx_model.specs.Device.{NonVolatile, Loads, Stores, Nothing, object, with_object, object_index, base, capacity, table_reference}
 use Rattle.knx_model.specs.Plan.{Operation, loads, reads_base, piece, piece_count, writes_piece, reads_piece, each_piece, filling}
+use Rattle.download_plan.specs.Step.{IsShort}
 use Rattle.download_plan.proofs.Lists.{take_length, length-overlaid, take_piece, piece_room}
-use Rattle.download_plan.proofs.Steps.{IsStopped, OperationsLead, IsShort, with_same, stopped_with, leads_step, load_service, state_answer, effect_load, whole_load, answer_load, answer_base, whole_write, taken_write, kept, answer_read, read_octets}
+use Rattle.download_plan.proofs.Steps.{IsStopped, OperationsLead, with_same, stopped_with, leads_step, load_service, state_answer, effect_load, whole_load, answer_load, answer_base, whole_write, taken_write, kept, answer_read, read_octets}
 
 state_back : ℕ → LoadState
 state_back zero = Unloaded
@@ -70,7 +71,7 @@ laid_allocated n p at m octets l a =
     let by : (v : Bool) → takes_write p at m ≡ v → IsAllocated n (if v then with_memory p (overlaid p.memory at octets) else p)
     = λ v. elim v as (λ v. takes_write p at m ≡ v → IsAllocated n (if v then with_memory p (overlaid p.memory at octets) else p)) [
       | true ↦ λ e. let w : at + m ≤ p.len = write_within p at m e in
-          let long : length (overlaid p.memory at octets) ≡ length p.memory = length-overlaid p.memory at octets (omega (arith, w, a.len, a.room)) in
+          let long : length (overlaid p.memory at octets) ≡ length p.memory = length-overlaid p.memory at octets in
           record { state = a.state; len = a.len; room = omega (arith, long, a.room) }
       | false ↦ λ e. a
     ] in
@@ -84,7 +85,7 @@ pub allocated_stopped : (p : Loadable) (n fill : ℕ) → is_loaded p.state ≡ 
 allocated_stopped p n fill h =
     elim (is_loading p.state && nat_le n (capacity_of p)) as (λ v. is_loaded (if v then record { state = Loading; len = n; memory = replicate n fill ++ drop n p.memory } else with_state p Error).state ≡ false) [ true ↦ refl | false ↦ refl ]
 
-allocates_within : (p : Loadable) (n : ℕ) → allocates p n ≡ true → n ≤ length p.memory
+pub allocates_within : (p : Loadable) (n : ℕ) → allocates p n ≡ true → n ≤ length p.memory
 allocates_within p n e = grind (arith, common_steps)
 
 pub allocated_is : (p : Loadable) (n fill : ℕ) → (allocated p n fill).state ≡ Loading → IsAllocated n (allocated p n fill)

@@ -1,13 +1,12 @@
-use Rattle.std.proofs.Common.{ℕ, ◌≡◌, ◌≤◌, ◌<◌, true, false, List, [], ◌∷◌, ◌++◌, length, Some, inl, inr, refl, sym, subst, arith, if◌then◌else◌}
+use Rattle.std.proofs.Common.{ℕ, ◌≡◌, ◌≤◌, ◌<◌, true, false, List, [], ◌∷◌, ◌++◌, length, Some, inl, inr, refl, sym, subst, arith}
 use Rattle.knx_model.specs.declared.config.Image.{Image}
-use Rattle.knx_model.specs.declared.loading.LoadState.TheVariants.{Unloaded, Loaded}
+use Rattle.knx_model.specs.declared.loading.LoadState.TheVariants.{Loaded}
 use Rattle.knx_model.specs.declared.loading.LoadEvent.TheVariants.{LoadCompleted, Unload}
 use Rattle.knx_model.specs.declared.loading.LoadableObject.{LoadableObject}
 use Rattle.knx_model.specs.declared.loading.LoadableObject.TheVariants.{AddressTable, AssociationTable, GroupObjects, Application}
-use Rattle.knx_model.specs.declared.frames.tpdu.Apdu.TheVariants.{DescriptorRead, DescriptorResponse}
 use Rattle.knx_model.specs.Loading.{Loadable, octets_of, load_step, old_or_new}
 use Rattle.knx_model.specs.Device.{NonVolatile, Loads, object, with_object, capacity, runs, whole, Fits}
-use Rattle.knx_model.specs.Plan.{Operation, loads, filling, loading, load_operations, OldStoppedOrImage}
+use Rattle.knx_model.specs.Plan.{loads, filling, loading, load_operations, OldStoppedOrImage}
 use Rattle.download_plan.proofs.Steps.{IsStopped, OperationsLead, runs_nothing, with_same, leads-append, leads-weaker}
 use Rattle.download_plan.proofs.Filling.{load_leads, filling_leads, IsFilled, not_loaded}
 

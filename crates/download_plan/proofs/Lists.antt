@@ -12,8 +12,9 @@ take_length (suc k) [] (z ∷ zs) e = refl
 take_length (suc k) (y ∷ ys) [] e = absurd (omega (arith, e))
 take_length (suc k) (y ∷ ys) (z ∷ zs) e = ap (λ w. y ∷ w) (take_length k ys zs (omega (arith, e)))
 
-pub length-overlaid : (old : List ℕ) (at : ℕ) (octets : List ℕ) → at + length octets ≤ length old → length (overlaid old at octets) ≡ length old
-length-overlaid old at octets h = grind (arith, common_steps)
+-- laying octets over keeps the length, also where they have no room
+pub length-overlaid : (old : List ℕ) (at : ℕ) (octets : List ℕ) → length (overlaid old at octets) ≡ length old
+length-overlaid old at octets = grind (arith, common_steps)
 
 -- one more piece of k
 pub take_piece : (k : ℕ) (xs ys : List ℕ) (at : ℕ) → take at xs ≡ take at ys → take k (drop at xs) ≡ take k (drop at ys) → take (at + k) xs ≡ take (at + k) ys
@@ -64,5 +65,5 @@ overlaid_within old n at octets h l =
     let m : length xs ≡ n = length-take-le n old l in
     let k : at + length octets ≤ length xs = omega (arith, m, h) in
     let e : overlaid old at octets ≡ overlaid xs at octets ++ drop n old = ap (λ (w : List ℕ). overlaid w at octets) (sym (take-append-drop n old)) ∙ overlaid_front xs (drop n old) at octets k in
-    let q : length (overlaid xs at octets) ≡ n = length-overlaid xs at octets k ∙ m in
+    let q : length (overlaid xs at octets) ≡ n = length-overlaid xs at octets ∙ m in
     ap (take n) e ∙ subst (λ (j : ℕ). take j (overlaid xs at octets ++ drop n old) ≡ overlaid xs at octets) q (take-append_seam (overlaid xs at octets) (drop n old))

@@ -1,7 +1,5 @@
-use Rattle.std.proofs.Common.{ℕ, zero, suc, ◌≡◌, ◌+◌, ◌-◌, ◌*◌, ◌/◌, ◌%◌, ◌<◌, ◌≤◌, Bool, true, false, ◌==◌, ◌&&◌, List, [], ◌∷◌, ◌++◌, map, length, length-take, length-drop, take, drop, min, Option, Some, None, refl, sym, ◌∙◌, ap, subst, arith, if◌then◌else◌}
+use Rattle.std.proofs.Common.{ℕ, zero, suc, ◌≡◌, ◌+◌, ◌-◌, ◌*◌, ◌<◌, ◌≤◌, Bool, true, false, ◌==◌, ◌&&◌, List, [], ◌∷◌, ◌++◌, map, length, length-take, length-drop, take, drop, min, Option, Some, None, refl, sym, ◌∙◌, ap, subst, arith, if◌then◌else◌}
 use Rattle.std.specs.List.{range_with_len}
-use Rattle.std.proofs.lemmas.Bool.Decides.{nat_tests}
-use Rattle.std.proofs.lemmas.Grind.{common_steps}
 use Rattle.knx_model.specs.declared.config.Image.{Image}
 use Rattle.knx_model.specs.declared.loading.LoadState.{LoadState}
 use Rattle.knx_model.specs.declared.loading.LoadState.TheVariants.{Unloaded, Loaded, Loading}
@@ -10,13 +8,13 @@ use Rattle.knx_model.specs.declared.loading.LoadEvent.TheVariants.{StartLoading,
 use Rattle.knx_model.specs.declared.loading.LoadableObject.{LoadableObject}
 use Rattle.knx_model.specs.declared.loading.LoadableObject.TheVariants.{AddressTable, AssociationTable, GroupObjects, Application}
 use Rattle.knx_model.specs.declared.frames.tpdu.Apdu.{Apdu}
-use Rattle.knx_model.specs.declared.frames.tpdu.Apdu.TheVariants.{GroupRead, GroupResponse, GroupWrite, AddressWrite, AddressRead, AddressResponse, MemoryRead, MemoryResponse, MemoryWrite, DescriptorRead, DescriptorResponse, PropertyRead, PropertyResponse, PropertyWrite}
+use Rattle.knx_model.specs.declared.frames.tpdu.Apdu.TheVariants.{MemoryRead, DescriptorRead, DescriptorResponse, PropertyRead, PropertyWrite}
 use Rattle.knx_model.specs.declared.plan.Op.TheVariants.{Send}
 use Rattle.knx_model.specs.Apdu.{IsApduInRange, word}
 use Rattle.knx_model.specs.ApduReading.{service_in, apdu_octets, option_map}
 use Rattle.knx_model.specs.Loading.{octets_of, has_range}
 use Rattle.knx_model.specs.Device.{NonVolatile, Effect, object, base, object_at, object_of_index, object_type, load_state, table_reference, is_load_control, effect_of, effect_in, effect_at, answer, answer_in, answer_at, whole, torn, taken, runs, range_octets, property_value, property_response, where_one, Fits}
-use Rattle.knx_model.specs.Plan.{Operation, op_of, expect_of, apdu_of, expected_of, loads, reads_base, piece, piece_count, writes_piece, reads_piece, each_piece, filling, loading, load_operations, load_plan, Leads, Serves, GoodPlan, OldStoppedOrImage, HasCapacities}
+use Rattle.knx_model.specs.Plan.{Operation, op_of, expect_of, expected_of, loads, piece, piece_count, writes_piece, reads_piece, each_piece, filling, loading, load_operations, load_plan, Leads, Serves, GoodPlan, OldStoppedOrImage, HasCapacities}
 use Rattle.apdu_frames.proofs.Function.{service_again}
 use Rattle.download_plan.proofs.Steps.{length_load, OperationsLead, OperationsServe}
 use Rattle.download_plan.proofs.Good.{operations_good}

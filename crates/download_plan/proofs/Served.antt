@@ -1,21 +1,21 @@
-use Rattle.std.proofs.Common.{ℕ, zero, suc, ◌≡◌, ◌+◌, ◌*◌, ◌/◌, ◌<◌, ◌≤◌, true, false, nat_le, ◌&&◌, List, [], ◌∷◌, ◌++◌, length, take, drop, map, replicate, Option, Some, None, refl, sym, ◌∙◌, ap, subst, arith, if◌then◌else◌}
+use Rattle.std.proofs.Common.{ℕ, zero, suc, ◌≡◌, ◌+◌, ◌*◌, ◌≤◌, true, nat_le, List, [], ◌∷◌, ◌++◌, length, take, drop, map, Option, Some, None, refl, sym, ◌∙◌, ap, subst, arith}
 use Rattle.std.specs.List.{range_with_len}
-use Rattle.std.proofs.lemmas.List.{take_all}
 use Rattle.std.proofs.lemmas.Bool.Decides.{nat_tests}
 use Rattle.knx_model.specs.declared.config.Image.{Image}
 use Rattle.knx_model.specs.declared.loading.LoadState.{LoadState}
-use Rattle.knx_model.specs.declared.loading.LoadState.TheVariants.{Unloaded, Loaded, Loading, Error}
+use Rattle.knx_model.specs.declared.loading.LoadState.TheVariants.{Unloaded, Loaded, Loading}
 use Rattle.knx_model.specs.declared.loading.LoadEvent.{LoadEvent}
 use Rattle.knx_model.specs.declared.loading.LoadEvent.TheVariants.{StartLoading, LoadCompleted, Allocate, Unload}
 use Rattle.knx_model.specs.declared.loading.LoadableObject.{LoadableObject}
 use Rattle.knx_model.specs.declared.loading.LoadableObject.TheVariants.{AddressTable, AssociationTable, GroupObjects, Application}
 use Rattle.knx_model.specs.declared.frames.tpdu.Apdu.{Apdu}
-use Rattle.knx_model.specs.declared.frames.tpdu.Apdu.TheVariants.{MemoryRead, MemoryResponse, MemoryWrite, PropertyRead, PropertyResponse, PropertyWrite}
-use Rattle.knx_model.specs.Loading.{Loadable, octets_of, capacity_of, with_state, with_memory, allocated, allocates, load_step, has_range, takes_write, written, overlaid}
+use Rattle.knx_model.specs.declared.frames.tpdu.Apdu.TheVariants.{MemoryRead, MemoryResponse, MemoryWrite, PropertyRead, PropertyResponse}
+use Rattle.knx_model.specs.Loading.{Loadable, octets_of, capacity_of, with_state, with_memory, allocated, load_step, written, overlaid}
 use Rattle.knx_model.specs.Device.{NonVolatile, Effect, Loads, Stores, Nothing, object, with_object, object_index, base, capacity, whole, effect_of, answer, runs, table_reference, Fits}
 use Rattle.knx_model.specs.Plan.{Operation, loads, reads_base, piece, piece_count, writes_piece, reads_piece, each_piece, filling, loading, load_operations, HasCapacities}
+use Rattle.download_plan.specs.Step.{IsShort}
 use Rattle.download_plan.proofs.Lists.{take_length, written_front, overlaid_within}
-use Rattle.download_plan.proofs.Steps.{OperationsServe, operation, IsShort, with_same, load_service, state_answer, effect_load, whole_load, answer_load, answer_base, whole_write, answer_read, read_octets}
+use Rattle.download_plan.proofs.Steps.{OperationsServe, operation, with_same, load_service, state_answer, effect_load, whole_load, answer_load, answer_base, whole_write, answer_read, read_octets}
 use Rattle.download_plan.proofs.Filling.{IsFilled, IsAllocated, allocated_octets, allocated_is, kept_allocated, piece_fits, read_is, next_front, front_is}
 use Rattle.download_plan.proofs.Good.{IsLoaded, runs_image, capacity_short}
 

@@ -1,17 +1,18 @@
-use Rattle.std.proofs.Common.{ℕ, ◌≡◌, ◌+◌, ◌-◌, ◌*◌, ◌/◌, ◌%◌, ◌<◌, Bool, true, false, List, [], ◌∷◌, ◌++◌, length, take, drop, Option, Some, None, refl, sym, ◌∙◌, ap, subst, arith, if◌then◌else◌}
+use Rattle.std.proofs.Common.{ℕ, ◌≡◌, ◌+◌, ◌-◌, ◌/◌, ◌%◌, ◌<◌, Bool, true, false, List, [], ◌∷◌, ◌++◌, length, take, drop, Option, Some, None, refl, sym, ◌∙◌, ap, subst, arith, if◌then◌else◌}
 use Rattle.std.proofs.lemmas.Grind.{common_steps}
 use Rattle.std.proofs.lemmas.Bool.Decides.{nat_tests}
 use Rattle.knx_model.specs.declared.loading.LoadState.{LoadState}
-use Rattle.knx_model.specs.declared.loading.LoadState.TheVariants.{Unloaded, Loaded, Loading, Error}
+use Rattle.knx_model.specs.declared.loading.LoadState.TheVariants.{Loading, Error}
 use Rattle.knx_model.specs.declared.loading.LoadEvent.{LoadEvent}
 use Rattle.knx_model.specs.declared.loading.LoadEvent.TheVariants.{NoOperation, StartLoading, LoadCompleted, Allocate, Unload, Undefined}
 use Rattle.knx_model.specs.declared.loading.LoadableObject.{LoadableObject}
 use Rattle.knx_model.specs.declared.loading.LoadableObject.TheVariants.{AddressTable, AssociationTable, GroupObjects, Application}
 use Rattle.knx_model.specs.declared.frames.tpdu.Apdu.{Apdu}
-use Rattle.knx_model.specs.declared.frames.tpdu.Apdu.TheVariants.{MemoryRead, MemoryResponse, MemoryWrite, PropertyRead, PropertyResponse, PropertyWrite}
-use Rattle.knx_model.specs.Loading.{Loadable, octets_of, is_loading, is_loaded, with_state, with_memory, allocated, allocates, load_step, load_torn, load_event, four_octets, old_or_new, state_number, has_range, takes_write, written, scribbled, overlaid}
-use Rattle.knx_model.specs.Device.{NonVolatile, Effect, Loads, Stores, Nothing, object, with_object, object_index, object_of_index, base, capacity, object_at, at_address, runs, effect_of, whole, torn, taken, answer, range_octets, table_reference}
+use Rattle.knx_model.specs.declared.frames.tpdu.Apdu.TheVariants.{MemoryRead, MemoryResponse, PropertyRead, PropertyResponse, PropertyWrite}
+use Rattle.knx_model.specs.Loading.{Loadable, octets_of, is_loaded, with_state, with_memory, allocates, load_step, load_torn, load_event, four_octets, old_or_new, state_number, has_range, takes_write, written, scribbled, overlaid}
+use Rattle.knx_model.specs.Device.{NonVolatile, Effect, Loads, Stores, Nothing, object, with_object, object_index, base, capacity, object_at, at_address, runs, effect_of, whole, torn, taken, answer, range_octets, table_reference}
 use Rattle.knx_model.specs.Plan.{Operation, load_octets}
+use Rattle.download_plan.specs.Step.{IsShort}
 
 -- the application isn't Loaded, so the device is stopped
 abbrev pub IsStopped : NonVolatile → Type 0
@@ -127,11 +128,6 @@ load_service o e = PropertyWrite (object_index o) 5 1 1 (load_octets e)
 
 abbrev pub state_answer : LoadableObject → LoadState → Apdu
 state_answer o s = PropertyResponse (object_index o) 5 1 1 (state_number s ∷ [])
-
--- a size that its octets can carry
-abbrev pub IsShort : LoadEvent → Type 0
-IsShort (Allocate size fill) = size < 0x10000
-IsShort _ = Unit {0}
 
 pub load_again : (e : LoadEvent) → IsShort e → load_event (load_octets e) ≡ e
 load_again NoOperation h = refl

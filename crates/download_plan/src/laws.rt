@@ -4,6 +4,7 @@ ghost use Rattle.knx_model.specs.Device.{NonVolatile, Fits, runs};
 ghost use Rattle.knx_model.specs.Plan.{load_plan, GoodPlan, Serves, HasCapacities};
 
 /// The plan of each image that fits is good, and a device that nothing disturbs gives every expected answer.
+#[tactic(auto, using(crate::proofs::Octets::plan_good, crate::proofs::Octets::plan_serves))]
 pub fn each_plan_is_good()
     ensures good { (image : Image) → Fits image → GoodPlan (load_plan image) image }
     ensures serves { (image : Image) → Fits image → (nv : NonVolatile) → HasCapacities nv → Serves (λ after. runs after ≡ Some image) (load_plan image) nv }

@@ -1,9 +1,14 @@
+ghost use Rattle.std.specs.Prelude.{◌≤◌, length, IfOk};
+ghost use Rattle.knx_model.specs.Device.{Fits};
+
 use crate::LoadPlan;
 use knx_model::{ApduOctets, Expect, Image, NoMemory, Octets, Op};
 use std::alloc::Global;
 use std::test::Fail;
 
-fn small_image(alloc: Global) -> Result<Image, NoMemory> {
+fn small_image(alloc: Global) -> Result<Image, NoMemory>
+    ensures { IfOk result (λ image. Fits image) }
+{
     let addr = Octets::from_slice(alloc, &[0x00, 0x02, 0x00, 0x01, 0x0A, 0x03])?;
     let assoc = Octets::from_slice(
         alloc,
@@ -19,7 +24,10 @@ fn small_image(alloc: Global) -> Result<Image, NoMemory> {
     })
 }
 
-fn expecting(apdu: &[u8], answer: &[u8]) -> Op {
+fn expecting(apdu: &[u8], answer: &[u8]) -> Op
+    requires apdu { length apdu.now ≤ 16 }
+    requires answer { length answer.now ≤ 16 }
+{
     Op::Send {
         apdu: ApduOctets::from_slice(apdu),
         expect: Expect::Is(ApduOctets::from_slice(answer)),
@@ -57,13 +65,6 @@ fn small_plan(rt: HostRuntime) -> Result<(), Fail> {
             &[0x02, 0x46, 0x40, 0x00, 0x00, 0x02, 0x00, 0x01, 0x0A, 0x03],
         )
     );
-    Ok(())
-}
-
-#[test]
-fn last_operation(rt: HostRuntime) -> Result<(), Fail> {
-    let image = small_image(rt.alloc()).ok().ok_or("an image")?;
-    let plan = LoadPlan::of(image);
     assert_eq!(rt;
         plan.op(27),
         expecting(
