@@ -128,6 +128,17 @@ impl Kept {
         }
     }
 
+    /// A property has one element, which is number 1.
+    fn read_property(&self, index: u8, property: u8, count: u8, start: u16) -> Option<ApduOctets>
+        ensures { result ≡ where_one count start (property_value self.now index property) }
+    {
+        if count == 1 && start == 1 {
+            self.property_value(index, property)
+        } else {
+            None
+        }
+    }
+
     /// Takes a service whole, and answers it.
     pub fn serve(&mut self, apdu: &Apdu) -> Option<Apdu>
         requires { IsApduInRange apdu.now }
@@ -148,11 +159,7 @@ impl Kept {
                 count,
                 start,
             } => {
-                let value = if *count == 1 && *start == 1 {
-                    self.property_value(*object, *property)
-                } else {
-                    None
-                };
+                let value = self.read_property(*object, *property, *count, *start);
                 Some(property_response(*object, *property, *start, value))
             }
             Apdu::PropertyWrite {
