@@ -1,6 +1,6 @@
 -- The load plan of an image, and what makes a plan good: whatever a device held before, any beginning of the plan leaves it as it
 -- was, or stopped, or with the image, and all of it leaves the image.
-use Rattle.std.specs.Prelude.{ℕ, ◌≡◌, ◌+◌, ◌*◌, ◌/◌, Bool, List, [], ◌∷◌, ◌++◌, length, take, drop, map, Option, Some, None, ◌⊎◌}
+use Rattle.std.specs.Prelude.{ℕ, ◌≡◌, ◌+◌, ◌*◌, ◌/◌, ◌%◌, Bool, List, [], ◌∷◌, ◌++◌, length, take, drop, map, Option, Some, None, ◌⊎◌}
 use Rattle.std.specs.List.{range_with_len}
 use Rattle.knx_model.specs.declared.config.Image.{Image}
 use Rattle.knx_model.specs.declared.loading.LoadState.{LoadState}
@@ -41,7 +41,7 @@ abbrev pub load_octets : LoadEvent → List ℕ
 load_octets NoOperation = 0 ∷ 0 ∷ 0 ∷ 0 ∷ 0 ∷ 0 ∷ 0 ∷ 0 ∷ 0 ∷ 0 ∷ []
 load_octets StartLoading = 1 ∷ 0 ∷ 0 ∷ 0 ∷ 0 ∷ 0 ∷ 0 ∷ 0 ∷ 0 ∷ 0 ∷ []
 load_octets LoadCompleted = 2 ∷ 0 ∷ 0 ∷ 0 ∷ 0 ∷ 0 ∷ 0 ∷ 0 ∷ 0 ∷ 0 ∷ []
-load_octets (Allocate size fill) = 3 ∷ 0x0B ∷ (word (size / 65536) ++ (word size ++ (1 ∷ fill ∷ 0 ∷ 0 ∷ [])))
+load_octets (Allocate size fill) = 3 ∷ 0x0B ∷ (word (size / 65536) ++ (word (size % 65536) ++ (1 ∷ fill ∷ 0 ∷ 0 ∷ [])))
 load_octets Unload = 4 ∷ 0 ∷ 0 ∷ 0 ∷ 0 ∷ 0 ∷ 0 ∷ 0 ∷ 0 ∷ 0 ∷ []
 load_octets Undefined = 5 ∷ 0 ∷ 0 ∷ 0 ∷ 0 ∷ 0 ∷ 0 ∷ 0 ∷ 0 ∷ 0 ∷ []
 

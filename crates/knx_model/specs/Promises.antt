@@ -1,6 +1,7 @@
 -- What a run promises: at every moment a device keeps its starting content, or is stopped, or runs what the project says; and what is
 -- told is true where it is told.
-use Rattle.std.specs.Prelude.{ℕ, ◌≡◌, ◌+◌, ◌≤◌, true, false, List, [], ◌∷◌, length, Contains, Option, Some, None, ◌⊎◌}
+use Rattle.std.specs.Prelude.{ℕ, ◌≡◌, ◌+◌, ◌≤◌, true, false, List, [], ◌∷◌, length, Option, Some, None, ◌⊎◌}
+use Rattle.std.specs.List.{AllByRecursion}
 use Rattle.knx_model.specs.declared.address.IndAddr.{IndAddr}
 use Rattle.knx_model.specs.declared.config.Image.{Image}
 use Rattle.knx_model.specs.declared.log.Case.{Case}
@@ -35,7 +36,7 @@ AtEveryMoment ss device t = (k : ℕ) → k ≤ length t.events → OldStoppedOr
 
 -- `done` is told only where the project's configuration runs: at the moment of the log's entry
 abbrev pub ToldTruly : List Statement → IndAddr → Trace → List LogEntry → Type 0
-ToldTruly ss device t log = (entry : LogEntry) (job : ℕ) → Contains log entry → entry.what ≡ Done job → RunsProject ss device (moment t entry.at).kept
+ToldTruly ss device t log = AllByRecursion (λ (entry : LogEntry). (job : ℕ) → entry.what ≡ Done job → RunsProject ss device (moment t entry.at).kept) log
 
 -- what a device is in the end: new where it runs what the project says, else old where its four objects are Loaded, else stopped
 pub data IsCase (ss : List Statement) (device : IndAddr) (nv : NonVolatile) : Case → Type 0 where

@@ -34,13 +34,8 @@ pub use script::Cut;
 pub use status::Status;
 pub use words::{
     Span, first_line, first_word, flags_in, flags_of, group_in, group_of, group_spelled, ind_in,
-<<<<<<< HEAD
-    ind_of, is_name, is_name_in, is_text, next_line, next_word, number_in, number_of, size_code_in,
-    size_code_of, without_comment,
-=======
-    ind_of, ind_spelled, is_name, is_name_in, next_line, next_word, number_in, number_of,
-    size_code_in, size_code_of, value_in, value_of,
->>>>>>> 1629d3306aeda198b74e8d5cc90069b26aee64ca
+    ind_of, ind_spelled, is_name, is_name_in, is_text, next_line, next_word, number_in, number_of,
+    size_code_in, size_code_of, value_in, value_of, without_comment,
 };
 
 #[cfg(test)]

@@ -1,3 +1,5 @@
 pub mod Names
 pub mod Cuts
 pub mod Attempt
+pub mod Order
+pub mod Ended

@@ -3,7 +3,11 @@
 
 mod asked;
 mod bench;
+mod case;
+mod commission;
 mod download;
+mod judge;
+mod project;
 mod script;
 mod stop;
 mod texts;

@@ -1,0 +1,141 @@
+-- A run keeps the promises of the commission that it was begun with.
+use Rattle.std.proofs.Common.{ℕ, ◌≡◌, ◌≢◌, ◌+◌, ◌-◌, ◌<◌, ◌≤◌, Bool, true, false, List, [], ◌∷◌, ◌++◌, length, take, replicate, Option, Some, None, Result, Ok, Err, refl, sym, ap, ◌∙◌, subst, arith, inl, inr, ◌⊎◌, length-append}
+use Rattle.std.specs.Prelude.{IfSome}
+use Rattle.std.proofs.lemmas.List.{take_all, length-replicate}
+use Rattle.knx_model.specs.declared.address.IndAddr.{IndAddr}
+use Rattle.knx_model.specs.declared.command.Stop.{Stop}
+use Rattle.knx_model.specs.declared.command.Stop.TheVariants as stop
+use Rattle.knx_model.specs.declared.config.Image.{Image}
+use Rattle.knx_model.specs.declared.log.LogEntry.{LogEntry}
+use Rattle.knx_model.specs.declared.project.Statement.{Statement}
+use Rattle.knx_model.specs.declared.script.Cut.{Cut}
+use Rattle.knx_model.specs.Bench.{Trace, now, moment, replay, Went}
+use Rattle.knx_model.specs.Command.{Commission, Decided, Stops, Reports, Outcome, Began, Ran, IsOver, IsDone, HasFailed, PlanWasGiven}
+use Rattle.knx_model.specs.Device.{NonVolatile, DeviceState, runs, blank, loaded_with, Fits}
+use Rattle.knx_model.specs.Meaning.{meaning}
+use Rattle.knx_model.specs.Plan.{HasCapacities, OldStoppedOrImage, load_plan, GaveWhole}
+use Rattle.knx_model.specs.Promises.{StartOf, BeginsLoaded, BeginsBlank, OldStoppedOrNew, RunsProject, AtEveryMoment, ToldTruly}
+use Rattle.knx_model.specs.Rules.{has_device}
+use Rattle.knx_model.specs.Script.{Follows, cut_count}
+use Rattle.knx_model.specs.Tables.{StandsFor}
+use Rattle.knx_top.specs.declared.judge.Order.{Order}
+use Rattle.knx_top.specs.declared.commission.Ended.{Ended}
+use Rattle.knx_top.specs.declared.download.JobEnd.{JobEnd}
+use Rattle.knx_top.specs.declared.download.JobEnd.TheVariants.{Done, Failed}
+use Rattle.knx_top.specs.Order.{OrderFor, IsOrder, IsBefore, IsImage}
+use Rattle.knx_top.specs.Ended.{start_with, log_of, HasLoaded, HasEnded, HasReported, Reported}
+
+-- ---- where the call stops before a run
+
+stops_for : (why told : Stop) → (told ≢ stop.NoMemory → Err {T = Commission} why ≡ Err told) → (told ≡ why) ⊎ (told ≡ stop.NoMemory)
+stops_for why stop.NoMemory h = inr refl
+stops_for why stop.Usage h = inl (let e : Err {T = Commission} why ≡ Err stop.Usage = h (λ q. cc) in cc)
+stops_for why (stop.NotThere place) h = inl (let e : Err {T = Commission} why ≡ Err (stop.NotThere place) = h (λ q. cc) in cc)
+stops_for why (stop.ReadFailed place) h = inl (let e : Err {T = Commission} why ≡ Err (stop.ReadFailed place) = h (λ q. cc) in cc)
+stops_for why (stop.Refused place refused) h = inl (let e : Err {T = Commission} why ≡ Err (stop.Refused place refused) = h (λ q. cc) in cc)
+
+no_stop : (c : Commission) (told : Stop) → (told ≢ stop.NoMemory → Ok {E = Stop} c ≡ Err told) → told ≡ stop.NoMemory
+no_stop c stop.NoMemory h = refl
+no_stop c stop.Usage h = absurd (let e : Ok {E = Stop} c ≡ Err stop.Usage = h (λ q. cc) in cc)
+no_stop c (stop.NotThere place) h = absurd (let e : Ok {E = Stop} c ≡ Err (stop.NotThere place) = h (λ q. cc) in cc)
+no_stop c (stop.ReadFailed place) h = absurd (let e : Ok {E = Stop} c ≡ Err (stop.ReadFailed place) = h (λ q. cc) in cc)
+no_stop c (stop.Refused place refused) h = absurd (let e : Ok {E = Stop} c ≡ Err (stop.Refused place refused) = h (λ q. cc) in cc)
+
+pub decided_stop : (j : Result Commission Stop) (told : Stop) (bench : Option Trace) → (told ≢ stop.NoMemory → j ≡ Err told) → Decided j bench bench (Stops told)
+decided_stop (Err why) told bench h = (stops_for why told h, refl)
+decided_stop (Ok c) told bench h = (no_stop c told h, inl refl)
+
+pub decided_run : (j : Result Commission Stop) (order : Order) (before after : Option Trace) (outcome : Outcome) → OrderFor j order → ((c : Commission) → IsOrder c order → Decided (Ok c) before after outcome) → Decided j before after outcome
+decided_run (Err why) order before after outcome o h = absurd o
+decided_run (Ok c) order before after outcome o h = h c o
+
+pub order_fits : (j : Result Commission Stop) (order : Order) → OrderFor j order → Fits order.image
+order_fits (Err why) order o = absurd o
+order_fits (Ok c) order o = o.image.fits
+
+before_fits : (ss : List Statement) (device : IndAddr) (before : Option Image) → IsBefore ss device before → IfSome before Fits
+before_fits ss device None b = tt
+before_fits ss device (Some image) b = b.1.fits
+
+pub order_before_fits : (j : Result Commission Stop) (order : Order) → OrderFor j order → IfSome order.before Fits
+order_before_fits (Err why) order o = absurd o
+order_before_fits (Ok c) order o = before_fits c.before c.device order.before o.before
+
+-- ---- the start
+
+pub start_power : (device : IndAddr) (before : Option Image) → (start_with device before).power ≡ true
+start_power device None = refl
+start_power device (Some image) = refl
+
+room_for : (list : List ℕ) (size : ℕ) → length list ≤ size → length (list ++ replicate (size - length list) 0) ≡ size
+room_for list size h = grind (arith, length-append, length-replicate)
+
+pub start_room : (device : IndAddr) (before : Option Image) → IfSome before Fits → HasCapacities (start_with device before).kept
+start_room device None h = record { addr = length-replicate 0x1000 0; assoc = length-replicate 0x2000 0; objs = length-replicate 0x0400 0; params = length-replicate 0x2000 0 }
+start_room device (Some image) h = record {
+  addr = room_for image.addr 0x1000 h.addr;
+  assoc = room_for image.assoc 0x2000 h.assoc;
+  objs = room_for image.objs 0x0400 h.objs;
+  params = room_for image.params 0x2000 h.params;
+}
+
+start_for : (ss : List Statement) (device : IndAddr) (before : Option Image) → IsBefore ss device before → StartOf ss device (start_with device before)
+start_for ss device None b = BeginsBlank b refl
+start_for ss device (Some image) b = BeginsLoaded b.0 image b.1.stands refl
+
+-- ---- the moments
+
+-- from the first event on
+pub loaded_since : (image : Image) (cuts : List Cut) (old new : Trace) → old.events ≡ [] → Went (OldStoppedOrImage (now old).kept image) old new → Follows cuts new.start 0 new.events → HasLoaded image cuts new
+loaded_since image cuts old new none went follows =
+    let start : (now old).kept ≡ new.start.kept = rw (none, went.start) refl in
+    record {
+      follows = follows;
+      moments = λ k h. subst (λ (nv : NonVolatile). OldStoppedOrImage nv image (moment new k).kept) start (went.each k (rw none (omega arith)) h);
+    }
+
+image_case : (c : Commission) (image : Image) (start nv : NonVolatile) → StandsFor image (meaning c.project c.device) → OldStoppedOrImage start image nv → OldStoppedOrNew c.project c.device start nv
+image_case c image start nv stands h = elim h as (λ _. OldStoppedOrNew c.project c.device start nv) [
+  | inl e ↦ inl e
+  | inr r ↦ elim r as (λ _. OldStoppedOrNew c.project c.device start nv) [ inl e ↦ inr (inl e) | inr e ↦ inr (inr (record { image = image; runs_it = e; stands = stands })) ]
+]
+
+begun : (c : Commission) (order : Order) (t : Trace) → IsOrder c order → t.start ≡ start_with order.device order.before → HasLoaded order.image order.cuts t → Began c t
+begun c order t o start h = record {
+  start = subst (StartOf c.before c.device) (sym (start ∙ ap (λ (d : IndAddr). start_with d order.before) o.device)) (start_for c.before c.device order.before o.before);
+  follows = subst (λ (cuts : List Cut). Follows cuts t.start 0 t.events) o.cuts h.follows;
+  moments = λ k l. image_case c order.image t.start.kept (moment t k).kept o.image.stands (h.moments k l);
+}
+
+-- ---- the end
+
+last_moment : (t : Trace) → moment t (length t.events) ≡ now t
+last_moment t = ap (replay t.start) (take_all (length t.events) t.events (omega arith))
+
+told_for : (c : Commission) (t : Trace) (end : JobEnd) → (end ≡ Done → RunsProject c.project c.device (now t).kept) → ToldTruly c.project c.device t (log_of end (length t.events))
+told_for c t Done h = (λ job e. absurd cc, (λ job e. subst (λ (d : DeviceState). RunsProject c.project c.device d.kept) (sym (last_moment t)) (h refl), tt))
+told_for c t Failed h = (λ job e. absurd cc, (λ job e. absurd cc, tt))
+
+over_for : (c : Commission) (order : Order) (t : Trace) (end : JobEnd) → IsOrder c order → HasEnded order.image t end → IsOver c t (log_of end (length t.events))
+over_for c order t Done o h = IsDone (h.fewer refl) (record { image = order.image; stands = o.image.stands; whole = h.whole refl })
+over_for c order t Failed o h = HasFailed (h.failed refl)
+
+ran : (c : Commission) (order : Order) (t : Trace) (ended : Ended) → IsOrder c order → t.start ≡ start_with order.device order.before → HasLoaded order.image order.cuts t → Reported order.image order.device t ended → Ran c t ended.report (ended.job ∷ []) (ended.device ∷ [])
+ran c order t ended o start loaded r = record {
+  began = begun c order t o start loaded;
+  told = subst (ToldTruly c.project c.device t) (sym r.reported.log) (told_for c t r.end (λ e. record { image = order.image; runs_it = r.has_ended.done e; stands = o.image.stands }));
+  over = subst (IsOver c t) (sym r.reported.log) (over_for c order t r.end o r.has_ended);
+  job = rw (r.reported.job, o.device) refl;
+  missed = r.reported.missed;
+  case = ended.device.case;
+  case_is = r.reported.case c.project c.device o.image.stands;
+  device = rw (← o.device, ← r.reported.device) refl;
+}
+
+-- ---- the whole run
+
+pub decided_wanting : (c : Commission) (order : Order) (before : Option Trace) (t : Trace) → IsOrder c order → t.start ≡ start_with order.device order.before → HasLoaded order.image order.cuts t → Decided (Ok c) before (Some t) (Stops stop.NoMemory)
+decided_wanting c order before t o start h = (refl, inr (t, (refl, begun c order t o start h)))
+
+pub decided_ran : (c : Commission) (order : Order) (before : Option Trace) (t : Trace) (ended : Ended) → IsOrder c order → t.start ≡ start_with order.device order.before → HasLoaded order.image order.cuts t → Reported order.image order.device t ended → Decided (Ok c) before (Some t) (Reports ended.report (ended.job ∷ []) (ended.device ∷ []))
+decided_ran c order before t ended o start h r = (t, (refl, ran c order t ended o start h r))

@@ -1,0 +1,72 @@
+-- What a run has done so far, and what is reported of it in the end.
+use Rattle.std.specs.Prelude.{ℕ, ◌≡◌, ◌<◌, ◌≤◌, false, List, [], ◌∷◌, length, Option, Some, None, Result, Ok, Err}
+use Rattle.knx_model.specs.declared.address.IndAddr.{IndAddr}
+use Rattle.knx_model.specs.declared.command.Stop.{Stop}
+use Rattle.knx_model.specs.declared.command.Stop.TheVariants as stop
+use Rattle.knx_model.specs.declared.config.Image.{Image}
+use Rattle.knx_model.specs.declared.lists.NoMemory.{NoMemory}
+use Rattle.knx_model.specs.declared.log.LogEntry.{LogEntry}
+use Rattle.knx_model.specs.declared.log.LogWhat.{LogWhat}
+use Rattle.knx_model.specs.declared.log.LogWhat.TheVariants as told
+use Rattle.knx_model.specs.declared.log.Sign.TheVariants.{Closed}
+use Rattle.knx_model.specs.declared.project.Statement.{Statement}
+use Rattle.knx_model.specs.declared.script.Cut.{Cut}
+use Rattle.knx_model.specs.Bench.{Trace, now, moment}
+use Rattle.knx_model.specs.Command.{Outcome, Stops, Reports, entry}
+use Rattle.knx_model.specs.Device.{DeviceState, blank, loaded_with, runs}
+use Rattle.knx_model.specs.Meaning.{meaning}
+use Rattle.knx_model.specs.Plan.{OldStoppedOrImage, GaveWhole, load_plan}
+use Rattle.knx_model.specs.Promises.{IsCase}
+use Rattle.knx_model.specs.Script.{Follows, cut_count}
+use Rattle.knx_model.specs.Tables.{StandsFor}
+use Rattle.knx_top.specs.declared.commission.Ended.{Ended}
+use Rattle.knx_top.specs.declared.download.JobEnd.{JobEnd}
+use Rattle.knx_top.specs.declared.download.JobEnd.TheVariants.{Done, Failed}
+
+-- the device as a run begins
+abbrev pub start_with : IndAddr → Option Image → DeviceState
+start_with device None = blank device
+start_with device (Some image) = loaded_with device image
+
+abbrev pub end_of : JobEnd → LogWhat
+end_of Done = told.Done 1
+end_of Failed = told.Failed 1 (Closed ∷ Closed ∷ Closed ∷ [])
+
+-- the job was taken before the first event, and ended after so many
+abbrev pub log_of : JobEnd → ℕ → List LogEntry
+log_of end at = entry 0 (told.Took 1) ∷ entry at (end_of end) ∷ []
+
+-- the events so far follow the script, and at each moment the content is the start's, or stopped, or the image's
+pub record HasLoaded (image : Image) (cuts : List Cut) (t : Trace) : Type 0 where
+  pub follows : Follows cuts t.start 0 t.events
+  pub moments : (k : ℕ) → k ≤ length t.events → OldStoppedOrImage t.start.kept image (moment t k).kept
+
+-- the job ended so, and this was reported
+pub record HasReported (image : Image) (device : IndAddr) (t : Trace) (end : JobEnd) (ended : Ended) : Type 0 where
+  pub log : ended.report.log ≡ log_of end (length t.events)
+  pub missed : ended.report.missed ≡ 0
+  pub job : ended.job ≡ record { device = device; check = false }
+  pub device : ended.device.device ≡ device
+  pub case : (ss : List Statement) (of : IndAddr) → StandsFor image (meaning ss of) → IsCase ss of (now t).kept ended.device.case
+
+-- what the end of a job says of the run
+pub record HasEnded (image : Image) (t : Trace) (end : JobEnd) : Type 0 where
+  pub failed : end ≡ Failed → cut_count t.events ≡ 3
+  pub fewer : end ≡ Done → cut_count t.events < 3
+  pub whole : end ≡ Done → GaveWhole (load_plan image) t
+  pub done : end ≡ Done → runs (now t).kept ≡ Some image
+
+-- the job's end, with what was reported of it
+pub record Reported (image : Image) (device : IndAddr) (t : Trace) (ended : Ended) : Type 0 where
+  pub end : JobEnd
+  pub has_ended : HasEnded image t end
+  pub reported : HasReported image device t end ended
+
+-- how a call ends: with a report, or where it stops
+abbrev pub outcome_of : Result Ended Stop → Outcome
+outcome_of (Ok ended) = Reports ended.report (ended.job ∷ []) (ended.device ∷ [])
+outcome_of (Err why) = Stops why
+
+abbrev pub run_outcome : Result Ended NoMemory → Outcome
+run_outcome (Ok ended) = Reports ended.report (ended.job ∷ []) (ended.device ∷ [])
+run_outcome (Err why) = Stops stop.NoMemory

@@ -1,0 +1,147 @@
+//! A run: the device begins as it is stated, the job is downloaded, and what was done is reported.
+
+ghost use Rattle.std.specs.Prelude.{◌≡◌, [], true, Ok, IfOk, IfSome};
+ghost use Rattle.knx_model.specs.Bench.{now};
+ghost use Rattle.knx_model.specs.Command.{Commission, judged, Decided};
+ghost use Rattle.knx_model.specs.Device.{Fits};
+ghost use Rattle.knx_model.specs.Plan.{HasCapacities};
+ghost use Rattle.knx_top.specs.Names.{reads_of};
+ghost use Rattle.knx_top.specs.Order.{IsOrder};
+ghost use Rattle.knx_top.specs.Ended.{start_with, end_of, log_of, HasLoaded, HasEnded, HasReported, Reported, outcome_of, run_outcome};
+
+use crate::bench::{Bench, Run};
+use crate::case::case_of;
+use crate::download::{JobEnd, download};
+use crate::judge::{Order, judge};
+use crate::texts::Texts;
+use download_plan::LoadPlan;
+use knx_model::{
+    Cut, DeviceCase, Image, IndAddr, JobWord, List, LogEntry, LogWhat, NoMemory, Report, Sign,
+    Stop,
+};
+use std::alloc::Global;
+
+/// The one worker of a run.
+const WORKER: u8 = 1;
+
+/// The one job of a run.
+const JOB: u32 = 1;
+
+/// A run that has ended: what is reported of it.
+#[derive(Drop)]
+pub struct Ended {
+    pub report: Report,
+    pub job: JobWord,
+    pub device: DeviceCase,
+}
+
+/// The device as the run begins: loaded with OLD's image where OLD has it, else blank.
+fn begin(alloc: Global, device: IndAddr, before: &Option<Image>) -> Result<Run, NoMemory>
+    requires { IfSome before.now Fits }
+    ensures { IfOk result (λ run. run ≡ record { start = start_with device before.now; events = [] }) }
+{
+    match before {
+        Some(image) => Run::loaded(alloc, device, image),
+        None => Run::blank(alloc, device),
+    }
+}
+
+/// What the log tells of the end of the job.
+fn end_of(end: JobEnd) -> LogWhat
+    ensures { result ≡ end_of end }
+{
+    match end {
+        JobEnd::Done => LogWhat::Done(JOB),
+        JobEnd::Failed => LogWhat::Failed(JOB, [Sign::Closed, Sign::Closed, Sign::Closed]),
+    }
+}
+
+fn log_of(alloc: Global, end: JobEnd, at: u64) -> Result<List<LogEntry>, NoMemory>
+    ensures { IfOk result (λ log. log ≡ log_of end at) }
+{
+    let mut log = List::new(alloc);
+    log.push(LogEntry {
+        at: 0,
+        worker: WORKER,
+        what: LogWhat::Took(JOB),
+    })?;
+    log.push(LogEntry {
+        at,
+        worker: WORKER,
+        what: end_of(end),
+    })?;
+    Ok(log)
+}
+
+/// What is reported of a job that ended.
+fn reported(
+    alloc: Global,
+    run: &Run,
+    plan: &LoadPlan,
+    device: IndAddr,
+    end: JobEnd,
+) -> Result<Ended, NoMemory>
+    ensures { IfOk result (λ ended. HasReported plan.now device run.now end ended) }
+{
+    let log = log_of(alloc, end, run.len())?;
+    let case = case_of(alloc, run, plan.image())?;
+    Ok(Ended {
+        report: Report { log, missed: 0 },
+        job: JobWord {
+            device,
+            check: false,
+        },
+        device: DeviceCase { device, case },
+    })
+}
+
+/// Downloads the plan to a device to which nothing was done, and reports it.
+fn load(
+    alloc: Global,
+    run: &mut Run,
+    plan: &LoadPlan,
+    device: IndAddr,
+    cuts: &[Cut],
+) -> Result<Ended, NoMemory>
+    requires power { (now run.old).power ≡ true }
+    requires room { HasCapacities run.old.start.kept }
+    requires fresh { run.old.events ≡ [] }
+    ensures start { run.new.start ≡ run.old.start }
+    ensures loaded { HasLoaded plan.now cuts.now run.new }
+    ensures reported { IfOk result (λ ended. Reported plan.now device run.new ended) }
+{
+    let end = download(alloc, run, plan, cuts)?;
+    reported(alloc, run, plan, device, end)
+}
+
+/// Runs what was judged. The bench has the run, whether it ended or memory was wanting on the way.
+fn commission_order(alloc: Global, order: Order, sim: &mut Bench) -> Result<Ended, NoMemory>
+    requires fits { Fits order.image }
+    requires before { IfSome order.before Fits }
+    ensures { (c : Commission) → IsOrder c order → Decided (Ok c) sim.old sim.new (run_outcome result) }
+{
+    let Order {
+        device,
+        image,
+        before,
+        cuts,
+    } = order;
+    let mut run = begin(alloc, device, &before)?;
+    let plan = LoadPlan::of(image);
+    let ended = load(alloc, &mut run, &plan, device, cuts.as_slice());
+    sim.put(run);
+    ended
+}
+
+/// Judges the texts and runs what they ask for.
+pub fn commission(alloc: Global, texts: &Texts, sim: &mut Bench) -> Result<Ended, Stop>
+    ensures { Decided (judged (reads_of texts.now)) sim.old sim.new (outcome_of result) }
+{
+    match judge(alloc, texts) {
+        Err(why) => Err(why),
+        Ok(order) => match commission_order(alloc, order, sim) {
+            Ok(ended) => Ok(ended),
+            Err(_) => Err(Stop::NoMemory),
+        },
+    }
+}
