@@ -1,5 +1,5 @@
 -- How long the tables are.
-use Rattle.std.proofs.Common.{◌≡◌, ℕ, ◌+◌, ◌*◌, List, [], ◌∷◌, ◌++◌, length, refl, sym, ap, ◌∙◌, arith, length-append}
+use Rattle.std.proofs.Common.{◌≡◌, ℕ, ◌+◌, ◌*◌, List, [], ◌∷◌, length, refl, arith, length-append}
 use Rattle.std.specs.List.{flat_map}
 use Rattle.knx_model.specs.declared.config.LinkSpec.{LinkSpec}
 use Rattle.knx_model.specs.declared.config.ObjSpec.{ObjSpec}

@@ -1,5 +1,5 @@
 -- The objects that lines give a device: the table of all numbers, filled from the last line to the first.
-use Rattle.std.proofs.Common.{◌≡◌, ◌≢◌, ℕ, zero, suc, ◌+◌, ◌-◌, ◌<◌, ◌≤◌, Bool, true, false, cond, List, [], ◌∷◌, length, get_or, set, take, drop, map, eqb, refl, sym, ap, ◌∙◌, subst, arith, inl, inr, replicate}
+use Rattle.std.proofs.Common.{◌≡◌, ℕ, ◌+◌, ◌-◌, ◌<◌, ◌≤◌, List, ◌∷◌, length, get_or, set, take, drop, map, refl, sym, ◌∙◌, arith, inl, inr, replicate}
 use Rattle.std.specs.Prelude.{slice_range}
 use Rattle.std.specs.List.{range_with_len}
 use Rattle.std.proofs.lemmas.Bool.Decides.{eqb_tells}
@@ -7,7 +7,7 @@ use Rattle.std.proofs.lemmas.List.{get_or-replicate, length-replicate, drop_all,
 use Rattle.std.proofs.lemmas.Grind.{get_or_after_one}
 use Rattle.std.proofs.lemmas.List.FromFn.{get_or-map-range_with_len, length-map-range_with_len}
 use Rattle.knx_model.specs.declared.config.ObjSpec.{ObjSpec}
-use Rattle.knx_model.specs.Meaning.{object_of, objects_of, greatest}
+use Rattle.knx_model.specs.Meaning.{object_of}
 
 abbrev pub no_object : ObjSpec
 no_object = record { flags = 0; size = 0 }

@@ -1,6 +1,6 @@
 -- A pair stands in the association list exactly where its group is linked to its object.
-use Rattle.std.proofs.Common.{◌≡◌, ℕ, ◌+◌, ◌-◌, ◌<◌, ◌≤◌, List, [], ◌∷◌, length, get_or, map, eqb, not, refl, sym, ap, ◌∙◌, subst, arith, inl, inr}
-use Rattle.std.specs.Prelude.{Contains, IsPermutation, ◌↔◌}
+use Rattle.std.proofs.Common.{◌≡◌, ℕ, ◌-◌, ◌<◌, List, length, get_or, map, eqb, not, sym, ap, ◌∙◌, subst, arith, inl, inr}
+use Rattle.std.specs.Prelude.{Contains, ◌↔◌}
 use Rattle.std.specs.List.{position_or_len}
 use Rattle.std.proofs.lemmas.Bool.{eqb-true, not-false, not-true, both_ways, cases_lt, eq-eqb}
 use Rattle.std.proofs.lemmas.List.{get_or_default, get_or-map, length-map}
@@ -11,7 +11,7 @@ use Rattle.knx_model.specs.declared.config.Config.{Config}
 use Rattle.knx_model.specs.declared.config.Image.{Image}
 use Rattle.knx_model.specs.declared.config.LinkSpec.{LinkSpec}
 use Rattle.knx_model.specs.Tables.{StandsFor, raw_of, place, place_and_object, IsLinked}
-use Rattle.table_compiler.proofs.Places.{no_link, place_is, each_listed}
+use Rattle.table_compiler.proofs.Places.{no_link, place_is}
 
 -- what is listed stands at its place
 stands_at : (groups : List ℕ) (g : ℕ) → Contains groups g → (position_or_len (λ x. eqb x g) groups < length groups) × (get_or groups (position_or_len (λ x. eqb x g) groups) 0 ≡ g)

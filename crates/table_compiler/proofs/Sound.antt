@@ -1,7 +1,6 @@
 -- What the links of a device keep in a text that breaks no rule: they are at most 2,047, and no object is linked to a group twice.
-use Rattle.std.proofs.Common.{◌≡◌, ◌≢◌, ℕ, zero, suc, ◌+◌, ◌*◌, ◌<◌, ◌≤◌, Bool, true, false, cond, ◌&&◌, ◌||◌, not, List, [], ◌∷◌, ◌++◌, length, get_or, take, map, eqb, leb, Option, Some, None, All, refl, sym, ap, ◌∙◌, subst, arith, inl, inr}
-use Rattle.std.specs.Prelude.{count_by, if◌then◌else◌, nat_le}
-use Rattle.std.specs.List.{AllPairs, AllByRecursion, IsDistinct, filter_map, cons_option, enumerate_from, list_any}
+use Rattle.std.proofs.Common.{◌≡◌, ℕ, zero, suc, ◌+◌, ◌<◌, ◌≤◌, Bool, true, false, cond, ◌&&◌, ◌||◌, not, List, [], ◌∷◌, ◌++◌, length, get_or, take, eqb, leb, Option, Some, None, refl, sym, ap, ◌∙◌, subst, arith}
+use Rattle.std.specs.List.{AllPairs, AllByRecursion, cons_option}
 use Rattle.std.proofs.lemmas.Bool.{eqb-true, eq-eqb, leb-false, false≢true}
 use Rattle.std.proofs.lemmas.List.{take_more, take_all, append-nil}
 use Rattle.std.proofs.lemmas.List.Elements.{All-from_recursion, filter_map-append}
@@ -14,7 +13,7 @@ use Rattle.knx_model.specs.declared.project.What.{What}
 use Rattle.knx_model.specs.declared.project.What.TheVariants.{Title, Group, Device, Object, Link}
 use Rattle.knx_model.specs.declared.refusal.Refused.{Refused}
 use Rattle.knx_model.specs.declared.refusal.Why.{Why}
-use Rattle.knx_model.specs.declared.refusal.Why.TheVariants.{DuplicateDevice, DuplicateGroup, UnknownGroup, UnknownModel, DuplicateObject, UnknownObject, DuplicateLink, SizeDiffers, TooMany, NoDevice}
+use Rattle.knx_model.specs.declared.refusal.Why.TheVariants.{DuplicateDevice, DuplicateGroup, UnknownGroup, UnknownModel, DuplicateObject, UnknownObject, DuplicateLink, SizeDiffers, TooMany}
 use Rattle.knx_model.specs.Meaning.{link_line, link_lines}
 use Rattle.knx_model.specs.Rules.{rule_of, broken_at, broken_from, first_of, first_broken, duplicate_device, duplicate_group, unknown_group, unknown_model, duplicate_object, unknown_object, duplicate_link, size_differs, too_many_devices, too_many_links, no_device, links_to, links_device, some_line, count_lines}
 

@@ -1,5 +1,4 @@
-use Rattle.std.proofs.Common.{◌≡◌, ◌<◌, ◌≤◌, ℕ, length, List, All, ap, ◌∙◌, sym, subst}
-use Rattle.knx_model.specs.declared.config.LinkSpec.{LinkSpec}
+use Rattle.std.proofs.Common.{◌≡◌, ◌<◌, All, ap, ◌∙◌}
 use Rattle.knx_model.specs.Meaning.{link_lines, links_of}
 use Rattle.knx_model.specs.Tables.{raw_of}
 use Rattle.table_compiler.proofs.LinkLists.{few_links, once}

@@ -1,6 +1,5 @@
-use Rattle.std.proofs.Common.{◌≡◌, ◌∙◌, arith}
-use Rattle.knx_model.specs.Meaning.{objects_of, object_of}
-use Rattle.std.specs.List.{range_with_len}
+use Rattle.std.proofs.Common.{◌∙◌, arith}
+use Rattle.knx_model.specs.Meaning.{objects_of}
 use Rattle.table_compiler.proofs.ObjectLists.{made}
 use Rattle.table_compiler.proofs.objects.objects_of.Goals as goal
 

@@ -1,4 +1,4 @@
-use Rattle.table_compiler.proofs.ObjectLists.{Tabled, none_yet, one_more, all_tabled}
+use Rattle.table_compiler.proofs.ObjectLists.{none_yet, one_more, all_tabled}
 use Rattle.table_compiler.proofs.objects.table_of.Goals as goal
 
 pub loop-i-init : goal.loop-i-init
