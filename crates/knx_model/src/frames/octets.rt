@@ -104,6 +104,8 @@ impl Model for LongValue {
 }
 
 impl LongValue {
+    pub const CAPACITY: usize = 14;
+
     pub fn as_slice(&self) -> &[u8]
         ensures value { result.now ≡ self.now }
         ensures fits { length self.now ≤ 14 }
