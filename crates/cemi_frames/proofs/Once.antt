@@ -1,13 +1,13 @@
 -- Octets are read as one frame, and what is read breaks no rule.
-use Rattle.std.proofs.Common.{◌≡◌, ℕ, ◌+◌, ◌/◌, ◌%◌, ◌≤◌, Bool, true, false, List, refl, arith, IsTrue, ap, sym, ◌∙◌}
-use Rattle.std.specs.Prelude.{◌&&◌, ◌==◌, if◌then◌else◌, IfOk, IfErr, Result, Ok, Err, drop, slice_index}
+use Rattle.std.proofs.Common.{◌≡◌, ℕ, ◌+◌, List, refl, arith, ap, sym, ◌∙◌}
+use Rattle.std.specs.Prelude.{IfOk, IfErr, Result, Ok, Err, drop, slice_index}
 use Rattle.std.proofs.lemmas.Grind.{common_steps}
 use Rattle.knx_model.specs.declared.frames.cemi.Ldata.{Ldata}
 use Rattle.knx_model.specs.declared.frames.cemi.LdataCode.{LdataCode}
 use Rattle.knx_model.specs.declared.frames.cemi.LdataCode.TheVariants.{Req, Con, Ind}
 use Rattle.knx_model.specs.declared.frames.cemi.CemiRefused.{CemiRefused}
 use Rattle.knx_model.specs.declared.frames.cemi.CemiRefused.TheVariants.{Short, Code, Extended, Length}
-use Rattle.knx_model.specs.Cemi.{Reads, ReadsBody, Written, IsInRange, code_octet, Breaks, IsLeastBroken}
+use Rattle.knx_model.specs.Cemi.{Reads, ReadsBody, code_octet, Breaks, IsLeastBroken}
 
 code_once : (a b : LdataCode) → code_octet a ≡ code_octet b → a ≡ b
 code_once Req Req e = refl

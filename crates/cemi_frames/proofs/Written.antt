@@ -1,13 +1,11 @@
 -- What is written is read as the frame that was written.
-use Rattle.std.proofs.Common.{◌≡◌, ℕ, ◌+◌, ◌/◌, ◌%◌, ◌≤◌, Bool, true, false, List, refl, arith, IsTrue, ap, sym, ◌∙◌}
-use Rattle.std.specs.Prelude.{◌&&◌, ◌==◌, if◌then◌else◌, IfOk, IfErr, Result, Ok, Err, drop, slice_index}
+use Rattle.std.proofs.Common.{◌≡◌, ◌/◌, ◌%◌, ◌≤◌, Bool, true, false, refl, arith, IsTrue}
+use Rattle.std.specs.Prelude.{◌&&◌, ◌==◌, if◌then◌else◌}
 use Rattle.std.proofs.lemmas.Grind.{common_steps}
 use Rattle.knx_model.specs.declared.frames.cemi.Ldata.{Ldata}
 use Rattle.knx_model.specs.declared.frames.cemi.LdataCode.{LdataCode}
 use Rattle.knx_model.specs.declared.frames.cemi.LdataCode.TheVariants.{Req, Con, Ind}
-use Rattle.knx_model.specs.declared.frames.cemi.CemiRefused.{CemiRefused}
-use Rattle.knx_model.specs.declared.frames.cemi.CemiRefused.TheVariants.{Short, Code, Extended, Length}
-use Rattle.knx_model.specs.Cemi.{Reads, ReadsBody, Written, IsInRange, code_octet, Breaks, IsLeastBroken}
+use Rattle.knx_model.specs.Cemi.{Reads, Written, IsInRange, code_octet}
 
 error_again : (code : LdataCode) (error : Bool) → (IsTrue error → code ≡ Con) → error ≡ ((code_octet code == 0x2E) && ((if error then 0xBD else 0xBC) % 2 == 1))
 error_again Req true h = absurd (grind (arith, common_steps))

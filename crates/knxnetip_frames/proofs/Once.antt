@@ -4,11 +4,10 @@ use Rattle.std.specs.Prelude.{IfOk, IfErr, Result, Ok, Err, drop, slice_index}
 use Rattle.std.proofs.lemmas.Grind.{common_steps}
 use Rattle.knx_model.specs.declared.address.IndAddr.{IndAddr}
 use Rattle.knx_model.specs.declared.frames.ip.IpFrame.{IpFrame}
-use Rattle.knx_model.specs.declared.frames.ip.IpFrame.TheVariants.{ConnectRequest, ConnectResponse, StateRequest, StateResponse, DisconnectRequest, DisconnectResponse, TunnellingRequest, TunnellingAck}
 use Rattle.knx_model.specs.declared.frames.ip.IpRefused.{IpRefused}
 use Rattle.knx_model.specs.declared.frames.ip.IpRefused.TheVariants.{Header, Service, Length, Body}
 use Rattle.knx_model.specs.Octets.{word_at}
-use Rattle.knx_model.specs.KnxNetIp.{Reads, ReadsBody, IsTunnel, HasTunnel, IsBody, IsService, Breaks, IsLeastBroken, Written, IsInRange}
+use Rattle.knx_model.specs.KnxNetIp.{Reads, ReadsBody, IsTunnel, HasTunnel, IsBody, IsService, Breaks, IsLeastBroken}
 
 address_once : (a b : IndAddr) (n : ℕ) → a.raw ≡ n → b.raw ≡ n → a ≡ b
 address_once a b n p q = λ i. record { raw = (p ∙ sym q) i }

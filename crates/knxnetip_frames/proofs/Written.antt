@@ -1,14 +1,9 @@
 -- What is written is read as the frame that was written.
-use Rattle.std.proofs.Common.{◌≡◌, ℕ, List, refl, ap, sym, ◌∙◌, Option, Some, None, arith}
-use Rattle.std.specs.Prelude.{IfOk, IfErr, Result, Ok, Err, drop, slice_index}
+use Rattle.std.proofs.Common.{Some, None, arith}
 use Rattle.std.proofs.lemmas.Grind.{common_steps}
-use Rattle.knx_model.specs.declared.address.IndAddr.{IndAddr}
 use Rattle.knx_model.specs.declared.frames.ip.IpFrame.{IpFrame}
 use Rattle.knx_model.specs.declared.frames.ip.IpFrame.TheVariants.{ConnectRequest, ConnectResponse, StateRequest, StateResponse, DisconnectRequest, DisconnectResponse, TunnellingRequest, TunnellingAck}
-use Rattle.knx_model.specs.declared.frames.ip.IpRefused.{IpRefused}
-use Rattle.knx_model.specs.declared.frames.ip.IpRefused.TheVariants.{Header, Service, Length, Body}
-use Rattle.knx_model.specs.Octets.{word_at}
-use Rattle.knx_model.specs.KnxNetIp.{Reads, ReadsBody, IsTunnel, HasTunnel, IsBody, IsService, Breaks, IsLeastBroken, Written, IsInRange}
+use Rattle.knx_model.specs.KnxNetIp.{Reads, Written, IsInRange}
 
 pub written_reads : (frame : IpFrame) → IsInRange frame → Reads (Written frame) frame
 written_reads ConnectRequest h = grind (arith, common_steps)
