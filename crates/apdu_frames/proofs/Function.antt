@@ -1,14 +1,13 @@
 -- The grammar as a function is the grammar as a relation.
-use Rattle.std.proofs.Common.{◌≡◌, ◌≢◌, ℕ, ◌+◌, ◌*◌, ◌/◌, ◌%◌, ◌<◌, ◌≤◌, List, [], ◌∷◌, length, refl, ap, sym, ◌∙◌, Option, Some, None, Bool, true, false, IsTrue, ◌==◌, if◌then◌else◌, ◌&&◌, nat_le, arith}
+use Rattle.std.proofs.Common.{◌≡◌, ◌≢◌, ℕ, List, [], ◌∷◌, length, refl, ap, sym, ◌∙◌, Option, Some, None, Bool, true, false, IsTrue, ◌==◌, if◌then◌else◌, ◌&&◌, nat_le, arith}
 use Rattle.std.proofs.lemmas.Grind.{common_steps}
 use Rattle.knx_model.specs.declared.frames.value.Value.{Value}
-use Rattle.knx_model.specs.declared.frames.value.Value.TheVariants.{Short, Long}
 use Rattle.knx_model.specs.declared.frames.tpdu.Apdu.{Apdu}
 use Rattle.knx_model.specs.declared.frames.tpdu.Apdu.TheVariants.{GroupRead, GroupResponse, GroupWrite, AddressWrite, AddressRead, AddressResponse, MemoryRead, MemoryResponse, MemoryWrite, DescriptorRead, DescriptorResponse, PropertyRead, PropertyResponse, PropertyWrite}
 use Rattle.knx_model.specs.declared.frames.tpdu.Tpdu.{Tpdu}
 use Rattle.knx_model.specs.declared.frames.tpdu.Tpdu.TheVariants.{Unnumbered, Numbered, Connect, Disconnect, Ack, Nak}
 use Rattle.knx_model.specs.declared.frames.tpdu.TpduRefused.{TpduRefused}
-use Rattle.knx_model.specs.Apdu.{IsLeastBroken, Reads, ReadsApdu, ReadsControl, ReadsData, IsWord, IsAddressed, IsOfProperty, IsValue, IsDescriptor, service, low, Written, IsInRange, IsApduInRange}
+use Rattle.knx_model.specs.Apdu.{IsLeastBroken, Reads, ReadsApdu, ReadsControl, ReadsData, IsWord, IsValue, service, low, Written, IsInRange, IsApduInRange}
 use Rattle.std.specs.Prelude.{IfOk, IfErr, Result, Ok, Err}
 use Rattle.std.specs.Result.{result_ok}
 use Rattle.apdu_frames.proofs.Refusals.{reads_breaks}

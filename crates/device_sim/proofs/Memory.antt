@@ -1,9 +1,8 @@
 -- What a torn allocation leaves of a memory.
-use Rattle.std.proofs.Common.{ℕ, ◌≡◌, ◌+◌, ◌-◌, ◌≤◌, min, List, [], ◌++◌, length, take, drop, replicate, refl, sym, ◌∙◌, ap, arith, inl, inr}
+use Rattle.std.proofs.Common.{ℕ, ◌≡◌, ◌-◌, ◌≤◌, min, List, ◌++◌, length, take, drop, replicate, ◌∙◌, ap, arith, inl, inr}
 use Rattle.std.proofs.lemmas.List.{take_all, take-replicate, length-replicate, drop-replicate}
 use Rattle.std.proofs.lemmas.Bool.{cases_lt}
 use Rattle.std.proofs.lemmas.Grind.{common_steps}
-use Rattle.std.proofs.Math.Nat.{min-eq_left, min-eq_right}
 use Rattle.knx_model.specs.Loading.{overlaid}
 
 take_filled : (k n fill : ℕ) → take k (replicate n fill) ≡ replicate (min k n) fill

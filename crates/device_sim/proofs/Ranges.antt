@@ -1,5 +1,5 @@
 -- What is read from octets is in the range of what can be written.
-use Rattle.std.proofs.Common.{ℕ, suc, ◌≡◌, ◌+◌, ◌*◌, ◌/◌, ◌%◌, ◌<◌, ◌≤◌, List, [], ◌∷◌, length, get_or, Some, None, refl, sym, ◌∙◌, ap, subst, arith}
+use Rattle.std.proofs.Common.{ℕ, suc, ◌<◌, List, [], ◌∷◌, get_or, Some, None, arith}
 use Rattle.std.proofs.lemmas.Grind.{common_steps}
 use Rattle.knx_model.specs.declared.frames.value.Value.{Value}
 use Rattle.knx_model.specs.declared.frames.value.Value.TheVariants.{Short, Long}

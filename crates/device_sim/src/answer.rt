@@ -1,6 +1,6 @@
 //! What a service is answered.
 
-ghost use Rattle.std.specs.Prelude.{◌≡◌, ◌+◌, ◌≤◌, ◌<◌, IfSome, Some, None, ◌==◌, if◌then◌else◌};
+ghost use Rattle.std.specs.Prelude.{◌≡◌, IfSome, Some, None, ◌==◌, if◌then◌else◌};
 ghost use Rattle.knx_model.specs.Apdu.{word, IsApduInRange};
 ghost use Rattle.knx_model.specs.ApduReading.{option_map};
 ghost use Rattle.knx_model.specs.Loading.{state_number};

@@ -1,6 +1,6 @@
 //! What a service does to a device.
 
-ghost use Rattle.std.specs.Prelude.{◌≡◌, IfOk, take, replicate};
+ghost use Rattle.std.specs.Prelude.{◌≡◌, IfOk};
 ghost use Rattle.knx_model.specs.Loading.{allocation, load_event};
 ghost use Rattle.knx_model.specs.Device.{is_load_control, loads, object_of_index, effect_of};
 ghost use Rattle.knx_model.specs.Bench.{written_front};

@@ -1,6 +1,6 @@
 //! What a device keeps without power.
 
-ghost use Rattle.std.specs.Prelude.{◌≡◌, ◌≤◌, ℕ, List, length, IfOk, nat_lt, take};
+ghost use Rattle.std.specs.Prelude.{◌≡◌, ℕ, List, length, nat_lt, take};
 ghost use Rattle.knx_model.specs.Device.{object as content, whole, torn, is_write, all_loaded, Loads, Stores, range_octets};
 ghost use Rattle.knx_model.specs.Bench.{written_front, front_of_load};
 ghost use Rattle.device_sim.specs.Effects.{meant};

@@ -1,7 +1,7 @@
 //! A loadable object: the load machine, and the memory of which its segment is the front.
 
 ghost use Rattle.std.specs.Prelude.{◌≡◌, ◌+◌, ◌-◌, ◌≤◌, length, IfOk, take, drop, [], ◌++◌, replicate, nat_lt, if◌then◌else◌};
-ghost use Rattle.knx_model.specs.Loading.{Loadable, load_step, load_torn, written, scribbled, takes_write, allocates, has_range, octets_of, overlaid, is_loading, is_loaded, with_memory};
+ghost use Rattle.knx_model.specs.Loading.{load_step, load_torn, written, scribbled, takes_write, allocates, has_range, octets_of, overlaid, is_loading, is_loaded};
 ghost use Rattle.knx_model.specs.Device.{blank_object, loaded_object};
 ghost use Rattle.knx_model.specs.Bench.{front_of_load};
 

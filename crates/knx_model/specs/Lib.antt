@@ -10,6 +10,9 @@ pub mod Values
 pub mod Spells
 pub mod Apdu
 pub mod ApduReading
+pub mod Octets
+pub mod Cemi
+pub mod KnxNetIp
 pub mod Statements
 pub mod Rules
 pub mod Meaning

@@ -22,7 +22,10 @@ pub use address::{GroupAddr, IndAddr};
 pub use bench::BenchEvent;
 pub use command::{SimFile, Stop};
 pub use config::{Config, Image, LinkSpec, ObjSpec};
-pub use frames::{Apdu, ApduOctets, LongValue, Tpdu, TpduRefused, Value};
+pub use frames::{
+    Apdu, ApduOctets, CemiRefused, Datagram, IpFrame, IpRefused, Ldata, LdataCode, LongValue, Tpdu,
+    TpduRefused, Value,
+};
 pub use lists::{List, NoMemory, Octets};
 pub use loading::{LoadEvent, LoadState, LoadableObject};
 pub use log::{Case, DeviceCase, JobWord, LogEntry, LogWhat, Report, Sign};

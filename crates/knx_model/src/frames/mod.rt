@@ -1,9 +1,13 @@
-//! Frames of the bus, with their octets.
+//! Frames of the bus and of KNXnet/IP, with their octets.
 
+mod cemi;
+mod ip;
 mod octets;
 mod tpdu;
 mod value;
 
-pub use octets::{ApduOctets, LongValue};
+pub use cemi::{CemiRefused, Ldata, LdataCode};
+pub use ip::{IpFrame, IpRefused};
+pub use octets::{ApduOctets, Datagram, LongValue};
 pub use tpdu::{Apdu, Tpdu, TpduRefused};
 pub use value::Value;

@@ -104,6 +104,8 @@ impl Model for LongValue {
 }
 
 impl LongValue {
+    pub const CAPACITY: usize = 14;
+
     pub fn as_slice(&self) -> &[u8]
         ensures value { result.now ≡ self.now }
         ensures fits { length self.now ≤ 14 }
@@ -119,5 +121,79 @@ impl LongValue {
         let mut all = ArrayVec::new();
         let _ = all.try_extend_from_slice(octets);
         LongValue { octets: all }
+    }
+}
+
+/// The octets of one datagram: at most 300.
+#[derive(Clone, Debug, Drop, PartialEq, Eq)]
+pub struct Datagram {
+    octets: ArrayVec<u8, 300>,
+}
+
+impl Model for Datagram {
+    ghost use Rattle.std.specs.Prelude.{List, ℕ};
+
+    ghost Value = { List ℕ };
+
+    ghost view = { λ a. a.octets.items };
+
+    ghost inverse = { λ xs. record { octets = record { items = xs } } };
+}
+
+impl Datagram {
+    pub const CAPACITY: usize = 300;
+
+    /// No octets.
+    pub fn new() -> Self
+        ensures { result ≡ [] }
+    {
+        Datagram {
+            octets: ArrayVec::new(),
+        }
+    }
+
+    pub fn len(&self) -> usize
+        ensures value { result ≡ length self.now }
+        ensures fits { result ≤ 300 }
+    {
+        self.octets.len()
+    }
+
+    pub fn is_empty(&self) -> bool
+        ensures { IsTrue result ↔ (length self.now ≡ 0) }
+    {
+        self.octets.is_empty()
+    }
+
+    pub fn as_slice(&self) -> &[u8]
+        ensures value { result.now ≡ self.now }
+        ensures fits { length self.now ≤ 300 }
+    {
+        self.octets.as_slice()
+    }
+
+    /// Appends octets.
+    pub fn extend(&mut self, octets: &[u8])
+        requires { length self.old + length octets.now ≤ 300 }
+        ensures { self.new ≡ self.old ++ octets.now }
+    {
+        let _ = self.octets.try_extend_from_slice(octets);
+    }
+
+    /// The same octets again. It takes no memory.
+    pub fn copied(&self) -> Self
+        ensures { result ≡ self.now }
+    {
+        Datagram::from_slice(self.octets.as_slice())
+    }
+
+    /// These octets.
+    pub fn from_slice(octets: &[u8]) -> Self
+        requires { length octets.now ≤ 300 }
+        ensures { result ≡ octets.now }
+    {
+        let mut all = Datagram::new();
+        all.extend(octets);
+        all
     }
 }

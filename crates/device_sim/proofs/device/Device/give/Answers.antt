@@ -1,5 +1,5 @@
 use Rattle.std.proofs.Common.{rules, ◌≡◌, true, Some}
-use Rattle.knx_model.specs.ApduReading.{service_in, apdu_octets}
+use Rattle.knx_model.specs.ApduReading.{service_in}
 use Rattle.knx_model.specs.Device.{answer}
 use Rattle.device_sim.proofs.Answers.{answered_so}
 use Rattle.device_sim.proofs.device.Device.give.Goals as goal

@@ -1,0 +1,2 @@
+pub mod Refusing
+pub use Rattle.knx_model.specs.Cemi

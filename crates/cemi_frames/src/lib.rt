@@ -1,0 +1,15 @@
+//! Frames of the link layer as octets (KNX standard 3/6/3, common EMI): `decode` and `encode` of L_Data, and the laws that tie
+//! both to the grammar.
+#![tactic(auto)]
+
+mod code;
+mod control;
+mod laws;
+mod ldata;
+
+pub use knx_model::{ApduOctets, CemiRefused, Datagram, Ldata, LdataCode};
+pub use laws::{reads_once, written_reads};
+pub use ldata::{decode, encode};
+
+#[cfg(test)]
+mod tests;

@@ -1,0 +1,47 @@
+//! Frames of the link layer as a tunnel carries them (KNX standard 3/6/3, common EMI).
+
+use crate::frames::ApduOctets;
+
+/// Which L_Data service a frame belongs to.
+#[derive(Clone, Copy, Debug, Drop, PartialEq, Eq)]
+pub enum LdataCode {
+    /// L_Data.req asks for a frame on the bus.
+    Req,
+    /// L_Data.con confirms that frame.
+    Con,
+    /// L_Data.ind tells of a frame of another device.
+    Ind,
+}
+
+/// A standard frame of L_Data.
+#[derive(Clone, Debug, Drop, PartialEq, Eq)]
+pub struct Ldata {
+    pub code: LdataCode,
+    /// Whether a con tells that the frame met an error.
+    pub error: bool,
+    /// Whether the destination is a group address.
+    pub group: bool,
+    /// 0 to 3: system, normal, urgent, low.
+    pub priority: u8,
+    /// The hop count, 0 to 7.
+    pub hops: u8,
+    /// An individual address.
+    pub source: u16,
+    /// A group address or an individual address.
+    pub destination: u16,
+    /// 1 to 16 octets.
+    pub tpdu: ApduOctets,
+}
+
+/// Why octets are no frame of L_Data.
+#[derive(Clone, Copy, Debug, PartialEq, Eq)]
+pub enum CemiRefused {
+    /// 1: too short for what goes before the TPDU.
+    Short,
+    /// 2: the message code isn't one of L_Data.
+    Code,
+    /// 3: an extended frame.
+    Extended,
+    /// 4: the length isn't that of the TPDU, or is above 15.
+    Length,
+}

@@ -1,0 +1,56 @@
+//! Frames of KNXnet/IP (ISO 22510): the services of Core and Tunnelling.
+
+use crate::address::IndAddr;
+use crate::frames::Datagram;
+
+/// A frame of a client or of a gateway.
+#[derive(Clone, Debug, Drop, PartialEq, Eq)]
+pub enum IpFrame {
+    /// Asks for a tunnel on the link layer.
+    ConnectRequest,
+    /// With the individual address of the tunnel where the status is 0.
+    ConnectResponse {
+        channel: u8,
+        status: u8,
+        tunnel: Option<IndAddr>,
+    },
+    /// The heartbeat of a channel.
+    StateRequest {
+        channel: u8,
+    },
+    StateResponse {
+        channel: u8,
+        status: u8,
+    },
+    DisconnectRequest {
+        channel: u8,
+    },
+    DisconnectResponse {
+        channel: u8,
+        status: u8,
+    },
+    /// A cEMI frame of 1 to 290 octets, with the sequence counter of its direction.
+    TunnellingRequest {
+        channel: u8,
+        number: u8,
+        cemi: Datagram,
+    },
+    TunnellingAck {
+        channel: u8,
+        number: u8,
+        status: u8,
+    },
+}
+
+/// Why octets are no frame of KNXnet/IP.
+#[derive(Clone, Copy, Debug, PartialEq, Eq)]
+pub enum IpRefused {
+    /// 1: fewer than 6 octets, or another beginning.
+    Header,
+    /// 2: none of the services.
+    Service,
+    /// 3: the total length isn't the number of octets.
+    Length,
+    /// 4: not the body of its service.
+    Body,
+}

@@ -1,0 +1,1 @@
+pub use Rattle.knx_model.specs.KnxNetIp

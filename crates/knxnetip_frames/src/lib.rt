@@ -1,0 +1,17 @@
+//! Frames of KNXnet/IP as octets (ISO 22510, Core and Tunnelling): `decode` and `encode`, and the laws that tie both to the
+//! grammar.
+#![tactic(auto)]
+
+mod endpoint;
+mod frame;
+mod header;
+mod laws;
+mod service;
+mod services;
+
+pub use frame::{decode, encode};
+pub use knx_model::{Datagram, IndAddr, IpFrame, IpRefused};
+pub use laws::{reads_once, written_reads};
+
+#[cfg(test)]
+mod tests;

@@ -1,0 +1,37 @@
+//! The service type identifiers (ISO 22510, Core and Tunnelling).
+
+ghost use Rattle.std.specs.Prelude.{IsTrue, ◌↔◌};
+ghost use Rattle.knx_model.specs.KnxNetIp.{IsService};
+
+pub const CONNECT_REQUEST: u16 = 0x0205;
+
+pub const CONNECT_RESPONSE: u16 = 0x0206;
+
+pub const CONNECTIONSTATE_REQUEST: u16 = 0x0207;
+
+pub const CONNECTIONSTATE_RESPONSE: u16 = 0x0208;
+
+pub const DISCONNECT_REQUEST: u16 = 0x0209;
+
+pub const DISCONNECT_RESPONSE: u16 = 0x020A;
+
+pub const TUNNELLING_REQUEST: u16 = 0x0420;
+
+pub const TUNNELLING_ACK: u16 = 0x0421;
+
+/// Whether the number is one of these.
+pub fn is_service(service: u16) -> bool
+    ensures { IsTrue result ↔ IsService service }
+{
+    matches!(
+        service,
+        CONNECT_REQUEST
+            | CONNECT_RESPONSE
+            | CONNECTIONSTATE_REQUEST
+            | CONNECTIONSTATE_RESPONSE
+            | DISCONNECT_REQUEST
+            | DISCONNECT_RESPONSE
+            | TUNNELLING_REQUEST
+            | TUNNELLING_ACK
+    )
+}
