@@ -6,3 +6,4 @@ pub mod Served
 pub mod Capacities
 pub mod Octets
 pub mod Places
+pub mod Leading

@@ -37,6 +37,7 @@ impl LoadPlan {
         LoadPlan { image }
     }
 
+    /// The image that the plan loads.
     pub fn image(&self) -> &Image
         ensures { result.now ≡ self.now }
     {

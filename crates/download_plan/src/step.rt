@@ -16,8 +16,8 @@ pub enum Step {
     Complete,
 }
 
-#[tactic(auto, unfolding(knx_model::specs::Plan::loading, knx_model::specs::Plan::filling))]
 /// The k-th step of the loading of a list of this many pieces.
+#[tactic(auto, unfolding(knx_model::specs::Plan::loading, knx_model::specs::Plan::filling))]
 pub fn step_at(k: u32, pieces: u32) -> Step
     requires { k < 5 + 2 * pieces }
     ensures step { IsStepOf pieces result }
