@@ -1,4 +1,5 @@
-//! Standard frames of L_Data (KNX standard 3/6/3, common EMI): message code, additional information, control octets, source, destination, length and TPDU.
+//! Standard frames of L_Data (KNX standard 3/6/3, common EMI): message code, additional information, control octets, source,
+//! destination, length and TPDU.
 
 ghost use Rattle.std.specs.Prelude.{◌≡◌, ◌+◌, ◌*◌, ◌<◌, ◌≤◌, length, IfOk, IfErr, Ok};
 ghost use Rattle.knx_model.specs.declared.frames.cemi.Ldata.{Ldata as Frame};
