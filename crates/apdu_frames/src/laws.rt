@@ -1,3 +1,5 @@
+//! The laws of the grammar (ISO/IEC 14543-3, transport and application layer).
+
 ghost use Rattle.std.specs.Prelude.{◌≡◌, List, ℕ, Some, ◌↔◌};
 ghost use Rattle.knx_model.specs.declared.frames.tpdu.Tpdu.{Tpdu};
 ghost use Rattle.knx_model.specs.Apdu.{Reads, Written, IsInRange};

@@ -10,7 +10,7 @@ ghost use Rattle.knx_model.specs.ApduReading.{tpdu_in};
 use crate::{control, services};
 use knx_model::{Apdu, ApduOctets, Tpdu, TpduRefused};
 
-/// The frame that the octets are, or the least rule that they break: `Empty` for none, `Code` for a first octet or a service
+/// The frame that the octets are (ISO/IEC 14543-3, transport layer), or the least rule that they break: `Empty` for none, `Code` for a first octet or a service
 /// that isn't in the table, `Length` and `Count` for a number of octets that its row doesn't allow.
 pub fn decode(octets: &[u8]) -> Result<Tpdu, TpduRefused>
     ensures read { IfOk result (λ frame. Reads octets.now frame) }
@@ -57,7 +57,7 @@ fn code_at(first: u8, second: u8) -> u16
     (first as u16 & 0x03) << 8 | second as u16
 }
 
-/// The octets of the frame, with a short value of six bits, a long one of 1 to 14 octets, and the counts that its row allows.
+/// The octets of the frame (ISO/IEC 14543-3, transport layer), with a short value of six bits, a long one of 1 to 14 octets, and the counts that its row allows.
 pub fn encode(tpdu: &Tpdu) -> ApduOctets
     requires { IsInRange tpdu.now }
     ensures written { result ≡ Written tpdu.now }

@@ -1,4 +1,4 @@
-//! The message code of a frame: L_Data.req, L_Data.con or L_Data.ind.
+//! The message code of a frame (KNX standard 3/6/3, common EMI): L_Data.req, L_Data.con or L_Data.ind.
 
 ghost use Rattle.std.specs.Prelude.{◌≡◌, IfSome, IfNone};
 ghost use Rattle.knx_model.specs.Cemi.{code_octet, IsCode};

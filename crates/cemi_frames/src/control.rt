@@ -1,5 +1,6 @@
-//! The two control octets of a frame. The first has bit 7 for a standard frame, the priority in bits 3 and 2, and bit 0 for the
-//! error that a con tells of. The second has bit 7 for a group destination, and the hop count in bits 6 to 4.
+//! The two control octets of a frame (KNX standard 3/6/3, common EMI). The first has bit 7 for a standard frame, the priority in
+//! bits 3 and 2, and bit 0 for the error that a con tells of. The second has bit 7 for a group destination, and the hop count in
+//! bits 6 to 4.
 
 ghost use Rattle.std.specs.Prelude.{◌≡◌, ◌/◌, ◌%◌, ◌≤◌, ◌==◌, ◌&&◌, IsTrue, ◌↔◌, if◌then◌else◌};
 ghost use Rattle.knx_model.specs.Cemi.{code_octet};

@@ -1,3 +1,5 @@
+//! The laws of the grammar of L_Data (KNX standard 3/6/3, common EMI).
+
 ghost use Rattle.std.specs.Prelude.{◌≡◌, List, ℕ};
 ghost use Rattle.knx_model.specs.declared.frames.cemi.Ldata.{Ldata};
 ghost use Rattle.knx_model.specs.Cemi.{Reads, Written, IsInRange};

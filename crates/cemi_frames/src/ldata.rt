@@ -1,4 +1,5 @@
-//! Standard frames of L_Data: message code, additional information, control octets, source, destination, length and TPDU.
+//! Standard frames of L_Data (KNX standard 3/6/3, common EMI): message code, additional information, control octets, source,
+//! destination, length and TPDU.
 
 ghost use Rattle.std.specs.Prelude.{◌≡◌, ◌+◌, ◌*◌, ◌<◌, ◌≤◌, length, IfOk, IfErr, Ok};
 ghost use Rattle.knx_model.specs.declared.frames.cemi.Ldata.{Ldata as Frame};
@@ -8,7 +9,7 @@ ghost use Rattle.cemi_frames.specs.Refusing.{RefusesBody};
 use crate::{code, control};
 use knx_model::{ApduOctets, CemiRefused, Datagram, Ldata};
 
-/// The frame that the octets are, or the least rule that they break. Additional information is skipped.
+/// The frame that the octets are (KNX standard 3/6/3, common EMI), or the least rule that they break. Additional information is skipped.
 #[tactic(auto, using(crate::proofs::Once::only_frame))]
 pub fn decode(octets: &[u8]) -> Result<Ldata, CemiRefused>
     ensures read { IfOk result (λ frame. Reads octets.now frame) }
@@ -65,7 +66,7 @@ fn word(high: u8, below: u8) -> u16
     u16::from_be_bytes([high, below])
 }
 
-/// The octets of the frame, of low priority and hop count 6, and with source 0 for a request.
+/// The octets of the frame (KNX standard 3/6/3, common EMI), of low priority and hop count 6, and with source 0 for a request.
 #[tactic(auto, using(crate::proofs::Written::written_reads))]
 pub fn encode(frame: &Ldata) -> Datagram
     requires { IsInRange frame.now }

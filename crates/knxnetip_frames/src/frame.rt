@@ -1,4 +1,4 @@
-//! Frames of KNXnet/IP: the header, and the body of its service.
+//! Frames of KNXnet/IP (ISO 22510, Core): the header, and the body of its service.
 
 ghost use Rattle.std.specs.Prelude.{◌≡◌, IfOk, IfErr, Ok};
 ghost use Rattle.knx_model.specs.declared.frames.ip.IpFrame.{IpFrame as Frame};
@@ -9,7 +9,7 @@ use crate::service::is_service;
 use crate::{header, services};
 use knx_model::{Datagram, IpFrame, IpRefused};
 
-/// The frame that the octets are, or the least rule that they break.
+/// The frame that the octets are (ISO 22510), or the least rule that they break.
 #[tactic(auto, using(crate::proofs::Once::only_frame))]
 pub fn decode(octets: &[u8]) -> Result<IpFrame, IpRefused>
     ensures read { IfOk result (λ frame. Reads octets.now frame) }
@@ -36,7 +36,7 @@ fn frame_of(octets: &[u8]) -> Result<IpFrame, IpRefused>
     services::read(service, &octets[6..]).ok_or(IpRefused::Body)
 }
 
-/// The octets of the frame: a cEMI frame has 1 to 290 octets, and a connect response has a tunnel's address exactly where its
+/// The octets of the frame (ISO 22510): a cEMI frame has 1 to 290 octets, and a connect response has a tunnel's address exactly where its
 /// status is 0, and otherwise channel 0.
 #[tactic(auto, using(crate::proofs::Written::written_reads))]
 pub fn encode(frame: &IpFrame) -> Datagram

@@ -1,3 +1,5 @@
+//! The laws of the grammar of KNXnet/IP (ISO 22510).
+
 ghost use Rattle.std.specs.Prelude.{◌≡◌, List, ℕ};
 ghost use Rattle.knx_model.specs.declared.frames.ip.IpFrame.{IpFrame};
 ghost use Rattle.knx_model.specs.KnxNetIp.{Reads, Written, IsInRange};
