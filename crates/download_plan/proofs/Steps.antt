@@ -135,7 +135,7 @@ load_again StartLoading h = refl
 load_again LoadCompleted h = refl
 load_again Unload h = refl
 load_again Undefined h = refl
-load_again (Allocate size fill) h = ap (λ n. Allocate n fill) (let e : four_octets (size / 65536 / 256) (size / 65536 % 256) (size / 256) (size % 256) ≡ size = omega arith in e)
+load_again (Allocate size fill) h = ap (λ n. Allocate n fill) (let e : four_octets (size / 65536 / 256) (size / 65536 % 256) (size % 65536 / 256) (size % 65536 % 256) ≡ size = omega arith in e)
 
 pub length_load : (e : LoadEvent) → length (load_octets e) ≡ 10
 length_load NoOperation = refl

@@ -11,7 +11,7 @@ use Rattle.knx_model.specs.declared.project.Statement.{Statement}
 use Rattle.knx_model.specs.declared.script.Cut.{Cut}
 use Rattle.knx_model.specs.Bench.{Trace, now, moment, replay, Went}
 use Rattle.knx_model.specs.Command.{Commission, Decided, Stops, Reports, Outcome, Began, Ran, IsOver, IsDone, HasFailed, PlanWasGiven}
-use Rattle.knx_model.specs.Device.{NonVolatile, DeviceState, runs, blank, loaded_with, Fits}
+use Rattle.knx_model.specs.Device.{NonVolatile, DeviceState, runs, blank, blank_object, loaded_with, Fits}
 use Rattle.knx_model.specs.Meaning.{meaning}
 use Rattle.knx_model.specs.Plan.{HasCapacities, OldStoppedOrImage, load_plan, GaveWhole}
 use Rattle.knx_model.specs.Promises.{StartOf, BeginsLoaded, BeginsBlank, OldStoppedOrNew, RunsProject, AtEveryMoment, ToldTruly}
@@ -71,6 +71,7 @@ room_for : (list : List ℕ) (size : ℕ) → length list ≤ size → length (l
 room_for list size h = grind (arith, length-append, length-replicate)
 
 pub start_room : (device : IndAddr) (before : Option Image) → IfSome before Fits → HasCapacities (start_with device before).kept
+unfolding blank_object
 start_room device None h = record { addr = length-replicate 0x1000 0; assoc = length-replicate 0x2000 0; objs = length-replicate 0x0400 0; params = length-replicate 0x2000 0 }
 start_room device (Some image) h = record {
   addr = room_for image.addr 0x1000 h.addr;
