@@ -223,11 +223,15 @@ outcome_text names (Reports report jobs devices) = report_text report jobs devic
 abbrev pub Wrote : List ℕ → Status → Type 0 → Option (List ℕ) → Option (List ℕ) → Status → Type 0
 Wrote text ending rose before after told = ((told ≡ ending) × Takes text before after) ⊎ ((told ≡ status.Write) × (rose × TakesFront text before after))
 
--- What a call with these words does, where the files tell `told`, the counts of files and sink rose or not, the bench was `before` and
--- is `after`, and the sink took `taken` and then `taken'`.
-pub record Answers (words : List (List ℕ)) (told : List ℕ → Told) (files_rose sink_rose : Type 0) (before after : Option Trace) (taken taken' : Option (List ℕ)) (status : Status) : Type 0 where
+-- What a call does that is asked for these files, where the files tell `told`, the counts of files and sink rose or not, the bench was
+-- `before` and is `after`, and the sink had taken `taken` and has taken `taken'`.
+pub record AnswersTo (names : Option SimWords) (told : List ℕ → Told) (files_rose sink_rose : Type 0) (before after : Option Trace) (taken taken' : Option (List ℕ)) (ending : Status) : Type 0 where
   pub reads : Reads
-  pub are_read : (names : SimWords) → asked words ≡ Some names → AreRead told files_rose names reads
+  pub are_read : (known : SimWords) → names ≡ Some known → AreRead told files_rose known reads
   pub outcome : Outcome
-  pub decided : Decided (judged_words (asked words) reads) before after outcome
-  pub wrote : Wrote (outcome_text (asked words) outcome) (outcome_status outcome) sink_rose taken taken' status
+  pub decided : Decided (judged_words names reads) before after outcome
+  pub wrote : Wrote (outcome_text names outcome) (outcome_status outcome) sink_rose taken taken' ending
+
+-- what a call with these words does
+abbrev pub Answers : List (List ℕ) → (List ℕ → Told) → Type 0 → Type 0 → Option Trace → Option Trace → Option (List ℕ) → Option (List ℕ) → Status → Type 0
+Answers words = AnswersTo (asked words)

@@ -27,21 +27,27 @@ use Rattle.knx_top.specs.Ended.{start_with, log_of, HasLoaded, HasEnded, HasRepo
 
 -- ---- where the call stops before a run
 
-stops_for : (why told : Stop) → (told ≢ stop.NoMemory → Err {T = Commission} why ≡ Err told) → (told ≡ why) ⊎ (told ≡ stop.NoMemory)
+abbrev err : Stop → Result Commission Stop
+err why = Err why
+
+abbrev ok : Commission → Result Commission Stop
+ok c = Ok c
+
+stops_for : (why told : Stop) → (told ≢ stop.NoMemory → err why ≡ err told) → (told ≡ why) ⊎ (told ≡ stop.NoMemory)
 stops_for why stop.NoMemory h = inr refl
-stops_for why stop.Usage h = inl (let e : Err {T = Commission} why ≡ Err stop.Usage = h (λ q. cc) in cc)
-stops_for why (stop.NotThere place) h = inl (let e : Err {T = Commission} why ≡ Err (stop.NotThere place) = h (λ q. cc) in cc)
-stops_for why (stop.ReadFailed place) h = inl (let e : Err {T = Commission} why ≡ Err (stop.ReadFailed place) = h (λ q. cc) in cc)
-stops_for why (stop.Refused place refused) h = inl (let e : Err {T = Commission} why ≡ Err (stop.Refused place refused) = h (λ q. cc) in cc)
+stops_for why stop.Usage h = inl (let e : err why ≡ err stop.Usage = h (λ q. cc) in cc)
+stops_for why (stop.NotThere place) h = inl (let e : err why ≡ err (stop.NotThere place) = h (λ q. cc) in cc)
+stops_for why (stop.ReadFailed place) h = inl (let e : err why ≡ err (stop.ReadFailed place) = h (λ q. cc) in cc)
+stops_for why (stop.Refused place refused) h = inl (let e : err why ≡ err (stop.Refused place refused) = h (λ q. cc) in cc)
 
-no_stop : (c : Commission) (told : Stop) → (told ≢ stop.NoMemory → Ok {E = Stop} c ≡ Err told) → told ≡ stop.NoMemory
+no_stop : (c : Commission) (told : Stop) → (told ≢ stop.NoMemory → ok c ≡ err told) → told ≡ stop.NoMemory
 no_stop c stop.NoMemory h = refl
-no_stop c stop.Usage h = absurd (let e : Ok {E = Stop} c ≡ Err stop.Usage = h (λ q. cc) in cc)
-no_stop c (stop.NotThere place) h = absurd (let e : Ok {E = Stop} c ≡ Err (stop.NotThere place) = h (λ q. cc) in cc)
-no_stop c (stop.ReadFailed place) h = absurd (let e : Ok {E = Stop} c ≡ Err (stop.ReadFailed place) = h (λ q. cc) in cc)
-no_stop c (stop.Refused place refused) h = absurd (let e : Ok {E = Stop} c ≡ Err (stop.Refused place refused) = h (λ q. cc) in cc)
+no_stop c stop.Usage h = absurd (let e : ok c ≡ err stop.Usage = h (λ q. cc) in cc)
+no_stop c (stop.NotThere place) h = absurd (let e : ok c ≡ err (stop.NotThere place) = h (λ q. cc) in cc)
+no_stop c (stop.ReadFailed place) h = absurd (let e : ok c ≡ err (stop.ReadFailed place) = h (λ q. cc) in cc)
+no_stop c (stop.Refused place refused) h = absurd (let e : ok c ≡ err (stop.Refused place refused) = h (λ q. cc) in cc)
 
-pub decided_stop : (j : Result Commission Stop) (told : Stop) (bench : Option Trace) → (told ≢ stop.NoMemory → j ≡ Err told) → Decided j bench bench (Stops told)
+pub decided_stop : (j : Result Commission Stop) (told : Stop) (bench : Option Trace) → (told ≢ stop.NoMemory → j ≡ err told) → Decided j bench bench (Stops told)
 decided_stop (Err why) told bench h = (stops_for why told h, refl)
 decided_stop (Ok c) told bench h = (no_stop c told h, inl refl)
 
@@ -72,7 +78,7 @@ room_for list size h = grind (arith, length-append, length-replicate)
 
 pub start_room : (device : IndAddr) (before : Option Image) → IfSome before Fits → HasCapacities (start_with device before).kept
 unfolding blank_object
-start_room device None h = record { addr = length-replicate 0x1000 0; assoc = length-replicate 0x2000 0; objs = length-replicate 0x0400 0; params = length-replicate 0x2000 0 }
+start_room device None h = record { addr = length-replicate {A = ℕ} 0x1000 0; assoc = length-replicate {A = ℕ} 0x2000 0; objs = length-replicate {A = ℕ} 0x0400 0; params = length-replicate {A = ℕ} 0x2000 0 }
 start_room device (Some image) h = record {
   addr = room_for image.addr 0x1000 h.addr;
   assoc = room_for image.assoc 0x2000 h.assoc;

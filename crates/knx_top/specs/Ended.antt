@@ -42,11 +42,11 @@ pub record HasLoaded (image : Image) (cuts : List Cut) (t : Trace) : Type 0 wher
   pub moments : (k : ℕ) → k ≤ length t.events → OldStoppedOrImage t.start.kept image (moment t k).kept
 
 -- the job ended so, and this was reported
-pub record HasReported (image : Image) (device : IndAddr) (t : Trace) (end : JobEnd) (ended : Ended) : Type 0 where
+pub record HasReported (image : Image) (named : IndAddr) (t : Trace) (end : JobEnd) (ended : Ended) : Type 0 where
   pub log : ended.report.log ≡ log_of end (length t.events)
   pub missed : ended.report.missed ≡ 0
-  pub job : ended.job ≡ record { device = device; check = false }
-  pub device : ended.device.device ≡ device
+  pub job : ended.job ≡ record { device = named; check = false }
+  pub device : ended.device.device ≡ named
   pub case : (ss : List Statement) (of : IndAddr) → StandsFor image (meaning ss of) → IsCase ss of (now t).kept ended.device.case
 
 -- what the end of a job says of the run

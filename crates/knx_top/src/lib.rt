@@ -3,6 +3,7 @@
 
 mod asked;
 mod bench;
+mod call;
 mod case;
 mod commission;
 mod download;
@@ -11,3 +12,7 @@ mod project;
 mod script;
 mod stop;
 mod texts;
+
+pub use bench::{Bench, Run};
+pub use call::knx;
+pub use knx_model::{BenchEvent, Status};

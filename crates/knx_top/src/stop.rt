@@ -13,6 +13,13 @@ use knx_model::{NoMemory, Octets, Refused, SimFile, Status, Stop, Why};
 use report_text::put_number;
 use std::alloc::Global;
 
+/// The line for words that are no command.
+pub const USAGE: &[u8] =
+    b"usage: knx check, tables, sim, download, gateway, decode or big, with their words\n";
+
+/// The line for want of memory.
+pub const NO_MEMORY: &[u8] = b"no memory\n";
+
 fn file_word(place: SimFile) -> &'static str
     ensures { result.now ≡ file_word place }
 {
@@ -100,13 +107,10 @@ pub fn stop_text(alloc: Global, names: SimNames<'_>, stop: Stop) -> Result<Octet
     ensures { IfOk result (λ text. text ≡ stop_text (name_of (words_of names.entry)) stop) }
 {
     match stop {
-        Stop::Usage => Octets::from_slice(
-            alloc,
-            b"usage: knx check, tables, sim, download, gateway, decode or big, with their words\n",
-        ),
+        Stop::Usage => Octets::from_slice(alloc, USAGE),
         Stop::NotThere(place) => read_fault(alloc, name_of(names, place), "NotThere"),
         Stop::ReadFailed(place) => read_fault(alloc, name_of(names, place), "Failed"),
         Stop::Refused(place, refused) => refusal(alloc, place, refused),
-        Stop::NoMemory => Octets::from_slice(alloc, b"no memory\n"),
+        Stop::NoMemory => Octets::from_slice(alloc, NO_MEMORY),
     }
 }
