@@ -1,5 +1,5 @@
 -- A bench: a device with all that was done to it. The device at each moment is what the start and the events up to it give.
-use Rattle.std.specs.Prelude.{ℕ, ◌≡◌, ◌≤◌, Bool, true, false, nat_lt, replicate, List, [], ◌∷◌, ◌++◌, length, take, Option, Some, None, if◌then◌else◌}
+use Rattle.std.specs.Prelude.{ℕ, ◌≡◌, ◌≤◌, Bool, true, false, nat_lt, replicate, List, [], ◌∷◌, ◌++◌, length, take, Option, None, if◌then◌else◌}
 use Rattle.knx_model.specs.declared.bench.BenchEvent.{BenchEvent}
 use Rattle.knx_model.specs.declared.bench.BenchEvent.TheVariants.{Give, GiveTorn, On}
 use Rattle.knx_model.specs.declared.loading.LoadEvent.{LoadEvent}

@@ -1,18 +1,18 @@
 -- The device (ISO/IEC 14543-3, management, after System B): what it keeps without power, what it runs, and what each service does
 -- and is answered. The segments' bases and capacities are this project's own.
-use Rattle.std.specs.Prelude.{ℕ, ◌≡◌, ◌+◌, ◌-◌, ◌*◌, ◌/◌, ◌%◌, ◌≤◌, Bool, true, false, ◌&&◌, ◌==◌, nat_le, nat_lt, List, [], ◌∷◌, ◌++◌, length, take, drop, replicate, Option, Some, None, if◌then◌else◌}
+use Rattle.std.specs.Prelude.{ℕ, ◌+◌, ◌-◌, ◌≤◌, Bool, true, false, ◌&&◌, ◌==◌, nat_le, nat_lt, List, [], ◌∷◌, ◌++◌, length, take, drop, replicate, Option, Some, None, if◌then◌else◌}
 use Rattle.knx_model.specs.declared.address.IndAddr.{IndAddr}
 use Rattle.knx_model.specs.declared.config.Image.{Image}
 use Rattle.knx_model.specs.declared.loading.LoadState.TheVariants.{Unloaded, Loaded}
 use Rattle.knx_model.specs.declared.loading.LoadEvent.{LoadEvent}
-use Rattle.knx_model.specs.declared.loading.LoadEvent.TheVariants.{NoOperation, StartLoading, LoadCompleted, Allocate, Unload, Undefined}
+use Rattle.knx_model.specs.declared.loading.LoadEvent.TheVariants.{NoOperation}
 use Rattle.knx_model.specs.declared.loading.LoadableObject.{LoadableObject}
 use Rattle.knx_model.specs.declared.loading.LoadableObject.TheVariants.{AddressTable, AssociationTable, GroupObjects, Application}
 use Rattle.knx_model.specs.declared.frames.tpdu.Apdu.{Apdu}
 use Rattle.knx_model.specs.declared.frames.tpdu.Apdu.TheVariants.{MemoryRead, MemoryResponse, MemoryWrite, DescriptorRead, DescriptorResponse, PropertyRead, PropertyResponse, PropertyWrite}
 use Rattle.knx_model.specs.Apdu.{word}
 use Rattle.knx_model.specs.ApduReading.{service_in, apdu_octets, option_map}
-use Rattle.knx_model.specs.Loading.{Loadable, octets_of, is_loaded, is_loading, load_event, load_step, load_torn, state_number, has_range, takes_write, written, scribbled}
+use Rattle.knx_model.specs.Loading.{Loadable, octets_of, is_loaded, load_event, load_step, load_torn, state_number, has_range, takes_write, written, scribbled}
 
 -- ---- the state of a device
 

@@ -1,6 +1,6 @@
 -- The flags of an object as a word, and the flag octet that it spells: 80 update, 40 transmit, 20 read at start, 10 write, 08 read, 04
 -- communicate (hexadecimal), and the priority in the lower two bits, always 3.
-use Rattle.std.specs.Prelude.{ℕ, ◌+◌, ◌*◌, ◌/◌, ◌%◌, Bool, ◌&&◌, ◌||◌, ◌==◌, nat_lt, nat_le, bytes_eq, codes, List, [], ◌∷◌, ◌++◌, length, count_by, Option, Some, None, if◌then◌else◌}
+use Rattle.std.specs.Prelude.{ℕ, ◌+◌, ◌*◌, ◌&&◌, ◌||◌, ◌==◌, nat_lt, bytes_eq, codes, List, length, count_by, Option, Some, None, if◌then◌else◌}
 
 abbrev pub times : ℕ → List ℕ → ℕ
 times letter word = count_by (λ x. x == letter) word

@@ -1,5 +1,5 @@
 -- The outside: what files and sinks promise. A count of faults is a number of 64 bits that stands still at its greatest.
-use Rattle.std.specs.Prelude.{◌≡◌, ℕ, ◌+◌, ◌-◌, ◌^◌, ◌<◌, ◌⊎◌, List, ◌++◌, take, Option, Some, None, Result, Ok, Err}
+use Rattle.std.specs.Prelude.{◌≡◌, ℕ, ◌-◌, ◌^◌, ◌<◌, ◌⊎◌, List, ◌++◌, take, Option, Some, None, Result, Ok, Err}
 use Rattle.knx_model.specs.declared.outside.files.FileFault.{FileFault}
 use Rattle.knx_model.specs.declared.outside.files.FileFault.TheVariants.{NotThere, Failed, NoMemory}
 

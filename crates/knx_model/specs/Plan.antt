@@ -20,8 +20,8 @@ use Rattle.knx_model.specs.declared.bench.BenchEvent.TheVariants.{Give}
 use Rattle.knx_model.specs.Bench.{Trace, happens, replay, answered}
 use Rattle.knx_model.specs.Apdu.{word}
 use Rattle.knx_model.specs.ApduReading.{apdu_octets}
-use Rattle.knx_model.specs.Loading.{Loadable, capacity_of, state_number}
-use Rattle.knx_model.specs.Device.{NonVolatile, DeviceState, object, object_index, base, capacity, runs, effect_in, answer_in, whole, torn, taken, table_reference, Fits}
+use Rattle.knx_model.specs.Loading.{capacity_of, state_number}
+use Rattle.knx_model.specs.Device.{NonVolatile, DeviceState, object_index, base, runs, effect_in, answer_in, whole, torn, taken, table_reference}
 
 -- ---- the load plan
 

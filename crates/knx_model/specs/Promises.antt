@@ -1,19 +1,19 @@
 -- What a run promises: at every moment a device keeps its starting content, or is stopped, or runs what the project says; and what is
 -- told is true where it is told.
-use Rattle.std.specs.Prelude.{ℕ, ◌≡◌, ◌+◌, ◌≤◌, true, false, List, [], ◌∷◌, length, Option, Some, None, ◌⊎◌}
+use Rattle.std.specs.Prelude.{ℕ, ◌≡◌, ◌≤◌, true, false, List, length, Some, None, ◌⊎◌}
 use Rattle.std.specs.List.{AllByRecursion}
 use Rattle.knx_model.specs.declared.address.IndAddr.{IndAddr}
 use Rattle.knx_model.specs.declared.config.Image.{Image}
 use Rattle.knx_model.specs.declared.log.Case.{Case}
 use Rattle.knx_model.specs.declared.log.Case.TheVariants.{New, Old, Stopped}
 use Rattle.knx_model.specs.declared.log.LogEntry.{LogEntry}
-use Rattle.knx_model.specs.declared.log.LogWhat.TheVariants.{Took, Done}
+use Rattle.knx_model.specs.declared.log.LogWhat.TheVariants.{Done}
 use Rattle.knx_model.specs.declared.project.Statement.{Statement}
 use Rattle.knx_model.specs.Meaning.{meaning}
 use Rattle.knx_model.specs.Tables.{StandsFor}
 use Rattle.knx_model.specs.Device.{NonVolatile, DeviceState, runs, all_loaded, blank, loaded_with}
 use Rattle.knx_model.specs.Rules.{has_device}
-use Rattle.knx_model.specs.Bench.{Trace, now, moment}
+use Rattle.knx_model.specs.Bench.{Trace, moment}
 
 -- a device that keeps nv runs exactly what the project says of it
 pub record RunsProject (ss : List Statement) (device : IndAddr) (nv : NonVolatile) : Type 0 where

@@ -1,6 +1,6 @@
 -- The texts that the program prints: the report of a run, and the line of a call that stops before it. Each line ends with a line
 -- feed; numbers are decimal.
-use Rattle.std.specs.Prelude.{ℕ, ◌≡◌, ◌+◌, ◌/◌, ◌%◌, Bool, ◌==◌, codes, List, [], ◌∷◌, ◌++◌, map, Option, Some, None, if◌then◌else◌}
+use Rattle.std.specs.Prelude.{ℕ, ◌/◌, ◌%◌, Bool, ◌==◌, codes, List, [], ◌∷◌, ◌++◌, map, Option, Some, None, if◌then◌else◌}
 use Rattle.std.specs.List.{join_with_byte, flat_map, filter_map, enumerate_from}
 use Rattle.std.specs.Fmt.{decimal}
 use Rattle.knx_model.specs.declared.address.IndAddr.{IndAddr}

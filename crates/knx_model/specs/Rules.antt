@@ -1,16 +1,13 @@
 -- The rules that look at a whole project text and at the lines before a line. Each is a sentence of its own; a line breaks the one of
 -- the least number, and a text is refused at its least line that breaks one.
-use Rattle.std.specs.Prelude.{◌≡◌, ℕ, ◌+◌, Bool, true, false, ◌&&◌, ◌||◌, not, ◌==◌, nat_le, is_some, is_none, bytes_eq, codes, count_by, List, [], ◌∷◌, take, Option, Some, None, if◌then◌else◌}
+use Rattle.std.specs.Prelude.{ℕ, Bool, true, false, ◌&&◌, not, ◌==◌, nat_le, bytes_eq, codes, count_by, List, [], ◌∷◌, take, Option, Some, None, if◌then◌else◌}
 use Rattle.std.specs.List.{list_any, filter_map, enumerate_from}
-use Rattle.knx_model.specs.declared.address.GroupAddr.{GroupAddr}
-use Rattle.knx_model.specs.declared.address.IndAddr.{IndAddr}
 use Rattle.knx_model.specs.declared.project.Statement.{Statement}
 use Rattle.knx_model.specs.declared.project.What.{What}
-use Rattle.knx_model.specs.declared.project.What.TheVariants.{Title, Group, Device, Object, Link}
+use Rattle.knx_model.specs.declared.project.What.TheVariants.{Group, Device, Object, Link}
 use Rattle.knx_model.specs.declared.refusal.Refused.{Refused}
 use Rattle.knx_model.specs.declared.refusal.Why.{Why}
 use Rattle.knx_model.specs.declared.refusal.Why.TheVariants.{DuplicateDevice, DuplicateGroup, UnknownGroup, UnknownModel, DuplicateObject, UnknownObject, DuplicateLink, SizeDiffers, TooMany, NoDevice}
-use Rattle.knx_model.specs.Statements.{reading}
 
 -- ---- what statements declare. A device, an object and a group are named by their numbers.
 

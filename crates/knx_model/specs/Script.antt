@@ -1,6 +1,6 @@
 -- The script: the lines that are built, and when the events of a bench follow them. Power goes just where a line says so, and comes
 -- back before the next event.
-use Rattle.std.specs.Prelude.{ℕ, ◌≡◌, ◌+◌, ◌-◌, ◌^◌, ◌≤◌, min, Bool, true, false, not, ◌&&◌, ◌||◌, ◌==◌, nat_le, nat_lt, bytes_eq, codes, List, [], ◌∷◌, ◌++◌, length, Option, Some, None, if◌then◌else◌}
+use Rattle.std.specs.Prelude.{ℕ, ◌≡◌, ◌+◌, ◌-◌, ◌^◌, min, true, false, ◌&&◌, ◌==◌, nat_le, bytes_eq, codes, List, [], ◌∷◌, ◌++◌, length, Option, Some, None, if◌then◌else◌}
 use Rattle.std.specs.Str.Lines.{lines}
 use Rattle.knx_model.specs.declared.address.IndAddr.{IndAddr}
 use Rattle.knx_model.specs.declared.bench.BenchEvent.{BenchEvent}
@@ -10,7 +10,7 @@ use Rattle.knx_model.specs.Words.{words, is_text, without_comment}
 use Rattle.knx_model.specs.Numbers.{number_value}
 use Rattle.knx_model.specs.Addresses.{ind_value, ◌>>=◌}
 use Rattle.knx_model.specs.Device.{DeviceState, is_write, effect_in}
-use Rattle.knx_model.specs.Bench.{Trace, happens, cut_after}
+use Rattle.knx_model.specs.Bench.{happens, cut_after}
 
 -- ---- the text
 

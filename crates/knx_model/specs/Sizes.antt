@@ -1,5 +1,5 @@
 -- The size of an object as a word, a number of bits, and the size code that it stands for (after System B, group objects).
-use Rattle.std.specs.Prelude.{ℕ, ◌-◌, ◌/◌, ◌&&◌, ◌==◌, nat_le, List, Option, Some, None, if◌then◌else◌}
+use Rattle.std.specs.Prelude.{ℕ, ◌-◌, ◌&&◌, ◌==◌, nat_le, List, Option, Some, None, if◌then◌else◌}
 use Rattle.knx_model.specs.Numbers.{number_value}
 
 -- 1 to 7 bits have the codes 0 to 6; 1, 2, 3, 4, 6, 8, 10 and 14 octets the codes 7 to 14

@@ -1,6 +1,6 @@
 -- The project text: what a line says, and what a whole text reads as. A line says a statement, nothing, or the first rule that it
 -- breaks; a text is refused at the least line that breaks a rule. The language is this project's own.
-use Rattle.std.specs.Prelude.{◌≡◌, ◌≢◌, ℕ, ◌+◌, ◌-◌, ◌<◌, ◌%◌, slice_get, IsOk, Bool, true, ◌&&◌, ◌||◌, not, ◌==◌, nat_lt, nat_le, bytes_eq, codes, List, [], ◌∷◌, length, Option, Some, None, Result, Ok, Err, if◌then◌else◌}
+use Rattle.std.specs.Prelude.{◌≡◌, ℕ, ◌+◌, ◌-◌, ◌<◌, ◌%◌, slice_get, IsOk, Bool, true, ◌&&◌, ◌||◌, not, ◌==◌, nat_lt, bytes_eq, codes, List, [], ◌∷◌, length, Option, Some, None, Result, Ok, Err, if◌then◌else◌}
 use Rattle.std.specs.List.{list_all, filter_map, enumerate_from}
 use Rattle.std.specs.Str.Lines.{lines}
 use Rattle.knx_model.specs.declared.address.GroupAddr.{GroupAddr}
