@@ -1,11 +1,12 @@
 -- A run keeps the promises of the commission that it was begun with.
 use Rattle.std.proofs.Common.{ℕ, ◌≡◌, ◌≢◌, ◌+◌, ◌-◌, ◌<◌, ◌≤◌, Bool, true, false, List, [], ◌∷◌, ◌++◌, length, take, replicate, Option, Some, None, Result, Ok, Err, refl, sym, ap, ◌∙◌, subst, arith, inl, inr, ◌⊎◌, length-append}
-use Rattle.std.specs.Prelude.{IfSome}
+use Rattle.std.specs.Prelude.{IfSome, IfOk}
 use Rattle.std.proofs.lemmas.List.{take_all, length-replicate}
 use Rattle.knx_model.specs.declared.address.IndAddr.{IndAddr}
 use Rattle.knx_model.specs.declared.command.Stop.{Stop}
 use Rattle.knx_model.specs.declared.command.Stop.TheVariants as stop
 use Rattle.knx_model.specs.declared.config.Image.{Image}
+use Rattle.knx_model.specs.declared.lists.NoMemory.{NoMemory}
 use Rattle.knx_model.specs.declared.log.LogEntry.{LogEntry}
 use Rattle.knx_model.specs.declared.project.Statement.{Statement}
 use Rattle.knx_model.specs.declared.script.Cut.{Cut}
@@ -23,7 +24,7 @@ use Rattle.knx_top.specs.declared.commission.Ended.{Ended}
 use Rattle.knx_top.specs.declared.download.JobEnd.{JobEnd}
 use Rattle.knx_top.specs.declared.download.JobEnd.TheVariants.{Done, Failed}
 use Rattle.knx_top.specs.Order.{OrderFor, IsOrder, IsBefore, IsImage}
-use Rattle.knx_top.specs.Ended.{start_with, log_of, HasLoaded, HasEnded, HasReported, Reported}
+use Rattle.knx_top.specs.Ended.{start_with, log_of, run_outcome, HasLoaded, HasEnded, HasReported, Reported}
 
 -- ---- where the call stops before a run
 
@@ -146,3 +147,10 @@ decided_wanting c order before t o start h = (refl, inr (t, (refl, begun c order
 
 pub decided_ran : (c : Commission) (order : Order) (before : Option Trace) (t : Trace) (ended : Ended) → IsOrder c order → t.start ≡ start_with order.device order.before → HasLoaded order.image order.cuts t → Reported order.image order.device t ended → Decided (Ok c) before (Some t) (Reports ended.report (ended.job ∷ []) (ended.device ∷ []))
 decided_ran c order before t ended o start h r = (t, (refl, ran c order t ended o start h r))
+
+pub decided_all : (c : Commission) (order : Order) (before after : Option Trace) (t : Trace) (image : Image) (cuts : List Cut) (result : Result Ended NoMemory)
+    → IsOrder c order → image ≡ order.image → cuts ≡ order.cuts → t.start ≡ start_with order.device order.before → after ≡ Some t
+    → HasLoaded image cuts t → IfOk result (λ ended. Reported image order.device t ended) → Decided (Ok c) before after (run_outcome result)
+decided_all c order before after t image cuts (Ok ended) o i l start a h r =
+    rw a (decided_ran c order before t ended o start (rw (i, l) at h) (rw i at r))
+decided_all c order before after t image cuts (Err why) o i l start a h r = rw a (decided_wanting c order before t o start (rw (i, l) at h))

@@ -74,12 +74,7 @@ fn job_word(check: bool) -> &'static str
 }
 
 /// Appends the words of a job before its end, and a space.
-fn put_job_words(
-    alloc: Global,
-    out: &mut Octets,
-    number: u64,
-    job: JobWord,
-) -> Result<(), NoMemory>
+fn put_job_words(alloc: Global, out: &mut Octets, number: u64, job: JobWord) -> Result<(), NoMemory>
     ensures { OnOk result (out.new ≡ out.old ++ (join_with_byte 32 (codes "job" ∷ decimal number ∷ job_word job.check ∷ device_text job.device ∷ []) ++ 32 ∷ [])) }
 {
     out.append(b"job ")?;
