@@ -1,0 +1,68 @@
+//! Files on disk: they tell nothing of their contents, and their count rises at each error.
+
+ghost use Rattle.std.specs.Prelude.{◌≡◌};
+
+use knx_model::{FileFault, Files, Octets};
+use std::alloc::Global;
+use std::fs::File;
+use std::io::{self, ErrorKind, Read};
+use std::rt;
+
+/// The number of octets that one read asks for.
+const PIECE: usize = 65_536;
+
+/// The files of the system.
+#[derive(Drop)]
+pub struct Disk<'a, R> {
+    rt: &'a R,
+    faults: u64,
+}
+
+impl<'a, R: rt::Files> Disk<'a, R> {
+    pub fn new(rt: &'a R) -> Self
+        ensures { result.faults ≡ 0 }
+    {
+        Disk { rt, faults: 0 }
+    }
+}
+
+/// The first `limit` octets of a reader.
+fn read_front<F: Read>(alloc: Global, file: &mut F, limit: usize) -> io::Result<Vec<u8>> {
+    let mut piece = vec![in alloc; 0; PIECE]?;
+    let mut octets = Vec::new(alloc);
+    for _ in 0..u64::MAX {
+        let count = file.read(piece.as_mut_slice())?;
+        let room = limit.saturating_sub(octets.len());
+        if count == 0 || room == 0 {
+            break;
+        }
+        octets.extend_from_slice(&piece[..count.min(room)])?;
+    }
+    Ok(octets)
+}
+
+impl<R: rt::Files> Files for Disk<'_, R> {
+    ghost use Rattle.knx_model.specs.Outside.{Untold};
+
+    ghost faults = { λ d. d.faults };
+
+    ghost file = { λ d name. Untold };
+
+    fn read(&mut self, alloc: Global, name: &str, limit: usize) -> Result<Octets, FileFault> {
+        let read = match File::open(self.rt, name) {
+            Ok(mut file) => read_front(alloc, &mut file, limit),
+            Err(error) => Err(error),
+        };
+        match read {
+            Ok(octets) => Ok(Octets::from_vec(octets)),
+            Err(error) => match error.kind() {
+                ErrorKind::NotFound => Err(FileFault::NotThere),
+                ErrorKind::OutOfMemory => Err(FileFault::NoMemory),
+                _ => {
+                    self.faults = self.faults.saturating_add(1);
+                    Err(FileFault::Failed)
+                }
+            },
+        }
+    }
+}

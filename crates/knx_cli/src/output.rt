@@ -1,0 +1,45 @@
+//! Standard output: it tells nothing of what it took, and its count rises at each error.
+
+ghost use Rattle.std.specs.Prelude.{◌≡◌};
+
+use knx_model::{Sink, SinkFailed};
+use std::io::{self, Write};
+
+/// The standard output of the program.
+#[derive(Drop)]
+pub struct Output<'a, R> {
+    rt: &'a R,
+    faults: u64,
+}
+
+impl<'a, R: Print> Output<'a, R> {
+    pub fn new(rt: &'a R) -> Self
+        ensures { result.faults ≡ 0 }
+    {
+        Output { rt, faults: 0 }
+    }
+}
+
+fn write_all<R: Print>(rt: &R, octets: &[u8]) -> io::Result<()> {
+    let mut out = io::writer(rt);
+    out.write_all(octets)?;
+    out.flush()
+}
+
+impl<R: Print> Sink for Output<'_, R> {
+    ghost use Rattle.std.specs.Prelude.{None};
+
+    ghost faults = { λ o. o.faults };
+
+    ghost taken = { λ o. None };
+
+    fn write(&mut self, octets: &[u8]) -> Result<(), SinkFailed> {
+        match write_all(self.rt, octets) {
+            Ok(()) => Ok(()),
+            Err(_) => {
+                self.faults = self.faults.saturating_add(1);
+                Err(SinkFailed)
+            }
+        }
+    }
+}
