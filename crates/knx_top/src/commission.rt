@@ -16,8 +16,7 @@ use crate::judge::{Order, judge};
 use crate::texts::Texts;
 use download_plan::LoadPlan;
 use knx_model::{
-    Cut, DeviceCase, Image, IndAddr, JobWord, List, LogEntry, LogWhat, NoMemory, Report, Sign,
-    Stop,
+    Cut, DeviceCase, Image, IndAddr, JobWord, List, LogEntry, LogWhat, NoMemory, Report, Sign, Stop,
 };
 use std::alloc::Global;
 

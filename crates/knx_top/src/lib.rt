@@ -16,3 +16,6 @@ mod texts;
 pub use bench::{Bench, Run};
 pub use call::knx;
 pub use knx_model::{BenchEvent, Status};
+
+#[cfg(test)]
+mod tests;

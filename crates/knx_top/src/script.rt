@@ -84,11 +84,7 @@ fn add(cuts: &mut List<Cut>, cut: Option<Cut>) -> Result<(), NoMemory>
 
 /// The cuts of a script, in order; none at all for a text that isn't a script of cuts of the device.
 #[tactic(auto, unfolding(knx_model::specs::Script::script_of))]
-pub fn cuts_in(
-    alloc: Global,
-    device: IndAddr,
-    octets: &[u8],
-) -> Result<Option<List<Cut>>, NoMemory>
+pub fn cuts_in(alloc: Global, device: IndAddr, octets: &[u8]) -> Result<Option<List<Cut>>, NoMemory>
     ensures { IfOk result (λ cuts. cuts ≡ script_of device octets.now) }
 {
     if octets.len() > MOST_OCTETS {

@@ -1,0 +1,206 @@
+use crate::{Bench, Status, knx};
+use knx_model::{MemoryFile, MemoryFiles, MemorySink, NoMemory, Octets};
+use std::alloc::Global;
+use std::test::Fail;
+
+const A: &[u8] = b"project hall
+ga 1/2/3 light
+ga 0/0/1 all
+device 1.1.5 inline
+object 1.1.5 1 1 CWT
+object 1.1.5 2 1 CW
+link 1.1.5 1 1/2/3
+link 1.1.5 2 0/0/1
+";
+
+const B: &[u8] = b"ga 1/2/3 light
+device 1.1.5 inline
+object 1.1.5 1 1 CW
+link 1.1.5 1 1/2/3
+";
+
+const C: &[u8] = b"ga 1/2/3 light
+device 1.1.5 inline
+object 1.1.5 1 1 CRWTU
+object 1.1.5 2 1 CW
+link 1.1.5 1 1/2/3
+link 1.1.5 2 1/2/3
+device 1.1.6 inline
+object 1.1.6 4 1 CW
+link 1.1.6 4 1/2/3
+device 1.1.7 inline
+object 1.1.7 1 1 CW
+link 1.1.7 1 1/2/3
+";
+
+const OTHER: &[u8] = b"device 1.1.6 inline\n";
+
+const NEW: &str = "job 1 load 1.1.5 done\ndevice 1.1.5 new\nmissed 0\n";
+
+const STOPPED: &str =
+    "job 1 load 1.1.5 failed closed closed closed\ndevice 1.1.5 stopped\nmissed 0\n";
+
+const OLD: &str = "job 1 load 1.1.5 failed closed closed closed\ndevice 1.1.5 old\nmissed 0\n";
+
+const USAGE: &str =
+    "usage: knx check, tables, sim, download, gateway, decode or big, with their words\n";
+
+/// The files of the tests, with a script of this text.
+fn files(alloc: Global, script: &[u8]) -> Result<MemoryFiles, NoMemory> {
+    let files = vec![in alloc;
+        MemoryFile::new(alloc, "a.txt", A)?,
+        MemoryFile::new(alloc, "b.txt", B)?,
+        MemoryFile::new(alloc, "c.txt", C)?,
+        MemoryFile::new(alloc, "other.txt", OTHER)?,
+        MemoryFile::new(alloc, "e", b"")?,
+        MemoryFile::new(alloc, "s", script)?,
+    ]?;
+    Ok(MemoryFiles::new(alloc, files))
+}
+
+/// The words that stand between spaces.
+fn words(alloc: Global, line: &str) -> Result<Vec<String>, NoMemory> {
+    let mut words = Vec::new(alloc);
+    for word in line.split_whitespace() {
+        words.push(String::from_str(alloc, word)?)?;
+    }
+    Ok(words)
+}
+
+/// What a call with these words writes, and its status.
+fn call(alloc: Global, line: &str, script: &[u8]) -> Result<(Status, Octets), NoMemory> {
+    let mut files = files(alloc, script)?;
+    let mut out = MemorySink::new(alloc);
+    let mut sim = Bench::empty(alloc);
+    let words = words(alloc, line)?;
+    let status = knx(alloc, words.as_slice(), &mut files, &mut out, &mut sim);
+    let MemorySink {
+        taken,
+        failing: _failing,
+        calls: _calls,
+        faults: _faults,
+    } = out;
+    Ok((status, taken))
+}
+
+#[test]
+fn each_command_answers_its_text_and_status(rt: HostRuntime) -> Result<(), Fail> {
+    let rows: [(&str, &[u8], &str, Status); 16] = [
+        ("sim a.txt e e", b"", NEW, Status::Done),
+        ("sim a.txt b.txt e", b"", NEW, Status::Done),
+        ("sim a.txt b.txt s", b"cut 1.1.5 1 0\n", NEW, Status::Done),
+        ("sim a.txt b.txt s", b"cut 1.1.5 20 1\n", NEW, Status::Done),
+        (
+            "sim a.txt b.txt s",
+            b"cut 1.1.5 1 1\ncut 1.1.5 2 0\ncut 1.1.5 3 0\n",
+            STOPPED,
+            Status::SomeFailed,
+        ),
+        (
+            "sim a.txt b.txt s",
+            b"cut 1.1.5 1 0\ncut 1.1.5 2 0\ncut 1.1.5 3 0\n",
+            OLD,
+            Status::SomeFailed,
+        ),
+        (
+            "sim c.txt e e",
+            b"",
+            "new line 0: 21 NotBuilt\n",
+            Status::Project,
+        ),
+        (
+            "sim e e e",
+            b"",
+            "new line 0: 21 NotBuilt\n",
+            Status::Project,
+        ),
+        (
+            "sim a.txt c.txt e",
+            b"",
+            "old line 0: 21 NotBuilt\n",
+            Status::Project,
+        ),
+        (
+            "sim a.txt other.txt e",
+            b"",
+            "old line 0: 21 NotBuilt\n",
+            Status::Project,
+        ),
+        (
+            "sim a.txt e s",
+            b"cut 1.1.5 1\n",
+            "script line 0: 21 NotBuilt\n",
+            Status::Script,
+        ),
+        (
+            "sim a.txt e s",
+            b"worn 1.1.5 5\n",
+            "script line 0: 21 NotBuilt\n",
+            Status::Script,
+        ),
+        (
+            "sim a.txt e s",
+            b"cut 1.1.6 1 0\n",
+            "script line 0: 21 NotBuilt\n",
+            Status::Script,
+        ),
+        (
+            "sim none.txt e e",
+            b"",
+            "read fault none.txt NotThere\n",
+            Status::Read,
+        ),
+        ("sim a.txt e e workers=9", b"", USAGE, Status::Usage),
+        ("", b"", USAGE, Status::Usage),
+    ];
+    for (line, script, text, status) in rows {
+        let (told, taken) = call(rt.alloc(), line, script).ok().ok_or("memory")?;
+        assert_eq!(rt; told, status, "{line}");
+        assert_eq!(rt; taken.as_slice(), text.as_bytes(), "{line}");
+    }
+    Ok(())
+}
+
+#[test]
+fn each_single_cut_ends_done_and_new(rt: HostRuntime) -> Result<(), Fail> {
+    let alloc = rt.alloc();
+    for n in 1..21u32 {
+        for k in [0, 1, 300u32] {
+            let script = format!(in alloc; "cut 1.1.5 {n} {k}\n")?;
+            let (told, taken) = call(alloc, "sim a.txt b.txt s", script.as_bytes())
+                .ok()
+                .ok_or("memory")?;
+            assert_eq!(rt; told, Status::Done, "write {n}, {k} octets");
+            assert_eq!(rt; taken.as_slice(), NEW.as_bytes(), "write {n}, {k} octets");
+        }
+    }
+    Ok(())
+}
+
+#[test]
+fn faults_of_the_outside_are_told(rt: HostRuntime) -> Result<(), Fail> {
+    let alloc = rt.alloc();
+    let words = words(alloc, "sim a.txt e e").ok().ok_or("memory")?;
+
+    let mut files_fine = files(alloc, b"").ok().ok_or("memory")?;
+    let mut out_fails = MemorySink::new(alloc);
+    out_fails.failing = vec![in alloc; 1]?;
+    let mut sim = Bench::empty(alloc);
+    let status = knx(
+        alloc,
+        words.as_slice(),
+        &mut files_fine,
+        &mut out_fails,
+        &mut sim,
+    );
+    assert_eq!(rt; status, Status::Write);
+    assert!(rt; out_fails.taken.is_empty());
+
+    let mut files_fail = files(alloc, b"").ok().ok_or("memory")?;
+    files_fail.failing = vec![in alloc; 2]?;
+    let mut out = MemorySink::new(alloc);
+    let status = knx(alloc, words.as_slice(), &mut files_fail, &mut out, &mut sim);
+    assert_eq!(rt; status, Status::Read);
+    assert_eq!(rt; out.taken.as_slice(), b"read fault e Failed\n".as_slice());
+    Ok(())
+}
