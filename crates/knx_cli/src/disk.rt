@@ -66,3 +66,31 @@ impl<R: rt::Files> Files for Disk<'_, R> {
         }
     }
 }
+
+#[cfg(test)]
+mod tests {
+    use super::*;
+    use std::fs;
+    use std::test::Fail;
+
+    #[test]
+    fn the_front_of_a_file_is_read_and_each_error_is_counted(rt: HostRuntime) -> Result<(), Fail> {
+        let alloc = rt.alloc();
+        fs::write(&rt, "disk_test.txt", b"0123456789")?;
+        let mut disk = Disk::new(&rt);
+        let front = disk.read(alloc, "disk_test.txt", 4);
+        let whole = disk.read(alloc, "disk_test.txt", 100);
+        fs::remove_file(&rt, "disk_test.txt")?;
+        let front = front.ok().ok_or("the front")?;
+        let whole = whole.ok().ok_or("the whole")?;
+        assert_eq!(rt; front.as_slice(), b"0123".as_slice());
+        assert_eq!(rt; whole.as_slice(), b"0123456789".as_slice());
+        let absent = disk.read(alloc, "disk_test.txt", 4).err();
+        assert_eq!(rt; absent, Some(FileFault::NotThere));
+        assert_eq!(rt; disk.faults, 0);
+        let folder = disk.read(alloc, ".", 4).err();
+        assert_eq!(rt; folder, Some(FileFault::Failed));
+        assert_eq!(rt; disk.faults, 1);
+        Ok(())
+    }
+}

@@ -43,3 +43,15 @@ impl<R: Print> Sink for Output<'_, R> {
         }
     }
 }
+
+#[cfg(test)]
+mod tests {
+    use super::*;
+
+    #[test]
+    fn a_write_that_succeeds_is_not_counted(rt: HostRuntime) {
+        let mut out = Output::new(&rt);
+        assert_eq!(rt; out.write(b""), Ok(()));
+        assert_eq!(rt; out.faults, 0);
+    }
+}

@@ -1,5 +1,5 @@
 -- OLD, where it is a project that breaks no rule.
-use Rattle.std.proofs.Common.{ℕ, ◌≡◌, Bool, true, false, eqb, List, Option, Some, None, Result, Ok, Err, refl, ap, ◌∙◌, sym}
+use Rattle.std.proofs.Common.{ℕ, ◌≡◌, true, false, eqb, List, Option, Some, None, Ok, Err, refl, ap, ◌∙◌}
 use Rattle.std.specs.List.{list_all}
 use Rattle.knx_model.specs.declared.address.IndAddr.{IndAddr}
 use Rattle.knx_model.specs.declared.command.SimFile.TheVariants.{Old}

@@ -1,8 +1,7 @@
 -- A whole call, from what was read to what was written.
-use Rattle.std.proofs.Common.{ℕ, ◌≡◌, List, [], ◌∷◌, Option, Some, None, Result, Ok, Err, refl, sym, ap, ◌∙◌, subst, inl, inr}
+use Rattle.std.proofs.Common.{ℕ, ◌≡◌, List, Option, Some, None, Result, Ok, Err, refl, subst, inl, inr}
 use Rattle.knx_model.specs.declared.command.Stop.{Stop}
 use Rattle.knx_model.specs.declared.command.Stop.TheVariants as stop
-use Rattle.knx_model.specs.declared.outside.files.FileFault.{FileFault}
 use Rattle.knx_model.specs.declared.outside.files.FileFault.TheVariants as fault
 use Rattle.knx_model.specs.declared.status.Status.{Status}
 use Rattle.knx_model.specs.declared.status.Status.TheVariants as status

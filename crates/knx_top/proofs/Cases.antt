@@ -1,6 +1,5 @@
 -- What a device is in the end.
-use Rattle.std.proofs.Common.{◌≡◌, List, Bool, true, false, Option, Some, None, cond, refl, sym, ap, ◌∙◌, subst}
-use Rattle.std.proofs.lemmas.Bool.{cases_Bool}
+use Rattle.std.proofs.Common.{◌≡◌, List, Bool, true, false, Option, Some, None, cond, refl, sym, ap, ◌∙◌}
 use Rattle.knx_model.specs.declared.address.IndAddr.{IndAddr}
 use Rattle.knx_model.specs.declared.config.Config.{Config}
 use Rattle.knx_model.specs.declared.config.Image.{Image}
@@ -8,7 +7,7 @@ use Rattle.knx_model.specs.declared.log.Case.TheVariants.{New, Old, Stopped}
 use Rattle.knx_model.specs.declared.project.Statement.{Statement}
 use Rattle.knx_model.specs.Device.{NonVolatile, all_loaded, segments, runs}
 use Rattle.knx_model.specs.Meaning.{meaning}
-use Rattle.knx_model.specs.Promises.{RunsProject, IsCase, IsNew, IsOld, IsStopped}
+use Rattle.knx_model.specs.Promises.{IsCase, IsNew, IsOld, IsStopped}
 use Rattle.knx_model.specs.Tables.{StandsFor}
 
 image_where : Bool → Image → Option Image

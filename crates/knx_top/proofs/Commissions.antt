@@ -1,5 +1,5 @@
 -- A run keeps the promises of the commission that it was begun with.
-use Rattle.std.proofs.Common.{ℕ, ◌≡◌, ◌≢◌, ◌+◌, ◌-◌, ◌<◌, ◌≤◌, Bool, true, false, List, [], ◌∷◌, ◌++◌, length, take, replicate, Option, Some, None, Result, Ok, Err, refl, sym, ap, ◌∙◌, subst, arith, inl, inr, ◌⊎◌, length-append}
+use Rattle.std.proofs.Common.{ℕ, ◌≡◌, ◌≢◌, ◌-◌, ◌≤◌, true, List, [], ◌∷◌, ◌++◌, length, replicate, Option, Some, None, Result, Ok, Err, refl, sym, ap, ◌∙◌, subst, arith, inl, inr, ◌⊎◌, length-append}
 use Rattle.std.specs.Prelude.{IfSome, IfOk}
 use Rattle.std.proofs.lemmas.List.{take_all, length-replicate}
 use Rattle.knx_model.specs.declared.address.IndAddr.{IndAddr}
@@ -7,24 +7,22 @@ use Rattle.knx_model.specs.declared.command.Stop.{Stop}
 use Rattle.knx_model.specs.declared.command.Stop.TheVariants as stop
 use Rattle.knx_model.specs.declared.config.Image.{Image}
 use Rattle.knx_model.specs.declared.lists.NoMemory.{NoMemory}
-use Rattle.knx_model.specs.declared.log.LogEntry.{LogEntry}
 use Rattle.knx_model.specs.declared.project.Statement.{Statement}
 use Rattle.knx_model.specs.declared.script.Cut.{Cut}
 use Rattle.knx_model.specs.Bench.{Trace, now, moment, replay, Went}
-use Rattle.knx_model.specs.Command.{Commission, Decided, Stops, Reports, Outcome, Began, Ran, IsOver, IsDone, HasFailed, PlanWasGiven}
-use Rattle.knx_model.specs.Device.{NonVolatile, DeviceState, runs, blank, blank_object, loaded_with, Fits}
+use Rattle.knx_model.specs.Command.{Commission, Decided, Stops, Reports, Outcome, Began, Ran, IsOver, IsDone, HasFailed}
+use Rattle.knx_model.specs.Device.{NonVolatile, DeviceState, blank_object, Fits}
 use Rattle.knx_model.specs.Meaning.{meaning}
-use Rattle.knx_model.specs.Plan.{HasCapacities, OldStoppedOrImage, load_plan, GaveWhole}
-use Rattle.knx_model.specs.Promises.{StartOf, BeginsLoaded, BeginsBlank, OldStoppedOrNew, RunsProject, AtEveryMoment, ToldTruly}
-use Rattle.knx_model.specs.Rules.{has_device}
-use Rattle.knx_model.specs.Script.{Follows, cut_count}
+use Rattle.knx_model.specs.Plan.{HasCapacities, OldStoppedOrImage}
+use Rattle.knx_model.specs.Promises.{StartOf, BeginsLoaded, BeginsBlank, OldStoppedOrNew, RunsProject, ToldTruly}
+use Rattle.knx_model.specs.Script.{Follows}
 use Rattle.knx_model.specs.Tables.{StandsFor}
 use Rattle.knx_top.specs.declared.judge.Order.{Order}
 use Rattle.knx_top.specs.declared.commission.Ended.{Ended}
 use Rattle.knx_top.specs.declared.download.JobEnd.{JobEnd}
 use Rattle.knx_top.specs.declared.download.JobEnd.TheVariants.{Done, Failed}
-use Rattle.knx_top.specs.Order.{OrderFor, IsOrder, IsBefore, IsImage}
-use Rattle.knx_top.specs.Ended.{start_with, log_of, run_outcome, HasLoaded, HasEnded, HasReported, Reported}
+use Rattle.knx_top.specs.Order.{OrderFor, IsOrder, IsBefore}
+use Rattle.knx_top.specs.Ended.{start_with, log_of, run_outcome, HasLoaded, HasEnded, Reported}
 
 -- ---- where the call stops before a run
 

@@ -1,5 +1,5 @@
 -- A count that rose in a part of a call rose in the call.
-use Rattle.std.proofs.Common.{ℕ, ◌≡◌, ◌<◌, ◌≤◌, ◌⊎◌, arith}
+use Rattle.std.proofs.Common.{ℕ, ◌≤◌, arith}
 use Rattle.knx_model.specs.Outside.{Rose}
 
 pub rose_before : (a b c : ℕ) → Rose a b → a ≤ b → b ≤ c → Rose a c

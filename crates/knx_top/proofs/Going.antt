@@ -1,5 +1,5 @@
 -- An attempt goes on: operation after operation, with the plan's promise for those that are left.
-use Rattle.std.proofs.Common.{ℕ, ◌≡◌, ◌+◌, ◌<◌, Bool, true, List, [], ◌∷◌, ◌++◌, length, drop, take, get_or, append_assoc, append-nil, Option, Some, None, refl, sym, ◌∙◌, ap, subst, arith, inl, inr, drop-cons, add-one, suc, ltb}
+use Rattle.std.proofs.Common.{ℕ, ◌≡◌, ◌+◌, ◌<◌, Bool, true, List, [], ◌∷◌, ◌++◌, length, drop, take, append_assoc, append-nil, Option, Some, None, refl, sym, ◌∙◌, ap, subst, arith, inl, inr, drop-cons, add-one, suc, ltb}
 use Rattle.std.specs.List.{slice_get}
 use Rattle.std.proofs.lemmas.List.{take_more, drop_all, take_all}
 use Rattle.std.proofs.lemmas.Option.{slice_get_within, get_or_from_slice_get}

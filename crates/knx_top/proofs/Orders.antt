@@ -1,5 +1,5 @@
 -- What was judged was compiled.
-use Rattle.std.proofs.Common.{ℕ, ◌≡◌, Bool, true, false, List, [], ◌∷◌, Option, Some, None, Result, Ok, Err, refl, sym, ap, ◌∙◌, subst}
+use Rattle.std.proofs.Common.{ℕ, ◌≡◌, List, Option, Some, None, Result, Ok, Err, refl, ◌∙◌, subst}
 use Rattle.knx_model.specs.declared.address.IndAddr.{IndAddr}
 use Rattle.knx_model.specs.declared.command.SimFile.TheVariants.{New, Old, Script}
 use Rattle.knx_model.specs.declared.command.Stop.{Stop}
@@ -9,8 +9,7 @@ use Rattle.knx_model.specs.declared.script.Cut.{Cut}
 use Rattle.knx_model.specs.Command.{Commission, Line, Reads, ◌>>=◌, built, read_of, project_of, line_of, before_of, judged}
 use Rattle.knx_model.specs.Script.{script_of}
 use Rattle.knx_top.specs.declared.project.Compiled.{Compiled}
-use Rattle.knx_top.specs.declared.judge.Order.{Order}
-use Rattle.knx_top.specs.Order.{OrderFor, LineFor, BeforeFor, IsLine, IsOrder}
+use Rattle.knx_top.specs.Order.{OrderFor, LineFor, BeforeFor, IsLine}
 
 -- the part of `judged` behind the reads
 rest : List ℕ → List ℕ → Option Line → Result Commission Stop

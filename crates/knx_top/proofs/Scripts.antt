@@ -1,7 +1,7 @@
 -- The events of a bench follow its script.
-use Rattle.std.proofs.Common.{ℕ, ◌≡◌, Bool, true, false, List, [], ◌∷◌, ◌++◌, Some, None, refl, sym, ◌∙◌, ap, subst}
+use Rattle.std.proofs.Common.{ℕ, ◌≡◌, true, false, List, [], ◌∷◌, ◌++◌, Some, None, refl, sym, ◌∙◌, ap, subst}
 use Rattle.knx_model.specs.declared.bench.BenchEvent.{BenchEvent}
-use Rattle.knx_model.specs.declared.bench.BenchEvent.TheVariants.{Give, GiveTorn, On}
+use Rattle.knx_model.specs.declared.bench.BenchEvent.TheVariants.{Give, On}
 use Rattle.knx_model.specs.declared.script.Cut.{Cut}
 use Rattle.knx_model.specs.Device.{DeviceState, is_write, effect_in}
 use Rattle.knx_model.specs.Bench.{Trace, happens, replay, now, after, cut_after}

@@ -1,9 +1,9 @@
 -- What may come of one operation of an attempt.
-use Rattle.std.specs.Prelude.{ℕ, ◌≡◌, Bool, List, Option, ◌⊎◌}
+use Rattle.std.specs.Prelude.{ℕ, ◌≡◌, Bool, List, ◌⊎◌}
 use Rattle.knx_model.specs.declared.bench.BenchEvent.TheVariants.{Give, GiveTorn, On}
 use Rattle.knx_model.specs.declared.plan.Op.{Op}
 use Rattle.knx_model.specs.declared.script.Cut.{Cut}
-use Rattle.knx_model.specs.Bench.{Trace, now, after, answered, cut_after}
+use Rattle.knx_model.specs.Bench.{Trace, now, after, answered}
 use Rattle.knx_model.specs.Plan.{apdu_of, expected_of}
 use Rattle.knx_model.specs.Script.{Follows, write_count}
 

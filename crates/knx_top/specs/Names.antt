@@ -1,5 +1,4 @@
 -- The words of the command `sim`, and what was read, as the definitions see them.
-use Rattle.std.specs.Prelude.{ℕ, List, Result}
 use Rattle.knx_model.specs.Command.{SimWords, Reads}
 use Rattle.knx_top.specs.declared.asked.SimNames.{SimNames}
 use Rattle.knx_top.specs.declared.texts.Texts.{Texts}

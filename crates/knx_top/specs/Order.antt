@@ -1,5 +1,5 @@
 -- What a run is begun with in the code, and the commission of the definitions that it stands for.
-use Rattle.std.specs.Prelude.{ℕ, ◌≡◌, true, false, List, [], ◌∷◌, Option, Some, None, Result, Ok, Err}
+use Rattle.std.specs.Prelude.{◌≡◌, true, false, List, [], ◌∷◌, Option, Some, None, Result, Ok, Err}
 use Rattle.knx_model.specs.declared.address.IndAddr.{IndAddr}
 use Rattle.knx_model.specs.declared.command.SimFile.{SimFile}
 use Rattle.knx_model.specs.declared.command.Stop.{Stop}

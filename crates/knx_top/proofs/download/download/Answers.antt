@@ -1,5 +1,4 @@
 use Rattle.knx_top.proofs.Going.{Went_again}
-use Rattle.knx_top.proofs.Scripts.{scripted_none}
 use Rattle.std.proofs.Common.{arith}
 use Rattle.knx_top.proofs.download.download.Goals as goal
 
