@@ -97,18 +97,30 @@ apdu_fields (DescriptorResponse kind value) = decimal kind ∷ octets_text (tpdu
 apdu_fields apdu = property_fields apdu
 
 -- a service and its fields
-abbrev pub apdu_words : Apdu → List (List ℕ)
+unfoldable pub apdu_words : Apdu → List (List ℕ)
 apdu_words apdu = apdu_name apdu ∷ apdu_fields apdu
 
 -- ---- the TPDU
 
+abbrev pub tpdu_name : Tpdu → List ℕ
+tpdu_name Connect = codes "connect"
+tpdu_name Disconnect = codes "disconnect"
+tpdu_name (Ack number) = codes "ack"
+tpdu_name (Nak number) = codes "nak"
+tpdu_name (Unnumbered apdu) = codes "unnumbered"
+tpdu_name (Numbered number apdu) = codes "numbered"
+
+abbrev pub tpdu_fields : Tpdu → List (List ℕ)
+tpdu_fields Connect = []
+tpdu_fields Disconnect = []
+tpdu_fields (Ack number) = decimal number ∷ []
+tpdu_fields (Nak number) = decimal number ∷ []
+tpdu_fields (Unnumbered apdu) = apdu_words apdu
+tpdu_fields (Numbered number apdu) = decimal number ∷ apdu_words apdu
+
+-- a form of TPDU and its fields
 abbrev pub tpdu_words : Tpdu → List (List ℕ)
-tpdu_words Connect = codes "connect" ∷ []
-tpdu_words Disconnect = codes "disconnect" ∷ []
-tpdu_words (Ack number) = codes "ack" ∷ decimal number ∷ []
-tpdu_words (Nak number) = codes "nak" ∷ decimal number ∷ []
-tpdu_words (Unnumbered apdu) = codes "unnumbered" ∷ apdu_words apdu
-tpdu_words (Numbered number apdu) = codes "numbered" ∷ decimal number ∷ apdu_words apdu
+tpdu_words frame = tpdu_name frame ∷ tpdu_fields frame
 
 abbrev pub tpdu_why : TpduRefused → List ℕ
 tpdu_why tpdu_refused.Empty = codes "Empty"

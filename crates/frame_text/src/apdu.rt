@@ -146,6 +146,7 @@ fn put_fields(alloc: Global, out: &mut Octets, apdu: &Apdu) -> Result<(), NoMemo
 }
 
 /// Appends the word of a service and its fields.
+#[tactic(auto, unfolding(crate::specs::FrameText::apdu_words))]
 pub fn put_apdu(alloc: Global, out: &mut Octets, apdu: &Apdu) -> Result<(), NoMemory>
     ensures { OnOk result (out.new ≡ out.old ++ spaced (apdu_words apdu.now)) }
 {

@@ -3,38 +3,48 @@
 ghost use Rattle.std.specs.Prelude.{◌≡◌, ◌∷◌, [], ◌++◌, OnOk, codes};
 ghost use Rattle.knx_model.specs.Apdu.{refusal_number};
 ghost use Rattle.frame_text.specs.Spaced.{spaced};
-ghost use Rattle.frame_text.specs.FrameText.{tpdu_words, tpdu_why, tpdu_line, tpdu_refusal_line};
+ghost use Rattle.frame_text.specs.FrameText.{tpdu_name, tpdu_fields, tpdu_words, tpdu_why, tpdu_line, tpdu_refusal_line};
 
 use crate::apdu::put_apdu;
 use crate::pieces::{put_decimal, put_refusal, put_word};
 use knx_model::{NoMemory, Octets, Tpdu, TpduRefused};
 use std::alloc::Global;
 
-/// Appends the form of a TPDU and its fields.
-fn put_form(alloc: Global, out: &mut Octets, frame: &Tpdu) -> Result<(), NoMemory>
-    ensures { OnOk result (out.new ≡ out.old ++ spaced (tpdu_words frame.now)) }
+fn name_of(frame: &Tpdu) -> &'static str
+    ensures { result.now ≡ tpdu_name frame.now }
 {
     match frame {
-        Tpdu::Connect => put_word(out, "connect"),
-        Tpdu::Disconnect => put_word(out, "disconnect"),
-        Tpdu::Ack(number) => {
-            put_word(out, "ack")?;
-            put_decimal(alloc, out, u64::from(*number))
-        }
-        Tpdu::Nak(number) => {
-            put_word(out, "nak")?;
-            put_decimal(alloc, out, u64::from(*number))
-        }
-        Tpdu::Unnumbered(apdu) => {
-            put_word(out, "unnumbered")?;
-            put_apdu(alloc, out, apdu)
-        }
+        Tpdu::Connect => "connect",
+        Tpdu::Disconnect => "disconnect",
+        Tpdu::Ack(_) => "ack",
+        Tpdu::Nak(_) => "nak",
+        Tpdu::Unnumbered(_) => "unnumbered",
+        Tpdu::Numbered { .. } => "numbered",
+    }
+}
+
+fn put_fields(alloc: Global, out: &mut Octets, frame: &Tpdu) -> Result<(), NoMemory>
+    ensures { OnOk result (out.new ≡ out.old ++ spaced (tpdu_fields frame.now)) }
+{
+    match frame {
+        Tpdu::Connect => Ok(()),
+        Tpdu::Disconnect => Ok(()),
+        Tpdu::Ack(number) => put_decimal(alloc, out, u64::from(*number)),
+        Tpdu::Nak(number) => put_decimal(alloc, out, u64::from(*number)),
+        Tpdu::Unnumbered(apdu) => put_apdu(alloc, out, apdu),
         Tpdu::Numbered { number, apdu } => {
-            put_word(out, "numbered")?;
             put_decimal(alloc, out, u64::from(*number))?;
             put_apdu(alloc, out, apdu)
         }
     }
+}
+
+/// Appends the word of a form and its fields.
+fn put_form(alloc: Global, out: &mut Octets, frame: &Tpdu) -> Result<(), NoMemory>
+    ensures { OnOk result (out.new ≡ out.old ++ spaced (tpdu_words frame.now)) }
+{
+    put_word(out, name_of(frame))?;
+    put_fields(alloc, out, frame)
 }
 
 /// Appends the line of a TPDU.
