@@ -1,5 +1,5 @@
 -- The text of octets, from what they were read as.
-use Rattle.std.proofs.Common.{◌≡◌, ℕ, List, ◌++◌, Result, Ok, Err, IfOk, inl, inr}
+use Rattle.std.proofs.Common.{◌≡◌, ℕ, List, Result, Ok, Err, IfOk, inl, inr}
 use Rattle.knx_model.specs.declared.frames.tpdu.Tpdu.{Tpdu}
 use Rattle.knx_model.specs.declared.frames.tpdu.TpduRefused.{TpduRefused}
 use Rattle.knx_model.specs.declared.frames.cemi.Ldata.{Ldata}

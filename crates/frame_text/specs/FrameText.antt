@@ -1,7 +1,7 @@
 -- The text of a datagram of KNXnet/IP, in up to three lines: the frame of KNXnet/IP, the frame of the link layer in a tunnelling
 -- request, and the TPDU in that one. Where octets are no frame, the last line has the number and the word of the least rule that
 -- they break. Numbers are decimal; octets are two hexadecimal digits each, with capital letters.
-use Rattle.std.specs.Prelude.{◌≡◌, ℕ, ◌/◌, ◌%◌, ◌+◌, Bool, true, false, ◌&&◌, ◌⊎◌, nat_lt, nat_le, codes, List, [], ◌∷◌, ◌++◌, length, Option, Some, None, if◌then◌else◌}
+use Rattle.std.specs.Prelude.{◌≡◌, ℕ, ◌/◌, ◌%◌, ◌+◌, Bool, ◌&&◌, ◌⊎◌, nat_lt, nat_le, codes, List, [], ◌∷◌, ◌++◌, length, Option, Some, None, if◌then◌else◌}
 use Rattle.std.specs.List.{join_with_byte, flat_map}
 use Rattle.std.specs.Fmt.{decimal}
 use Rattle.knx_model.specs.declared.address.IndAddr.{IndAddr}
