@@ -1,0 +1,119 @@
+//! The line of a frame of the link layer (KNX standard 3/6/3, common EMI).
+
+ghost use Rattle.std.specs.Prelude.{◌≡◌, ◌∷◌, [], ◌++◌, OnOk, codes};
+ghost use Rattle.std.specs.Fmt.{decimal};
+ghost use Rattle.knx_model.specs.Cemi.{refusal_number};
+ghost use Rattle.frame_text.specs.Spaced.{spaced};
+ghost use Rattle.frame_text.specs.FrameText.{code_word, destination_word, individual_text, destination_text, error_words, cemi_words, cemi_why, cemi_line, cemi_refusal_line};
+
+use crate::pieces::{put_decimal, put_group, put_individual, put_refusal, put_word};
+use knx_model::{CemiRefused, IndAddr, Ldata, LdataCode, NoMemory, Octets};
+use std::alloc::Global;
+
+fn code_word(code: LdataCode) -> &'static str
+    ensures { result.now ≡ code_word code }
+{
+    match code {
+        LdataCode::Req => "req",
+        LdataCode::Con => "con",
+        LdataCode::Ind => "ind",
+    }
+}
+
+fn destination_word(group: bool) -> &'static str
+    ensures { result.now ≡ destination_word group }
+{
+    if group { "group" } else { "individual" }
+}
+
+fn put_destination(alloc: Global, out: &mut Octets, group: bool, raw: u16) -> Result<(), NoMemory>
+    ensures { OnOk result (out.new ≡ out.old ++ 32 ∷ destination_text group raw) }
+{
+    if group {
+        put_group(alloc, out, raw)
+    } else {
+        put_individual(alloc, out, IndAddr { raw })
+    }
+}
+
+/// Appends the kind of the destination, the source and the destination.
+fn put_addresses(alloc: Global, out: &mut Octets, frame: &Ldata) -> Result<(), NoMemory>
+    ensures { OnOk result (out.new ≡ out.old ++ spaced (destination_word frame.now.group ∷ individual_text frame.now.source ∷ destination_text frame.now.group frame.now.destination ∷ [])) }
+{
+    let source = IndAddr { raw: frame.source };
+    put_word(out, destination_word(frame.group))?;
+    put_individual(alloc, out, source)?;
+    put_destination(alloc, out, frame.group, frame.destination)
+}
+
+/// Appends priority and hop count.
+fn put_control(alloc: Global, out: &mut Octets, priority: u8, hops: u8) -> Result<(), NoMemory>
+    ensures { OnOk result (out.new ≡ out.old ++ spaced (codes "priority" ∷ decimal priority ∷ codes "hops" ∷ decimal hops ∷ [])) }
+{
+    put_word(out, "priority")?;
+    put_decimal(alloc, out, u64::from(priority))?;
+    put_word(out, "hops")?;
+    put_decimal(alloc, out, u64::from(hops))
+}
+
+fn put_error(out: &mut Octets, error: bool) -> Result<(), NoMemory>
+    ensures { OnOk result (out.new ≡ out.old ++ spaced (error_words error)) }
+{
+    if error {
+        put_word(out, "error")
+    } else {
+        Ok(())
+    }
+}
+
+/// Appends what stands in the frame before its TPDU.
+fn put_fields(alloc: Global, out: &mut Octets, frame: &Ldata) -> Result<(), NoMemory>
+    ensures { OnOk result (out.new ≡ out.old ++ spaced (cemi_words frame.now)) }
+{
+    put_word(out, code_word(frame.code))?;
+    put_addresses(alloc, out, frame)?;
+    put_control(alloc, out, frame.priority, frame.hops)?;
+    put_error(out, frame.error)
+}
+
+/// Appends the line of a frame.
+#[tactic(auto, using(crate::proofs::Lines::line_spaced))]
+pub fn put_line(alloc: Global, out: &mut Octets, frame: &Ldata) -> Result<(), NoMemory>
+    ensures { OnOk result (out.new ≡ out.old ++ cemi_line frame.now) }
+{
+    out.append(b"cemi")?;
+    put_fields(alloc, out, frame)?;
+    out.push(b'\n')
+}
+
+fn number_of(why: CemiRefused) -> u64
+    ensures { result ≡ refusal_number why }
+{
+    match why {
+        CemiRefused::Short => 1,
+        CemiRefused::Code => 2,
+        CemiRefused::Extended => 3,
+        CemiRefused::Length => 4,
+    }
+}
+
+fn word_of(why: CemiRefused) -> &'static str
+    ensures { result.now ≡ cemi_why why }
+{
+    match why {
+        CemiRefused::Short => "Short",
+        CemiRefused::Code => "Code",
+        CemiRefused::Extended => "Extended",
+        CemiRefused::Length => "Length",
+    }
+}
+
+/// Appends the line of a refusal.
+#[tactic(auto, using(crate::proofs::Lines::line_spaced))]
+pub fn put_refusal_line(alloc: Global, out: &mut Octets, why: CemiRefused) -> Result<(), NoMemory>
+    ensures { OnOk result (out.new ≡ out.old ++ cemi_refusal_line why) }
+{
+    out.append(b"cemi")?;
+    put_refusal(alloc, out, number_of(why), word_of(why))?;
+    out.push(b'\n')
+}

@@ -1,0 +1,157 @@
+//! The line of a frame of KNXnet/IP (ISO 22510).
+
+ghost use Rattle.std.specs.Prelude.{◌≡◌, ◌∷◌, [], ◌++◌, OnOk, codes};
+ghost use Rattle.knx_model.specs.KnxNetIp.{refusal_number};
+ghost use Rattle.frame_text.specs.Spaced.{spaced};
+ghost use Rattle.frame_text.specs.FrameText.{channel_words, number_words, status_words, tunnel_words, ip_name, ip_fields, ip_words, ip_why, ip_line, ip_refusal_line};
+
+use crate::pieces::{put_decimal, put_individual, put_octet, put_refusal, put_word};
+use knx_model::{IndAddr, IpFrame, IpRefused, NoMemory, Octets};
+use std::alloc::Global;
+
+fn put_channel(alloc: Global, out: &mut Octets, channel: u8) -> Result<(), NoMemory>
+    ensures { OnOk result (out.new ≡ out.old ++ spaced (channel_words channel)) }
+{
+    put_word(out, "channel")?;
+    put_decimal(alloc, out, u64::from(channel))
+}
+
+fn put_number(alloc: Global, out: &mut Octets, number: u8) -> Result<(), NoMemory>
+    ensures { OnOk result (out.new ≡ out.old ++ spaced (number_words number)) }
+{
+    put_word(out, "number")?;
+    put_decimal(alloc, out, u64::from(number))
+}
+
+fn put_status(out: &mut Octets, status: u8) -> Result<(), NoMemory>
+    ensures { OnOk result (out.new ≡ out.old ++ spaced (status_words status)) }
+{
+    put_word(out, "status")?;
+    put_octet(out, status)
+}
+
+fn put_tunnel(alloc: Global, out: &mut Octets, tunnel: Option<IndAddr>) -> Result<(), NoMemory>
+    ensures { OnOk result (out.new ≡ out.old ++ spaced (tunnel_words tunnel)) }
+{
+    match tunnel {
+        None => Ok(()),
+        Some(address) => {
+            put_word(out, "tunnel")?;
+            put_individual(alloc, out, address)
+        }
+    }
+}
+
+fn name_of(frame: &IpFrame) -> &'static str
+    ensures { result.now ≡ ip_name frame.now }
+{
+    match frame {
+        IpFrame::ConnectRequest => "connect-request",
+        IpFrame::ConnectResponse { .. } => "connect-response",
+        IpFrame::StateRequest { .. } => "connectionstate-request",
+        IpFrame::StateResponse { .. } => "connectionstate-response",
+        IpFrame::DisconnectRequest { .. } => "disconnect-request",
+        IpFrame::DisconnectResponse { .. } => "disconnect-response",
+        IpFrame::TunnellingRequest { .. } => "tunnelling-request",
+        IpFrame::TunnellingAck { .. } => "tunnelling-ack",
+    }
+}
+
+fn put_answer(alloc: Global, out: &mut Octets, channel: u8, status: u8) -> Result<(), NoMemory>
+    ensures { OnOk result (out.new ≡ out.old ++ spaced (channel_words channel ++ status_words status)) }
+{
+    put_channel(alloc, out, channel)?;
+    put_status(out, status)
+}
+
+fn put_counted(alloc: Global, out: &mut Octets, channel: u8, number: u8) -> Result<(), NoMemory>
+    ensures { OnOk result (out.new ≡ out.old ++ spaced (channel_words channel ++ number_words number)) }
+{
+    put_channel(alloc, out, channel)?;
+    put_number(alloc, out, number)
+}
+
+fn put_fields(alloc: Global, out: &mut Octets, frame: &IpFrame) -> Result<(), NoMemory>
+    ensures { OnOk result (out.new ≡ out.old ++ spaced (ip_fields frame.now)) }
+{
+    match frame {
+        IpFrame::ConnectRequest => Ok(()),
+        IpFrame::ConnectResponse {
+            channel,
+            status,
+            tunnel,
+        } => {
+            put_answer(alloc, out, *channel, *status)?;
+            put_tunnel(alloc, out, *tunnel)
+        }
+        IpFrame::StateRequest { channel } => put_channel(alloc, out, *channel),
+        IpFrame::StateResponse { channel, status } => put_answer(alloc, out, *channel, *status),
+        IpFrame::DisconnectRequest { channel } => put_channel(alloc, out, *channel),
+        IpFrame::DisconnectResponse { channel, status } => put_answer(
+            alloc, out, *channel, *status,
+        ),
+        IpFrame::TunnellingRequest {
+            channel,
+            number,
+            ..
+        } => put_counted(alloc, out, *channel, *number),
+        IpFrame::TunnellingAck {
+            channel,
+            number,
+            status,
+        } => {
+            put_counted(alloc, out, *channel, *number)?;
+            put_status(out, *status)
+        }
+    }
+}
+
+/// Appends the word of a service and its fields.
+fn put_service(alloc: Global, out: &mut Octets, frame: &IpFrame) -> Result<(), NoMemory>
+    ensures { OnOk result (out.new ≡ out.old ++ spaced (ip_words frame.now)) }
+{
+    put_word(out, name_of(frame))?;
+    put_fields(alloc, out, frame)
+}
+
+/// Appends the line of a frame.
+#[tactic(auto, using(crate::proofs::Lines::line_spaced))]
+pub fn put_line(alloc: Global, out: &mut Octets, frame: &IpFrame) -> Result<(), NoMemory>
+    ensures { OnOk result (out.new ≡ out.old ++ ip_line frame.now) }
+{
+    out.append(b"ip")?;
+    put_service(alloc, out, frame)?;
+    out.push(b'\n')
+}
+
+fn number_of(why: IpRefused) -> u64
+    ensures { result ≡ refusal_number why }
+{
+    match why {
+        IpRefused::Header => 1,
+        IpRefused::Service => 2,
+        IpRefused::Length => 3,
+        IpRefused::Body => 4,
+    }
+}
+
+fn word_of(why: IpRefused) -> &'static str
+    ensures { result.now ≡ ip_why why }
+{
+    match why {
+        IpRefused::Header => "Header",
+        IpRefused::Service => "Service",
+        IpRefused::Length => "Length",
+        IpRefused::Body => "Body",
+    }
+}
+
+/// Appends the line of a refusal.
+#[tactic(auto, using(crate::proofs::Lines::line_spaced))]
+pub fn put_refusal_line(alloc: Global, out: &mut Octets, why: IpRefused) -> Result<(), NoMemory>
+    ensures { OnOk result (out.new ≡ out.old ++ ip_refusal_line why) }
+{
+    out.append(b"ip")?;
+    put_refusal(alloc, out, number_of(why), word_of(why))?;
+    out.push(b'\n')
+}
