@@ -6,8 +6,10 @@ use Rattle.knx_model.specs.declared.outside.files.FileFault.TheVariants as fault
 use Rattle.knx_model.specs.declared.status.Status.{Status}
 use Rattle.knx_model.specs.declared.status.Status.TheVariants as status
 use Rattle.knx_model.specs.Bench.{Trace}
-use Rattle.knx_model.specs.Command.{AnswersTo, AreRead, Commission, Decided, Outcome, Stops, Reports, Reads, SimWords, Wrote, judged, outcome_status, outcome_text}
+use Rattle.knx_model.specs.Command.{Answers, AnswersTo, AreRead, Commission, Decided, Outcome, Stops, Reports, Reads, SimWords, Wrote, asked, judged, outcome_status, outcome_text}
 use Rattle.knx_model.specs.Outside.{Told}
+use Rattle.knx_top.specs.Call.{AnswersCall, DecodeTells, Decodes, NoMemory, Parts, IsNoHex, decode_word}
+use Rattle.frame_text.specs.FrameText.{IsFrameText, hex_word}
 
 -- memory may be wanting after all
 gave_up : (j : Result Commission Stop) (before after : Option Trace) (outcome : Outcome) → Decided j before after outcome → Decided j before after (Stops stop.NoMemory)
@@ -50,7 +52,7 @@ no_read = record { new = Err fault.NoMemory; old = Err fault.NoMemory; script = 
 none_known : {P : Type 0} (known : SimWords) → None ≡ Some known → P
 none_known known e = absurd cc
 
-pub answers_usage : (told : List ℕ → Told) (files_rose sink_rose : Type 0) (bench : Option Trace) (taken taken' : Option (List ℕ)) (ending : Status)
+answers_usage : (told : List ℕ → Told) (files_rose sink_rose : Type 0) (bench : Option Trace) (taken taken' : Option (List ℕ)) (ending : Status)
     → Wrote (outcome_text None (Stops stop.Usage)) status.Usage sink_rose taken taken' ending
     → AnswersTo None told files_rose sink_rose bench bench taken taken' ending
 answers_usage told files_rose sink_rose bench taken taken' ending wrote = record {
@@ -60,3 +62,33 @@ answers_usage told files_rose sink_rose bench taken taken' ending wrote = record
   decided = (inl refl, refl);
   wrote = wrote;
 }
+
+-- ---- decode
+
+pub decodes : (word : List ℕ) (rose : Type 0) (taken taken' : Option (List ℕ)) (text : List ℕ) (told ending : Status)
+    → DecodeTells word text told → Wrote text told rose taken taken' ending → Decodes word rose taken taken' ending
+decodes word rose taken taken' text told ending tells wrote = record { text = text; told = told; tells = tells; wrote = wrote }
+
+pub decodes_wanting : (word : List ℕ) (rose : Type 0) (taken taken' : Option (List ℕ)) (ending : Status)
+    → Wrote (outcome_text None (Stops stop.NoMemory)) status.NoMemory rose taken taken' ending → Decodes word rose taken taken' ending
+decodes_wanting word rose taken taken' ending wrote = decodes word rose taken taken' _ _ ending NoMemory wrote
+
+pub parts_told : (word bytes octets slice text : List ℕ) (found : Option (List ℕ)) → bytes ≡ word → found ≡ hex_word bytes → found ≡ Some octets → slice ≡ octets → IsFrameText slice text → DecodeTells word text status.Done
+parts_told word bytes octets slice text found of_word read some same h =
+    let is_octets : hex_word word ≡ Some octets = cc in
+    Parts octets text is_octets (rw same at h)
+
+pub usage_told : (word bytes text : List ℕ) (found : Option (List ℕ)) → bytes ≡ word → found ≡ hex_word bytes → found ≡ None → text ≡ outcome_text None (Stops stop.Usage) → DecodeTells word text status.Usage
+usage_told word bytes text found of_word read none same =
+    let is_none : hex_word word ≡ None = cc in
+    rw same (IsNoHex is_none)
+
+-- ---- the commands
+
+pub answers_files : (words : List (List ℕ)) (told : List ℕ → Told) (files_rose sink_rose : Type 0) (before after : Option Trace) (taken taken' : Option (List ℕ)) (ending : Status)
+    → decode_word words ≡ None → Answers words told files_rose sink_rose before after taken taken' ending → AnswersCall words told files_rose sink_rose before after taken taken' ending
+answers_files words told files_rose sink_rose before after taken taken' ending no_word h = rw no_word h
+
+pub answers_nothing : (words : List (List ℕ)) (told : List ℕ → Told) (files_rose sink_rose : Type 0) (bench : Option Trace) (taken taken' : Option (List ℕ)) (ending : Status)
+    → asked words ≡ None → Wrote (outcome_text None (Stops stop.Usage)) status.Usage sink_rose taken taken' ending → Answers words told files_rose sink_rose bench bench taken taken' ending
+answers_nothing words told files_rose sink_rose bench taken taken' ending nothing wrote = rw nothing (answers_usage told files_rose sink_rose bench taken taken' ending wrote)

@@ -3,3 +3,4 @@ pub mod Cuts
 pub mod Attempt
 pub mod Order
 pub mod Ended
+pub mod Call

@@ -162,6 +162,61 @@ fn each_command_answers_its_text_and_status(rt: HostRuntime) -> Result<(), Fail>
 }
 
 #[test]
+fn decode_tells_the_parts_of_a_datagram(rt: HostRuntime) -> Result<(), Fail> {
+    let rows: [(&str, &str, Status); 10] = [
+        (
+            "decode 061004200015040100001100BCE000000A03010081",
+            "ip tunnelling-request channel 1 number 0
+cemi req group 0.0.0 1/2/3 priority 3 hops 6
+tpdu unnumbered group-write s01
+",
+            Status::Done,
+        ),
+        (
+            "decode 061004200014040100001100bce000000a03010081",
+            "ip refused 3 Length\n",
+            Status::Done,
+        ),
+        ("decode 061004", "ip refused 1 Header\n", Status::Done),
+        (
+            "decode 06100205001A0801000000000000080100000000000004040200",
+            "ip connect-request\n",
+            Status::Done,
+        ),
+        (
+            "decode 06100206001401000801000000000000040411FF",
+            "ip connect-response channel 1 status 00 tunnel 1.1.255\n",
+            Status::Done,
+        ),
+        (
+            "decode 061004200015040100001100BC6000001105014300",
+            "ip tunnelling-request channel 1 number 0
+cemi req individual 0.0.0 1.1.5 priority 3 hops 6
+tpdu numbered 0 descriptor-read 0 -
+",
+            Status::Done,
+        ),
+        (
+            "decode 061004200023040100001100BC60000011050F47D70405100104000000000000000000",
+            "ip tunnelling-request channel 1 number 0
+cemi req individual 0.0.0 1.1.5 priority 3 hops 6
+tpdu numbered 1 property-write 4 5 1 1 04000000000000000000
+",
+            Status::Done,
+        ),
+        ("decode 0610042", USAGE, Status::Usage),
+        ("decode", USAGE, Status::Usage),
+        ("decode 061004 061004", USAGE, Status::Usage),
+    ];
+    for (line, text, status) in rows {
+        let (told, taken) = call(rt.alloc(), line, b"").ok().ok_or("memory")?;
+        assert_eq!(rt; told, status, "{line}");
+        assert_eq!(rt; taken.as_slice(), text.as_bytes(), "{line}");
+    }
+    Ok(())
+}
+
+#[test]
 fn each_single_cut_ends_done_and_new(rt: HostRuntime) -> Result<(), Fail> {
     let alloc = rt.alloc();
     for n in 1..21u32 {
