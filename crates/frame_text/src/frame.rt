@@ -24,6 +24,7 @@ fn text_of_tpdu(alloc: Global, frame: &Tpdu) -> Result<Octets, NoMemory>
 }
 
 /// The text of a TPDU's octets.
+#[tactic(auto, using(crate::proofs::Texts::tpdu_read, crate::proofs::Texts::tpdu_refused))]
 fn tpdu_text(alloc: Global, octets: &[u8]) -> Result<Octets, NoMemory>
     ensures { IfOk result (λ text. IsTpduText octets.now text) }
 {
@@ -52,6 +53,7 @@ fn text_of_ldata(alloc: Global, frame: &Ldata) -> Result<Octets, NoMemory>
 }
 
 /// The text of octets of the link layer.
+#[tactic(auto, using(crate::proofs::Texts::cemi_read, crate::proofs::Texts::cemi_refused))]
 fn cemi_text(alloc: Global, octets: &[u8]) -> Result<Octets, NoMemory>
     ensures { IfOk result (λ text. IsCemiText octets.now text) }
 {
@@ -86,6 +88,7 @@ fn text_of_ip_frame(alloc: Global, frame: &IpFrame) -> Result<Octets, NoMemory>
 
 /// The parts of a datagram, in up to three lines: its frame of KNXnet/IP, the frame of the link layer in a tunnelling request, and
 /// the TPDU in that one; or in place of the first that is none its least refusal.
+#[tactic(auto, using(crate::proofs::Texts::ip_read, crate::proofs::Texts::ip_refused))]
 pub fn frame_text(alloc: Global, octets: &[u8]) -> Result<Octets, NoMemory>
     ensures { IfOk result (λ text. IsFrameText octets.now text) }
 {
