@@ -85,7 +85,7 @@ fn call(alloc: Global, line: &str, script: &[u8]) -> Result<(Status, Octets), No
 
 #[test]
 fn each_command_answers_its_text_and_status(rt: HostRuntime) -> Result<(), Fail> {
-    let rows: [(&str, &[u8], &str, Status); 16] = [
+    let rows: [(&str, &[u8], &str, Status); 18] = [
         ("sim a.txt e e", b"", NEW, Status::Done),
         ("sim a.txt b.txt e", b"", NEW, Status::Done),
         ("sim a.txt b.txt s", b"cut 1.1.5 1 0\n", NEW, Status::Done),
@@ -125,6 +125,18 @@ fn each_command_answers_its_text_and_status(rt: HostRuntime) -> Result<(), Fail>
             b"",
             "old line 0: 21 NotBuilt\n",
             Status::Project,
+        ),
+        (
+            "sim a.txt s e",
+            b"no statement\n",
+            "old line 0: 21 NotBuilt\n",
+            Status::Project,
+        ),
+        (
+            "sim a.txt none.txt e",
+            b"",
+            "read fault none.txt NotThere\n",
+            Status::Read,
         ),
         (
             "sim a.txt e s",
