@@ -245,6 +245,31 @@ fn each_single_cut_ends_done_and_new(rt: HostRuntime) -> Result<(), Fail> {
 }
 
 #[test]
+fn a_script_of_more_than_65536_lines_is_not_built(rt: HostRuntime) -> Result<(), Fail> {
+    let alloc = rt.alloc();
+    let mut script = Octets::new(alloc);
+    for _ in 0..65_536u32 {
+        script.push(b'\n').ok().ok_or("memory")?;
+    }
+    let (told, taken) = call(alloc, "sim a.txt e s", script.as_slice())
+        .ok()
+        .ok_or("memory")?;
+    assert_eq!(rt; told, Status::Done);
+    assert_eq!(rt; taken.as_slice(), NEW.as_bytes());
+
+    script.push(b'\n').ok().ok_or("memory")?;
+    let (told, taken) = call(alloc, "sim a.txt e s", script.as_slice())
+        .ok()
+        .ok_or("memory")?;
+    assert_eq!(rt; told, Status::Script);
+    assert_eq!(rt;
+        taken.as_slice(),
+        b"script line 0: 21 NotBuilt\n".as_slice()
+    );
+    Ok(())
+}
+
+#[test]
 fn faults_of_the_outside_are_told(rt: HostRuntime) -> Result<(), Fail> {
     let alloc = rt.alloc();
     let words = words(alloc, "sim a.txt e e").ok().ok_or("memory")?;
