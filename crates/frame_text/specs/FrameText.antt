@@ -25,24 +25,10 @@ use Rattle.knx_model.specs.declared.frames.ip.IpRefused.TheVariants as ip_refuse
 use Rattle.knx_model.specs.Apdu as tpdu
 use Rattle.knx_model.specs.Cemi as cemi
 use Rattle.knx_model.specs.KnxNetIp as ip
-use Rattle.knx_model.specs.ReportText.{line, device_text}
+use Rattle.knx_model.specs.ReportText.{line, device_text, hex_octet, hex_text, octets_text}
 use Rattle.knx_model.specs.Values.{hex_octets}
 
--- ---- octets and addresses
-
-abbrev pub hex_digit : ℕ → ℕ
-hex_digit n = if nat_lt n 10 then 48 + n else 55 + n
-
-abbrev pub hex_octet : ℕ → List ℕ
-hex_octet octet = hex_digit (octet / 16) ∷ hex_digit (octet % 16) ∷ []
-
-abbrev pub hex_text : List ℕ → List ℕ
-hex_text octets = flat_map hex_octet octets
-
--- two digits an octet, or `-` for none
-abbrev pub octets_text : List ℕ → List ℕ
-octets_text [] = codes "-"
-octets_text (first ∷ others) = hex_text (first ∷ others)
+-- ---- addresses
 
 -- main, middle and sub group
 abbrev pub group_text : ℕ → List ℕ

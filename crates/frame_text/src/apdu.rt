@@ -4,10 +4,12 @@ ghost use Rattle.std.specs.Prelude.{◌≡◌, ◌∷◌, [], ◌++◌, OnOk, co
 ghost use Rattle.std.specs.Fmt.{decimal};
 ghost use Rattle.knx_model.specs.Apdu.{word, optional_word};
 ghost use Rattle.frame_text.specs.Spaced.{spaced};
-ghost use Rattle.frame_text.specs.FrameText.{hex_text, octets_text, value_text, property_words, property_fields, apdu_name, apdu_fields, apdu_words};
+ghost use Rattle.knx_model.specs.ReportText.{hex_text, octets_text};
+ghost use Rattle.frame_text.specs.FrameText.{value_text, property_words, property_fields, apdu_name, apdu_fields, apdu_words};
 
-use crate::pieces::{put_decimal, put_digits, put_hex_word, put_individual, put_octets, put_word};
+use crate::pieces::{put_decimal, put_hex_word, put_individual, put_octets, put_word};
 use knx_model::{Apdu, NoMemory, Octets, Value};
+use report_text::put_digits;
 use std::alloc::Global;
 
 fn put_value(out: &mut Octets, value: &Value) -> Result<(), NoMemory>

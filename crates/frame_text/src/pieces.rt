@@ -3,12 +3,12 @@
 ghost use Rattle.std.specs.Prelude.{◌≡◌, ◌+◌, ◌<◌, ◌∷◌, [], ◌++◌, OnOk, codes};
 ghost use Rattle.std.specs.Fmt.{decimal};
 ghost use Rattle.knx_model.specs.Apdu.{word};
-ghost use Rattle.knx_model.specs.ReportText.{device_text};
+ghost use Rattle.knx_model.specs.ReportText.{device_text, hex_octet, hex_text, octets_text};
 ghost use Rattle.frame_text.specs.Spaced.{spaced};
-ghost use Rattle.frame_text.specs.FrameText.{hex_digit, hex_octet, hex_text, octets_text, group_text, refusal_words};
+ghost use Rattle.frame_text.specs.FrameText.{group_text, refusal_words};
 
 use knx_model::{IndAddr, NoMemory, Octets};
-use report_text::{put_device, put_number};
+use report_text::{put_device, put_digits, put_hex, put_number};
 use std::alloc::Global;
 
 /// Appends a word.
@@ -46,22 +46,6 @@ pub fn put_group(alloc: Global, out: &mut Octets, raw: u16) -> Result<(), NoMemo
     put_number(alloc, out, u64::from(raw & 0xFF))
 }
 
-/// The digit of a number below 16.
-fn hex_digit(n: u8) -> u8
-    requires { n < 16 }
-    ensures { result ≡ hex_digit n }
-{
-    if n < 10 { b'0' + n } else { b'A' - 10 + n }
-}
-
-/// Appends an octet's two digits, with no space before them.
-pub fn put_digits(out: &mut Octets, octet: u8) -> Result<(), NoMemory>
-    ensures { OnOk result (out.new ≡ out.old ++ hex_octet octet) }
-{
-    out.push(hex_digit(octet >> 4))?;
-    out.push(hex_digit(octet & 0x0F))
-}
-
 /// Appends an octet.
 pub fn put_octet(out: &mut Octets, octet: u8) -> Result<(), NoMemory>
     ensures { OnOk result (out.new ≡ out.old ++ 32 ∷ hex_octet octet) }
@@ -78,25 +62,12 @@ pub fn put_hex_word(out: &mut Octets, number: u16) -> Result<(), NoMemory>
     put_digits(out, (number & 0xFF) as u8)
 }
 
-/// Appends the digits of octets, with no space before them.
-fn put_all_digits(out: &mut Octets, octets: &[u8]) -> Result<(), NoMemory>
-    ensures { OnOk result (out.new ≡ out.old ++ hex_text octets.now) }
-{
-    for octet in octets {
-        put_digits(out, *octet)?;
-    }
-    Ok(())
-}
-
 /// Appends octets, or `-` for none.
 pub fn put_octets(out: &mut Octets, octets: &[u8]) -> Result<(), NoMemory>
     ensures { OnOk result (out.new ≡ out.old ++ 32 ∷ octets_text octets.now) }
 {
     out.push(b' ')?;
-    match octets {
-        [] => out.push(b'-'),
-        [_, ..] => put_all_digits(out, octets),
-    }
+    put_hex(out, octets)
 }
 
 /// Appends a refusal's number and its word.

@@ -14,8 +14,10 @@ pub mod Octets
 pub mod Cemi
 pub mod KnxNetIp
 pub mod Statements
+pub mod Models
 pub mod Rules
 pub mod Meaning
+pub mod Parameters
 pub mod Tables
 pub mod Loading
 pub mod Device
@@ -24,4 +26,3 @@ pub mod Plan
 pub mod Script
 pub mod Promises
 pub mod ReportText
-pub mod Command

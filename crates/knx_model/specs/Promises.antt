@@ -8,38 +8,37 @@ use Rattle.knx_model.specs.declared.log.Case.{Case}
 use Rattle.knx_model.specs.declared.log.Case.TheVariants.{New, Old, Stopped}
 use Rattle.knx_model.specs.declared.log.LogEntry.{LogEntry}
 use Rattle.knx_model.specs.declared.log.LogWhat.TheVariants.{Done}
-use Rattle.knx_model.specs.declared.project.Statement.{Statement}
-use Rattle.knx_model.specs.Meaning.{meaning}
+use Rattle.knx_model.specs.Meaning.{Installation, meaning}
 use Rattle.knx_model.specs.Tables.{StandsFor}
 use Rattle.knx_model.specs.Device.{NonVolatile, DeviceState, runs, all_loaded, blank, loaded_with}
 use Rattle.knx_model.specs.Rules.{has_device}
 use Rattle.knx_model.specs.Bench.{Trace, moment}
 
 -- a device that keeps nv runs exactly what the project says of it
-pub record RunsProject (ss : List Statement) (device : IndAddr) (nv : NonVolatile) : Type 0 where
+pub record RunsProject (project : Installation) (device : IndAddr) (nv : NonVolatile) : Type 0 where
   pub image : Image
   pub runs_it : runs nv ≡ Some image
-  pub stands : StandsFor image (meaning ss device)
+  pub stands : StandsFor image (meaning project device)
 
 -- the device begins loaded with the compiled image of the project before, where that has it, and else blank
-pub data StartOf (before : List Statement) (device : IndAddr) (start : DeviceState) : Type 0 where
-  BeginsLoaded : has_device before device.raw ≡ true → (image : Image) → StandsFor image (meaning before device) → start ≡ loaded_with device image → StartOf before device start
-  BeginsBlank : has_device before device.raw ≡ false → start ≡ blank device → StartOf before device start
+pub data StartOf (before : Installation) (device : IndAddr) (start : DeviceState) : Type 0 where
+  BeginsLoaded : has_device before.statements device.raw ≡ true → (image : Image) → StandsFor image (meaning before device) → start ≡ loaded_with device image → StartOf before device start
+  BeginsBlank : has_device before.statements device.raw ≡ false → start ≡ blank device → StartOf before device start
 
 -- it keeps the starting content, or doesn't run, or runs exactly what the project says
-abbrev pub OldStoppedOrNew : List Statement → IndAddr → NonVolatile → NonVolatile → Type 0
-OldStoppedOrNew ss device start nv = (nv ≡ start) ⊎ ((runs nv ≡ None) ⊎ RunsProject ss device nv)
+abbrev pub OldStoppedOrNew : Installation → IndAddr → NonVolatile → NonVolatile → Type 0
+OldStoppedOrNew project device start nv = (nv ≡ start) ⊎ ((runs nv ≡ None) ⊎ RunsProject project device nv)
 
 -- the same at each moment of a trace
-abbrev pub AtEveryMoment : List Statement → IndAddr → Trace → Type 0
-AtEveryMoment ss device t = (k : ℕ) → k ≤ length t.events → OldStoppedOrNew ss device t.start.kept (moment t k).kept
+abbrev pub AtEveryMoment : Installation → IndAddr → Trace → Type 0
+AtEveryMoment project device t = (k : ℕ) → k ≤ length t.events → OldStoppedOrNew project device t.start.kept (moment t k).kept
 
 -- `done` is told only where the project's configuration runs: at the moment of the log's entry
-abbrev pub ToldTruly : List Statement → IndAddr → Trace → List LogEntry → Type 0
-ToldTruly ss device t log = AllByRecursion (λ (entry : LogEntry). (job : ℕ) → entry.what ≡ Done job → RunsProject ss device (moment t entry.at).kept) log
+abbrev pub ToldTruly : Installation → IndAddr → Trace → List LogEntry → Type 0
+ToldTruly project device t log = AllByRecursion (λ (entry : LogEntry). (job : ℕ) → entry.what ≡ Done job → RunsProject project device (moment t entry.at).kept) log
 
 -- what a device is in the end: new where it runs what the project says, else old where its four objects are Loaded, else stopped
-pub data IsCase (ss : List Statement) (device : IndAddr) (nv : NonVolatile) : Case → Type 0 where
-  IsNew : RunsProject ss device nv → IsCase ss device nv New
-  IsOld : ¬ RunsProject ss device nv → all_loaded nv ≡ true → IsCase ss device nv Old
-  IsStopped : all_loaded nv ≡ false → IsCase ss device nv Stopped
+pub data IsCase (project : Installation) (device : IndAddr) (nv : NonVolatile) : Case → Type 0 where
+  IsNew : RunsProject project device nv → IsCase project device nv New
+  IsOld : ¬ RunsProject project device nv → all_loaded nv ≡ true → IsCase project device nv Old
+  IsStopped : all_loaded nv ≡ false → IsCase project device nv Stopped

@@ -1,13 +1,17 @@
 -- The texts that the program prints: the report of a run, and the line of a call that stops before it. Each line ends with a line
 -- feed; numbers are decimal.
-use Rattle.std.specs.Prelude.{ℕ, ◌/◌, ◌%◌, Bool, ◌==◌, codes, List, [], ◌∷◌, ◌++◌, map, Option, Some, None, if◌then◌else◌}
+use Rattle.std.specs.Prelude.{ℕ, ◌+◌, ◌/◌, ◌%◌, Bool, ◌==◌, nat_lt, codes, List, [], ◌∷◌, ◌++◌, map, Option, Some, None, if◌then◌else◌}
 use Rattle.std.specs.List.{join_with_byte, flat_map, filter_map, enumerate_from}
 use Rattle.std.specs.Fmt.{decimal}
 use Rattle.knx_model.specs.declared.address.IndAddr.{IndAddr}
-use Rattle.knx_model.specs.declared.command.SimFile.{SimFile}
-use Rattle.knx_model.specs.declared.command.SimFile.TheVariants as file
+use Rattle.knx_model.specs.declared.catalogue.refused.CatRefused.{CatRefused}
+use Rattle.knx_model.specs.declared.catalogue.refused.CatRefused.TheVariants as cat
+use Rattle.knx_model.specs.declared.command.Counts.{Counts}
+use Rattle.knx_model.specs.declared.command.InputFile.{InputFile}
+use Rattle.knx_model.specs.declared.command.InputFile.TheVariants as file
 use Rattle.knx_model.specs.declared.command.Stop.{Stop}
 use Rattle.knx_model.specs.declared.command.Stop.TheVariants as stop
+use Rattle.knx_model.specs.declared.config.Image.{Image}
 use Rattle.knx_model.specs.declared.log.Case.{Case}
 use Rattle.knx_model.specs.declared.log.Case.TheVariants as case
 use Rattle.knx_model.specs.declared.log.DeviceCase.{DeviceCase}
@@ -31,6 +35,20 @@ line words = join_with_byte 32 words ++ 10 ∷ []
 
 abbrev pub device_text : IndAddr → List ℕ
 device_text d = join_with_byte 46 (decimal (d.raw / 4096) ∷ decimal (d.raw / 256 % 16) ∷ decimal (d.raw % 256) ∷ [])
+
+abbrev pub hex_digit : ℕ → ℕ
+hex_digit n = if nat_lt n 10 then 48 + n else 55 + n
+
+abbrev pub hex_octet : ℕ → List ℕ
+hex_octet octet = hex_digit (octet / 16) ∷ hex_digit (octet % 16) ∷ []
+
+abbrev pub hex_text : List ℕ → List ℕ
+hex_text octets = flat_map hex_octet octets
+
+-- two digits an octet, or `-` for none
+abbrev pub octets_text : List ℕ → List ℕ
+octets_text [] = codes "-"
+octets_text (first ∷ others) = hex_text (first ∷ others)
 
 -- ---- the report
 
@@ -76,12 +94,28 @@ unfoldable pub report_text : Report → List JobWord → List DeviceCase → Lis
 report_text report jobs devices =
     flat_map (λ p. job_line report.log p.0 p.1) (enumerate_from 1 jobs) ++ (flat_map device_line devices ++ line (codes "missed" ∷ decimal report.missed ∷ []))
 
+-- ---- a checked project
+
+-- ok devices N objects N links N
+abbrev pub counts_line : Counts → List ℕ
+counts_line counts = line (codes "ok" ∷ codes "devices" ∷ decimal counts.devices ∷ codes "objects" ∷ decimal counts.objects ∷ codes "links" ∷ decimal counts.links ∷ [])
+
+-- the tables of a device, and its parameter memory
+abbrev pub tables_lines : IndAddr → Image → List ℕ
+tables_lines device image =
+    line (codes "device" ∷ device_text device ∷ [])
+    ++ line (codes "address" ∷ octets_text image.addr ∷ [])
+    ++ line (codes "association" ∷ octets_text image.assoc ∷ [])
+    ++ line (codes "objects" ∷ octets_text image.objs ∷ [])
+    ++ line (codes "params" ∷ octets_text image.params ∷ [])
+
 -- ---- a call that stops before its report
 
 abbrev pub usage_line : List ℕ
 usage_line = line (codes "usage: knx check, tables, sim, download, gateway, decode or big, with their words" ∷ [])
 
-abbrev pub file_word : SimFile → List ℕ
+abbrev pub file_word : InputFile → List ℕ
+file_word file.Catalogue = codes "catalogue"
 file_word file.New = codes "new"
 file_word file.Old = codes "old"
 file_word file.Script = codes "script"
@@ -95,23 +129,38 @@ limit_of (TooMany limit) = Some limit
 limit_of why = None
 
 -- new line L: N WHY, or old, or script; too many of something is followed by its limit
-abbrev pub refusal_line : SimFile → Refused → List ℕ
+abbrev pub refusal_line : InputFile → Refused → List ℕ
 refusal_line place refused =
     line (file_word place ∷ codes "line" ∷ (decimal refused.line ++ codes ":") ∷ (optional_number (why_number refused.why) ++ (why_word refused.why ∷ optional_number (limit_of refused.why))))
+
+-- the number and the word of a catalogue's refusal, then the model and the parameter where it has them
+abbrev pub catalogue_words : CatRefused → List (List ℕ)
+catalogue_words cat.NoMemory = codes "NoMemory" ∷ []
+catalogue_words cat.Toml = codes "1" ∷ codes "Toml" ∷ []
+catalogue_words (cat.Shape model) = codes "2" ∷ codes "Shape" ∷ model ∷ []
+catalogue_words (cat.Overlap model parameter) = codes "3" ∷ codes "Overlap" ∷ model ∷ parameter ∷ []
+catalogue_words (cat.Range model parameter) = codes "4" ∷ codes "Range" ∷ model ∷ parameter ∷ []
+catalogue_words cat.Long = codes "5" ∷ codes "Long" ∷ []
+
+-- catalogue: N WHY
+abbrev pub catalogue_line : CatRefused → List ℕ
+catalogue_line refused = line (codes "catalogue:" ∷ catalogue_words refused)
 
 -- read fault NAME WHY
 abbrev pub read_fault_line : List ℕ → List ℕ → List ℕ
 read_fault_line name why = line (codes "read" ∷ codes "fault" ∷ name ∷ why ∷ [])
 
 -- what is printed at a stop, where each file's name is given
-abbrev pub stop_text : (SimFile → List ℕ) → Stop → List ℕ
+abbrev pub stop_text : (InputFile → List ℕ) → Stop → List ℕ
 stop_text name stop.Usage = usage_line
 stop_text name (stop.NotThere place) = read_fault_line (name place) (codes "NotThere")
 stop_text name (stop.ReadFailed place) = read_fault_line (name place) (codes "Failed")
+stop_text name (stop.CatalogueRefused refused) = catalogue_line refused
 stop_text name (stop.Refused place refused) = refusal_line place refused
 stop_text name stop.NoMemory = line (codes "no memory" ∷ [])
 
-abbrev pub refusal_status : SimFile → Status
+abbrev pub refusal_status : InputFile → Status
+refusal_status file.Catalogue = status.Catalogue
 refusal_status file.New = status.Project
 refusal_status file.Old = status.Project
 refusal_status file.Script = status.Script
@@ -120,5 +169,6 @@ abbrev pub stop_status : Stop → Status
 stop_status stop.Usage = status.Usage
 stop_status (stop.NotThere place) = status.Read
 stop_status (stop.ReadFailed place) = status.Read
+stop_status (stop.CatalogueRefused refused) = status.Catalogue
 stop_status (stop.Refused place refused) = refusal_status place
 stop_status stop.NoMemory = status.NoMemory

@@ -1,13 +1,18 @@
--- The rules that look at a whole project text and at the lines before a line. Each is a sentence of its own; a line breaks the one of
--- the least number, and a text is refused at its least line that breaks one.
-use Rattle.std.specs.Prelude.{ℕ, Bool, true, false, ◌&&◌, not, ◌==◌, nat_le, bytes_eq, codes, count_by, List, [], ◌∷◌, take, Option, Some, None, if◌then◌else◌}
+-- The rules that look at a whole project text, at the lines before a line and at the catalogue. Each is a sentence of its own; a line
+-- breaks the one of the least number, and a text is refused at its least line that breaks one.
+use Rattle.std.specs.Prelude.{ℕ, Bool, true, false, ◌&&◌, ◌||◌, not, ◌==◌, nat_le, nat_lt, is_none, bytes_eq, count_by, List, [], ◌∷◌, take, Option, Some, None, if◌then◌else◌}
 use Rattle.std.specs.List.{list_any, filter_map, enumerate_from}
+use Rattle.knx_model.specs.declared.catalogue.model.Model.{Model}
+use Rattle.knx_model.specs.declared.catalogue.model.ModelField.{ModelField}
+use Rattle.knx_model.specs.declared.catalogue.model.ModelObject.{ModelObject}
+use Rattle.knx_model.specs.declared.catalogue.model.NamedModel.{NamedModel}
 use Rattle.knx_model.specs.declared.project.Statement.{Statement}
 use Rattle.knx_model.specs.declared.project.What.{What}
-use Rattle.knx_model.specs.declared.project.What.TheVariants.{Group, Device, Object, Link}
+use Rattle.knx_model.specs.declared.project.What.TheVariants.{Group, Device, Object, Link, Flags, Param}
 use Rattle.knx_model.specs.declared.refusal.Refused.{Refused}
 use Rattle.knx_model.specs.declared.refusal.Why.{Why}
-use Rattle.knx_model.specs.declared.refusal.Why.TheVariants.{DuplicateDevice, DuplicateGroup, UnknownGroup, UnknownModel, DuplicateObject, UnknownObject, DuplicateLink, SizeDiffers, TooMany, NoDevice}
+use Rattle.knx_model.specs.declared.refusal.Why.TheVariants.{DuplicateDevice, DuplicateGroup, UnknownGroup, UnknownModel, DuplicateObject, UnknownObject, DuplicateLink, UnknownParameter, OutOfRange, SizeDiffers, TooMany, NoDevice}
+use Rattle.knx_model.specs.Models.{model_named, object_in, field_in, has_object, has_field}
 
 -- ---- what statements declare. A device, an object and a group are named by their numbers.
 
@@ -59,15 +64,40 @@ abbrev pub first_some : {X : Type 0} → (What → Option X) → List Statement 
 first_some f [] = None
 first_some {X = X} f (s ∷ ss) = elim (f s.what) as (λ _. Option X) [ None ↦ first_some f ss | Some x ↦ Some x ]
 
--- the size of object n of the device: that of its first `object` line
-abbrev pub size_of : List Statement → ℕ → ℕ → Option ℕ
-size_of whole d n = first_some (size_in d n) whole
+-- the model's name in a `device` line of the device
+abbrev pub model_in : ℕ → What → Option (List ℕ)
+model_in d (Device device model) = if device.raw == d then Some model else None
+model_in d _ = None
+
+abbrev pub named_model : List NamedModel → Option (List ℕ) → Option Model
+named_model catalogue None = None
+named_model catalogue (Some name) = model_named catalogue name
+
+-- the model of a device, that of its first `device` line; none where it has no such line or the model is unknown
+abbrev pub model_of : List NamedModel → List Statement → ℕ → Option Model
+model_of catalogue ss d = named_model catalogue (first_some (model_in d) ss)
+
+abbrev pub size_of_object : Option ModelObject → Option ℕ
+size_of_object None = None
+size_of_object (Some o) = Some o.size
+
+abbrev pub size_in_model : Option Model → ℕ → Option ℕ
+size_in_model None n = None
+size_in_model (Some m) n = size_of_object (object_in m.objects n)
+
+abbrev pub or_else : Option ℕ → Option ℕ → Option ℕ
+or_else None other = other
+or_else (Some n) other = Some n
+
+-- the size of object n of the device: that of its model, else that of its first `object` line
+abbrev pub size_of : List NamedModel → List Statement → ℕ → ℕ → Option ℕ
+size_of catalogue whole d n = or_else (size_in_model (model_of catalogue whole d) n) (first_some (size_in d n) whole)
 
 -- the device and the object of the group's first `link` line
 abbrev pub first_linked : List Statement → ℕ → Option (ℕ × ℕ)
 first_linked whole g = first_some (linked_in g) whole
 
--- ---- the rules, of a line, the lines before it and the whole text
+-- ---- the rules, of a line, the lines before it, the whole text and the catalogue
 
 -- 9: a `device` line's address stands in an earlier one
 abbrev pub duplicate_device : List Statement → What → Bool
@@ -84,25 +114,50 @@ abbrev pub unknown_group : List Statement → What → Bool
 unknown_group whole (Link device object group) = not (some_line (declares_group group.raw) whole)
 unknown_group whole _ = false
 
--- 12: a `device` line's model isn't known; `inline` is
-abbrev pub unknown_model : What → Bool
-unknown_model (Device device model) = not (bytes_eq model (codes "inline"))
-unknown_model _ = false
+-- 12: a `device` line's model is neither `inline` nor in the catalogue
+abbrev pub unknown_model : List NamedModel → What → Bool
+unknown_model catalogue (Device device model) = is_none (model_named catalogue model)
+unknown_model catalogue _ = false
 
--- 13: an `object` line's number stands in an earlier one of its device
-abbrev pub duplicate_object : List Statement → What → Bool
-duplicate_object earlier (Object device n size flags) = some_line (declares_object device.raw n) earlier
-duplicate_object earlier _ = false
+-- a test of a device's model, which isn't asked where the device or its model is unknown
+abbrev pub asked_of : Option Model → (Model → Bool) → Bool
+asked_of None test = false
+asked_of (Some m) test = test m
 
--- 14: a `link` line's object stands in no `object` line of its device
-abbrev pub unknown_object : List Statement → What → Bool
-unknown_object whole (Link device object group) = not (some_line (declares_object device.raw object) whole)
-unknown_object whole _ = false
+-- 13: an `object` line's number stands in an earlier one of its device or in its model
+abbrev pub duplicate_object : List NamedModel → List Statement → List Statement → What → Bool
+duplicate_object catalogue earlier whole (Object device n size flags) =
+    asked_of (model_of catalogue whole device.raw) (λ m. has_object m n || some_line (declares_object device.raw n) earlier)
+duplicate_object catalogue earlier whole _ = false
+
+-- object n of the device stands neither in its model nor in an `object` line of it
+abbrev pub is_no_object : List Statement → ℕ → ℕ → Model → Bool
+is_no_object whole d n m = not (has_object m n) && not (some_line (declares_object d n) whole)
+
+-- 14: a `link` or `flags` line's object stands in no `object` line of its device and not in its model
+abbrev pub unknown_object : List NamedModel → List Statement → What → Bool
+unknown_object catalogue whole (Link device object group) = asked_of (model_of catalogue whole device.raw) (is_no_object whole device.raw object)
+unknown_object catalogue whole (Flags device object flags) = asked_of (model_of catalogue whole device.raw) (is_no_object whole device.raw object)
+unknown_object catalogue whole _ = false
 
 -- 15: a `link` line's device, object and group stand in an earlier one
 abbrev pub duplicate_link : List Statement → What → Bool
 duplicate_link earlier (Link device object group) = some_line (links_to device.raw object group.raw) earlier
 duplicate_link earlier _ = false
+
+-- 16: a `param` line's name isn't a parameter of its device's model
+abbrev pub unknown_parameter : List NamedModel → List Statement → What → Bool
+unknown_parameter catalogue whole (Param device name value) = asked_of (model_of catalogue whole device.raw) (λ m. not (has_field m name))
+unknown_parameter catalogue whole _ = false
+
+abbrev pub is_out_of : Option ModelField → ℕ → Bool
+is_out_of None value = false
+is_out_of (Some f) value = nat_lt value f.min || nat_lt f.max value
+
+-- 17: a `param` line's value is below the least or above the greatest; not asked where the parameter is unknown
+abbrev pub out_of_range : List NamedModel → List Statement → What → Bool
+out_of_range catalogue whole (Param device name value) = asked_of (model_of catalogue whole device.raw) (λ m. is_out_of (field_in m.parameters name) value)
+out_of_range catalogue whole _ = false
 
 -- two sizes that are known and differ
 abbrev pub differ : Option ℕ → Option ℕ → Bool
@@ -110,14 +165,24 @@ differ None other = false
 differ (Some one) None = false
 differ (Some one) (Some other) = not (one == other)
 
-abbrev pub size_of_first : List Statement → Option (ℕ × ℕ) → Option ℕ
-size_of_first whole None = None
-size_of_first whole (Some first) = size_of whole first.0 first.1
+abbrev pub size_of_first : List NamedModel → List Statement → Option (ℕ × ℕ) → Option ℕ
+size_of_first catalogue whole None = None
+size_of_first catalogue whole (Some first) = size_of catalogue whole first.0 first.1
 
--- 18: a `link` line's object has another size than the object of the first `link` line of that group
-abbrev pub size_differs : List Statement → What → Bool
-size_differs whole (Link device object group) = differ (size_of whole device.raw object) (size_of_first whole (first_linked whole group.raw))
-size_differs whole _ = false
+-- 20: an `object`, `link`, `flags` or `param` line's address stands in no `device` line
+abbrev pub no_device : List Statement → What → Bool
+no_device whole (Object device n size flags) = not (some_line (declares_device device.raw) whole)
+no_device whole (Link device object group) = not (some_line (declares_device device.raw) whole)
+no_device whole (Flags device object flags) = not (some_line (declares_device device.raw) whole)
+no_device whole (Param device name value) = not (some_line (declares_device device.raw) whole)
+no_device whole _ = false
+
+-- 18: a `link` line's object has another size than the object of the first `link` line of that group; not asked where the device
+-- stands in no `device` line, nor where one of the objects is unknown
+abbrev pub size_differs : List NamedModel → List Statement → What → Bool
+size_differs catalogue whole (Link device object group) =
+    some_line (declares_device device.raw) whole && differ (size_of catalogue whole device.raw object) (size_of_first catalogue whole (first_linked whole group.raw))
+size_differs catalogue whole _ = false
 
 -- 19: the 256th `device` line
 abbrev pub too_many_devices : List Statement → What → Bool
@@ -129,43 +194,39 @@ abbrev pub too_many_links : List Statement → What → Bool
 too_many_links earlier (Link device object group) = nat_le 2047 (count_lines (links_device device.raw) earlier)
 too_many_links earlier _ = false
 
--- 20: an `object` or `link` line's address stands in no `device` line
-abbrev pub no_device : List Statement → What → Bool
-no_device whole (Object device n size flags) = not (some_line (declares_device device.raw) whole)
-no_device whole (Link device object group) = not (some_line (declares_device device.raw) whole)
-no_device whole _ = false
-
--- the rule of the least number that a line breaks. The rules 13, 14 and 18 aren't asked of a line whose device is unknown.
-unfoldable pub rule_of : List Statement → List Statement → What → Option Why
-rule_of earlier whole what =
+-- the rule of the least number that a line breaks
+unfoldable pub rule_of : List NamedModel → List Statement → List Statement → What → Option Why
+rule_of catalogue earlier whole what =
     if duplicate_device earlier what then Some DuplicateDevice
     else (if duplicate_group earlier what then Some DuplicateGroup
     else (if unknown_group whole what then Some UnknownGroup
-    else (if unknown_model what then Some UnknownModel
-    else (if not (no_device whole what) && duplicate_object earlier what then Some DuplicateObject
-    else (if not (no_device whole what) && unknown_object whole what then Some UnknownObject
+    else (if unknown_model catalogue what then Some UnknownModel
+    else (if duplicate_object catalogue earlier whole what then Some DuplicateObject
+    else (if unknown_object catalogue whole what then Some UnknownObject
     else (if duplicate_link earlier what then Some DuplicateLink
-    else (if not (no_device whole what) && size_differs whole what then Some SizeDiffers
+    else (if unknown_parameter catalogue whole what then Some UnknownParameter
+    else (if out_of_range catalogue whole what then Some OutOfRange
+    else (if size_differs catalogue whole what then Some SizeDiffers
     else (if too_many_devices earlier what then Some (TooMany 255)
     else (if too_many_links earlier what then Some (TooMany 2047)
     else (if no_device whole what then Some NoDevice
-    else None))))))))))
+    else None))))))))))))
 
 abbrev pub broken_at : ℕ → Option Why → Option Refused
 broken_at line None = None
 broken_at line (Some why) = Some (record { line = line; why = why })
 
--- the lines from place k on that break a rule, each judged by those before it and by all
-unfoldable pub broken_from : List Statement → ℕ → List Statement → List Refused
-broken_from ss k rest = filter_map (λ p. broken_at p.1.line (rule_of (take p.0 ss) ss p.1.what)) (enumerate_from k rest)
+-- the lines from place k on that break a rule, each judged by those before it, by all and by the catalogue
+unfoldable pub broken_from : List NamedModel → List Statement → ℕ → List Statement → List Refused
+broken_from catalogue ss k rest = filter_map (λ p. broken_at p.1.line (rule_of catalogue (take p.0 ss) ss p.1.what)) (enumerate_from k rest)
 
 abbrev pub first_of : List Refused → Option Refused
 first_of [] = None
 first_of (r ∷ rs) = Some r
 
 -- the least line that breaks a rule
-abbrev pub first_broken : List Statement → Option Refused
-first_broken ss = first_of (broken_from ss 0 ss)
+abbrev pub first_broken : List NamedModel → List Statement → Option Refused
+first_broken catalogue ss = first_of (broken_from catalogue ss 0 ss)
 
 -- the devices of a text: just those of its `device` lines
 abbrev pub has_device : List Statement → ℕ → Bool

@@ -7,7 +7,7 @@ use Rattle.knx_model.specs.declared.address.GroupAddr.{GroupAddr}
 use Rattle.knx_model.specs.declared.address.IndAddr.{IndAddr}
 use Rattle.knx_model.specs.declared.project.Statement.{Statement}
 use Rattle.knx_model.specs.declared.project.What.{What}
-use Rattle.knx_model.specs.declared.project.What.TheVariants.{Title, Group, Device, Object, Link}
+use Rattle.knx_model.specs.declared.project.What.TheVariants.{Title, Group, Device, Object, Link, Flags, Param}
 use Rattle.knx_model.specs.declared.refusal.Refused.{Refused}
 use Rattle.knx_model.specs.declared.refusal.Why.{Why}
 use Rattle.knx_model.specs.declared.refusal.Why.TheVariants.{NotText, LongLine, UnknownWord, BadAddress, BadNumber, BadName, MissingWord, ExtraWord, TooMany}
@@ -177,6 +177,8 @@ is_spellable (Group group name) = is_group group && is_name name
 is_spellable (Device device model) = is_device device && is_name model
 is_spellable (Object device n size flags) = is_device device && is_object n && nat_lt size 15 && nat_lt flags 256 && (flags % 4 == 3)
 is_spellable (Link device object group) = is_device device && is_object object && is_group group
+is_spellable (Flags device object flags) = is_device device && is_object object && nat_lt flags 256 && (flags % 4 == 3)
+is_spellable (Param device name value) = is_device device && is_name name && nat_lt value 4294967296
 
 abbrev pub are_spellable : List Statement → Bool
 are_spellable ss = list_all (λ s. is_spellable s.what) ss

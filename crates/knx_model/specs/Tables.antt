@@ -1,4 +1,5 @@
--- When the tables of a device stand for a configuration (after System B: address table, association table, group objects). One
+-- When the tables and the parameter memory of a device stand for a configuration (after System B: address table, association table,
+-- group objects). One
 -- configuration has exactly one image. Numbers of two octets have the high octet first.
 use Rattle.std.specs.Prelude.{◌≡◌, ℕ, ◌+◌, ◌-◌, ◌*◌, ◌<◌, ◌≤◌, ◌↔◌, ◌==◌, List, [], ◌∷◌, ◌++◌, length, map, Contains, IsPermutation, slice_index, if◌then◌else◌}
 use Rattle.std.specs.Int.{w16, to_be_bytes}
@@ -8,6 +9,7 @@ use Rattle.knx_model.specs.declared.config.Config.{Config}
 use Rattle.knx_model.specs.declared.config.Image.{Image}
 use Rattle.knx_model.specs.declared.config.LinkSpec.{LinkSpec}
 use Rattle.knx_model.specs.declared.config.ObjSpec.{ObjSpec}
+use Rattle.knx_model.specs.Parameters.{HoldsParameters}
 
 abbrev pub raw_of : LinkSpec → ℕ
 raw_of l = l.group.raw
@@ -55,8 +57,8 @@ pub record StandsFor (image : Image) (config : Config) : Type 0 where
   pub associations : image.assoc ≡ association_list groups order
   -- the objects by number
   pub objects : image.objs ≡ object_list config.objects
-  -- there is no parameter
-  pub no_parameters : image.params ≡ []
+  -- the parameter memory
+  pub parameters : HoldsParameters image.params config.param_len config.params
 
 -- a pair of the association list
 abbrev pub place_and_object : List ℕ → LinkSpec → ℕ × ℕ

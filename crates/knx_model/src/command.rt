@@ -1,11 +1,14 @@
-//! What the program is asked for, and why it stops before a run.
+//! What the program reads, and why it stops before a run.
 
+use crate::catalogue::CatRefused;
 use crate::refusal::Refused;
 
-/// A file that `sim` reads, by its place among the words.
+/// A file that the program reads, by its place among the words.
 #[derive(Clone, Copy, Debug, Drop, PartialEq, Eq)]
-pub enum SimFile {
-    /// The project that is to run.
+pub enum InputFile {
+    /// The catalogue of device models.
+    Catalogue,
+    /// The project that is checked, compiled, or is to run.
     New,
     /// The project whose configuration the devices begin with.
     Old,
@@ -14,16 +17,27 @@ pub enum SimFile {
 }
 
 /// Why the program stops before its report.
-#[derive(Clone, Copy, Debug, Drop, PartialEq, Eq)]
+#[derive(Debug, Drop)]
 pub enum Stop {
     /// The words aren't a command's.
     Usage,
     /// A file isn't there.
-    NotThere(SimFile),
+    NotThere(InputFile),
     /// A file couldn't be read.
-    ReadFailed(SimFile),
-    /// A text is refused.
-    Refused(SimFile, Refused),
+    ReadFailed(InputFile),
+    /// The catalogue is refused.
+    CatalogueRefused(CatRefused),
+    /// A project or the script is refused.
+    Refused(InputFile, Refused),
     /// There was no memory.
     NoMemory,
+}
+
+/// How many devices, objects and links a project has: the devices of its `device` lines, the objects of all devices, those of
+/// their models too, and the links of all devices.
+#[derive(Clone, Copy, Debug, PartialEq, Eq)]
+pub struct Counts {
+    pub devices: u32,
+    pub objects: u32,
+    pub links: u32,
 }

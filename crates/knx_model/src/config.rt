@@ -18,11 +18,23 @@ pub struct LinkSpec {
     pub sending: bool,
 }
 
-/// What a device is to do: its links, and its objects from number 1 to the greatest.
+/// A field of the parameter memory with its value: its first bit, where bit 0 is the highest bit of the first octet, and its
+/// width of 1 to 32 bits.
+#[derive(Clone, Copy, Debug, PartialEq, Eq)]
+pub struct ParamValue {
+    pub bit: u32,
+    pub width: u8,
+    pub value: u32,
+}
+
+/// What a device is to do: its links, its objects from number 1 to the greatest, and its parameter memory, of so many octets
+/// with these fields.
 #[derive(Debug, Drop)]
 pub struct Config {
     pub links: List<LinkSpec>,
     pub objects: List<ObjSpec>,
+    pub param_len: u16,
+    pub params: List<ParamValue>,
 }
 
 /// The contents of the four segments of a device, each of its allocated length: address table, association table, group

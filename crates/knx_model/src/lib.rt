@@ -4,6 +4,7 @@
 
 mod address;
 mod bench;
+mod catalogue;
 mod command;
 mod config;
 mod frames;
@@ -20,8 +21,9 @@ mod words;
 
 pub use address::{GroupAddr, IndAddr};
 pub use bench::BenchEvent;
-pub use command::{SimFile, Stop};
-pub use config::{Config, Image, LinkSpec, ObjSpec};
+pub use catalogue::{CatRefused, Catalogue, Model, ModelField, ModelObject, NamedModel};
+pub use command::{Counts, InputFile, Stop};
+pub use config::{Config, Image, LinkSpec, ObjSpec, ParamValue};
 pub use frames::{
     Apdu, ApduOctets, CemiRefused, Datagram, IpFrame, IpRefused, Ldata, LdataCode, LongValue, Tpdu,
     TpduRefused, Value,
@@ -33,12 +35,12 @@ pub use outside::{FileFault, Files, MemoryFile, MemoryFiles, MemorySink, Sink, S
 pub use plan::{Expect, Op};
 pub use project::{Statement, What};
 pub use refusal::{Refused, Why};
-pub use script::Cut;
+pub use script::{Cut, GroupService, ScriptLine, ScriptWhat};
 pub use status::Status;
 pub use words::{
-    Span, first_line, first_word, flags_in, flags_of, group_in, group_of, group_spelled, ind_in,
+    Span, digit_pair, first_line, first_word, flags_in, flags_of, group_in, group_of, group_spelled, ind_in,
     ind_of, ind_spelled, is_name, is_name_in, is_text, next_line, next_word, number_in, number_of,
-    size_code_in, size_code_of, value_in, value_of, without_comment,
+    octet_in, size_code_in, size_code_of, value_in, value_of, without_comment,
 };
 
 #[cfg(test)]

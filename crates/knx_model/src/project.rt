@@ -31,6 +31,18 @@ pub enum What {
         object: u8,
         group: GroupAddr,
     },
+    /// `flags IA N FLAGS`
+    Flags {
+        device: IndAddr,
+        object: u8,
+        flags: u8,
+    },
+    /// `param IA NAME VALUE`
+    Param {
+        device: IndAddr,
+        name: Octets,
+        value: u32,
+    },
 }
 
 /// A statement, and the number of its line, from 1.

@@ -16,4 +16,4 @@ pub use line::{is_text, without_comment};
 pub use name::{is_name, is_name_in};
 pub use number::{number_in, number_of};
 pub use size::{size_code_in, size_code_of};
-pub use value::{value_in, value_of};
+pub use value::{digit_pair, octet_in, value_in, value_of};

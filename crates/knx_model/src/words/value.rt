@@ -9,9 +9,9 @@ use crate::frames::{LongValue, Value};
 use crate::words::number::digit_value;
 use arrayvec::ArrayVec;
 
-/// The first two digits and what comes after them.
+/// The first two digits and what comes after them; none where there are fewer.
 #[tactic(auto, using(crate::proofs::Values::two_first))]
-fn first_pair(digits: &[u8]) -> Option<(u8, u8, &[u8])>
+pub fn digit_pair(digits: &[u8]) -> Option<(u8, u8, &[u8])>
     ensures some { IfSome result (λ x. digits.now ≡ x.0 ∷ (x.1 ∷ x.2.now)) }
     ensures none { IfNone result (length digits.now < 2) }
 {
@@ -22,8 +22,8 @@ fn first_pair(digits: &[u8]) -> Option<(u8, u8, &[u8])>
     Some((pair[0], pair[1], after))
 }
 
-/// The octet that two hexadecimal digits write.
-fn octet_in(high: u8, below: u8) -> Option<u8>
+/// The octet that two hexadecimal digits write, in either case; none where one is no digit.
+pub fn octet_in(high: u8, below: u8) -> Option<u8>
     ensures { result ≡ (if is_digit 16 high && is_digit 16 below then Some (digit_value high * 16 + digit_value below) else None) }
 {
     let high = digit_value(high);
@@ -43,7 +43,7 @@ fn octets_in(digits: &[u8]) -> Option<LongValue>
 {
     let mut octets: ArrayVec<u8, 14> = ArrayVec::new();
     let mut rest = digits;
-    while let Some((high, below, after)) = first_pair(rest) {
+    while let Some((high, below, after)) = digit_pair(rest) {
         let octet = octet_in(high, below)?;
         octets.push(octet);
         rest = after;
@@ -60,7 +60,7 @@ fn octets_in(digits: &[u8]) -> Option<LongValue>
 fn short_in(digits: &[u8]) -> Option<Value>
     ensures { result ≡ short_of (hex_octets digits.now) }
 {
-    let (high, below, after) = first_pair(digits)?;
+    let (high, below, after) = digit_pair(digits)?;
     if !after.is_empty() {
         return None;
     }

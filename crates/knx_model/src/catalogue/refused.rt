@@ -1,0 +1,20 @@
+//! Why a catalogue is refused.
+
+use crate::lists::Octets;
+
+/// Why a catalogue is refused. Models and parameters are named as they stand in the document.
+#[derive(Debug, Drop)]
+pub enum CatRefused {
+    /// There was no memory.
+    NoMemory,
+    /// The octets are no TOML document.
+    Toml,
+    /// A model's name, keys, kinds of values, or one of its numbers, sizes, flags or names isn't as it must be.
+    Shape { model: Octets },
+    /// A parameter shares a bit with an earlier one.
+    Overlap { model: Octets, parameter: Octets },
+    /// A parameter's width, place or values aren't in their ranges.
+    Range { model: Octets, parameter: Octets },
+    /// The text has more than 4,194,304 octets.
+    Long,
+}
