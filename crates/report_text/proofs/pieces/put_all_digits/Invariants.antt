@@ -1,6 +1,6 @@
 use Rattle.std.proofs.Common.{◌≡◌, ◌++◌, drop}
-use Rattle.frame_text.specs.FrameText.{hex_text}
-use Rattle.frame_text.proofs.pieces.put_all_digits.Given as goal
+use Rattle.knx_model.specs.ReportText.{hex_text}
+use Rattle.report_text.proofs.pieces.put_all_digits.Given as goal
 
 -- the digits so far and those of the octets that are left are all digits
 abbrev pub invariant-loop-octet : goal.invariant-loop-octet
