@@ -1,7 +1,7 @@
 -- The parameter memory of a device: bit 0 is the highest bit of the first octet, and a field holds its value with the highest bit
 -- first.
-use Rattle.std.specs.Prelude.{◌≡◌, ◌⊎◌, ℕ, ◌+◌, ◌*◌, ◌/◌, ◌%◌, ◌<◌, ◌≤◌, Bool, ◌&&◌, ◌==◌, List, [], ◌∷◌, length, map, take, drop, fold, All, Option, Some, None, slice_index, if◌then◌else◌}
-use Rattle.std.specs.List.{flat_map}
+use Rattle.std.specs.Prelude.{◌≡◌, ◌⊎◌, ℕ, ◌+◌, ◌*◌, ◌/◌, ◌%◌, ◌<◌, ◌≤◌, Bool, ◌&&◌, ◌==◌, List, [], ◌∷◌, length, map, take, drop, fold, All, Option, Some, None, Contains, nat_eq, slice_index, if◌then◌else◌}
+use Rattle.std.specs.List.{flat_map, IsDistinct}
 use Rattle.knx_model.specs.declared.catalogue.model.Model.{Model}
 use Rattle.knx_model.specs.declared.catalogue.model.ModelField.{ModelField}
 use Rattle.knx_model.specs.declared.config.ParamValue.{ParamValue}
@@ -48,3 +48,19 @@ laid_field settings f = record { bit = f.bit; width = f.width; value = set_value
 -- the fields of a model, each with the value that is set or its default
 unfoldable pub laid : Model → List ParamValue → List ParamValue
 laid m settings = map (laid_field settings) m.parameters
+
+-- a field of the model with a value in its range
+pub record IsSetting (m : Model) (p : ParamValue) : Type 0 where
+  pub field : ModelField
+  pub member : Contains m.parameters field
+  pub same : is_of_field field p ≡ true
+  pub least : field.min ≤ p.value
+  pub greatest : p.value ≤ field.max
+
+abbrev pub first_bit : ParamValue → ℕ
+first_bit p = p.bit
+
+-- settings of the model, in which no field is set twice
+pub record AreSettings (m : Model) (settings : List ParamValue) : Type 0 where
+  pub each : All (IsSetting m) settings
+  pub once : IsDistinct nat_eq (map first_bit settings)
