@@ -1,36 +1,99 @@
 -- What a call of the program does, for each of its commands.
-use Rattle.std.specs.Prelude.{ℕ, ◌≡◌, bytes_eq, codes, List, [], ◌∷◌, Option, Some, None, if◌then◌else◌}
+use Rattle.std.specs.Prelude.{ℕ, ◌≡◌, ◌⊎◌, Bool, true, false, List, [], ◌∷◌, map, All, IsPermutation, Option, Some, None, Result, Ok, Err, if◌then◌else◌}
+use Rattle.std.specs.List.{list_any, flat_map}
+use Rattle.std.specs.List.Sorted.{IsStrictlyIncreasing}
 use Rattle.frame_text.specs.FrameText.{IsFrameText, hex_word}
-use Rattle.knx_model.specs.Bench.{Trace}
-use Rattle.knx_model.specs.Command.{Answers, Stops, Wrote, outcome_status, outcome_text}
-use Rattle.knx_model.specs.Outside.{Told}
+use Rattle.knx_model.specs.declared.address.IndAddr.{IndAddr}
+use Rattle.knx_model.specs.declared.command.Stop.{Stop}
 use Rattle.knx_model.specs.declared.command.Stop.TheVariants as stop
+use Rattle.knx_model.specs.declared.config.Image.{Image}
+use Rattle.knx_model.specs.declared.log.LogEntry.{LogEntry}
+use Rattle.knx_model.specs.declared.log.LogWhat.{LogWhat}
+use Rattle.knx_model.specs.declared.log.LogWhat.TheVariants.{Failed}
 use Rattle.knx_model.specs.declared.status.Status.{Status}
 use Rattle.knx_model.specs.declared.status.Status.TheVariants as status
+use Rattle.knx_model.specs.Bench.{Trace}
+use Rattle.knx_model.specs.Meaning.{Installation, meaning}
+use Rattle.knx_model.specs.Outside.{Told, Takes, TakesFront}
+use Rattle.knx_model.specs.ReportText.{counts_line, tables_lines, report_text, stop_text, stop_status}
+use Rattle.knx_model.specs.Rules.{counts_of, devices_of}
+use Rattle.knx_model.specs.Tables.{StandsFor}
+use Rattle.knx_top.specs.Asked.{Command, Check, Tables, Sim, Decode, FileNames, asked, files_of, name_in}
+use Rattle.knx_top.specs.Judged.{ProjectReads, SimReads, ProjectIsRead, SimIsRead, judged_project, judged}
+use Rattle.knx_top.specs.Ran.{Outcome, Stops, Tells, Reports, Commissions}
 
--- decode HEX: the word behind the command
-abbrev pub decode_word : List (List ℕ) → Option (List ℕ)
-decode_word (command ∷ word ∷ []) = if bytes_eq command (codes "decode") then Some word else None
-decode_word _ = None
+-- ---- the texts of the commands without a run
 
--- What is told of a word's octets, with its status: the text of their frame; the usage just where the word isn't HEX of 1 to 512
--- octets; and memory may be wanting.
-pub data DecodeTells (word : List ℕ) : List ℕ → Status → Type 0 where
-  Parts : (octets text : List ℕ) → hex_word word ≡ Some octets → IsFrameText octets text → DecodeTells word text status.Done
-  IsNoHex : hex_word word ≡ None → DecodeTells word (outcome_text None (Stops stop.Usage)) (outcome_status (Stops stop.Usage))
-  NoMemory : DecodeTells word (outcome_text None (Stops stop.NoMemory)) (outcome_status (Stops stop.NoMemory))
+-- `check`: how many devices, objects and links there are
+abbrev pub IsCountsText : Installation → List ℕ → Type 0
+IsCountsText i text = text ≡ counts_line (counts_of i)
 
--- what is told of a word was written
-pub record Decodes (word : List ℕ) (sink_rose : Type 0) (taken taken' : Option (List ℕ)) (ending : Status) : Type 0 where
-  pub text : List ℕ
-  pub told : Status
-  pub tells : DecodeTells word text told
-  pub wrote : Wrote text told sink_rose taken taken' ending
+-- `tables`: the devices, ascending, each with the tables of an image that stands for what the project says of it
+pub record IsTablesText (i : Installation) (text : List ℕ) : Type 0 where
+  pub compiled : List (IndAddr × Image)
+  pub exactly : IsPermutation (devices_of i.statements) (map (λ c. c.0) compiled)
+  pub ascend : IsStrictlyIncreasing (map (λ c. c.0.raw) compiled)
+  pub stand : All (λ c. StandsFor c.1 (meaning i c.0)) compiled
+  pub lines : text ≡ flat_map (λ c. tables_lines c.0 c.1) compiled
 
-abbrev pub AnswersDecode : Option (List ℕ) → List (List ℕ) → (List ℕ → Told) → Type 0 → Type 0 → Option Trace → Option Trace → Option (List ℕ) → Option (List ℕ) → Status → Type 0
-AnswersDecode (Some word) words told files_rose sink_rose before after taken taken' ending = Decodes word sink_rose taken taken' ending × (after ≡ before)
-AnswersDecode None words told files_rose sink_rose before after taken taken' ending = Answers words told files_rose sink_rose before after taken taken' ending
+-- `decode`: the octets of a word of hexadecimal digits; another word is usage
+abbrev pub octets_or_usage : Option (List ℕ) → Result (List ℕ) Stop
+octets_or_usage None = Err stop.Usage
+octets_or_usage (Some octets) = Ok octets
 
--- What a call with these words does: `decode`, for which no run begins, or else what it does for the files that the words name.
-abbrev pub AnswersCall : List (List ℕ) → (List ℕ → Told) → Type 0 → Type 0 → Option Trace → Option Trace → Option (List ℕ) → Option (List ℕ) → Status → Type 0
-AnswersCall words = AnswersDecode (decode_word words) words
+-- it stops where it must, or for want of memory, and else tells a text of what it has found
+abbrev pub TellsOf : {A : Type 0} → (A → List ℕ → Type 0) → Result A Stop → Outcome → Type 0
+TellsOf IsText (Err why) (Stops told) = (told ≡ why) ⊎ (told ≡ stop.NoMemory)
+TellsOf IsText (Ok found) (Stops told) = told ≡ stop.NoMemory
+TellsOf IsText (Ok found) (Tells text) = IsText found text
+TellsOf IsText _ _ = ⊥
+
+-- ---- the commands
+
+-- What a command comes to, where the files tell `told` and their count of faults rose or not, and the bench was `before` and is
+-- `after`: only `sim` begins a run.
+abbrev pub ComesTo : Option Command → (List ℕ → Told) → Type 0 → Option Trace → Option Trace → Outcome → Type 0
+ComesTo None told rose before after outcome = (outcome ≡ Stops stop.Usage) × (after ≡ before)
+ComesTo (Some (Decode word)) told rose before after outcome = TellsOf IsFrameText (octets_or_usage (hex_word word)) outcome × (after ≡ before)
+ComesTo (Some (Check words)) told rose before after outcome =
+    (reads : ProjectReads) × (ProjectIsRead told rose words reads × TellsOf IsCountsText (judged_project reads) outcome × (after ≡ before))
+ComesTo (Some (Tables words)) told rose before after outcome =
+    (reads : ProjectReads) × (ProjectIsRead told rose words reads × TellsOf IsTablesText (judged_project reads) outcome × (after ≡ before))
+ComesTo (Some (Sim words)) told rose before after outcome =
+    (reads : SimReads) × (SimIsRead told rose words reads × Commissions (judged reads) before after outcome)
+
+-- ---- what is written
+
+abbrev pub is_failed : LogWhat → Bool
+is_failed (Failed job signs) = true
+is_failed _ = false
+
+-- 1 where the log tells of a failed job, else 0
+abbrev pub log_status : List LogEntry → Status
+log_status log = if list_any (λ e. is_failed e.what) log then status.SomeFailed else status.Done
+
+abbrev pub outcome_status : Outcome → Status
+outcome_status (Stops why) = stop_status why
+outcome_status (Tells text) = status.Done
+outcome_status (Reports report jobs devices) = log_status report.log
+
+-- the text of an outcome, where each file's name is given
+abbrev pub outcome_text : FileNames → Outcome → List ℕ
+outcome_text names (Stops why) = stop_text (name_in names) why
+outcome_text names (Tells text) = text
+outcome_text names (Reports report jobs devices) = report_text report jobs devices
+
+-- the whole text was written and the status is the outcome's, or a write failed, a front of the text was taken and the status tells it
+abbrev pub Wrote : List ℕ → Status → Type 0 → Option (List ℕ) → Option (List ℕ) → Status → Type 0
+Wrote text ending rose before after told = ((told ≡ ending) × Takes text before after) ⊎ ((told ≡ status.Write) × (rose × TakesFront text before after))
+
+-- What a call does that is asked for a command, or for nothing: the sink had taken `taken` and has taken `taken'`, and the call ended
+-- with a status.
+pub record AnswersTo (command : Option Command) (told : List ℕ → Told) (files_rose sink_rose : Type 0) (before after : Option Trace) (taken taken' : Option (List ℕ)) (ending : Status) : Type 0 where
+  pub outcome : Outcome
+  pub comes : ComesTo command told files_rose before after outcome
+  pub wrote : Wrote (outcome_text (files_of command) outcome) (outcome_status outcome) sink_rose taken taken' ending
+
+-- what a call with these words does
+abbrev pub Answers : List (List ℕ) → (List ℕ → Told) → Type 0 → Type 0 → Option Trace → Option Trace → Option (List ℕ) → Option (List ℕ) → Status → Type 0
+Answers words = AnswersTo (asked words)

@@ -9,12 +9,11 @@ use Rattle.knx_model.specs.declared.log.LogEntry.{LogEntry}
 use Rattle.knx_model.specs.declared.log.LogWhat.{LogWhat}
 use Rattle.knx_model.specs.declared.log.LogWhat.TheVariants as told
 use Rattle.knx_model.specs.declared.log.Sign.TheVariants.{Closed}
-use Rattle.knx_model.specs.declared.project.Statement.{Statement}
 use Rattle.knx_model.specs.declared.script.Cut.{Cut}
 use Rattle.knx_model.specs.Bench.{Trace, now, moment}
-use Rattle.knx_model.specs.Command.{Outcome, Stops, Reports, entry}
-use Rattle.knx_model.specs.Device.{DeviceState, blank, loaded_with, runs}
-use Rattle.knx_model.specs.Meaning.{meaning}
+use Rattle.knx_top.specs.Ran.{Outcome, Stops, Tells, Reports, entry}
+use Rattle.knx_model.specs.Device.{runs}
+use Rattle.knx_model.specs.Meaning.{Installation, meaning}
 use Rattle.knx_model.specs.Plan.{OldStoppedOrImage, GaveWhole, load_plan}
 use Rattle.knx_model.specs.Promises.{IsCase}
 use Rattle.knx_model.specs.Script.{Follows, cut_count}
@@ -22,11 +21,6 @@ use Rattle.knx_model.specs.Tables.{StandsFor}
 use Rattle.knx_top.specs.declared.commission.Ended.{Ended}
 use Rattle.knx_top.specs.declared.download.JobEnd.{JobEnd}
 use Rattle.knx_top.specs.declared.download.JobEnd.TheVariants.{Done, Failed}
-
--- the device as a run begins
-abbrev pub start_with : IndAddr → Option Image → DeviceState
-start_with device None = blank device
-start_with device (Some image) = loaded_with device image
 
 abbrev pub end_of : JobEnd → LogWhat
 end_of Done = told.Done 1
@@ -47,7 +41,7 @@ pub record HasReported (image : Image) (named : IndAddr) (t : Trace) (end : JobE
   pub missed : ended.report.missed ≡ 0
   pub job : ended.job ≡ record { device = named; check = false }
   pub device : ended.device.device ≡ named
-  pub case : (ss : List Statement) (of : IndAddr) → StandsFor image (meaning ss of) → IsCase ss of (now t).kept ended.device.case
+  pub case : (project : Installation) (of : IndAddr) → StandsFor image (meaning project of) → IsCase project of (now t).kept ended.device.case
 
 -- what the end of a job says of the run
 pub record HasEnded (image : Image) (t : Trace) (end : JobEnd) : Type 0 where
@@ -70,3 +64,8 @@ outcome_of (Err why) = Stops why
 abbrev pub run_outcome : Result Ended NoMemory → Outcome
 run_outcome (Ok ended) = Reports ended.report (ended.job ∷ []) (ended.device ∷ [])
 run_outcome (Err why) = Stops stop.NoMemory
+
+-- or with a text
+abbrev pub told_outcome : Result (List ℕ) Stop → Outcome
+told_outcome (Ok text) = Tells text
+told_outcome (Err why) = Stops why

@@ -1,6 +1,10 @@
+pub mod Asked
+pub mod Judged
+pub mod Ran
+pub mod Call
 pub mod Names
-pub mod Cuts
+pub mod Start
 pub mod Attempt
 pub mod Order
 pub mod Ended
-pub mod Call
+pub mod Lending

@@ -1,10 +1,40 @@
--- The words of the command `sim`, and what was read, as the definitions see them.
-use Rattle.knx_model.specs.Command.{SimWords, Reads}
+-- The words of a command, and what was read, as the definitions see them.
+use Rattle.std.specs.Prelude.{ℕ, List, Option}
+use Rattle.std.specs.Option.{option_map}
+use Rattle.std.specs.Borrow.{Ref}
+use Rattle.knx_top.specs.Asked as asked
+use Rattle.knx_top.specs.Judged.{ProjectReads, SimReads}
+use Rattle.knx_top.specs.declared.asked.Command.{Command}
+use Rattle.knx_top.specs.declared.asked.Command.TheVariants.{Check, Tables, Sim, Decode}
+use Rattle.knx_top.specs.declared.asked.FileNames.{FileNames}
+use Rattle.knx_top.specs.declared.asked.ProjectNames.{ProjectNames}
 use Rattle.knx_top.specs.declared.asked.SimNames.{SimNames}
-use Rattle.knx_top.specs.declared.texts.Texts.{Texts}
+use Rattle.knx_top.specs.declared.texts.ProjectTexts.{ProjectTexts}
+use Rattle.knx_top.specs.declared.texts.SimTexts.{SimTexts}
 
-abbrev pub words_of : SimNames → SimWords
-words_of names = record { new = names.new.now; old = names.old.now; script = names.script.now }
+abbrev pub the_word : Ref (List ℕ) → List ℕ
+the_word word = word.now
 
-abbrev pub reads_of : Texts → Reads
-reads_of texts = record { new = texts.new; old = texts.old; script = texts.script }
+abbrev pub named : Option (Ref (List ℕ)) → Option (List ℕ)
+named name = option_map the_word name
+
+abbrev pub project_words_of : ProjectNames → asked.ProjectWords
+project_words_of names = record { project = names.project.now; catalogue = named names.catalogue }
+
+abbrev pub sim_words_of : SimNames → asked.SimWords
+sim_words_of names = record { new = names.new.now; old = names.old.now; script = names.script.now; catalogue = named names.catalogue }
+
+abbrev pub command_of : Command → asked.Command
+command_of (Check names) = asked.Check (project_words_of names)
+command_of (Tables names) = asked.Tables (project_words_of names)
+command_of (Sim names) = asked.Sim (sim_words_of names)
+command_of (Decode word) = asked.Decode word.now
+
+abbrev pub files_of : FileNames → asked.FileNames
+files_of names = record { catalogue = names.catalogue.now; new = names.new.now; old = names.old.now; script = names.script.now }
+
+abbrev pub project_reads_of : ProjectTexts → ProjectReads
+project_reads_of texts = record { catalogue = texts.catalogue; project = texts.project }
+
+abbrev pub sim_reads_of : SimTexts → SimReads
+sim_reads_of texts = record { catalogue = texts.catalogue; new = texts.new; old = texts.old; script = texts.script }

@@ -1,38 +1,166 @@
 //! What the words ask for.
 
-ghost use Rattle.std.specs.Prelude.{◌≡◌, None, Some, map, MatchOption, string_bytes};
-ghost use Rattle.knx_model.specs.Command.{asked};
-ghost use Rattle.knx_top.specs.Call.{decode_word};
-ghost use Rattle.knx_top.specs.Names.{words_of};
+ghost use Rattle.std.specs.Prelude.{◌≡◌, map, string_bytes};
+ghost use Rattle.std.specs.Option.{option_map};
+ghost use Rattle.knx_top.specs.Asked.{asked, catalogue_name, decode_word, no_files, options, or_nameless, project_files, project_words, sim_files, sim_words};
+ghost use Rattle.knx_top.specs.Names.{command_of, files_of, named, project_words_of, sim_words_of, the_word};
 
-/// The names of the files of `sim NEW OLD SCRIPT`.
+/// The names in `P [catalogue=F]`.
+#[derive(Clone, Copy)]
+pub struct ProjectNames<'a> {
+    pub project: &'a str,
+    pub catalogue: Option<&'a str>,
+}
+
+/// The names in `NEW OLD SCRIPT [catalogue=F]`.
 #[derive(Clone, Copy)]
 pub struct SimNames<'a> {
     pub new: &'a str,
     pub old: &'a str,
     pub script: &'a str,
+    pub catalogue: Option<&'a str>,
 }
 
-/// The command of the words; none for words that are no command.
-pub fn asked(words: &[String]) -> Option<SimNames<'_>>
-    ensures { MatchOption result (asked (map string_bytes words.now) ≡ None) (λ names. asked (map string_bytes words.now) ≡ Some (words_of names)) }
+/// A command with its words.
+#[derive(Clone, Copy)]
+pub enum Command<'a> {
+    /// `check P [catalogue=F]`
+    Check(ProjectNames<'a>),
+    /// `tables P [catalogue=F]`
+    Tables(ProjectNames<'a>),
+    /// `sim NEW OLD SCRIPT [catalogue=F]`
+    Sim(SimNames<'a>),
+    /// `decode HEX`
+    Decode(&'a str),
+}
+
+/// The names of a command's files; that of a file which the command doesn't read is empty.
+#[derive(Clone, Copy)]
+pub struct FileNames<'a> {
+    pub catalogue: &'a str,
+    pub new: &'a str,
+    pub old: &'a str,
+    pub script: &'a str,
+}
+
+impl FileNames<'_> {
+    /// Those of a command without files.
+    pub fn none() -> FileNames<'static>
+        ensures { files_of result ≡ no_files }
+    {
+        FileNames {
+            catalogue: "",
+            new: "",
+            old: "",
+            script: "",
+        }
+    }
+}
+
+fn or_nameless(name: Option<&str>) -> &str
+    ensures { result.now ≡ or_nameless (named name) }
+{
+    match name {
+        Some(name) => name,
+        None => "",
+    }
+}
+
+impl<'a> ProjectNames<'a> {
+    /// The names by their files.
+    pub fn files(self) -> FileNames<'a>
+        ensures { files_of result ≡ project_files (project_words_of self.entry) }
+    {
+        FileNames {
+            catalogue: or_nameless(self.catalogue),
+            new: self.project,
+            old: "",
+            script: "",
+        }
+    }
+}
+
+impl<'a> SimNames<'a> {
+    /// The names by their files.
+    pub fn files(self) -> FileNames<'a>
+        ensures { files_of result ≡ sim_files (sim_words_of self.entry) }
+    {
+        FileNames {
+            catalogue: or_nameless(self.catalogue),
+            new: self.new,
+            old: self.old,
+            script: self.script,
+        }
+    }
+}
+
+/// The name in `catalogue=F`.
+fn catalogue_name(word: &str) -> Option<&str>
+    ensures { option_map the_word result ≡ catalogue_name word.now }
+{
+    word.strip_prefix("catalogue=")
+}
+
+/// The catalogue that the options name, if they name one; none at all for other words.
+fn options(words: &[String]) -> Option<Option<&str>>
+    ensures { option_map named result ≡ options (map string_bytes words.now) }
 {
     match words {
-        [command, new, old, script] if command.as_str() == "sim" => Some(SimNames {
-            new: new.as_str(),
-            old: old.as_str(),
-            script: script.as_str(),
-        }),
+        [] => Some(None),
+        [word] => Some(Some(catalogue_name(word.as_str())?)),
         _ => None,
     }
 }
 
-/// The word of `decode HEX`; none for words that aren't this command.
-pub fn decode_word(words: &[String]) -> Option<&str>
-    ensures { MatchOption result (decode_word (map string_bytes words.now) ≡ None) (λ word. decode_word (map string_bytes words.now) ≡ Some word.now) }
+fn project_names(words: &[String]) -> Option<ProjectNames<'_>>
+    ensures { option_map project_words_of result ≡ project_words (map string_bytes words.now) }
+{
+    let [project, others @ ..] = words else {
+        return None;
+    };
+    let catalogue = options(others)?;
+    Some(ProjectNames {
+        project: project.as_str(),
+        catalogue,
+    })
+}
+
+fn sim_names(words: &[String]) -> Option<SimNames<'_>>
+    ensures { option_map sim_words_of result ≡ sim_words (map string_bytes words.now) }
+{
+    let [new, old, script, others @ ..] = words else {
+        return None;
+    };
+    let catalogue = options(others)?;
+    Some(SimNames {
+        new: new.as_str(),
+        old: old.as_str(),
+        script: script.as_str(),
+        catalogue,
+    })
+}
+
+fn decode_word(words: &[String]) -> Option<&str>
+    ensures { option_map the_word result ≡ decode_word (map string_bytes words.now) }
 {
     match words {
-        [command, word] if command.as_str() == "decode" => Some(word.as_str()),
+        [word] => Some(word.as_str()),
+        _ => None,
+    }
+}
+
+/// The command of the words; none for words that are no command.
+pub fn asked(words: &[String]) -> Option<Command<'_>>
+    ensures { option_map command_of result ≡ asked (map string_bytes words.now) }
+{
+    let [command, others @ ..] = words else {
+        return None;
+    };
+    match command.as_str() {
+        "check" => Some(Command::Check(project_names(others)?)),
+        "tables" => Some(Command::Tables(project_names(others)?)),
+        "sim" => Some(Command::Sim(sim_names(others)?)),
+        "decode" => Some(Command::Decode(decode_word(others)?)),
         _ => None,
     }
 }

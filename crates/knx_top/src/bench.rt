@@ -1,9 +1,13 @@
 //! A bench: one simulated device with all that was done to it.
 
-ghost use Rattle.std.specs.Prelude.{◌≡◌, [], None, Some, true, length, IfOk, OnOk, OnErr};
+ghost use Rattle.std.specs.Prelude.{◌≡◌, [], None, Some, true, length, IfOk, IfSome, OnOk, OnErr};
+ghost use Rattle.std.specs.Borrow.{sem};
+ghost use Rattle.std.specs.Option.{option_map};
 ghost use Rattle.knx_model.specs.declared.bench.BenchEvent.TheVariants.{Give, On};
 ghost use Rattle.knx_model.specs.Device.{blank, loaded_with, effect_in, is_write, runs, Fits};
 ghost use Rattle.knx_model.specs.Bench.{now, after, answered, cut_after};
+ghost use Rattle.knx_top.specs.Start.{start_with};
+ghost use Rattle.knx_top.specs.Lending.{LendsRun};
 
 use device_sim::{Device, written_front};
 use knx_model::{ApduOctets, BenchEvent, Image, IndAddr, NoMemory};
@@ -31,7 +35,7 @@ impl Model for Run {
 
 impl Run {
     /// A blank device to which nothing was done.
-    pub fn blank(alloc: Global, address: IndAddr) -> Result<Run, NoMemory>
+    fn blank(alloc: Global, address: IndAddr) -> Result<Run, NoMemory>
         ensures { IfOk result (λ made. made ≡ record { start = blank address; events = [] }) }
     {
         Ok(Run {
@@ -42,7 +46,7 @@ impl Run {
     }
 
     /// A device that is loaded with an image.
-    pub fn loaded(alloc: Global, address: IndAddr, image: &Image) -> Result<Run, NoMemory>
+    fn loaded(alloc: Global, address: IndAddr, image: &Image) -> Result<Run, NoMemory>
         requires { Fits image.now }
         ensures { IfOk result (λ made. made ≡ record { start = loaded_with address image.now; events = [] }) }
     {
@@ -51,6 +55,17 @@ impl Run {
             events: Vec::new(alloc),
             device: Device::loaded(alloc, address, image)?,
         })
+    }
+
+    /// The device as a run begins: loaded with an image where there is one, else blank.
+    fn begun(alloc: Global, address: IndAddr, before: &Option<Image>) -> Result<Run, NoMemory>
+        requires { IfSome before.now Fits }
+        ensures { IfOk result (λ made. made ≡ record { start = start_with address before.now; events = [] }) }
+    {
+        match before {
+            Some(image) => Run::loaded(alloc, address, image),
+            None => Run::blank(alloc, address),
+        }
     }
 
     /// The image that the device runs; none where it doesn't run.
@@ -140,10 +155,27 @@ impl Bench {
         Bench { run: None }
     }
 
-    /// Puts a run on the bench.
-    pub fn put(&mut self, run: Run)
-        ensures { self.new ≡ Some run }
+    /// Begins a run of a device that is loaded with an image, or blank where there is none. At `Err` the bench is as it was.
+    pub fn begin(
+        &mut self,
+        alloc: Global,
+        address: IndAddr,
+        before: &Option<Image>,
+    ) -> Result<(), NoMemory>
+        requires { IfSome before.now Fits }
+        ensures begun { OnOk result (self.new ≡ Some (record { start = start_with address before.now; events = [] })) }
+        ensures err { OnErr result (self.new ≡ self.old) }
     {
+        let run = Run::begun(alloc, address, before)?;
         self.run = Some(run);
+        Ok(())
+    }
+
+    /// The run that was begun; none where there is none.
+    pub fn run(&mut self) -> Option<&mut Run>
+        ensures* writes_back { sem 𝓛 (LendsRun self.entry result) }
+        ensures value { option_map (λ r. r.now) result ≡ self.old }
+    {
+        self.run.as_mut()
     }
 }

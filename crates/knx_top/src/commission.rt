@@ -2,18 +2,19 @@
 
 ghost use Rattle.std.specs.Prelude.{◌≡◌, [], true, Ok, IfOk, IfSome};
 ghost use Rattle.knx_model.specs.Bench.{now};
-ghost use Rattle.knx_model.specs.Command.{Commission, judged, Decided};
+ghost use Rattle.knx_top.specs.Judged.{Commission, judged};
+ghost use Rattle.knx_top.specs.Ran.{Commissions};
 ghost use Rattle.knx_model.specs.Device.{Fits};
 ghost use Rattle.knx_model.specs.Plan.{HasCapacities};
-ghost use Rattle.knx_top.specs.Names.{reads_of};
+ghost use Rattle.knx_top.specs.Names.{sim_reads_of};
 ghost use Rattle.knx_top.specs.Order.{IsOrder};
-ghost use Rattle.knx_top.specs.Ended.{start_with, end_of, log_of, HasLoaded, HasEnded, HasReported, Reported, outcome_of, run_outcome};
+ghost use Rattle.knx_top.specs.Ended.{end_of, log_of, HasLoaded, HasEnded, HasReported, Reported, outcome_of, run_outcome};
 
 use crate::bench::{Bench, Run};
 use crate::case::case_of;
 use crate::download::{JobEnd, download};
 use crate::judge::{Order, judge};
-use crate::texts::Texts;
+use crate::texts::SimTexts;
 use download_plan::LoadPlan;
 use knx_model::{
     Cut, DeviceCase, Image, IndAddr, JobWord, List, LogEntry, LogWhat, NoMemory, Report, Sign, Stop,
@@ -32,17 +33,6 @@ pub struct Ended {
     pub report: Report,
     pub job: JobWord,
     pub device: DeviceCase,
-}
-
-/// The device as the run begins: loaded with OLD's image where OLD has it, else blank.
-fn begin(alloc: Global, device: IndAddr, before: &Option<Image>) -> Result<Run, NoMemory>
-    requires { IfSome before.now Fits }
-    ensures { IfOk result (λ run. run ≡ record { start = start_with device before.now; events = [] }) }
-{
-    match before {
-        Some(image) => Run::loaded(alloc, device, image),
-        None => Run::blank(alloc, device),
-    }
 }
 
 /// What the log tells of the end of the job.
@@ -113,11 +103,11 @@ fn load(
     reported(alloc, run, plan, device, end)
 }
 
-/// Runs what was judged. The bench has the run, whether it ended or memory was wanting on the way.
+/// Runs on the bench what was judged. It has the run from its beginning on, whether it ends or memory is wanting on the way.
 fn commission_order(alloc: Global, order: Order, sim: &mut Bench) -> Result<Ended, NoMemory>
     requires fits { Fits order.image }
     requires before { IfSome order.before Fits }
-    ensures { (c : Commission) → IsOrder c order → Decided (Ok c) sim.old sim.new (run_outcome result) }
+    ensures { (c : Commission) → IsOrder c order → Commissions (Ok c) sim.old sim.new (run_outcome result) }
 {
     let Order {
         device,
@@ -125,16 +115,17 @@ fn commission_order(alloc: Global, order: Order, sim: &mut Bench) -> Result<Ende
         before,
         cuts,
     } = order;
-    let mut run = begin(alloc, device, &before)?;
+    sim.begin(alloc, device, &before)?;
     let plan = LoadPlan::of(image);
-    let ended = load(alloc, &mut run, &plan, device, cuts.as_slice());
-    sim.put(run);
-    ended
+    match sim.run() {
+        Some(run) => load(alloc, run, &plan, device, cuts.as_slice()),
+        None => unreachable!(),
+    }
 }
 
 /// Judges the texts and runs what they ask for.
-pub fn commission(alloc: Global, texts: &Texts, sim: &mut Bench) -> Result<Ended, Stop>
-    ensures { Decided (judged (reads_of texts.now)) sim.old sim.new (outcome_of result) }
+pub fn commission(alloc: Global, texts: &SimTexts, sim: &mut Bench) -> Result<Ended, Stop>
+    ensures { Commissions (judged (sim_reads_of texts.now)) sim.old sim.new (outcome_of result) }
 {
     match judge(alloc, texts) {
         Err(why) => Err(why),

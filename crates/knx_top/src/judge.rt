@@ -1,18 +1,20 @@
-//! The texts are judged in their order: the files, then NEW, OLD and the script.
+//! What was read is judged in order: the catalogue, NEW, OLD, then the script and its devices.
 
-ghost use Rattle.std.specs.Prelude.{◌≡◌, ◌≢◌, Some, Ok, Err, MatchResult, IfOk, IfErr};
+ghost use Rattle.std.specs.Prelude.{◌≡◌, ◌≢◌, Err, IfOk, IfErr};
+ghost use Rattle.knx_model.specs.declared.command.InputFile.TheVariants.{New, Old};
 ghost use Rattle.knx_model.specs.declared.command.Stop.TheVariants.{NoMemory as OutOfMemory};
-ghost use Rattle.knx_model.specs.declared.command.SimFile.TheVariants.{Script};
-ghost use Rattle.knx_model.specs.Command.{built, read_of, judged};
-ghost use Rattle.knx_model.specs.Script.{script_of};
-ghost use Rattle.knx_top.specs.Names.{reads_of};
-ghost use Rattle.knx_top.specs.Order.{OrderFor};
+ghost use Rattle.knx_model.specs.Rules.{devices_of};
+ghost use Rattle.knx_top.specs.Judged.{Gives, built, judged, script_cuts, the_device, with_at_most};
+ghost use Rattle.knx_top.specs.Names.{sim_reads_of};
+ghost use Rattle.knx_top.specs.Order.{IsBefore, IsImage, OrderFor};
 
-use crate::project::{new_in, not_built, old_in};
-use crate::script::cuts_in;
-use crate::texts::Texts;
-use knx_model::{Cut, FileFault, Image, IndAddr, List, Octets, SimFile, Stop};
+use crate::project::{models_in, not_built, project_in, read_of, refusal, sound_in};
+use crate::texts::SimTexts;
+use knx_model::{Cut, Image, IndAddr, InputFile, List, Stop};
+use project_check::Checked;
+use script_text::{first_stranger, just_cuts, read_script};
 use std::alloc::Global;
+use table_compiler::compile;
 
 /// All that a run needs: NEW's device and image, OLD's image of it, and the script's cuts.
 #[derive(Drop)]
@@ -23,44 +25,95 @@ pub struct Order {
     pub cuts: List<Cut>,
 }
 
-/// The octets of a file, or why the call stops.
-fn octets_of(place: SimFile, read: &Result<Octets, FileFault>) -> Result<&[u8], Stop>
-    ensures { MatchResult result (λ octets. read_of place read.now ≡ Ok octets.now) (λ why. read_of place read.now ≡ Err why) }
+/// NEW's device, where it has just one.
+fn the_device(new: &Checked<'_>) -> Result<IndAddr, Stop>
+    ensures { Gives (λ x. x) result (built New (the_device (devices_of new.now.statements))) }
 {
-    match read {
-        Ok(octets) => Ok(octets.as_slice()),
-        Err(FileFault::NotThere) => Err(Stop::NotThere(place)),
-        Err(FileFault::Failed) => Err(Stop::ReadFailed(place)),
-        Err(FileFault::NoMemory) => Err(Stop::NoMemory),
+    match (new.counts().devices, new.first()) {
+        (1, Some(device)) => Ok(device),
+        _ => Err(not_built(InputFile::New)),
     }
 }
 
-/// The cuts of the script.
-fn script_in(alloc: Global, octets: &[u8], device: IndAddr) -> Result<List<Cut>, Stop>
-    ensures ok { IfOk result (λ cuts. script_of device octets.now ≡ Some cuts) }
-    ensures err { IfErr result (λ why. why ≢ OutOfMemory → built Script (script_of device octets.now) ≡ Err why) }
+/// OLD has no device but this one.
+fn has_at_most(device: IndAddr, old: &Checked<'_>) -> Result<(), Stop>
+    ensures { Gives (λ _. old.now) result (built Old (with_at_most device old.now)) }
 {
-    match cuts_in(alloc, device, octets) {
+    match (old.counts().devices, old.first()) {
+        (0, _) => Ok(()),
+        (1, Some(other)) if other.raw == device.raw => Ok(()),
+        _ => Err(not_built(InputFile::Old)),
+    }
+}
+
+/// The cuts of a script, where it reads, names no other device than this one and has `cut` lines alone.
+fn cuts_in(alloc: Global, octets: &[u8], device: IndAddr) -> Result<List<Cut>, Stop>
+    ensures { Gives (λ cuts. cuts) result (script_cuts device octets.now) }
+{
+    let script = match read_script(alloc, octets) {
+        Ok(script) => script,
+        Err(refused) => return Err(refusal(InputFile::Script, refused)),
+    };
+    let lines = script.lines();
+    if let Some(refused) = first_stranger(&[device], lines) {
+        return Err(refusal(InputFile::Script, refused));
+    }
+    match just_cuts(alloc, lines) {
         Ok(Some(cuts)) => Ok(cuts),
-        Ok(None) => Err(not_built(SimFile::Script)),
+        Ok(None) => Err(not_built(InputFile::Script)),
         Err(_) => Err(Stop::NoMemory),
     }
 }
 
-/// What a run is begun with, or the first that stops the call.
-pub fn judge(alloc: Global, texts: &Texts) -> Result<Order, Stop>
-    ensures ok { IfOk result (λ order. OrderFor (judged (reads_of texts.now)) order) }
-    ensures err { IfErr result (λ why. why ≢ OutOfMemory → judged (reads_of texts.now) ≡ Err why) }
+/// The image of a device of a project.
+fn image_of(alloc: Global, checked: &Checked<'_>, device: IndAddr) -> Result<Image, Stop>
+    ensures ok { IfOk result (λ image. IsImage checked.now device image) }
+    ensures err { IfErr result (λ why. why ≡ OutOfMemory) }
 {
-    let new = octets_of(SimFile::New, &texts.new)?;
-    let old = octets_of(SimFile::Old, &texts.old)?;
-    let script = octets_of(SimFile::Script, &texts.script)?;
-    let line = new_in(alloc, new)?;
-    let before = old_in(alloc, old, line.device)?;
-    let cuts = script_in(alloc, script, line.device)?;
+    match compile(alloc, checked, device) {
+        Ok(image) => Ok(image),
+        Err(_) => Err(Stop::NoMemory),
+    }
+}
+
+/// The image of a device where a project has it.
+fn image_before(
+    alloc: Global,
+    checked: &Checked<'_>,
+    device: IndAddr,
+) -> Result<Option<Image>, Stop>
+    ensures ok { IfOk result (λ image. IsBefore checked.now device image) }
+    ensures err { IfErr result (λ why. why ≡ OutOfMemory) }
+{
+    if checked.has(device) {
+        Ok(Some(image_of(alloc, checked, device)?))
+    } else {
+        Ok(None)
+    }
+}
+
+/// What a run needs, or why the call stops before one.
+pub fn judge(alloc: Global, texts: &SimTexts) -> Result<Order, Stop>
+    ensures ok { IfOk result (λ order. OrderFor (judged (sim_reads_of texts.now)) order) }
+    ensures err { IfErr result (λ why. why ≢ OutOfMemory → judged (sim_reads_of texts.now) ≡ Err why) }
+{
+    let catalogue = read_of(InputFile::Catalogue, &texts.catalogue)?;
+    let new = read_of(InputFile::New, &texts.new)?;
+    let old = read_of(InputFile::Old, &texts.old)?;
+    let script = read_of(InputFile::Script, &texts.script)?;
+    let models = models_in(alloc, catalogue)?;
+    let new = project_in(alloc, InputFile::New, new.as_slice())?;
+    let new = sound_in(alloc, InputFile::New, &new, &models)?;
+    let old = project_in(alloc, InputFile::Old, old.as_slice())?;
+    let old = sound_in(alloc, InputFile::Old, &old, &models)?;
+    let device = the_device(&new)?;
+    has_at_most(device, &old)?;
+    let cuts = cuts_in(alloc, script.as_slice(), device)?;
+    let image = image_of(alloc, &new, device)?;
+    let before = image_before(alloc, &old, device)?;
     Ok(Order {
-        device: line.device,
-        image: line.image,
+        device,
+        image,
         before,
         cuts,
     })

@@ -4,12 +4,12 @@ ghost use Rattle.std.specs.Prelude.{◌≡◌, ◌≢◌, ◌++◌, ◌∷◌, [
 ghost use Rattle.std.specs.Fmt.{decimal};
 ghost use Rattle.std.specs.List.{join_with_byte};
 ghost use Rattle.knx_model.specs.Refusal.{why_number, why_word};
-ghost use Rattle.knx_model.specs.Command.{name_of};
-ghost use Rattle.knx_model.specs.ReportText.{file_word, limit_of, optional_number, read_fault_line, refusal_line, refusal_status, stop_status, stop_text};
-ghost use Rattle.knx_top.specs.Names.{words_of};
+ghost use Rattle.knx_model.specs.ReportText.{catalogue_line, catalogue_words, file_word, limit_of, optional_number, read_fault_line, refusal_line, refusal_status, stop_status, stop_text};
+ghost use Rattle.knx_top.specs.Asked.{name_in};
+ghost use Rattle.knx_top.specs.Names.{files_of};
 
-use crate::asked::SimNames;
-use knx_model::{NoMemory, Octets, Refused, SimFile, Status, Stop, Why};
+use crate::asked::FileNames;
+use knx_model::{CatRefused, InputFile, NoMemory, Octets, Refused, Status, Stop, Why};
 use report_text::put_number;
 use std::alloc::Global;
 
@@ -20,43 +20,47 @@ pub const USAGE: &[u8] =
 /// The line for want of memory.
 pub const NO_MEMORY: &[u8] = b"no memory\n";
 
-fn file_word(place: SimFile) -> &'static str
+fn file_word(place: InputFile) -> &'static str
     ensures { result.now ≡ file_word place }
 {
     match place {
-        SimFile::New => "new",
-        SimFile::Old => "old",
-        SimFile::Script => "script",
+        InputFile::Catalogue => "catalogue",
+        InputFile::New => "new",
+        InputFile::Old => "old",
+        InputFile::Script => "script",
     }
 }
 
-fn name_of<'a>(names: SimNames<'a>, place: SimFile) -> &'a str
-    ensures { result.now ≡ name_of (words_of names.entry) place }
+fn name_in<'a>(names: FileNames<'a>, place: InputFile) -> &'a str
+    ensures { result.now ≡ name_in (files_of names.entry) place }
 {
     match place {
-        SimFile::New => names.new,
-        SimFile::Old => names.old,
-        SimFile::Script => names.script,
+        InputFile::Catalogue => names.catalogue,
+        InputFile::New => names.new,
+        InputFile::Old => names.old,
+        InputFile::Script => names.script,
     }
 }
 
-fn refusal_status(place: SimFile) -> Status
+fn refusal_status(place: InputFile) -> Status
     ensures { result ≡ refusal_status place }
 {
     match place {
-        SimFile::New | SimFile::Old => Status::Project,
-        SimFile::Script => Status::Script,
+        InputFile::Catalogue => Status::Catalogue,
+        InputFile::New | InputFile::Old => Status::Project,
+        InputFile::Script => Status::Script,
     }
 }
 
 /// The status of a stop.
-pub fn stop_status(stop: Stop) -> Status
-    ensures { result ≡ stop_status stop }
+pub fn stop_status(stop: &Stop) -> Status
+    ensures { result ≡ stop_status stop.now }
 {
     match stop {
         Stop::Usage => Status::Usage,
         Stop::NotThere(_) | Stop::ReadFailed(_) => Status::Read,
-        Stop::Refused(place, _) => refusal_status(place),
+        Stop::CatalogueRefused(_) => Status::Catalogue,
+        Stop::Refused(place, _) => refusal_status(*place),
         Stop::NoMemory => Status::NoMemory,
     }
 }
@@ -89,7 +93,7 @@ fn put_why(alloc: Global, out: &mut Octets, why: Why) -> Result<(), NoMemory>
     Ok(())
 }
 
-fn refusal(alloc: Global, place: SimFile, refused: Refused) -> Result<Octets, NoMemory>
+fn refusal(alloc: Global, place: InputFile, refused: Refused) -> Result<Octets, NoMemory>
     ensures { IfOk result (λ text. text ≡ refusal_line place refused) }
 {
     let mut out = Octets::new(alloc);
@@ -102,15 +106,59 @@ fn refusal(alloc: Global, place: SimFile, refused: Refused) -> Result<Octets, No
     Ok(out)
 }
 
+/// Appends a word behind a space.
+fn put_word(out: &mut Octets, word: &[u8]) -> Result<(), NoMemory>
+    ensures { OnOk result (out.new ≡ out.old ++ 32 ∷ word.now) }
+{
+    out.push(b' ')?;
+    out.append(word)
+}
+
+/// Appends the number and the word of a catalogue's refusal, and the model and the parameter where it has them.
+fn put_catalogue_words(out: &mut Octets, refused: &CatRefused) -> Result<(), NoMemory>
+    ensures { OnOk result (out.new ≡ out.old ++ join_with_byte 32 (catalogue_words refused.now)) }
+{
+    match refused {
+        CatRefused::NoMemory => out.append(b"NoMemory"),
+        CatRefused::Toml => out.append(b"1 Toml"),
+        CatRefused::Shape { model } => {
+            out.append(b"2 Shape")?;
+            put_word(out, model.as_slice())
+        }
+        CatRefused::Overlap { model, parameter } => {
+            out.append(b"3 Overlap")?;
+            put_word(out, model.as_slice())?;
+            put_word(out, parameter.as_slice())
+        }
+        CatRefused::Range { model, parameter } => {
+            out.append(b"4 Range")?;
+            put_word(out, model.as_slice())?;
+            put_word(out, parameter.as_slice())
+        }
+        CatRefused::Long => out.append(b"5 Long"),
+    }
+}
+
+fn catalogue_refusal(alloc: Global, refused: &CatRefused) -> Result<Octets, NoMemory>
+    ensures { IfOk result (λ text. text ≡ catalogue_line refused.now) }
+{
+    let mut out = Octets::new(alloc);
+    out.append(b"catalogue: ")?;
+    put_catalogue_words(&mut out, refused)?;
+    out.push(b'\n')?;
+    Ok(out)
+}
+
 /// The text of a stop.
-pub fn stop_text(alloc: Global, names: SimNames<'_>, stop: Stop) -> Result<Octets, NoMemory>
-    ensures { IfOk result (λ text. text ≡ stop_text (name_of (words_of names.entry)) stop) }
+pub fn stop_text(alloc: Global, names: FileNames<'_>, stop: &Stop) -> Result<Octets, NoMemory>
+    ensures { IfOk result (λ text. text ≡ stop_text (name_in (files_of names.entry)) stop.now) }
 {
     match stop {
         Stop::Usage => Octets::from_slice(alloc, USAGE),
-        Stop::NotThere(place) => read_fault(alloc, name_of(names, place), "NotThere"),
-        Stop::ReadFailed(place) => read_fault(alloc, name_of(names, place), "Failed"),
-        Stop::Refused(place, refused) => refusal(alloc, place, refused),
+        Stop::NotThere(place) => read_fault(alloc, name_in(names, *place), "NotThere"),
+        Stop::ReadFailed(place) => read_fault(alloc, name_in(names, *place), "Failed"),
+        Stop::CatalogueRefused(refused) => catalogue_refusal(alloc, refused),
+        Stop::Refused(place, refused) => refusal(alloc, *place, *refused),
         Stop::NoMemory => Octets::from_slice(alloc, NO_MEMORY),
     }
 }

@@ -1,0 +1,66 @@
+-- What a run did: from where it began, over what was done to the device, to what was told of it.
+use Rattle.std.specs.Prelude.{ℕ, ◌≡◌, ◌<◌, ◌⊎◌, false, List, [], ◌∷◌, length, Option, Some, Result, Ok, Err}
+use Rattle.knx_model.specs.declared.command.Stop.{Stop}
+use Rattle.knx_model.specs.declared.command.Stop.TheVariants as stop
+use Rattle.knx_model.specs.declared.config.Image.{Image}
+use Rattle.knx_model.specs.declared.log.Case.{Case}
+use Rattle.knx_model.specs.declared.log.DeviceCase.{DeviceCase}
+use Rattle.knx_model.specs.declared.log.JobWord.{JobWord}
+use Rattle.knx_model.specs.declared.log.LogEntry.{LogEntry}
+use Rattle.knx_model.specs.declared.log.LogWhat.{LogWhat}
+use Rattle.knx_model.specs.declared.log.LogWhat.TheVariants.{Took, Done, Failed}
+use Rattle.knx_model.specs.declared.log.Report.{Report}
+use Rattle.knx_model.specs.declared.log.Sign.TheVariants.{Closed}
+use Rattle.knx_model.specs.Bench.{Trace, now}
+use Rattle.knx_model.specs.Meaning.{meaning}
+use Rattle.knx_model.specs.Plan.{load_plan, GaveWhole}
+use Rattle.knx_model.specs.Promises.{StartOf, AtEveryMoment, ToldTruly, IsCase}
+use Rattle.knx_model.specs.Script.{Follows, cut_count}
+use Rattle.knx_model.specs.Tables.{StandsFor}
+use Rattle.knx_top.specs.Judged.{Commission}
+
+-- a run that has begun: its start is the one that is stated, its events follow the script, and each moment is old, stopped or new
+pub record Began (c : Commission) (t : Trace) : Type 0 where
+  pub start : StartOf c.before c.device t.start
+  pub follows : Follows c.cuts t.start 0 t.events
+  pub moments : AtEveryMoment c.project c.device t
+
+-- `done` is told after the whole plan of the project's image, each answer the expected one
+pub record PlanWasGiven (c : Commission) (t : Trace) : Type 0 where
+  pub image : Image
+  pub stands : StandsFor image (meaning c.project c.device)
+  pub whole : GaveWhole (load_plan image) t
+
+abbrev pub entry : ℕ → LogWhat → LogEntry
+entry at what = record { at = at; worker = 1; what = what }
+
+-- the one job was taken at the beginning and told of at the end: done after its whole plan and fewer than three cuts, or failed after
+-- three attempts that each had a cut
+pub data IsOver (c : Commission) (t : Trace) : List LogEntry → Type 0 where
+  IsDone : cut_count t.events < 3 → PlanWasGiven c t → IsOver c t (entry 0 (Took 1) ∷ entry (length t.events) (Done 1) ∷ [])
+  HasFailed : cut_count t.events ≡ 3 → IsOver c t (entry 0 (Took 1) ∷ entry (length t.events) (Failed 1 (Closed ∷ Closed ∷ Closed ∷ [])) ∷ [])
+
+-- a run that has ended: what was told is true, and the report is of this job and this device
+pub record Ran (c : Commission) (t : Trace) (report : Report) (jobs : List JobWord) (devices : List DeviceCase) : Type 0 where
+  pub began : Began c t
+  pub told : ToldTruly c.project c.device t report.log
+  pub over : IsOver c t report.log
+  pub job : jobs ≡ record { device = c.device; check = false } ∷ []
+  pub missed : report.missed ≡ 0
+  pub case : Case
+  pub case_is : IsCase c.project c.device (now t).kept case
+  pub device : devices ≡ record { device = c.device; case = case } ∷ []
+
+-- ---- how a call ends: it stops, it tells a text, or it tells a report of jobs and devices
+pub data Outcome : Type 0 where
+  Stops : Stop → Outcome
+  Tells : List ℕ → Outcome
+  Reports : Report → List JobWord → List DeviceCase → Outcome
+
+-- `sim`, where the bench was `before` and is `after`: it stops where it must, or for want of memory; it begins a run just where nothing
+-- stops it, and a bench on which no run began stays.
+abbrev pub Commissions : Result Commission Stop → Option Trace → Option Trace → Outcome → Type 0
+Commissions (Err why) before after (Stops told) = ((told ≡ why) ⊎ (told ≡ stop.NoMemory)) × (after ≡ before)
+Commissions (Ok c) before after (Stops told) = (told ≡ stop.NoMemory) × ((after ≡ before) ⊎ ((t : Trace) × ((after ≡ Some t) × Began c t)))
+Commissions (Ok c) before after (Reports report jobs devices) = (t : Trace) × ((after ≡ Some t) × Ran c t report jobs devices)
+Commissions _ before after _ = ⊥

@@ -1,0 +1,52 @@
+//! What is told of a checked project.
+
+ghost use Rattle.std.specs.Prelude.{◌≡◌, ◌++◌, ◌∷◌, [], OnOk, IfOk};
+ghost use Rattle.std.specs.Fmt.{decimal};
+ghost use Rattle.knx_model.specs.ReportText.{counts_line, device_text, line, octets_text, tables_lines};
+
+use crate::pieces::{put_device, put_hex, put_number};
+use knx_model::{Counts, Image, IndAddr, NoMemory, Octets};
+use std::alloc::Global;
+
+/// How many devices, objects and links a project has, as the line `ok devices N objects N links N`.
+pub fn counts_text(alloc: Global, counts: Counts) -> Result<Octets, NoMemory>
+    ensures { IfOk result (λ text. text ≡ counts_line counts) }
+{
+    let mut out = Octets::new(alloc);
+    out.append(b"ok devices ")?;
+    put_number(alloc, &mut out, u64::from(counts.devices))?;
+    out.append(b" objects ")?;
+    put_number(alloc, &mut out, u64::from(counts.objects))?;
+    out.append(b" links ")?;
+    put_number(alloc, &mut out, u64::from(counts.links))?;
+    out.push(b'\n')?;
+    Ok(out)
+}
+
+/// Appends a line of a word and octets in hexadecimal.
+fn put_list(out: &mut Octets, word: &str, octets: &[u8]) -> Result<(), NoMemory>
+    ensures { OnOk result (out.new ≡ out.old ++ line (word.now ∷ octets_text octets.now ∷ [])) }
+{
+    out.append(word.as_bytes())?;
+    out.push(b' ')?;
+    put_hex(out, octets)?;
+    out.push(b'\n')
+}
+
+/// Appends the tables and the parameter memory of a device, in five lines.
+pub fn put_tables(
+    alloc: Global,
+    out: &mut Octets,
+    device: IndAddr,
+    image: &Image,
+) -> Result<(), NoMemory>
+    ensures { OnOk result (out.new ≡ out.old ++ tables_lines device image.now) }
+{
+    out.append(b"device ")?;
+    put_device(alloc, out, device)?;
+    out.push(b'\n')?;
+    put_list(out, "address", image.addr.as_slice())?;
+    put_list(out, "association", image.assoc.as_slice())?;
+    put_list(out, "objects", image.objs.as_slice())?;
+    put_list(out, "params", image.params.as_slice())
+}
