@@ -1,7 +1,7 @@
 -- What a project means for one device: its links, its objects and its parameters, taken from the statements and the device's model
 -- alone. No group is numbered here.
-use Rattle.std.specs.Prelude.{ℕ, Bool, not, ◌&&◌, ◌==◌, bytes_eq, List, [], ◌∷◌, ◌++◌, take, map, fold, max, Option, Some, None, if◌then◌else◌}
-use Rattle.std.specs.List.{list_any, filter_map, enumerate_from, range_with_len}
+use Rattle.std.specs.Prelude.{ℕ, Bool, not, ◌&&◌, ◌==◌, bytes_eq, List, [], ◌∷◌, ◌++◌, take, map, fold, max, Option, Some, None, unwrap_or, if◌then◌else◌}
+use Rattle.std.specs.List.{list_any, filter_map, enumerate_from, range_with_len, last_or}
 use Rattle.knx_model.specs.declared.address.GroupAddr.{GroupAddr}
 use Rattle.knx_model.specs.declared.address.IndAddr.{IndAddr}
 use Rattle.knx_model.specs.declared.catalogue.model.Model.{Model}
@@ -56,56 +56,54 @@ object_line device (Object of n size flags) = if of.raw == device.raw then Some 
 object_line device _ = None
 
 -- the objects of the model and of the `object` lines
-abbrev pub object_entries : Model → IndAddr → List Statement → List (ℕ × ObjSpec)
-object_entries m device ss = map model_object m.objects ++ filter_map (λ s. object_line device s.what) ss
+abbrev pub declared_objects : Model → IndAddr → List Statement → List (ℕ × ObjSpec)
+declared_objects m device ss = map model_object m.objects ++ filter_map (λ s. object_line device s.what) ss
 
--- the number and flags of a `flags` line of the device
-abbrev pub flags_line : IndAddr → What → Option (ℕ × ℕ)
-flags_line device (Flags of object flags) = if of.raw == device.raw then Some (object, flags) else None
-flags_line device _ = None
+-- the flags in a `flags` line of the object
+abbrev pub flags_line : IndAddr → ℕ → What → Option ℕ
+flags_line device n (Flags of object flags) = if (of.raw == device.raw) && (object == n) then Some flags else None
+flags_line device n _ = None
 
-abbrev pub flags_lines : IndAddr → List Statement → List (ℕ × ℕ)
-flags_lines device ss = filter_map (λ s. flags_line device s.what) ss
+-- those of the last such line
+abbrev pub last_flags : IndAddr → List Statement → ℕ → Option ℕ
+last_flags device ss n = last_or None (filter_map (λ s. flags_line device n s.what) ss)
+
+-- an object with the flags of its last `flags` line, where it has one
+abbrev pub flagged : IndAddr → List Statement → ℕ × ObjSpec → ℕ × ObjSpec
+flagged device ss o = (o.0, record { flags = unwrap_or (last_flags device ss o.0) o.1.flags; size = o.1.size })
+
+abbrev pub flagged_objects : Model → IndAddr → List Statement → List (ℕ × ObjSpec)
+flagged_objects m device ss = map (flagged device ss) (declared_objects m device ss)
 
 -- the object of a number; a number without object has flags and size 0
 abbrev pub object_of : List (ℕ × ObjSpec) → ℕ → ObjSpec
 object_of [] n = record { flags = 0; size = 0 }
-object_of (entry ∷ entries) n = if entry.0 == n then entry.1 else object_of entries n
-
--- the flags of the last line of a number, or these
-abbrev pub last_flags : List (ℕ × ℕ) → ℕ → ℕ → ℕ
-last_flags lines n flags = fold (λ (flags : ℕ) (line : ℕ × ℕ). if line.0 == n then line.1 else flags) flags lines
-
-abbrev pub flagged : List (ℕ × ℕ) → ℕ → ObjSpec → ObjSpec
-flagged lines n o = record { flags = last_flags lines n o.flags; size = o.size }
+object_of (o ∷ os) n = if o.0 == n then o.1 else object_of os n
 
 abbrev pub greatest : List (ℕ × ObjSpec) → ℕ
-greatest entries = fold (λ most entry. max most entry.0) 0 entries
+greatest objects = fold (λ most o. max most o.0) 0 objects
 
 -- the objects from number 1 to the greatest
-unfoldable pub objects_of : List (ℕ × ObjSpec) → List (ℕ × ℕ) → List ObjSpec
-objects_of entries lines = map (λ n. flagged lines n (object_of entries n)) (range_with_len 1 (greatest entries))
+unfoldable pub objects_of : List (ℕ × ObjSpec) → List ObjSpec
+objects_of objects = map (object_of objects) (range_with_len 1 (greatest objects))
 
 -- ---- parameters
 
--- the name and value of a `param` line of the device
-abbrev pub param_line : IndAddr → What → Option (List ℕ × ℕ)
-param_line device (Param of name value) = if of.raw == device.raw then Some (name, value) else None
-param_line device _ = None
+-- the value in a `param` line of the device's parameter
+abbrev pub param_line : IndAddr → List ℕ → What → Option ℕ
+param_line device parameter (Param of name value) = if (of.raw == device.raw) && bytes_eq name parameter then Some value else None
+param_line device parameter _ = None
 
-abbrev pub param_lines : IndAddr → List Statement → List (List ℕ × ℕ)
-param_lines device ss = filter_map (λ s. param_line device s.what) ss
+-- that of the last such line
+abbrev pub last_value : IndAddr → List Statement → List ℕ → Option ℕ
+last_value device ss parameter = last_or None (filter_map (λ s. param_line device parameter s.what) ss)
 
--- the value of the last line of a name, or this
-abbrev pub last_value : List (List ℕ × ℕ) → List ℕ → ℕ → ℕ
-last_value lines name value = fold (λ (value : ℕ) (line : List ℕ × ℕ). if bytes_eq line.0 name then line.1 else value) value lines
-
-abbrev pub param_value : List (List ℕ × ℕ) → ModelField → ParamValue
-param_value lines f = record { bit = f.bit; width = f.width; value = last_value lines f.name f.default }
+abbrev pub param_value : IndAddr → List Statement → ModelField → ParamValue
+param_value device ss f = record { bit = f.bit; width = f.width; value = unwrap_or (last_value device ss f.name) f.default }
 
 -- each parameter of the model, with the value of its last line or its default
-unfoldable pub params_of : Model → List (List ℕ × ℕ) → List ParamValue
-params_of m lines = map (param_value lines) m.parameters
+unfoldable pub params_of : Model → IndAddr → List Statement → List ParamValue
+params_of m device ss = map (param_value device ss) m.parameters
 
 -- ---- the whole
 
@@ -120,7 +118,7 @@ the_model i device = or_inline (model_of i.catalogue i.statements device.raw)
 abbrev pub meaning : Installation → IndAddr → Config
 meaning i device = record {
   links = links_of (link_lines device i.statements);
-  objects = objects_of (object_entries (the_model i device) device i.statements) (flags_lines device i.statements);
+  objects = objects_of (flagged_objects (the_model i device) device i.statements);
   param_len = (the_model i device).params;
-  params = params_of (the_model i device) (param_lines device i.statements);
+  params = params_of (the_model i device) device i.statements;
 }
