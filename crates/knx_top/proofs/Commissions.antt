@@ -7,12 +7,10 @@ use Rattle.knx_model.specs.declared.command.Stop.{Stop}
 use Rattle.knx_model.specs.declared.command.Stop.TheVariants as stop
 use Rattle.knx_model.specs.declared.config.Image.{Image}
 use Rattle.knx_model.specs.declared.lists.NoMemory.{NoMemory}
-use Rattle.knx_model.specs.declared.project.Statement.{Statement}
 use Rattle.knx_model.specs.declared.script.Cut.{Cut}
 use Rattle.knx_model.specs.Bench.{Trace, now, moment, replay, Went}
-use Rattle.knx_model.specs.Command.{Commission, Decided, Stops, Reports, Outcome, Began, Ran, IsOver, IsDone, HasFailed}
 use Rattle.knx_model.specs.Device.{NonVolatile, DeviceState, blank_object, Fits}
-use Rattle.knx_model.specs.Meaning.{meaning}
+use Rattle.knx_model.specs.Meaning.{Installation, meaning}
 use Rattle.knx_model.specs.Plan.{HasCapacities, OldStoppedOrImage}
 use Rattle.knx_model.specs.Promises.{StartOf, BeginsLoaded, BeginsBlank, OldStoppedOrNew, RunsProject, ToldTruly}
 use Rattle.knx_model.specs.Script.{Follows}
@@ -21,8 +19,11 @@ use Rattle.knx_top.specs.declared.judge.Order.{Order}
 use Rattle.knx_top.specs.declared.commission.Ended.{Ended}
 use Rattle.knx_top.specs.declared.download.JobEnd.{JobEnd}
 use Rattle.knx_top.specs.declared.download.JobEnd.TheVariants.{Done, Failed}
+use Rattle.knx_top.specs.Judged.{Commission}
 use Rattle.knx_top.specs.Order.{OrderFor, IsOrder, IsBefore}
-use Rattle.knx_top.specs.Ended.{start_with, log_of, run_outcome, HasLoaded, HasEnded, Reported}
+use Rattle.knx_top.specs.Ran.{Commissions, Stops, Reports, Outcome, Began, Ran, IsOver, IsDone, HasFailed}
+use Rattle.knx_top.specs.Start.{start_with}
+use Rattle.knx_top.specs.Ended.{log_of, run_outcome, HasLoaded, HasEnded, Reported}
 
 -- ---- where the call stops before a run
 
@@ -37,6 +38,7 @@ stops_for why stop.NoMemory h = inr refl
 stops_for why stop.Usage h = inl (let e : err why ≡ err stop.Usage = h (λ q. cc) in cc)
 stops_for why (stop.NotThere place) h = inl (let e : err why ≡ err (stop.NotThere place) = h (λ q. cc) in cc)
 stops_for why (stop.ReadFailed place) h = inl (let e : err why ≡ err (stop.ReadFailed place) = h (λ q. cc) in cc)
+stops_for why (stop.CatalogueRefused refused) h = inl (let e : err why ≡ err (stop.CatalogueRefused refused) = h (λ q. cc) in cc)
 stops_for why (stop.Refused place refused) h = inl (let e : err why ≡ err (stop.Refused place refused) = h (λ q. cc) in cc)
 
 no_stop : (c : Commission) (told : Stop) → (told ≢ stop.NoMemory → ok c ≡ err told) → told ≡ stop.NoMemory
@@ -44,13 +46,14 @@ no_stop c stop.NoMemory h = refl
 no_stop c stop.Usage h = absurd (let e : ok c ≡ err stop.Usage = h (λ q. cc) in cc)
 no_stop c (stop.NotThere place) h = absurd (let e : ok c ≡ err (stop.NotThere place) = h (λ q. cc) in cc)
 no_stop c (stop.ReadFailed place) h = absurd (let e : ok c ≡ err (stop.ReadFailed place) = h (λ q. cc) in cc)
+no_stop c (stop.CatalogueRefused refused) h = absurd (let e : ok c ≡ err (stop.CatalogueRefused refused) = h (λ q. cc) in cc)
 no_stop c (stop.Refused place refused) h = absurd (let e : ok c ≡ err (stop.Refused place refused) = h (λ q. cc) in cc)
 
-pub decided_stop : (j : Result Commission Stop) (told : Stop) (bench : Option Trace) → (told ≢ stop.NoMemory → j ≡ err told) → Decided j bench bench (Stops told)
+pub decided_stop : (j : Result Commission Stop) (told : Stop) (bench : Option Trace) → (told ≢ stop.NoMemory → j ≡ err told) → Commissions j bench bench (Stops told)
 decided_stop (Err why) told bench h = (stops_for why told h, refl)
 decided_stop (Ok c) told bench h = (no_stop c told h, inl refl)
 
-pub decided_run : (j : Result Commission Stop) (order : Order) (before after : Option Trace) (outcome : Outcome) → OrderFor j order → ((c : Commission) → IsOrder c order → Decided (Ok c) before after outcome) → Decided j before after outcome
+pub decided_run : (j : Result Commission Stop) (order : Order) (before after : Option Trace) (outcome : Outcome) → OrderFor j order → ((c : Commission) → IsOrder c order → Commissions (Ok c) before after outcome) → Commissions j before after outcome
 decided_run (Err why) order before after outcome o h = absurd o
 decided_run (Ok c) order before after outcome o h = h c o
 
@@ -58,9 +61,9 @@ pub order_fits : (j : Result Commission Stop) (order : Order) → OrderFor j ord
 order_fits (Err why) order o = absurd o
 order_fits (Ok c) order o = o.image.fits
 
-before_fits : (ss : List Statement) (device : IndAddr) (before : Option Image) → IsBefore ss device before → IfSome before Fits
-before_fits ss device None b = tt
-before_fits ss device (Some image) b = b.1.fits
+before_fits : (project : Installation) (device : IndAddr) (before : Option Image) → IsBefore project device before → IfSome before Fits
+before_fits project device None b = tt
+before_fits project device (Some image) b = b.1.fits
 
 pub order_before_fits : (j : Result Commission Stop) (order : Order) → OrderFor j order → IfSome order.before Fits
 order_before_fits (Err why) order o = absurd o
@@ -85,9 +88,9 @@ start_room device (Some image) h = record {
   params = room_for image.params 0x2000 h.params;
 }
 
-start_for : (ss : List Statement) (device : IndAddr) (before : Option Image) → IsBefore ss device before → StartOf ss device (start_with device before)
-start_for ss device None b = BeginsBlank b refl
-start_for ss device (Some image) b = BeginsLoaded b.0 image b.1.stands refl
+start_for : (project : Installation) (device : IndAddr) (before : Option Image) → IsBefore project device before → StartOf project device (start_with device before)
+start_for project device None b = BeginsBlank b refl
+start_for project device (Some image) b = BeginsLoaded b.0 image b.1.stands refl
 
 -- ---- the moments
 
@@ -140,15 +143,15 @@ ran c order t ended o start loaded r = record {
 
 -- ---- the whole run
 
-pub decided_wanting : (c : Commission) (order : Order) (before : Option Trace) (t : Trace) → IsOrder c order → t.start ≡ start_with order.device order.before → HasLoaded order.image order.cuts t → Decided (Ok c) before (Some t) (Stops stop.NoMemory)
+pub decided_wanting : (c : Commission) (order : Order) (before : Option Trace) (t : Trace) → IsOrder c order → t.start ≡ start_with order.device order.before → HasLoaded order.image order.cuts t → Commissions (Ok c) before (Some t) (Stops stop.NoMemory)
 decided_wanting c order before t o start h = (refl, inr (t, (refl, begun c order t o start h)))
 
-pub decided_ran : (c : Commission) (order : Order) (before : Option Trace) (t : Trace) (ended : Ended) → IsOrder c order → t.start ≡ start_with order.device order.before → HasLoaded order.image order.cuts t → Reported order.image order.device t ended → Decided (Ok c) before (Some t) (Reports ended.report (ended.job ∷ []) (ended.device ∷ []))
+pub decided_ran : (c : Commission) (order : Order) (before : Option Trace) (t : Trace) (ended : Ended) → IsOrder c order → t.start ≡ start_with order.device order.before → HasLoaded order.image order.cuts t → Reported order.image order.device t ended → Commissions (Ok c) before (Some t) (Reports ended.report (ended.job ∷ []) (ended.device ∷ []))
 decided_ran c order before t ended o start h r = (t, (refl, ran c order t ended o start h r))
 
 pub decided_all : (c : Commission) (order : Order) (before after : Option Trace) (t : Trace) (image : Image) (cuts : List Cut) (result : Result Ended NoMemory)
     → IsOrder c order → image ≡ order.image → cuts ≡ order.cuts → t.start ≡ start_with order.device order.before → after ≡ Some t
-    → HasLoaded image cuts t → IfOk result (λ ended. Reported image order.device t ended) → Decided (Ok c) before after (run_outcome result)
+    → HasLoaded image cuts t → IfOk result (λ ended. Reported image order.device t ended) → Commissions (Ok c) before after (run_outcome result)
 decided_all c order before after t image cuts (Ok ended) o i l start a h r =
     rw a (decided_ran c order before t ended o start (rw (i, l) at h) (rw i at r))
 decided_all c order before after t image cuts (Err why) o i l start a h r = rw a (decided_wanting c order before t o start (rw (i, l) at h))

@@ -98,21 +98,27 @@ abbrev pub unless_broken : {A : Type 0} → InputFile → Option Refused → A �
 unless_broken place None x = Ok x
 unless_broken place (Some why) x = Err (stop.Refused place why)
 
--- statements that break no rule, with the models that they are read with
-abbrev pub sound : InputFile → List NamedModel → List Statement → Result Installation Stop
-sound place models ss = unless_broken place (first_broken models ss) (record { statements = ss; catalogue = models })
+-- the statements of a text that reads as a project, with the models that it is read with
+abbrev pub read_as_project : InputFile → List NamedModel → List ℕ → Result Installation Stop
+read_as_project place models octets = unless_refused place (reading octets) >>= λ ss. Ok (let i : Installation = record { statements = ss; catalogue = models } in i)
 
--- a text that reads as a project and breaks no rule
+-- where they break no rule
+abbrev pub sound : InputFile → Installation → Result Installation Stop
+sound place i = unless_broken place (first_broken i.catalogue i.statements) i
+
 abbrev pub installation_of : InputFile → List NamedModel → List ℕ → Result Installation Stop
-installation_of place models octets = unless_refused place (reading octets) >>= λ ss. sound place models ss
+installation_of place models octets = read_as_project place models octets >>= sound place
 
 -- `check P` and `tables P`: the catalogue, then the project
-abbrev pub judged_project : ProjectReads → Result Installation Stop
-judged_project reads = do
+abbrev pub project_of : ProjectReads → Result Installation Stop
+project_of reads = do
   catalogue ← read_of file.Catalogue reads.catalogue
   project ← read_of file.New reads.project
   models ← models_of catalogue
-  installation_of file.New models project
+  read_as_project file.New models project
+
+abbrev pub judged_project : ProjectReads → Result Installation Stop
+judged_project reads = project_of reads >>= sound file.New
 
 -- ---- what of a valid call of `sim` is built yet
 

@@ -9,6 +9,8 @@ use Rattle.knx_top.specs.declared.asked.Command.TheVariants.{Check, Tables, Sim,
 use Rattle.knx_top.specs.declared.asked.FileNames.{FileNames}
 use Rattle.knx_top.specs.declared.asked.ProjectNames.{ProjectNames}
 use Rattle.knx_top.specs.declared.asked.SimNames.{SimNames}
+use Rattle.knx_model.specs.Meaning.{Installation}
+use Rattle.knx_top.specs.declared.told.ReadProject.{ReadProject}
 use Rattle.knx_top.specs.declared.texts.ProjectTexts.{ProjectTexts}
 use Rattle.knx_top.specs.declared.texts.SimTexts.{SimTexts}
 
@@ -38,3 +40,6 @@ project_reads_of texts = record { catalogue = texts.catalogue; project = texts.p
 
 abbrev pub sim_reads_of : SimTexts → SimReads
 sim_reads_of texts = record { catalogue = texts.catalogue; new = texts.new; old = texts.old; script = texts.script }
+
+abbrev pub installation_of : ReadProject → Installation
+installation_of read = record { statements = read.project.statements; catalogue = read.models }

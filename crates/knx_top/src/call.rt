@@ -1,19 +1,20 @@
 //! The top call.
 
-ghost use Rattle.std.specs.Prelude.{◌≡◌, ◌∷◌, [], Some, map, string_bytes, IfOk};
+ghost use Rattle.std.specs.Prelude.{◌≡◌, Some, map, string_bytes, IfOk};
 ghost use Rattle.std.specs.List.{list_any};
-ghost use Rattle.knx_model.specs.Command.{AnswersTo, Wrote, is_failed, log_status, outcome_status, outcome_text};
 ghost use Rattle.knx_model.specs.Outside.{Rose};
-ghost use Rattle.knx_top.specs.Call.{AnswersCall, DecodeTells, Decodes};
-ghost use Rattle.knx_top.specs.Ended.{outcome_of};
-ghost use Rattle.knx_top.specs.Names.{words_of};
+ghost use Rattle.knx_top.specs.Asked.{FileNames};
+ghost use Rattle.knx_top.specs.Call.{Answers, AnswersTo, IsTextOf, Wrote, WroteOf, is_failed, log_status};
+ghost use Rattle.knx_top.specs.Ended.{outcome_of, told_outcome};
+ghost use Rattle.knx_top.specs.Names.{command_of, files_of};
+ghost use Rattle.knx_top.specs.Ran.{Outcome, Stops};
 
-use crate::asked::{SimNames, asked, decode_word};
+use crate::asked::{Command, FileNames, asked};
 use crate::bench::Bench;
 use crate::commission::{Ended, commission};
 use crate::stop::{NO_MEMORY, USAGE, stop_status, stop_text};
-use crate::texts::read_texts;
-use frame_text::{frame_text, hex_in};
+use crate::texts::{read_project_texts, read_sim_texts};
+use crate::told::{check_told, decode_told, tables_told};
 use knx_model::{Files, LogEntry, LogWhat, NoMemory, Octets, Sink, Status, Stop};
 use report_text::report_of;
 use std::alloc::Global;
@@ -51,14 +52,39 @@ struct Text {
     octets: Octets,
 }
 
-/// What is printed of a call's end.
-fn printed(
+/// What is printed where a call stops.
+fn text_of_stop(alloc: Global, names: FileNames<'_>, stop: &Stop) -> Result<Text, NoMemory>
+    ensures { IfOk result (λ p. IsTextOf (files_of names.entry) (Stops stop.now) p.octets p.status) }
+{
+    let status = stop_status(stop);
+    let octets = stop_text(alloc, names, stop)?;
+    Ok(Text { status, octets })
+}
+
+/// What is printed of a command without a run.
+fn text_of_told(
     alloc: Global,
-    names: SimNames<'_>,
+    names: FileNames<'_>,
+    told: Result<Octets, Stop>,
+) -> Result<Text, NoMemory>
+    ensures { IfOk result (λ p. IsTextOf (files_of names.entry) (told_outcome told) p.octets p.status) }
+{
+    match told {
+        Ok(octets) => Ok(Text {
+            status: Status::Done,
+            octets,
+        }),
+        Err(stop) => text_of_stop(alloc, names, &stop),
+    }
+}
+
+/// What is printed of a run.
+fn text_of_run(
+    alloc: Global,
+    names: FileNames<'_>,
     ended: &Result<Ended, Stop>,
 ) -> Result<Text, NoMemory>
-    ensures status { IfOk result (λ p. p.status ≡ outcome_status (outcome_of ended.now)) }
-    ensures octets { IfOk result (λ p. p.octets ≡ outcome_text (Some (words_of names.entry)) (outcome_of ended.now)) }
+    ensures { IfOk result (λ p. IsTextOf (files_of names.entry) (outcome_of ended.now) p.octets p.status) }
 {
     match ended {
         Ok(ended) => {
@@ -66,11 +92,7 @@ fn printed(
             let octets = report_of(alloc, &ended.report, &[ended.job], &[ended.device])?;
             Ok(Text { status, octets })
         }
-        Err(stop) => {
-            let status = stop_status(*stop);
-            let octets = stop_text(alloc, names, *stop)?;
-            Ok(Text { status, octets })
-        }
+        Err(stop) => text_of_stop(alloc, names, stop),
     }
 }
 
@@ -84,53 +106,46 @@ fn tell<K: Sink>(out: &mut K, text: &[u8], status: Status) -> Status
     }
 }
 
-/// The command `sim NEW OLD SCRIPT`.
-fn sim_command<F: Files, K: Sink>(
+/// Writes what is printed, or that there was no memory for it.
+fn tell_text<K: Sink>(out: &mut K, text: Result<Text, NoMemory>) -> Status
+    ensures { (names : FileNames) (outcome : Outcome) → IfOk text (λ p. IsTextOf names outcome p.octets p.status) → WroteOf names outcome (Rose (K.faults out.old) (K.faults out.new)) (K.taken out.old) (K.taken out.new) result }
+{
+    match text {
+        Ok(text) => tell(out, text.octets.as_slice(), text.status),
+        Err(_) => tell(out, NO_MEMORY, Status::NoMemory),
+    }
+}
+
+/// A command of words.
+fn run<F: Files, K: Sink>(
     alloc: Global,
-    names: SimNames<'_>,
+    command: Command<'_>,
     files: &mut F,
     out: &mut K,
     sim: &mut Bench,
 ) -> Status
-    ensures { AnswersTo (Some (words_of names.entry)) (F.file files.old) (Rose (F.faults files.old) (F.faults files.new)) (Rose (K.faults out.old) (K.faults out.new)) sim.old sim.new (K.taken out.old) (K.taken out.new) result }
+    ensures { AnswersTo (Some (command_of command)) (F.file files.old) (Rose (F.faults files.old) (F.faults files.new)) (Rose (K.faults out.old) (K.faults out.new)) sim.old sim.new (K.taken out.old) (K.taken out.new) result }
 {
-    let texts = read_texts(alloc, files, names);
-    let ended = commission(alloc, &texts, sim);
-    match printed(alloc, names, &ended) {
-        Ok(text) => tell(out, text.octets.as_slice(), text.status),
-        Err(_) => tell(out, NO_MEMORY, Status::NoMemory),
-    }
-}
-
-/// The parts of a word's datagram; the usage for a word that isn't one.
-fn parts_of(alloc: Global, word: &str) -> Result<Text, NoMemory>
-    ensures { IfOk result (λ told. DecodeTells word.now told.octets told.status) }
-{
-    match hex_in(alloc, word.as_bytes())? {
-        Some(octets) => {
-            let octets = frame_text(alloc, octets.as_slice())?;
-            Ok(Text {
-                status: Status::Done,
-                octets,
-            })
+    match command {
+        Command::Check(names) => {
+            let texts = read_project_texts(alloc, files, names);
+            let told = check_told(alloc, &texts);
+            tell_text(out, text_of_told(alloc, names.files(), told))
         }
-        None => {
-            let octets = Octets::from_slice(alloc, USAGE)?;
-            Ok(Text {
-                status: Status::Usage,
-                octets,
-            })
+        Command::Tables(names) => {
+            let texts = read_project_texts(alloc, files, names);
+            let told = tables_told(alloc, &texts);
+            tell_text(out, text_of_told(alloc, names.files(), told))
         }
-    }
-}
-
-/// The command `decode HEX`.
-fn decode_command<K: Sink>(alloc: Global, word: &str, out: &mut K) -> Status
-    ensures { Decodes word.now (Rose (K.faults out.old) (K.faults out.new)) (K.taken out.old) (K.taken out.new) result }
-{
-    match parts_of(alloc, word) {
-        Ok(text) => tell(out, text.octets.as_slice(), text.status),
-        Err(_) => tell(out, NO_MEMORY, Status::NoMemory),
+        Command::Sim(names) => {
+            let texts = read_sim_texts(alloc, files, names);
+            let ended = commission(alloc, &texts, sim);
+            tell_text(out, text_of_run(alloc, names.files(), &ended))
+        }
+        Command::Decode(word) => {
+            let told = decode_told(alloc, word);
+            tell_text(out, text_of_told(alloc, FileNames::none(), told))
+        }
     }
 }
 
@@ -143,16 +158,13 @@ pub fn knx<F: Files, K: Sink>(
     out: &mut K,
     sim: &mut Bench,
 ) -> Status
-    // Whatever is cut, each device keeps its starting configuration, or is stopped, or runs exactly what the project says, at
-    // every moment; `done` is told only where the project's runs; and what was written is exactly the report of it. For `decode`
-    // exactly the parts of the datagram were written.
-    ensures { AnswersCall (map string_bytes words.now) (F.file files.old) (Rose (F.faults files.old) (F.faults files.new)) (Rose (K.faults out.old) (K.faults out.new)) sim.old sim.new (K.taken out.old) (K.taken out.new) result }
+    // Of `sim`: whatever is cut, each device keeps its starting configuration, or is stopped, or runs exactly what the project says,
+    // at every moment; `done` is told only where the project's runs; and what was written is exactly the report of it. Of `check`,
+    // `tables` and `decode`: exactly the text was written that the definitions give for what was read.
+    ensures { Answers (map string_bytes words.now) (F.file files.old) (Rose (F.faults files.old) (F.faults files.new)) (Rose (K.faults out.old) (K.faults out.new)) sim.old sim.new (K.taken out.old) (K.taken out.new) result }
 {
-    if let Some(word) = decode_word(words) {
-        return decode_command(alloc, word, out);
-    }
     match asked(words) {
-        Some(names) => sim_command(alloc, names, files, out, sim),
+        Some(command) => run(alloc, command, files, out, sim),
         None => tell(out, USAGE, Status::Usage),
     }
 }

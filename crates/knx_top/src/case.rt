@@ -1,10 +1,9 @@
 //! What a device is in the end.
 
-ghost use Rattle.std.specs.Prelude.{◌≡◌, IfOk, IsTrue, ◌↔◌, List, Some};
+ghost use Rattle.std.specs.Prelude.{◌≡◌, IfOk, IsTrue, ◌↔◌, Some};
 ghost use Rattle.knx_model.specs.declared.address.IndAddr.{IndAddr as Address};
-ghost use Rattle.knx_model.specs.declared.project.Statement.{Statement as Stated};
 ghost use Rattle.knx_model.specs.Bench.{now};
-ghost use Rattle.knx_model.specs.Meaning.{meaning};
+ghost use Rattle.knx_model.specs.Meaning.{Installation, meaning};
 ghost use Rattle.knx_model.specs.Promises.{IsCase};
 ghost use Rattle.knx_model.specs.Tables.{StandsFor};
 
@@ -25,7 +24,7 @@ fn is_same(one: &Image, other: &Image) -> bool
 
 /// The case of a device, where the project's image is known: new, old or stopped.
 pub fn case_of(alloc: Global, run: &Run, image: &Image) -> Result<Case, NoMemory>
-    ensures { IfOk result (λ case. (ss : List Stated) (device : Address) → StandsFor image.now (meaning ss device) → IsCase ss device (now run.now).kept case) }
+    ensures { IfOk result (λ case. (project : Installation) (device : Address) → StandsFor image.now (meaning project device) → IsCase project device (now run.now).kept case) }
 {
     one_image();
     match run.image(alloc)? {

@@ -9,9 +9,9 @@ mod commission;
 mod download;
 mod judge;
 mod project;
-mod script;
 mod stop;
 mod texts;
+mod told;
 
 pub use bench::{Bench, Run};
 pub use call::knx;

@@ -83,7 +83,7 @@ pub fn sound_in<'a>(
     project: &'a Project,
     catalogue: &'a Catalogue,
 ) -> Result<Checked<'a>, Stop>
-    ensures { Gives (λ c. c) result (sound place catalogue.now project.now.statements) }
+    ensures { Gives (λ c. c) result (sound place (record { statements = project.now.statements; catalogue = catalogue.now })) }
 {
     match check(alloc, project, catalogue) {
         Ok(checked) => Ok(checked),
