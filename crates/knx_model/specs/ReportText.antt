@@ -100,14 +100,21 @@ report_text report jobs devices =
 abbrev pub counts_line : Counts → List ℕ
 counts_line counts = line (codes "ok" ∷ codes "devices" ∷ decimal counts.devices ∷ codes "objects" ∷ decimal counts.objects ∷ codes "links" ∷ decimal counts.links ∷ [])
 
--- the tables of a device, and its parameter memory
+-- a word and octets
+unfoldable pub list_line : List ℕ → List ℕ → List ℕ
+list_line word octets = line (word ∷ octets_text octets ∷ [])
+
+-- the tables and the parameter memory of an image
+abbrev pub image_lines : Image → List ℕ
+image_lines image =
+    list_line (codes "address") image.addr
+    ++ (list_line (codes "association") image.assoc
+    ++ (list_line (codes "objects") image.objs
+    ++ list_line (codes "params") image.params))
+
+-- the same of a device
 abbrev pub tables_lines : IndAddr → Image → List ℕ
-tables_lines device image =
-    line (codes "device" ∷ device_text device ∷ [])
-    ++ line (codes "address" ∷ octets_text image.addr ∷ [])
-    ++ line (codes "association" ∷ octets_text image.assoc ∷ [])
-    ++ line (codes "objects" ∷ octets_text image.objs ∷ [])
-    ++ line (codes "params" ∷ octets_text image.params ∷ [])
+tables_lines device image = line (codes "device" ∷ device_text device ∷ []) ++ image_lines image
 
 -- ---- a call that stops before its report
 

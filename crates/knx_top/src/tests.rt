@@ -35,6 +35,64 @@ link 1.1.7 1 1/2/3
 
 const OTHER: &[u8] = b"device 1.1.6 inline\n";
 
+const D: &[u8] = b"ga 1/2/3 light
+device 1.1.5 inline
+object 1.1.5 1 1 CW
+object 1.1.5 2 8 CW
+link 1.1.5 1 1/2/3
+link 1.1.5 2 1/2/3
+";
+
+const OFFICE: &[u8] = b"project office
+ga 1/0/1 lamp
+ga 1/1/1 level
+device 1.1.20 dim2
+link 1.1.20 1 1/0/1
+link 1.1.20 2 1/1/1
+flags 1.1.20 2 CRTU
+param 1.1.20 delay 1000
+";
+
+const OFFICE_TABLES: &str = "device 1.1.20
+address 000208010901
+association 00020001000100020002
+objects 00029700CF07
+params 03E80800
+";
+
+const OFFICE_MODELS: &[u8] = b"[dim2]
+params = 4
+[[dim2.object]]
+n = 1
+size = 1
+flags = \"CWU\"
+[[dim2.object]]
+n = 2
+size = 8
+flags = \"CRT\"
+[[dim2.parameter]]
+name = \"delay\"
+bit = 0
+width = 16
+min = 0
+max = 1000
+default = 10
+[[dim2.parameter]]
+name = \"mode\"
+bit = 18
+width = 3
+min = 0
+max = 5
+default = 1
+";
+
+const A_TABLES: &str = "device 1.1.5
+address 000200010A03
+association 00020002000100010002
+objects 000257001700
+params -
+";
+
 const NEW: &str = "job 1 load 1.1.5 done\ndevice 1.1.5 new\nmissed 0\n";
 
 const STOPPED: &str =
@@ -51,6 +109,12 @@ fn files(alloc: Global, script: &[u8]) -> Result<MemoryFiles, NoMemory> {
         MemoryFile::new(alloc, "a.txt", A)?,
         MemoryFile::new(alloc, "b.txt", B)?,
         MemoryFile::new(alloc, "c.txt", C)?,
+        MemoryFile::new(alloc, "d.txt", D)?,
+        MemoryFile::new(alloc, "g.txt", b"ga 1/8/1 x\n")?,
+        MemoryFile::new(alloc, "p.txt", b"device 1.1.5 big1\n")?,
+        MemoryFile::new(alloc, "big1.toml", b"[big1]\nparams = 1200\n")?,
+        MemoryFile::new(alloc, "office.txt", OFFICE)?,
+        MemoryFile::new(alloc, "office.toml", OFFICE_MODELS)?,
         MemoryFile::new(alloc, "other.txt", OTHER)?,
         MemoryFile::new(alloc, "e", b"")?,
         MemoryFile::new(alloc, "s", script)?,
@@ -85,84 +149,49 @@ fn call(alloc: Global, line: &str, script: &[u8]) -> Result<(Status, Octets), No
 
 #[test]
 fn each_command_answers_its_text_and_status(rt: HostRuntime) -> Result<(), Fail> {
-    let rows: [(&str, &[u8], &str, Status); 18] = [
+    let rows: [(&str, &[u8], &str, Status); 43] = [
         ("sim a.txt e e", b"", NEW, Status::Done),
         ("sim a.txt b.txt e", b"", NEW, Status::Done),
+        ("sim p.txt e e catalogue=big1.toml", b"", NEW, Status::Done),
+        ("sim office.txt e e catalogue=office.toml", b"", "job 1 load 1.1.20 done\ndevice 1.1.20 new\nmissed 0\n", Status::Done),
         ("sim a.txt b.txt s", b"cut 1.1.5 1 0\n", NEW, Status::Done),
         ("sim a.txt b.txt s", b"cut 1.1.5 20 1\n", NEW, Status::Done),
-        (
-            "sim a.txt b.txt s",
-            b"cut 1.1.5 1 1\ncut 1.1.5 2 0\ncut 1.1.5 3 0\n",
-            STOPPED,
-            Status::SomeFailed,
-        ),
-        (
-            "sim a.txt b.txt s",
-            b"cut 1.1.5 1 0\ncut 1.1.5 2 0\ncut 1.1.5 3 0\n",
-            OLD,
-            Status::SomeFailed,
-        ),
-        (
-            "sim c.txt e e",
-            b"",
-            "new line 0: 21 NotBuilt\n",
-            Status::Project,
-        ),
-        (
-            "sim e e e",
-            b"",
-            "new line 0: 21 NotBuilt\n",
-            Status::Project,
-        ),
-        (
-            "sim a.txt c.txt e",
-            b"",
-            "old line 0: 21 NotBuilt\n",
-            Status::Project,
-        ),
-        (
-            "sim a.txt other.txt e",
-            b"",
-            "old line 0: 21 NotBuilt\n",
-            Status::Project,
-        ),
-        (
-            "sim a.txt s e",
-            b"no statement\n",
-            "old line 0: 21 NotBuilt\n",
-            Status::Project,
-        ),
-        (
-            "sim a.txt none.txt e",
-            b"",
-            "read fault none.txt NotThere\n",
-            Status::Read,
-        ),
-        (
-            "sim a.txt e s",
-            b"cut 1.1.5 1\n",
-            "script line 0: 21 NotBuilt\n",
-            Status::Script,
-        ),
-        (
-            "sim a.txt e s",
-            b"worn 1.1.5 5\n",
-            "script line 0: 21 NotBuilt\n",
-            Status::Script,
-        ),
-        (
-            "sim a.txt e s",
-            b"cut 1.1.6 1 0\n",
-            "script line 0: 21 NotBuilt\n",
-            Status::Script,
-        ),
-        (
-            "sim none.txt e e",
-            b"",
-            "read fault none.txt NotThere\n",
-            Status::Read,
-        ),
+        ("sim a.txt b.txt s", b"cut 1.1.5 1 1\ncut 1.1.5 2 0\ncut 1.1.5 3 0\n", STOPPED, Status::SomeFailed),
+        ("sim a.txt b.txt s", b"cut 1.1.5 1 0\ncut 1.1.5 2 0\ncut 1.1.5 3 0\n", OLD, Status::SomeFailed),
+        ("sim c.txt e e", b"", "new line 0: 21 NotBuilt\n", Status::Project),
+        ("sim e e e", b"", "new line 0: 21 NotBuilt\n", Status::Project),
+        ("sim a.txt c.txt e", b"", "old line 0: 21 NotBuilt\n", Status::Project),
+        ("sim a.txt other.txt s", b"lose\n", "old line 0: 21 NotBuilt\n", Status::Project),
+        ("sim c.txt d.txt e", b"", "old line 6: 18 SizeDiffers\n", Status::Project),
+        ("sim a.txt s e", b"no statement\n", "old line 1: 3 UnknownWord\n", Status::Project),
+        ("sim d.txt s s", b"no statement\n", "new line 6: 18 SizeDiffers\n", Status::Project),
+        ("sim office.txt e e", b"", "new line 4: 12 UnknownModel\n", Status::Project),
+        ("sim a.txt none.txt e", b"", "read fault none.txt NotThere\n", Status::Read),
+        ("sim a.txt e e catalogue=none.toml", b"", "read fault none.toml NotThere\n", Status::Read),
+        ("sim g.txt e e catalogue=a.txt", b"", "catalogue: 1 Toml\n", Status::Catalogue),
+        ("sim a.txt b.txt s", b"cut 1.1.5 1\n", "script line 1: 7 MissingWord\n", Status::Script),
+        ("sim a.txt b.txt s", b"off 1.1.9\n", "script line 1: 20 NoDevice\n", Status::Script),
+        ("sim a.txt e s", b"worn 1.1.5 5\n\ncut 1.1.6 1 0\noff 1.1.7\n", "script line 3: 20 NoDevice\n", Status::Script),
+        ("sim a.txt e s", b"worn 1.1.5 5\n", "script line 0: 21 NotBuilt\n", Status::Script),
+        ("sim a.txt e s", b"then group 1/2/3 read\n", "script line 0: 21 NotBuilt\n", Status::Script),
+        ("sim none.txt e e", b"", "read fault none.txt NotThere\n", Status::Read),
         ("sim a.txt e e workers=9", b"", USAGE, Status::Usage),
+        ("sim a.txt e e catalogue=office.toml catalogue=office.toml", b"", USAGE, Status::Usage),
+        ("sim a.txt e", b"", USAGE, Status::Usage),
+        ("check a.txt", b"", "ok devices 1 objects 2 links 2\n", Status::Done),
+        ("check c.txt", b"", "ok devices 3 objects 4 links 4\n", Status::Done),
+        ("check e", b"", "ok devices 0 objects 0 links 0\n", Status::Done),
+        ("check office.txt catalogue=office.toml", b"", "ok devices 1 objects 2 links 2\n", Status::Done),
+        ("check d.txt", b"", "new line 6: 18 SizeDiffers\n", Status::Project),
+        ("check g.txt", b"", "new line 1: 4 BadAddress\n", Status::Project),
+        ("check none.txt", b"", "read fault none.txt NotThere\n", Status::Read),
+        ("check", b"", USAGE, Status::Usage),
+        ("check a.txt b.txt", b"", USAGE, Status::Usage),
+        ("tables a.txt", b"", A_TABLES, Status::Done),
+        ("tables e", b"", "", Status::Done),
+        ("tables office.txt catalogue=office.toml", b"", OFFICE_TABLES, Status::Done),
+        ("tables d.txt", b"", "new line 6: 18 SizeDiffers\n", Status::Project),
+        ("tables a.txt e", b"", USAGE, Status::Usage),
         ("", b"", USAGE, Status::Usage),
     ];
     for (line, script, text, status) in rows {
@@ -170,6 +199,68 @@ fn each_command_answers_its_text_and_status(rt: HostRuntime) -> Result<(), Fail>
         assert_eq!(rt; told, status, "{line}");
         assert_eq!(rt; taken.as_slice(), text.as_bytes(), "{line}");
     }
+    Ok(())
+}
+
+/// The text with the first of its lines that is `old` replaced.
+fn with_line(alloc: Global, text: &[u8], old: &str, new: &str) -> Result<Octets, NoMemory> {
+    let mut out = Octets::new(alloc);
+    for line in text.split(|octet| *octet == b'\n') {
+        let line = if line == old.as_bytes() { new.as_bytes() } else { line };
+        out.append(line)?;
+        out.push(b'\n')?;
+    }
+    Ok(out)
+}
+
+#[test]
+fn values_and_fields_out_of_place_are_told(rt: HostRuntime) -> Result<(), Fail> {
+    let alloc = rt.alloc();
+    let project = with_line(alloc, OFFICE, "param 1.1.20 delay 1000", "param 1.1.20 delay 1001");
+    let project = project.ok().ok_or("memory")?;
+    let (told, taken) = call(alloc, "tables s catalogue=office.toml", project.as_slice())
+        .ok()
+        .ok_or("memory")?;
+    assert_eq!(rt; told, Status::Project);
+    assert_eq!(rt; taken.as_slice(), b"new line 8: 17 OutOfRange\n".as_slice());
+
+    let models = with_line(alloc, OFFICE_MODELS, "bit = 18", "bit = 15");
+    let models = models.ok().ok_or("memory")?;
+    let (told, taken) = call(alloc, "tables office.txt catalogue=s", models.as_slice())
+        .ok()
+        .ok_or("memory")?;
+    assert_eq!(rt; told, Status::Catalogue);
+    assert_eq!(rt; taken.as_slice(), b"catalogue: 3 Overlap dim2 mode\n".as_slice());
+    Ok(())
+}
+
+/// One object that is linked to so many groups.
+fn many_links(alloc: Global, links: u32) -> Result<Octets, NoMemory> {
+    let mut out = Octets::new(alloc);
+    out.append(b"device 1.1.5 inline\nobject 1.1.5 1 1 CW\n")?;
+    for raw in 1..2049u32 {
+        let line = format!(in alloc; "ga {}/{}/{} g\n", raw / 2048, raw / 256 % 8, raw % 256)?;
+        out.append(line.as_bytes())?;
+    }
+    for raw in 1..links + 1 {
+        let line = format!(in alloc; "link 1.1.5 1 {}/{}/{}\n", raw / 2048, raw / 256 % 8, raw % 256)?;
+        out.append(line.as_bytes())?;
+    }
+    Ok(out)
+}
+
+#[test]
+fn a_device_has_at_most_2047_links(rt: HostRuntime) -> Result<(), Fail> {
+    let alloc = rt.alloc();
+    let project = many_links(alloc, 2047).ok().ok_or("memory")?;
+    let (told, taken) = call(alloc, "check s", project.as_slice()).ok().ok_or("memory")?;
+    assert_eq!(rt; told, Status::Done);
+    assert_eq!(rt; taken.as_slice(), b"ok devices 1 objects 1 links 2047\n".as_slice());
+
+    let project = many_links(alloc, 2048).ok().ok_or("memory")?;
+    let (told, taken) = call(alloc, "check s", project.as_slice()).ok().ok_or("memory")?;
+    assert_eq!(rt; told, Status::Project);
+    assert_eq!(rt; taken.as_slice(), b"new line 4098: 19 TooMany 2047\n".as_slice());
     Ok(())
 }
 
@@ -245,7 +336,7 @@ fn each_single_cut_ends_done_and_new(rt: HostRuntime) -> Result<(), Fail> {
 }
 
 #[test]
-fn a_script_of_more_than_65536_lines_is_not_built(rt: HostRuntime) -> Result<(), Fail> {
+fn a_script_has_at_most_65536_lines(rt: HostRuntime) -> Result<(), Fail> {
     let alloc = rt.alloc();
     let mut script = Octets::new(alloc);
     for _ in 0..65_536u32 {
@@ -264,7 +355,7 @@ fn a_script_of_more_than_65536_lines_is_not_built(rt: HostRuntime) -> Result<(),
     assert_eq!(rt; told, Status::Script);
     assert_eq!(rt;
         taken.as_slice(),
-        b"script line 0: 21 NotBuilt\n".as_slice()
+        b"script line 65537: 19 TooMany 65536\n".as_slice()
     );
     Ok(())
 }

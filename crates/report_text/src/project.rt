@@ -1,8 +1,8 @@
 //! What is told of a checked project.
 
-ghost use Rattle.std.specs.Prelude.{◌≡◌, ◌++◌, ◌∷◌, [], OnOk, IfOk};
+ghost use Rattle.std.specs.Prelude.{◌≡◌, ◌++◌, ◌∷◌, [], OnOk, IfOk, codes};
 ghost use Rattle.std.specs.Fmt.{decimal};
-ghost use Rattle.knx_model.specs.ReportText.{counts_line, device_text, line, octets_text, tables_lines};
+ghost use Rattle.knx_model.specs.ReportText.{counts_line, device_text, image_lines, line, list_line, tables_lines};
 
 use crate::pieces::{put_device, put_hex, put_number};
 use knx_model::{Counts, Image, IndAddr, NoMemory, Octets};
@@ -23,14 +23,34 @@ pub fn counts_text(alloc: Global, counts: Counts) -> Result<Octets, NoMemory>
     Ok(out)
 }
 
+#[tactic(auto, unfolding(knx_model::specs::ReportText::list_line))]
 /// Appends a line of a word and octets in hexadecimal.
-fn put_list(out: &mut Octets, word: &str, octets: &[u8]) -> Result<(), NoMemory>
-    ensures { OnOk result (out.new ≡ out.old ++ line (word.now ∷ octets_text octets.now ∷ [])) }
+fn put_list(out: &mut Octets, word: &str, octets: &Octets) -> Result<(), NoMemory>
+    ensures { OnOk result (out.new ≡ out.old ++ list_line word.now octets.now) }
 {
     out.append(word.as_bytes())?;
     out.push(b' ')?;
-    put_hex(out, octets)?;
+    put_hex(out, octets.as_slice())?;
     out.push(b'\n')
+}
+
+/// Appends the line of a device.
+fn put_device_line(alloc: Global, out: &mut Octets, device: IndAddr) -> Result<(), NoMemory>
+    ensures { OnOk result (out.new ≡ out.old ++ line (codes "device" ∷ device_text device ∷ [])) }
+{
+    out.append(b"device ")?;
+    put_device(alloc, out, device)?;
+    out.push(b'\n')
+}
+
+/// Appends the tables and the parameter memory of an image, in four lines.
+fn put_image(out: &mut Octets, image: &Image) -> Result<(), NoMemory>
+    ensures { OnOk result (out.new ≡ out.old ++ image_lines image.now) }
+{
+    put_list(out, "address", &image.addr)?;
+    put_list(out, "association", &image.assoc)?;
+    put_list(out, "objects", &image.objs)?;
+    put_list(out, "params", &image.params)
 }
 
 /// Appends the tables and the parameter memory of a device, in five lines.
@@ -42,11 +62,6 @@ pub fn put_tables(
 ) -> Result<(), NoMemory>
     ensures { OnOk result (out.new ≡ out.old ++ tables_lines device image.now) }
 {
-    out.append(b"device ")?;
-    put_device(alloc, out, device)?;
-    out.push(b'\n')?;
-    put_list(out, "address", image.addr.as_slice())?;
-    put_list(out, "association", image.assoc.as_slice())?;
-    put_list(out, "objects", image.objs.as_slice())?;
-    put_list(out, "params", image.params.as_slice())
+    put_device_line(alloc, out, device)?;
+    put_image(out, image)
 }
