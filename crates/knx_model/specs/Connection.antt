@@ -25,7 +25,7 @@ control_frame _ = Other
 
 -- which frame octets are: one octet is T_Connect, T_Disconnect, T_ACK or T_NAK; 2 to 16 octets whose first is 01ssssaa are numbered
 -- data, whatever their service; all else acts on nothing
-abbrev pub frame_in : List ℕ → TransportFrame
+unfoldable pub frame_in : List ℕ → TransportFrame
 frame_in [] = Other
 frame_in (first ∷ []) = control_frame (control_in first)
 frame_in (first ∷ second ∷ rest) =
@@ -161,7 +161,7 @@ abbrev pub is_partner : Session → IndAddr → Bool
 is_partner s from = s.partner.raw == from.raw
 
 -- what the device's end answers to a frame of a sender
-abbrev pub device_took : DeviceEnd → IndAddr → TransportFrame → DeviceTook
+unfoldable pub device_took : DeviceEnd → IndAddr → TransportFrame → DeviceTook
 device_took Closed from frame = closed_took frame
 device_took (Idle s) from frame = if is_partner s from then idle_took s frame else stranger_took frame
 device_took (Answering s a) from frame = if is_partner s from then answering_took s frame else stranger_took frame
@@ -200,7 +200,7 @@ left (Idle s) from = if is_partner s from then Closed else Idle s
 left (Answering s a) from = if is_partner s from then Closed else Answering s a
 
 -- what the device's end knows after it answered a frame of a sender so
-abbrev pub device_after : DeviceEnd → IndAddr → ℕ → DeviceTook → DeviceEnd
+unfoldable pub device_after : DeviceEnd → IndAddr → ℕ → DeviceTook → DeviceEnd
 device_after e from now took.Dropped = e
 device_after e from now took.Connected = Idle (new_session from now)
 device_after e from now (took.Apdu apdu ack) = went_on (λ s. advanced s now) e
@@ -210,7 +210,7 @@ device_after e from now took.Acked = settled e now
 device_after e from now (took.Closed answer) = left e from
 
 -- an answer that the device wants to send: its octets where the connection is open and none is outstanding
-abbrev pub device_answered : DeviceEnd → List ℕ → Option (List ℕ)
+unfoldable pub device_answered : DeviceEnd → List ℕ → Option (List ℕ)
 device_answered Closed apdu = None
 device_answered (Idle s) apdu = Some (numbered s.number apdu)
 device_answered (Answering s a) apdu = None
@@ -218,7 +218,7 @@ device_answered (Answering s a) apdu = None
 abbrev pub sent_first : List ℕ → ℕ → Outstanding
 sent_first frame now = record { frame = frame; repeats = 0; sent = now }
 
-abbrev pub after_answer : DeviceEnd → List ℕ → ℕ → DeviceEnd
+unfoldable pub after_answer : DeviceEnd → List ℕ → ℕ → DeviceEnd
 after_answer Closed apdu now = Closed
 after_answer (Idle s) apdu now = Answering (at_time s now) (sent_first (numbered s.number apdu) now)
 after_answer (Answering s a) apdu now = Answering s a
@@ -228,7 +228,7 @@ abbrev pub is_due : Outstanding → ℕ → Bool
 is_due a now = nat_lt a.repeats most_repeats && has_passed ack_wait a.sent now
 
 -- what has become due: an idle connection closes, else an answer is sent again
-abbrev pub device_expired : DeviceEnd → ℕ → DeviceExpired
+unfoldable pub device_expired : DeviceEnd → ℕ → DeviceExpired
 device_expired Closed now = expired.Nothing
 device_expired (Idle s) now = if has_passed idle_wait s.last now then expired.Closed disconnect else expired.Nothing
 device_expired (Answering s a) now =
@@ -250,7 +250,7 @@ repeated (Idle s) now = Idle s
 repeated (Answering s a) now = Answering (at_time s now) (again a now)
 
 -- what the device's end knows after that became due
-abbrev pub after_expiry : DeviceEnd → ℕ → DeviceExpired → DeviceEnd
+unfoldable pub after_expiry : DeviceEnd → ℕ → DeviceExpired → DeviceEnd
 after_expiry e now expired.Nothing = e
 after_expiry e now (expired.Repeat frame) = repeated e now
 after_expiry e now (expired.Closed frame) = Closed
@@ -259,7 +259,7 @@ after_expiry e now (expired.Closed frame) = Closed
 abbrev pub outstanding_deadline : Outstanding → ℕ → ℕ
 outstanding_deadline a end = if nat_lt a.repeats most_repeats then earlier (end_of ack_wait a.sent) end else end
 
-abbrev pub device_deadline : DeviceEnd → Option ℕ
+unfoldable pub device_deadline : DeviceEnd → Option ℕ
 device_deadline Closed = None
 device_deadline (Idle s) = Some (end_of idle_wait s.last)
 device_deadline (Answering s a) = Some (outstanding_deadline a (end_of idle_wait s.last))

@@ -88,6 +88,7 @@ impl DeviceConn {
     }
 
     /// What `take` of this frame would answer; nothing changes.
+    #[tactic(auto, unfolding(knx_model::specs::Connection::device_took))]
     pub fn would_take(&self, from: IndAddr, tpdu: &[u8]) -> DeviceTook
         ensures { result ≡ device_took self.now from (frame_in tpdu.now) }
     {
@@ -104,6 +105,7 @@ impl DeviceConn {
 
     /// The octets that bring an answer, an APDU with transport bits 0, to the partner. Busy exactly where an answer is
     /// outstanding or the connection is closed; then nothing changes.
+    #[tactic(auto, unfolding(knx_model::specs::Connection::device_answered, knx_model::specs::Connection::after_answer))]
     pub fn answer(&mut self, apdu: &[u8], now: u64) -> Result<ApduOctets, Busy>
         requires { IsApdu apdu.now }
         ensures answer { result_ok result ≡ device_answered self.old apdu.now }
@@ -134,6 +136,7 @@ impl DeviceConn {
         expired
     }
 
+    #[tactic(auto, unfolding(knx_model::specs::Connection::device_expired))]
     fn expired(&self, now: u64) -> DeviceExpired
         ensures { result ≡ device_expired self.now now }
     {
@@ -149,6 +152,7 @@ impl DeviceConn {
     }
 
     /// The nearest time at which a wait has passed; None exactly where no connection is open.
+    #[tactic(auto, unfolding(knx_model::specs::Connection::device_deadline))]
     pub fn deadline(&self) -> Option<u64>
         ensures { result ≡ device_deadline self.now }
     {
@@ -162,6 +166,7 @@ impl DeviceConn {
 
 impl State {
     /// After this answer to a frame.
+    #[tactic(auto, unfolding(knx_model::specs::Connection::device_after))]
     fn after(self, from: IndAddr, now: u64, took: &DeviceTook) -> State
         ensures { device_end result ≡ device_after (device_end self) from now took.now }
     {
@@ -222,6 +227,7 @@ impl State {
     }
 
     /// After this became due.
+    #[tactic(auto, unfolding(knx_model::specs::Connection::device_expired, knx_model::specs::Connection::after_expiry))]
     fn after_expiry(self, now: u64, expired: &DeviceExpired) -> State
         requires { expired.now ≡ device_expired (device_end self) now }
         ensures { device_end result ≡ after_expiry (device_end self) now expired.now }

@@ -10,6 +10,7 @@ use apdu_frames::{decode, encode};
 use knx_model::{ApduOctets, Tpdu, TransportFrame};
 
 /// The frame that octets are. One of more than 16 octets is no frame of a device: it is `Other`.
+#[tactic(auto, unfolding(knx_model::specs::Connection::frame_in))]
 pub fn read(octets: &[u8]) -> TransportFrame
     ensures frame { result ≡ frame_in octets.now }
     ensures number { HasNumber result }
@@ -31,6 +32,7 @@ pub fn read(octets: &[u8]) -> TransportFrame
 }
 
 /// The frame that one octet is.
+#[tactic(auto, unfolding(knx_model::specs::Connection::frame_in, knx_model::specs::ApduReading::tpdu_in))]
 fn control(octet: &[u8]) -> TransportFrame
     requires { length octet.now ≡ 1 }
     ensures frame { result ≡ frame_in octet.now }
