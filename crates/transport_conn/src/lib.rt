@@ -14,3 +14,6 @@ pub use knx_model::{
     ApduOctets, Busy, ClientConfirmed, ClientExpired, ClientTook, DeviceExpired, DeviceTook,
     IndAddr,
 };
+
+#[cfg(test)]
+mod tests;
