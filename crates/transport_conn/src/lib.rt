@@ -1,0 +1,24 @@
+//! Both ends of a numbered connection (ISO/IEC 14543-3, transport layer), as values that are told frames and times and that
+//! answer what is to be sent.
+#![tactic(auto)]
+
+mod client;
+mod device;
+mod frame;
+mod laws;
+mod session;
+mod wait;
+
+pub use client::ClientConn;
+pub use device::DeviceConn;
+pub use knx_model::{
+    ApduOctets, Busy, ClientConfirmed, ClientExpired, ClientTook, DeviceExpired, DeviceTook,
+    IndAddr,
+};
+pub use laws::{
+    deadline_is_nearest, delivers_exactly, delivers_once, frames_are_read, hears_exactly,
+    hears_once, nak_is_ignored, numbered_is_grammatical, repeats_exactly, silent_exactly,
+};
+
+#[cfg(test)]
+mod tests;

@@ -1,0 +1,101 @@
+//! What an end of an open connection knows.
+
+ghost use Rattle.std.specs.Prelude.{◌≡◌};
+ghost use Rattle.knx_model.specs.Connection.{IsApdu, is_partner, at_time, advanced, acknowledged, new_session, has_passed, end_of, idle_wait, numbered};
+
+use crate::frame::{next, numbered};
+use crate::wait::{IDLE_WAIT_MS, end_of, has_passed};
+use knx_model::{ApduOctets, IndAddr};
+use std::marker::Model;
+
+/// An open connection: its partner, the number of the partner's next service, the number of the own service that is outstanding or
+/// else of the next one, and when a frame was sent or taken last.
+#[derive(Drop)]
+pub struct Session {
+    pub partner: IndAddr,
+    pub expected: u8,
+    pub number: u8,
+    pub last: u64,
+}
+
+impl Model for Session {
+    ghost use Rattle.std.specs.Prelude.{◌<◌};
+    ghost use Rattle.knx_model.specs.Connection.{Session as Known};
+
+    ghost Value = { Known };
+
+    ghost view = { λ s. record { partner = s.partner; expected = s.expected; number = s.number; last = s.last } };
+
+    ghost invariant = { λ s. (s.expected < 16) × (s.number < 16) };
+}
+
+impl Session {
+    /// A new connection.
+    pub fn new(partner: IndAddr, now: u64) -> Session
+        ensures { result ≡ new_session partner now }
+    {
+        Session {
+            partner,
+            expected: 0,
+            number: 0,
+            last: now,
+        }
+    }
+
+    pub fn is_partner(&self, from: IndAddr) -> bool
+        ensures { result ≡ is_partner self.now from }
+    {
+        self.partner.raw == from.raw
+    }
+
+    /// After a frame was sent or taken.
+    pub fn at_time(self, now: u64) -> Session
+        ensures { result ≡ at_time self now }
+    {
+        Session { last: now, ..self }
+    }
+
+    /// After a service of the partner was delivered.
+    pub fn advanced(self, now: u64) -> Session
+        ensures { result ≡ advanced self now }
+    {
+        Session {
+            expected: next(self.expected),
+            last: now,
+            ..self
+        }
+    }
+
+    /// After an own service was acknowledged.
+    pub fn acknowledged(self, now: u64) -> Session
+        ensures { result ≡ acknowledged self now }
+    {
+        Session {
+            number: next(self.number),
+            last: now,
+            ..self
+        }
+    }
+
+    /// The octets of the next own service.
+    pub fn numbered(&self, apdu: &[u8]) -> ApduOctets
+        requires { IsApdu apdu.now }
+        ensures { result ≡ numbered self.now.number apdu.now }
+    {
+        numbered(self.number, apdu)
+    }
+
+    /// Whether it was idle for too long.
+    pub fn is_over(&self, now: u64) -> bool
+        ensures { result ≡ has_passed idle_wait self.now.last now }
+    {
+        has_passed(IDLE_WAIT_MS, self.last, now)
+    }
+
+    /// When it will have been idle for too long.
+    pub fn end(&self) -> u64
+        ensures { result ≡ end_of idle_wait self.now.last }
+    {
+        end_of(IDLE_WAIT_MS, self.last)
+    }
+}
