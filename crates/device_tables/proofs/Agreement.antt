@@ -117,7 +117,7 @@ linked_is config image s r g o =
     let read : addresses image.addr ≡ s.groups = ap addresses s.addresses ∙ addresses_are s.groups few small in
     let paired : pairs image.assoc ≡ map (place_and_object s.groups) s.order = ap pairs s.associations ∙ pairs_are s.groups s.order few_pairs numbers_small in
     let same : list_any (names (addresses image.addr) g o) (pairs image.assoc) ≡ list_any (links_to g o) config.links =
-        (λ i. list_any (names (read i) g o) (paired i)) ∙ any_link s.groups g o s.order listed ∙ sym (list_any-IsPermutation (links_to g o) config.links s.order s.each_link) in
+    (λ i. list_any (names (read i) g o) (paired i)) ∙ any_link s.groups g o s.order listed ∙ sym (list_any-IsPermutation (links_to g o) config.links s.order s.each_link) in
     ap (λ any. is_object_number o && any) same
 
 pub object_is : (config : Config) (image : Image) → StandsFor image config → IsInRange config → (o : ℕ) → object_in_table image.objs o ≡ numbered config.objects o
