@@ -1,19 +1,20 @@
 -- The functions that read numbers and sizes are the grammar's relations.
-use Rattle.std.proofs.Common.{◌≡◌, ℕ, ◌^◌, ◌≤◌, Bool, true, false, cond, ◌&&◌, eqb, ltb, leb, List, [], ◌∷◌, length, drop, Option, Some, None, refl, sym, ◌∙◌, arith, inl, inr}
+use Rattle.std.proofs.Common.{◌≡◌, ℕ, ◌^◌, ◌<◌, ◌≤◌, Bool, true, false, cond, ◌&&◌, eqb, ltb, leb, List, [], ◌∷◌, length, drop, Option, Some, None, refl, sym, ◌∙◌, arith, inl, inr}
 use Rattle.std.specs.Prelude.{slice_get}
 use Rattle.std.specs.List.{list_all, starts_with}
+use Rattle.std.specs.Fmt.{decimal}
 use Rattle.std.specs.Str.Parse.{digits_value}
 use Rattle.std.proofs.Math.Nat.{pow-le-pow_right}
 use Rattle.std.proofs.lemmas.Bool.{and_parts, and_right, lt-ltb, le-leb, leb-true, ltb-true, eqb-true, ne_eqb, lt-leb, cases_lt}
 use Rattle.std.proofs.lemmas.Int.Digits.{digits_value-lt}
-use Rattle.std.proofs.lemmas.Option.{cond_some, none-some, slice_get_within}
+use Rattle.std.proofs.lemmas.Option.{cond_some, none-some, slice_get_within, slice_get-get_or}
 use Rattle.knx_model.specs.Numbers.{is_digit, numeral, number_value}
-use Rattle.knx_model.specs.Sizes.{sizes, size_code, size_at, size_value}
+use Rattle.knx_model.specs.Sizes.{sizes, bits_of, size_code, size_at, size_value}
 use Rattle.knx_model.specs.Spells.{SpellsDigits, SpellsNumber, SpellsSize}
 use Rattle.knx_model.specs.Spells.SpellsNumber.{Decimal, Hexadecimal}
 use Rattle.knx_model.proofs.Finite.{all_below, below, answers, answers-true}
 use Rattle.knx_model.proofs.Numbers.{all_digits}
-use Rattle.knx_model.proofs.Spelled.{no_hex}
+use Rattle.knx_model.proofs.Spelled.{no_hex, number_again}
 use Rattle.knx_model.proofs.Spells.{up_to_some}
 
 digits_to : (base most : ℕ) (w : List ℕ) (n : ℕ) → numeral base most w ≡ Some n → SpellsDigits base most w n
@@ -104,3 +105,15 @@ size_to w code e = let h = size_at_some (number_value w) code e in record { bits
 pub size_from : (w : List ℕ) (code : ℕ) → SpellsSize w code → size_value w ≡ Some code
 unfolding size_value
 size_from w code is = rw (number_from w is.bits is.number) (code_from is.bits code is.of_code)
+
+bits_small : all_below (λ code. ltb (bits_of code) 256) 15 ≡ true
+unfolding all_below
+bits_small = refl
+
+pub bits_fit : (code : ℕ) → code < 15 → bits_of code < 256
+bits_fit code lt = ltb-true _ _ (below (λ code. ltb (bits_of code) 256) 15 code bits_small lt)
+
+-- the bits of a size code are read as it
+pub size_again : (code : ℕ) → code < 15 → size_value (decimal (bits_of code)) ≡ Some code
+unfolding size_value
+size_again code lt = rw (number_again (bits_of code) (omega (arith, bits_fit code lt))) (code_from (bits_of code) code (slice_get-get_or sizes code 0 lt))
