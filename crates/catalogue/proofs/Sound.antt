@@ -107,14 +107,17 @@ judged_good name (Some s) m named good e =
     let (fs, first, rest) = then_parts (fields_after name s.params [] s.parameters) (λ fields. Ok (with_fields name s fields)) m e in
     let none : AreGood s.params [] = record { each = All-nil (IsField s.params); apart = tt } in
     let (all, names) = fields_good name s.params [] s.parameters fs none stated.parameters first in
-    let made : IsNamedModel (with_fields name s fs) = (named, record {
-      params = stated.params;
-      objects = stated.objects;
-      numbers = stated.numbers;
-      fields = all.each;
-      names = rw names stated.names;
-      apart = all.apart;
-    }) in
+    let made : IsNamedModel (with_fields name s fs) = (
+      named,
+      record {
+        params = stated.params;
+        objects = stated.objects;
+        numbers = stated.numbers;
+        fields = all.each;
+        names = rw names stated.names;
+        apart = all.apart;
+      },
+    ) in
     subst IsNamedModel (same_ok (with_fields name s fs) m rest) made
 
 named_if : (t : Bool) (r : Result NamedModel CatRefused) (x : CatRefused) (m : NamedModel) → cond t r (Err x) ≡ Ok m → (t ≡ true) × (r ≡ Ok m)

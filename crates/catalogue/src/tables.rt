@@ -19,7 +19,9 @@ impl TableKind {
     {
         match self {
             TableKind::Model => {
-                key == b"params".as_slice() || key == b"object".as_slice() || key == b"parameter".as_slice()
+                key == b"params".as_slice()
+                    || key == b"object".as_slice()
+                    || key == b"parameter".as_slice()
             }
             TableKind::Object => {
                 key == b"n".as_slice() || key == b"size".as_slice() || key == b"flags".as_slice()

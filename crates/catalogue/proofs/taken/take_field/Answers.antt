@@ -14,6 +14,6 @@ returns-then-is_any_taken-clause-free c octets earlier taken =
 pub returns-clause-free : goal.returns-clause-free
 returns-clause-free c octets earlier taken =
     let none : list_any (shares_bit c.args.field.now) earlier ≡ false =
-        none_shared c.args.field.now earlier c.requires.wide taken.widths
-        (λ b low high. sym (taken.bits b (omega (arith, low, high, c.requires.within))) ∙ c.is_any_taken.ensures.none c.if-is_any_taken.false b (omega (arith, low)) (omega (arith, high))) in
+    none_shared c.args.field.now earlier c.requires.wide taken.widths
+    (λ b low high. sym (taken.bits b (omega (arith, low, high, c.requires.within))) ∙ c.is_any_taken.ensures.none c.if-is_any_taken.false b (omega (arith, low)) (omega (arith, high))) in
     sym (ap not none)
