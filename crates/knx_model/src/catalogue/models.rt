@@ -57,11 +57,12 @@ impl Catalogue {
         ensures some { IfSome result (λ m. in_catalogue self.now name.now ≡ Some m.now) }
         ensures none { IfNone result (in_catalogue self.now name.now ≡ None) }
     {
-        let found = self
-            .models
-            .as_slice()
-            .iter()
-            .find(|named| named.name.as_slice() == name)?;
-        Some(&found.model)
+        let models = self.models.as_slice();
+        for named in models {
+            if named.name.as_slice() == name {
+                return Some(&named.model);
+            }
+        }
+        None
     }
 }
