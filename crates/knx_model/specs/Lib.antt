@@ -13,7 +13,9 @@ pub mod ApduReading
 pub mod Octets
 pub mod Cemi
 pub mod KnxNetIp
+pub mod LeastLine
 pub mod Statements
+pub mod ScriptText
 pub mod Models
 pub mod Rules
 pub mod Meaning

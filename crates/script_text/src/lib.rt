@@ -1,0 +1,16 @@
+//! The text of a script: the losses, repeats, cuts, closings and refusals of a run, and its group telegrams, line by line.
+#![tactic(auto)]
+
+mod devices;
+mod fields;
+mod line;
+mod read;
+mod script;
+
+pub use devices::{cut_of, device_named, first_stranger, is_cut};
+pub use knx_model::{Cut, GroupService, Refused, ScriptLine, ScriptWhat, Why};
+pub use read::{least_line, read_script};
+pub use script::Script;
+
+#[cfg(test)]
+mod tests;
