@@ -1,4 +1,5 @@
 pub mod Cutting
+pub mod LeastLine
 pub mod Numbers
 pub mod Parts
 pub mod Spells
