@@ -1,6 +1,7 @@
 -- The script of a run: the line that each disturbance and each group telegram is written as, what a whole script reads as, and the
 -- devices that its lines name. The language is this project's own.
-use Rattle.std.specs.Prelude.{◌≡◌, ℕ, ◌<◌, ◌≤◌, slice_get, Bool, true, false, ◌&&◌, ◌||◌, not, ◌==◌, nat_lt, nat_le, bytes_eq, codes, List, [], ◌∷◌, length, is_some, Option, Some, None, Result, Ok, Err, if◌then◌else◌}
+use Rattle.std.specs.Prelude.{◌≡◌, ℕ, ◌+◌, ◌*◌, ◌<◌, slice_get, Bool, true, false, ◌&&◌, ◌||◌, not, ◌==◌, nat_lt, nat_le, bytes_eq, codes, List, [], ◌∷◌, length, is_some, Option, Some, None, Result, Ok, Err, if◌then◌else◌}
+use Rattle.std.specs.Char.{digit_value}
 use Rattle.std.specs.List.{list_all, list_any, filter_map}
 use Rattle.knx_model.specs.declared.address.IndAddr.{IndAddr}
 use Rattle.knx_model.specs.declared.frames.value.Value.{Value}
@@ -15,9 +16,9 @@ use Rattle.knx_model.specs.declared.refusal.Refused.{Refused}
 use Rattle.knx_model.specs.declared.refusal.Why.{Why}
 use Rattle.knx_model.specs.declared.refusal.Why.TheVariants.{UnknownWord, BadAddress, BadNumber, MissingWord, TooMany, NoDevice}
 use Rattle.knx_model.specs.Words.{words}
-use Rattle.knx_model.specs.Numbers.{number_value}
+use Rattle.knx_model.specs.Numbers.{is_digit, number_value}
 use Rattle.knx_model.specs.Addresses.{group_value, ind_value}
-use Rattle.knx_model.specs.Values.{hex_octets, value_value}
+use Rattle.knx_model.specs.Values.{value_value}
 use Rattle.knx_model.specs.Statements.{◌>>=◌, field, ended, is_group, is_device}
 use Rattle.knx_model.specs.LeastLine.{line_text, said_from, refused_from, text_reading, IsLeastRefused, AllLinesSay, lines_ascend}
 
@@ -31,13 +32,10 @@ not_0 (Some n) = if n == 0 then None else Some n
 abbrev pub count_value : List ℕ → Option ℕ
 count_value word = not_0 (number_value word)
 
-abbrev pub one_octet : Option (List ℕ) → Option ℕ
-one_octet (Some (octet ∷ [])) = Some octet
-one_octet _ = None
-
 -- HH, two hexadecimal digits from 01 to FF
-unfoldable pub status_value : List ℕ → Option ℕ
-status_value word = not_0 (one_octet (hex_octets word))
+abbrev pub status_value : List ℕ → Option ℕ
+status_value (high ∷ below ∷ []) = not_0 (if is_digit 16 high && is_digit 16 below then Some (digit_value high * 16 + digit_value below) else None)
+status_value _ = None
 
 abbrev pub written : Option Value → Option GroupService
 written None = None

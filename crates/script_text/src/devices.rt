@@ -69,8 +69,14 @@ fn stranger(devices: &[IndAddr], line: &ScriptLine) -> Option<Refused>
 }
 
 /// The refusal of the first line that names a device which isn't listed; none where each named device is listed.
+#[tactic(auto, unfolding(knx_model::specs::ScriptText::strangers))]
 pub fn first_stranger(devices: &[IndAddr], lines: &[ScriptLine]) -> Option<Refused>
     ensures { result ≡ first_stranger devices.now lines.now }
 {
-    lines.iter().find_map(|line| stranger(devices, line))
+    for line in lines {
+        if let Some(refused) = stranger(devices, line) {
+            return Some(refused);
+        }
+    }
+    None
 }

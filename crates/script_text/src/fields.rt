@@ -8,7 +8,7 @@ ghost use Rattle.knx_model.specs.Statements.{field};
 ghost use Rattle.knx_model.specs.ScriptText.{count_value, status_value, service_value, is_service};
 ghost use Rattle.knx_model.specs.declared.refusal.Why.TheVariants.{BadNumber};
 
-use knx_model::{GroupService, Why, digit_pair, first_word, number_in, octet_in, value_in};
+use knx_model::{GroupService, Why, first_word, number_in, octet_in, value_in};
 
 /// A number of at least 1.
 fn count_in(word: &[u8]) -> Option<u32>
@@ -20,16 +20,14 @@ fn count_in(word: &[u8]) -> Option<u32>
 }
 
 /// A status: two hexadecimal digits from 01 to FF.
-#[tactic(auto, unfolding(knx_model::specs::ScriptText::status_value))]
 fn status_in(word: &[u8]) -> Option<u8>
     ensures value { result ≡ status_value word.now }
     ensures fits { IfSome result (λ status. 0 < status) }
 {
-    let (high, below, after) = digit_pair(word)?;
-    if !after.is_empty() {
+    let [high, below] = word else {
         return None;
-    }
-    let status = octet_in(high, below)?;
+    };
+    let status = octet_in(*high, *below)?;
     if status == 0 { None } else { Some(status) }
 }
 
