@@ -1,16 +1,19 @@
 -- The script: the lines that are built, and when the events of a bench follow them. Power goes just where a line says so, and comes
 -- back before the next event.
 use Rattle.std.specs.Prelude.{ℕ, ◌≡◌, ◌+◌, ◌-◌, ◌^◌, min, true, false, ◌&&◌, ◌==◌, nat_le, bytes_eq, codes, List, [], ◌∷◌, ◌++◌, length, Option, Some, None, if◌then◌else◌}
+use Rattle.std.specs.List.{filter_map}
 use Rattle.std.specs.Str.Lines.{lines}
 use Rattle.knx_model.specs.declared.address.IndAddr.{IndAddr}
 use Rattle.knx_model.specs.declared.bench.BenchEvent.{BenchEvent}
 use Rattle.knx_model.specs.declared.bench.BenchEvent.TheVariants.{Give, GiveTorn, On}
 use Rattle.knx_model.specs.declared.script.Cut.{Cut}
+use Rattle.knx_model.specs.declared.script.ScriptLine.{ScriptLine}
 use Rattle.knx_model.specs.Words.{words, is_text, without_comment}
 use Rattle.knx_model.specs.Numbers.{number_value}
 use Rattle.knx_model.specs.Addresses.{ind_value, ◌>>=◌}
 use Rattle.knx_model.specs.Device.{DeviceState, is_write, effect_in}
 use Rattle.knx_model.specs.Bench.{happens, cut_after}
+use Rattle.knx_model.specs.ScriptText.{cut_of}
 
 -- ---- the text
 
@@ -51,6 +54,12 @@ lines_cuts device (l ∷ ls) = joined (line_cuts device l) (lines_cuts device ls
 -- a script of at most 4,194,304 octets and 65,536 lines, of which each is without words or a `cut` line of the device
 unfoldable pub script_of : IndAddr → List ℕ → Option (List Cut)
 script_of device octets = if nat_le (length octets) 4194304 && nat_le (length (lines octets)) 65536 then lines_cuts device (lines octets) else None
+
+-- ---- the cuts
+
+-- the cuts that lines say, in order
+abbrev pub cuts_of : List ScriptLine → List Cut
+cuts_of ls = filter_map cut_of ls
 
 -- ---- the events that follow it
 

@@ -3,6 +3,7 @@
 use Rattle.std.specs.Prelude.{◌≡◌, ℕ, ◌+◌, ◌*◌, ◌<◌, slice_get, Bool, true, false, ◌&&◌, ◌||◌, not, ◌==◌, nat_lt, nat_le, bytes_eq, codes, List, [], ◌∷◌, length, is_some, Option, Some, None, Result, Ok, Err, if◌then◌else◌}
 use Rattle.std.specs.Char.{digit_value}
 use Rattle.std.specs.List.{list_all, list_any, filter_map}
+use Rattle.knx_model.specs.declared.address.GroupAddr.{GroupAddr}
 use Rattle.knx_model.specs.declared.address.IndAddr.{IndAddr}
 use Rattle.knx_model.specs.declared.frames.value.Value.{Value}
 use Rattle.knx_model.specs.declared.frames.value.Value.TheVariants.{Short, Long}
@@ -285,6 +286,24 @@ abbrev pub first_stranger : List IndAddr → List ScriptLine → Option Refused
 first_stranger devices ls = first_of_them (strangers devices ls)
 
 -- ---- the same in the language's own words
+
+-- the words spell the line
+pub data SpellsLine : List (List ℕ) → ScriptWhat → Type 0 where
+  SpellsLoseUp : (number : List ℕ) (n : ℕ) → count_value number ≡ Some n → SpellsLine (codes "lose" ∷ codes "up" ∷ number ∷ []) (LoseUp n)
+  SpellsLoseDown : (number : List ℕ) (n : ℕ) → count_value number ≡ Some n → SpellsLine (codes "lose" ∷ codes "down" ∷ number ∷ []) (LoseDown n)
+  SpellsLoseTo : (address number : List ℕ) (d : IndAddr) (n : ℕ) → ind_value address ≡ Some d → count_value number ≡ Some n → SpellsLine (codes "lose" ∷ codes "to" ∷ address ∷ number ∷ []) (LoseTo d n)
+  SpellsLoseFrom : (address number : List ℕ) (d : IndAddr) (n : ℕ) → ind_value address ≡ Some d → count_value number ≡ Some n → SpellsLine (codes "lose" ∷ codes "from" ∷ address ∷ number ∷ []) (LoseFrom d n)
+  SpellsRepeatUp : (number : List ℕ) (n : ℕ) → count_value number ≡ Some n → SpellsLine (codes "repeat" ∷ codes "up" ∷ number ∷ []) (RepeatUp n)
+  SpellsRepeatDown : (number : List ℕ) (n : ℕ) → count_value number ≡ Some n → SpellsLine (codes "repeat" ∷ codes "down" ∷ number ∷ []) (RepeatDown n)
+  SpellsRepeatTo : (address number : List ℕ) (d : IndAddr) (n : ℕ) → ind_value address ≡ Some d → count_value number ≡ Some n → SpellsLine (codes "repeat" ∷ codes "to" ∷ address ∷ number ∷ []) (RepeatTo d n)
+  SpellsCut : (address number kept : List ℕ) (d : IndAddr) (n k : ℕ) → ind_value address ≡ Some d → count_value number ≡ Some n → number_value kept ≡ Some k → SpellsLine (codes "cut" ∷ address ∷ number ∷ kept ∷ []) (CutLine d n k)
+  SpellsWorn : (address number : List ℕ) (d : IndAddr) (n : ℕ) → ind_value address ≡ Some d → count_value number ≡ Some n → SpellsLine (codes "worn" ∷ address ∷ number ∷ []) (Worn d n)
+  SpellsClose : (address number : List ℕ) (d : IndAddr) (n : ℕ) → ind_value address ≡ Some d → count_value number ≡ Some n → SpellsLine (codes "close" ∷ address ∷ number ∷ []) (CloseAfter d n)
+  SpellsRefuse : (number digits : List ℕ) (n status : ℕ) → count_value number ≡ Some n → status_value digits ≡ Some status → SpellsLine (codes "refuse" ∷ number ∷ digits ∷ []) (Refuse n status)
+  SpellsDrop : (number : List ℕ) (n : ℕ) → count_value number ≡ Some n → SpellsLine (codes "drop" ∷ codes "channel" ∷ number ∷ []) (DropChannel n)
+  SpellsOff : (address : List ℕ) (d : IndAddr) → ind_value address ≡ Some d → SpellsLine (codes "off" ∷ address ∷ []) (Off d)
+  SpellsGroup : (address value : List ℕ) (g : GroupAddr) (service : GroupService) → group_value address ≡ Some g → service_value value ≡ Some service → SpellsLine (codes "group" ∷ address ∷ value ∷ []) (Group false g service)
+  SpellsThenGroup : (address value : List ℕ) (g : GroupAddr) (service : GroupService) → group_value address ≡ Some g → service_value value ≡ Some service → SpellsLine (codes "then" ∷ codes "group" ∷ address ∷ value ∷ []) (Group true g service)
 
 -- a line that names a device which isn't listed
 pub record IsStranger (devices : List IndAddr) (l : ScriptLine) : Type 0 where

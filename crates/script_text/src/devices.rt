@@ -1,13 +1,12 @@
 //! The devices that lines name, and the cuts among the lines.
 
-ghost use Rattle.std.specs.Prelude.{◌≡◌, List as Seq, ◌==◌, Some, None, IsTrue};
+ghost use Rattle.std.specs.Prelude.{◌≡◌, ◌==◌, IfOk};
 ghost use Rattle.std.specs.List.{list_any};
-ghost use Rattle.knx_model.specs.ScriptText.{cut_of, is_cut, device_named, is_listed, refused_unless_listed, first_stranger, IsFirstStranger, IsStranger};
-ghost use Rattle.knx_model.specs.declared.address.IndAddr.{IndAddr};
-ghost use Rattle.knx_model.specs.declared.refusal.Refused.{Refused};
-ghost use Rattle.knx_model.specs.declared.script.ScriptLine.{ScriptLine};
+ghost use Rattle.knx_model.specs.Script.{cuts_of};
+ghost use Rattle.knx_model.specs.ScriptText.{cut_of, is_cut, device_named, is_listed, refused_unless_listed, first_stranger, strangers};
 
-use knx_model::{Cut, IndAddr, Refused, ScriptLine, ScriptWhat, Why};
+use knx_model::{Cut, IndAddr, List, NoMemory, Refused, ScriptLine, ScriptWhat, Why};
+use std::alloc::Global;
 
 /// The cut that a line says; none for another line.
 pub fn cut_of(line: &ScriptLine) -> Option<Cut>
@@ -17,6 +16,19 @@ pub fn cut_of(line: &ScriptLine) -> Option<Cut>
         ScriptWhat::Cut { device, n, k } => Some(Cut { device, n, k }),
         _ => None,
     }
+}
+
+/// The cuts that lines say, in order.
+pub fn cuts_of(alloc: Global, lines: &[ScriptLine]) -> Result<List<Cut>, NoMemory>
+    ensures { IfOk result (λ cuts. cuts ≡ cuts_of lines.now) }
+{
+    let mut cuts = List::new(alloc);
+    for line in lines {
+        if let Some(cut) = cut_of(line) {
+            cuts.push(cut)?;
+        }
+    }
+    Ok(cuts)
 }
 
 /// Whether a line is `cut D N K`.

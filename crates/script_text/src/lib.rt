@@ -3,13 +3,15 @@
 
 mod devices;
 mod fields;
+mod laws;
 mod line;
 mod read;
 mod script;
 
-pub use devices::{cut_of, device_named, first_stranger, is_cut};
+pub use devices::{cut_of, cuts_of, device_named, first_stranger, is_cut};
 pub use knx_model::{Cut, GroupService, Refused, ScriptLine, ScriptWhat, Why};
-pub use read::{least_line, read_script};
+pub use laws::{least_line, least_stranger, line_spelled};
+pub use read::read_script;
 pub use script::Script;
 
 #[cfg(test)]

@@ -1,11 +1,9 @@
 //! A script is read line by line.
 
-ghost use Rattle.std.specs.Prelude.{◌≡◌, ◌≤◌, ◌++◌, ℕ, List as Seq, [], ◌∷◌, Ok, OnOk, IfErr, IfSome, IsTrue};
+ghost use Rattle.std.specs.Prelude.{◌≡◌, ◌≤◌, ◌++◌, Ok, OnOk, IfErr, IfSome, IsTrue};
 ghost use Rattle.std.specs.Option.{option_to_list};
-ghost use Rattle.knx_model.specs.LeastLine.{said_in_line, refused_from, IsLeastRefused, AllLinesSay};
-ghost use Rattle.knx_model.specs.ScriptText.{script_line, script_says, script_reading, is_script_what, are_script_lines};
-ghost use Rattle.std.specs.Str.Lines.{lines};
-ghost use Rattle.knx_model.specs.declared.refusal.Refused.{Refused};
+ghost use Rattle.knx_model.specs.LeastLine.{said_in_line};
+ghost use Rattle.knx_model.specs.ScriptText.{script_line, script_reading, is_script_what, are_script_lines};
 ghost use Rattle.knx_model.specs.declared.refusal.Why.TheVariants.{NoMemory as OutOfMemory};
 ghost use Rattle.script_text.specs.Reading.{IsRead};
 
@@ -67,9 +65,3 @@ pub fn read_script(alloc: Global, octets: &[u8]) -> Result<Script, Refused>
     }
     Ok(Script { lines })
 }
-
-/// The refusal is of the least line that breaks a rule, and where no line does there is none.
-pub fn least_line()
-    ensures least { (octets : Seq ℕ) (r : Refused) (rs : Seq Refused) → refused_from script_says 1 (lines octets) ≡ r ∷ rs → IsLeastRefused script_says octets r }
-    ensures none { (octets : Seq ℕ) → refused_from script_says 1 (lines octets) ≡ [] → AllLinesSay script_says octets }
-{}

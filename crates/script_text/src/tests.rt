@@ -154,6 +154,8 @@ fn lines_name_devices_and_cuts(rt: HostRuntime) -> Result<(), Fail> {
     };
     assert!(rt; !is_cut(&lines[0]) && is_cut(&lines[1]));
     assert_eq!(rt; cut_of(&lines[1]), Some(cut));
+    let cuts = cuts_of(rt.alloc(), lines).ok().ok_or("memory")?;
+    assert_eq!(rt; cuts.as_slice(), [cut].as_slice());
     assert_eq!(rt; device_named(&lines[0].what), None);
     assert_eq!(rt; device_named(&lines[1].what), Some(DEVICE));
     let stranger = Refused {

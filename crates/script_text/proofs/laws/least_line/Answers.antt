@@ -1,6 +1,6 @@
 use Rattle.knx_model.proofs.LeastLine.{least, none}
 use Rattle.knx_model.specs.ScriptText.{script_says}
-use Rattle.script_text.proofs.read.least_line.Goals as goal
+use Rattle.script_text.proofs.laws.least_line.Goals as goal
 
 pub returns-clause-least : goal.returns-clause-least
 returns-clause-least c = least script_says
