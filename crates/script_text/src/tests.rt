@@ -61,10 +61,11 @@ fn each_line_is_read(rt: HostRuntime) -> Result<(), Fail> {
     ];
     for (text, what) in table {
         let script = read_script(rt.alloc(), text).ok().ok_or("a script")?;
-        let lines = script.lines.as_slice();
-        assert_eq!(rt; lines.len(), 1);
-        assert_eq!(rt; lines[0].line, 1);
-        assert!(rt; lines[0].what == what);
+        let [only] = script.lines.as_slice() else {
+            return Err("one line".into());
+        };
+        assert_eq!(rt; only.line, 1);
+        assert!(rt; only.what == what);
     }
     Ok(())
 }
@@ -125,8 +126,10 @@ fn a_script_has_at_most_65536_lines(rt: HostRuntime) -> Result<(), Fail> {
     let script = read_script(rt.alloc(), text.as_slice())
         .ok()
         .ok_or("a script")?;
-    assert_eq!(rt; script.lines.len(), 1);
-    assert_eq!(rt; script.lines.as_slice()[0].line, 65_536);
+    let [only] = script.lines.as_slice() else {
+        return Err("one line".into());
+    };
+    assert_eq!(rt; only.line, 65_536);
 
     text.push(0xFF)?;
     match read_script(rt.alloc(), text.as_slice()) {
@@ -147,22 +150,26 @@ fn lines_name_devices_and_cuts(rt: HostRuntime) -> Result<(), Fail> {
     let text = b"lose up 1\ncut 1.1.5 2 3\noff 1.1.9\noff 1.1.8";
     let script = read_script(rt.alloc(), text).ok().ok_or("a script")?;
     let lines = script.lines.as_slice();
+    let [lose, at_write, _, last] = lines else {
+        return Err("four lines".into());
+    };
     let cut = Cut {
         device: DEVICE,
         n: 2,
         k: 3,
     };
-    assert!(rt; !is_cut(&lines[0]) && is_cut(&lines[1]));
-    assert_eq!(rt; cut_of(&lines[1]), Some(cut));
+    assert!(rt; !is_cut(lose) && is_cut(at_write));
+    assert_eq!(rt; cut_of(at_write), Some(cut));
     let cuts = cuts_of(rt.alloc(), lines).ok().ok_or("memory")?;
     assert_eq!(rt; cuts.as_slice(), [cut].as_slice());
-    assert_eq!(rt; device_named(&lines[0].what), None);
-    assert_eq!(rt; device_named(&lines[1].what), Some(DEVICE));
+    assert_eq!(rt; device_named(&lose.what), None);
+    assert_eq!(rt; device_named(&last.what), Some(IndAddr { raw: 0x1108 }));
     let stranger = Refused {
         line: 3,
         why: Why::NoDevice,
     };
     assert_eq!(rt; first_stranger(&[DEVICE], lines), Some(stranger));
-    assert_eq!(rt; first_stranger(&[DEVICE], &lines[..2]), None);
+    let all = [DEVICE, IndAddr { raw: 0x1109 }, IndAddr { raw: 0x1108 }];
+    assert_eq!(rt; first_stranger(&all, lines), None);
     Ok(())
 }
