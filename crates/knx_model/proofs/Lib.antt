@@ -2,6 +2,7 @@ pub mod Cutting
 pub mod Finite
 pub mod FlagWords
 pub mod Joined
+pub mod LeastLine
 pub mod Numbers
 pub mod Parts
 pub mod Spelled

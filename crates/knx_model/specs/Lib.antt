@@ -14,7 +14,9 @@ pub mod Connection
 pub mod Octets
 pub mod Cemi
 pub mod KnxNetIp
+pub mod LeastLine
 pub mod Statements
+pub mod ScriptText
 pub mod Models
 pub mod Rules
 pub mod Meaning

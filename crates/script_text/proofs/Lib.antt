@@ -1,0 +1,5 @@
+pub mod Values
+pub mod Known
+pub mod Reading
+pub mod Spelling
+pub mod Strangers

@@ -1,0 +1,18 @@
+//! The text of a script: the losses, repeats, cuts, closings and refusals of a run, and its group telegrams, line by line.
+#![tactic(auto)]
+
+mod devices;
+mod fields;
+mod laws;
+mod line;
+mod read;
+mod script;
+
+pub use devices::{cut_of, cuts_of, device_named, first_stranger, is_cut};
+pub use knx_model::{Cut, GroupService, Refused, ScriptLine, ScriptWhat, Why};
+pub use laws::{least_line, least_stranger, line_spelled};
+pub use read::read_script;
+pub use script::Script;
+
+#[cfg(test)]
+mod tests;
