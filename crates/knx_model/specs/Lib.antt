@@ -20,6 +20,7 @@ pub mod ScriptText
 pub mod Models
 pub mod Rules
 pub mod Meaning
+pub mod Counts
 pub mod Parameters
 pub mod Tables
 pub mod Acts

@@ -58,6 +58,7 @@ impl Catalogue {
         ensures some { IfSome result (λ m. in_catalogue self.now name.now ≡ Some m.now) }
         ensures none { IfNone result (in_catalogue self.now name.now ≡ None) }
         ensures good { IfSome result (λ m. IsModel m.now) }
+        ensures sound { All IsNamedModel self.now }
     {
         let models = self.models.as_slice();
         for named in models {
