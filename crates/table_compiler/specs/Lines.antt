@@ -1,10 +1,12 @@
 -- The lines of one device, and what is kept of them.
 use Rattle.std.specs.Prelude.{◌≡◌, ℕ, ◌<◌, Bool, false, ◌==◌, List, filter, Option, None, slice_index_or}
 use Rattle.knx_model.specs.declared.address.IndAddr.{IndAddr}
+use Rattle.knx_model.specs.declared.catalogue.model.NamedModel.{NamedModel}
 use Rattle.knx_model.specs.declared.project.Statement.{Statement}
 use Rattle.knx_model.specs.declared.project.What.{What}
 use Rattle.knx_model.specs.declared.project.What.TheVariants.{Device, Object, Link, Flags, Param}
 use Rattle.knx_model.specs.Meaning.{last_flags}
+use Rattle.knx_model.specs.Rules.{first_broken}
 
 -- the statement names the device
 abbrev pub names : ℕ → What → Bool
@@ -21,3 +23,9 @@ lines_of d ss = filter (λ s. names d s.what) ss
 -- the flags of the last `flags` line of each object of the device
 abbrev pub HoldsFlags : List (Option ℕ) → IndAddr → List Statement → Type 0
 HoldsFlags last device ss = (n : ℕ) → n < 256 → slice_index_or last n None ≡ last_flags device ss n
+
+-- these are the lines of the device in a text that breaks no rule
+pub record AreLinesOf (catalogue : List NamedModel) (device : IndAddr) (lines : List Statement) : Type 0 where
+  pub whole : List Statement
+  pub sound : first_broken catalogue whole ≡ None
+  pub are : lines ≡ lines_of device.raw whole

@@ -1,11 +1,14 @@
 //! The compiler: from the statements of a project to the tables and the parameter memory of a device.
 #![tactic(auto)]
 
+mod compiler;
 mod laws;
 mod lines;
 mod links;
+mod models;
 mod objects;
 mod parameters;
 mod tables;
 
+pub use compiler::compile_statements;
 pub use laws::{linked_exactly, one_image};

@@ -56,6 +56,7 @@ impl Catalogue {
     pub fn model_in(&self, name: &[u8]) -> Option<&DeviceModel>
         ensures some { IfSome result (λ m. in_catalogue self.now name.now ≡ Some m.now) }
         ensures none { IfNone result (in_catalogue self.now name.now ≡ None) }
+        ensures sound { All IsNamedModel self.now }
     {
         let models = self.models.as_slice();
         for named in models {

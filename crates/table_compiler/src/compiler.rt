@@ -1,0 +1,54 @@
+//! The image of a device, from the statements of a sound project.
+
+ghost use Rattle.std.specs.Prelude.{◌≡◌, None, map, IfOk};
+ghost use Rattle.knx_model.specs.Device.{Fits};
+ghost use Rattle.knx_model.specs.Meaning.{meaning};
+ghost use Rattle.knx_model.specs.Rules.{first_broken};
+ghost use Rattle.knx_model.specs.Tables.{StandsFor};
+ghost use Rattle.table_compiler.specs.Lines.{AreLinesOf};
+
+use crate::lines::lines_of;
+use crate::links::{link_lines, links_of};
+use crate::models::{inline, model_of};
+use crate::objects::objects_of;
+use crate::parameters::settings;
+use crate::tables::image_of;
+use knx_model::{Catalogue, Image, IndAddr, NoMemory, Statement};
+use parameter_memory::lay;
+use std::alloc::Global;
+
+/// The image of a device, from its own lines.
+fn compile_lines(
+    alloc: Global,
+    catalogue: &Catalogue,
+    lines: &[&Statement],
+    device: IndAddr,
+) -> Result<Image, NoMemory>
+    requires { AreLinesOf catalogue.now device (map (λ s. s.now) lines.now) }
+    ensures stands { IfOk result (λ image. StandsFor image (meaning (record { statements = map (λ s. s.now) lines.now; catalogue = catalogue.now }) device)) }
+    ensures fits { IfOk result (λ image. Fits image) }
+{
+    let inline = inline(alloc);
+    let model = model_of(catalogue, &inline, lines, device);
+    let link_lines = link_lines(alloc, lines, device)?;
+    let links = links_of(alloc, link_lines.as_slice())?;
+    let objects = objects_of(alloc, model, lines, device)?;
+    let settings = settings(alloc, model, lines, device)?;
+    let params = lay(alloc, model, settings.as_slice())?;
+    image_of(alloc, links.as_slice(), objects.as_slice(), params)
+}
+
+/// The image of a device of a text that breaks no rule.
+pub fn compile_statements(
+    alloc: Global,
+    catalogue: &Catalogue,
+    statements: &[Statement],
+    device: IndAddr,
+) -> Result<Image, NoMemory>
+    requires { first_broken catalogue.now statements.now ≡ None }
+    ensures stands { IfOk result (λ image. StandsFor image (meaning (record { statements = statements.now; catalogue = catalogue.now }) device)) }
+    ensures fits { IfOk result (λ image. Fits image) }
+{
+    let lines = lines_of(alloc, statements, device)?;
+    compile_lines(alloc, catalogue, lines.as_slice(), device)
+}
