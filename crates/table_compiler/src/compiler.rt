@@ -1,21 +1,23 @@
 //! The image of a device, from the statements of a sound project.
 
-ghost use Rattle.std.specs.Prelude.{◌≡◌, None, map, IfOk};
+ghost use Rattle.std.specs.Prelude.{◌≡◌, None, map, All, IfOk};
+ghost use Rattle.std.specs.List.{AllZip};
+ghost use Rattle.std.specs.List.Sorted.{IsStrictlyIncreasing};
 ghost use Rattle.knx_model.specs.Device.{Fits};
 ghost use Rattle.knx_model.specs.Meaning.{meaning};
 ghost use Rattle.knx_model.specs.Rules.{first_broken};
 ghost use Rattle.knx_model.specs.Tables.{StandsFor};
-ghost use Rattle.table_compiler.specs.Lines.{AreLinesOf};
+ghost use Rattle.table_compiler.specs.Lines.{raw, AreLinesOf};
 
-use crate::lines::lines_of;
+use crate::lines::{lines_by_device, lines_of};
 use crate::links::{link_lines, links_of};
 use crate::models::{inline, model_of};
 use crate::objects::objects_of;
 use crate::parameters::settings;
 use crate::tables::image_of;
-use knx_model::{Catalogue, Image, IndAddr, NoMemory, Statement};
+use knx_model::{Catalogue, Image, IndAddr, List, NoMemory, Statement};
 use parameter_memory::lay;
-use std::alloc::Global;
+use std::alloc::{AllocError, Global};
 
 /// The image of a device, from its own lines.
 fn compile_lines(
@@ -51,4 +53,32 @@ pub fn compile_statements(
 {
     let lines = lines_of(alloc, statements, device)?;
     compile_lines(alloc, catalogue, lines.as_slice(), device)
+}
+
+fn numbers_of(alloc: Global, devices: &[IndAddr]) -> Result<Vec<u16>, AllocError>
+    ensures { IfOk result (λ numbers. numbers.items ≡ map raw devices.now) }
+{
+    devices.iter().map(|device| device.raw).collect(alloc)
+}
+
+/// The images of the devices of a text that breaks no rule, one after another.
+pub fn compile_devices(
+    alloc: Global,
+    catalogue: &Catalogue,
+    statements: &[Statement],
+    devices: &[IndAddr],
+) -> Result<List<Image>, NoMemory>
+    requires sound { first_broken catalogue.now statements.now ≡ None }
+    requires ascending { IsStrictlyIncreasing (map raw devices.now) }
+    ensures stands { IfOk result (λ images. AllZip (λ image device. StandsFor image (meaning (record { statements = statements.now; catalogue = catalogue.now }) device)) images devices.now) }
+    ensures fits { IfOk result (λ images. All Fits images) }
+{
+    let numbers = numbers_of(alloc, devices)?;
+    let groups = lines_by_device(alloc, numbers.as_slice(), statements)?;
+    let mut images = List::new(alloc);
+    for place in 0..devices.len() {
+        let image = compile_lines(alloc, catalogue, &groups[place], devices[place])?;
+        images.push(image)?;
+    }
+    Ok(images)
 }

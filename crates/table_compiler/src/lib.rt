@@ -10,5 +10,5 @@ mod objects;
 mod parameters;
 mod tables;
 
-pub use compiler::compile_statements;
+pub use compiler::{compile_devices, compile_statements};
 pub use laws::{linked_exactly, one_image};
