@@ -40,7 +40,7 @@ pub use status::Status;
 pub use words::{
     Span, digit_pair, first_line, first_word, flags_in, flags_of, group_in, group_of, group_spelled, ind_in,
     ind_of, ind_spelled, is_name, is_name_in, is_text, next_line, next_word, number_in, number_of,
-    octet_in, size_code_in, size_code_of, value_in, value_of, without_comment,
+    octet_in, size_code, size_code_in, size_code_of, value_in, value_of, without_comment,
 };
 
 #[cfg(test)]

@@ -1,7 +1,7 @@
 //! The models of a catalogue.
 
 ghost use Rattle.std.specs.Prelude.{◌≡◌, [], All, Some, None, IfSome, IfNone};
-ghost use Rattle.knx_model.specs.Models.{IsNamedModel, in_catalogue};
+ghost use Rattle.knx_model.specs.Models.{IsModel, IsNamedModel, in_catalogue};
 
 use crate::catalogue::model::{Model as DeviceModel, NamedModel};
 use crate::lists::List;
@@ -48,6 +48,7 @@ impl Catalogue {
     pub fn model(&self, name: &str) -> Option<&DeviceModel>
         ensures some { IfSome result (λ m. in_catalogue self.now name.now ≡ Some m.now) }
         ensures none { IfNone result (in_catalogue self.now name.now ≡ None) }
+        ensures good { IfSome result (λ m. IsModel m.now) }
     {
         self.model_in(name.as_bytes())
     }
@@ -56,7 +57,7 @@ impl Catalogue {
     pub fn model_in(&self, name: &[u8]) -> Option<&DeviceModel>
         ensures some { IfSome result (λ m. in_catalogue self.now name.now ≡ Some m.now) }
         ensures none { IfNone result (in_catalogue self.now name.now ≡ None) }
-        ensures sound { All IsNamedModel self.now }
+        ensures good { IfSome result (λ m. IsModel m.now) }
     {
         let models = self.models.as_slice();
         for named in models {

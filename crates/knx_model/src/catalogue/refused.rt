@@ -1,6 +1,8 @@
 //! Why a catalogue is refused.
 
-use crate::lists::Octets;
+ghost use Rattle.std.specs.Prelude.{◌≡◌};
+
+use crate::lists::{NoMemory, Octets};
 
 /// Why a catalogue is refused. Models and parameters are named as they stand in the document.
 #[derive(Debug, Drop)]
@@ -17,4 +19,14 @@ pub enum CatRefused {
     Range { model: Octets, parameter: Octets },
     /// The text has more than 4,194,304 octets.
     Long,
+}
+
+impl From<NoMemory> for CatRefused {
+    ghost use Rattle.knx_model.specs.declared.catalogue.refused.CatRefused.{CatRefused};
+
+    ghost from_gives = { λ _ e. e ≡ CatRefused.NoMemory };
+
+    fn from(_error: NoMemory) -> CatRefused {
+        CatRefused::NoMemory
+    }
 }

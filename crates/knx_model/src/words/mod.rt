@@ -15,5 +15,5 @@ pub use flags::{flags_in, flags_of};
 pub use line::{is_text, without_comment};
 pub use name::{is_name, is_name_in};
 pub use number::{number_in, number_of};
-pub use size::{size_code_in, size_code_of};
+pub use size::{size_code, size_code_in, size_code_of};
 pub use value::{digit_pair, octet_in, value_in, value_of};

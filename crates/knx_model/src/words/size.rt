@@ -5,8 +5,8 @@ ghost use Rattle.knx_model.specs.Sizes.{size_code, size_value};
 
 use crate::words::number::number_in;
 
-/// The size code of a number of bits.
-fn size_code(bits: u32) -> Option<u8>
+/// The size code, 0 to 14, of a number of bits; none for a number that is no size.
+pub fn size_code(bits: u32) -> Option<u8>
     ensures value { result ≡ size_code bits }
     ensures fits { IfSome result (λ code. code < 15) }
 {

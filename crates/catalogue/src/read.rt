@@ -1,0 +1,50 @@
+//! A catalogue is read from octets.
+
+ghost use Rattle.std.specs.Prelude.{◌≡◌, ◌≢◌, Some, None, IfOk, IfErr};
+ghost use Rattle.toml.specs.View.{table_view};
+ghost use Rattle.catalogue.specs.Catalogue.{Gives, document_of, catalogue_of};
+
+use crate::models::models_of;
+use knx_model::{CatRefused, Catalogue};
+use std::alloc::Global;
+use toml::Table;
+
+/// The longest catalogue, in octets: 4 MiB.
+const LONGEST_CATALOGUE: usize = 4_194_304;
+
+/// The table of a document.
+#[tactic(auto, using(knx_model::proofs::Text::utf8_true, knx_model::proofs::Text::utf8_false))]
+fn document_in(alloc: Global, octets: &[u8]) -> Result<Table, CatRefused>
+    ensures ok { IfOk result (λ table. document_of octets.now ≡ Some (table_view table)) }
+    ensures refused { IfErr result (λ e. e ≢ CatRefused.NoMemory → document_of octets.now ≡ None) }
+    ensures toml { IfErr result (λ e. e ≢ CatRefused.NoMemory → e ≡ CatRefused.Toml) }
+{
+    let Ok(text) = std::str::from_utf8(octets) else {
+        return Err(CatRefused::Toml);
+    };
+    match toml::table_from_str(alloc, text) {
+        Ok(table) => Ok(table),
+        Err(e) => {
+            if e.is_memory() {
+                Err(CatRefused::NoMemory)
+            } else {
+                Err(CatRefused::Toml)
+            }
+        }
+    }
+}
+
+/// The catalogue that octets are: a TOML document whose keys are the models' names. What is no such document is refused with
+/// its first fault: more than 4,194,304 octets, no TOML, or the first model, ascending by the octets of its name, that isn't
+/// as it must be; in a model its shape comes first, then its parameters in order, each one's ranges before its overlap.
+#[tactic(auto, unfolding(crate::specs::Catalogue::catalogue_of))]
+pub fn read_catalogue(alloc: Global, octets: &[u8]) -> Result<Catalogue, CatRefused>
+    ensures { Gives result (catalogue_of octets.now) }
+{
+    if octets.len() > LONGEST_CATALOGUE {
+        return Err(CatRefused::Long);
+    }
+    let table = document_in(alloc, octets)?;
+    let models = models_of(alloc, &table)?;
+    Ok(Catalogue::of(models))
+}
