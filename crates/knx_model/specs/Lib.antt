@@ -17,6 +17,7 @@ pub mod Statements
 pub mod Models
 pub mod Rules
 pub mod Meaning
+pub mod Counts
 pub mod Parameters
 pub mod Tables
 pub mod Loading

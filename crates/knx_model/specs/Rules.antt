@@ -1,7 +1,8 @@
 -- The rules that look at a whole project text, at the lines before a line and at the catalogue. Each is a sentence of its own; a line
 -- breaks the one of the least number, and a text is refused at its least line that breaks one.
-use Rattle.std.specs.Prelude.{ℕ, Bool, true, false, ◌&&◌, ◌||◌, not, ◌==◌, nat_le, nat_lt, is_none, bytes_eq, count_by, List, [], ◌∷◌, take, Option, Some, None, if◌then◌else◌}
+use Rattle.std.specs.Prelude.{ℕ, Bool, true, false, ◌&&◌, ◌||◌, not, ◌==◌, nat_le, nat_lt, is_none, count_by, List, [], ◌∷◌, take, Option, Some, None, if◌then◌else◌}
 use Rattle.std.specs.List.{list_any, filter_map, enumerate_from}
+use Rattle.knx_model.specs.declared.address.IndAddr.{IndAddr}
 use Rattle.knx_model.specs.declared.catalogue.model.Model.{Model}
 use Rattle.knx_model.specs.declared.catalogue.model.ModelField.{ModelField}
 use Rattle.knx_model.specs.declared.catalogue.model.ModelObject.{ModelObject}
@@ -29,6 +30,23 @@ declares_device d _ = false
 abbrev pub is_device_line : What → Bool
 is_device_line (Device device model) = true
 is_device_line _ = false
+
+abbrev pub is_object_line : What → Bool
+is_object_line (Object device number size flags) = true
+is_object_line _ = false
+
+abbrev pub is_link_line : What → Bool
+is_link_line (Link device object group) = true
+is_link_line _ = false
+
+-- the device of a `device` line
+abbrev pub device_in : What → Option IndAddr
+device_in (Device device model) = Some device
+device_in _ = None
+
+-- the devices of the `device` lines, in the order of the text
+abbrev pub devices_of : List Statement → List IndAddr
+devices_of ss = filter_map (λ s. device_in s.what) ss
 
 -- an `object` line declares object n of the device
 abbrev pub declares_object : ℕ → ℕ → What → Bool
@@ -169,14 +187,6 @@ abbrev pub size_of_first : List NamedModel → List Statement → Option (ℕ ×
 size_of_first catalogue whole None = None
 size_of_first catalogue whole (Some first) = size_of catalogue whole first.0 first.1
 
--- 20: an `object`, `link`, `flags` or `param` line's address stands in no `device` line
-abbrev pub no_device : List Statement → What → Bool
-no_device whole (Object device n size flags) = not (some_line (declares_device device.raw) whole)
-no_device whole (Link device object group) = not (some_line (declares_device device.raw) whole)
-no_device whole (Flags device object flags) = not (some_line (declares_device device.raw) whole)
-no_device whole (Param device name value) = not (some_line (declares_device device.raw) whole)
-no_device whole _ = false
-
 -- 18: a `link` line's object has another size than the object of the first `link` line of that group; not asked where the device
 -- stands in no `device` line, nor where one of the objects is unknown
 abbrev pub size_differs : List NamedModel → List Statement → What → Bool
@@ -193,6 +203,14 @@ too_many_devices earlier _ = false
 abbrev pub too_many_links : List Statement → What → Bool
 too_many_links earlier (Link device object group) = nat_le 2047 (count_lines (links_device device.raw) earlier)
 too_many_links earlier _ = false
+
+-- 20: an `object`, `link`, `flags` or `param` line's address stands in no `device` line
+abbrev pub no_device : List Statement → What → Bool
+no_device whole (Object device n size flags) = not (some_line (declares_device device.raw) whole)
+no_device whole (Link device object group) = not (some_line (declares_device device.raw) whole)
+no_device whole (Flags device object flags) = not (some_line (declares_device device.raw) whole)
+no_device whole (Param device name value) = not (some_line (declares_device device.raw) whole)
+no_device whole _ = false
 
 -- the rule of the least number that a line breaks
 unfoldable pub rule_of : List NamedModel → List Statement → List Statement → What → Option Why

@@ -1,3 +1,7 @@
+pub mod Asked
+pub mod Indexed
+pub mod InText
 pub mod Judged
-pub mod Ruled
+pub mod Named
+pub mod Repeats
 pub mod Steps

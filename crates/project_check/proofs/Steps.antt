@@ -1,19 +1,22 @@
 -- One statement more.
-use Rattle.std.proofs.Common.{◌≡◌, ℕ, ◌+◌, Bool, true, false, cond, ◌||◌, List, [], ◌∷◌, ◌++◌, Option, Some, None, refl, sym, ap, ◌∙◌, arith}
+use Rattle.std.proofs.Common.{◌≡◌, ℕ, ◌+◌, Bool, true, false, cond, eqb, ◌||◌, bytes_eq, List, [], ◌∷◌, ◌++◌, Option, Some, None, refl, sym, ap, ◌∙◌, arith}
 use Rattle.std.specs.Prelude.{is_some}
+use Rattle.std.specs.Bool.{nat_eq}
 use Rattle.std.specs.Option.{option_map, option_or}
-use Rattle.std.specs.BTreeSet.{contains}
-use Rattle.std.specs.BTreeMap.{get}
+use Rattle.std.specs.HashSet.{contains}
+use Rattle.std.specs.HashMap.{get, get_by}
+use Rattle.std.proofs.lemmas.Bool.{or_left, or_right}
+use Rattle.std.proofs.lemmas.Option.{cond_some}
+use Rattle.std.proofs.lemmas.Slice.Eq.{bytes_eq-Decides}
 use Rattle.std.proofs.lemmas.List.Folds.{list_any-append}
 use Rattle.std.proofs.lemmas.List.Sums.{sum_by-append}
-use Rattle.knx_model.specs.declared.address.GroupAddr.{GroupAddr}
-use Rattle.knx_model.specs.declared.address.IndAddr.{IndAddr}
+use Rattle.knx_model.specs.declared.catalogue.model.NamedModel.{NamedModel}
 use Rattle.knx_model.specs.declared.project.Statement.{Statement}
 use Rattle.knx_model.specs.declared.project.What.{What}
-use Rattle.knx_model.specs.declared.project.What.TheVariants.{Title, Group, Device, Object, Link}
-use Rattle.knx_model.specs.Rules.{some_line, count_lines, first_some, declares_group, declares_device, declares_object, links_to, links_device, is_device_line, size_in, linked_in, size_of}
-use Rattle.project_check.specs.Keys.{group_cmp, device_cmp, object_cmp, link_cmp, numbers_of}
-use Rattle.project_check.specs.Knowing.{Declares, Precedes, capped, counted, count_of}
+use Rattle.knx_model.specs.declared.project.What.TheVariants.{Title, Group, Device, Object, Link, Flags, Param}
+use Rattle.knx_model.specs.Rules.{some_line, count_lines, first_some, declares_group, declares_device, declares_object, links_to, links_device, is_device_line, size_in, model_in}
+use Rattle.project_check.specs.Keys.{object_eq, link_eq, now_of, names_model}
+use Rattle.project_check.specs.Knowing.{Declares, Precedes, AreRight, capped, counted, count_of}
 use Rattle.project_check.specs.declared.keys.GroupObject.{GroupObject}
 use Rattle.project_check.specs.declared.keys.Link as keys
 use Rattle.project_check.specs.declared.declared.Declared.{Declared}
@@ -35,6 +38,10 @@ pub first_more : {X : Type 0} (f : What → Option X) (ss : List Statement) (s :
 first_more f [] s = or_none f s
 first_more {X = X} f (t ∷ ss) s = elim (f t.what) as (λ r. elim r as (λ _. Option X) [ None ↦ first_some f (ss ++ s ∷ []) | Some x ↦ Some x ] ≡ option_or (elim r as (λ _. Option X) [ None ↦ first_some f ss | Some x ↦ Some x ]) (f s.what)) [ None ↦ first_more f ss s | Some x ↦ refl ]
 
+-- the same of what is found
+pub map_first_more : {X Y : Type 0} (g : X → Y) (f : What → Option X) (ss : List Statement) (s : Statement) → option_map g (first_some f (ss ++ s ∷ [])) ≡ option_or (option_map g (first_some f ss)) (option_map g (f s.what))
+map_first_more g f ss s = ap (option_map g) (first_more f ss s) ∙ elim (first_some f ss) as (λ r. option_map g (option_or r (f s.what)) ≡ option_or (option_map g r) (option_map g (f s.what))) [ None ↦ refl | Some x ↦ refl ]
+
 one_more : (b : Bool) (n : ℕ) → n + (0 + cond b 1 0) ≡ cond b (n + 1) n
 one_more true n = omega arith
 one_more false n = omega arith
@@ -52,9 +59,9 @@ any_some : {X : Type 0} (f : What → Option X) (test : What → Bool) → ((w :
 any_some f test same [] = refl
 any_some f test same (s ∷ ss) = first_or (f s.what) (first_some f ss) (test s.what) (some_line test ss) (same s.what) (any_some f test same ss)
 
-some_if : (b : Bool) (n : ℕ) → is_some (cond b (Some n) None) ≡ b
-some_if true n = refl
-some_if false n = refl
+some_if : {X : Type 0} (b : Bool) (x : X) → is_some (cond b (Some x) None) ≡ b
+some_if true x = refl
+some_if false x = refl
 
 size_or_none : (d n : ℕ) (w : What) → is_some (size_in d n w) ≡ declares_object d n w
 size_or_none d n (Title name) = refl
@@ -62,37 +69,86 @@ size_or_none d n (Group group name) = refl
 size_or_none d n (Device device model) = refl
 size_or_none d n (Object device number size flags) = some_if (declares_object d n (Object device number size flags)) size
 size_or_none d n (Link device object group) = refl
+size_or_none d n (Flags device object flags) = refl
+size_or_none d n (Param device name value) = refl
 
--- an object is declared just where it has a size
-pub sized : (d n : ℕ) (ss : List Statement) → is_some (size_of ss d n) ≡ some_line (declares_object d n) ss
+-- an object stands in a line just where the lines have a size of it
+pub sized : (d n : ℕ) (ss : List Statement) → is_some (first_some (size_in d n) ss) ≡ some_line (declares_object d n) ss
 sized d n ss = any_some (size_in d n) (declares_object d n) (size_or_none d n) ss
 
-pub declares_more : (d e : Declared) (ss : List Statement) (s : Statement)
-    → ((g : GroupAddr) → contains group_cmp e.groups g ≡ (contains group_cmp d.groups g || declares_group g.raw s.what))
-    → ((a : IndAddr) → contains device_cmp e.devices a ≡ (contains device_cmp d.devices a || declares_device a.raw s.what))
-    → ((o : GroupObject) → get object_cmp e.sizes o ≡ option_or (get object_cmp d.sizes o) (size_in o.device.raw o.number s.what))
-    → ((g : GroupAddr) → option_map numbers_of (get group_cmp e.first_links g) ≡ option_or (option_map numbers_of (get group_cmp d.first_links g)) (linked_in g.raw s.what))
-    → Declares d ss → Declares e (ss ++ s ∷ [])
-declares_more d e ss s groups devices sizes first_links before = record {
-  groups = λ g. groups g ∙ ap (λ b. b || declares_group g.raw s.what) (before.groups g) ∙ sym (some_more (declares_group g.raw) ss s);
-  devices = λ a. devices a ∙ ap (λ b. b || declares_device a.raw s.what) (before.devices a) ∙ sym (some_more (declares_device a.raw) ss s);
-  sizes = λ o. sizes o ∙ ap (λ r. option_or r (size_in o.device.raw o.number s.what)) (before.sizes o) ∙ sym (first_more (size_in o.device.raw o.number) ss s);
-  first_links = λ g. first_links g ∙ ap (λ r. option_or r (linked_in g.raw s.what)) (before.first_links g) ∙ sym (first_more (linked_in g.raw) ss s);
+model_or_none : (d : ℕ) (w : What) → is_some (model_in d w) ≡ declares_device d w
+model_or_none d (Title name) = refl
+model_or_none d (Group group name) = refl
+model_or_none d (Device device model) = some_if (declares_device d (Device device model)) model
+model_or_none d (Object device number size flags) = refl
+model_or_none d (Link device object group) = refl
+model_or_none d (Flags device object flags) = refl
+model_or_none d (Param device name value) = refl
+
+-- a device stands in a `device` line just where the lines have a model of it
+pub modelled : (d : ℕ) (ss : List Statement) → is_some (first_some (model_in d) ss) ≡ some_line (declares_device d) ss
+modelled d ss = any_some (model_in d) (declares_device d) (model_or_none d) ss
+
+pub some_mapped : {X Y : Type 0} (f : X → Y) (o : Option X) → is_some (option_map f o) ≡ is_some o
+some_mapped f None = refl
+some_mapped f (Some x) = refl
+
+named_by : (d : ℕ) (name : List ℕ) (w : What) → model_in d w ≡ Some name → names_model name w ≡ true
+named_by d name (Title title) e = absurd (cc)
+named_by d name (Group group title) e = absurd (cc)
+named_by d name (Device device model) e =
+    let is : model ≡ name = (cond_some (eqb device.raw d) model name e).1 in
+    (bytes_eq-Decides model name).1 is
+named_by d name (Object device number size flags) e = absurd (cc)
+named_by d name (Link device object group) e = absurd (cc)
+named_by d name (Flags device object flags) e = absurd (cc)
+named_by d name (Param device title value) e = absurd (cc)
+
+here_or_later : (d : ℕ) (name : List ℕ) (s : Statement) (ss : List Statement) (r : Option (List ℕ)) → model_in d s.what ≡ r → (first_some (model_in d) ss ≡ Some name → some_line (names_model name) ss ≡ true)
+    → elim r as (λ _. Option (List ℕ)) [ None ↦ first_some (model_in d) ss | Some x ↦ Some x ] ≡ Some name → some_line (names_model name) (s ∷ ss) ≡ true
+here_or_later d name s ss None is later e = or_right (names_model name s.what) (some_line (names_model name) ss) (later e)
+here_or_later d name s ss (Some x) is later e = or_left (names_model name s.what) (some_line (names_model name) ss) (named_by d name s.what (is ∙ e))
+
+-- the model of a device is named in a line
+pub named_in : (d : ℕ) (name : List ℕ) (ss : List Statement) → first_some (model_in d) ss ≡ Some name → some_line (names_model name) ss ≡ true
+named_in d name [] e = absurd (cc)
+named_in d name (s ∷ ss) e = here_or_later d name s ss (model_in d s.what) refl (named_in d name ss) e
+
+pub declares_more : (catalogue : List NamedModel) (d e : Declared) (ss : List Statement) (s : Statement)
+    → ((g : ℕ) → contains nat_eq e.groups g ≡ (contains nat_eq d.groups g || declares_group g s.what))
+    → ((a : ℕ) → option_map now_of (get nat_eq e.devices a) ≡ option_or (option_map now_of (get nat_eq d.devices a)) (model_in a s.what))
+    → ((name : List ℕ) → is_some (get_by (λ key. bytes_eq name key.now) e.models) ≡ (is_some (get_by (λ key. bytes_eq name key.now) d.models) || names_model name s.what))
+    → (AreRight catalogue d.models → AreRight catalogue e.models)
+    → ((o : GroupObject) → get object_eq e.sizes o ≡ option_or (get object_eq d.sizes o) (size_in o.device o.number s.what))
+    → Declares catalogue d ss → Declares catalogue e (ss ++ s ∷ [])
+declares_more catalogue d e ss s groups devices present right sizes before = record {
+  groups = λ g. groups g ∙ ap (λ b. b || declares_group g s.what) (before.groups g) ∙ sym (some_more (declares_group g) ss s);
+  devices = λ a. devices a ∙ ap (λ r. option_or r (model_in a s.what)) (before.devices a) ∙ sym (first_more (model_in a) ss s);
+  present = λ name. present name ∙ ap (λ b. b || names_model name s.what) (before.present name) ∙ sym (some_more (names_model name) ss s);
+  right = right before.right;
+  sizes = λ o. sizes o ∙ ap (λ r. option_or r (size_in o.device o.number s.what)) (before.sizes o) ∙ sym (first_more (size_in o.device o.number) ss s);
 }
 
 capped_more : (b : Bool) (n : ℕ) → counted b (capped n) ≡ capped (cond b (n + 1) n)
 capped_more true n = omega arith
 capped_more false n = refl
 
+counted_more : (test : What → Bool) (ss : List Statement) (s : Statement) (old new : ℕ) → new ≡ counted (test s.what) old → old ≡ capped (count_lines test ss) → new ≡ capped (count_lines test (ss ++ s ∷ []))
+counted_more test ss s old new e before = e ∙ ap (counted (test s.what)) before ∙ capped_more (test s.what) (count_lines test ss) ∙ ap capped (sym (count_more test ss s))
+
 pub precedes_more : (d e : Earlier) (ss : List Statement) (s : Statement)
-    → Declares e.declared (ss ++ s ∷ [])
-    → ((l : keys.Link) → contains link_cmp e.links l ≡ (contains link_cmp d.links l || links_to l.object.device.raw l.object.number l.group.raw s.what))
+    → ((g : ℕ) → contains nat_eq e.groups g ≡ (contains nat_eq d.groups g || declares_group g s.what))
+    → ((a : ℕ) → contains nat_eq e.devices a ≡ (contains nat_eq d.devices a || declares_device a s.what))
+    → ((o : GroupObject) → contains object_eq e.objects o ≡ (contains object_eq d.objects o || declares_object o.device o.number s.what))
+    → ((l : keys.Link) → contains link_eq e.links l ≡ (contains link_eq d.links l || links_to l.device l.number l.group s.what))
     → e.device_lines ≡ counted (is_device_line s.what) d.device_lines
-    → ((a : IndAddr) → count_of e.links_of a ≡ counted (links_device a.raw s.what) (count_of d.links_of a))
+    → ((a : ℕ) → count_of e.link_lines a ≡ counted (links_device a s.what) (count_of d.link_lines a))
     → Precedes d ss → Precedes e (ss ++ s ∷ [])
-precedes_more d e ss s declared links device_lines links_of before = record {
-  declared = declared;
-  links = λ l. links l ∙ ap (λ b. b || links_to l.object.device.raw l.object.number l.group.raw s.what) (before.links l) ∙ sym (some_more (links_to l.object.device.raw l.object.number l.group.raw) ss s);
-  device_lines = device_lines ∙ ap (counted (is_device_line s.what)) before.device_lines ∙ capped_more (is_device_line s.what) (count_lines is_device_line ss) ∙ ap capped (sym (count_more is_device_line ss s));
-  links_of = λ a. links_of a ∙ ap (counted (links_device a.raw s.what)) (before.links_of a) ∙ capped_more (links_device a.raw s.what) (count_lines (links_device a.raw) ss) ∙ ap capped (sym (count_more (links_device a.raw) ss s));
+precedes_more d e ss s groups devices objects links device_lines link_lines before = record {
+  groups = λ g. groups g ∙ ap (λ b. b || declares_group g s.what) (before.groups g) ∙ sym (some_more (declares_group g) ss s);
+  devices = λ a. devices a ∙ ap (λ b. b || declares_device a s.what) (before.devices a) ∙ sym (some_more (declares_device a) ss s);
+  objects = λ o. objects o ∙ ap (λ b. b || declares_object o.device o.number s.what) (before.objects o) ∙ sym (some_more (declares_object o.device o.number) ss s);
+  links = λ l. links l ∙ ap (λ b. b || links_to l.device l.number l.group s.what) (before.links l) ∙ sym (some_more (links_to l.device l.number l.group) ss s);
+  device_lines = counted_more is_device_line ss s d.device_lines e.device_lines device_lines before.device_lines;
+  link_lines = λ a. counted_more (links_device a) ss s (count_of d.link_lines a) (count_of e.link_lines a) (link_lines a) (before.link_lines a);
 }

@@ -1,26 +1,33 @@
--- The orders of addresses, group objects and links.
-use Rattle.std.specs.Prelude.{ℕ}
-use Rattle.std.specs.Ordering.{nat_cmp, ordering_then}
-use Rattle.std.specs.declared.cmp.Ordering.{Ordering}
-use Rattle.knx_model.specs.declared.address.GroupAddr.{GroupAddr}
-use Rattle.knx_model.specs.declared.address.IndAddr.{IndAddr}
+-- The keys and values of maps, in the words of the rules.
+use Rattle.std.specs.Prelude.{ℕ, Bool, false, ◌&&◌, ◌||◌, nat_lt, bytes_eq, List, Option, Some, None}
+use Rattle.std.specs.Borrow.{Bor}
+use Rattle.std.specs.Bool.{nat_eq}
+use Rattle.knx_model.specs.declared.catalogue.model.ModelField.{ModelField}
+use Rattle.knx_model.specs.declared.project.What.{What}
+use Rattle.knx_model.specs.declared.project.What.TheVariants.{Device}
 use Rattle.project_check.specs.declared.keys.GroupObject.{GroupObject}
 use Rattle.project_check.specs.declared.keys.Link.{Link}
+use Rattle.project_check.specs.declared.keys.Range.{Range}
 
-abbrev pub group_cmp : GroupAddr → GroupAddr → Ordering
-group_cmp a b = nat_cmp a.raw b.raw
+abbrev pub object_eq : GroupObject → GroupObject → Bool
+object_eq a b = nat_eq a.device b.device && nat_eq a.number b.number
 
-abbrev pub device_cmp : IndAddr → IndAddr → Ordering
-device_cmp a b = nat_cmp a.raw b.raw
+abbrev pub link_eq : Link → Link → Bool
+link_eq a b = nat_eq a.device b.device && (nat_eq a.number b.number && nat_eq a.group b.group)
 
--- by device, and then by number
-abbrev pub object_cmp : GroupObject → GroupObject → Ordering
-object_cmp a b = ordering_then (device_cmp a.device b.device) (nat_cmp a.number b.number)
+abbrev pub range_of : ModelField → Range
+range_of f = record { min = f.min; max = f.max }
 
--- by object, and then by group
-abbrev pub link_cmp : Link → Link → Ordering
-link_cmp a b = ordering_then (object_cmp a.object b.object) (group_cmp a.group b.group)
+-- what a borrowed name points to
+abbrev pub now_of : Bor (List ℕ) → List ℕ
+now_of name = name.now
 
--- a group object as the numbers of its device and its own
-abbrev pub numbers_of : GroupObject → ℕ × ℕ
-numbers_of o = (o.device.raw, o.number)
+-- a `device` line names the model
+abbrev pub names_model : List ℕ → What → Bool
+names_model name (Device device model) = bytes_eq model name
+names_model name _ = false
+
+-- a value is below the least or above the greatest of a range that is known
+abbrev pub is_outside : Option Range → ℕ → Bool
+is_outside None value = false
+is_outside (Some range) value = nat_lt value range.min || nat_lt range.max value

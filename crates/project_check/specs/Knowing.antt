@@ -1,24 +1,104 @@
--- What is known of statements, as it is kept in sets and maps.
-use Rattle.std.specs.Prelude.{◌≡◌, ℕ, ◌+◌, min, Bool, List, unwrap_or, if◌then◌else◌}
+-- What is known of statements and models, as it is kept in sets and maps.
+use Rattle.std.specs.Prelude.{◌≡◌, ℕ, ◌+◌, ◌==◌, min, Bool, true, false, ◌&&◌, nat_le, List, Option, Some, None, IfSome, is_some, bytes_eq, unwrap_or, if◌then◌else◌}
+use Rattle.std.specs.Bool.{nat_eq}
+use Rattle.std.specs.Borrow.{Bor}
 use Rattle.std.specs.Option.{option_map}
-use Rattle.std.specs.BTreeSet.{contains}
-use Rattle.std.specs.BTreeMap.{BTreeMap, get}
-use Rattle.knx_model.specs.declared.address.GroupAddr.{GroupAddr}
-use Rattle.knx_model.specs.declared.address.IndAddr.{IndAddr}
+use Rattle.std.specs.HashSet.{HashSet, contains}
+use Rattle.std.specs.HashMap.{HashMap, get, get_by}
+use Rattle.knx_model.specs.declared.catalogue.model.Model.{Model}
+use Rattle.knx_model.specs.declared.catalogue.model.ModelField.{ModelField}
+use Rattle.knx_model.specs.declared.catalogue.model.ModelObject.{ModelObject}
+use Rattle.knx_model.specs.declared.catalogue.model.NamedModel.{NamedModel}
 use Rattle.knx_model.specs.declared.project.Statement.{Statement}
-use Rattle.knx_model.specs.Rules.{some_line, count_lines, declares_group, declares_device, links_to, links_device, is_device_line, size_of, first_linked}
-use Rattle.project_check.specs.Keys.{group_cmp, device_cmp, object_cmp, link_cmp, numbers_of}
-use Rattle.project_check.specs.declared.keys.GroupObject.{GroupObject}
-use Rattle.project_check.specs.declared.keys.Link.{Link}
+use Rattle.knx_model.specs.declared.project.What.{What}
+use Rattle.knx_model.specs.declared.project.What.TheVariants.{Group, Device, Object, Link}
+use Rattle.knx_model.specs.Models.{model_named, object_in, field_in}
+use Rattle.knx_model.specs.Rules.{some_line, count_lines, first_some, declares_group, declares_device, declares_object, links_to, links_device, is_device_line, size_in, linked_in, model_in, model_of, size_of, first_linked, duplicate_device, duplicate_group, duplicate_link, too_many_devices, too_many_links}
+use Rattle.project_check.specs.Keys.{object_eq, link_eq, range_of, now_of, names_model}
 use Rattle.project_check.specs.declared.declared.Declared.{Declared}
 use Rattle.project_check.specs.declared.earlier.Earlier.{Earlier}
+use Rattle.project_check.specs.declared.keys.GroupObject.{GroupObject}
+use Rattle.project_check.specs.declared.keys.Link as keys
+use Rattle.project_check.specs.declared.keys.Looked.{Looked}
+use Rattle.project_check.specs.declared.keys.Range.{Range}
+use Rattle.project_check.specs.declared.keys.Repeated.{Repeated}
+use Rattle.project_check.specs.declared.keys.Sought.{Sought}
+use Rattle.project_check.specs.declared.models.ModelIndex.{ModelIndex}
+use Rattle.project_check.specs.declared.rules.Whole.{Whole}
+
+-- ---- of a model
+
+abbrev pub code_of : ModelObject → ℕ
+code_of o = o.size
+
+-- the size code of an object of this number
+abbrev pub code_at : ℕ → ModelObject → Option ℕ
+code_at n o = if o.n == n then Some o.size else None
+
+-- the range of a parameter of this name
+abbrev pub range_at : List ℕ → ModelField → Option Range
+range_at name f = if bytes_eq f.name name then Some (range_of f) else None
+
+-- the maps are those of the model
+pub record Indexes (index : ModelIndex) (m : Model) : Type 0 where
+  pub sizes : (n : ℕ) → get nat_eq index.sizes n ≡ option_map code_of (object_in m.objects n)
+  pub ranges : (name : List ℕ) → get_by (λ key. bytes_eq name key.now) index.ranges ≡ option_map range_of (field_in m.parameters name)
+
+-- the maps are those of the model, where there is one
+abbrev pub IndexesNamed : Option ModelIndex → Option Model → Type 0
+IndexesNamed None None = Unit {0}
+IndexesNamed None (Some m) = ⊥
+IndexesNamed (Some index) None = ⊥
+IndexesNamed (Some index) (Some m) = Indexes index m
+
+-- ---- of all statements
+
+-- each model that is kept is the one of its name
+abbrev pub AreRight : {S : Type 0} → List NamedModel → HashMap (Bor (List ℕ)) (Option ModelIndex) S → Type 0
+AreRight catalogue models = (name : List ℕ) → IfSome (get_by (λ key. bytes_eq name key.now) models) (λ index. IndexesNamed index (model_named catalogue name))
 
 -- the sets and maps are those of these statements
-pub record Declares (d : Declared) (ss : List Statement) : Type 0 where
-  pub groups : (g : GroupAddr) → contains group_cmp d.groups g ≡ some_line (declares_group g.raw) ss
-  pub devices : (a : IndAddr) → contains device_cmp d.devices a ≡ some_line (declares_device a.raw) ss
-  pub sizes : (o : GroupObject) → get object_cmp d.sizes o ≡ size_of ss o.device.raw o.number
-  pub first_links : (g : GroupAddr) → option_map numbers_of (get group_cmp d.first_links g) ≡ first_linked ss g.raw
+pub record Declares (catalogue : List NamedModel) (d : Declared) (ss : List Statement) : Type 0 where
+  pub groups : (g : ℕ) → contains nat_eq d.groups g ≡ some_line (declares_group g) ss
+  pub devices : (a : ℕ) → option_map now_of (get nat_eq d.devices a) ≡ first_some (model_in a) ss
+  pub present : (name : List ℕ) → is_some (get_by (λ key. bytes_eq name key.now) d.models) ≡ some_line (names_model name) ss
+  pub right : AreRight catalogue d.models
+  pub sizes : (o : GroupObject) → get object_eq d.sizes o ≡ first_some (size_in o.device o.number) ss
+
+-- whether the model of a device is known, and the size of its object n
+abbrev pub looked : List NamedModel → List Statement → ℕ → ℕ → Looked
+looked catalogue ss d n = record { modelled = is_some (model_of catalogue ss d); size = size_of catalogue ss d n }
+
+-- the range of a model's parameter of this name
+abbrev pub range_in : Option Model → List ℕ → Option Range
+range_in None name = None
+range_in (Some m) name = option_map range_of (field_in m.parameters name)
+
+-- whether the model of a device is known, and the range of its parameter of this name
+abbrev pub sought : List NamedModel → List Statement → ℕ → List ℕ → Sought
+sought catalogue ss d name = record { modelled = is_some (model_of catalogue ss d); range = range_in (model_of catalogue ss d) name }
+
+-- the size of a group object
+abbrev pub size_at : List NamedModel → List Statement → ℕ × ℕ → Option ℕ
+size_at catalogue ss o = size_of catalogue ss o.0 o.1
+
+-- the size of the group object of a `link` line of the group
+abbrev pub linked_size : List NamedModel → List Statement → ℕ → What → Option (Option ℕ)
+linked_size catalogue ss g what = option_map (size_at catalogue ss) (linked_in g what)
+
+-- the sizes are those of the group objects of the groups' first `link` lines
+abbrev pub FirstSizes : {S : Type 0} → List NamedModel → List Statement → HashMap ℕ (Option ℕ) S → Type 0
+FirstSizes catalogue ss sizes = (g : ℕ) → get nat_eq sizes g ≡ option_map (size_at catalogue ss) (first_linked ss g)
+
+pub record DeclaresAll (catalogue : List NamedModel) (w : Whole) (ss : List Statement) : Type 0 where
+  pub declared : Declares catalogue w.declared ss
+  pub first_sizes : FirstSizes catalogue ss w.first_sizes
+
+-- the model that a `device` line names stands in a line of the text
+abbrev pub IsNamed : List Statement → What → Type 0
+IsNamed ss what = (name : List ℕ) → names_model name what ≡ true → some_line (names_model name) ss ≡ true
+
+-- ---- of the statements before a line
 
 -- a count that stops at 65,535
 abbrev pub capped : ℕ → ℕ
@@ -29,12 +109,52 @@ abbrev pub counted : Bool → ℕ → ℕ
 counted counts n = if counts then capped (n + 1) else n
 
 -- the count of a device
-abbrev pub count_of : BTreeMap IndAddr ℕ → IndAddr → ℕ
-count_of counts a = unwrap_or (get device_cmp counts a) 0
+abbrev pub count_of : {S : Type 0} → HashMap ℕ ℕ S → ℕ → ℕ
+count_of counts d = unwrap_or (get nat_eq counts d) 0
 
--- the sets, maps and counts are those of these statements
+-- the sets and counts are those of these statements
 pub record Precedes (e : Earlier) (ss : List Statement) : Type 0 where
-  pub declared : Declares e.declared ss
-  pub links : (l : Link) → contains link_cmp e.links l ≡ some_line (links_to l.object.device.raw l.object.number l.group.raw) ss
+  pub groups : (g : ℕ) → contains nat_eq e.groups g ≡ some_line (declares_group g) ss
+  pub devices : (d : ℕ) → contains nat_eq e.devices d ≡ some_line (declares_device d) ss
+  pub objects : (o : GroupObject) → contains object_eq e.objects o ≡ some_line (declares_object o.device o.number) ss
+  pub links : (l : keys.Link) → contains link_eq e.links l ≡ some_line (links_to l.device l.number l.group) ss
   pub device_lines : e.device_lines ≡ capped (count_lines is_device_line ss)
-  pub links_of : (a : IndAddr) → count_of e.links_of a ≡ capped (count_lines (links_device a.raw) ss)
+  pub link_lines : (d : ℕ) → count_of e.link_lines d ≡ capped (count_lines (links_device d) ss)
+
+-- what a line declares is in the set already
+abbrev pub has_its_group : {S : Type 0} → HashSet ℕ S → What → Bool
+has_its_group groups (Group group name) = contains nat_eq groups group.raw
+has_its_group groups _ = false
+
+abbrev pub has_its_device : {S : Type 0} → HashSet ℕ S → What → Bool
+has_its_device devices (Device device model) = contains nat_eq devices device.raw
+has_its_device devices _ = false
+
+abbrev pub has_its_object : {S : Type 0} → HashSet GroupObject S → What → Bool
+has_its_object objects (Object device n size flags) = contains object_eq objects (record { device = device.raw; number = n })
+has_its_object objects _ = false
+
+abbrev pub has_its_link : {S : Type 0} → HashSet keys.Link S → What → Bool
+has_its_link links (Link device object group) = contains link_eq links (record { device = device.raw; number = object; group = group.raw })
+has_its_link links _ = false
+
+-- a device of which these are the counts has as many links as it may
+abbrev pub is_full_of_links : {S : Type 0} → HashMap ℕ ℕ S → What → Bool
+is_full_of_links counts (Link device object group) = nat_le 2047 (count_of counts device.raw)
+is_full_of_links counts _ = false
+
+-- an `object` line's number stands in an earlier one of its device
+abbrev pub repeats_object : List Statement → What → Bool
+repeats_object earlier (Object device n size flags) = some_line (declares_object device.raw n) earlier
+repeats_object earlier _ = false
+
+-- what of a line stands in the lines before it
+abbrev pub repeats : List Statement → What → Repeated
+repeats earlier what = record {
+  device = duplicate_device earlier what;
+  group = duplicate_group earlier what;
+  object = repeats_object earlier what;
+  link = duplicate_link earlier what;
+  devices_full = too_many_devices earlier what;
+  links_full = too_many_links earlier what;
+}

@@ -1,2 +1,4 @@
+pub mod Broken
+pub mod Devices
 pub mod Keys
 pub mod Knowing

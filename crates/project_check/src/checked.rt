@@ -1,78 +1,129 @@
 //! A project that breaks no rule, or the least line that breaks one.
 
-ghost use Rattle.std.specs.Prelude.{◌≡◌, ◌≢◌, None, Some, IfOk, IfErr, OnOk, IfSome};
+ghost use Rattle.std.specs.Prelude.{◌≡◌, ◌≢◌, None, Some, IfOk, IfErr, OnOk, IfSome, map, slice_get, IsPermutation};
+ghost use Rattle.std.specs.List.Sorted.{IsStrictlyIncreasing};
 ghost use Rattle.knx_model.specs.declared.refusal.Why.TheVariants.{NoMemory};
-ghost use Rattle.knx_model.specs.Rules.{first_broken};
+ghost use Rattle.knx_model.specs.Rules.{first_broken, devices_of, has_device};
+ghost use Rattle.project_check.specs.Devices.{raw_of};
 
-use crate::declared::Declared;
+use crate::devices::{ascending_devices, first_device};
 use crate::earlier::Earlier;
-use crate::rules::rule_of;
-use knx_model::{Refused, Statement, Why};
+use crate::rules::Whole;
+use knx_model::{Catalogue, IndAddr, Refused, Statement, Why};
 use project_text::Project;
 use std::alloc::{AllocError, Global};
 use std::marker::Model;
 
-/// A project that breaks no rule.
+/// A project that breaks no rule, with its catalogue and its devices, ascending.
 #[derive(Drop)]
 pub struct Checked<'a> {
     project: &'a Project,
+    catalogue: &'a Catalogue,
+    devices: Vec<IndAddr>,
 }
 
 impl<'a> Model for Checked<'a> {
-    ghost use Rattle.std.specs.Prelude.{◌≡◌, List, None};
-    ghost use Rattle.knx_model.specs.declared.project.Statement.{Statement};
-    ghost use Rattle.knx_model.specs.Rules.{first_broken};
+    ghost use Rattle.knx_model.specs.Meaning.{Installation};
+    ghost use Rattle.project_check.specs.Devices.{IsChecked};
 
-    ghost Value = { List Statement };
+    ghost Value = { Installation };
 
-    ghost view = { λ c. c.project.now.statements };
+    ghost view = { λ c. record { statements = c.project.now.statements; catalogue = c.catalogue.now } };
 
-    ghost invariant = { λ c. first_broken c.project.now.statements ≡ None };
+    ghost invariant = { λ c. IsChecked c.project.now.statements c.catalogue.now c.devices.items };
 }
 
 impl Checked<'_> {
     /// Its statements, in the order of the text.
     pub fn statements(&self) -> &[Statement]
-        ensures value { result.now ≡ self.now }
-        ensures sound { first_broken self.now ≡ None }
+        ensures value { result.now ≡ self.now.statements }
+        ensures sound { first_broken self.now.catalogue self.now.statements ≡ None }
     {
         self.project.statements.as_slice()
     }
+
+    /// The catalogue that it is read with.
+    pub fn catalogue(&self) -> &Catalogue
+        ensures value { result.now ≡ self.now.catalogue }
+    {
+        self.catalogue
+    }
+
+    /// Its devices, ascending.
+    pub fn devices(&self) -> &[IndAddr]
+        ensures all { IsPermutation (devices_of self.now.statements) result.now }
+        ensures ascending { IsStrictlyIncreasing (map raw_of result.now) }
+    {
+        self.devices.as_slice()
+    }
+
+    /// The device of the first `device` line; none where there is no such line.
+    pub fn first(&self) -> Option<IndAddr>
+        ensures value { result ≡ slice_get (devices_of self.now.statements) 0 }
+    {
+        first_device(self.statements())
+    }
+
+    /// Whether it has the device.
+    pub fn has(&self, device: IndAddr) -> bool
+        ensures value { result ≡ has_device self.now.statements device.raw }
+    {
+        self.devices.iter().any(|its| its.raw == device.raw)
+    }
+
 }
 
 /// The first statement that breaks a rule.
-fn first_broken(alloc: Global, statements: &[Statement]) -> Result<Option<Refused>, AllocError>
-    ensures found { IfOk result (λ found. found ≡ first_broken statements.now) }
+fn first_broken(
+    alloc: Global,
+    catalogue: &Catalogue,
+    statements: &[Statement],
+) -> Result<Option<Refused>, AllocError>
+    ensures found { IfOk result (λ found. found ≡ first_broken catalogue.now statements.now) }
     ensures never { IfOk result (λ found. IfSome found (λ refused. refused.why ≢ NoMemory)) }
 {
-    let whole = Declared::by_all(alloc, statements)?;
+    let whole = Whole::of(alloc, catalogue, statements)?;
     let mut earlier = Earlier::new(alloc);
     for statement in statements {
-        if let Some(why) = rule_of(&earlier, &whole, &statement.what) {
+        let repeated = earlier.add(statement)?;
+        if let Some(why) = whole.broken(repeated, &statement.what).least() {
             return Ok(Some(Refused {
                 line: statement.line,
                 why,
             }));
         }
-        earlier.add(statement)?;
     }
     Ok(None)
 }
 
-/// Checks the rules that look at the whole text. At `Err` it gives the least line that breaks one, with its rule of the least
-/// number, or line 0 where memory runs out.
-pub fn check(alloc: Global, project: &Project) -> Result<Checked<'_>, Refused>
-    ensures checked { IfOk result (λ c. c ≡ project.now.statements) }
-    ensures sound { OnOk result (first_broken project.now.statements ≡ None) }
-    ensures refused { IfErr result (λ e. e.why ≢ NoMemory → first_broken project.now.statements ≡ Some e) }
+/// Checks the rules that look at the whole text and at the catalogue. At `Err` it gives the least line that breaks one, with its
+/// rule of the least number, or line 0 where memory runs out.
+pub fn check<'a>(
+    alloc: Global,
+    project: &'a Project,
+    catalogue: &'a Catalogue,
+) -> Result<Checked<'a>, Refused>
+    ensures checked { IfOk result (λ c. c ≡ record { statements = project.now.statements; catalogue = catalogue.now }) }
+    ensures sound { OnOk result (first_broken catalogue.now project.now.statements ≡ None) }
+    ensures refused { IfErr result (λ e. e.why ≢ NoMemory → first_broken catalogue.now project.now.statements ≡ Some e) }
     ensures memory { IfErr result (λ e. e.why ≡ NoMemory → e.line ≡ 0) }
 {
-    match first_broken(alloc, project.statements.as_slice()) {
-        Ok(None) => Ok(Checked { project }),
+    match first_broken(alloc, catalogue, project.statements.as_slice()) {
+        Ok(None) => match ascending_devices(alloc, project.statements.as_slice()) {
+            Ok(devices) => Ok(Checked {
+                project,
+                catalogue,
+                devices,
+            }),
+            Err(_) => Err(OUT_OF_MEMORY),
+        },
         Ok(Some(refused)) => Err(refused),
-        Err(_) => Err(Refused {
-            line: 0,
-            why: Why::NoMemory,
-        }),
+        Err(_) => Err(OUT_OF_MEMORY),
     }
 }
+
+/// The refusal for want of memory.
+const OUT_OF_MEMORY: Refused = Refused {
+    line: 0,
+    why: Why::NoMemory,
+};

@@ -1,47 +1,95 @@
 //! What is known of the statements before a line.
 
-ghost use Rattle.std.specs.Prelude.{◌≡◌, ◌||◌, ◌++◌, List, [], ◌∷◌, OnOk};
-ghost use Rattle.std.specs.BTreeSet.{contains};
+ghost use Rattle.std.specs.Prelude.{◌≡◌, ◌||◌, ◌++◌, ℕ, List, [], ◌∷◌, nat_le, ◌&&◌, IfOk, OnOk};
+ghost use Rattle.std.specs.Bool.{nat_eq};
+ghost use Rattle.std.specs.HashSet.{contains};
 ghost use Rattle.knx_model.specs.declared.project.Statement.{Statement as Stated};
-ghost use Rattle.knx_model.specs.Rules.{some_line, links_to, links_device, is_device_line, count_lines};
-ghost use Rattle.project_check.specs.Keys.{link_cmp};
-ghost use Rattle.project_check.specs.Knowing.{Precedes, counted, count_of, capped};
+ghost use Rattle.knx_model.specs.Rules.{declares_group, declares_device, declares_object, links_to, links_device, is_device_line};
+ghost use Rattle.project_check.specs.Keys.{object_eq, link_eq};
+ghost use Rattle.project_check.specs.Knowing.{Precedes, counted, count_of, repeats, has_its_group, has_its_device, has_its_object, has_its_link, is_full_of_links};
 
-use crate::declared::Declared;
-use crate::keys::{GroupObject, Link};
-use knx_model::{IndAddr, Statement, What};
+use crate::keys::{GroupObject, Link, Repeated};
+use knx_model::{Statement, What};
 use std::alloc::{AllocError, Global};
-use std::collections::{BTreeMap, BTreeSet};
+use std::collections::{HashMap, HashSet};
+
+/// The `device` lines that a text may have.
+pub const MOST_DEVICES: u16 = 255;
+
+/// The `link` lines that a device may have.
+pub const MOST_LINKS: u16 = 2047;
 
 /// What is known of the statements before a line: what they declare, their links, the number of `device` lines, and the number of
 /// `link` lines of each device. The numbers stop at 65,535, far above their limits.
 #[derive(Drop)]
 pub struct Earlier {
-    pub declared: Declared,
-    pub links: BTreeSet<Link>,
+    pub groups: HashSet<u16>,
+    pub devices: HashSet<u16>,
+    pub objects: HashSet<GroupObject>,
+    pub links: HashSet<Link>,
     pub device_lines: u16,
-    pub links_of: BTreeMap<IndAddr, u16>,
+    pub link_lines: HashMap<u16, u16>,
 }
 
-/// Adds the link of a `link` line.
-fn add_link(links: &mut BTreeSet<Link>, what: &What) -> Result<(), AllocError>
-    ensures { OnOk result ((l : Link) → contains link_cmp links.new l ≡ (contains link_cmp links.old l || links_to l.object.device.raw l.object.number l.group.raw what.now)) }
+/// Adds the group of a `ga` line, and tells whether it was there.
+fn add_group(groups: &mut HashSet<u16>, what: &What) -> Result<bool, AllocError>
+    ensures added { OnOk result ((g : ℕ) → contains nat_eq groups.new g ≡ (contains nat_eq groups.old g || declares_group g what.now)) }
+    ensures was { IfOk result (λ was. was ≡ has_its_group groups.old what.now) }
 {
-    if let What::Link {
-        device,
-        object,
-        group,
-    } = what
-    {
-        links.insert(Link {
-            object: GroupObject {
-                device: *device,
-                number: *object,
-            },
-            group: *group,
-        })?;
+    match what {
+        What::Group { group, .. } => Ok(!groups.insert(group.raw)?),
+        _ => Ok(false),
     }
-    Ok(())
+}
+
+/// Adds the device of a `device` line, and tells whether it was there.
+fn add_device(devices: &mut HashSet<u16>, what: &What) -> Result<bool, AllocError>
+    ensures added { OnOk result ((d : ℕ) → contains nat_eq devices.new d ≡ (contains nat_eq devices.old d || declares_device d what.now)) }
+    ensures was { IfOk result (λ was. was ≡ has_its_device devices.old what.now) }
+{
+    match what {
+        What::Device { device, .. } => Ok(!devices.insert(device.raw)?),
+        _ => Ok(false),
+    }
+}
+
+/// Adds the group object of an `object` line, and tells whether it was there.
+fn add_object(objects: &mut HashSet<GroupObject>, what: &What) -> Result<bool, AllocError>
+    ensures added { OnOk result ((o : GroupObject) → contains object_eq objects.new o ≡ (contains object_eq objects.old o || declares_object o.device o.number what.now)) }
+    ensures was { IfOk result (λ was. was ≡ has_its_object objects.old what.now) }
+{
+    match what {
+        What::Object { device, n, .. } => {
+            let object = GroupObject {
+                device: device.raw,
+                number: *n,
+            };
+            Ok(!objects.insert(object)?)
+        }
+        _ => Ok(false),
+    }
+}
+
+/// Adds the link of a `link` line, and tells whether it was there.
+fn add_link(links: &mut HashSet<Link>, what: &What) -> Result<bool, AllocError>
+    ensures added { OnOk result ((l : Link) → contains link_eq links.new l ≡ (contains link_eq links.old l || links_to l.device l.number l.group what.now)) }
+    ensures was { IfOk result (λ was. was ≡ has_its_link links.old what.now) }
+{
+    match what {
+        What::Link {
+            device,
+            object,
+            group,
+        } => {
+            let link = Link {
+                device: device.raw,
+                number: *object,
+                group: group.raw,
+            };
+            Ok(!links.insert(link)?)
+        }
+        _ => Ok(false),
+    }
 }
 
 /// Counts a `device` line.
@@ -54,15 +102,29 @@ fn count_device(device_lines: u16, what: &What) -> u16
     }
 }
 
-/// Counts a `link` line for its device.
-fn count_link(links_of: &mut BTreeMap<IndAddr, u16>, what: &What) -> Result<(), AllocError>
-    ensures { OnOk result ((a : IndAddr) → count_of links_of.new a ≡ counted (links_device a.raw what.now) (count_of links_of.old a)) }
+/// Counts a `link` line for its device, and tells whether the device had as many as it may.
+fn count_link(link_lines: &mut HashMap<u16, u16>, what: &What) -> Result<bool, AllocError>
+    ensures counted { OnOk result ((d : ℕ) → count_of link_lines.new d ≡ counted (links_device d what.now) (count_of link_lines.old d)) }
+    ensures was { IfOk result (λ full. full ≡ is_full_of_links link_lines.old what.now) }
 {
-    if let What::Link { device, .. } = what {
-        let before = links_of.get(device).copied().unwrap_or(0);
-        links_of.insert(*device, before.saturating_add(1))?;
+    match what {
+        What::Link { device, .. } => {
+            let before = link_lines.get(&device.raw).copied().unwrap_or(0);
+            link_lines.insert(device.raw, before.saturating_add(1))?;
+            Ok(before >= MOST_LINKS)
+        }
+        _ => Ok(false),
     }
-    Ok(())
+}
+
+/// Whether a `device` line comes after as many as there may be.
+fn is_full(device_lines: u16, what: &What) -> bool
+    ensures { result ≡ (is_device_line what.now && nat_le 255 device_lines) }
+{
+    match what {
+        What::Device { .. } => device_lines >= MOST_DEVICES,
+        _ => false,
+    }
 }
 
 impl Earlier {
@@ -71,35 +133,30 @@ impl Earlier {
         ensures { Precedes result [] }
     {
         Earlier {
-            declared: Declared::new(alloc),
-            links: BTreeSet::new(alloc),
+            groups: HashSet::new(alloc),
+            devices: HashSet::new(alloc),
+            objects: HashSet::new(alloc),
+            links: HashSet::new(alloc),
             device_lines: 0,
-            links_of: BTreeMap::new(alloc),
+            link_lines: HashMap::new(alloc),
         }
     }
 
-    /// Adds a statement.
-    pub fn add(&mut self, statement: &Statement) -> Result<(), AllocError>
-        ensures { OnOk result ((ss : List Stated) → Precedes self.old ss → Precedes self.new (ss ++ statement.now ∷ [])) }
+    /// Adds a statement, and tells what of it stands in those before.
+    pub fn add(&mut self, statement: &Statement) -> Result<Repeated, AllocError>
+        ensures added { OnOk result ((ss : List Stated) → Precedes self.old ss → Precedes self.new (ss ++ statement.now ∷ [])) }
+        ensures repeated { IfOk result (λ repeated. (ss : List Stated) → Precedes self.old ss → repeated ≡ repeats ss statement.now.what) }
     {
-        self.declared.add(statement)?;
-        add_link(&mut self.links, &statement.what)?;
-        self.device_lines = count_device(self.device_lines, &statement.what);
-        count_link(&mut self.links_of, &statement.what)?;
-        Ok(())
-    }
-
-    /// Whether a `link` line has this link.
-    pub fn has_link(&self, link: Link) -> bool
-        ensures { (ss : List Stated) → Precedes self.now ss → result ≡ some_line (links_to link.object.device.raw link.object.number link.group.raw) ss }
-    {
-        self.links.contains(&link)
-    }
-
-    /// The number of `link` lines of the device, up to 65,535.
-    pub fn link_lines(&self, device: IndAddr) -> u16
-        ensures { (ss : List Stated) → Precedes self.now ss → result ≡ capped (count_lines (links_device device.raw) ss) }
-    {
-        self.links_of.get(&device).copied().unwrap_or(0)
+        let what = &statement.what;
+        let devices_full = is_full(self.device_lines, what);
+        self.device_lines = count_device(self.device_lines, what);
+        Ok(Repeated {
+            device: add_device(&mut self.devices, what)?,
+            group: add_group(&mut self.groups, what)?,
+            object: add_object(&mut self.objects, what)?,
+            link: add_link(&mut self.links, what)?,
+            devices_full,
+            links_full: count_link(&mut self.link_lines, what)?,
+        })
     }
 }

@@ -1,13 +1,18 @@
-//! The rules that look at a whole project text.
+//! The rules that look at a whole project text and at the catalogue.
 #![tactic(auto)]
 
+mod broken;
 mod checked;
+
+
 mod declared;
+mod devices;
 mod earlier;
 mod keys;
+mod models;
 mod rules;
 
-pub use checked::{Checked, check};
 
-#[cfg(test)]
-mod tests;
+pub use checked::{Checked, check};
+pub use knx_model::Counts;
+

@@ -1,160 +1,176 @@
-//! The rule of the least number that a statement breaks.
+//! Which rules a statement breaks.
 
-ghost use Rattle.std.specs.Prelude.{◌≡◌, ◌≢◌, ◌&&◌, not, ℕ, List, IfSome};
+ghost use Rattle.std.specs.Prelude.{◌≡◌, ◌&&◌, true, ℕ, List, IfOk};
+ghost use Rattle.knx_model.specs.declared.catalogue.model.NamedModel.{NamedModel};
 ghost use Rattle.knx_model.specs.declared.project.Statement.{Statement as Stated};
-ghost use Rattle.knx_model.specs.declared.project.What.TheVariants.{Group as GroupLine, Device as DeviceLine, Object as ObjectLine, Link as LinkLine};
-ghost use Rattle.knx_model.specs.declared.refusal.Why.TheVariants.{NoMemory};
-ghost use Rattle.knx_model.specs.Rules.{rule_of, size_differs, some_line, declares_device, declares_object};
-ghost use Rattle.project_check.specs.Knowing.{Declares, Precedes};
+ghost use Rattle.knx_model.specs.declared.project.What.TheVariants.{Device as DeviceLine, Object as ObjectLine, Link as LinkLine, Flags as FlagsLine, Param as ParamLine};
+ghost use Rattle.knx_model.specs.Rules.{some_line, duplicate_object, size_of_first, first_linked, differ};
+ghost use Rattle.project_check.specs.Broken.{broken_rules};
+ghost use Rattle.project_check.specs.Keys.{names_model};
+ghost use Rattle.project_check.specs.Knowing.{DeclaresAll, repeats, IsNamed};
 
-use crate::declared::Declared;
-use crate::earlier::Earlier;
-use crate::keys::{GroupObject, Link};
-use knx_model::{GroupAddr, IndAddr, What, Why};
+use crate::broken::Broken;
+use crate::declared::{Declared, first_sizes};
+use crate::keys::{GroupObject, Repeated};
+use knx_model::{Catalogue, GroupAddr, IndAddr, Statement, What};
+use std::alloc::{AllocError, Global};
+use std::collections::HashMap;
 
-/// The devices that a text may have.
-pub const MOST_DEVICES: u16 = 255;
+/// What is known of a whole text: what it declares, and the size code of the group object of the first link of each group.
+#[derive(Drop)]
+pub struct Whole<'a> {
+    pub declared: Declared<'a>,
+    pub first_sizes: HashMap<u16, Option<u8>>,
+}
 
-/// The links that a device may have.
-pub const MOST_LINKS: u16 = 2047;
-
-/// Whether a link's object has another size than the object of the first link of its group.
-fn size_differs(whole: &Declared, link: Link) -> bool
-    ensures { (all : List Stated) → Declares whole.now all → result ≡ size_differs all (LinkLine link.object.device link.object.number link.group) }
+/// Whether two sizes are known and differ.
+fn differ(one: Option<u8>, other: Option<u8>) -> bool
+    ensures { result ≡ differ one other }
 {
-    let Some(first) = whole.first_linked(link.group) else {
-        return false;
-    };
-    match (whole.size_of(link.object), whole.size_of(first)) {
-        (Some(size), Some(other)) => size != other,
+    match (one, other) {
+        (Some(one), Some(other)) => one != other,
         _ => false,
     }
 }
 
-/// Whether a link's device is known, and its size is another than that of its group's first link.
-fn known_size_differs(whole: &Declared, link: Link) -> bool
-    ensures { (all : List Stated) → Declares whole.now all → result ≡ (some_line (declares_device link.object.device.raw) all && size_differs all (LinkLine link.object.device link.object.number link.group)) }
-{
-    if whole.has_device(link.object.device) {
-        size_differs(whole, link)
-    } else {
-        false
-    }
-}
-
-/// Whether a group object's device is known, and lacks it.
-fn lacks_object(whole: &Declared, object: GroupObject) -> bool
-    ensures { (all : List Stated) → Declares whole.now all → result ≡ (some_line (declares_device object.device.raw) all && not (some_line (declares_object object.device.raw object.number) all)) }
-{
-    if whole.has_device(object.device) {
-        !whole.has_object(object)
-    } else {
-        false
-    }
-}
-
-/// The rule that a `ga` line breaks.
-fn group_rule(earlier: &Earlier, group: GroupAddr) -> Option<Why>
-    ensures rule { (name : List ℕ) (before all : List Stated) → Precedes earlier.now before → result ≡ rule_of before all (GroupLine group name) }
-    ensures never { IfSome result (λ why. why ≢ NoMemory) }
-{
-    if earlier.declared.has_group(group) {
-        Some(Why::DuplicateGroup)
-    } else {
-        None
-    }
-}
-
-/// The rule that a `device` line breaks.
-fn device_rule(earlier: &Earlier, device: IndAddr, model: &[u8]) -> Option<Why>
-    ensures rule { (before all : List Stated) → Precedes earlier.now before → result ≡ rule_of before all (DeviceLine device model.now) }
-    ensures never { IfSome result (λ why. why ≢ NoMemory) }
-{
-    if earlier.declared.has_device(device) {
-        Some(Why::DuplicateDevice)
-    } else if model != b"inline".as_slice() {
-        Some(Why::UnknownModel)
-    } else if earlier.device_lines >= MOST_DEVICES {
-        Some(Why::TooMany {
-            limit: MOST_DEVICES as u32,
+impl<'a> Whole<'a> {
+    /// What is known of these statements.
+    pub fn of(
+        alloc: Global,
+        catalogue: &'a Catalogue,
+        statements: &'a [Statement],
+    ) -> Result<Whole<'a>, AllocError>
+        ensures { IfOk result (λ whole. DeclaresAll catalogue.now whole statements.now) }
+    {
+        let declared = Declared::by_all(alloc, catalogue, statements)?;
+        let first_sizes = first_sizes(alloc, &declared, statements)?;
+        Ok(Whole {
+            declared,
+            first_sizes,
         })
-    } else {
-        None
     }
-}
 
-/// The rule that an `object` line breaks.
-fn object_rule(earlier: &Earlier, whole: &Declared, object: GroupObject) -> Option<Why>
-    ensures rule { (size flags : ℕ) (before all : List Stated) → Precedes earlier.now before → Declares whole.now all → result ≡ rule_of before all (ObjectLine object.device object.number size flags) }
-    ensures never { IfSome result (λ why. why ≢ NoMemory) }
-{
-    if !whole.has_device(object.device) {
-        Some(Why::NoDevice)
-    } else if earlier.declared.has_object(object) {
-        Some(Why::DuplicateObject)
-    } else {
-        None
-    }
-}
-
-/// The rule that a `link` line breaks.
-fn link_rule(earlier: &Earlier, whole: &Declared, link: Link) -> Option<Why>
-    ensures rule { (before all : List Stated) → Precedes earlier.now before → Declares whole.now all → result ≡ rule_of before all (LinkLine link.object.device link.object.number link.group) }
-    ensures never { IfSome result (λ why. why ≢ NoMemory) }
-{
-    if !whole.has_group(link.group) {
-        Some(Why::UnknownGroup)
-    } else if lacks_object(whole, link.object) {
-        Some(Why::UnknownObject)
-    } else if earlier.has_link(link) {
-        Some(Why::DuplicateLink)
-    } else if known_size_differs(whole, link) {
-        Some(Why::SizeDiffers)
-    } else if earlier.link_lines(link.object.device) >= MOST_LINKS {
-        Some(Why::TooMany {
-            limit: MOST_LINKS as u32,
-        })
-    } else if !whole.has_device(link.object.device) {
-        Some(Why::NoDevice)
-    } else {
-        None
-    }
-}
-
-/// The rule of the least number that a statement breaks, judged by those before it and by the whole text.
-#[tactic(auto, unfolding(knx_model::specs::Rules::rule_of))]
-pub fn rule_of(earlier: &Earlier, whole: &Declared, what: &What) -> Option<Why>
-    ensures rule { (before all : List Stated) → Precedes earlier.now before → Declares whole.now all → result ≡ rule_of before all what.now }
-    ensures never { IfSome result (λ why. why ≢ NoMemory) }
-{
-    match what {
-        What::Title(_) => None,
-        What::Group { group, .. } => group_rule(earlier, *group),
-        What::Device { device, model } => device_rule(earlier, *device, model.as_slice()),
-        What::Object { device, n, .. } => {
-            let object = GroupObject {
-                device: *device,
-                number: *n,
-            };
-            object_rule(earlier, whole, object)
+    /// The rules that a `device` line breaks.
+    fn device_broken(&self, repeated: Repeated, model: &'a [u8]) -> Broken
+        ensures { (device : IndAddr) (catalogue : List NamedModel) (before all : List Stated) → DeclaresAll catalogue self.now all → some_line (names_model model.now) all ≡ true → repeated ≡ repeats before (DeviceLine device model.now) → result ≡ broken_rules catalogue before all (DeviceLine device model.now) }
+    {
+        Broken {
+            duplicate_device: repeated.device,
+            unknown_model: self.declared.model_named(model).is_none(),
+            too_many_devices: repeated.devices_full,
+            ..Broken::none()
         }
-        What::Link {
-            device,
-            object,
-            group,
-        } => {
-            let object = GroupObject {
-                device: *device,
-                number: *object,
-            };
-            link_rule(
-                earlier,
-                whole,
-                Link {
-                    object,
-                    group: *group,
-                },
-            )
+    }
+
+    /// The rules that an `object` line breaks.
+    fn object_broken(&self, repeated: Repeated, device: IndAddr, n: u8) -> Broken
+        ensures { (size flags : ℕ) (catalogue : List NamedModel) (before all : List Stated) → DeclaresAll catalogue self.now all → repeated ≡ repeats before (ObjectLine device n size flags) → result ≡ broken_rules catalogue before all (ObjectLine device n size flags) }
+    {
+        Broken {
+            duplicate_object: self.has_twice(repeated, device, n),
+            no_device: !self.declared.has_device(device.raw),
+            ..Broken::none()
+        }
+    }
+
+    /// Whether an object is in the model of its device, or in an earlier line, where the model is known.
+    fn has_twice(&self, repeated: Repeated, device: IndAddr, n: u8) -> bool
+        ensures { (size flags : ℕ) (catalogue : List NamedModel) (before all : List Stated) → DeclaresAll catalogue self.now all → repeated ≡ repeats before (ObjectLine device n size flags) → result ≡ duplicate_object catalogue before all (ObjectLine device n size flags) }
+    {
+        match self.declared.model(device.raw) {
+            Some(index) => index.size_of(n).is_some() || repeated.object,
+            None => false,
+        }
+    }
+
+    /// The rules that a `link` line breaks.
+    fn link_broken(&self, repeated: Repeated, device: IndAddr, object: u8, group: GroupAddr) -> Broken
+        ensures { (catalogue : List NamedModel) (before all : List Stated) → DeclaresAll catalogue self.now all → repeated ≡ repeats before (LinkLine device object group) → result ≡ broken_rules catalogue before all (LinkLine device object group) }
+    {
+        let looked = self.declared.look(GroupObject {
+            device: device.raw,
+            number: object,
+        });
+        let declared = self.declared.has_device(device.raw);
+        Broken {
+            unknown_group: !self.declared.has_group(group.raw),
+            unknown_object: looked.is_missing(),
+            duplicate_link: repeated.link,
+            size_differs: self.size_differs(declared, looked.size, group.raw),
+            too_many_links: repeated.links_full,
+            no_device: !declared,
+            ..Broken::none()
+        }
+    }
+
+    /// The size code of the group object of a group's first `link` line.
+    fn first_size(&self, group: u16) -> Option<u8>
+        ensures { (catalogue : List NamedModel) (all : List Stated) → DeclaresAll catalogue self.now all → result ≡ size_of_first catalogue all (first_linked all group) }
+    {
+        match self.first_sizes.get(&group) {
+            Some(size) => *size,
+            None => None,
+        }
+    }
+
+    /// Whether a size is known and another than that of a group's first `link` line, where the device of the line is declared.
+    fn size_differs(&self, declared: bool, size: Option<u8>, group: u16) -> bool
+        ensures { (catalogue : List NamedModel) (all : List Stated) → DeclaresAll catalogue self.now all → result ≡ (declared && differ size (size_of_first catalogue all (first_linked all group))) }
+    {
+        declared && differ(size, self.first_size(group))
+    }
+
+    /// The rules that a `flags` line breaks.
+    fn flags_broken(&self, device: IndAddr, object: u8) -> Broken
+        ensures { (flags : ℕ) (catalogue : List NamedModel) (before all : List Stated) → DeclaresAll catalogue self.now all → result ≡ broken_rules catalogue before all (FlagsLine device object flags) }
+    {
+        let looked = self.declared.look(GroupObject {
+            device: device.raw,
+            number: object,
+        });
+        Broken {
+            unknown_object: looked.is_missing(),
+            no_device: !self.declared.has_device(device.raw),
+            ..Broken::none()
+        }
+    }
+
+    /// The rules that a `param` line breaks.
+    fn param_broken(&self, device: IndAddr, name: &[u8], value: u32) -> Broken
+        ensures { (catalogue : List NamedModel) (before all : List Stated) → DeclaresAll catalogue self.now all → result ≡ broken_rules catalogue before all (ParamLine device name.now value) }
+    {
+        let sought = self.declared.seek(device.raw, name);
+        Broken {
+            unknown_parameter: sought.is_unknown(),
+            out_of_range: sought.excludes(value),
+            no_device: !self.declared.has_device(device.raw),
+            ..Broken::none()
+        }
+    }
+
+    /// The rules that a statement breaks.
+    pub fn broken(&self, repeated: Repeated, what: &'a What) -> Broken
+        ensures { (catalogue : List NamedModel) (before all : List Stated) → DeclaresAll catalogue self.now all → IsNamed all what.now → repeated ≡ repeats before what.now → result ≡ broken_rules catalogue before all what.now }
+    {
+        match what {
+            What::Title(_) => Broken::none(),
+            What::Group { .. } => Broken {
+                duplicate_group: repeated.group,
+                ..Broken::none()
+            },
+            What::Device { model, .. } => self.device_broken(repeated, model.as_slice()),
+            What::Object { device, n, .. } => self.object_broken(repeated, *device, *n),
+            What::Link {
+                device,
+                object,
+                group,
+            } => self.link_broken(repeated, *device, *object, *group),
+            What::Flags { device, object, .. } => self.flags_broken(*device, *object),
+            What::Param {
+                device,
+                name,
+                value,
+            } => self.param_broken(*device, name.as_slice(), *value),
         }
     }
 }

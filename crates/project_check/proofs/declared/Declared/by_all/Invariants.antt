@@ -3,4 +3,4 @@ use Rattle.project_check.specs.Knowing.{Declares}
 use Rattle.project_check.proofs.declared.Declared.by_all.Given as goal
 
 abbrev pub invariant-loop-statement : goal.invariant-loop-statement
-invariant-loop-statement l = Declares l.declared (take l.statement-index l.statements)
+invariant-loop-statement l = Declares l.catalogue l.declared (take l.statement-index l.statements)

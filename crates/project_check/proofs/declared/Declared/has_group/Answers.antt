@@ -1,5 +1,0 @@
-use Rattle.std.proofs.Common.{◌∙◌}
-use Rattle.project_check.proofs.declared.Declared.has_group.Goals as goal
-
-pub returns : goal.returns
-returns c = λ ss h. c.contains.ensures ∙ h.groups c.args.group

@@ -1,0 +1,16 @@
+use Rattle.std.proofs.Common.{◌≡◌, Bool, true, false, not, refl, sym, ap, ◌∙◌}
+use Rattle.std.specs.Prelude.{is_some, is_none}
+use Rattle.knx_model.specs.Models.{model_named}
+use Rattle.project_check.proofs.Named.{none_not}
+use Rattle.project_check.proofs.rules.Whole.device_broken.Goals as goal
+
+other_way : (a b : Bool) → a ≡ not b → b ≡ not a
+other_way a true e = rw e refl
+other_way a false e = rw e refl
+
+pub returns : goal.returns
+returns c = λ device catalogue before all h named k.
+    let model = c.args.model.now in
+    let unknown : c.is_none.result ≡ is_none (model_named catalogue model) =
+        other_way (is_some c.model_named.result) c.is_none.result c.is_none.ensures ∙ ap not (c.model_named.ensures.known catalogue all h.declared named) ∙ sym (none_not (model_named catalogue model)) in
+    rw (k, c.none.ensures, unknown) refl

@@ -1,0 +1,55 @@
+//! The devices of a text, and how many devices, objects and links it has.
+
+ghost use Rattle.std.specs.Prelude.{◌≡◌, ◌≤◌, ◌+◌, ◌*◌, List, None, length, sum_by, slice_get, IsPermutation, IfOk, OnOk, IfSome, IfNone, IsTrue};
+ghost use Rattle.std.specs.List.Sorted.{IsSorted};
+ghost use Rattle.knx_model.specs.declared.project.Statement.{Statement as Stated};
+ghost use Rattle.knx_model.specs.Rules.{device_in, devices_of};
+ghost use Rattle.project_check.specs.Devices.{device_order};
+
+use knx_model::{IndAddr, Statement, What};
+use std::alloc::{AllocError, Global};
+
+/// The device of a `device` line.
+pub fn device_in(what: &What) -> Option<IndAddr>
+    ensures { result ≡ device_in what.now }
+{
+    match what {
+        What::Device { device, .. } => Some(*device),
+        _ => None,
+    }
+}
+
+/// The devices of the `device` lines, in the order of the text.
+fn devices_of(alloc: Global, statements: &[Statement]) -> Result<Vec<IndAddr>, AllocError>
+    ensures { IfOk result (λ devices. devices.items ≡ devices_of statements.now) }
+{
+    statements
+        .iter()
+        .filter_map(|statement| device_in(&statement.what))
+        .collect(alloc)
+}
+
+/// The devices of the `device` lines, ascending.
+pub fn ascending_devices(
+    alloc: Global,
+    statements: &[Statement],
+) -> Result<Vec<IndAddr>, AllocError>
+    ensures all { IfOk result (λ devices. IsPermutation (devices_of statements.now) devices.items) }
+    ensures sorted { IfOk result (λ devices. IsSorted device_order devices.items) }
+{
+    let mut devices = devices_of(alloc, statements)?;
+    devices.as_mut_slice().sort_unstable();
+    Ok(devices)
+}
+
+/// The device of the first `device` line.
+pub fn first_device(statements: &[Statement]) -> Option<IndAddr>
+    ensures { result ≡ slice_get (devices_of statements.now) 0 }
+{
+    for statement in statements {
+        if let Some(device) = device_in(&statement.what) {
+            return Some(device);
+        }
+    }
+    None
+}

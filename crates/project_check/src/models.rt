@@ -1,0 +1,129 @@
+//! Models, by what lines ask of them.
+
+ghost use Rattle.std.specs.Prelude.{◌≡◌, ℕ, List, IfOk, OnOk, bytes_eq};
+ghost use Rattle.std.specs.Option.{option_map, option_or};
+ghost use Rattle.std.specs.Bool.{nat_eq};
+ghost use Rattle.std.specs.HashMap.{get, get_by};
+ghost use Rattle.knx_model.specs.declared.catalogue.model.Model.{Model as DeviceModel};
+ghost use Rattle.knx_model.specs.Models.{inline, model_named, object_in, field_in};
+ghost use Rattle.knx_model.specs.Rules.{size_in_model};
+ghost use Rattle.project_check.specs.Keys.{range_of};
+ghost use Rattle.project_check.specs.Knowing.{code_of, code_at, range_at, Indexes, IndexesNamed};
+
+use crate::keys::Range;
+use knx_model::{Catalogue, Model, ModelField, ModelObject};
+use std::alloc::{AllocError, Global};
+use std::collections::HashMap;
+
+/// A model's size codes by object number, and its ranges by parameter name.
+#[derive(Drop)]
+pub struct ModelIndex<'a> {
+    pub sizes: HashMap<u8, u8>,
+    pub ranges: HashMap<&'a [u8], Range>,
+}
+
+/// Adds the size code of an object, where it is the first of its number.
+fn add_size(sizes: &mut HashMap<u8, u8>, object: &ModelObject) -> Result<(), AllocError>
+    ensures { OnOk result ((n : ℕ) → get nat_eq sizes.new n ≡ option_or (get nat_eq sizes.old n) (code_at n object.now)) }
+{
+    if !sizes.contains_key(&object.n) {
+        sizes.insert(object.n, object.size)?;
+    }
+    Ok(())
+}
+
+/// The size codes of objects, by their numbers.
+fn sizes_of(alloc: Global, objects: &[ModelObject]) -> Result<HashMap<u8, u8>, AllocError>
+    ensures { IfOk result (λ sizes. (n : ℕ) → get nat_eq sizes n ≡ option_map code_of (object_in objects.now n)) }
+{
+    let mut sizes = HashMap::new(alloc);
+    for object in objects {
+        add_size(&mut sizes, object)?;
+    }
+    Ok(sizes)
+}
+
+/// Adds the range of a parameter, where it is the first of its name.
+fn add_range<'a>(
+    ranges: &mut HashMap<&'a [u8], Range>,
+    field: &'a ModelField,
+) -> Result<(), AllocError>
+    ensures { OnOk result ((name : List ℕ) → get_by (λ key. bytes_eq name key.now) ranges.new ≡ option_or (get_by (λ key. bytes_eq name key.now) ranges.old) (range_at name field.now)) }
+{
+    let name = field.name.as_slice();
+    if !ranges.contains_key(&name) {
+        let range = Range {
+            min: field.min,
+            max: field.max,
+        };
+        ranges.insert(name, range)?;
+    }
+    Ok(())
+}
+
+/// The ranges of parameters, by their names.
+fn ranges_of<'a>(
+    alloc: Global,
+    parameters: &'a [ModelField],
+) -> Result<HashMap<&'a [u8], Range>, AllocError>
+    ensures { IfOk result (λ ranges. (name : List ℕ) → get_by (λ key. bytes_eq name key.now) ranges ≡ option_map range_of (field_in parameters.now name)) }
+{
+    let mut ranges = HashMap::new(alloc);
+    for field in parameters {
+        add_range(&mut ranges, field)?;
+    }
+    Ok(ranges)
+}
+
+impl<'a> ModelIndex<'a> {
+    /// The index of the model that has nothing. It takes no memory.
+    pub fn inline(alloc: Global) -> ModelIndex<'a>
+        ensures { Indexes result inline }
+    {
+        ModelIndex {
+            sizes: HashMap::new(alloc),
+            ranges: HashMap::new(alloc),
+        }
+    }
+
+    /// The index of a model.
+    pub fn of(alloc: Global, model: &'a Model) -> Result<ModelIndex<'a>, AllocError>
+        ensures { IfOk result (λ index. Indexes index model.now) }
+    {
+        Ok(ModelIndex {
+            sizes: sizes_of(alloc, model.objects.as_slice())?,
+            ranges: ranges_of(alloc, model.parameters.as_slice())?,
+        })
+    }
+
+    /// The index of the model of a name, or none where it is unknown.
+    pub fn named(
+        alloc: Global,
+        catalogue: &'a Catalogue,
+        name: &[u8],
+    ) -> Result<Option<ModelIndex<'a>>, AllocError>
+        ensures { IfOk result (λ index. IndexesNamed index (model_named catalogue.now name.now)) }
+    {
+        if name == b"inline".as_slice() {
+            return Ok(Some(ModelIndex::inline(alloc)));
+        }
+        match catalogue.model_in(name) {
+            Some(model) => Ok(Some(ModelIndex::of(alloc, model)?)),
+            None => Ok(None),
+        }
+    }
+
+    /// The size code of the model's object of a number.
+    pub fn size_of(&self, number: u8) -> Option<u8>
+        ensures { (m : DeviceModel) → Indexes self.now m → result ≡ size_in_model (Some m) number }
+    {
+        self.sizes.get(&number).copied()
+    }
+
+    /// The range of the model's parameter of a name.
+    pub fn range_of(&self, name: &[u8]) -> Option<Range>
+        ensures { (m : DeviceModel) → Indexes self.now m → result ≡ option_map range_of (field_in m.parameters name.now) }
+    {
+        self.ranges.get(&name).copied()
+    }
+}
