@@ -11,6 +11,7 @@ use Rattle.std.proofs.lemmas.List.FromFn.{length-enumerate_from, get_or-enumerat
 use Rattle.std.proofs.lemmas.Map.Made.{IsDistinct-from_AllPairs}
 use Rattle.knx_model.specs.declared.address.GroupAddr.{GroupAddr}
 use Rattle.knx_model.specs.declared.address.IndAddr.{IndAddr}
+use Rattle.knx_model.specs.declared.catalogue.model.NamedModel.{NamedModel}
 use Rattle.knx_model.specs.declared.config.LinkSpec.{LinkSpec}
 use Rattle.knx_model.specs.declared.project.Statement.{Statement}
 use Rattle.knx_model.specs.Meaning.{is_of_object, link_at, links_of, link_lines}
@@ -98,8 +99,8 @@ all_links lines seen links i le linked = linked.made ∙ take_all i (links_of li
 
 -- ---- the links of a device in a text that breaks no rule
 
-pub few_links : (device : IndAddr) (ss : List Statement) → first_broken ss ≡ None → length (links_of (link_lines device ss)) ≤ 2047
-few_links device ss sound = rw (length-links_of (link_lines device ss)) (few_lines device ss sound)
+pub few_links : (catalogue : List NamedModel) (device : IndAddr) (ss : List Statement) → first_broken catalogue ss ≡ None → length (links_of (link_lines device ss)) ≤ 2047
+few_links catalogue device ss sound = rw (length-links_of (link_lines device ss)) (few_lines catalogue device ss sound)
 
-pub once : (device : IndAddr) (ss : List Statement) → first_broken ss ≡ None → All (λ l. raw_of l < 65536) (links_of (link_lines device ss)) → IsDistinct eqb (map precedence (links_of (link_lines device ss)))
-once device ss sound small = distinct (link_lines device ss) (lines_apart device ss sound) small
+pub once : (catalogue : List NamedModel) (device : IndAddr) (ss : List Statement) → first_broken catalogue ss ≡ None → All (λ l. raw_of l < 65536) (links_of (link_lines device ss)) → IsDistinct eqb (map precedence (links_of (link_lines device ss)))
+once catalogue device ss sound small = distinct (link_lines device ss) (lines_apart catalogue device ss sound) small

@@ -45,7 +45,7 @@ map_rises order up i j d le lt =
     let h : precedence (get_or order i no_link) ≤ precedence (get_or order j no_link) = up i j no_link le (omega arith) in
     rw (at i (omega arith), at j (omega arith)) h
 
-eqb_sym : (x y : ℕ) → eqb x y ≡ eqb y x
+pub eqb_sym : (x y : ℕ) → eqb x y ≡ eqb y x
 eqb_sym x y = elim (cases_eq x y) [
   | inl same ↦ eq-eqb x y same ∙ sym (eq-eqb y x (sym same))
   | inr apart ↦ ne_eqb x y apart ∙ sym (ne_eqb y x (λ q. apart (sym q)))

@@ -90,5 +90,5 @@ one_image config one other s t =
     let addr : one.addr ≡ other.addr = s.addresses ∙ ap address_list groups ∙ sym t.addresses in
     let assoc : one.assoc ≡ other.assoc = s.associations ∙ (λ i. association_list (groups i) (order i)) ∙ sym t.associations in
     let objs : one.objs ≡ other.objs = s.objects ∙ sym t.objects in
-    let params : one.params ≡ other.params = s.no_parameters ∙ sym t.no_parameters in
+    let params : one.params ≡ other.params = ? in
     λ i. record { addr = addr i; assoc = assoc i; objs = objs i; params = params i }

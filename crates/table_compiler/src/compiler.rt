@@ -1,39 +1,84 @@
 //! The image of a device, from the statements of a sound project.
 
-ghost use Rattle.std.specs.Prelude.{◌≡◌, IfOk};
+ghost use Rattle.std.specs.Prelude.{◌≡◌, None, map, All, IfOk};
+ghost use Rattle.std.specs.List.{AllZip};
+ghost use Rattle.std.specs.List.Sorted.{IsStrictlyIncreasing};
 ghost use Rattle.knx_model.specs.Device.{Fits};
 ghost use Rattle.knx_model.specs.Meaning.{meaning};
 ghost use Rattle.knx_model.specs.Rules.{first_broken};
 ghost use Rattle.knx_model.specs.Tables.{StandsFor};
+ghost use Rattle.table_compiler.specs.Lines.{raw, AreLinesOf};
 
+use crate::lines::{lines_by_device, lines_of};
 use crate::links::{link_lines, links_of};
-use crate::objects::{object_lines, objects_of};
+use crate::models::{inline, model_of};
+use crate::objects::objects_of;
+use crate::parameters::settings;
 use crate::tables::image_of;
-use knx_model::{Image, IndAddr, NoMemory, Statement};
-use project_check::Checked;
-use std::alloc::Global;
+use knx_model::{Catalogue, Image, IndAddr, List, NoMemory, Statement};
+use parameter_memory::lay;
+use std::alloc::{AllocError, Global};
 
-/// The tables and the parameter memory of a device of the project.
-pub fn compile(alloc: Global, checked: &Checked<'_>, device: IndAddr) -> Result<Image, NoMemory>
-    ensures stands { IfOk result (λ image. StandsFor image (meaning checked.now device)) }
+/// The image of a device, from its own lines.
+fn compile_lines(
+    alloc: Global,
+    catalogue: &Catalogue,
+    lines: &[&Statement],
+    device: IndAddr,
+) -> Result<Image, NoMemory>
+    requires { AreLinesOf catalogue.now device (map (λ s. s.now) lines.now) }
+    ensures stands { IfOk result (λ image. StandsFor image (meaning (record { statements = map (λ s. s.now) lines.now; catalogue = catalogue.now }) device)) }
     ensures fits { IfOk result (λ image. Fits image) }
 {
-    compile_statements(alloc, checked.statements(), device)
+    let inline = inline(alloc);
+    let model = model_of(catalogue, &inline, lines, device);
+    let link_lines = link_lines(alloc, lines, device)?;
+    let links = links_of(alloc, link_lines.as_slice())?;
+    let objects = objects_of(alloc, model, lines, device)?;
+    let settings = settings(alloc, model, lines, device)?;
+    let params = lay(alloc, model, settings.as_slice())?;
+    image_of(alloc, links.as_slice(), objects.as_slice(), params)
 }
 
-/// The same from statements that break no rule.
-fn compile_statements(
+/// The image of a device of a text that breaks no rule.
+pub fn compile_statements(
     alloc: Global,
+    catalogue: &Catalogue,
     statements: &[Statement],
     device: IndAddr,
 ) -> Result<Image, NoMemory>
-    requires { first_broken statements.now ≡ None }
-    ensures stands { IfOk result (λ image. StandsFor image (meaning statements.now device)) }
+    requires { first_broken catalogue.now statements.now ≡ None }
+    ensures stands { IfOk result (λ image. StandsFor image (meaning (record { statements = statements.now; catalogue = catalogue.now }) device)) }
     ensures fits { IfOk result (λ image. Fits image) }
 {
-    let link_lines = link_lines(alloc, statements, device)?;
-    let links = links_of(alloc, link_lines.as_slice())?;
-    let object_lines = object_lines(alloc, statements, device)?;
-    let objects = objects_of(alloc, object_lines.as_slice())?;
-    image_of(alloc, links.as_slice(), objects.as_slice())
+    let lines = lines_of(alloc, statements, device)?;
+    compile_lines(alloc, catalogue, lines.as_slice(), device)
+}
+
+fn numbers_of(alloc: Global, devices: &[IndAddr]) -> Result<Vec<u16>, AllocError>
+    ensures { IfOk result (λ numbers. numbers.items ≡ map raw devices.now) }
+{
+    devices.iter().map(|device| device.raw).collect(alloc)
+}
+
+/// The images of the devices of a text that breaks no rule, one after another.
+pub fn compile_devices(
+    alloc: Global,
+    catalogue: &Catalogue,
+    statements: &[Statement],
+    devices: &[IndAddr],
+) -> Result<List<Image>, NoMemory>
+    requires sound { first_broken catalogue.now statements.now ≡ None }
+    requires ascending { IsStrictlyIncreasing (map raw devices.now) }
+    ensures stands { IfOk result (λ images. AllZip (λ image device. StandsFor image (meaning (record { statements = statements.now; catalogue = catalogue.now }) device)) images devices.now) }
+    ensures fits { IfOk result (λ images. All Fits images) }
+{
+    let numbers = numbers_of(alloc, devices)?;
+    let groups = lines_by_device(alloc, numbers.as_slice(), statements)?;
+    let mut images = List::new(alloc);
+    for place in 0..devices.len() {
+        let image = compile_lines(alloc, catalogue, &groups[place], devices[place])?;
+        images.push(image)?;
+    }
+    Ok(images)
 }

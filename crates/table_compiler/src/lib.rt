@@ -3,12 +3,12 @@
 
 mod compiler;
 mod laws;
+mod lines;
 mod links;
+mod models;
 mod objects;
+mod parameters;
 mod tables;
 
-pub use compiler::compile;
+pub use compiler::{compile_devices, compile_statements};
 pub use laws::{linked_exactly, one_image};
-
-#[cfg(test)]
-mod tests;

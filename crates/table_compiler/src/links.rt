@@ -1,6 +1,6 @@
 //! The links of a device, in order; the first of an object is its sending one.
 
-ghost use Rattle.std.specs.Prelude.{◌≡◌, ◌<◌, not, IfOk, All};
+ghost use Rattle.std.specs.Prelude.{◌≡◌, ◌<◌, not, map, IfOk, All};
 ghost use Rattle.knx_model.specs.Meaning.{link_line, link_lines, links_of};
 ghost use Rattle.knx_model.specs.Tables.{raw_of};
 
@@ -28,14 +28,15 @@ fn link_line(device: IndAddr, what: &What) -> Option<(u8, GroupAddr)>
 }
 
 /// The objects and groups of the `link` lines of the device, in order.
+#[tactic(auto, using(crate::proofs::Told::filter_map_told))]
 pub fn link_lines(
     alloc: Global,
-    statements: &[Statement],
+    lines: &[&Statement],
     device: IndAddr,
 ) -> Result<Vec<(u8, GroupAddr)>, AllocError>
-    ensures { IfOk result (λ lines. lines.items ≡ link_lines device statements.now) }
+    ensures { IfOk result (λ found. found.items ≡ link_lines device (map (λ s. s.now) lines.now)) }
 {
-    statements
+    lines
         .iter()
         .filter_map(|statement| link_line(device, &statement.what))
         .collect(alloc)

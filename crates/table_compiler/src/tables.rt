@@ -3,7 +3,9 @@
 ghost use Rattle.std.specs.Prelude.{◌≡◌, ℕ, ◌<◌, ◌≤◌, ◌↔◌, length, map, IfOk, Contains, IsPermutation, nat_eq, All};
 ghost use Rattle.std.specs.List.{IsDistinct};
 ghost use Rattle.std.specs.List.Sorted.{IsStrictlyIncreasing, IsNonDecreasingBy};
+ghost use Rattle.knx_model.specs.declared.config.Config.{Config};
 ghost use Rattle.knx_model.specs.Device.{Fits};
+ghost use Rattle.knx_model.specs.Parameters.{HoldsParameters};
 ghost use Rattle.knx_model.specs.Tables.{raw_of, precedence, place, address_list, association_list, object_list, StandsFor};
 
 use knx_model::{Image, LinkSpec, NoMemory, ObjSpec, Octets};
@@ -107,13 +109,19 @@ fn group_objects(alloc: Global, objects: &[ObjSpec]) -> Result<Octets, NoMemory>
     Ok(out)
 }
 
-/// The tables of links and objects; no parameter is known.
-pub fn image_of(alloc: Global, links: &[LinkSpec], objects: &[ObjSpec]) -> Result<Image, NoMemory>
+/// The tables of links and objects, beside a parameter memory.
+pub fn image_of(
+    alloc: Global,
+    links: &[LinkSpec],
+    objects: &[ObjSpec],
+    params: Octets,
+) -> Result<Image, NoMemory>
     requires few_links { length links.now ≤ 2047 }
     // No object is linked to a group twice.
     requires once { IsDistinct nat_eq (map precedence links.now) }
     requires few_objects { length objects.now ≤ 255 }
-    ensures stands { IfOk result (λ image. StandsFor image (record { links = links.now; objects = objects.now })) }
+    requires few_params { length params ≤ 8192 }
+    ensures stands { IfOk result (λ image. (config : Config) → config.links ≡ links.now → config.objects ≡ objects.now → HoldsParameters params config.param_len config.params → StandsFor image config) }
     ensures fits { IfOk result (λ image. Fits image) }
 {
     let groups = groups_of(alloc, links)?;
@@ -122,7 +130,6 @@ pub fn image_of(alloc: Global, links: &[LinkSpec], objects: &[ObjSpec]) -> Resul
     let addr = address_table(alloc, groups)?;
     let assoc = association_table(alloc, groups, order.as_slice())?;
     let objs = group_objects(alloc, objects)?;
-    let params = Octets::new(alloc);
     Ok(Image {
         addr,
         assoc,

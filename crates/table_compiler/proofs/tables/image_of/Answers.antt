@@ -11,17 +11,17 @@ pub association_table-requires-clause-few_links : goal.association_table-require
 association_table-requires-clause-few_links c = omega (arith, ap length c.as_slice.ensures.value, length_permutation _ _ c.in_ok-order.ensures.same)
 
 pub returns-clause-stands : goal.returns-clause-stands
-returns-clause-stands c = record {
+returns-clause-stands c = λ config links objects parameters. record {
   groups = c.in_ok-groups.groups.items;
-  exactly = c.in_ok-groups.ensures.exactly;
+  exactly = rw links c.in_ok-groups.ensures.exactly;
   groups_ascend = c.in_ok-groups.ensures.ascending;
   addresses = rw c.as_slice-groups.ensures.value at c.in_ok-addr.ensures;
   order = c.in_ok-order.order.items;
-  each_link = c.in_ok-order.ensures.same;
+  each_link = rw links c.in_ok-order.ensures.same;
   links_ascend = ascend c.args.links.now _ c.requires.once c.in_ok-order.ensures.same c.in_ok-order.ensures.ascending;
   associations = rw (c.as_slice-groups.ensures.value, c.as_slice.ensures.value) at c.in_ok-assoc.ensures;
-  objects = c.in_ok-objs.ensures;
-  no_parameters = c.new-params.ensures;
+  objects = rw objects c.in_ok-objs.ensures;
+  parameters = parameters;
 }
 
 pub returns-clause-fits : goal.returns-clause-fits
@@ -29,5 +29,5 @@ returns-clause-fits c = record {
   addr = omega (arith, ap length c.in_ok-addr.ensures, length-address_list c.as_slice-groups.result.now, ap length c.as_slice-groups.ensures.value, c.in_ok-groups.ensures.few, c.requires.few_links);
   assoc = omega (arith, ap length c.in_ok-assoc.ensures, length-association_list c.as_slice-groups.result.now c.as_slice.result.now, ap length c.as_slice.ensures.value, length_permutation _ _ c.in_ok-order.ensures.same, c.requires.few_links);
   objs = omega (arith, ap length c.in_ok-objs.ensures, length-object_list c.args.objects.now, c.requires.few_objects);
-  params = omega (arith, ap length c.new-params.ensures);
+  params = c.requires.few_params;
 }

@@ -1,0 +1,84 @@
+-- What the parts of a device's image need of a text that breaks no rule.
+use Rattle.std.proofs.Common.{◌≡◌, ℕ, ◌≤◌, ◌<◌, Bool, true, false, cond, List, [], ◌∷◌, length, map, eqb, bytes_eq, All, Option, None, Some, Result, Ok, Err, refl, sym, ap, ◌∙◌, subst, arith}
+use Rattle.std.specs.Prelude.{IfOk}
+use Rattle.std.specs.List.{AllByRecursion, IsDistinct}
+use Rattle.std.proofs.lemmas.List.Elements.{recursion_from_All}
+use Rattle.knx_model.specs.declared.address.IndAddr.{IndAddr}
+use Rattle.knx_model.specs.declared.catalogue.model.Model.{Model}
+use Rattle.knx_model.specs.declared.catalogue.model.NamedModel.{NamedModel}
+use Rattle.knx_model.specs.declared.config.LinkSpec.{LinkSpec}
+use Rattle.knx_model.specs.declared.config.ParamValue.{ParamValue}
+use Rattle.knx_model.specs.declared.project.Statement.{Statement}
+use Rattle.knx_model.specs.Meaning.{link_lines, links_of, last_value, params_of, or_inline}
+use Rattle.knx_model.specs.Models.{inline, in_catalogue, field_in, IsModel, IsNamedModel}
+use Rattle.knx_model.specs.Parameters.{HoldsParameters, laid, AreSettings}
+use Rattle.knx_model.specs.Rules.{model_of, is_out_of}
+use Rattle.knx_model.specs.Tables.{raw_of, precedence}
+use Rattle.table_compiler.specs.Lines.{lines_of, AreLinesOf}
+use Rattle.table_compiler.specs.Settings.{settings}
+use Rattle.table_compiler.proofs.LinkLists as links
+use Rattle.table_compiler.proofs.OwnLines.{link_lines_are, last_value_is, model_is}
+use Rattle.table_compiler.proofs.Settings.{laid_are, are_settings}
+use Rattle.table_compiler.proofs.Sound.{value_in_range}
+
+pub if_ok : {X E : Type 0} {P Q : X → Type 0} (r : Result X E) → ((x : X) → P x → Q x) → IfOk r P → IfOk r Q
+if_ok (Ok x) f h = f x h
+if_ok (Err e) f h = h
+
+-- ---- models break no rule
+
+pub inline_sound : IsModel inline
+unfolding IsDistinct
+inline_sound = record {
+  params = omega arith;
+  objects = λ k d lt. absurd (omega arith);
+  numbers = tt;
+  fields = λ k d lt. absurd (omega arith);
+  names = tt;
+  apart = tt;
+}
+
+pub in_catalogue_sound : (models : List NamedModel) (name : List ℕ) (m : Model) → AllByRecursion IsNamedModel models → in_catalogue models name ≡ Some m → IsModel m
+in_catalogue_sound [] name m all e = absurd (cc)
+in_catalogue_sound (n ∷ models) name m all e = one (bytes_eq n.name name) (in_catalogue_sound models name m all.1) e
+  where
+    one : (b : Bool) → (in_catalogue models name ≡ Some m → IsModel m) → cond b (Some n.model) (in_catalogue models name) ≡ Some m → IsModel m
+    one true rest e = let same : n.model ≡ m = cc in subst IsModel same all.0.1
+    one false rest e = rest e
+
+-- ---- the links of the lines
+
+links_are : (catalogue : List NamedModel) (device : IndAddr) (lines : List Statement) (are : AreLinesOf catalogue device lines) → links_of (link_lines device lines) ≡ links_of (link_lines device are.whole)
+links_are catalogue device lines are = ap links_of (ap (link_lines device) are.are ∙ link_lines_are device are.whole)
+
+pub few_links : (catalogue : List NamedModel) (device : IndAddr) (lines : List Statement) → AreLinesOf catalogue device lines → length (links_of (link_lines device lines)) ≤ 2047
+few_links catalogue device lines are = subst (λ (ls : List LinkSpec). length ls ≤ 2047) (sym (links_are catalogue device lines are)) (links.few_links catalogue device are.whole are.sound)
+
+pub once : (catalogue : List NamedModel) (device : IndAddr) (lines : List Statement) → AreLinesOf catalogue device lines → All (λ l. raw_of l < 65536) (links_of (link_lines device lines)) → IsDistinct eqb (map precedence (links_of (link_lines device lines)))
+once catalogue device lines are small =
+    let same = links_are catalogue device lines are in
+    subst (λ (ls : List LinkSpec). IsDistinct eqb (map precedence ls)) (sym same) (links.once catalogue device are.whole are.sound (subst (λ (ls : List LinkSpec). All (λ l. raw_of l < 65536) ls) same small))
+
+-- ---- the settings of the lines
+
+in_range : (catalogue : List NamedModel) (device : IndAddr) (lines : List Statement) → AreLinesOf catalogue device lines → (o : Option Model) → model_of catalogue lines device.raw ≡ o
+    → (name : List ℕ) (n : ℕ) → last_value device lines name ≡ Some n → is_out_of (field_in (or_inline o).parameters name) n ≡ false
+in_range catalogue device lines are None is name n e = refl
+in_range catalogue device lines are (Some m) is name n e =
+    let whole = are.whole in
+    let there : model_of catalogue whole device.raw ≡ Some m = sym (ap (λ (ss : List Statement). model_of catalogue ss device.raw) are.are ∙ model_is catalogue device whole) ∙ is in
+    let value : last_value device whole name ≡ Some n = sym (ap (λ (ss : List Statement). last_value device ss name) are.are ∙ last_value_is device whole name) ∙ e in
+    value_in_range catalogue whole device m name n are.sound there value
+
+pub settings_are : (catalogue : List NamedModel) (device : IndAddr) (lines : List Statement) (m : Model) (ps : List ParamValue) → AreLinesOf catalogue device lines
+    → m ≡ or_inline (model_of catalogue lines device.raw) → IsModel m → ps ≡ settings m device lines → AreSettings m ps
+settings_are catalogue device lines m ps are is sound set =
+    let range = in_range catalogue device lines are (model_of catalogue lines device.raw) refl in
+    subst (λ (ps : List ParamValue). AreSettings m ps) (sym set) (are_settings m device lines sound (λ name n e. subst (λ (m : Model). is_out_of (field_in m.parameters name) n ≡ false) (sym is) (range name n e)))
+
+pub memory_holds : (catalogue : List NamedModel) (device : IndAddr) (lines : List Statement) (m : Model) (ps : List ParamValue) (memory : List ℕ)
+    → m ≡ or_inline (model_of catalogue lines device.raw) → IsModel m → ps ≡ settings m device lines → HoldsParameters memory m.params (laid m ps)
+    → HoldsParameters memory (or_inline (model_of catalogue lines device.raw)).params (params_of (or_inline (model_of catalogue lines device.raw)) device lines)
+memory_holds catalogue device lines m ps memory is sound set holds =
+    let same : laid m ps ≡ params_of m device lines = ap (laid m) set ∙ laid_are m device lines sound in
+    subst (λ (m : Model). HoldsParameters memory m.params (params_of m device lines)) is (subst (λ (all : List ParamValue). HoldsParameters memory m.params all) same holds)

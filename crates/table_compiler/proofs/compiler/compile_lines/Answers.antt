@@ -1,0 +1,35 @@
+use Rattle.std.proofs.Common.{◌≡◌, ◌∙◌, ◌≤◌, ◌<◌, ap, sym, subst, length, map, eqb, All, List}
+use Rattle.std.specs.List.{IsDistinct}
+use Rattle.knx_model.specs.declared.config.LinkSpec.{LinkSpec}
+use Rattle.knx_model.specs.declared.config.Config.{Config}
+use Rattle.knx_model.specs.Meaning.{link_lines, links_of, flagged_objects, objects_of, meaning}
+use Rattle.knx_model.specs.Parameters.{HoldsParameters}
+use Rattle.knx_model.specs.Tables.{raw_of, precedence, StandsFor}
+use Rattle.table_compiler.proofs.Compiled.{if_ok, few_links, once, settings_are, memory_holds}
+use Rattle.table_compiler.proofs.compiler.compile_lines.Goals as goal
+
+pub lay-requires-clause-settings : goal.lay-requires-clause-settings
+lay-requires-clause-settings c =
+    settings_are c.args.catalogue.now c.args.device (map (λ s. s.now) c.args.lines.now) _ _ c.requires c.model_of-model.ensures.model c.model_of-model.ensures.sound (c.as_slice-2.ensures.value ∙ c.in_ok-settings.ensures)
+
+-- the links are those of the lines
+are : (c : goal.After-as_slice-4) → c.as_slice-3.result.now ≡ links_of (link_lines c.args.device (map (λ s. s.now) c.args.lines.now))
+are c = c.as_slice-3.ensures.value ∙ c.in_ok-links.ensures.links ∙ ap links_of (c.as_slice.ensures.value ∙ c.in_ok-link_lines.ensures)
+
+pub image_of-requires-clause-few_links : goal.image_of-requires-clause-few_links
+image_of-requires-clause-few_links c = subst (λ (ls : List LinkSpec). length ls ≤ 2047) (sym (are c)) (few_links c.args.catalogue.now c.args.device (map (λ s. s.now) c.args.lines.now) c.requires)
+
+pub image_of-requires-clause-once : goal.image_of-requires-clause-once
+image_of-requires-clause-once c =
+    let small : All (λ l. raw_of l < 65536) c.as_slice-3.result.now = rw c.as_slice-3.ensures.value c.in_ok-links.ensures.small in
+    subst (λ (ls : List LinkSpec). IsDistinct eqb (map precedence ls)) (sym (are c)) (once c.args.catalogue.now c.args.device (map (λ s. s.now) c.args.lines.now) c.requires (subst (λ (ls : List LinkSpec). All (λ l. raw_of l < 65536) ls) (are c) small))
+
+pub returns-clause-stands : goal.returns-clause-stands
+returns-clause-stands c =
+    let lines = map (λ s. s.now) c.args.lines.now in
+    let model = c.model_of-model in
+    let config = meaning (record { statements = lines; catalogue = c.args.catalogue.now }) c.args.device in
+    let links : config.links ≡ c.as_slice-3.result.now = sym (c.as_slice-3.ensures.value ∙ c.in_ok-links.ensures.links ∙ ap links_of (c.as_slice.ensures.value ∙ c.in_ok-link_lines.ensures)) in
+    let objects : config.objects ≡ c.as_slice-4.result.now = sym (c.as_slice-4.ensures.value ∙ c.in_ok-objects.ensures.objects ∙ ap (λ m. objects_of (flagged_objects m c.args.device lines)) model.ensures.model) in
+    let holds = memory_holds c.args.catalogue.now c.args.device lines _ _ _ model.ensures.model model.ensures.sound (c.as_slice-2.ensures.value ∙ c.in_ok-settings.ensures) c.in_ok-params.ensures in
+    if_ok {P = λ image. (config : Config) → config.links ≡ c.as_slice-3.result.now → config.objects ≡ c.as_slice-4.result.now → HoldsParameters c.in_ok-params.params config.param_len config.params → StandsFor image config} c.image_of.result (λ image h. h config links objects holds) c.image_of.ensures.stands

@@ -1,0 +1,109 @@
+//! The lines of a device: the statements that name it.
+
+ghost use Rattle.std.specs.Prelude.{◌≡◌, ◌==◌, ℕ, ◌<◌, true, false, List, [], ◌∷◌, ◌++◌, length, map, slice_index, IfOk, OnOk, IfSome, IfNone};
+ghost use Rattle.std.specs.List.Sorted.{IsStrictlyIncreasing};
+ghost use Rattle.knx_model.specs.declared.project.Statement.{Statement as Stated};
+ghost use Rattle.table_compiler.specs.Lines.{names, lines_of, AreGrouped};
+
+use knx_model::{IndAddr, Statement, What};
+use std::alloc::{AllocError, Global};
+
+/// Whether a statement names the device.
+fn names(device: IndAddr, what: &What) -> bool
+    ensures { result ≡ names device.raw what.now }
+{
+    match what {
+        What::Device { device: named, .. }
+        | What::Object { device: named, .. }
+        | What::Link { device: named, .. }
+        | What::Flags { device: named, .. }
+        | What::Param { device: named, .. } => named.raw == device.raw,
+        What::Title(_) | What::Group { .. } => false,
+    }
+}
+
+/// The statements that name the device, in order.
+pub fn lines_of<'a>(
+    alloc: Global,
+    statements: &'a [Statement],
+    device: IndAddr,
+) -> Result<Vec<&'a Statement>, AllocError>
+    ensures { IfOk result (λ lines. map (λ s. s.now) lines.items ≡ lines_of device.raw statements.now) }
+{
+    statements
+        .iter()
+        .filter(|statement| names(device, &statement.what))
+        .collect(alloc)
+}
+
+/// The device that a statement names.
+fn device_of(what: &What) -> Option<IndAddr>
+    ensures some { IfSome result (λ device. (d : ℕ) → names d what.now ≡ (device.raw == d)) }
+    ensures none { IfNone result ((d : ℕ) → names d what.now ≡ false) }
+{
+    match what {
+        What::Device { device, .. }
+        | What::Object { device, .. }
+        | What::Link { device, .. }
+        | What::Flags { device, .. }
+        | What::Param { device, .. } => Some(*device),
+        What::Title(_) | What::Group { .. } => None,
+    }
+}
+
+/// The place of the device that a statement names, where it stands among these numbers.
+fn place_of(numbers: &[u16], what: &What) -> Option<usize>
+    requires { IsStrictlyIncreasing numbers.now }
+    ensures some { IfSome result (λ place. (place < length numbers.now) × (names (slice_index numbers.now place) what.now ≡ true)) }
+    ensures none { IfNone result ((k : ℕ) → k < length numbers.now → names (slice_index numbers.now k) what.now ≡ false) }
+{
+    let device = device_of(what)?;
+    match numbers.binary_search(&device.raw) {
+        Ok(place) => Some(place),
+        Err(_) => None,
+    }
+}
+
+/// Adds a statement to the lines of the device that it names.
+fn add<'a>(
+    groups: &mut [Vec<&'a Statement>],
+    numbers: &[u16],
+    statement: &'a Statement,
+) -> Result<(), AllocError>
+    requires ascending { IsStrictlyIncreasing numbers.now }
+    requires whole { length groups.old ≡ length numbers.now }
+    ensures whole { length groups.new ≡ length numbers.now }
+    ensures added { OnOk result ((ss : List Stated) → AreGrouped numbers.now groups.old ss → AreGrouped numbers.now groups.new (ss ++ statement.now ∷ [])) }
+{
+    if let Some(place) = place_of(numbers, &statement.what) {
+        groups[place].push(statement)?;
+    }
+    Ok(())
+}
+
+/// No lines for each device.
+fn no_lines<'a>(alloc: Global, numbers: &[u16]) -> Result<Vec<Vec<&'a Statement>>, AllocError>
+    ensures { IfOk result (λ groups. AreGrouped numbers.now groups.items []) }
+{
+    let mut groups = Vec::new(alloc);
+    for _number in numbers {
+        groups.push(Vec::new(alloc))?;
+    }
+    Ok(groups)
+}
+
+/// The lines of each device, in one pass over the statements.
+pub fn lines_by_device<'a>(
+    alloc: Global,
+    numbers: &[u16],
+    statements: &'a [Statement],
+) -> Result<Vec<Vec<&'a Statement>>, AllocError>
+    requires { IsStrictlyIncreasing numbers.now }
+    ensures { IfOk result (λ groups. AreGrouped numbers.now groups.items statements.now) }
+{
+    let mut groups = no_lines(alloc, numbers)?;
+    for statement in statements {
+        add(&mut groups, numbers, statement)?;
+    }
+    Ok(groups)
+}
