@@ -8,8 +8,9 @@ ghost use Rattle.knx_model.specs.Device.{object_type, object_of_index, load_stat
 
 use crate::effect::{LOAD_CONTROL, effect_of, is_load_control};
 use crate::kept::Kept;
-use crate::places::{base, object_of_index};
+use crate::places::object_of_index;
 use knx_model::{Apdu, ApduOctets, LoadState};
+use load_machine::base;
 
 /// The mask of a System B device.
 const DEVICE_DESCRIPTOR: u16 = 0x07B0;
@@ -112,7 +113,7 @@ impl Kept {
         ensures { result ≡ option_map (load_state self.now) (object_of_index index) }
     {
         let object = object_of_index(index)?;
-        let state = self.segment(object).state();
+        let state = self.object(object).state();
         Some(ApduOctets::from_slice(&[state_number(state)]))
     }
 

@@ -6,13 +6,10 @@ ghost use Rattle.knx_model.specs.Device.{Fits, blank, loaded_with, is_write, eff
 ghost use Rattle.knx_model.specs.Bench.{happens, answered, cut_after};
 
 use crate::kept::Kept;
-use crate::places::{
-    ADDRESS_TABLE_CAPACITY, APPLICATION_CAPACITY, ASSOCIATION_TABLE_CAPACITY,
-    GROUP_OBJECTS_CAPACITY,
-};
-use crate::segment::Segment;
+use crate::loadable::Loadable;
 use crate::service::{effect_in, octets_of, service_in};
-use knx_model::{ApduOctets, Image, IndAddr, NoMemory, Octets};
+use knx_model::{ApduOctets, Image, IndAddr, LoadableObject, NoMemory, Octets};
+use load_machine::capacity;
 use std::alloc::Global;
 use std::marker::Model;
 
@@ -38,10 +35,10 @@ impl Device {
         ensures { IfOk result (λ made. made ≡ blank address) }
     {
         let kept = Kept {
-            address_table: Segment::blank(alloc, ADDRESS_TABLE_CAPACITY)?,
-            association_table: Segment::blank(alloc, ASSOCIATION_TABLE_CAPACITY)?,
-            group_objects: Segment::blank(alloc, GROUP_OBJECTS_CAPACITY)?,
-            application: Segment::blank(alloc, APPLICATION_CAPACITY)?,
+            address_table: Loadable::blank(alloc, capacity(LoadableObject::AddressTable))?,
+            association_table: Loadable::blank(alloc, capacity(LoadableObject::AssociationTable))?,
+            group_objects: Loadable::blank(alloc, capacity(LoadableObject::GroupObjects))?,
+            application: Loadable::blank(alloc, capacity(LoadableObject::Application))?,
         };
         Ok(Device {
             address,
@@ -56,14 +53,26 @@ impl Device {
         ensures { IfOk result (λ made. made ≡ loaded_with address image.now) }
     {
         let kept = Kept {
-            address_table: Segment::loaded(alloc, ADDRESS_TABLE_CAPACITY, image.addr.as_slice())?,
-            association_table: Segment::loaded(
+            address_table: Loadable::loaded(
                 alloc,
-                ASSOCIATION_TABLE_CAPACITY,
+                capacity(LoadableObject::AddressTable),
+                image.addr.as_slice(),
+            )?,
+            association_table: Loadable::loaded(
+                alloc,
+                capacity(LoadableObject::AssociationTable),
                 image.assoc.as_slice(),
             )?,
-            group_objects: Segment::loaded(alloc, GROUP_OBJECTS_CAPACITY, image.objs.as_slice())?,
-            application: Segment::loaded(alloc, APPLICATION_CAPACITY, image.params.as_slice())?,
+            group_objects: Loadable::loaded(
+                alloc,
+                capacity(LoadableObject::GroupObjects),
+                image.objs.as_slice(),
+            )?,
+            application: Loadable::loaded(
+                alloc,
+                capacity(LoadableObject::Application),
+                image.params.as_slice(),
+            )?,
         };
         Ok(Device {
             address,

@@ -6,18 +6,19 @@ ghost use Rattle.knx_model.specs.Bench.{written_front, front_of_load};
 ghost use Rattle.device_sim.specs.Effects.{meant};
 
 use crate::effect::Effect;
-use crate::places::{base, object_at};
-use crate::segment::{Segment, first};
+use crate::loadable::{Loadable, first};
+use crate::places::object_at;
 use knx_model::{LoadEvent, LoadableObject};
+use load_machine::base;
 use std::marker::Model;
 
 /// The four loadable objects of a device.
 #[derive(Drop)]
 pub struct Kept {
-    pub address_table: Segment,
-    pub association_table: Segment,
-    pub group_objects: Segment,
-    pub application: Segment,
+    pub address_table: Loadable,
+    pub association_table: Loadable,
+    pub group_objects: Loadable,
+    pub application: Loadable,
 }
 
 impl Model for Kept {
@@ -29,7 +30,7 @@ impl Model for Kept {
 }
 
 impl Kept {
-    pub fn segment(&self, object: LoadableObject) -> &Segment
+    pub fn object(&self, object: LoadableObject) -> &Loadable
         ensures { result.now ≡ content self.now object }
     {
         match object {
@@ -122,7 +123,7 @@ impl Kept {
         match object_at(address) {
             Some(object) => {
                 let at = (address - base(object)) as usize;
-                self.segment(object).takes_write(at, n)
+                self.object(object).takes_write(at, n)
             }
             None => false,
         }
@@ -147,7 +148,7 @@ impl Kept {
         match object_at(address) {
             Some(object) => {
                 let at = (address - base(object)) as usize;
-                self.segment(object).range(at, n)
+                self.object(object).range(at, n)
             }
             None => &[],
         }

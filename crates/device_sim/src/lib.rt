@@ -6,8 +6,8 @@ mod answer;
 mod device;
 mod effect;
 mod kept;
+mod loadable;
 mod places;
-mod segment;
 mod service;
 
 pub use device::Device;
