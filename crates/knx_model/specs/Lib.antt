@@ -10,6 +10,7 @@ pub mod Values
 pub mod Spells
 pub mod Apdu
 pub mod ApduReading
+pub mod Connection
 pub mod Octets
 pub mod Cemi
 pub mod KnxNetIp

@@ -7,6 +7,7 @@ mod bench;
 mod catalogue;
 mod command;
 mod config;
+mod connection;
 mod frames;
 mod lists;
 mod loading;
@@ -24,6 +25,9 @@ pub use bench::BenchEvent;
 pub use catalogue::{CatRefused, Catalogue, Model, ModelField, ModelObject, NamedModel};
 pub use command::{Counts, InputFile, Stop};
 pub use config::{Config, Image, LinkSpec, ObjSpec, ParamValue};
+pub use connection::{
+    Busy, ClientConfirmed, ClientExpired, ClientTook, DeviceExpired, DeviceTook, TransportFrame,
+};
 pub use frames::{
     Apdu, ApduOctets, CemiRefused, Datagram, IpFrame, IpRefused, Ldata, LdataCode, LongValue, Tpdu,
     TpduRefused, Value,

@@ -1,0 +1,276 @@
+//! The device's end of a numbered connection (ISO/IEC 14543-3, transport layer).
+//!
+//! ```text
+//!             T_Connect                 answer
+//!  +--------+ --------> +------+ --------------------> +-----------+
+//!  | Closed |           | Idle |                       | Answering | --+ again after 3,000 ms,
+//!  +--------+ <-------- +------+ <-------------------- +-----------+ <-+ three times
+//!      ^   T_Disconnect,       its T_ACK, T_Connect          |
+//!      |   another T_ACK,                                    |
+//!      |   6,000 ms idle                                     |
+//!      +-----------------------------------------------------+
+//! ```
+//!
+//! Idle takes the next service of its partner; Answering takes none until its answer is acknowledged. Both acknowledge the
+//! service before once more, and begin anew at a T_Connect of the partner. Another sender's T_Connect, and numbered data at
+//! a closed end, are answered by T_Disconnect.
+
+ghost use Rattle.std.specs.Prelude.{◌≡◌, is_some};
+ghost use Rattle.std.specs.Result.{result_ok};
+ghost use Rattle.knx_model.specs.Connection.{IsApdu, frame_in, partner_of, device_took, device_after, device_answered, after_answer, device_expired, after_expiry, device_deadline, closed_took, stranger_took, went_on, advanced, at_time, settled, left, repeated, MayRepeat, Closed};
+ghost use Rattle.transport_conn.specs.Ends.{device_end};
+
+use crate::frame::{disconnect, read};
+use crate::session::{Outstanding, Session};
+use knx_model::{ApduOctets, Busy, DeviceExpired, DeviceTook, IndAddr, TransportFrame};
+use std::marker::Model;
+use std::mem;
+
+/// The device's end of a numbered connection (ISO/IEC 14543-3, transport layer). Times are in milliseconds.
+#[derive(Drop)]
+pub struct DeviceConn {
+    state: State,
+}
+
+#[derive(Drop)]
+enum State {
+    Closed,
+    Idle(Session),
+    Answering(Session, Outstanding),
+}
+
+impl Model for DeviceConn {
+    ghost use Rattle.knx_model.specs.Connection.{DeviceEnd};
+
+    ghost Value = { DeviceEnd };
+
+    ghost use Rattle.transport_conn.specs.Ends.{device_end};
+
+    ghost view = { λ c. device_end c.state };
+}
+
+impl DeviceConn {
+    /// A device without a connection.
+    pub fn idle() -> DeviceConn
+        ensures { result ≡ Closed }
+    {
+        DeviceConn {
+            state: State::Closed,
+        }
+    }
+
+    /// Whether a connection is open.
+    pub fn is_open(&self) -> bool
+        ensures { result ≡ is_some (partner_of self.now) }
+    {
+        self.partner().is_some()
+    }
+
+    /// The partner of the open connection; None exactly where none is open.
+    pub fn partner(&self) -> Option<IndAddr>
+        ensures { result ≡ partner_of self.now }
+    {
+        match &self.state {
+            State::Closed => None,
+            State::Idle(session) | State::Answering(session, _) => Some(session.partner()),
+        }
+    }
+
+    /// Takes the octets of a frame that another sent to this device alone.
+    pub fn take(&mut self, from: IndAddr, tpdu: &[u8], now: u64) -> DeviceTook
+        ensures answer { result ≡ device_took self.old from (frame_in tpdu.now) }
+        ensures next { self.new ≡ device_after self.old from now (device_took self.old from (frame_in tpdu.now)) }
+    {
+        let took = self.would_take(from, tpdu);
+        let state = mem::replace(&mut self.state, State::Closed);
+        self.state = state.after(from, now, &took);
+        took
+    }
+
+    /// What `take` of this frame would answer; nothing changes.
+    #[tactic(auto, unfolding(knx_model::specs::Connection::device_took))]
+    pub fn would_take(&self, from: IndAddr, tpdu: &[u8]) -> DeviceTook
+        ensures { result ≡ device_took self.now from (frame_in tpdu.now) }
+    {
+        let frame = read(tpdu);
+        match &self.state {
+            State::Closed => closed_took(frame),
+            State::Idle(session) if session.is_partner(from) => session.idle_took(frame),
+            State::Answering(session, _) if session.is_partner(from) => {
+                session.answering_took(frame)
+            }
+            _ => stranger_took(frame),
+        }
+    }
+
+    /// The octets that bring an answer, an APDU with transport bits 0, to the partner. Busy exactly where an answer is
+    /// outstanding or the connection is closed; then nothing changes.
+    #[tactic(auto, unfolding(knx_model::specs::Connection::device_answered, knx_model::specs::Connection::after_answer))]
+    pub fn answer(&mut self, apdu: &[u8], now: u64) -> Result<ApduOctets, Busy>
+        requires { IsApdu apdu.now }
+        ensures answer { result_ok result ≡ device_answered self.old apdu.now }
+        ensures next { self.new ≡ after_answer self.old apdu.now now }
+    {
+        match mem::replace(&mut self.state, State::Closed) {
+            State::Idle(session) => {
+                let frame = session.numbered(apdu);
+                let outstanding = Outstanding::new(frame.copied(), now);
+                self.state = State::Answering(session.at_time(now), outstanding);
+                Ok(frame)
+            }
+            state => {
+                self.state = state;
+                Err(Busy)
+            }
+        }
+    }
+
+    /// What has become due.
+    pub fn expire(&mut self, now: u64) -> DeviceExpired
+        ensures answer { result ≡ device_expired self.old now }
+        ensures next { self.new ≡ after_expiry self.old now (device_expired self.old now) }
+    {
+        let expired = self.expired(now);
+        let state = mem::replace(&mut self.state, State::Closed);
+        self.state = state.after_expiry(now, &expired);
+        expired
+    }
+
+    #[tactic(auto, unfolding(knx_model::specs::Connection::device_expired))]
+    fn expired(&self, now: u64) -> DeviceExpired
+        ensures { result ≡ device_expired self.now now }
+    {
+        match &self.state {
+            State::Idle(session) | State::Answering(session, _) if session.is_over(now) => {
+                DeviceExpired::Closed(disconnect())
+            }
+            State::Answering(_, outstanding) if outstanding.is_due(now) => {
+                DeviceExpired::Repeat(outstanding.frame())
+            }
+            _ => DeviceExpired::Nothing,
+        }
+    }
+
+    /// The nearest time at which a wait has passed; None exactly where no connection is open.
+    #[tactic(auto, unfolding(knx_model::specs::Connection::device_deadline))]
+    pub fn deadline(&self) -> Option<u64>
+        ensures { result ≡ device_deadline self.now }
+    {
+        match &self.state {
+            State::Closed => None,
+            State::Idle(session) => Some(session.end()),
+            State::Answering(session, outstanding) => Some(outstanding.deadline(session.end())),
+        }
+    }
+}
+
+impl State {
+    /// After this answer to a frame.
+    #[tactic(auto, unfolding(knx_model::specs::Connection::device_after))]
+    fn after(self, from: IndAddr, now: u64, took: &DeviceTook) -> State
+        ensures { device_end result ≡ device_after (device_end self) from now took.now }
+    {
+        match took {
+            DeviceTook::Dropped => self,
+            DeviceTook::Connected => State::Idle(Session::new(from, now)),
+            DeviceTook::Apdu { .. } => self.advanced(now),
+            DeviceTook::Again { .. } | DeviceTook::Nak(_) => self.at_time(now),
+            DeviceTook::Acked => self.settled(now),
+            DeviceTook::Closed { .. } => self.left(from),
+        }
+    }
+
+    fn advanced(self, now: u64) -> State
+        ensures { device_end result ≡ went_on (λ s. advanced s now) (device_end self) }
+    {
+        match self {
+            State::Closed => State::Closed,
+            State::Idle(session) => State::Idle(session.advanced(now)),
+            State::Answering(session, outstanding) => {
+                State::Answering(session.advanced(now), outstanding)
+            }
+        }
+    }
+
+    fn at_time(self, now: u64) -> State
+        ensures { device_end result ≡ went_on (λ s. at_time s now) (device_end self) }
+    {
+        match self {
+            State::Closed => State::Closed,
+            State::Idle(session) => State::Idle(session.at_time(now)),
+            State::Answering(session, outstanding) => {
+                State::Answering(session.at_time(now), outstanding)
+            }
+        }
+    }
+
+    /// After its answer was acknowledged.
+    fn settled(self, now: u64) -> State
+        ensures { device_end result ≡ settled (device_end self) now }
+    {
+        match self {
+            State::Answering(session, _) => State::Idle(session.acknowledged(now)),
+            state => state,
+        }
+    }
+
+    /// After a connection with this sender was closed.
+    fn left(self, from: IndAddr) -> State
+        ensures { device_end result ≡ left (device_end self) from }
+    {
+        match &self {
+            State::Idle(session) | State::Answering(session, _) if session.is_partner(from) => {
+                State::Closed
+            }
+            _ => self,
+        }
+    }
+
+    /// After this became due.
+    #[tactic(auto, unfolding(knx_model::specs::Connection::device_expired, knx_model::specs::Connection::after_expiry))]
+    fn after_expiry(self, now: u64, expired: &DeviceExpired) -> State
+        requires { expired.now ≡ device_expired (device_end self) now }
+        ensures { device_end result ≡ after_expiry (device_end self) now expired.now }
+    {
+        match expired {
+            DeviceExpired::Nothing => self,
+            DeviceExpired::Repeat(_) => self.repeated(now),
+            DeviceExpired::Closed(_) => State::Closed,
+        }
+    }
+
+    fn repeated(self, now: u64) -> State
+        requires { MayRepeat (device_end self) }
+        ensures { device_end result ≡ repeated (device_end self) now }
+    {
+        match self {
+            State::Answering(session, outstanding) => {
+                State::Answering(session.at_time(now), outstanding.again(now))
+            }
+            state => state,
+        }
+    }
+}
+
+fn closed_took(frame: TransportFrame) -> DeviceTook
+    ensures { result ≡ closed_took frame }
+{
+    match frame {
+        TransportFrame::Connect => DeviceTook::Connected,
+        TransportFrame::Numbered { .. } => DeviceTook::Closed {
+            answer: Some(disconnect()),
+        },
+        _ => DeviceTook::Dropped,
+    }
+}
+
+fn stranger_took(frame: TransportFrame) -> DeviceTook
+    ensures { result ≡ stranger_took frame }
+{
+    match frame {
+        TransportFrame::Connect => DeviceTook::Closed {
+            answer: Some(disconnect()),
+        },
+        _ => DeviceTook::Dropped,
+    }
+}
