@@ -20,6 +20,7 @@ pub mod Rules
 pub mod Meaning
 pub mod Parameters
 pub mod Tables
+pub mod Acts
 pub mod Loading
 pub mod Device
 pub mod Bench

@@ -1,0 +1,38 @@
+//! Sets of object numbers.
+
+ghost use Rattle.std.specs.Prelude.{◌≡◌, ℕ, ◌<◌, ◌&&◌, ◌||◌, ◌==◌, Bool, false};
+ghost use Rattle.device_tables.specs.Objects.{holds};
+
+use std::marker::Model;
+
+/// A set of object numbers, 1 to 255.
+#[derive(Clone, Copy, Debug, PartialEq, Eq)]
+pub struct Objects {
+    held: [bool; 256],
+}
+
+impl Model for Objects {
+    ghost use Rattle.std.specs.Prelude.{List, Bool};
+
+    ghost Value = { List Bool };
+
+    ghost view = { λ s. s.held };
+
+    ghost inverse = { λ xs. record { held = xs } };
+}
+
+impl Objects {
+    /// No object.
+    pub fn none() -> Objects
+        ensures { (o : ℕ) → holds result o ≡ false }
+    {
+        Objects { held: [false; 256] }
+    }
+
+    /// Whether the object is of the set.
+    pub fn has(&self, object: u8) -> bool
+        ensures { result ≡ holds self.now object }
+    {
+        self.held[usize::from(object)]
+    }
+}
