@@ -1,1 +1,4 @@
 pub mod Effects
+pub mod Sending
+pub mod States
+pub mod Telegrams

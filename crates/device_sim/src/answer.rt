@@ -4,11 +4,12 @@ ghost use Rattle.std.specs.Prelude.{◌≡◌, IfSome, Some, None, ◌==◌, if�
 ghost use Rattle.knx_model.specs.Apdu.{word, IsApduInRange};
 ghost use Rattle.knx_model.specs.ApduReading.{option_map};
 ghost use Rattle.knx_model.specs.Loading.{state_number};
-ghost use Rattle.knx_model.specs.Device.{object_type, object_of_index, load_state, table_reference, property_value, property_response, where_one, whole, effect_of, answer};
+ghost use Rattle.knx_model.specs.Device.{object_type, object_of_index, load_state, table_reference, property_value, property_response, where_one, whole, effect_of, effect_in, answer, answer_in};
 
 use crate::effect::{LOAD_CONTROL, effect_of, is_load_control};
 use crate::kept::Kept;
 use crate::places::object_of_index;
+use crate::service::{octets_of, service_in};
 use knx_model::{Apdu, ApduOctets, LoadState};
 use load_machine::base;
 
@@ -47,7 +48,8 @@ fn object_type(index: u8) -> Option<u16>
     }
 }
 
-fn state_number(state: LoadState) -> u8
+/// The number of a load state, as it is answered.
+pub fn state_number(state: LoadState) -> u8
     ensures { result ≡ state_number state }
 {
     match state {
@@ -140,8 +142,23 @@ impl Kept {
         }
     }
 
+    /// Takes the service whole that the octets ask for, with transport bits 0, and answers it. Octets that are no service do
+    /// nothing.
+    pub fn serve(&mut self, octets: &[u8]) -> Option<ApduOctets>
+        ensures next { self.new ≡ whole self.old (effect_in octets.now) }
+        ensures answer { result ≡ answer_in self.old octets.now }
+    {
+        match service_in(octets) {
+            Some(apdu) => {
+                let answer = self.take_service(&apdu)?;
+                Some(octets_of(answer))
+            },
+            None => None,
+        }
+    }
+
     /// Takes a service whole, and answers it.
-    pub fn serve(&mut self, apdu: &Apdu) -> Option<Apdu>
+    fn take_service(&mut self, apdu: &Apdu) -> Option<Apdu>
         requires { IsApduInRange apdu.now }
         ensures next { self.new ≡ whole self.old (effect_of apdu.now) }
         ensures answer { result ≡ answer self.old apdu.now }

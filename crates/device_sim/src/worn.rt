@@ -1,0 +1,18 @@
+//! Worn memory, which keeps other octets than were sent.
+
+ghost use Rattle.std.specs.Prelude.{◌≡◌, ◌≤◌, length};
+ghost use Rattle.knx_model.specs.DeviceFrames.{complements};
+
+use knx_model::ApduOctets;
+
+/// The complement of each octet.
+pub fn complements(octets: &[u8]) -> ApduOctets
+    requires { length octets.now ≤ 16 }
+    ensures { result ≡ complements octets.now }
+{
+    let mut all = ApduOctets::new();
+    for octet in octets {
+        all.push(255 - *octet);
+    }
+    all
+}
