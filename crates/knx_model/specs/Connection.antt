@@ -1,7 +1,7 @@
 -- Both ends of a numbered connection (ISO/IEC 14543-3, transport layer): what each end knows, what it answers to a frame, to a
 -- service that is to be sent and to the time, and what it knows then. Sequence numbers have four bits. That an ignored T_NAK, an
 -- unacknowledged answer and a T_Connect of another sender are treated so is this project's own.
-use Rattle.std.specs.Prelude.{ℕ, ◌<◌, ◌≤◌, ◌+◌, ◌-◌, ◌*◌, ◌/◌, ◌%◌, Bool, true, false, ◌&&◌, ◌==◌, nat_lt, nat_le, List, [], ◌∷◌, length, Option, Some, None, if◌then◌else◌}
+use Rattle.std.specs.Prelude.{ℕ, ◌<◌, ◌≤◌, ◌+◌, ◌-◌, ◌*◌, ◌/◌, ◌%◌, Bool, true, false, not, ◌&&◌, ◌==◌, nat_lt, nat_le, List, [], ◌∷◌, length, Option, Some, None, if◌then◌else◌}
 use Rattle.knx_model.specs.declared.address.IndAddr.{IndAddr}
 use Rattle.knx_model.specs.declared.frames.tpdu.Tpdu.{Tpdu}
 use Rattle.knx_model.specs.declared.frames.tpdu.Tpdu.TheVariants as tpdu
@@ -11,8 +11,16 @@ use Rattle.knx_model.specs.declared.connection.DeviceTook.{DeviceTook}
 use Rattle.knx_model.specs.declared.connection.DeviceTook.TheVariants as took
 use Rattle.knx_model.specs.declared.connection.DeviceExpired.{DeviceExpired}
 use Rattle.knx_model.specs.declared.connection.DeviceExpired.TheVariants as expired
+use Rattle.knx_model.specs.declared.connection.ClientConfirmed.{ClientConfirmed}
+use Rattle.knx_model.specs.declared.connection.ClientConfirmed.TheVariants as told
+use Rattle.knx_model.specs.declared.connection.ClientTook.{ClientTook}
+use Rattle.knx_model.specs.declared.connection.ClientTook.TheVariants as heard
+use Rattle.knx_model.specs.declared.connection.ClientExpired.{ClientExpired}
+use Rattle.knx_model.specs.declared.connection.ClientExpired.TheVariants as over
+use Rattle.knx_model.specs.declared.frames.tpdu.Apdu.{Apdu}
+use Rattle.knx_model.specs.declared.frames.tpdu.Apdu.TheVariants as apdu
 use Rattle.knx_model.specs.Apdu.{Written}
-use Rattle.knx_model.specs.ApduReading.{control_in}
+use Rattle.knx_model.specs.ApduReading.{control_in, service_in}
 
 -- ---- frames
 
@@ -83,14 +91,30 @@ end_of wait since = if nat_le (since + wait) 0xFFFFFFFFFFFFFFFF then since + wai
 abbrev pub earlier : ℕ → ℕ → ℕ
 earlier one other = if nat_le one other then one else other
 
--- ---- the device's end
+-- ---- an open connection, at either end
 
--- an open connection of the device
 pub record Session : Type 0 where
-  pub partner : IndAddr
+  pub partner : IndAddr  -- who is at the other end
   pub expected : ℕ  -- the number of the partner's next service
-  pub number : ℕ  -- the number of the outstanding answer or, where none is outstanding, of the next one
-  pub last : ℕ  -- when it last sent or took a frame
+  pub number : ℕ  -- the number of the own service that is outstanding or, where none is, of the next one
+  pub last : ℕ  -- when this end last sent or took a frame
+
+abbrev pub new_session : IndAddr → ℕ → Session
+new_session from now = record { partner = from; expected = 0; number = 0; last = now }
+
+-- after a frame was taken or sent
+abbrev pub at_time : Session → ℕ → Session
+at_time s now = record { partner = s.partner; expected = s.expected; number = s.number; last = now }
+
+-- after a service of the partner was delivered
+abbrev pub advanced : Session → ℕ → Session
+advanced s now = record { partner = s.partner; expected = next s.expected; number = s.number; last = now }
+
+-- after an own service was acknowledged
+abbrev pub acknowledged : Session → ℕ → Session
+acknowledged s now = record { partner = s.partner; expected = s.expected; number = next s.number; last = now }
+
+-- ---- the device's end
 
 -- an answer that isn't acknowledged
 pub record Outstanding : Type 0 where
@@ -165,21 +189,6 @@ unfoldable pub device_took : DeviceEnd → IndAddr → TransportFrame → Device
 device_took Closed from frame = closed_took frame
 device_took (Idle s) from frame = if is_partner s from then idle_took s frame else stranger_took frame
 device_took (Answering s a) from frame = if is_partner s from then answering_took s frame else stranger_took frame
-
--- the connection after a frame was taken or sent
-abbrev pub at_time : Session → ℕ → Session
-at_time s now = record { partner = s.partner; expected = s.expected; number = s.number; last = now }
-
--- after a service of the partner was delivered
-abbrev pub advanced : Session → ℕ → Session
-advanced s now = record { partner = s.partner; expected = next s.expected; number = s.number; last = now }
-
--- after an answer was acknowledged
-abbrev pub acknowledged : Session → ℕ → Session
-acknowledged s now = record { partner = s.partner; expected = s.expected; number = next s.number; last = now }
-
-abbrev pub new_session : IndAddr → ℕ → Session
-new_session from now = record { partner = from; expected = 0; number = 0; last = now }
 
 -- an end whose session went on
 abbrev pub went_on : (Session → Session) → DeviceEnd → DeviceEnd
@@ -263,3 +272,208 @@ unfoldable pub device_deadline : DeviceEnd → Option ℕ
 device_deadline Closed = None
 device_deadline (Idle s) = Some (end_of idle_wait s.last)
 device_deadline (Answering s a) = Some (outstanding_deadline a (end_of idle_wait s.last))
+
+-- ---- the client's end
+
+-- a service that isn't acknowledged
+pub record Question : Type 0 where
+  pub frame : List ℕ  -- its octets, as they are sent
+  pub awaits : Bool  -- its answer is still to come
+  pub repeats : ℕ  -- how often it was sent again
+  pub confirmed : Option ℕ  -- when its last sending was confirmed, and None until then
+
+pub data ClientEnd : Type 0 where
+  Asked : IndAddr → ClientEnd  -- T_Connect isn't confirmed
+  Up : Session → ClientEnd  -- no T_ACK and no answer is awaited
+  Asking : Session → Question → ClientEnd
+  Awaiting : Session → ClientEnd  -- the T_ACK of the last service came, and its answer is awaited
+  Ended : ClientEnd
+
+abbrev pub device_of : ClientEnd → Option IndAddr
+device_of (Asked device) = Some device
+device_of (Up s) = Some s.partner
+device_of (Asking s q) = Some s.partner
+device_of (Awaiting s) = Some s.partner
+device_of Ended = None
+
+abbrev pub is_memory_write : Option Apdu → Bool
+is_memory_write (Some (apdu.MemoryWrite address octets)) = true
+is_memory_write _ = false
+
+-- every service but a memory write has an answer
+abbrev pub has_answer : List ℕ → Bool
+has_answer octets = not (is_memory_write (service_in octets))
+
+abbrev pub IsntAsked : ClientEnd → Type 0
+IsntAsked (Asked device) = ⊥
+IsntAsked (Up s) = Unit {0}
+IsntAsked (Asking s q) = Unit {0}
+IsntAsked (Awaiting s) = Unit {0}
+IsntAsked Ended = Unit {0}
+
+-- ---- confirmations: of the T_Connect, and of a frame that was sent later, whose wait begins, with error or without
+
+unfoldable pub client_confirmed : ClientEnd → Bool → ClientConfirmed
+client_confirmed (Asked device) error = if error then told.NoCon else told.Up
+client_confirmed _ error = told.Timed
+
+abbrev pub confirmed_at : Question → ℕ → Question
+confirmed_at q now = record { frame = q.frame; awaits = q.awaits; repeats = q.repeats; confirmed = Some now }
+
+unfoldable pub after_confirmed : ClientEnd → Bool → ℕ → ClientEnd
+after_confirmed (Asked device) error now = if error then Ended else Up (new_session device now)
+after_confirmed (Up s) error now = Up s
+after_confirmed (Asking s q) error now = Asking s (confirmed_at q now)
+after_confirmed (Awaiting s) error now = Awaiting s
+after_confirmed Ended error now = Ended
+
+-- ---- a service that the client wants to send: its octets where the connection is up and none is outstanding
+
+unfoldable pub client_sent : ClientEnd → List ℕ → Option (List ℕ)
+client_sent (Asked device) apdu = None
+client_sent (Up s) apdu = Some (numbered s.number apdu)
+client_sent (Asking s q) apdu = None
+client_sent (Awaiting s) apdu = Some (numbered s.number apdu)
+client_sent Ended apdu = None
+
+abbrev pub first_question : List ℕ → List ℕ → Question
+first_question frame apdu = record { frame = frame; awaits = has_answer apdu; repeats = 0; confirmed = None }
+
+abbrev pub asked_first : Session → List ℕ → ℕ → ClientEnd
+asked_first s apdu now = Asking (at_time s now) (first_question (numbered s.number apdu) apdu)
+
+unfoldable pub after_send : ClientEnd → List ℕ → ℕ → ClientEnd
+after_send (Asked device) apdu now = Asked device
+after_send (Up s) apdu now = asked_first s apdu now
+after_send (Asking s q) apdu now = Asking s q
+after_send (Awaiting s) apdu now = asked_first s apdu now
+after_send Ended apdu now = Ended
+
+-- ---- frames of the device
+
+-- the expected number is told and acknowledged, the number before is acknowledged, another is answered by T_NAK
+abbrev pub answer_heard : Session → ℕ → List ℕ → ClientTook
+answer_heard s number apdu =
+    if number == s.expected then heard.Answer apdu (Written (tpdu.Ack number))
+    else (if is_before number s.expected then heard.Again (Written (tpdu.Ack number))
+    else heard.Nak (Written (tpdu.Nak number)))
+
+-- the T_ACK of the number before is ignored, another closes
+abbrev pub ack_heard : Session → ℕ → ClientTook
+ack_heard s number = if is_before number s.number then heard.Dropped else heard.Closed (Some disconnect)
+
+-- while no service is outstanding
+abbrev pub up_took : Session → TransportFrame → ClientTook
+up_took s Connect = heard.Dropped
+up_took s Disconnect = heard.Closed None
+up_took s (Ack number) = ack_heard s number
+up_took s (Nak number) = heard.Dropped
+up_took s (Numbered number apdu) = answer_heard s number apdu
+up_took s Other = heard.Dropped
+
+-- while one is outstanding its T_ACK is taken, and all else is the same
+abbrev pub asking_took : Session → TransportFrame → ClientTook
+asking_took s Connect = up_took s Connect
+asking_took s Disconnect = up_took s Disconnect
+asking_took s (Ack number) = if number == s.number then heard.Acked else up_took s (Ack number)
+asking_took s (Nak number) = up_took s (Nak number)
+asking_took s (Numbered number apdu) = up_took s (Numbered number apdu)
+asking_took s Other = up_took s Other
+
+-- what the client's end answers to a frame of the device: until the connection is up all are discarded
+unfoldable pub client_took : ClientEnd → TransportFrame → ClientTook
+client_took (Asked device) frame = heard.Dropped
+client_took (Up s) frame = up_took s frame
+client_took (Asking s q) frame = asking_took s frame
+client_took (Awaiting s) frame = up_took s frame
+client_took Ended frame = heard.Dropped
+
+-- a frame was taken that brings nothing new
+abbrev pub stayed : ClientEnd → ℕ → ClientEnd
+stayed (Asked device) now = Asked device
+stayed (Up s) now = Up (at_time s now)
+stayed (Asking s q) now = Asking (at_time s now) q
+stayed (Awaiting s) now = Awaiting (at_time s now)
+stayed Ended now = Ended
+
+abbrev pub has_come : Question → Question
+has_come q = record { frame = q.frame; awaits = false; repeats = q.repeats; confirmed = q.confirmed }
+
+-- the device's next service came; before the T_ACK of its question that it came is kept until that T_ACK
+abbrev pub told_answer : ClientEnd → ℕ → ClientEnd
+told_answer (Asked device) now = Asked device
+told_answer (Up s) now = Up (advanced s now)
+told_answer (Asking s q) now = Asking (advanced s now) (has_come q)
+told_answer (Awaiting s) now = Up (advanced s now)
+told_answer Ended now = Ended
+
+-- the outstanding service was acknowledged
+abbrev pub told_ack : ClientEnd → ℕ → ClientEnd
+told_ack (Asked device) now = Asked device
+told_ack (Up s) now = Up s
+told_ack (Asking s q) now = if q.awaits then Awaiting (acknowledged s now) else Up (acknowledged s now)
+told_ack (Awaiting s) now = Awaiting s
+told_ack Ended now = Ended
+
+-- what the client's end knows after it answered a frame so
+unfoldable pub client_after : ClientEnd → ℕ → ClientTook → ClientEnd
+client_after e now heard.Dropped = e
+client_after e now heard.Acked = told_ack e now
+client_after e now (heard.Answer apdu ack) = told_answer e now
+client_after e now (heard.Again ack) = stayed e now
+client_after e now (heard.Nak nak) = stayed e now
+client_after e now (heard.Closed answer) = Ended
+
+-- ---- the time
+
+-- a service that was confirmed is sent again after each wait, at most three times, and then the connection has ended
+abbrev pub overdue : Question → ClientExpired
+overdue q = if nat_lt q.repeats most_repeats then over.Repeat q.frame else over.Silent ack_wait
+
+abbrev pub question_expired : Question → Option ℕ → ℕ → ClientExpired
+question_expired q None now = over.Nothing
+question_expired q (Some since) now = if has_passed ack_wait since now then overdue q else over.Nothing
+
+-- what has become due
+unfoldable pub client_expired : ClientEnd → ℕ → ClientExpired
+client_expired (Asked device) now = over.Nothing
+client_expired (Up s) now = over.Nothing
+client_expired (Asking s q) now = question_expired q q.confirmed now
+client_expired (Awaiting s) now = if has_passed idle_wait s.last now then over.Silent idle_wait else over.Nothing
+client_expired Ended now = over.Nothing
+
+-- where a service is outstanding it may be sent again
+abbrev pub MayAskAgain : ClientEnd → Type 0
+MayAskAgain (Asked device) = Unit {0}
+MayAskAgain (Up s) = Unit {0}
+MayAskAgain (Asking s q) = q.repeats < most_repeats
+MayAskAgain (Awaiting s) = Unit {0}
+MayAskAgain Ended = Unit {0}
+
+abbrev pub asked_again : Question → Question
+asked_again q = record { frame = q.frame; awaits = q.awaits; repeats = q.repeats + 1; confirmed = None }
+
+abbrev pub sent_again : ClientEnd → ℕ → ClientEnd
+sent_again (Asked device) now = Asked device
+sent_again (Up s) now = Up s
+sent_again (Asking s q) now = Asking (at_time s now) (asked_again q)
+sent_again (Awaiting s) now = Awaiting s
+sent_again Ended now = Ended
+
+-- what the client's end knows after that became due
+unfoldable pub after_overdue : ClientEnd → ℕ → ClientExpired → ClientEnd
+after_overdue e now over.Nothing = e
+after_overdue e now (over.Repeat frame) = sent_again e now
+after_overdue e now (over.Silent ms) = Ended
+
+abbrev pub end_where : ℕ → Option ℕ → Option ℕ
+end_where wait None = None
+end_where wait (Some since) = Some (end_of wait since)
+
+-- the nearest time at which a wait has passed
+unfoldable pub client_deadline : ClientEnd → Option ℕ
+client_deadline (Asked device) = None
+client_deadline (Up s) = None
+client_deadline (Asking s q) = end_where ack_wait q.confirmed
+client_deadline (Awaiting s) = Some (end_of idle_wait s.last)
+client_deadline Ended = None

@@ -2,11 +2,13 @@
 //! answer what is to be sent.
 #![tactic(auto)]
 
+mod client;
 mod device;
 mod frame;
 mod session;
 mod wait;
 
+pub use client::ClientConn;
 pub use device::DeviceConn;
 pub use knx_model::{
     ApduOctets, Busy, ClientConfirmed, ClientExpired, ClientTook, DeviceExpired, DeviceTook,

@@ -17,14 +17,19 @@
 
 ghost use Rattle.std.specs.Prelude.{◌≡◌, is_some};
 ghost use Rattle.std.specs.Result.{result_ok};
-ghost use Rattle.knx_model.specs.Connection.{IsApdu, frame_in, partner_of, device_took, device_after, device_answered, after_answer, device_expired, after_expiry, device_deadline, closed_took, stranger_took, went_on, advanced, at_time, settled, left, repeated, MayRepeat, Closed};
+ghost use Rattle.knx_model.specs.Connection.{IsApdu, frame_in, partner_of, device_took, device_after, device_answered, after_answer, device_expired, after_expiry, device_deadline, went_on, advanced, at_time, settled, left, repeated, MayRepeat, Closed};
 ghost use Rattle.transport_conn.specs.Ends.{device_end};
 
+mod outstanding;
+mod took;
+
 use crate::frame::{disconnect, read};
-use crate::session::{Outstanding, Session};
-use knx_model::{ApduOctets, Busy, DeviceExpired, DeviceTook, IndAddr, TransportFrame};
+use crate::session::Session;
+use knx_model::{ApduOctets, Busy, DeviceExpired, DeviceTook, IndAddr};
+use outstanding::Outstanding;
 use std::marker::Model;
 use std::mem;
+use took::{answering_took, closed_took, idle_took, stranger_took};
 
 /// The device's end of a numbered connection (ISO/IEC 14543-3, transport layer). Times are in milliseconds.
 #[derive(Drop)]
@@ -72,7 +77,7 @@ impl DeviceConn {
     {
         match &self.state {
             State::Closed => None,
-            State::Idle(session) | State::Answering(session, _) => Some(session.partner()),
+            State::Idle(session) | State::Answering(session, _) => Some(session.partner),
         }
     }
 
@@ -95,9 +100,9 @@ impl DeviceConn {
         let frame = read(tpdu);
         match &self.state {
             State::Closed => closed_took(frame),
-            State::Idle(session) if session.is_partner(from) => session.idle_took(frame),
+            State::Idle(session) if session.is_partner(from) => idle_took(session, frame),
             State::Answering(session, _) if session.is_partner(from) => {
-                session.answering_took(frame)
+                answering_took(session, frame)
             }
             _ => stranger_took(frame),
         }
@@ -249,28 +254,5 @@ impl State {
             }
             state => state,
         }
-    }
-}
-
-fn closed_took(frame: TransportFrame) -> DeviceTook
-    ensures { result ≡ closed_took frame }
-{
-    match frame {
-        TransportFrame::Connect => DeviceTook::Connected,
-        TransportFrame::Numbered { .. } => DeviceTook::Closed {
-            answer: Some(disconnect()),
-        },
-        _ => DeviceTook::Dropped,
-    }
-}
-
-fn stranger_took(frame: TransportFrame) -> DeviceTook
-    ensures { result ≡ stranger_took frame }
-{
-    match frame {
-        TransportFrame::Connect => DeviceTook::Closed {
-            answer: Some(disconnect()),
-        },
-        _ => DeviceTook::Dropped,
     }
 }

@@ -1,0 +1,279 @@
+//! The client's end of a numbered connection (ISO/IEC 14543-3, transport layer).
+//!
+//! ```text
+//!               confirmed                 send
+//!  +-------+  without error  +----+ ---------------> +--------+ --+ again 3,000 ms after its
+//!  | Asked | --------------> | Up |                  | Asking |   | confirmation, three times
+//!  +-------+                 +----+ <--------------- +--------+ <-+
+//!      |                        ^    its T_ACK, where    ^  |
+//!      | confirmed              |    no answer is to     |  | its T_ACK, where
+//!      | with error             |    come                |  | its answer is to come
+//!      v                        |                  send  |  v
+//!  +-------+                    |     its answer     +----------+
+//!  | Ended |                    +------------------- | Awaiting |
+//!  +-------+                                         +----------+
+//! ```
+//!
+//! Up, Asking and Awaiting end at a T_Disconnect and at a wrong T_ACK, Asking also 3,000 ms after its fourth sending was
+//! confirmed, and Awaiting after 6,000 ms without a frame. An answer that comes in Asking is acknowledged at once, and that it
+//! came is kept until the T_ACK of its question.
+
+ghost use Rattle.std.specs.Prelude.{◌≡◌, Bool};
+ghost use Rattle.std.specs.Result.{result_ok};
+ghost use Rattle.knx_model.specs.Connection.{IsApdu, frame_in, device_of, client_confirmed, after_confirmed, client_sent, after_send, client_took, client_after, stayed, told_answer, told_ack, client_expired, after_overdue, sent_again, MayAskAgain, IsntAsked, client_deadline, Asked};
+ghost use Rattle.transport_conn.specs.Ends.{client_end};
+
+mod question;
+mod took;
+
+use crate::frame::read;
+use crate::session::Session;
+use crate::wait::IDLE_WAIT_MS;
+use knx_model::{ApduOctets, Busy, ClientConfirmed, ClientExpired, ClientTook, IndAddr};
+use question::Question;
+use std::marker::Model;
+use std::mem;
+use took::{asking_took, up_took};
+
+/// The client's end of a numbered connection (ISO/IEC 14543-3, transport layer). Times are in milliseconds.
+#[derive(Drop)]
+pub struct ClientConn {
+    state: State,
+}
+
+#[derive(Drop)]
+enum State {
+    Asked(IndAddr),
+    Up(Session),
+    Asking(Session, Question),
+    Awaiting(Session),
+    Ended,
+}
+
+impl Model for ClientConn {
+    ghost use Rattle.knx_model.specs.Connection.{ClientEnd};
+
+    ghost Value = { ClientEnd };
+
+    ghost use Rattle.transport_conn.specs.Ends.{client_end};
+
+    ghost view = { λ c. client_end c.state };
+}
+
+impl ClientConn {
+    /// A connection that begins: the caller sends the T_Connect.
+    pub fn begin(device: IndAddr) -> ClientConn
+        ensures { result ≡ Asked device }
+    {
+        ClientConn {
+            state: State::Asked(device),
+        }
+    }
+
+    /// The device at the other end; None exactly where the connection has ended.
+    pub fn device(&self) -> Option<IndAddr>
+        ensures { result ≡ device_of self.now }
+    {
+        match &self.state {
+            State::Asked(device) => Some(*device),
+            State::Up(session) | State::Asking(session, _) | State::Awaiting(session) => {
+                Some(session.partner)
+            }
+            State::Ended => None,
+        }
+    }
+
+    /// Takes the confirmation of the T_Connect or of the frame that was sent last by `send` or `Repeat`. Those of T_ACK, T_NAK and
+    /// T_Disconnect aren't told here.
+    #[tactic(auto, unfolding(knx_model::specs::Connection::client_confirmed, knx_model::specs::Connection::after_confirmed))]
+    pub fn confirmed(&mut self, error: bool, now: u64) -> ClientConfirmed
+        ensures answer { result ≡ client_confirmed self.old error }
+        ensures next { self.new ≡ after_confirmed self.old error now }
+    {
+        match mem::replace(&mut self.state, State::Ended) {
+            State::Asked(_) if error => ClientConfirmed::NoCon,
+            State::Asked(device) => {
+                self.state = State::Up(Session::new(device, now));
+                ClientConfirmed::Up
+            }
+            state => {
+                self.state = state.confirmed(now);
+                ClientConfirmed::Timed
+            }
+        }
+    }
+
+    /// The octets that bring a service, an APDU with transport bits 0, to the device. Busy exactly where the connection isn't up or
+    /// a service is outstanding; then nothing changes.
+    #[tactic(auto, unfolding(knx_model::specs::Connection::client_sent, knx_model::specs::Connection::after_send))]
+    pub fn send(&mut self, apdu: &[u8], now: u64) -> Result<ApduOctets, Busy>
+        requires { IsApdu apdu.now }
+        ensures answer { result_ok result ≡ client_sent self.old apdu.now }
+        ensures next { self.new ≡ after_send self.old apdu.now now }
+    {
+        match mem::replace(&mut self.state, State::Ended) {
+            State::Up(session) | State::Awaiting(session) => {
+                let frame = session.numbered(apdu);
+                let question = Question::new(frame.copied(), apdu);
+                self.state = State::Asking(session.at_time(now), question);
+                Ok(frame)
+            }
+            state => {
+                self.state = state;
+                Err(Busy)
+            }
+        }
+    }
+
+    /// Takes the octets of a frame of the device.
+    pub fn take(&mut self, tpdu: &[u8], now: u64) -> ClientTook
+        ensures answer { result ≡ client_took self.old (frame_in tpdu.now) }
+        ensures next { self.new ≡ client_after self.old now (client_took self.old (frame_in tpdu.now)) }
+    {
+        let took = self.would_take(tpdu);
+        let state = mem::replace(&mut self.state, State::Ended);
+        self.state = state.after(now, &took);
+        took
+    }
+
+    /// What `take` of this frame would answer; nothing changes.
+    #[tactic(auto, unfolding(knx_model::specs::Connection::client_took))]
+    pub fn would_take(&self, tpdu: &[u8]) -> ClientTook
+        ensures { result ≡ client_took self.now (frame_in tpdu.now) }
+    {
+        let frame = read(tpdu);
+        match &self.state {
+            State::Up(session) | State::Awaiting(session) => up_took(session, frame),
+            State::Asking(session, _) => asking_took(session, frame),
+            State::Asked(_) | State::Ended => ClientTook::Dropped,
+        }
+    }
+
+    /// What has become due.
+    pub fn expire(&mut self, now: u64) -> ClientExpired
+        ensures answer { result ≡ client_expired self.old now }
+        ensures next { self.new ≡ after_overdue self.old now (client_expired self.old now) }
+    {
+        let expired = self.would_expire(now);
+        let state = mem::replace(&mut self.state, State::Ended);
+        self.state = state.after_overdue(now, &expired);
+        expired
+    }
+
+    /// What `expire` would answer at this time; nothing changes.
+    #[tactic(auto, unfolding(knx_model::specs::Connection::client_expired))]
+    pub fn would_expire(&self, now: u64) -> ClientExpired
+        ensures { result ≡ client_expired self.now now }
+    {
+        match &self.state {
+            State::Asking(_, question) => question.expired(now),
+            State::Awaiting(session) if session.is_over(now) => ClientExpired::Silent {
+                ms: IDLE_WAIT_MS as u32,
+            },
+            _ => ClientExpired::Nothing,
+        }
+    }
+
+    /// The nearest time at which a wait has passed; None exactly where no wait runs.
+    #[tactic(auto, unfolding(knx_model::specs::Connection::client_deadline))]
+    pub fn deadline(&self) -> Option<u64>
+        ensures { result ≡ client_deadline self.now }
+    {
+        match &self.state {
+            State::Asking(_, question) => question.deadline(),
+            State::Awaiting(session) => Some(session.end()),
+            State::Asked(_) | State::Up(_) | State::Ended => None,
+        }
+    }
+}
+
+impl State {
+    /// After the frame that was sent last was confirmed.
+    #[tactic(auto, unfolding(knx_model::specs::Connection::after_confirmed))]
+    fn confirmed(self, now: u64) -> State
+        requires { IsntAsked (client_end self) }
+        ensures { (error : Bool) → client_end result ≡ after_confirmed (client_end self) error now }
+    {
+        match self {
+            State::Asking(session, question) => State::Asking(session, question.confirmed(now)),
+            state => state,
+        }
+    }
+
+    /// After this answer to a frame.
+    #[tactic(auto, unfolding(knx_model::specs::Connection::client_after))]
+    fn after(self, now: u64, took: &ClientTook) -> State
+        ensures { client_end result ≡ client_after (client_end self) now took.now }
+    {
+        match took {
+            ClientTook::Dropped => self,
+            ClientTook::Acked => self.told_ack(now),
+            ClientTook::Answer { .. } => self.told_answer(now),
+            ClientTook::Again { .. } | ClientTook::Nak(_) => self.stayed(now),
+            ClientTook::Closed { .. } => State::Ended,
+        }
+    }
+
+    /// After a frame was taken that brought nothing new.
+    fn stayed(self, now: u64) -> State
+        ensures { client_end result ≡ stayed (client_end self) now }
+    {
+        match self {
+            State::Up(session) => State::Up(session.at_time(now)),
+            State::Asking(session, question) => State::Asking(session.at_time(now), question),
+            State::Awaiting(session) => State::Awaiting(session.at_time(now)),
+            state => state,
+        }
+    }
+
+    /// After the device's next service came.
+    fn told_answer(self, now: u64) -> State
+        ensures { client_end result ≡ told_answer (client_end self) now }
+    {
+        match self {
+            State::Up(session) | State::Awaiting(session) => State::Up(session.advanced(now)),
+            State::Asking(session, question) => {
+                State::Asking(session.advanced(now), question.has_come())
+            }
+            state => state,
+        }
+    }
+
+    /// After the outstanding service was acknowledged.
+    fn told_ack(self, now: u64) -> State
+        ensures { client_end result ≡ told_ack (client_end self) now }
+    {
+        match self {
+            State::Asking(session, question) if question.awaits() => {
+                State::Awaiting(session.acknowledged(now))
+            }
+            State::Asking(session, _) => State::Up(session.acknowledged(now)),
+            state => state,
+        }
+    }
+
+    /// After this became due.
+    #[tactic(auto, unfolding(knx_model::specs::Connection::client_expired, knx_model::specs::Connection::after_overdue))]
+    fn after_overdue(self, now: u64, expired: &ClientExpired) -> State
+        requires { expired.now ≡ client_expired (client_end self) now }
+        ensures { client_end result ≡ after_overdue (client_end self) now expired.now }
+    {
+        match expired {
+            ClientExpired::Nothing => self,
+            ClientExpired::Repeat(_) => self.sent_again(now),
+            ClientExpired::Silent { .. } => State::Ended,
+        }
+    }
+
+    fn sent_again(self, now: u64) -> State
+        requires { MayAskAgain (client_end self) }
+        ensures { client_end result ≡ sent_again (client_end self) now }
+    {
+        match self {
+            State::Asking(session, question) => {
+                State::Asking(session.at_time(now), question.again())
+            }
+            state => state,
+        }
+    }
+}

@@ -1,0 +1,63 @@
+//! What a client's end that is up answers its device.
+
+ghost use Rattle.std.specs.Prelude.{◌≡◌, ◌<◌};
+ghost use Rattle.knx_model.specs.Connection.{HasNumber, up_took, asking_took, answer_heard, ack_heard};
+
+use crate::frame::{ack, disconnect, is_before, nak};
+use crate::session::Session;
+use knx_model::{ApduOctets, ClientTook, TransportFrame};
+
+/// The answer to a frame of the device while no service is outstanding.
+pub fn up_took(session: &Session, frame: TransportFrame) -> ClientTook
+    requires { HasNumber frame }
+    ensures { result ≡ up_took session.now frame }
+{
+    match frame {
+        TransportFrame::Disconnect => ClientTook::Closed { answer: None },
+        TransportFrame::Ack(number) => ack_heard(session, number),
+        TransportFrame::Numbered { number, apdu } => answer_heard(session, number, apdu),
+        TransportFrame::Connect | TransportFrame::Nak(_) | TransportFrame::Other => {
+            ClientTook::Dropped
+        }
+    }
+}
+
+fn ack_heard(session: &Session, number: u8) -> ClientTook
+    requires { number < 16 }
+    ensures { result ≡ ack_heard session.now number }
+{
+    if is_before(number, session.number) {
+        ClientTook::Dropped
+    } else {
+        ClientTook::Closed {
+            answer: Some(disconnect()),
+        }
+    }
+}
+
+fn answer_heard(session: &Session, number: u8, apdu: ApduOctets) -> ClientTook
+    requires { number < 16 }
+    ensures { result ≡ answer_heard session.now number apdu }
+{
+    if number == session.expected {
+        ClientTook::Answer {
+            apdu,
+            ack: ack(number),
+        }
+    } else if is_before(number, session.expected) {
+        ClientTook::Again { ack: ack(number) }
+    } else {
+        ClientTook::Nak(nak(number))
+    }
+}
+
+/// The answer to a frame of the device while a service is outstanding.
+pub fn asking_took(session: &Session, frame: TransportFrame) -> ClientTook
+    requires { HasNumber frame }
+    ensures { result ≡ asking_took session.now frame }
+{
+    match frame {
+        TransportFrame::Ack(number) if number == session.number => ClientTook::Acked,
+        frame => up_took(session, frame),
+    }
+}
