@@ -1,6 +1,6 @@
 //! Sets of object numbers.
 
-ghost use Rattle.std.specs.Prelude.{◌≡◌, ℕ, ◌<◌, ◌&&◌, ◌||◌, ◌==◌, Bool, false};
+ghost use Rattle.std.specs.Prelude.{◌≡◌, ℕ, ◌<◌, ◌||◌, ◌==◌, false, length};
 ghost use Rattle.device_tables.specs.Objects.{holds};
 
 use std::marker::Model;
@@ -34,5 +34,12 @@ impl Objects {
         ensures { result ≡ holds self.now object }
     {
         self.held[usize::from(object)]
+    }
+
+    /// Takes an object into the set.
+    pub fn insert(&mut self, object: u8)
+        ensures { (o : ℕ) → holds self.new o ≡ (holds self.old o || o == object) }
+    {
+        self.held[usize::from(object)] = true;
     }
 }

@@ -1,12 +1,74 @@
 //! What a group telegram acts on.
 
 ghost use Rattle.std.specs.Prelude.{◌≡◌, ℕ};
-ghost use Rattle.knx_model.specs.Acts.{is_written, answerer};
+ghost use Rattle.knx_model.specs.Acts.{has_flag, accepts, can_answer, writes, lowest_answering, object_in_table, is_written, answerer};
 ghost use Rattle.device_tables.specs.Objects.{holds};
 
+use crate::links::linked;
 use crate::objects::Objects;
 use crate::outcome::Acts;
-use knx_model::{GroupAddr, GroupService, Image};
+use crate::table::object_in_table;
+use crate::value::takes_form;
+use knx_model::{GroupAddr, GroupService, Image, ObjSpec};
+
+/// Flags of a flag octet.
+const UPDATE: u8 = 0x80;
+const WRITE: u8 = 0x10;
+const READ: u8 = 0x08;
+const COMMUNICATE: u8 = 0x04;
+
+fn has_flag(object: ObjSpec, flag: u8) -> bool
+    ensures { result ≡ has_flag object flag }
+{
+    object.flags & flag != 0
+}
+
+/// Whether the service's value is written to the object.
+fn accepts(object: ObjSpec, service: &GroupService) -> bool
+    ensures { result ≡ accepts service.now object }
+{
+    match service {
+        GroupService::Read => false,
+        GroupService::Write(value) => {
+            has_flag(object, COMMUNICATE) && has_flag(object, WRITE) && takes_form(object.size, value)
+        }
+        GroupService::Response(value) => {
+            has_flag(object, COMMUNICATE) && has_flag(object, UPDATE) && takes_form(object.size, value)
+        }
+    }
+}
+
+/// Whether the object's value may answer a read.
+fn can_answer(object: ObjSpec) -> bool
+    ensures { result ≡ can_answer object }
+{
+    has_flag(object, COMMUNICATE) && has_flag(object, READ)
+}
+
+/// The linked objects to which the service's value is written.
+fn written(linked: &Objects, objs: &[u8], service: &GroupService) -> Objects
+    ensures { (o : ℕ) → holds result o ≡ writes (holds linked.now) (object_in_table objs.now) service.now o }
+{
+    let mut written = Objects::none();
+    for object in 1..=u8::MAX {
+        if linked.has(object) && object_in_table(objs, object).is_some_and(|spec| accepts(spec, service)) {
+            written.insert(object);
+        }
+    }
+    written
+}
+
+/// The lowest linked object that can answer.
+fn lowest_answering(linked: &Objects, objs: &[u8]) -> Option<u8>
+    ensures { result ≡ lowest_answering (holds linked.now) (object_in_table objs.now) GroupService.Read }
+{
+    for object in 1..=u8::MAX {
+        if linked.has(object) && object_in_table(objs, object).is_some_and(|spec| can_answer(spec)) {
+            return Some(object);
+        }
+    }
+    None
+}
 
 /// What a device that runs the image does at a group telegram: a write goes to each linked object with communicate and write that
 /// takes the value's form, a response to those with communicate and update; the lowest linked object with communicate and read
@@ -15,8 +77,13 @@ pub fn acts(image: &Image, group: GroupAddr, service: &GroupService) -> Acts
     ensures written { (o : ℕ) → holds result.written o ≡ is_written image.now group.raw service.now o }
     ensures answers { result.answers ≡ answerer image.now group.raw service.now }
 {
+    let linked = linked(image.addr.as_slice(), image.assoc.as_slice(), group);
+    let objs = image.objs.as_slice();
     Acts {
-        written: Objects::none(),
-        answers: None,
+        written: written(&linked, objs, service),
+        answers: match service {
+            GroupService::Read => lowest_answering(&linked, objs),
+            _ => None,
+        },
     }
 }

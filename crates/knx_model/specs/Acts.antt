@@ -61,12 +61,16 @@ can_answer object = communicates object && has_flag object 0x08
 abbrev pub is_object_number : ℕ → Bool
 is_object_number o = nat_le 1 o && nat_le o 255
 
+-- the numbers in order
+unfoldable pub object_numbers : List ℕ
+object_numbers = range_with_len 1 255
+
 abbrev pub writes : (ℕ → Bool) → (ℕ → Option ObjSpec) → GroupService → ℕ → Bool
 writes linked object service o = linked o && option_map_or (accepts service) (object o) false
 
 -- the lowest linked object that can answer; only a read is answered
 abbrev pub lowest_answering : (ℕ → Bool) → (ℕ → Option ObjSpec) → GroupService → Option ℕ
-lowest_answering linked object Read = find (λ o. linked o && option_map_or can_answer (object o) false) (range_with_len 1 255)
+lowest_answering linked object Read = find (λ o. linked o && option_map_or can_answer (object o) false) object_numbers
 lowest_answering linked object _ = None
 
 -- the entry at a place of a table, from 1
