@@ -1,7 +1,7 @@
 //! What a group telegram acts on.
 
-ghost use Rattle.std.specs.Prelude.{◌≡◌, ℕ};
-ghost use Rattle.knx_model.specs.Acts.{has_flag, accepts, can_answer, writes, lowest_answering, object_in_table, is_written, answerer};
+ghost use Rattle.std.specs.Prelude.{◌≡◌, ℕ, find};
+ghost use Rattle.knx_model.specs.Acts.{has_flag, accepts, can_answer, writes, may_answer, object_numbers, object_in_table, is_written, answerer};
 ghost use Rattle.device_tables.specs.Objects.{holds};
 
 use crate::links::linked;
@@ -45,13 +45,29 @@ fn can_answer(object: ObjSpec) -> bool
     has_flag(object, COMMUNICATE) && has_flag(object, READ)
 }
 
+/// Whether the service's value is written to the object of a number.
+fn is_written(linked: &Objects, objs: &[u8], service: &GroupService, object: u8) -> bool
+    ensures { result ≡ writes (holds linked.now) (object_in_table objs.now) service.now object }
+{
+    linked.has(object)
+        && object_in_table(objs, object).is_some_and(|spec| accepts(spec, service))
+}
+
+/// Whether the object of a number is linked and can answer.
+fn is_answering(linked: &Objects, objs: &[u8], object: u8) -> bool
+    ensures { result ≡ may_answer (holds linked.now) (object_in_table objs.now) object }
+{
+    linked.has(object) && object_in_table(objs, object).is_some_and(|spec| can_answer(spec))
+}
+
 /// The linked objects to which the service's value is written.
+#[tactic(auto, using(crate::proofs::Counting::with_one, crate::proofs::Counting::without_one))]
 fn written(linked: &Objects, objs: &[u8], service: &GroupService) -> Objects
     ensures { (o : ℕ) → holds result o ≡ writes (holds linked.now) (object_in_table objs.now) service.now o }
 {
     let mut written = Objects::none();
     for object in 1..=u8::MAX {
-        if linked.has(object) && object_in_table(objs, object).is_some_and(|spec| accepts(spec, service)) {
+        if is_written(linked, objs, service, object) {
             written.insert(object);
         }
     }
@@ -60,10 +76,10 @@ fn written(linked: &Objects, objs: &[u8], service: &GroupService) -> Objects
 
 /// The lowest linked object that can answer.
 fn lowest_answering(linked: &Objects, objs: &[u8]) -> Option<u8>
-    ensures { result ≡ lowest_answering (holds linked.now) (object_in_table objs.now) GroupService.Read }
+    ensures { result ≡ find (may_answer (holds linked.now) (object_in_table objs.now)) object_numbers }
 {
     for object in 1..=u8::MAX {
-        if linked.has(object) && object_in_table(objs, object).is_some_and(|spec| can_answer(spec)) {
+        if is_answering(linked, objs, object) {
             return Some(object);
         }
     }

@@ -68,9 +68,12 @@ object_numbers = range_with_len 1 255
 abbrev pub writes : (ℕ → Bool) → (ℕ → Option ObjSpec) → GroupService → ℕ → Bool
 writes linked object service o = linked o && option_map_or (accepts service) (object o) false
 
+abbrev pub may_answer : (ℕ → Bool) → (ℕ → Option ObjSpec) → ℕ → Bool
+may_answer linked object o = linked o && option_map_or can_answer (object o) false
+
 -- the lowest linked object that can answer; only a read is answered
 abbrev pub lowest_answering : (ℕ → Bool) → (ℕ → Option ObjSpec) → GroupService → Option ℕ
-lowest_answering linked object Read = find (λ o. linked o && option_map_or can_answer (object o) false) object_numbers
+lowest_answering linked object Read = find (may_answer linked object) object_numbers
 lowest_answering linked object _ = None
 
 -- the entry at a place of a table, from 1
