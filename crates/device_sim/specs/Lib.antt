@@ -2,3 +2,4 @@ pub mod Effects
 pub mod Sending
 pub mod States
 pub mod Telegrams
+pub mod Wear

@@ -4,12 +4,16 @@ ghost use Rattle.std.specs.Prelude.{◌≡◌, IfSome, Some, None, ◌==◌, if�
 ghost use Rattle.knx_model.specs.Apdu.{word, IsApduInRange};
 ghost use Rattle.knx_model.specs.ApduReading.{option_map};
 ghost use Rattle.knx_model.specs.Loading.{state_number};
-ghost use Rattle.knx_model.specs.Device.{object_type, object_of_index, load_state, table_reference, property_value, property_response, where_one, whole, effect_of, effect_in, answer, answer_in};
+ghost use Rattle.knx_model.specs.Device.{object_type, object_of_index, load_state, table_reference, property_value, property_response, where_one, whole, taken, effect_of, effect_in, answer, answer_in};
+ghost use Rattle.knx_model.specs.Connection.{IsApdu};
+ghost use Rattle.knx_model.specs.DeviceFrames.{worn_octets};
+ghost use Rattle.device_sim.specs.Wear.{served_kept};
 
-use crate::effect::{LOAD_CONTROL, effect_of, is_load_control};
+use crate::effect::{Effect, LOAD_CONTROL, effect_of, is_load_control};
 use crate::kept::Kept;
 use crate::places::object_of_index;
-use crate::service::{octets_of, service_in};
+use crate::service::{effect_in, octets_of, service_in};
+use crate::worn::Memory;
 use knx_model::{Apdu, ApduOctets, LoadState};
 use load_machine::base;
 
@@ -142,18 +146,43 @@ impl Kept {
         }
     }
 
-    /// Takes the service whole that the octets ask for, with transport bits 0, and answers it. Octets that are no service do
-    /// nothing.
-    pub fn serve(&mut self, octets: &[u8]) -> Option<ApduOctets>
+    /// Takes the service that the octets ask for, with transport bits 0, and answers it. Octets that are no service do nothing.
+    pub fn serve(&mut self, octets: &[u8], memory: Memory) -> Option<ApduOctets>
+        ensures next { self.new ≡ served_kept self.old octets.now memory }
+        ensures answer { result ≡ answer_in self.old octets.now }
+        ensures apdu { IfSome result IsApdu }
+    {
+        match memory {
+            Memory::Sound => self.serve_sound(octets),
+            Memory::Worn => self.serve_worn(octets),
+        }
+    }
+
+    #[tactic(auto, using(crate::proofs::Answers::answer_at_is))]
+    fn serve_sound(&mut self, octets: &[u8]) -> Option<ApduOctets>
         ensures next { self.new ≡ whole self.old (effect_in octets.now) }
         ensures answer { result ≡ answer_in self.old octets.now }
+        ensures apdu { IfSome result IsApdu }
     {
-        match service_in(octets) {
-            Some(apdu) => {
-                let answer = self.take_service(&apdu)?;
-                Some(octets_of(answer))
-            },
-            None => None,
+        let service = service_in(octets)?;
+        let answer = self.take_service(&service)?;
+        Some(octets_of(answer))
+    }
+
+    #[tactic(auto, using(crate::proofs::Answers::stores_unanswered))]
+    fn serve_worn(&mut self, octets: &[u8]) -> Option<ApduOctets>
+        ensures next { self.new ≡ taken self.old (effect_in octets.now) (Some (worn_octets (effect_in octets.now))) }
+        ensures answer { result ≡ answer_in self.old octets.now }
+        ensures apdu { IfSome result IsApdu }
+    {
+        let effect = effect_in(octets);
+        match &effect {
+            Effect::Stores { .. } => {
+                self.take_worn(&effect);
+                None
+            }
+            Effect::Loads(_, _) => self.serve_sound(octets),
+            Effect::Nothing => self.serve_sound(octets),
         }
     }
 

@@ -7,6 +7,7 @@ ghost use Rattle.knx_model.specs.DeviceFrames.{at_rest, cut, switched_on};
 
 use crate::kept::Kept;
 use crate::loadable::Loadable;
+use crate::sending::copied;
 use crate::values::Values;
 use knx_model::{Image, IndAddr, Ldata, LoadableObject, NoMemory, Octets};
 use load_machine::capacity;
@@ -141,7 +142,7 @@ impl Device {
     pub fn last(&self) -> Option<Ldata>
         ensures { result ≡ self.now.last }
     {
-        self.last.clone()
+        Some(copied(self.last.as_ref()?))
     }
 
     /// Whether it runs, that is whether all four objects are Loaded.

@@ -4,15 +4,17 @@ ghost use Rattle.std.specs.Prelude.{◌≡◌, nat_lt, true, is_some, Some, IfOk
 ghost use Rattle.knx_model.specs.declared.device.WriteKind.{WriteKind as Kind};
 ghost use Rattle.knx_model.specs.Bench.{written_front};
 ghost use Rattle.knx_model.specs.Connection.{IsApdu, partner_of, after_expiry, device_expired};
-ghost use Rattle.knx_model.specs.DeviceFrames.{Whole, Torn, Worn, took_of, takes, got, taken_alone, effect_of_frame, would_write, write_kind, worn_octets, sends, sent, frame_to_partner, due_frame, shut, with_connection, taken_group, sender};
+ghost use Rattle.knx_model.specs.DeviceFrames.{Whole, Torn, Worn, took_of, takes, got, taken_alone, effect_of_frame, would_write, write_kind, worn_octets, sends, sent, frame_to_partner, due_frame, shut, with_connection, taken_group, sender, connection_took, effect_delivered};
 ghost use Rattle.device_sim.specs.Sending.{answered_end, answered_frame};
+ghost use Rattle.device_sim.specs.Wear.{outcome};
 ghost use Rattle.device_sim.specs.Effects.{meant};
 
 use crate::device::Device;
 use crate::effect::Effect;
-use crate::given::{serve, zero_where_changed};
-use crate::sending::{frame_to, queue, queue_if};
+use crate::given::serve;
+use crate::sending::{copied, frame_to, queue, queue_if};
 use crate::service::effect_in;
+use crate::worn::Memory;
 use apdu_frames::encode;
 use knx_model::{ApduOctets, IndAddr, Ldata, NoMemory, Took, Tpdu, WriteKind};
 use std::alloc::Global;
@@ -54,7 +56,7 @@ impl Device {
         ensures err { OnErr result (self.new ≡ self.old) }
     {
         self.act(alloc, frame, now)?;
-        self.last = Some(frame.clone());
+        self.last = Some(copied(frame));
         Ok(())
     }
 
@@ -65,33 +67,44 @@ impl Device {
         if frame.group {
             self.take_telegram(alloc, frame)
         } else {
-            self.take_alone(frame, now)
+            self.take_alone(frame, now, Memory::Sound)
         }
     }
 
     /// Takes a frame for this device alone.
-    fn take_alone(&mut self, frame: &Ldata, now: u64) -> Result<(), NoMemory>
-        ensures next { OnOk result (self.new ≡ taken_alone self.old frame.now now Whole) }
+    #[tactic(auto, using(crate::proofs::Answered::with_answer_is, crate::proofs::Answered::queued_if_is))]
+    fn take_alone(&mut self, frame: &Ldata, now: u64, memory: Memory) -> Result<(), NoMemory>
+        ensures next { OnOk result (self.new ≡ taken_alone self.old frame.now now (outcome memory (effect_delivered (connection_took self.old frame.now)))) }
         ensures err { OnErr result (self.new ≡ self.old) }
     {
         self.unsent.reserve(2)?;
         let from = sender(frame);
         match self.connection.take(from, frame.tpdu.as_slice(), now) {
-            DeviceTook::Dropped | DeviceTook::Acked => {}
-            DeviceTook::Connected => self.unsent.clear(),
+            DeviceTook::Dropped | DeviceTook::Acked => Ok(()),
+            DeviceTook::Connected => {
+                self.unsent.clear();
+                Ok(())
+            }
             DeviceTook::Apdu { apdu, ack } => {
                 queue(&mut self.unsent, frame_to(self.address, from, ack));
-                let answer = serve(&mut self.kept, &mut self.values, apdu.as_slice());
+                let answer = serve(&mut self.kept, &mut self.values, apdu.as_slice(), memory);
                 let tpdu = answer_frame(&mut self.connection, answer, now);
                 queue_if(&mut self.unsent, self.address, from, tpdu);
+                Ok(())
             }
-            DeviceTook::Again { ack } => queue(&mut self.unsent, frame_to(self.address, from, ack)),
-            DeviceTook::Nak(nak) => queue(&mut self.unsent, frame_to(self.address, from, nak)),
+            DeviceTook::Again { ack } => {
+                queue(&mut self.unsent, frame_to(self.address, from, ack));
+                Ok(())
+            }
+            DeviceTook::Nak(nak) => {
+                queue(&mut self.unsent, frame_to(self.address, from, nak));
+                Ok(())
+            }
             DeviceTook::Closed { answer } => {
                 queue_if(&mut self.unsent, self.address, from, answer);
+                Ok(())
             }
         }
-        Ok(())
     }
 
     /// What the service does that this frame would deliver now.
@@ -121,6 +134,7 @@ impl Device {
 
     /// The frame is taken, and power is cut in the write that it asks for, after the first `k` octets that are written. The
     /// load state and the segment length that it asks for are new but where `k` is 0.
+    #[tactic(auto, using(crate::proofs::Written::takes_torn))]
     pub fn take_torn(&mut self, frame: &Ldata, k: u32, now: u64)
         requires { is_some (would_write self.old frame.now) ≡ true }
         ensures { self.new ≡ takes self.old frame.now now (Torn (nat_lt 0 k) (written_front (effect_of_frame self.old frame.now) k)) }
@@ -132,21 +146,14 @@ impl Device {
     }
 
     /// The frame is taken, and worn memory keeps the complement of each octet that it writes. At `Err` nothing has changed.
+    #[tactic(auto, using(crate::proofs::Written::takes_worn))]
     pub fn take_worn(&mut self, _alloc: Global, frame: &Ldata, now: u64) -> Result<(), NoMemory>
         requires { would_write self.old frame.now ≡ Some Kind.Memory }
         ensures next { OnOk result (self.new ≡ takes self.old frame.now now (Worn (worn_octets (effect_of_frame self.old frame.now)))) }
         ensures err { OnErr result (self.new ≡ self.old) }
     {
-        self.unsent.reserve(1)?;
-        let effect = self.effect_of_frame(frame);
-        let from = sender(frame);
-        if let DeviceTook::Apdu { apdu: _, ack } = self.connection.take(from, frame.tpdu.as_slice(), now) {
-            queue(&mut self.unsent, frame_to(self.address, from, ack));
-        }
-        let before = self.kept.load_states();
-        self.kept.take_worn(&effect);
-        zero_where_changed(&mut self.values, &self.kept, before);
-        self.last = Some(frame.clone());
+        self.take_alone(frame, now, Memory::Worn)?;
+        self.last = Some(copied(frame));
         Ok(())
     }
 

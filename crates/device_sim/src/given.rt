@@ -1,16 +1,19 @@
 //! The device on a bench, where services are given to it by themselves.
 
-ghost use Rattle.std.specs.Prelude.{◌≡◌, true, [], if◌then◌else◌};
+ghost use Rattle.std.specs.Prelude.{◌≡◌, true, [], IfSome, if◌then◌else◌};
 ghost use Rattle.knx_model.specs.declared.bench.BenchEvent.{BenchEvent};
-ghost use Rattle.knx_model.specs.Device.{whole, is_write, effect_in, answer_in};
+ghost use Rattle.knx_model.specs.Device.{is_write, effect_in, answer_in};
 ghost use Rattle.knx_model.specs.Bench.{happens, answered, cut_after};
+ghost use Rattle.knx_model.specs.Connection.{IsApdu};
 ghost use Rattle.knx_model.specs.DeviceFrames.{same_states, given, given_torn};
 ghost use Rattle.device_sim.specs.States.{has_states};
+ghost use Rattle.device_sim.specs.Wear.{served_kept};
 
 use crate::device::Device;
 use crate::kept::{Kept, LoadStates};
 use crate::service::effect_in;
 use crate::values::Values;
+use crate::worn::Memory;
 use knx_model::ApduOctets;
 
 impl Device {
@@ -23,7 +26,7 @@ impl Device {
         ensures answer { result ≡ answered self.old.state apdu.now }
     {
         if self.power {
-            serve(&mut self.kept, &mut self.values, apdu)
+            serve(&mut self.kept, &mut self.values, apdu, Memory::Sound)
         } else {
             None
         }
@@ -49,14 +52,15 @@ impl Device {
     }
 }
 
-/// Takes a service whole, and answers it. A change of a load state makes all values zero.
-pub fn serve(kept: &mut Kept, values: &mut Values, octets: &[u8]) -> Option<ApduOctets>
-    ensures next { kept.new ≡ whole kept.old (effect_in octets.now) }
-    ensures values { values.new ≡ (if same_states kept.old (whole kept.old (effect_in octets.now)) then values.old else []) }
+/// Takes a service, and answers it. A change of a load state makes all values zero.
+pub fn serve(kept: &mut Kept, values: &mut Values, octets: &[u8], memory: Memory) -> Option<ApduOctets>
+    ensures next { kept.new ≡ served_kept kept.old octets.now memory }
+    ensures values { values.new ≡ (if same_states kept.old (served_kept kept.old octets.now memory) then values.old else []) }
     ensures answer { result ≡ answer_in kept.old octets.now }
+    ensures apdu { IfSome result IsApdu }
 {
     let before = kept.load_states();
-    let answer = kept.serve(octets);
+    let answer = kept.serve(octets, memory);
     zero_where_changed(values, kept, before);
     answer
 }

@@ -1,6 +1,6 @@
 //! What a device keeps without power.
 
-ghost use Rattle.std.specs.Prelude.{◌≡◌, ◌≤◌, ℕ, Bool, true, List, length, nat_lt, take, Some};
+ghost use Rattle.std.specs.Prelude.{◌≡◌, ◌≤◌, ℕ, true, List, length, nat_lt, take, Some};
 ghost use Rattle.knx_model.specs.Device.{object as content, whole, torn, taken, is_write, all_loaded, Loads, Stores, range_octets};
 ghost use Rattle.knx_model.specs.Bench.{written_front, front_of_load};
 ghost use Rattle.knx_model.specs.DeviceFrames.{same_state, complements, worn_octets};
@@ -117,10 +117,11 @@ impl Kept {
         }
     }
 
-    /// Takes a memory write of n octets, in whose range these octets then stand.
-    fn scribble(&mut self, address: u16, n: usize, octets: &[u8])
-        ensures { (asked : List ℕ) (fresh : Bool) → length asked ≡ n → self.new ≡ torn self.old (Stores address asked) fresh octets.now }
+    /// Takes a memory write, in whose range these octets then stand.
+    fn scribble(&mut self, address: u16, asked: &[u8], octets: &[u8])
+        ensures { self.new ≡ torn self.old (Stores address asked.now) true octets.now }
     {
+        let n = asked.len();
         if let Some(object) = object_at(address) {
             let at = (address - base(object)) as usize;
             match object {
@@ -136,7 +137,7 @@ impl Kept {
     fn store_torn(&mut self, address: u16, octets: &[u8], k: u32)
         ensures { self.new ≡ torn self.old (Stores address octets.now) (nat_lt 0 k) (take k octets.now) }
     {
-        self.scribble(address, octets.len(), first(octets, k as usize));
+        self.scribble(address, octets, first(octets, k as usize));
     }
 
     /// Stores the complement of each of these octets.
@@ -144,7 +145,7 @@ impl Kept {
         requires { length octets.now ≤ 16 }
         ensures { self.new ≡ torn self.old (Stores address octets.now) true (complements octets.now) }
     {
-        self.scribble(address, octets.len(), complements(octets).as_slice());
+        self.scribble(address, octets, complements(octets).as_slice());
     }
 
     /// Takes an effect whole.

@@ -7,9 +7,25 @@ ghost use Rattle.knx_model.specs.DeviceFrames.{slot, value_or_zero, written_valu
 ghost use Rattle.device_tables.specs.Objects.{holds};
 
 use device_tables::{Objects, zero_value};
-use knx_model::{NoMemory, Value};
+use knx_model::{LongValue, NoMemory, Value};
 use std::alloc::Global;
 use std::marker::Model;
+
+/// The same value again. It takes no memory.
+fn copied(value: &Value) -> Value
+    ensures { result ≡ value.now }
+{
+    match value {
+        Value::Short(bits) => Value::Short(*bits),
+        Value::Long(octets) => Value::Long(LongValue::from_slice(octets.as_slice())),
+    }
+}
+
+fn copied_slot(slot: &Option<Value>) -> Option<Value>
+    ensures { result ≡ slot.now }
+{
+    Some(copied(slot.as_ref()?))
+}
 
 /// How many object numbers there are, from 0.
 const OBJECTS: usize = 256;
@@ -21,15 +37,16 @@ pub struct Values {
 }
 
 impl Model for Values {
-    ghost use Rattle.std.specs.Prelude.{List, Option, All, IfSome};
-    ghost use Rattle.knx_model.specs.declared.frames.value.Value.{Value};
+    ghost use Rattle.std.specs.Prelude.{List, Option, ℕ, IfSome};
+    ghost use Rattle.knx_model.specs.declared.frames.value.Value.{Value as GroupValue};
     ghost use Rattle.knx_model.specs.Apdu.{IsValueInRange};
+    ghost use Rattle.knx_model.specs.DeviceFrames.{slot};
 
-    ghost Value = { List (Option Value) };
+    ghost Value = { List (Option GroupValue) };
 
     ghost view = { λ v. v.slots.items };
 
-    ghost invariant = { λ v. All (λ slot. IfSome slot IsValueInRange) v.slots.items };
+    ghost invariant = { λ v. (k : ℕ) → IfSome (slot v.slots.items k) IsValueInRange };
 }
 
 impl Values {
@@ -54,9 +71,10 @@ impl Values {
         ensures value { result ≡ slot self.now object }
         ensures range { IfSome result IsValueInRange }
     {
-        match self.slots.as_slice().get(object) {
-            Some(Some(value)) => Some(value.clone()),
-            _ => None,
+        if object < self.slots.len() {
+            copied_slot(&self.slots[object])
+        } else {
+            None
         }
     }
 
@@ -72,6 +90,7 @@ impl Values {
     }
 
     /// The values after this one was written to these objects.
+    #[tactic(auto, unfolding(knx_model::specs::DeviceFrames::written_values))]
     pub fn written(&self, alloc: Global, objects: &Objects, value: &Value) -> Result<Values, NoMemory>
         requires { IsValueInRange value.now }
         ensures { IfOk result (λ made. made ≡ written_values (λ o. holds objects.now o) value.now self.now) }
@@ -90,7 +109,7 @@ impl Values {
         ensures range { IfSome result IsValueInRange }
     {
         if objects.has(object as u8) {
-            Some(value.clone())
+            Some(copied(value))
         } else {
             self.slot(object)
         }

@@ -5,6 +5,15 @@ ghost use Rattle.knx_model.specs.DeviceFrames.{complements};
 
 use knx_model::ApduOctets;
 
+/// How memory keeps what is written to it.
+#[derive(Clone, Copy, Drop)]
+pub enum Memory {
+    /// As it was sent.
+    Sound,
+    /// The complement of each octet.
+    Worn,
+}
+
 /// The complement of each octet.
 pub fn complements(octets: &[u8]) -> ApduOctets
     requires { length octets.now ≤ 16 }
