@@ -1,1 +1,5 @@
 pub mod Effects
+pub mod Sending
+pub mod States
+pub mod Telegrams
+pub mod Wear

@@ -4,12 +4,18 @@ ghost use Rattle.std.specs.Prelude.{◌≡◌, IfSome, Some, None, ◌==◌, if�
 ghost use Rattle.knx_model.specs.Apdu.{word, IsApduInRange};
 ghost use Rattle.knx_model.specs.ApduReading.{option_map};
 ghost use Rattle.knx_model.specs.Loading.{state_number};
-ghost use Rattle.knx_model.specs.Device.{object_type, object_of_index, load_state, table_reference, property_value, property_response, where_one, whole, effect_of, answer};
+ghost use Rattle.knx_model.specs.Device.{object_type, object_of_index, load_state, table_reference, property_value, property_response, where_one, whole, taken, effect_of, effect_in, answer, answer_in};
+ghost use Rattle.knx_model.specs.Connection.{IsApdu};
+ghost use Rattle.knx_model.specs.DeviceFrames.{worn_octets};
+ghost use Rattle.device_sim.specs.Wear.{served_kept};
 
-use crate::effect::{LOAD_CONTROL, effect_of, is_load_control};
+use crate::effect::{Effect, LOAD_CONTROL, effect_of, is_load_control};
 use crate::kept::Kept;
-use crate::places::{base, object_of_index};
+use crate::places::object_of_index;
+use crate::service::{effect_in, octets_of, service_in};
+use crate::worn::Memory;
 use knx_model::{Apdu, ApduOctets, LoadState};
+use load_machine::base;
 
 /// The mask of a System B device.
 const DEVICE_DESCRIPTOR: u16 = 0x07B0;
@@ -46,7 +52,8 @@ fn object_type(index: u8) -> Option<u16>
     }
 }
 
-fn state_number(state: LoadState) -> u8
+/// The number of a load state, as it is answered.
+pub fn state_number(state: LoadState) -> u8
     ensures { result ≡ state_number state }
 {
     match state {
@@ -112,7 +119,7 @@ impl Kept {
         ensures { result ≡ option_map (load_state self.now) (object_of_index index) }
     {
         let object = object_of_index(index)?;
-        let state = self.segment(object).state();
+        let state = self.object(object).state();
         Some(ApduOctets::from_slice(&[state_number(state)]))
     }
 
@@ -139,8 +146,48 @@ impl Kept {
         }
     }
 
+    /// Takes the service that the octets ask for, with transport bits 0, and answers it. Octets that are no service do nothing.
+    pub fn serve(&mut self, octets: &[u8], memory: Memory) -> Option<ApduOctets>
+        ensures next { self.new ≡ served_kept self.old octets.now memory }
+        ensures answer { result ≡ answer_in self.old octets.now }
+        ensures apdu { IfSome result IsApdu }
+    {
+        match memory {
+            Memory::Sound => self.serve_sound(octets),
+            Memory::Worn => self.serve_worn(octets),
+        }
+    }
+
+    #[tactic(auto, using(crate::proofs::Answers::answer_at_is))]
+    fn serve_sound(&mut self, octets: &[u8]) -> Option<ApduOctets>
+        ensures next { self.new ≡ whole self.old (effect_in octets.now) }
+        ensures answer { result ≡ answer_in self.old octets.now }
+        ensures apdu { IfSome result IsApdu }
+    {
+        let service = service_in(octets)?;
+        let answer = self.take_service(&service)?;
+        Some(octets_of(answer))
+    }
+
+    #[tactic(auto, using(crate::proofs::Answers::stores_unanswered))]
+    fn serve_worn(&mut self, octets: &[u8]) -> Option<ApduOctets>
+        ensures next { self.new ≡ taken self.old (effect_in octets.now) (Some (worn_octets (effect_in octets.now))) }
+        ensures answer { result ≡ answer_in self.old octets.now }
+        ensures apdu { IfSome result IsApdu }
+    {
+        let effect = effect_in(octets);
+        match &effect {
+            Effect::Stores { .. } => {
+                self.take_worn(&effect);
+                None
+            }
+            Effect::Loads(_, _) => self.serve_sound(octets),
+            Effect::Nothing => self.serve_sound(octets),
+        }
+    }
+
     /// Takes a service whole, and answers it.
-    pub fn serve(&mut self, apdu: &Apdu) -> Option<Apdu>
+    fn take_service(&mut self, apdu: &Apdu) -> Option<Apdu>
         requires { IsApduInRange apdu.now }
         ensures next { self.new ≡ whole self.old (effect_of apdu.now) }
         ensures answer { result ≡ answer self.old apdu.now }

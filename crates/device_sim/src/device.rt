@@ -1,133 +1,160 @@
-//! The simulated device.
+//! The simulated device: what it is, its power, and what it runs.
 
 ghost use Rattle.std.specs.Prelude.{◌≡◌, true, IfOk};
-ghost use Rattle.knx_model.specs.declared.bench.BenchEvent.{BenchEvent};
-ghost use Rattle.knx_model.specs.Device.{Fits, blank, loaded_with, is_write, effect_in, all_loaded, runs};
-ghost use Rattle.knx_model.specs.Bench.{happens, answered, cut_after};
+ghost use Rattle.knx_model.specs.Device.{Fits, blank, loaded_with, all_loaded, runs};
+ghost use Rattle.knx_model.specs.Connection.{device_deadline};
+ghost use Rattle.knx_model.specs.DeviceFrames.{at_rest, cut, switched_on};
 
 use crate::kept::Kept;
-use crate::places::{
-    ADDRESS_TABLE_CAPACITY, APPLICATION_CAPACITY, ASSOCIATION_TABLE_CAPACITY,
-    GROUP_OBJECTS_CAPACITY,
-};
-use crate::segment::Segment;
-use crate::service::{effect_in, octets_of, service_in};
-use knx_model::{ApduOctets, Image, IndAddr, NoMemory, Octets};
+use crate::loadable::Loadable;
+use crate::sending::copied;
+use crate::values::Values;
+use knx_model::{Image, IndAddr, Ldata, LoadableObject, NoMemory, Octets};
+use load_machine::capacity;
 use std::alloc::Global;
+use std::collections::VecDeque;
 use std::marker::Model;
+use transport_conn::DeviceConn;
 
-/// A device of System B with its individual address, what it keeps without power, and whether it has power.
+/// A device of System B on a line: its individual address, what it keeps without power, whether it has power, and what it has
+/// only while it has: its connection, its objects' values, the frames that it has to send, and the frame that it got last.
 #[derive(Drop)]
 pub struct Device {
-    address: IndAddr,
-    kept: Kept,
-    power: bool,
+    pub address: IndAddr,
+    pub kept: Kept,
+    pub power: bool,
+    pub connection: DeviceConn,
+    pub values: Values,
+    pub unsent: VecDeque<Ldata>,
+    pub last: Option<Ldata>,
 }
 
 impl Model for Device {
-    ghost use Rattle.knx_model.specs.Device.{DeviceState};
+    ghost use Rattle.knx_model.specs.DeviceFrames.{LineDevice};
 
-    ghost Value = { DeviceState };
+    ghost Value = { LineDevice };
 
-    ghost view = { λ d. record { address = d.address; kept = d.kept; power = d.power } };
+    ghost view = { λ d. record { state = record { address = d.address; kept = d.kept; power = d.power }; connection = d.connection; values = d.values; unsent = d.unsent.items; last = d.last } };
 }
 
 impl Device {
     /// A device with power to which nothing was loaded.
     pub fn blank(alloc: Global, address: IndAddr) -> Result<Device, NoMemory>
-        ensures { IfOk result (λ made. made ≡ blank address) }
+        ensures { IfOk result (λ made. made ≡ at_rest (blank address)) }
     {
         let kept = Kept {
-            address_table: Segment::blank(alloc, ADDRESS_TABLE_CAPACITY)?,
-            association_table: Segment::blank(alloc, ASSOCIATION_TABLE_CAPACITY)?,
-            group_objects: Segment::blank(alloc, GROUP_OBJECTS_CAPACITY)?,
-            application: Segment::blank(alloc, APPLICATION_CAPACITY)?,
+            address_table: Loadable::blank(alloc, capacity(LoadableObject::AddressTable))?,
+            association_table: Loadable::blank(alloc, capacity(LoadableObject::AssociationTable))?,
+            group_objects: Loadable::blank(alloc, capacity(LoadableObject::GroupObjects))?,
+            application: Loadable::blank(alloc, capacity(LoadableObject::Application))?,
         };
-        Ok(Device {
-            address,
-            kept,
-            power: true,
-        })
+        Ok(Device::at_rest(alloc, address, kept))
     }
 
     /// A device with power that is loaded with an image.
     pub fn loaded(alloc: Global, address: IndAddr, image: &Image) -> Result<Device, NoMemory>
         requires { Fits image.now }
-        ensures { IfOk result (λ made. made ≡ loaded_with address image.now) }
+        ensures { IfOk result (λ made. made ≡ at_rest (loaded_with address image.now)) }
     {
         let kept = Kept {
-            address_table: Segment::loaded(alloc, ADDRESS_TABLE_CAPACITY, image.addr.as_slice())?,
-            association_table: Segment::loaded(
+            address_table: Loadable::loaded(
                 alloc,
-                ASSOCIATION_TABLE_CAPACITY,
+                capacity(LoadableObject::AddressTable),
+                image.addr.as_slice(),
+            )?,
+            association_table: Loadable::loaded(
+                alloc,
+                capacity(LoadableObject::AssociationTable),
                 image.assoc.as_slice(),
             )?,
-            group_objects: Segment::loaded(alloc, GROUP_OBJECTS_CAPACITY, image.objs.as_slice())?,
-            application: Segment::loaded(alloc, APPLICATION_CAPACITY, image.params.as_slice())?,
+            group_objects: Loadable::loaded(
+                alloc,
+                capacity(LoadableObject::GroupObjects),
+                image.objs.as_slice(),
+            )?,
+            application: Loadable::loaded(
+                alloc,
+                capacity(LoadableObject::Application),
+                image.params.as_slice(),
+            )?,
         };
-        Ok(Device {
-            address,
-            kept,
-            power: true,
-        })
+        Ok(Device::at_rest(alloc, address, kept))
     }
 
     /// Its individual address.
     pub fn address(&self) -> IndAddr
-        ensures { result ≡ self.now.address }
+        ensures { result ≡ self.now.state.address }
     {
         self.address
     }
 
-    /// Power comes back.
-    pub fn on(&mut self)
-        ensures { self.new ≡ happens self.old BenchEvent.On }
+    /// A device with power that has nothing but what it keeps without.
+    fn at_rest(alloc: Global, address: IndAddr, kept: Kept) -> Device
+        ensures { result ≡ at_rest (record { address = address; kept = kept; power = true }) }
     {
-        self.power = true;
+        Device {
+            address,
+            kept,
+            power: true,
+            connection: DeviceConn::idle(),
+            values: Values::zero(alloc),
+            unsent: VecDeque::new(alloc),
+            last: None,
+        }
     }
 
-    /// Takes the service whole that the octets ask for, with transport bits 0, and answers it. Without power, and at octets
-    /// that are no service, nothing happens. It takes no memory.
-    pub fn give(&mut self, apdu: &[u8]) -> Option<ApduOctets>
-        ensures next { self.new ≡ happens self.old (BenchEvent.Give apdu.now) }
-        ensures answer { result ≡ answered self.old apdu.now }
+    /// What it has only while it has power is lost.
+    pub fn forget(&mut self)
+        ensures { self.new ≡ at_rest self.old.state }
+    {
+        self.connection = DeviceConn::idle();
+        self.values.reset();
+        self.unsent.clear();
+        self.last = None;
+    }
+
+    /// Power is cut.
+    pub fn cut(&mut self)
+        ensures { self.new ≡ cut self.old }
+    {
+        self.forget();
+        self.power = false;
+    }
+
+    /// Power comes back. A device that has power keeps what it has.
+    pub fn on(&mut self)
+        ensures { self.new ≡ switched_on self.old }
     {
         if !self.power {
-            return None;
+            self.forget();
+            self.power = true;
         }
-        let service = service_in(apdu)?;
-        let answer = self.kept.serve(&service)?;
-        Some(octets_of(answer))
     }
 
-    /// Whether the service would be a write of the device, at which power can be cut.
-    pub fn would_write(&self, apdu: &[u8]) -> bool
-        ensures { result ≡ is_write self.now.kept (effect_in apdu.now) }
+    /// The nearest time, in milliseconds, at which a wait of its connection has passed; None exactly where none runs.
+    pub fn deadline(&self) -> Option<u64>
+        ensures { result ≡ device_deadline self.now.connection }
     {
-        self.kept.is_write(&effect_in(apdu))
+        self.connection.deadline()
     }
 
-    /// Power is cut while the device writes, after the first `k` octets that it writes.
-    pub fn give_torn(&mut self, apdu: &[u8], k: u32)
-        requires { is_write self.old.kept (effect_in apdu.now) ≡ true }
-        ensures { self.new ≡ happens self.old (cut_after apdu.now k) }
+    /// The frame that it got last, which the bus may bring again; None where it got none since power came.
+    pub fn last(&self) -> Option<Ldata>
+        ensures { result ≡ self.now.last }
     {
-        if self.power {
-            self.kept.take_torn(&effect_in(apdu), k);
-            self.power = false;
-        }
+        Some(copied(self.last.as_ref()?))
     }
 
     /// Whether it runs, that is whether all four objects are Loaded.
     pub fn runs(&self) -> bool
-        ensures { result ≡ all_loaded self.now.kept }
+        ensures { result ≡ all_loaded self.now.state.kept }
     {
         self.kept.runs()
     }
 
     /// The image that it runs, and none where it doesn't run.
     pub fn image(&self, alloc: Global) -> Result<Option<Image>, NoMemory>
-        ensures { IfOk result (λ image. image ≡ runs self.now.kept) }
+        ensures { IfOk result (λ image. image ≡ runs self.now.state.kept) }
     {
         if !self.runs() {
             return Ok(None);

@@ -1,14 +1,14 @@
 //! What a service does to a device.
 
 ghost use Rattle.std.specs.Prelude.{◌≡◌, IfOk};
-ghost use Rattle.knx_model.specs.Loading.{allocation, load_event};
 ghost use Rattle.knx_model.specs.Device.{is_load_control, loads, object_of_index, effect_of};
 ghost use Rattle.knx_model.specs.Bench.{written_front};
 ghost use Rattle.device_sim.specs.Effects.{meant};
 
+use crate::loadable::first;
 use crate::places::object_of_index;
-use crate::segment::first;
 use knx_model::{Apdu, ApduOctets, LoadEvent, LoadableObject, NoMemory, Octets};
+use load_machine::load_event;
 use std::alloc::Global;
 
 /// The property that takes load events and tells the load state.
@@ -20,33 +20,6 @@ pub enum Effect {
     Loads(LoadableObject, LoadEvent),
     Stores { address: u16, octets: ApduOctets },
     Nothing,
-}
-
-/// 0B, size (4), 01, fill, 00 00.
-fn allocation(octets: &[u8]) -> LoadEvent
-    ensures { result ≡ allocation octets.now }
-{
-    match octets {
-        [0x0B, a, b, c, d, 1, fill, 0, 0] => LoadEvent::Allocate {
-            size: u32::from_be_bytes([*a, *b, *c, *d]),
-            fill: *fill,
-        },
-        _ => LoadEvent::Undefined,
-    }
-}
-
-/// The load event that the octets of load control ask for.
-fn load_event(octets: &[u8]) -> LoadEvent
-    ensures { result ≡ load_event octets.now }
-{
-    match octets {
-        [0, ..] => LoadEvent::NoOperation,
-        [1, ..] => LoadEvent::StartLoading,
-        [2, ..] => LoadEvent::LoadCompleted,
-        [3, rest @ ..] => allocation(rest),
-        [4, ..] => LoadEvent::Unload,
-        _ => LoadEvent::Undefined,
-    }
 }
 
 /// Whether a property write is one of load control.

@@ -1,23 +1,28 @@
 //! What a device keeps without power.
 
-ghost use Rattle.std.specs.Prelude.{◌≡◌, ℕ, List, length, nat_lt, take};
-ghost use Rattle.knx_model.specs.Device.{object as content, whole, torn, is_write, all_loaded, Loads, Stores, range_octets};
+ghost use Rattle.std.specs.Prelude.{◌≡◌, ◌≤◌, ℕ, true, List, length, nat_lt, take, Some};
+ghost use Rattle.knx_model.specs.Device.{object as content, whole, torn, taken, is_write, all_loaded, Loads, Stores, range_octets};
 ghost use Rattle.knx_model.specs.Bench.{written_front, front_of_load};
+ghost use Rattle.knx_model.specs.DeviceFrames.{same_state, complements, worn_octets};
 ghost use Rattle.device_sim.specs.Effects.{meant};
+ghost use Rattle.device_sim.specs.States.{states_of, has_states};
 
+use crate::answer::state_number;
 use crate::effect::Effect;
-use crate::places::{base, object_at};
-use crate::segment::{Segment, first};
-use knx_model::{LoadEvent, LoadableObject};
+use crate::loadable::{Loadable, first};
+use crate::places::object_at;
+use crate::worn::complements;
+use knx_model::{LoadEvent, LoadState, LoadableObject};
+use load_machine::base;
 use std::marker::Model;
 
 /// The four loadable objects of a device.
 #[derive(Drop)]
 pub struct Kept {
-    pub address_table: Segment,
-    pub association_table: Segment,
-    pub group_objects: Segment,
-    pub application: Segment,
+    pub address_table: Loadable,
+    pub association_table: Loadable,
+    pub group_objects: Loadable,
+    pub application: Loadable,
 }
 
 impl Model for Kept {
@@ -28,8 +33,44 @@ impl Model for Kept {
     ghost view = { λ k. record { address_table = k.address_table; association_table = k.association_table; group_objects = k.group_objects; application = k.application } };
 }
 
+/// The load states of the four loadable objects.
+#[derive(Clone, Copy)]
+pub struct LoadStates {
+    address_table: LoadState,
+    association_table: LoadState,
+    group_objects: LoadState,
+    application: LoadState,
+}
+
+fn same_state(one: LoadState, other: LoadState) -> bool
+    ensures { result ≡ same_state one other }
+{
+    state_number(one) == state_number(other)
+}
+
 impl Kept {
-    pub fn segment(&self, object: LoadableObject) -> &Segment
+    pub fn load_states(&self) -> LoadStates
+        ensures { result ≡ states_of self.now }
+    {
+        LoadStates {
+            address_table: self.address_table.state(),
+            association_table: self.association_table.state(),
+            group_objects: self.group_objects.state(),
+            application: self.application.state(),
+        }
+    }
+
+    /// Whether the load states are these.
+    pub fn has_states(&self, states: LoadStates) -> bool
+        ensures { result ≡ has_states states self.now }
+    {
+        same_state(states.address_table, self.address_table.state())
+            && same_state(states.association_table, self.association_table.state())
+            && same_state(states.group_objects, self.group_objects.state())
+            && same_state(states.application, self.application.state())
+    }
+
+    pub fn object(&self, object: LoadableObject) -> &Loadable
         ensures { result.now ≡ content self.now object }
     {
         match object {
@@ -76,21 +117,35 @@ impl Kept {
         }
     }
 
+    /// Takes a memory write, in whose range these octets then stand.
+    fn scribble(&mut self, address: u16, asked: &[u8], octets: &[u8])
+        ensures { self.new ≡ torn self.old (Stores address asked.now) true octets.now }
+    {
+        let n = asked.len();
+        if let Some(object) = object_at(address) {
+            let at = (address - base(object)) as usize;
+            match object {
+                LoadableObject::AddressTable => self.address_table.write_torn(at, n, octets),
+                LoadableObject::AssociationTable => self.association_table.write_torn(at, n, octets),
+                LoadableObject::GroupObjects => self.group_objects.write_torn(at, n, octets),
+                LoadableObject::Application => self.application.write_torn(at, n, octets),
+            }
+        }
+    }
+
     /// Stores the first `k` of these octets.
     fn store_torn(&mut self, address: u16, octets: &[u8], k: u32)
         ensures { self.new ≡ torn self.old (Stores address octets.now) (nat_lt 0 k) (take k octets.now) }
     {
-        if let Some(object) = object_at(address) {
-            let at = (address - base(object)) as usize;
-            let n = octets.len();
-            let front = first(octets, k as usize);
-            match object {
-                LoadableObject::AddressTable => self.address_table.write_torn(at, n, front),
-                LoadableObject::AssociationTable => self.association_table.write_torn(at, n, front),
-                LoadableObject::GroupObjects => self.group_objects.write_torn(at, n, front),
-                LoadableObject::Application => self.application.write_torn(at, n, front),
-            }
-        }
+        self.scribble(address, octets, first(octets, k as usize));
+    }
+
+    /// Stores the complement of each of these octets.
+    fn store_worn(&mut self, address: u16, octets: &[u8])
+        requires { length octets.now ≤ 16 }
+        ensures { self.new ≡ torn self.old (Stores address octets.now) true (complements octets.now) }
+    {
+        self.scribble(address, octets, complements(octets).as_slice());
     }
 
     /// Takes an effect whole.
@@ -115,6 +170,17 @@ impl Kept {
         }
     }
 
+    /// Takes an effect over worn memory, which keeps the complement of each octet of a memory write.
+    pub fn take_worn(&mut self, effect: &Effect)
+        ensures { self.new ≡ taken self.old (meant effect.now) (Some (worn_octets (meant effect.now))) }
+    {
+        match effect {
+            Effect::Loads(object, event) => self.load(*object, *event),
+            Effect::Stores { address, octets } => self.store_worn(*address, octets.as_slice()),
+            Effect::Nothing => {}
+        }
+    }
+
     /// Whether a memory write of n octets is taken.
     fn takes_store(&self, address: u16, n: usize) -> bool
         ensures { (octets : List ℕ) → length octets ≡ n → result ≡ is_write self.now (Stores address octets) }
@@ -122,7 +188,7 @@ impl Kept {
         match object_at(address) {
             Some(object) => {
                 let at = (address - base(object)) as usize;
-                self.segment(object).takes_write(at, n)
+                self.object(object).takes_write(at, n)
             }
             None => false,
         }
@@ -147,7 +213,7 @@ impl Kept {
         match object_at(address) {
             Some(object) => {
                 let at = (address - base(object)) as usize;
-                self.segment(object).range(at, n)
+                self.object(object).range(at, n)
             }
             None => &[],
         }

@@ -3,6 +3,7 @@
 ghost use Rattle.std.specs.Prelude.{◌≡◌, IfOk, IfSome};
 ghost use Rattle.knx_model.specs.Apdu.{IsApduInRange};
 ghost use Rattle.knx_model.specs.ApduReading.{service_in, apdu_octets};
+ghost use Rattle.knx_model.specs.Connection.{IsApdu};
 ghost use Rattle.knx_model.specs.Device.{effect_in};
 ghost use Rattle.knx_model.specs.Bench.{written_front};
 ghost use Rattle.device_sim.specs.Effects.{meant};
@@ -25,9 +26,11 @@ pub fn service_in(octets: &[u8]) -> Option<Apdu>
 }
 
 /// A service as octets.
+#[tactic(auto, using(crate::proofs::Apdus::written_apdu))]
 pub fn octets_of(apdu: Apdu) -> ApduOctets
     requires { IsApduInRange apdu }
-    ensures { result ≡ apdu_octets apdu }
+    ensures value { result ≡ apdu_octets apdu }
+    ensures apdu { IsApdu result }
 {
     encode(&Tpdu::Unnumbered(apdu))
 }

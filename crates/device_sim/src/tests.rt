@@ -1,8 +1,8 @@
 ghost use Rattle.std.specs.Prelude.{IfOk};
 ghost use Rattle.knx_model.specs.Device.{Fits};
 
-use crate::{Device, written_front};
-use knx_model::{Image, IndAddr, NoMemory, Octets};
+use crate::{Device, Ldata, Took, Value, WriteKind, written_front};
+use knx_model::{ApduOctets, Image, IndAddr, LdataCode, NoMemory, Octets};
 use std::alloc::Global;
 use std::test::Fail;
 
@@ -104,7 +104,7 @@ fn a_cut_of_an_unload(rt: HostRuntime) -> Result<(), Fail> {
             .image(rt.alloc())?
             .is_some_and(|runs| runs.params.as_slice() == [4, 5, 6].as_slice())
     );
-    if device.would_write(&UNLOAD_APPLICATION) {
+    if device.gives_write(&UNLOAD_APPLICATION) {
         device.give_torn(&UNLOAD_APPLICATION, 1);
     }
     assert!(rt; !device.runs());
@@ -116,5 +116,72 @@ fn a_cut_of_an_unload(rt: HostRuntime) -> Result<(), Fail> {
         written_front(rt.alloc(), &write, 1)?.as_slice(),
         [0xAB].as_slice()
     );
+    Ok(())
+}
+
+const CLIENT: u16 = 0x11FF;
+
+/// A frame of the client to the device.
+fn to_device(tpdu: &[u8]) -> Ldata
+    requires { length tpdu.now ≤ 16 }
+{
+    Ldata {
+        code: LdataCode::Req,
+        error: false,
+        group: false,
+        priority: 3,
+        hops: 6,
+        source: CLIENT,
+        destination: ADDRESS.raw,
+        tpdu: ApduOctets::from_slice(tpdu),
+    }
+}
+
+/// A frame of the client to the group 1/2/3.
+fn to_group(tpdu: &[u8]) -> Ldata
+    requires { length tpdu.now ≤ 16 }
+{
+    Ldata {
+        code: LdataCode::Req,
+        error: false,
+        group: true,
+        priority: 3,
+        hops: 6,
+        source: CLIENT,
+        destination: 0x0A03,
+        tpdu: ApduOctets::from_slice(tpdu),
+    }
+}
+
+/// Fails where the device has other frames to send than these.
+fn assert_sends(rt: &impl Abort, device: &mut Device, wanted: &[&[u8]]) {
+    for tpdu in wanted {
+        let sent = device.sends(0);
+        assert_eq!(rt; sent.as_ref().map(|frame| frame.tpdu.as_slice()), Some(*tpdu));
+        assert_eq!(rt; sent.map(|frame| frame.source), Some(ADDRESS.raw));
+    }
+    assert!(rt; device.sends(0).is_none());
+}
+
+#[test]
+fn a_descriptor_read_by_numbered_data(rt: HostRuntime) -> Result<(), Fail> {
+    let mut device = Device::blank(rt.alloc(), ADDRESS)?;
+    let answer: [u8; 4] = [0x43, 0x40, 0x07, 0xB0];
+    let table: [(&[u8], &[&[u8]]); 7] = [
+        // a closed device answers numbered data by T_Disconnect
+        (&[0x43, 0x00], &[&[0x81]]),
+        (&[0x80], &[]),
+        (&[0x43, 0x00], &[&[0xC2], &answer]),
+        // the same number again is acknowledged and dropped
+        (&[0x43, 0x00], &[&[0xC2]]),
+        // the next one is neither taken nor acknowledged before the answer's T_ACK
+        (&[0x47, 0x00], &[]),
+        (&[0xC2], &[]),
+        (&[0x4B, 0x00], &[&[0xCB]]),
+    ];
+    for (tpdu, wanted) in table {
+        assert_eq!(rt; device.take(rt.alloc(), &to_device(tpdu), 0)?, Took::Taken);
+        assert_sends(&rt, &mut device, wanted);
+    }
     Ok(())
 }

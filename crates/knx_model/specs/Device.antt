@@ -12,7 +12,7 @@ use Rattle.knx_model.specs.declared.frames.tpdu.Apdu.{Apdu}
 use Rattle.knx_model.specs.declared.frames.tpdu.Apdu.TheVariants.{MemoryRead, MemoryResponse, MemoryWrite, DescriptorRead, DescriptorResponse, PropertyRead, PropertyResponse, PropertyWrite}
 use Rattle.knx_model.specs.Apdu.{word}
 use Rattle.knx_model.specs.ApduReading.{service_in, apdu_octets, option_map}
-use Rattle.knx_model.specs.Loading.{Loadable, octets_of, is_loaded, load_event, load_step, load_torn, state_number, has_range, takes_write, written, scribbled}
+use Rattle.knx_model.specs.Loading.{Loadable, Machine, octets_of, is_loaded, load_event, load_step, load_torn, state_number, has_range, takes_write, written, scribbled}
 
 -- ---- the state of a device
 
@@ -40,6 +40,33 @@ with_object nv AddressTable p = record { address_table = p; association_table = 
 with_object nv AssociationTable p = record { address_table = nv.address_table; association_table = p; group_objects = nv.group_objects; application = nv.application }
 with_object nv GroupObjects p = record { address_table = nv.address_table; association_table = nv.association_table; group_objects = p; application = nv.application }
 with_object nv Application p = record { address_table = nv.address_table; association_table = nv.association_table; group_objects = nv.group_objects; application = p }
+
+-- what the load machine keeps of the four loadable objects
+pub record Machines : Type 0 where
+  pub address_table : Machine
+  pub association_table : Machine
+  pub group_objects : Machine
+  pub application : Machine
+
+abbrev pub machine : Machines → LoadableObject → Machine
+machine ms AddressTable = ms.address_table
+machine ms AssociationTable = ms.association_table
+machine ms GroupObjects = ms.group_objects
+machine ms Application = ms.application
+
+abbrev pub with_machine : Machines → LoadableObject → Machine → Machines
+with_machine ms AddressTable m = record { address_table = m; association_table = ms.association_table; group_objects = ms.group_objects; application = ms.application }
+with_machine ms AssociationTable m = record { address_table = ms.address_table; association_table = m; group_objects = ms.group_objects; application = ms.application }
+with_machine ms GroupObjects m = record { address_table = ms.address_table; association_table = ms.association_table; group_objects = m; application = ms.application }
+with_machine ms Application m = record { address_table = ms.address_table; association_table = ms.association_table; group_objects = ms.group_objects; application = m }
+
+abbrev pub all_unloaded : Machines
+all_unloaded = record {
+  address_table = record { state = Unloaded; len = 0 };
+  association_table = record { state = Unloaded; len = 0 };
+  group_objects = record { state = Unloaded; len = 0 };
+  application = record { state = Unloaded; len = 0 };
+}
 
 -- ---- the table of the loadable objects
 

@@ -27,6 +27,7 @@ pub mod Acts
 pub mod Loading
 pub mod Device
 pub mod Bench
+pub mod DeviceFrames
 pub mod Plan
 pub mod Script
 pub mod Promises

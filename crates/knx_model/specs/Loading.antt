@@ -20,6 +20,14 @@ octets_of p = take p.len p.memory
 abbrev pub capacity_of : Loadable → ℕ
 capacity_of p = length p.memory
 
+-- what the load machine keeps of a loadable object: all but the memory
+pub record Machine : Type 0 where
+  pub state : LoadState
+  pub len : ℕ
+
+abbrev pub machine_of : Loadable → Machine
+machine_of p = record { state = p.state; len = p.len }
+
 abbrev pub with_state : Loadable → LoadState → Loadable
 with_state p state = record { state = state; len = p.len; memory = p.memory }
 

@@ -7,6 +7,7 @@ mod bench;
 mod catalogue;
 mod command;
 mod config;
+mod device;
 mod connection;
 mod frames;
 mod lists;
@@ -28,6 +29,7 @@ pub use config::{Config, Image, LinkSpec, ObjSpec, ParamValue};
 pub use connection::{
     Busy, ClientConfirmed, ClientExpired, ClientTook, DeviceExpired, DeviceTook, TransportFrame,
 };
+pub use device::{Took, WriteKind};
 pub use frames::{
     Apdu, ApduOctets, CemiRefused, Datagram, IpFrame, IpRefused, Ldata, LdataCode, LongValue, Tpdu,
     TpduRefused, Value,

@@ -1,56 +1,54 @@
-//! A loadable object: the load machine, and the memory of which its segment is the front.
+//! A loadable object: its load machine, and the memory of which its segment is the front.
 
 ghost use Rattle.std.specs.Prelude.{◌≡◌, ◌+◌, ◌-◌, ◌≤◌, length, IfOk, take, drop, [], ◌++◌, replicate, nat_lt, if◌then◌else◌};
-ghost use Rattle.knx_model.specs.Loading.{load_step, load_torn, written, scribbled, takes_write, allocates, has_range, octets_of, overlaid, is_loading, is_loaded};
+ghost use Rattle.knx_model.specs.Loading.{load_step, load_torn, written, scribbled, takes_write, allocates, has_range, octets_of, overlaid, capacity_of, with_memory, is_loaded};
 ghost use Rattle.knx_model.specs.Device.{blank_object, loaded_object};
 ghost use Rattle.knx_model.specs.Bench.{front_of_load};
 
 use knx_model::{LoadEvent, LoadState, NoMemory};
+use load_machine::LoadMachine;
 use std::alloc::Global;
 use std::marker::Model;
 
-/// A loadable object with its load state, the length of its segment in octets, and its memory.
+/// A loadable object with its load machine and its memory.
 #[derive(Drop)]
-pub struct Segment {
-    state: LoadState,
-    len: usize,
+pub struct Loadable {
+    machine: LoadMachine,
     memory: Vec<u8>,
 }
 
-impl Model for Segment {
+impl Model for Loadable {
     ghost use Rattle.std.specs.Prelude.{◌≤◌, length};
     ghost use Rattle.knx_model.specs.Loading.{Loadable};
 
     ghost Value = { Loadable };
 
-    ghost view = { λ s. record { state = s.state; len = s.len; memory = s.memory.items } };
+    ghost view = { λ s. record { state = s.machine.state; len = s.machine.len; memory = s.memory.items } };
 
-    ghost invariant = { λ s. s.len ≤ length s.memory.items };
+    ghost invariant = { λ s. (s.machine.len ≤ length s.memory.items) × (length s.memory.items ≤ 65535) };
 }
 
-impl Segment {
-    /// An object to which nothing was loaded, with a memory of `size` octets.
+impl Loadable {
+    /// An object to which nothing was loaded, with a memory of `capacity` octets.
     #[tactic(auto, unfolding(knx_model::specs::Device::blank_object))]
-    pub fn blank(alloc: Global, size: usize) -> Result<Segment, NoMemory>
-        ensures { IfOk result (λ made. made ≡ blank_object size) }
+    pub fn blank(alloc: Global, capacity: u16) -> Result<Loadable, NoMemory>
+        ensures { IfOk result (λ made. made ≡ blank_object capacity) }
     {
-        let memory = vec![in alloc; 0; size]?;
-        Ok(Segment {
-            state: LoadState::Unloaded,
-            len: 0,
+        let memory = vec![in alloc; 0; capacity as usize]?;
+        Ok(Loadable {
+            machine: LoadMachine::unloaded(),
             memory,
         })
     }
 
     /// An object that is loaded with this list.
-    pub fn loaded(alloc: Global, size: usize, list: &[u8]) -> Result<Segment, NoMemory>
-        requires { length list.now ≤ size }
-        ensures { IfOk result (λ made. made ≡ loaded_object size list.now) }
+    pub fn loaded(alloc: Global, capacity: u16, list: &[u8]) -> Result<Loadable, NoMemory>
+        requires { length list.now ≤ capacity }
+        ensures { IfOk result (λ made. made ≡ loaded_object capacity list.now) }
     {
-        let memory = memory_with(alloc, size, list)?;
-        Ok(Segment {
-            state: LoadState::Loaded,
-            len: list.len(),
+        let memory = memory_with(alloc, capacity as usize, list)?;
+        Ok(Loadable {
+            machine: LoadMachine::loaded(list.len() as u16),
             memory,
         })
     }
@@ -58,77 +56,52 @@ impl Segment {
     pub fn state(&self) -> LoadState
         ensures { result ≡ self.now.state }
     {
-        self.state
+        self.machine.state()
     }
 
     /// The octets of the segment.
     pub fn octets(&self) -> &[u8]
-        ensures { result.now ≡ octets_of self.now }
+        ensures value { result.now ≡ octets_of self.now }
+        ensures len { length result.now ≡ self.now.len }
     {
-        &self.memory[..self.len]
-    }
-
-    fn is_loading(&self) -> bool
-        ensures { result ≡ is_loading self.now.state }
-    {
-        matches!(self.state, LoadState::Loading)
+        &self.memory[..self.machine.len() as usize]
     }
 
     pub fn is_loaded(&self) -> bool
         ensures { result ≡ is_loaded self.now.state }
     {
-        matches!(self.state, LoadState::Loaded)
+        self.machine.is_loaded()
+    }
+
+    fn capacity(&self) -> u16
+        ensures { result ≡ capacity_of self.now }
+    {
+        self.memory.len() as u16
+    }
+
+    fn allocates(&self, size: u32) -> bool
+        ensures { result ≡ allocates self.now size }
+    {
+        self.machine.allocates(size, self.capacity())
     }
 
     /// Takes a load event.
     pub fn load(&mut self, event: LoadEvent)
         ensures { self.new ≡ load_step self.old event }
     {
-        match event {
-            LoadEvent::NoOperation => {}
-            LoadEvent::StartLoading => self.start(),
-            LoadEvent::LoadCompleted => self.complete(),
-            LoadEvent::Allocate { size, fill } => self.allocate(size, fill),
-            LoadEvent::Unload => {
-                self.state = LoadState::Unloaded;
-                self.len = 0;
+        self.fill_allocated(event);
+        let capacity = self.capacity();
+        self.machine.load(event, capacity);
+    }
+
+    /// An allocation that is taken fills its octets.
+    fn fill_allocated(&mut self, event: LoadEvent)
+        ensures { self.new ≡ with_memory self.old (load_step self.old event).memory }
+    {
+        if let LoadEvent::Allocate { size, fill } = event {
+            if self.allocates(size) {
+                fill_front(self.memory.as_mut_slice(), size as usize, fill);
             }
-            LoadEvent::Undefined => self.state = LoadState::Error,
-        }
-    }
-
-    fn start(&mut self)
-        ensures { self.new ≡ load_step self.old LoadEvent.StartLoading }
-    {
-        self.state = match self.state {
-            LoadState::Error => LoadState::Error,
-            _ => LoadState::Loading,
-        };
-    }
-
-    fn complete(&mut self)
-        ensures { self.new ≡ load_step self.old LoadEvent.LoadCompleted }
-    {
-        self.state = match self.state {
-            LoadState::Loaded | LoadState::Loading => LoadState::Loaded,
-            _ => LoadState::Error,
-        };
-    }
-
-    fn allocates(&self, size: u32) -> bool
-        ensures { result ≡ allocates self.now size }
-    {
-        self.is_loading() && size as usize <= self.memory.len()
-    }
-
-    fn allocate(&mut self, size: u32, fill: u8)
-        ensures { self.new ≡ load_step self.old (LoadEvent.Allocate size fill) }
-    {
-        if self.allocates(size) {
-            self.len = size as usize;
-            fill_front(self.memory.as_mut_slice(), size as usize, fill);
-        } else {
-            self.state = LoadState::Error;
         }
     }
 
@@ -137,26 +110,20 @@ impl Segment {
     pub fn load_torn(&mut self, event: LoadEvent, k: u32)
         ensures { self.new ≡ load_torn self.old event (nat_lt 0 k) (front_of_load event k) }
     {
-        match event {
-            LoadEvent::Allocate { size, fill } => self.allocate_torn(size, fill, k),
-            _ => {
-                if k > 0 {
-                    self.load(event);
-                }
-            }
+        self.fill_torn(event, k);
+        if k > 0 {
+            let capacity = self.capacity();
+            self.machine.load(event, capacity);
         }
     }
 
-    fn allocate_torn(&mut self, size: u32, fill: u8, k: u32)
-        ensures { self.new ≡ load_torn self.old (LoadEvent.Allocate size fill) (nat_lt 0 k) (take k (replicate size fill)) }
+    fn fill_torn(&mut self, event: LoadEvent, k: u32)
+        ensures { self.new ≡ with_memory self.old (load_torn self.old event (nat_lt 0 k) (front_of_load event k)).memory }
     {
-        if self.allocates(size) {
-            fill_torn(self.memory.as_mut_slice(), size as usize, fill, k as usize);
-            if k > 0 {
-                self.len = size as usize;
+        if let LoadEvent::Allocate { size, fill } = event {
+            if self.allocates(size) {
+                fill_torn(self.memory.as_mut_slice(), size as usize, fill, k as usize);
             }
-        } else if k > 0 {
-            self.state = LoadState::Error;
         }
     }
 
@@ -164,14 +131,15 @@ impl Segment {
     fn has_range(&self, at: usize, n: usize) -> bool
         ensures { result ≡ has_range self.now at n }
     {
-        n <= self.len && at <= self.len - n
+        let len = self.machine.len() as usize;
+        n <= len && at <= len - n
     }
 
     /// Whether a memory write of n octets is taken.
     pub fn takes_write(&self, at: usize, n: usize) -> bool
         ensures { result ≡ takes_write self.now at n }
     {
-        self.is_loading() && self.has_range(at, n)
+        self.machine.is_loading() && self.has_range(at, n)
     }
 
     /// Takes a memory write.
@@ -197,7 +165,7 @@ impl Segment {
         ensures { result.now ≡ (if has_range self.now at n then take n (drop at (octets_of self.now)) else []) }
     {
         if self.has_range(at, n) {
-            part(&self.memory[..self.len], at, n)
+            part(self.octets(), at, n)
         } else {
             &[]
         }

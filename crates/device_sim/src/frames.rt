@@ -1,0 +1,225 @@
+//! The device on the line: the frames that it takes, and those that it sends.
+
+ghost use Rattle.std.specs.Prelude.{◌≡◌, nat_lt, true, is_some, Some, IfOk, IfSome, OnOk, OnErr, if◌then◌else◌};
+ghost use Rattle.knx_model.specs.declared.device.WriteKind.{WriteKind as Kind};
+ghost use Rattle.knx_model.specs.Bench.{written_front};
+ghost use Rattle.knx_model.specs.Connection.{IsApdu, partner_of, after_expiry, device_expired};
+ghost use Rattle.knx_model.specs.DeviceFrames.{Whole, Torn, Worn, took_of, takes, got, taken_alone, effect_of_frame, would_write, write_kind, worn_octets, sends, sent, frame_to_partner, due_frame, shut, with_connection, taken_group, sender, connection_took, effect_delivered};
+ghost use Rattle.device_sim.specs.Sending.{answered_end, answered_frame};
+ghost use Rattle.device_sim.specs.Wear.{outcome};
+ghost use Rattle.device_sim.specs.Effects.{meant};
+
+use crate::device::Device;
+use crate::effect::Effect;
+use crate::given::serve;
+use crate::sending::{copied, frame_to, queue, queue_if};
+use crate::service::effect_in;
+use crate::worn::Memory;
+use apdu_frames::encode;
+use knx_model::{ApduOctets, IndAddr, Ldata, NoMemory, Took, Tpdu, WriteKind};
+use std::alloc::Global;
+use transport_conn::{DeviceConn, DeviceExpired, DeviceTook};
+
+impl Device {
+    /// What `take` of this frame would say.
+    fn took(&self, frame: &Ldata) -> Took
+        ensures { result ≡ took_of self.now frame.now }
+    {
+        if !self.power {
+            Took::Off
+        } else if !frame.group && frame.destination != self.address.raw {
+            Took::NotMine
+        } else {
+            Took::Taken
+        }
+    }
+
+    /// A frame comes over the bus at this time, in milliseconds; its source is the sender. It acts by its connection, or as a
+    /// group telegram, and what the device has to say to it waits to be sent. Off exactly where it has no power, else NotMine
+    /// exactly where the frame is for another device alone. At `Err` nothing has changed.
+    pub fn take(&mut self, alloc: Global, frame: &Ldata, now: u64) -> Result<Took, NoMemory>
+        ensures took { IfOk result (λ took. took ≡ took_of self.old frame.now) }
+        ensures next { OnOk result (self.new ≡ takes self.old frame.now now Whole) }
+        ensures err { OnErr result (self.new ≡ self.old) }
+    {
+        match self.took(frame) {
+            Took::Taken => {
+                self.get(alloc, frame, now)?;
+                Ok(Took::Taken)
+            }
+            took => Ok(took),
+        }
+    }
+
+    fn get(&mut self, alloc: Global, frame: &Ldata, now: u64) -> Result<(), NoMemory>
+        ensures next { OnOk result (self.new ≡ got self.old frame.now now Whole) }
+        ensures err { OnErr result (self.new ≡ self.old) }
+    {
+        self.act(alloc, frame, now)?;
+        self.last = Some(copied(frame));
+        Ok(())
+    }
+
+    fn act(&mut self, alloc: Global, frame: &Ldata, now: u64) -> Result<(), NoMemory>
+        ensures next { OnOk result (self.new ≡ (if frame.now.group then taken_group self.old frame.now else taken_alone self.old frame.now now Whole)) }
+        ensures err { OnErr result (self.new ≡ self.old) }
+    {
+        if frame.group {
+            self.take_telegram(alloc, frame)
+        } else {
+            self.take_alone(frame, now, Memory::Sound)
+        }
+    }
+
+    /// Takes a frame for this device alone.
+    #[tactic(auto, using(crate::proofs::Answered::with_answer_is, crate::proofs::Answered::queued_if_is))]
+    fn take_alone(&mut self, frame: &Ldata, now: u64, memory: Memory) -> Result<(), NoMemory>
+        ensures next { OnOk result (self.new ≡ taken_alone self.old frame.now now (outcome memory (effect_delivered (connection_took self.old frame.now)))) }
+        ensures err { OnErr result (self.new ≡ self.old) }
+    {
+        self.unsent.reserve(2)?;
+        let from = sender(frame);
+        match self.connection.take(from, frame.tpdu.as_slice(), now) {
+            DeviceTook::Dropped | DeviceTook::Acked => Ok(()),
+            DeviceTook::Connected => {
+                self.unsent.clear();
+                Ok(())
+            }
+            DeviceTook::Apdu { apdu, ack } => {
+                queue(&mut self.unsent, frame_to(self.address, from, ack));
+                let answer = serve(&mut self.kept, &mut self.values, apdu.as_slice(), memory);
+                let tpdu = answer_frame(&mut self.connection, answer, now);
+                queue_if(&mut self.unsent, self.address, from, tpdu);
+                Ok(())
+            }
+            DeviceTook::Again { ack } => {
+                queue(&mut self.unsent, frame_to(self.address, from, ack));
+                Ok(())
+            }
+            DeviceTook::Nak(nak) => {
+                queue(&mut self.unsent, frame_to(self.address, from, nak));
+                Ok(())
+            }
+            DeviceTook::Closed { answer } => {
+                queue_if(&mut self.unsent, self.address, from, answer);
+                Ok(())
+            }
+        }
+    }
+
+    /// What the service does that this frame would deliver now.
+    fn effect_of_frame(&self, frame: &Ldata) -> Effect
+        ensures { meant result ≡ effect_of_frame self.now frame.now }
+    {
+        if !matches!(self.took(frame), Took::Taken) || frame.group {
+            return Effect::Nothing;
+        }
+        match self.connection.would_take(sender(frame), frame.tpdu.as_slice()) {
+            DeviceTook::Apdu { apdu, .. } => effect_in(apdu.as_slice()),
+            _ => Effect::Nothing,
+        }
+    }
+
+    /// The write of the device that `take` of this frame would do now; None exactly where it would do none.
+    pub fn would_write(&self, frame: &Ldata) -> Option<WriteKind>
+        ensures { result ≡ would_write self.now frame.now }
+    {
+        let effect = self.effect_of_frame(frame);
+        if self.kept.is_write(&effect) {
+            write_kind(&effect)
+        } else {
+            None
+        }
+    }
+
+    /// The frame is taken, and power is cut in the write that it asks for, after the first `k` octets that are written. The
+    /// load state and the segment length that it asks for are new but where `k` is 0.
+    #[tactic(auto, using(crate::proofs::Written::takes_torn))]
+    pub fn take_torn(&mut self, frame: &Ldata, k: u32, now: u64)
+        requires { is_some (would_write self.old frame.now) ≡ true }
+        ensures { self.new ≡ takes self.old frame.now now (Torn (nat_lt 0 k) (written_front (effect_of_frame self.old frame.now) k)) }
+    {
+        let _ = now;
+        let effect = self.effect_of_frame(frame);
+        self.kept.take_torn(&effect, k);
+        self.cut();
+    }
+
+    /// The frame is taken, and worn memory keeps the complement of each octet that it writes. At `Err` nothing has changed.
+    #[tactic(auto, using(crate::proofs::Written::takes_worn))]
+    pub fn take_worn(&mut self, _alloc: Global, frame: &Ldata, now: u64) -> Result<(), NoMemory>
+        requires { would_write self.old frame.now ≡ Some Kind.Memory }
+        ensures next { OnOk result (self.new ≡ takes self.old frame.now now (Worn (worn_octets (effect_of_frame self.old frame.now)))) }
+        ensures err { OnErr result (self.new ≡ self.old) }
+    {
+        self.take_alone(frame, now, Memory::Worn)?;
+        self.last = Some(copied(frame));
+        Ok(())
+    }
+
+    /// The next frame that it sends at this time: the oldest that waits, else its outstanding answer where this is due again, else
+    /// the T_Disconnect of a connection that was idle for too long. None exactly where there is none of these.
+    pub fn sends(&mut self, now: u64) -> Option<Ldata>
+        ensures frame { result ≡ sends self.old now }
+        ensures next { self.new ≡ sent self.old now }
+    {
+        match self.unsent.pop_front() {
+            Some(frame) => Some(frame),
+            None => self.due(now),
+        }
+    }
+
+    fn due(&mut self, now: u64) -> Option<Ldata>
+        ensures frame { result ≡ frame_to_partner self.old (partner_of self.old.connection) (due_frame (device_expired self.old.connection now)) }
+        ensures next { self.new ≡ with_connection self.old (after_expiry self.old.connection now (device_expired self.old.connection now)) }
+    {
+        let partner = self.connection.partner();
+        match self.connection.expire(now) {
+            DeviceExpired::Nothing => None,
+            DeviceExpired::Repeat(tpdu) | DeviceExpired::Closed(tpdu) => {
+                Some(frame_to(self.address, partner?, tpdu))
+            }
+        }
+    }
+
+    /// It closes its connection by T_Disconnect, where one is open. At `Err` nothing has changed.
+    pub fn shut(&mut self, _alloc: Global) -> Result<(), NoMemory>
+        ensures next { OnOk result (self.new ≡ shut self.old) }
+        ensures err { OnErr result (self.new ≡ self.old) }
+    {
+        let Some(partner) = self.connection.partner() else {
+            return Ok(());
+        };
+        self.unsent.push_back(frame_to(self.address, partner, encode(&Tpdu::Disconnect)))?;
+        self.connection = DeviceConn::idle();
+        Ok(())
+    }
+}
+
+fn sender(frame: &Ldata) -> IndAddr
+    ensures { result ≡ sender frame.now }
+{
+    IndAddr { raw: frame.source }
+}
+
+/// The octets that bring an answer, where there is one, to the partner.
+fn answer_frame(connection: &mut DeviceConn, answer: Option<ApduOctets>, now: u64) -> Option<ApduOctets>
+    requires { IfSome answer IsApdu }
+    ensures next { connection.new ≡ answered_end connection.old answer now }
+    ensures frame { result ≡ answered_frame connection.old answer }
+{
+    match answer {
+        Some(apdu) => connection.answer(apdu.as_slice(), now).ok(),
+        None => None,
+    }
+}
+
+fn write_kind(effect: &Effect) -> Option<WriteKind>
+    ensures { result ≡ write_kind (meant effect.now) }
+{
+    match effect {
+        Effect::Loads(_, _) => Some(WriteKind::Load),
+        Effect::Stores { .. } => Some(WriteKind::Memory),
+        Effect::Nothing => None,
+    }
+}

@@ -1,0 +1,117 @@
+//! The values of a device's group objects.
+
+ghost use Rattle.std.specs.Prelude.{◌≡◌, ◌<◌, [], IfOk, IfSome, if◌then◌else◌};
+ghost use Rattle.knx_model.specs.Apdu.{IsValueInRange};
+ghost use Rattle.knx_model.specs.Acts.{zero_value};
+ghost use Rattle.knx_model.specs.DeviceFrames.{slot, value_or_zero, written_values};
+ghost use Rattle.device_tables.specs.Objects.{holds};
+
+use device_tables::{Objects, zero_value};
+use knx_model::{LongValue, NoMemory, Value};
+use std::alloc::Global;
+use std::marker::Model;
+
+/// The same value again. It takes no memory.
+fn copied(value: &Value) -> Value
+    ensures { result ≡ value.now }
+{
+    match value {
+        Value::Short(bits) => Value::Short(*bits),
+        Value::Long(octets) => Value::Long(LongValue::from_slice(octets.as_slice())),
+    }
+}
+
+fn copied_slot(slot: &Option<Value>) -> Option<Value>
+    ensures { result ≡ slot.now }
+{
+    Some(copied(slot.as_ref()?))
+}
+
+/// How many object numbers there are, from 0.
+const OBJECTS: usize = 256;
+
+/// What was written to each object number; no slots where nothing was written.
+#[derive(Drop)]
+pub struct Values {
+    slots: Vec<Option<Value>>,
+}
+
+impl Model for Values {
+    ghost use Rattle.std.specs.Prelude.{List, Option, ℕ, IfSome};
+    ghost use Rattle.knx_model.specs.declared.frames.value.Value.{Value as GroupValue};
+    ghost use Rattle.knx_model.specs.Apdu.{IsValueInRange};
+    ghost use Rattle.knx_model.specs.DeviceFrames.{slot};
+
+    ghost Value = { List (Option GroupValue) };
+
+    ghost view = { λ v. v.slots.items };
+
+    ghost invariant = { λ v. (k : ℕ) → IfSome (slot v.slots.items k) IsValueInRange };
+}
+
+impl Values {
+    /// All are zero. It takes no memory.
+    pub fn zero(alloc: Global) -> Values
+        ensures { result ≡ [] }
+    {
+        Values {
+            slots: Vec::new(alloc),
+        }
+    }
+
+    /// All become zero.
+    pub fn reset(&mut self)
+        ensures { self.new ≡ [] }
+    {
+        self.slots.clear();
+    }
+
+    /// What was written to an object.
+    fn slot(&self, object: usize) -> Option<Value>
+        ensures value { result ≡ slot self.now object }
+        ensures range { IfSome result IsValueInRange }
+    {
+        if object < self.slots.len() {
+            copied_slot(&self.slots[object])
+        } else {
+            None
+        }
+    }
+
+    /// The value of an object of a size code.
+    pub fn value(&self, object: u8, size: u8) -> Value
+        ensures value { result ≡ value_or_zero (slot self.now object) size }
+        ensures range { IsValueInRange result }
+    {
+        match self.slot(object as usize) {
+            Some(value) => value,
+            None => zero_value(size),
+        }
+    }
+
+    /// The values after this one was written to these objects.
+    #[tactic(auto, unfolding(knx_model::specs::DeviceFrames::written_values))]
+    pub fn written(&self, alloc: Global, objects: &Objects, value: &Value) -> Result<Values, NoMemory>
+        requires { IsValueInRange value.now }
+        ensures { IfOk result (λ made. made ≡ written_values (λ o. holds objects.now o) value.now self.now) }
+    {
+        let mut slots = Vec::with_capacity(alloc, OBJECTS)?;
+        for object in 0..OBJECTS {
+            slots.push(self.slot_after(objects, value, object))?;
+        }
+        Ok(Values { slots })
+    }
+
+    fn slot_after(&self, objects: &Objects, value: &Value, object: usize) -> Option<Value>
+        requires range { IsValueInRange value.now }
+        requires object { object < 256 }
+        ensures slot { result ≡ (if holds objects.now object then Some value.now else slot self.now object) }
+        ensures range { IfSome result IsValueInRange }
+    {
+        if objects.has(object as u8) {
+            Some(copied(value))
+        } else {
+            self.slot(object)
+        }
+    }
+}

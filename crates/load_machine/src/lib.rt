@@ -1,0 +1,17 @@
+//! The load machine of a device (ISO/IEC 14543-3, management, after System B): load state and segment length of each loadable
+//! object, and what a load event makes of them. Whoever has the memory of the segments keeps it beside this.
+#![tactic(auto)]
+
+mod loads;
+mod machine;
+mod octets;
+mod places;
+
+pub use knx_model::{LoadEvent, LoadState, LoadableObject};
+pub use loads::{Loads, Segment};
+pub use machine::LoadMachine;
+pub use octets::load_event;
+pub use places::{base, capacity};
+
+#[cfg(test)]
+mod tests;
