@@ -1,6 +1,6 @@
 -- What a call of the program does, for each of its commands.
-use Rattle.std.specs.Prelude.{ℕ, ◌≡◌, ◌⊎◌, Bool, true, false, List, [], ◌∷◌, map, All, IsPermutation, Option, Some, None, Result, Ok, Err, if◌then◌else◌}
-use Rattle.std.specs.List.{list_any, flat_map}
+use Rattle.std.specs.Prelude.{ℕ, ◌≡◌, ◌⊎◌, Bool, true, false, List, [], ◌∷◌, map, IsPermutation, Option, Some, None, Result, Ok, Err, if◌then◌else◌}
+use Rattle.std.specs.List.{AllZip, list_any, flat_map, zip}
 use Rattle.std.specs.List.Sorted.{IsStrictlyIncreasing}
 use Rattle.frame_text.specs.FrameText.{IsFrameText, hex_word}
 use Rattle.knx_model.specs.declared.address.IndAddr.{IndAddr}
@@ -16,7 +16,8 @@ use Rattle.knx_model.specs.Bench.{Trace}
 use Rattle.knx_model.specs.Meaning.{Installation, meaning}
 use Rattle.knx_model.specs.Outside.{Told, Takes, TakesFront}
 use Rattle.knx_model.specs.ReportText.{counts_line, tables_lines, report_text, stop_text, stop_status}
-use Rattle.knx_model.specs.Rules.{counts_of, devices_of}
+use Rattle.knx_model.specs.Counts.{counts_of}
+use Rattle.knx_model.specs.Rules.{devices_of}
 use Rattle.knx_model.specs.Tables.{StandsFor}
 use Rattle.knx_top.specs.Asked.{Command, Check, Tables, Sim, Decode, FileNames, asked, files_of, name_in}
 use Rattle.knx_top.specs.Judged.{ProjectReads, SimReads, ProjectIsRead, SimIsRead, judged_project, judged}
@@ -30,11 +31,12 @@ IsCountsText i text = text ≡ counts_line (counts_of i)
 
 -- `tables`: the devices, ascending, each with the tables of an image that stands for what the project says of it
 pub record IsTablesText (i : Installation) (text : List ℕ) : Type 0 where
-  pub compiled : List (IndAddr × Image)
-  pub exactly : IsPermutation (devices_of i.statements) (map (λ c. c.0) compiled)
-  pub ascend : IsStrictlyIncreasing (map (λ c. c.0.raw) compiled)
-  pub stand : All (λ c. StandsFor c.1 (meaning i c.0)) compiled
-  pub lines : text ≡ flat_map (λ c. tables_lines c.0 c.1) compiled
+  pub devices : List IndAddr
+  pub all : IsPermutation (devices_of i.statements) devices
+  pub ascending : IsStrictlyIncreasing (map (λ d. d.raw) devices)
+  pub images : List Image
+  pub stand : AllZip (λ image device. StandsFor image (meaning i device)) images devices
+  pub lines : text ≡ flat_map (λ c. tables_lines c.0 c.1) (zip devices images)
 
 -- `decode`: the octets of a word of hexadecimal digits; another word is usage
 abbrev pub octets_or_usage : Option (List ℕ) → Result (List ℕ) Stop

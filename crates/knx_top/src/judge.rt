@@ -4,15 +4,15 @@ ghost use Rattle.std.specs.Prelude.{◌≡◌, ◌≢◌, Err, IfOk, IfErr};
 ghost use Rattle.knx_model.specs.declared.command.InputFile.TheVariants.{New, Old};
 ghost use Rattle.knx_model.specs.declared.command.Stop.TheVariants.{NoMemory as OutOfMemory};
 ghost use Rattle.knx_model.specs.Rules.{devices_of};
-ghost use Rattle.knx_top.specs.Judged.{Gives, built, judged, script_cuts, the_device, with_at_most};
+ghost use Rattle.knx_top.specs.Judged.{Gives, built, judged, just_cuts, script_cuts, the_device, with_at_most};
 ghost use Rattle.knx_top.specs.Names.{sim_reads_of};
 ghost use Rattle.knx_top.specs.Order.{IsBefore, IsImage, OrderFor};
 
 use crate::project::{models_in, not_built, project_in, read_of, refusal, sound_in};
 use crate::texts::SimTexts;
-use knx_model::{Cut, Image, IndAddr, InputFile, List, Stop};
+use knx_model::{Cut, Image, IndAddr, InputFile, List, NoMemory, ScriptLine, Stop};
 use project_check::Checked;
-use script_text::{first_stranger, just_cuts, read_script};
+use script_text::{cuts_of, first_stranger, is_cut, read_script};
 use std::alloc::Global;
 use table_compiler::compile;
 
@@ -46,6 +46,17 @@ fn has_at_most(device: IndAddr, old: &Checked<'_>) -> Result<(), Stop>
     }
 }
 
+/// The cuts of lines that are all `cut` lines; none at all for others.
+fn just_cuts(alloc: Global, lines: &[ScriptLine]) -> Result<Option<List<Cut>>, NoMemory>
+    ensures { IfOk result (λ cuts. cuts ≡ just_cuts lines.now) }
+{
+    if lines.iter().all(|line| is_cut(line)) {
+        Ok(Some(cuts_of(alloc, lines)?))
+    } else {
+        Ok(None)
+    }
+}
+
 /// The cuts of a script, where it reads, names no other device than this one and has `cut` lines alone.
 fn cuts_in(alloc: Global, octets: &[u8], device: IndAddr) -> Result<List<Cut>, Stop>
     ensures { Gives (λ cuts. cuts) result (script_cuts device octets.now) }
@@ -54,7 +65,7 @@ fn cuts_in(alloc: Global, octets: &[u8], device: IndAddr) -> Result<List<Cut>, S
         Ok(script) => script,
         Err(refused) => return Err(refusal(InputFile::Script, refused)),
     };
-    let lines = script.lines();
+    let lines = script.lines.as_slice();
     if let Some(refused) = first_stranger(&[device], lines) {
         return Err(refusal(InputFile::Script, refused));
     }

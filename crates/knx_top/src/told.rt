@@ -1,7 +1,7 @@
 //! What is told by the commands without a run: `check`, `tables` and `decode`.
 
-ghost use Rattle.std.specs.Prelude.{◌≡◌, ◌++◌, length, zip, Ok, OnOk, IfOk, IfErr};
-ghost use Rattle.std.specs.List.{flat_map};
+ghost use Rattle.std.specs.Prelude.{◌≡◌, ◌++◌, length, Ok, OnOk, IfOk, IfErr};
+ghost use Rattle.std.specs.List.{flat_map, zip};
 ghost use Rattle.frame_text.specs.FrameText.{IsFrameText, hex_word};
 ghost use Rattle.knx_model.specs.declared.command.Stop.TheVariants.{NoMemory as OutOfMemory};
 ghost use Rattle.knx_model.specs.ReportText.{tables_lines};
