@@ -28,9 +28,9 @@ impl Model for Run {
 
     ghost Value = { Trace };
 
-    ghost view = { λ r. record { start = r.start; events = r.events.items } };
+    ghost view = { λ r. record { start = r.start.state; events = r.events.items } };
 
-    ghost invariant = { λ r. r.device ≡ replay r.start r.events.items };
+    ghost invariant = { λ r. r.device.state ≡ replay r.start.state r.events.items };
 }
 
 impl Run {
@@ -86,7 +86,7 @@ impl Run {
     pub fn would_write(&self, apdu: &[u8]) -> bool
         ensures { result ≡ is_write (now self.now).kept (effect_in apdu.now) }
     {
-        self.device.would_write(apdu)
+        self.device.gives_write(apdu)
     }
 
     /// The device takes a service whole. At `Err` nothing was done.
