@@ -1,12 +1,12 @@
 -- No frame is sent more than four times, whatever calls come.
-use Rattle.std.proofs.Common.{◌≡◌, ℕ, ◌+◌, ◌-◌, ◌<◌, ◌≤◌, List, [], ◌∷◌, refl, Option, Some, None, Bool, true, false, arith}
+use Rattle.std.proofs.Common.{ℕ, ◌+◌, ◌≤◌, List, [], ◌∷◌, Option, Some, None, Bool, true, false, arith}
 use Rattle.std.proofs.lemmas.Grind.{common_steps}
 use Rattle.knx_model.specs.declared.address.IndAddr.{IndAddr}
 use Rattle.knx_model.specs.declared.connection.DeviceTook.{DeviceTook}
 use Rattle.knx_model.specs.declared.connection.DeviceTook.TheVariants as took
 use Rattle.knx_model.specs.declared.connection.ClientTook.{ClientTook}
 use Rattle.knx_model.specs.declared.connection.ClientTook.TheVariants as heard
-use Rattle.knx_model.specs.Connection.{DeviceEnd, Closed, Idle, Answering, ClientEnd, Asked, Up, Asking, Awaiting, Ended, Session, Outstanding, Question, left, is_partner, told_ack, device_took, device_after, after_answer, device_expired, after_expiry, after_confirmed, after_send, client_took, client_after, client_expired, after_overdue}
+use Rattle.knx_model.specs.Connection.{DeviceEnd, Closed, Idle, Answering, ClientEnd, Asked, Up, Asking, Awaiting, Ended, Session, Outstanding, Question, left, told_ack, device_took, device_after, after_answer, device_expired, after_expiry, after_confirmed, after_send, client_took, client_after, client_expired, after_overdue}
 use Rattle.transport_conn.specs.Laws.{DeviceCall, Takes, Answers, Expires, after_device_call, device_after_calls, IsSentAtMostFourTimes, ClientCall, Confirms, Sends, Hearing, Waits, after_client_call, client_after_calls, IsAskedAtMostFourTimes}
 
 left_kept : (e : DeviceEnd) (from : IndAddr) → IsSentAtMostFourTimes e → IsSentAtMostFourTimes (left e from)
