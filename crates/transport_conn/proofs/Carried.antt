@@ -1,13 +1,13 @@
 -- The octets of a frame are read as this frame.
-use Rattle.std.proofs.Common.{◌≡◌, ◌≢◌, ℕ, ◌+◌, ◌*◌, ◌/◌, ◌<◌, ◌≤◌, ◌⊎◌, inl, inr, List, [], ◌∷◌, length, refl, ap, sym, ◌∙◌, Option, Some, None, Bool, true, false, arith}
+use Rattle.std.proofs.Common.{◌≡◌, ℕ, ◌+◌, ◌*◌, ◌/◌, ◌<◌, ◌≤◌, ◌⊎◌, inl, List, [], ◌∷◌, length, refl, ap, Some, arith}
 use Rattle.std.proofs.lemmas.Grind.{common_steps}
 use Rattle.knx_model.specs.declared.frames.tpdu.Apdu.{Apdu}
 use Rattle.knx_model.specs.declared.frames.tpdu.Tpdu.{Tpdu}
 use Rattle.knx_model.specs.declared.frames.tpdu.Tpdu.TheVariants as tpdu
 use Rattle.knx_model.specs.declared.connection.TransportFrame.{TransportFrame}
 use Rattle.knx_model.specs.declared.connection.TransportFrame.TheVariants.{Connect, Disconnect, Ack, Nak, Numbered, Other}
-use Rattle.knx_model.specs.Apdu.{Reads, ReadsControl, Written, WrittenApdu, apdu_code, rest_of}
-use Rattle.knx_model.specs.ApduReading.{control_in, apdu_octets}
+use Rattle.knx_model.specs.Apdu.{ReadsControl, Written, apdu_code}
+use Rattle.knx_model.specs.ApduReading.{apdu_octets}
 use Rattle.knx_model.specs.Connection.{frame_in, control_frame, numbered, IsApdu}
 use Rattle.transport_conn.specs.Laws.{Carries}
 use Rattle.apdu_frames.proofs.Function.{control_from}

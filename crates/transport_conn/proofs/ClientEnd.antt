@@ -1,16 +1,13 @@
 -- What the client's end tells, and where it is silent.
-use Rattle.std.proofs.Common.{◌≡◌, ◌≢◌, ℕ, ◌+◌, ◌-◌, ◌%◌, ◌<◌, ◌≤◌, ◌⊎◌, inl, inr, List, [], ◌∷◌, length, refl, ap, sym, ◌∙◌, Option, Some, None, Bool, true, false, ◌==◌, if◌then◌else◌, arith}
+use Rattle.std.proofs.Common.{◌≡◌, ◌≢◌, ℕ, ◌-◌, ◌<◌, ◌≤◌, ◌⊎◌, inl, inr, List, refl, ap, sym, ◌∙◌, Option, Some, None, arith}
 use Rattle.std.proofs.lemmas.Grind.{common_steps}
-use Rattle.knx_model.specs.declared.address.IndAddr.{IndAddr}
 use Rattle.knx_model.specs.declared.frames.tpdu.Tpdu.TheVariants as tpdu
 use Rattle.knx_model.specs.declared.connection.TransportFrame.{TransportFrame}
 use Rattle.knx_model.specs.declared.connection.TransportFrame.TheVariants.{Connect, Disconnect, Ack, Nak, Numbered, Other}
-use Rattle.knx_model.specs.declared.connection.ClientTook.{ClientTook}
 use Rattle.knx_model.specs.declared.connection.ClientTook.TheVariants as heard
-use Rattle.knx_model.specs.declared.connection.ClientExpired.{ClientExpired}
 use Rattle.knx_model.specs.declared.connection.ClientExpired.TheVariants as over
 use Rattle.knx_model.specs.Apdu.{Written}
-use Rattle.knx_model.specs.Connection.{ClientEnd, Asked, Up, Asking, Awaiting, Ended, Session, Question, client_took, client_after, client_expired, client_deadline, up_took, asking_took, answer_heard, advanced, next, is_before, has_passed, end_of, end_where, question_expired, overdue, has_come}
+use Rattle.knx_model.specs.Connection.{ClientEnd, Asked, Up, Asking, Awaiting, Ended, Session, Question, client_took, client_after, client_expired, client_deadline, up_took, asking_took, answer_heard, advanced, end_where, question_expired}
 use Rattle.transport_conn.specs.Laws.{Hears, HasSession, IsUnacknowledged, IsUnanswered, Reached}
 
 pub nak_ignored : (e : ClientEnd) (number : ℕ) → client_took e (Nak number) ≡ heard.Dropped

@@ -1,16 +1,14 @@
 -- What the device's end delivers, sends again and waits for.
-use Rattle.std.proofs.Common.{◌≡◌, ◌≢◌, ℕ, ◌+◌, ◌-◌, ◌%◌, ◌<◌, ◌≤◌, List, [], ◌∷◌, length, refl, ap, sym, ◌∙◌, Option, Some, None, Bool, true, false, ◌==◌, if◌then◌else◌, arith}
+use Rattle.std.proofs.Common.{◌≡◌, ◌≢◌, ℕ, ◌-◌, ◌<◌, ◌≤◌, List, refl, ap, sym, ◌∙◌, arith}
 use Rattle.std.proofs.lemmas.Grind.{common_steps}
 use Rattle.knx_model.specs.declared.address.IndAddr.{IndAddr}
 use Rattle.knx_model.specs.declared.frames.tpdu.Tpdu.TheVariants as tpdu
 use Rattle.knx_model.specs.declared.connection.TransportFrame.{TransportFrame}
 use Rattle.knx_model.specs.declared.connection.TransportFrame.TheVariants.{Connect, Disconnect, Ack, Nak, Numbered, Other}
-use Rattle.knx_model.specs.declared.connection.DeviceTook.{DeviceTook}
 use Rattle.knx_model.specs.declared.connection.DeviceTook.TheVariants as took
-use Rattle.knx_model.specs.declared.connection.DeviceExpired.{DeviceExpired}
 use Rattle.knx_model.specs.declared.connection.DeviceExpired.TheVariants as expired
 use Rattle.knx_model.specs.Apdu.{Written}
-use Rattle.knx_model.specs.Connection.{DeviceEnd, Closed, Idle, Answering, Session, Outstanding, device_took, device_after, device_expired, device_deadline, is_partner, idle_took, answering_took, stranger_took, service_took, advanced, next, is_before, has_passed, end_of}
+use Rattle.knx_model.specs.Connection.{DeviceEnd, Closed, Idle, Answering, Session, Outstanding, device_took, device_after, device_expired, device_deadline, advanced}
 use Rattle.transport_conn.specs.Laws.{Delivers, Repeats, Reached}
 
 pub delivered : (e : DeviceEnd) (from : IndAddr) (frame : TransportFrame) (apdu ack : List ℕ) → device_took e from frame ≡ took.Apdu apdu ack → Delivers e from frame apdu ack

@@ -13,7 +13,7 @@ ghost use Rattle.knx_model.specs.declared.connection.ClientExpired.TheVariants a
 ghost use Rattle.knx_model.specs.Apdu.{Written};
 ghost use Rattle.knx_model.specs.ApduReading.{apdu_octets};
 ghost use Rattle.knx_model.specs.Connection.{DeviceEnd as Device, ClientEnd as Client, Session, Question, Asking, Up, Awaiting, frame_in, numbered, has_passed, device_took, device_after, device_expired, device_deadline, client_took, client_after, client_expired, client_deadline};
-ghost use Rattle.transport_conn.specs.Laws.{Carries, Reached, Delivers, Repeats, Hears, IsUnacknowledged, IsUnanswered};
+ghost use Rattle.transport_conn.specs.Laws.{Carries, Reached, Delivers, Repeats, Hears, IsUnacknowledged, IsUnanswered, DeviceCall, ClientCall, device_after_calls, client_after_calls, IsSentAtMostFourTimes, IsAskedAtMostFourTimes};
 
 /// Octets that carry a frame are read as this frame, and octets that carry none as no frame.
 pub fn frames_are_read()
@@ -75,4 +75,10 @@ pub fn silent_exactly()
     ensures only { (e : Client) (now ms : ℕ) → client_expired e now ≡ over.Silent ms → ((ms ≡ 3000) × IsUnacknowledged e now) ⊎ ((ms ≡ 6000) × IsUnanswered e now) }
     ensures unacknowledged { (e : Client) (now : ℕ) → IsUnacknowledged e now → client_expired e now ≡ over.Silent 3000 }
     ensures unanswered { (e : Client) (now : ℕ) → IsUnanswered e now → client_expired e now ≡ over.Silent 6000 }
+{}
+
+/// Whatever calls come, at no moment was the outstanding frame of an end sent more than four times.
+pub fn sent_at_most_four_times()
+    ensures device { (calls : List DeviceCall) → IsSentAtMostFourTimes (device_after_calls calls) }
+    ensures client { (device : Address) (calls : List ClientCall) → IsAskedAtMostFourTimes (client_after_calls device calls) }
 {}

@@ -17,7 +17,8 @@ pub use knx_model::{
 };
 pub use laws::{
     deadline_is_nearest, delivers_exactly, delivers_once, frames_are_read, hears_exactly,
-    hears_once, nak_is_ignored, numbered_is_grammatical, repeats_exactly, silent_exactly,
+    hears_once, nak_is_ignored, numbered_is_grammatical, repeats_exactly, sent_at_most_four_times,
+    silent_exactly,
 };
 
 #[cfg(test)]
