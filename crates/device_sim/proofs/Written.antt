@@ -75,9 +75,9 @@ takes_torn d frame now fresh octets h =
     let start : takes d frame now (Torn fresh octets) ≡ powerless (got d frame now (Torn fresh octets)).state = taken_so d frame now (Torn fresh octets) (took_of d frame) a.taken in
     let state : ◌≡◌ {A = DeviceState} (got d frame now (Torn fresh octets)).state (taken_alone d frame now (Torn fresh octets)).state = ap (λ (x : LineDevice). x.state) (got_alone d frame now (Torn fresh octets) a.alone) in
     let kept : ◌≡◌ {A = DeviceState} (taken_alone d frame now (Torn fresh octets)).state (with_kept d.state (torn d.state.kept (effect_delivered (connection_took d frame)) fresh octets) d.state.power) =
-        acted_state (with_connection d (device_after d.connection (sender frame) now (connection_took d frame))) (sender frame) now fresh octets (connection_took d frame) in
+    acted_state (with_connection d (device_after d.connection (sender frame) now (connection_took d frame))) (sender frame) now fresh octets (connection_took d frame) in
     let effect : with_kept d.state (torn d.state.kept (effect_delivered (connection_took d frame)) fresh octets) d.state.power ≡ with_kept d.state (torn d.state.kept (effect_of_frame d frame) fresh octets) d.state.power =
-        ap (λ (e : Effect). with_kept d.state (torn d.state.kept e fresh octets) d.state.power) (sym a.effect) in
+    ap (λ (e : Effect). with_kept d.state (torn d.state.kept e fresh octets) d.state.power) (sym a.effect) in
     start ∙ ap powerless (state ∙ kept ∙ effect)
 
 pub takes_worn : (d : LineDevice) (frame : Ldata) (now : ℕ) (kind : WriteKind) → would_write d frame ≡ Some kind → takes d frame now (Worn (worn_octets (effect_of_frame d frame))) ≡ with_last (taken_alone d frame now (Worn (worn_octets (effect_delivered (connection_took d frame))))) frame

@@ -114,7 +114,10 @@ impl Device {
         if !matches!(self.took(frame), Took::Taken) || frame.group {
             return Effect::Nothing;
         }
-        match self.connection.would_take(sender(frame), frame.tpdu.as_slice()) {
+        match self
+            .connection
+            .would_take(sender(frame), frame.tpdu.as_slice())
+        {
             DeviceTook::Apdu { apdu, .. } => effect_in(apdu.as_slice()),
             _ => Effect::Nothing,
         }
@@ -135,11 +138,10 @@ impl Device {
     /// The frame is taken, and power is cut in the write that it asks for, after the first `k` octets that are written. The
     /// load state and the segment length that it asks for are new but where `k` is 0.
     #[tactic(auto, using(crate::proofs::Written::takes_torn))]
-    pub fn take_torn(&mut self, frame: &Ldata, k: u32, now: u64)
+    pub fn take_torn(&mut self, frame: &Ldata, k: u32, _now: u64)
         requires { is_some (would_write self.old frame.now) ≡ true }
-        ensures { self.new ≡ takes self.old frame.now now (Torn (nat_lt 0 k) (written_front (effect_of_frame self.old frame.now) k)) }
+        ensures { self.new ≡ takes self.old frame.now _now (Torn (nat_lt 0 k) (written_front (effect_of_frame self.old frame.now) k)) }
     {
-        let _ = now;
         let effect = self.effect_of_frame(frame);
         self.kept.take_torn(&effect, k);
         self.cut();
@@ -190,7 +192,8 @@ impl Device {
         let Some(partner) = self.connection.partner() else {
             return Ok(());
         };
-        self.unsent.push_back(frame_to(self.address, partner, encode(&Tpdu::Disconnect)))?;
+        self.unsent
+            .push_back(frame_to(self.address, partner, encode(&Tpdu::Disconnect)))?;
         self.connection = DeviceConn::idle();
         Ok(())
     }
@@ -203,7 +206,11 @@ fn sender(frame: &Ldata) -> IndAddr
 }
 
 /// The octets that bring an answer, where there is one, to the partner.
-fn answer_frame(connection: &mut DeviceConn, answer: Option<ApduOctets>, now: u64) -> Option<ApduOctets>
+fn answer_frame(
+    connection: &mut DeviceConn,
+    answer: Option<ApduOctets>,
+    now: u64,
+) -> Option<ApduOctets>
     requires { IfSome answer IsApdu }
     ensures next { connection.new ≡ answered_end connection.old answer now }
     ensures frame { result ≡ answered_frame connection.old answer }

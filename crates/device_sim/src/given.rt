@@ -25,11 +25,10 @@ impl Device {
         ensures next { self.new ≡ given self.old apdu.now }
         ensures answer { result ≡ answered self.old.state apdu.now }
     {
-        if self.power {
-            serve(&mut self.kept, &mut self.values, apdu, Memory::Sound)
-        } else {
-            None
+        if !self.power {
+            return None;
         }
+        serve(&mut self.kept, &mut self.values, apdu, Memory::Sound)
     }
 
     /// Whether the service would be a write of the device, at which power can be cut.
@@ -53,7 +52,12 @@ impl Device {
 }
 
 /// Takes a service, and answers it. A change of a load state makes all values zero.
-pub fn serve(kept: &mut Kept, values: &mut Values, octets: &[u8], memory: Memory) -> Option<ApduOctets>
+pub fn serve(
+    kept: &mut Kept,
+    values: &mut Values,
+    octets: &[u8],
+    memory: Memory,
+) -> Option<ApduOctets>
     ensures next { kept.new ≡ served_kept kept.old octets.now memory }
     ensures values { values.new ≡ (if same_states kept.old (served_kept kept.old octets.now memory) then values.old else []) }
     ensures answer { result ≡ answer_in kept.old octets.now }

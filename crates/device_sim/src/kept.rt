@@ -126,7 +126,9 @@ impl Kept {
             let at = (address - base(object)) as usize;
             match object {
                 LoadableObject::AddressTable => self.address_table.write_torn(at, n, octets),
-                LoadableObject::AssociationTable => self.association_table.write_torn(at, n, octets),
+                LoadableObject::AssociationTable => self
+                    .association_table
+                    .write_torn(at, n, octets),
                 LoadableObject::GroupObjects => self.group_objects.write_torn(at, n, octets),
                 LoadableObject::Application => self.application.write_torn(at, n, octets),
             }

@@ -72,7 +72,12 @@ pub fn queue(unsent: &mut VecDeque<Ldata>, frame: Ldata)
 }
 
 /// Puts the frame that these octets are, where there are any, behind those that wait. There is room for it.
-pub fn queue_if(unsent: &mut VecDeque<Ldata>, address: IndAddr, to: IndAddr, tpdu: Option<ApduOctets>)
+pub fn queue_if(
+    unsent: &mut VecDeque<Ldata>,
+    address: IndAddr,
+    to: IndAddr,
+    tpdu: Option<ApduOctets>,
+)
     requires { deque_len unsent.old < deque_capacity unsent.old }
     ensures { unsent.new.items ≡ and_frame unsent.old.items address to tpdu }
 {

@@ -45,7 +45,13 @@ impl Device {
     }
 
     /// A device that runs this image is told a telegram.
-    fn tell(&mut self, alloc: Global, image: &Image, group: GroupAddr, service: &GroupService) -> Result<(), NoMemory>
+    fn tell(
+        &mut self,
+        alloc: Global,
+        image: &Image,
+        group: GroupAddr,
+        service: &GroupService,
+    ) -> Result<(), NoMemory>
         requires { IsServiceInRange service.now }
         ensures next { OnOk result (self.new ≡ told self.old image.now group.raw service.now) }
         ensures err { OnErr result (self.new ≡ self.old) }

@@ -1,9 +1,10 @@
-ghost use Rattle.std.specs.Prelude.{IfOk};
+ghost use Rattle.std.specs.Prelude.{IfOk, ◌≤◌, length};
 ghost use Rattle.knx_model.specs.Device.{Fits};
 
 use crate::{Device, Ldata, Took, Value, WriteKind, written_front};
 use knx_model::{ApduOctets, Image, IndAddr, LdataCode, NoMemory, Octets};
 use std::alloc::Global;
+use std::process::Abort;
 use std::test::Fail;
 
 const ADDRESS: IndAddr = IndAddr { raw: 0x1105 };
@@ -157,7 +158,10 @@ fn to_group(tpdu: &[u8]) -> Ldata
 fn assert_sends(rt: &impl Abort, device: &mut Device, wanted: &[&[u8]]) {
     for tpdu in wanted {
         let sent = device.sends(0);
-        assert_eq!(rt; sent.as_ref().map(|frame| frame.tpdu.as_slice()), Some(*tpdu));
+        assert_eq!(rt;
+            sent.as_ref().map(|frame| frame.tpdu.as_slice()),
+            Some(*tpdu)
+        );
         assert_eq!(rt; sent.map(|frame| frame.source), Some(ADDRESS.raw));
     }
     assert!(rt; device.sends(0).is_none());
@@ -183,5 +187,116 @@ fn a_descriptor_read_by_numbered_data(rt: HostRuntime) -> Result<(), Fail> {
         assert_eq!(rt; device.take(rt.alloc(), &to_device(tpdu), 0)?, Took::Taken);
         assert_sends(&rt, &mut device, wanted);
     }
+    Ok(())
+}
+
+/// Objects 1 to 4 with the flags and the size codes of a table, each linked to the group 1/2/3.
+fn linked_image(alloc: Global, objects: &[(u8, u8); 4]) -> Result<Image, NoMemory>
+    ensures { IfOk result Fits }
+{
+    let [(f, s), (g, t), (h, u), (i, v)] = *objects;
+    Ok(Image {
+        addr: Octets::from_slice(alloc, &[0, 1, 0x0A, 0x03])?,
+        assoc: Octets::from_slice(
+            alloc,
+            &[0, 4, 0, 1, 0, 1, 0, 1, 0, 2, 0, 1, 0, 3, 0, 1, 0, 4],
+        )?,
+        objs: Octets::from_slice(alloc, &[0, 4, f, s, g, t, h, u, i, v])?,
+        params: Octets::from_slice(alloc, &[])?,
+    })
+}
+
+fn is_short(value: Option<Value>, wanted: u8) -> bool {
+    match value {
+        Some(Value::Short(bits)) => bits == wanted,
+        _ => false,
+    }
+}
+
+fn is_long(value: Option<Value>, wanted: &[u8]) -> bool {
+    match value {
+        Some(Value::Long(octets)) => octets.as_slice() == wanted,
+        _ => false,
+    }
+}
+
+#[test]
+fn group_telegrams_by_flag_and_size(rt: HostRuntime) -> Result<(), Fail> {
+    // communicate and write; write alone; communicate, update and read; communicate, write and read, of one octet
+    let image = linked_image(rt.alloc(), &[(0x17, 0), (0x13, 0), (0x8F, 3), (0x1F, 7)])?;
+    let mut device = Device::loaded(rt.alloc(), ADDRESS, &image)?;
+    assert!(rt; device.value(5).is_none());
+    // a write of a short value, a response, a write of one octet and one of two
+    let table: [(&[u8], [u8; 3], &[u8]); 4] = [
+        (&[0x00, 0x81], [1, 0, 0], &[0]),
+        (&[0x00, 0x42], [1, 0, 2], &[0]),
+        (&[0x00, 0x80, 0x5A], [1, 0, 2], &[0x5A]),
+        (&[0x00, 0x80, 0x5B, 0x5C], [1, 0, 2], &[0x5A]),
+    ];
+    for (tpdu, [first, second, third], fourth) in table {
+        device.take(rt.alloc(), &to_group(tpdu), 0)?;
+        assert!(rt; is_short(device.value(1), first), "at {tpdu:?}");
+        assert!(rt; is_short(device.value(2), second), "at {tpdu:?}");
+        assert!(rt; is_short(device.value(3), third), "at {tpdu:?}");
+        assert!(rt; is_long(device.value(4), fourth), "at {tpdu:?}");
+    }
+    // the lowest object with read answers
+    device.take(rt.alloc(), &to_group(&[0x00, 0x00]), 0)?;
+    assert_sends(&rt, &mut device, &[&[0x00, 0x42]]);
+    Ok(())
+}
+
+#[test]
+fn a_write_by_frames(rt: HostRuntime) -> Result<(), Fail> {
+    let image = small_image(rt.alloc())?;
+    let mut device = Device::loaded(rt.alloc(), ADDRESS, &image)?;
+    let unload = to_device(&[0x43, 0xD7, 1, 5, 0x10, 0x01, 4, 0, 0, 0, 0, 0, 0, 0, 0, 0]);
+    assert!(rt; device.would_write(&unload).is_none());
+    device.take(rt.alloc(), &to_device(&[0x80]), 0)?;
+    assert!(rt; device.would_write(&unload) == Some(WriteKind::Load));
+    assert_eq!(rt; device.deadline(), Some(6000));
+    let mut other = to_device(&[0x43, 0x00]);
+    other.destination = 0x1106;
+    assert_eq!(rt; device.take(rt.alloc(), &other, 0)?, Took::NotMine);
+    assert!(rt;
+        device
+            .last()
+            .is_some_and(|last| last.tpdu.as_slice() == [0x80].as_slice())
+    );
+    device.shut(rt.alloc())?;
+    assert_sends(&rt, &mut device, &[&[0x81]]);
+    device.cut();
+    assert_eq!(rt; device.take(rt.alloc(), &unload, 0)?, Took::Off);
+    device.on();
+    device.take(rt.alloc(), &to_device(&[0x80]), 0)?;
+    if device.would_write(&unload).is_some() {
+        device.take_torn(&unload, 0, 0);
+    }
+    assert!(rt; device.runs());
+    Ok(())
+}
+
+#[test]
+fn worn_memory_keeps_other_octets(rt: HostRuntime) -> Result<(), Fail> {
+    let mut device = Device::blank(rt.alloc(), ADDRESS)?;
+    let start: [u8; 16] = [0x43, 0xD7, 1, 5, 0x10, 0x01, 1, 0, 0, 0, 0, 0, 0, 0, 0, 0];
+    let allocate: [u8; 16] = [
+        0x47, 0xD7, 1, 5, 0x10, 0x01, 3, 0x0B, 0, 0, 0, 2, 1, 0, 0, 0,
+    ];
+    let before: [&[u8]; 5] = [&[0x80], &start, &[0xC2], &allocate, &[0xC6]];
+    for tpdu in before {
+        device.take(rt.alloc(), &to_device(tpdu), 0)?;
+    }
+    let write = to_device(&[0x4A, 0x82, 0x40, 0x00, 0x00, 0x5F]);
+    if device.would_write(&write) == Some(WriteKind::Memory) {
+        device.take_worn(rt.alloc(), &write, 0)?;
+    }
+    assert_eq!(rt;
+        device
+            .give(&[0x02, 0x02, 0x40, 0x00])
+            .as_ref()
+            .map(|octets| octets.as_slice()),
+        Some([0x02, 0x42, 0x40, 0x00, 0xFF, 0xA0].as_slice())
+    );
     Ok(())
 }

@@ -91,7 +91,12 @@ impl Values {
 
     /// The values after this one was written to these objects.
     #[tactic(auto, unfolding(knx_model::specs::DeviceFrames::written_values))]
-    pub fn written(&self, alloc: Global, objects: &Objects, value: &Value) -> Result<Values, NoMemory>
+    pub fn written(
+        &self,
+        alloc: Global,
+        objects: &Objects,
+        value: &Value,
+    ) -> Result<Values, NoMemory>
         requires { IsValueInRange value.now }
         ensures { IfOk result (λ made. made ≡ written_values (λ o. holds objects.now o) value.now self.now) }
     {
