@@ -1,6 +1,6 @@
 //! What is told by the commands without a run: `check`, `tables` and `decode`.
 
-ghost use Rattle.std.specs.Prelude.{◌≡◌, ◌++◌, length, Ok, OnOk, IfOk, IfErr};
+ghost use Rattle.std.specs.Prelude.{◌≡◌, ◌++◌, Ok, OnOk, IfOk, IfErr};
 ghost use Rattle.std.specs.List.{flat_map, zip};
 ghost use Rattle.frame_text.specs.FrameText.{IsFrameText, hex_word};
 ghost use Rattle.knx_model.specs.declared.command.Stop.TheVariants.{NoMemory as OutOfMemory};
@@ -27,7 +27,6 @@ fn put_all_tables(
     devices: &[IndAddr],
     images: &[Image],
 ) -> Result<(), NoMemory>
-    requires { length devices.now ≡ length images.now }
     ensures { OnOk result (out.new ≡ out.old ++ flat_map (λ c. tables_lines c.0 c.1) (zip devices.now images.now)) }
 {
     for (device, image) in devices.iter().zip(images) {
