@@ -1,7 +1,8 @@
+pub mod Ascending
 pub mod Asked
 pub mod Indexed
-pub mod InText
 pub mod Judged
 pub mod Named
 pub mod Repeats
+pub mod Sound
 pub mod Steps

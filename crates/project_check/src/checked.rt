@@ -6,7 +6,7 @@ ghost use Rattle.knx_model.specs.declared.refusal.Why.TheVariants.{NoMemory};
 ghost use Rattle.knx_model.specs.Rules.{first_broken, devices_of, has_device};
 ghost use Rattle.project_check.specs.Devices.{raw_of};
 
-use crate::devices::{ascending_devices, first_device};
+use crate::devices::{ascending_devices, first_device, is_among};
 use crate::earlier::Earlier;
 use crate::rules::Whole;
 use knx_model::{Catalogue, IndAddr, Refused, Statement, Why};
@@ -68,7 +68,7 @@ impl Checked<'_> {
     pub fn has(&self, device: IndAddr) -> bool
         ensures value { result ≡ has_device self.now.statements device.raw }
     {
-        self.devices.iter().any(|its| its.raw == device.raw)
+        is_among(device, self.devices.as_slice())
     }
 
 }

@@ -1,8 +1,8 @@
-//! The devices of a text, and how many devices, objects and links it has.
+//! The devices of a text.
 
-ghost use Rattle.std.specs.Prelude.{◌≡◌, ◌≤◌, ◌+◌, ◌*◌, List, None, length, sum_by, slice_get, IsPermutation, IfOk, OnOk, IfSome, IfNone, IsTrue};
+ghost use Rattle.std.specs.Prelude.{◌≡◌, ◌==◌, slice_get, IsPermutation, IfOk};
+ghost use Rattle.std.specs.List.{list_any};
 ghost use Rattle.std.specs.List.Sorted.{IsSorted};
-ghost use Rattle.knx_model.specs.declared.project.Statement.{Statement as Stated};
 ghost use Rattle.knx_model.specs.Rules.{device_in, devices_of};
 ghost use Rattle.project_check.specs.Devices.{device_order};
 
@@ -10,7 +10,7 @@ use knx_model::{IndAddr, Statement, What};
 use std::alloc::{AllocError, Global};
 
 /// The device of a `device` line.
-pub fn device_in(what: &What) -> Option<IndAddr>
+fn device_in(what: &What) -> Option<IndAddr>
     ensures { result ≡ device_in what.now }
 {
     match what {
@@ -52,4 +52,11 @@ pub fn first_device(statements: &[Statement]) -> Option<IndAddr>
         }
     }
     None
+}
+
+/// Whether a device is one of these.
+pub fn is_among(device: IndAddr, devices: &[IndAddr]) -> bool
+    ensures { result ≡ list_any (λ a. a.raw == device.raw) devices.now }
+{
+    devices.iter().any(|its| its.raw == device.raw)
 }

@@ -1,12 +1,12 @@
-use Rattle.std.proofs.Common.{◌≡◌, true, refl}
+use Rattle.std.proofs.Common.{◌≡◌, sym}
 use Rattle.std.proofs.lemmas.Slice.Eq.{bytes_eq-Decides}
 use Rattle.project_check.proofs.rules.Whole.broken.Goals as goal
 
 pub returns-in-Device : goal.returns-in-Device
 returns-in-Device c = λ catalogue before all h named k.
     let line = rw c.in-Device.is at k in
-    let stands = rw (c.in-Device.is, ← c.as_slice.ensures) at (named model) in
-    rw (c.in-Device.is, ← c.as_slice.ensures) (c.device_broken.ensures c.in-Device.device catalogue before all h (stands ((bytes_eq-Decides c.as_slice.result.now c.as_slice.result.now).1 refl)) line)
+    let stands = rw c.in-Device.is at (named c.as_slice.result.now) in
+    rw (c.in-Device.is, ← c.as_slice.ensures) (c.device_broken.ensures c.in-Device.device catalogue before all h (stands ((bytes_eq-Decides c.in-Device.model c.as_slice.result.now).1 (sym c.as_slice.ensures))) line)
 
 pub returns-in-Object : goal.returns-in-Object
 returns-in-Object c = λ catalogue before all h named k. rw c.in-Object.is (c.object_broken.ensures c.in-Object.size c.in-Object.flags catalogue before all h (rw c.in-Object.is at k))

@@ -1,0 +1,86 @@
+-- What a text that breaks no rule keeps.
+use Rattle.std.proofs.Common.{◌≡◌, ℕ, zero, suc, ◌+◌, ◌<◌, ◌≤◌, Bool, true, false, cond, List, [], ◌∷◌, ◌++◌, length, get_or, take, Option, Some, None, refl, sym, ap, ◌∙◌, subst, arith}
+use Rattle.std.specs.List.{cons_option}
+use Rattle.knx_model.specs.declared.catalogue.model.NamedModel.{NamedModel}
+use Rattle.knx_model.specs.declared.project.Statement.{Statement}
+use Rattle.knx_model.specs.declared.refusal.Refused.{Refused}
+use Rattle.knx_model.specs.declared.refusal.Why.{Why}
+use Rattle.knx_model.specs.declared.refusal.Why.TheVariants.{DuplicateDevice, DuplicateGroup, UnknownGroup, UnknownModel, DuplicateObject, UnknownObject, DuplicateLink, UnknownParameter, OutOfRange, SizeDiffers, TooMany, NoDevice}
+use Rattle.knx_model.specs.Rules.{rule_of, broken_at, broken_from, first_of, first_broken}
+use Rattle.project_check.specs.Broken.{broken_rules, least}
+use Rattle.project_check.specs.declared.broken.Broken.{Broken}
+use Rattle.project_check.proofs.Judged.{least_rule}
+
+-- ---- no rule is broken at any place
+
+first_none : (o : Option Refused) (rs : List Refused) → first_of (cons_option o rs) ≡ None → (o ≡ None) × (first_of rs ≡ None)
+first_none None rs e = (refl, e)
+first_none (Some r) rs e = absurd (cc)
+
+not_broken : (line : ℕ) (o : Option Why) → broken_at line o ≡ None → o ≡ None
+not_broken line None e = refl
+not_broken line (Some why) e = absurd (cc)
+
+sound_from : (catalogue : List NamedModel) (ss : List Statement) (k : ℕ) (rest : List Statement) (i : ℕ) (d : Statement) → first_of (broken_from catalogue ss k rest) ≡ None → i < length rest
+    → rule_of catalogue (take (k + i) ss) ss (get_or rest i d).what ≡ None
+unfolding broken_from
+sound_from catalogue ss k [] i d e lt = absurd (omega arith)
+sound_from catalogue ss k (s ∷ rest) zero d e lt =
+    let there : k ≡ k + 0 = omega arith in
+    subst (λ (n : ℕ). rule_of catalogue (take n ss) ss s.what ≡ None) there (not_broken s.line (rule_of catalogue (take k ss) ss s.what) (first_none (broken_at s.line (rule_of catalogue (take k ss) ss s.what)) (broken_from catalogue ss (k + 1) rest) e).0)
+sound_from catalogue ss k (s ∷ rest) (suc i) d e lt =
+    let there : k + suc i ≡ k + 1 + i = omega arith in
+    rw there (sound_from catalogue ss (k + 1) rest i d (first_none (broken_at s.line (rule_of catalogue (take k ss) ss s.what)) (broken_from catalogue ss (k + 1) rest) e).1 (omega arith))
+
+pub sound_at : (catalogue : List NamedModel) (ss : List Statement) (i : ℕ) (d : Statement) → first_broken catalogue ss ≡ None → i < length ss → rule_of catalogue (take i ss) ss (get_or ss i d).what ≡ None
+sound_at catalogue ss i d e lt =
+    let there : i ≡ 0 + i = omega arith in
+    subst (λ (n : ℕ). rule_of catalogue (take n ss) ss (get_or ss i d).what ≡ None) (sym there) (sound_from catalogue ss 0 ss i d e lt)
+
+-- ---- what a line keeps that breaks no rule
+
+pub record IsUnbroken (b : Broken) : Type 0 where
+  pub duplicate_device : b.duplicate_device ≡ false
+  pub unknown_model : b.unknown_model ≡ false
+  pub duplicate_object : b.duplicate_object ≡ false
+  pub duplicate_link : b.duplicate_link ≡ false
+  pub unknown_parameter : b.unknown_parameter ≡ false
+  pub out_of_range : b.out_of_range ≡ false
+  pub too_many_devices : b.too_many_devices ≡ false
+  pub too_many_links : b.too_many_links ≡ false
+  pub no_device : b.no_device ≡ false
+
+passed : {X : Type 0} (b : Bool) (x : X) (rest : Option X) → cond b (Some x) rest ≡ None → (b ≡ false) × (rest ≡ None)
+passed false x rest e = (refl, e)
+passed true x rest e = absurd (cc)
+
+kept : (b : Broken) → least b ≡ None → IsUnbroken b
+kept b e =
+    let e1 = passed b.duplicate_device DuplicateDevice _ e in
+    let e2 = passed b.duplicate_group DuplicateGroup _ e1.1 in
+    let e3 = passed b.unknown_group UnknownGroup _ e2.1 in
+    let e4 = passed b.unknown_model UnknownModel _ e3.1 in
+    let e5 = passed b.duplicate_object DuplicateObject _ e4.1 in
+    let e6 = passed b.unknown_object UnknownObject _ e5.1 in
+    let e7 = passed b.duplicate_link DuplicateLink _ e6.1 in
+    let e8 = passed b.unknown_parameter UnknownParameter _ e7.1 in
+    let e9 = passed b.out_of_range OutOfRange _ e8.1 in
+    let e10 = passed b.size_differs SizeDiffers _ e9.1 in
+    let e11 = passed b.too_many_devices (TooMany 255) _ e10.1 in
+    let e12 = passed b.too_many_links (TooMany 2047) _ e11.1 in
+    let e13 = passed b.no_device NoDevice _ e12.1 in
+    record {
+      duplicate_device = e1.0;
+      unknown_model = e4.0;
+      duplicate_object = e5.0;
+      duplicate_link = e7.0;
+      unknown_parameter = e8.0;
+      out_of_range = e9.0;
+      too_many_devices = e11.0;
+      too_many_links = e12.0;
+      no_device = e13.0;
+    }
+
+pub unbroken_at : (catalogue : List NamedModel) (ss : List Statement) (i : ℕ) (d : Statement) → first_broken catalogue ss ≡ None → i < length ss
+    → IsUnbroken (broken_rules catalogue (take i ss) ss (get_or ss i d).what)
+unbroken_at catalogue ss i d e lt = kept (broken_rules catalogue (take i ss) ss (get_or ss i d).what) (least_rule catalogue (take i ss) ss (get_or ss i d) ∙ sound_at catalogue ss i d e lt)
