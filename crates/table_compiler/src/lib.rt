@@ -13,3 +13,6 @@ mod tables;
 pub use compiler::{compile, compile_all};
 pub use knx_model::{Config, Image, LinkSpec, NoMemory, ObjSpec, ParamValue};
 pub use laws::{linked_exactly, one_image};
+
+#[cfg(test)]
+mod tests;
