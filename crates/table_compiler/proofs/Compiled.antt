@@ -1,8 +1,7 @@
 -- What the parts of a device's image need of a text that breaks no rule.
 use Rattle.std.proofs.Common.{◌≡◌, ℕ, ◌≤◌, ◌<◌, Bool, true, false, cond, List, [], ◌∷◌, length, map, eqb, bytes_eq, All, Option, None, Some, Result, Ok, Err, refl, sym, ap, ◌∙◌, subst, arith}
 use Rattle.std.specs.Prelude.{IfOk}
-use Rattle.std.specs.List.{AllByRecursion, IsDistinct}
-use Rattle.std.proofs.lemmas.List.Elements.{recursion_from_All}
+use Rattle.std.specs.List.{IsDistinct}
 use Rattle.knx_model.specs.declared.address.IndAddr.{IndAddr}
 use Rattle.knx_model.specs.declared.catalogue.model.Model.{Model}
 use Rattle.knx_model.specs.declared.catalogue.model.NamedModel.{NamedModel}
@@ -10,7 +9,7 @@ use Rattle.knx_model.specs.declared.config.LinkSpec.{LinkSpec}
 use Rattle.knx_model.specs.declared.config.ParamValue.{ParamValue}
 use Rattle.knx_model.specs.declared.project.Statement.{Statement}
 use Rattle.knx_model.specs.Meaning.{link_lines, links_of, last_value, params_of, or_inline}
-use Rattle.knx_model.specs.Models.{inline, in_catalogue, field_in, IsModel, IsNamedModel}
+use Rattle.knx_model.specs.Models.{inline, field_in, IsModel}
 use Rattle.knx_model.specs.Parameters.{HoldsParameters, laid, AreSettings}
 use Rattle.knx_model.specs.Rules.{model_of, is_out_of}
 use Rattle.knx_model.specs.Tables.{raw_of, precedence}
@@ -37,14 +36,6 @@ inline_sound = record {
   names = tt;
   apart = tt;
 }
-
-pub in_catalogue_sound : (models : List NamedModel) (name : List ℕ) (m : Model) → AllByRecursion IsNamedModel models → in_catalogue models name ≡ Some m → IsModel m
-in_catalogue_sound [] name m all e = absurd (cc)
-in_catalogue_sound (n ∷ models) name m all e = one (bytes_eq n.name name) (in_catalogue_sound models name m all.1) e
-  where
-    one : (b : Bool) → (in_catalogue models name ≡ Some m → IsModel m) → cond b (Some n.model) (in_catalogue models name) ≡ Some m → IsModel m
-    one true rest e = let same : n.model ≡ m = cc in subst IsModel same all.0.1
-    one false rest e = rest e
 
 -- ---- the links of the lines
 

@@ -1,12 +1,15 @@
 -- Two lists with the same elements, each strictly ascending by a key, are one.
 use Rattle.std.proofs.Common.{◌≡◌, ℕ, zero, suc, ◌<◌, ◌⊎◌, inl, inr, List, [], ◌∷◌, length, get_or, map, refl, sym, ap, ◌∙◌, subst, arith}
-use Rattle.std.specs.Prelude.{Contains}
+use Rattle.std.specs.Prelude.{Contains, IsPermutation}
 use Rattle.std.specs.List.{AllByRecursion}
 use Rattle.std.specs.List.Sorted.{IsStrictlyIncreasing}
 use Rattle.std.proofs.lemmas.List.Kept.{AllPairs-from_increasing}
 use Rattle.std.proofs.lemmas.List.Sorted.{Contains-permutation, IsPermutation-sym}
+use Rattle.knx_model.specs.declared.address.IndAddr.{IndAddr}
 use Rattle.knx_model.specs.declared.config.Config.{Config}
 use Rattle.knx_model.specs.declared.config.Image.{Image}
+use Rattle.table_compiler.specs.Lines.{raw}
+use Rattle.parameter_memory.proofs.One.{one as one_memory}
 use Rattle.knx_model.specs.Tables.{StandsFor, precedence, address_list, association_list}
 
 module _ {X : Type 0} (key : X → ℕ) where
@@ -90,5 +93,11 @@ one_image config one other s t =
     let addr : one.addr ≡ other.addr = s.addresses ∙ ap address_list groups ∙ sym t.addresses in
     let assoc : one.assoc ≡ other.assoc = s.associations ∙ (λ i. association_list (groups i) (order i)) ∙ sym t.associations in
     let objs : one.objs ≡ other.objs = s.objects ∙ sym t.objects in
-    let params : one.params ≡ other.params = ? in
+    let params : one.params ≡ other.params = one_memory config.param_len config.params one.params other.params s.parameters t.parameters in
     λ i. record { addr = addr i; assoc = assoc i; objs = objs i; params = params i }
+
+-- the devices of a text have one ascending list
+pub one_order : (devices one other : List IndAddr) → IsPermutation devices one → IsPermutation devices other → IsStrictlyIncreasing (map raw one) → IsStrictlyIncreasing (map raw other) → one ≡ other
+one_order devices one other p q up vp = one_list raw one other up vp
+    (λ d h. Contains-permutation devices other d q (Contains-permutation one devices d (IsPermutation-sym devices one p) h))
+    (λ d h. Contains-permutation devices one d p (Contains-permutation other devices d (IsPermutation-sym devices other q) h))

@@ -1,11 +1,12 @@
 //! The image of a device, from the statements of a sound project.
 
-ghost use Rattle.std.specs.Prelude.{◌≡◌, None, map, All, IfOk};
+ghost use Rattle.std.specs.Prelude.{◌≡◌, None, List as Seq, map, All, IsPermutation, IfOk};
 ghost use Rattle.std.specs.List.{AllZip};
 ghost use Rattle.std.specs.List.Sorted.{IsStrictlyIncreasing};
+ghost use Rattle.knx_model.specs.declared.address.IndAddr.{IndAddr as Device};
 ghost use Rattle.knx_model.specs.Device.{Fits};
 ghost use Rattle.knx_model.specs.Meaning.{meaning};
-ghost use Rattle.knx_model.specs.Rules.{first_broken};
+ghost use Rattle.knx_model.specs.Rules.{first_broken, devices_of};
 ghost use Rattle.knx_model.specs.Tables.{StandsFor};
 ghost use Rattle.table_compiler.specs.Lines.{raw, AreLinesOf};
 
@@ -17,7 +18,29 @@ use crate::parameters::settings;
 use crate::tables::image_of;
 use knx_model::{Catalogue, Image, IndAddr, List, NoMemory, Statement};
 use parameter_memory::lay;
+use project_check::Checked;
 use std::alloc::{AllocError, Global};
+
+/// The tables and the parameter memory of a device of the project; one that the project doesn't have has no objects.
+pub fn compile(alloc: Global, checked: &Checked<'_>, device: IndAddr) -> Result<Image, NoMemory>
+    ensures stands { IfOk result (λ image. StandsFor image (meaning checked.now device)) }
+    ensures fits { IfOk result (λ image. Fits image) }
+{
+    compile_statements(alloc, checked.catalogue(), checked.statements(), device)
+}
+
+/// The tables and the parameter memories of the devices of the project, in their ascending order.
+pub fn compile_all(alloc: Global, checked: &Checked<'_>) -> Result<List<Image>, NoMemory>
+    ensures stands { IfOk result (λ images. (devices : Seq Device) → IsPermutation (devices_of checked.now.statements) devices → IsStrictlyIncreasing (map raw devices) → AllZip (λ image device. StandsFor image (meaning checked.now device)) images devices) }
+    ensures fits { IfOk result (λ images. All Fits images) }
+{
+    compile_devices(
+        alloc,
+        checked.catalogue(),
+        checked.statements(),
+        checked.devices(),
+    )
+}
 
 /// The image of a device, from its own lines.
 fn compile_lines(
@@ -41,7 +64,7 @@ fn compile_lines(
 }
 
 /// The image of a device of a text that breaks no rule.
-pub fn compile_statements(
+fn compile_statements(
     alloc: Global,
     catalogue: &Catalogue,
     statements: &[Statement],
@@ -62,7 +85,7 @@ fn numbers_of(alloc: Global, devices: &[IndAddr]) -> Result<Vec<u16>, AllocError
 }
 
 /// The images of the devices of a text that breaks no rule, one after another.
-pub fn compile_devices(
+fn compile_devices(
     alloc: Global,
     catalogue: &Catalogue,
     statements: &[Statement],

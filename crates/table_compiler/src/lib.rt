@@ -10,5 +10,9 @@ mod objects;
 mod parameters;
 mod tables;
 
-pub use compiler::{compile_devices, compile_statements};
+pub use compiler::{compile, compile_all};
+pub use knx_model::{Config, Image, LinkSpec, NoMemory, ObjSpec, ParamValue};
 pub use laws::{linked_exactly, one_image};
+
+#[cfg(test)]
+mod tests;

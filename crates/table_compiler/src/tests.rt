@@ -1,0 +1,66 @@
+use super::*;
+use knx_model::{Catalogue, IndAddr};
+use project_check::check;
+use project_text::read_project;
+use std::alloc::{AllocError, Global};
+use std::test::*;
+
+const HALL: &[u8] =
+    b"project hall\nga 1/2/3 light\nga 0/0/1 all\ndevice 1.1.5 inline\nobject 1.1.5 1 1 CWT\nobject 1.1.5 2 1 CW\nlink 1.1.5 1 1/2/3\nlink 1.1.5 2 0/0/1\n";
+
+/// Three devices, not in their order: one with a gap in its numbers, two `flags` lines, and a first link that isn't to its least
+/// group.
+const THREE: &[u8] =
+    b"link 1.1.9 3 1/2/3\ndevice 1.1.9 inline\nga 1/2/3 a\nga 0/0/1 b\nflags 1.1.9 3 C\nobject 1.1.9 3 1 CWT\nlink 1.1.9 3 0/0/1\nobject 1.1.9 1 8 CW\nflags 1.1.9 3 CW\ndevice 1.1.6 inline\ndevice 1.1.5 inline\nobject 1.1.5 1 1 CW\nlink 1.1.5 1 0/0/1\n";
+
+/// Tables and parameter memory, one behind the other.
+fn octets_of(alloc: Global, image: &Image) -> Result<Vec<u8>, AllocError> {
+    let mut out = Vec::from_slice(alloc, image.addr.as_slice())?;
+    out.extend_from_slice(image.assoc.as_slice())?;
+    out.extend_from_slice(image.objs.as_slice())?;
+    out.extend_from_slice(image.params.as_slice())?;
+    Ok(out)
+}
+
+/// Two objects, each linked to a group; a device without lines has empty tables.
+#[test]
+fn a_device_is_compiled(rt: HostRuntime) -> Result<(), Fail> {
+    let catalogue = Catalogue::empty(rt.alloc());
+    let project = read_project(rt.alloc(), HALL).ok().ok_or("a project")?;
+    let checked = check(rt.alloc(), &project, &catalogue)
+        .ok()
+        .ok_or("a sound project")?;
+    let image = compile(rt.alloc(), &checked, IndAddr { raw: 0x1105 })
+        .ok()
+        .ok_or("an image")?;
+    assert_eq!(rt;
+        octets_of(rt.alloc(), &image)?.as_slice(),
+        b"\x00\x02\x00\x01\x0A\x03\x00\x02\x00\x02\x00\x01\x00\x01\x00\x02\x00\x02\x57\x00\x17\x00".as_slice()
+    );
+    let image = compile(rt.alloc(), &checked, IndAddr { raw: 0x1106 })
+        .ok()
+        .ok_or("an image")?;
+    assert_eq!(rt; octets_of(rt.alloc(), &image)?.as_slice(), b"\x00\x00\x00\x00\x00\x00".as_slice());
+    Ok(())
+}
+
+/// The devices come in the order of their addresses; the first link sends, the last `flags` line holds, and a number without
+/// object has 0 and 0.
+#[test]
+fn all_devices_are_compiled_in_their_order(rt: HostRuntime) -> Result<(), Fail> {
+    let catalogue = Catalogue::empty(rt.alloc());
+    let project = read_project(rt.alloc(), THREE).ok().ok_or("a project")?;
+    let checked = check(rt.alloc(), &project, &catalogue)
+        .ok()
+        .ok_or("a sound project")?;
+    let images = compile_all(rt.alloc(), &checked).ok().ok_or("images")?;
+    let mut out = Vec::new(rt.alloc());
+    for image in images.as_slice() {
+        out.extend_from_slice(octets_of(rt.alloc(), image)?.as_slice())?;
+    }
+    assert_eq!(rt;
+        out.as_slice(),
+        b"\x00\x01\x00\x01\x00\x01\x00\x01\x00\x01\x00\x01\x17\x00\x00\x00\x00\x00\x00\x00\x00\x02\x00\x01\x0A\x03\x00\x02\x00\x02\x00\x03\x00\x01\x00\x03\x00\x03\x17\x07\x00\x00\x17\x00".as_slice()
+    );
+    Ok(())
+}
