@@ -1,7 +1,7 @@
 -- The words of a command, and what was read, as the definitions see them.
 use Rattle.std.specs.Prelude.{ℕ, List, Option}
 use Rattle.std.specs.Option.{option_map}
-use Rattle.std.specs.Borrow.{Ref}
+use Rattle.std.specs.Borrow.{Bor}
 use Rattle.knx_top.specs.Asked as asked
 use Rattle.knx_top.specs.Judged.{ProjectReads, SimReads}
 use Rattle.knx_top.specs.declared.asked.Command.{Command}
@@ -14,10 +14,10 @@ use Rattle.knx_top.specs.declared.told.ReadProject.{ReadProject}
 use Rattle.knx_top.specs.declared.texts.ProjectTexts.{ProjectTexts}
 use Rattle.knx_top.specs.declared.texts.SimTexts.{SimTexts}
 
-abbrev pub the_word : Ref (List ℕ) → List ℕ
+abbrev pub the_word : Bor (List ℕ) → List ℕ
 the_word word = word.now
 
-abbrev pub named : Option (Ref (List ℕ)) → Option (List ℕ)
+abbrev pub named : Option (Bor (List ℕ)) → Option (List ℕ)
 named name = option_map the_word name
 
 abbrev pub project_words_of : ProjectNames → asked.ProjectWords

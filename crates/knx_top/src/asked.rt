@@ -58,7 +58,7 @@ impl FileNames<'_> {
 }
 
 fn or_nameless(name: Option<&str>) -> &str
-    ensures { result.now ≡ or_nameless (named name) }
+    ensures { result.now ≡ or_nameless (named name.entry) }
 {
     match name {
         Some(name) => name,

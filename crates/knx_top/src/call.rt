@@ -3,7 +3,7 @@
 ghost use Rattle.std.specs.Prelude.{◌≡◌, Some, map, string_bytes, IfOk};
 ghost use Rattle.std.specs.List.{list_any};
 ghost use Rattle.knx_model.specs.Outside.{Rose};
-ghost use Rattle.knx_top.specs.Asked.{FileNames};
+ghost use Rattle.knx_top.specs.Asked.{FileNames as Named};
 ghost use Rattle.knx_top.specs.Call.{Answers, AnswersTo, IsTextOf, Wrote, WroteOf, is_failed, log_status};
 ghost use Rattle.knx_top.specs.Ended.{outcome_of, told_outcome};
 ghost use Rattle.knx_top.specs.Names.{command_of, files_of};
@@ -108,7 +108,7 @@ fn tell<K: Sink>(out: &mut K, text: &[u8], status: Status) -> Status
 
 /// Writes what is printed, or that there was no memory for it.
 fn tell_text<K: Sink>(out: &mut K, text: Result<Text, NoMemory>) -> Status
-    ensures { (names : FileNames) (outcome : Outcome) → IfOk text (λ p. IsTextOf names outcome p.octets p.status) → WroteOf names outcome (Rose (K.faults out.old) (K.faults out.new)) (K.taken out.old) (K.taken out.new) result }
+    ensures { (names : Named) (outcome : Outcome) → IfOk text (λ p. IsTextOf names outcome p.octets p.status) → WroteOf names outcome (Rose (K.faults out.old) (K.faults out.new)) (K.taken out.old) (K.taken out.new) result }
 {
     match text {
         Ok(text) => tell(out, text.octets.as_slice(), text.status),
@@ -124,7 +124,7 @@ fn run<F: Files, K: Sink>(
     out: &mut K,
     sim: &mut Bench,
 ) -> Status
-    ensures { AnswersTo (Some (command_of command)) (F.file files.old) (Rose (F.faults files.old) (F.faults files.new)) (Rose (K.faults out.old) (K.faults out.new)) sim.old sim.new (K.taken out.old) (K.taken out.new) result }
+    ensures { AnswersTo (Some (command_of command.entry)) (F.file files.old) (Rose (F.faults files.old) (F.faults files.new)) (Rose (K.faults out.old) (K.faults out.new)) sim.old sim.new (K.taken out.old) (K.taken out.new) result }
 {
     match command {
         Command::Check(names) => {

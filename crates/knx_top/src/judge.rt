@@ -3,7 +3,9 @@
 ghost use Rattle.std.specs.Prelude.{◌≡◌, ◌≢◌, Err, IfOk, IfErr};
 ghost use Rattle.knx_model.specs.declared.command.InputFile.TheVariants.{New, Old};
 ghost use Rattle.knx_model.specs.declared.command.Stop.TheVariants.{NoMemory as OutOfMemory};
+ghost use Rattle.std.specs.List.{list_all};
 ghost use Rattle.knx_model.specs.Rules.{devices_of};
+ghost use Rattle.knx_model.specs.ScriptText.{is_cut};
 ghost use Rattle.knx_top.specs.Judged.{Gives, built, judged, just_cuts, script_cuts, the_device, with_at_most};
 ghost use Rattle.knx_top.specs.Names.{sim_reads_of};
 ghost use Rattle.knx_top.specs.Order.{IsBefore, IsImage, OrderFor};
@@ -46,15 +48,22 @@ fn has_at_most(device: IndAddr, old: &Checked<'_>) -> Result<(), Stop>
     }
 }
 
+/// Whether all lines are `cut` lines.
+fn are_cuts(lines: &[ScriptLine]) -> bool
+    ensures { result ≡ list_all is_cut lines.now }
+{
+    lines.iter().all(|line| is_cut(line))
+}
+
 /// The cuts of lines that are all `cut` lines; none at all for others.
 fn just_cuts(alloc: Global, lines: &[ScriptLine]) -> Result<Option<List<Cut>>, NoMemory>
     ensures { IfOk result (λ cuts. cuts ≡ just_cuts lines.now) }
 {
-    if lines.iter().all(|line| is_cut(line)) {
-        Ok(Some(cuts_of(alloc, lines)?))
-    } else {
-        Ok(None)
+    if !are_cuts(lines) {
+        return Ok(None);
     }
+    let cuts = cuts_of(alloc, lines)?;
+    Ok(Some(cuts))
 }
 
 /// The cuts of a script, where it reads, names no other device than this one and has `cut` lines alone.

@@ -1,7 +1,7 @@
 //! A catalogue and a project are read and checked.
 
 ghost use Rattle.std.specs.Prelude.{◌≡◌, ◌≢◌};
-ghost use Rattle.knx_model.specs.declared.command.Stop.TheVariants.{NoMemory, Refused};
+ghost use Rattle.knx_model.specs.declared.command.Stop.TheVariants.{NoMemory, Refused as Refuses};
 ghost use Rattle.knx_model.specs.declared.refusal.Why.TheVariants.{NoMemory as WithoutMemory};
 ghost use Rattle.knx_model.specs.Statements.{reading};
 ghost use Rattle.knx_top.specs.Judged.{Gives, fault_of, models_of, not_built, read_of, sound, unless_refused};
@@ -58,7 +58,7 @@ pub fn models_in(alloc: Global, octets: &Option<Octets>) -> Result<Catalogue, St
 /// Why the call stops at a refused text.
 pub fn refusal(place: InputFile, refused: Refused) -> Stop
     ensures memory { refused.why ≡ WithoutMemory → result ≡ NoMemory }
-    ensures other { refused.why ≢ WithoutMemory → result ≡ Refused place refused }
+    ensures other { refused.why ≢ WithoutMemory → result ≡ Refuses place refused }
 {
     match refused.why {
         Why::NoMemory => Stop::NoMemory,

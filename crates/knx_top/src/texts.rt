@@ -34,7 +34,7 @@ fn read_named<F: Files>(
     files: &mut F,
     name: Option<&str>,
 ) -> Result<Option<Octets>, FileFault>
-    ensures read { IsReadWhereNamed (F.file files.old) (Rose (F.faults files.old) (F.faults files.new)) (named name) result }
+    ensures read { IsReadWhereNamed (F.file files.old) (Rose (F.faults files.old) (F.faults files.new)) (named name.entry) result }
     ensures count { F.faults files.old ≤ F.faults files.new }
     ensures stays { (other : List ℕ) → F.file files.new other ≡ F.file files.old other }
 {
