@@ -5,6 +5,7 @@ mod broken;
 mod checked;
 
 
+mod counted;
 mod declared;
 mod devices;
 mod earlier;
