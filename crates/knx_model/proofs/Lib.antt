@@ -1,6 +1,13 @@
 pub mod Cutting
+pub mod Finite
+pub mod FlagWords
+pub mod Joined
 pub mod Numbers
 pub mod Parts
+pub mod Spelled
+pub mod SpelledFlags
+pub mod SpelledNames
+pub mod SpelledNumbers
 pub mod Spells
 pub mod Text
 pub mod Values

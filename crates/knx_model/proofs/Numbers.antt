@@ -7,7 +7,7 @@ use Rattle.std.proofs.lemmas.Bool.{and_parts, ltb-true}
 use Rattle.std.proofs.lemmas.Int.Digits.{digits_value-lt}
 use Rattle.knx_model.specs.Numbers.{is_digit}
 
-all_digits : (radix : ℕ) (ds : List ℕ) → list_all (is_digit radix) ds ≡ true → AllDigits radix ds
+pub all_digits : (radix : ℕ) (ds : List ℕ) → list_all (is_digit radix) ds ≡ true → AllDigits radix ds
 all_digits radix [] e = tt
 all_digits radix (d ∷ ds) e = let h = and_parts (is_digit radix d) (list_all (is_digit radix) ds) e in (ltb-true _ _ h.0, all_digits radix ds h.1)
 

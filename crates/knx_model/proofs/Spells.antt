@@ -17,7 +17,7 @@ bind_some : {A B : Type 0} (o : Option A) (f : A → Option B) (y : B) → (o >>
 bind_some (Some x) f y e = (x, refl, e)
 bind_some None f y e = absurd cc
 
-up_to_some : (most : ℕ) (o : Option ℕ) (n : ℕ) → up_to most o ≡ Some n → (o ≡ Some n) × (n ≤ most)
+pub up_to_some : (most : ℕ) (o : Option ℕ) (n : ℕ) → up_to most o ≡ Some n → (o ≡ Some n) × (n ≤ most)
 up_to_some most None n e = absurd cc
 up_to_some most (Some m) n e = let h = cond_some (leb m most) m n e in (ap (λ (x : ℕ). Some x) h.1, subst (λ (x : ℕ). x ≤ most) h.1 (leb-true m most h.0))
 

@@ -1,6 +1,7 @@
 -- Words that are addresses (ISO/IEC 14543-3, network layer): three numbers of 1 to 3 decimal digits.
-use Rattle.std.specs.Prelude.{ℕ, ◌+◌, ◌*◌, ◌==◌, List, [], ◌∷◌, Option, Some, None, if◌then◌else◌}
-use Rattle.std.specs.List.{slice_split}
+use Rattle.std.specs.Prelude.{ℕ, ◌+◌, ◌*◌, ◌/◌, ◌%◌, ◌==◌, List, [], ◌∷◌, Option, Some, None, if◌then◌else◌}
+use Rattle.std.specs.List.{slice_split, join_with_byte}
+use Rattle.std.specs.Fmt.{decimal}
 use Rattle.knx_model.specs.declared.address.GroupAddr.{GroupAddr}
 use Rattle.knx_model.specs.declared.address.IndAddr.{IndAddr}
 use Rattle.knx_model.specs.Numbers.{part_value}
@@ -32,3 +33,7 @@ group_value word = do
   middle ← part_value 7 parts.1
   sub ← part_value 255 parts.2
   if main * 2048 + middle * 256 + sub == 0 then None else Some (record { raw = main * 2048 + middle * 256 + sub })
+
+-- the same as it is printed, without leading zeros
+abbrev pub group_text : GroupAddr → List ℕ
+group_text g = join_with_byte 47 (decimal (g.raw / 2048) ∷ decimal (g.raw / 256 % 8) ∷ decimal (g.raw % 256) ∷ [])

@@ -1,10 +1,12 @@
--- What spells an address, as the grammar writes it.
-use Rattle.std.specs.Prelude.{◌≡◌, ℕ, ◌+◌, ◌*◌, ◌<◌, ◌≤◌, true, List, ◌∷◌, ◌++◌, length}
-use Rattle.std.specs.List.{list_all}
+-- What spells an address, a number, a size, flags and a name, as the grammar writes it.
+use Rattle.std.specs.Prelude.{◌≡◌, ℕ, ◌+◌, ◌*◌, ◌<◌, ◌≤◌, true, codes, nat_eq, List, ◌∷◌, ◌++◌, length, map, sum, All, Contains, slice_get, Some}
+use Rattle.std.specs.List.{list_all, IsDistinct}
 use Rattle.std.specs.Str.Parse.{digits_value}
 use Rattle.knx_model.specs.declared.address.GroupAddr.{GroupAddr}
 use Rattle.knx_model.specs.declared.address.IndAddr.{IndAddr}
 use Rattle.knx_model.specs.Numbers.{is_digit}
+use Rattle.knx_model.specs.Sizes.{sizes}
+use Rattle.knx_model.specs.Flags.{flag_bit}
 
 -- 1 to 3 decimal digits, of a number up to `most`
 pub record SpellsPart (most : ℕ) (word : List ℕ) (n : ℕ) : Type 0 where
@@ -43,3 +45,32 @@ pub record SpellsDevice (word : List ℕ) (d : IndAddr) : Type 0 where
   pub joined : word ≡ area ++ 46 ∷ (line ++ 46 ∷ device)
   pub raw : d.raw ≡ a * 4096 + b * 256 + c
   pub some : 0 < c
+
+-- 1 to `most` digits of a base
+pub record SpellsDigits (base : ℕ) (most : ℕ) (digits : List ℕ) (n : ℕ) : Type 0 where
+  pub are_digits : list_all (is_digit base) digits ≡ true
+  pub some : 0 < length digits
+  pub short : length digits ≤ most
+  pub value : digits_value base digits ≡ n
+
+-- 1 to 10 decimal digits, or 0x and 1 to 8 hexadecimal digits, up to 4,294,967,295
+pub data SpellsNumber (word : List ℕ) (n : ℕ) : Type 0 where
+  Decimal : SpellsDigits 10 10 word n → n ≤ 4294967295 → SpellsNumber word n
+  Hexadecimal : (digits : List ℕ) → word ≡ codes "0x" ++ digits → SpellsDigits 16 8 digits n → SpellsNumber word n
+
+-- a number of bits, which is that of the size code
+pub record SpellsSize (word : List ℕ) (code : ℕ) : Type 0 where
+  pub bits : ℕ
+  pub number : SpellsNumber word bits
+  pub of_code : slice_get sizes code ≡ Some bits
+
+-- a dash, or distinct letters of C R W T U I in any order, each of which sets its bit
+pub data SpellsFlags (word : List ℕ) (octet : ℕ) : Type 0 where
+  NoFlags : word ≡ codes "-" → octet ≡ 3 → SpellsFlags word octet
+  Letters : 0 < length word → All (Contains (codes "CRWTUI")) word → IsDistinct nat_eq word → octet ≡ 3 + sum (map flag_bit word) → SpellsFlags word octet
+
+-- 1 to 32 letters, digits, underscores, dashes and dots
+pub record SpellsName (word : List ℕ) : Type 0 where
+  pub some : 0 < length word
+  pub short : length word ≤ 32
+  pub octets : All (Contains (codes "ABCDEFGHIJKLMNOPQRSTUVWXYZabcdefghijklmnopqrstuvwxyz0123456789_-.")) word

@@ -88,6 +88,22 @@ link_says ws = do
   group ← field group_value BadAddress object.1
   ended (Link device.0 object.0 group.0) group.1
 
+-- flags IA N FLAGS
+unfoldable pub flags_says : List (List ℕ) → Result What Why
+flags_says ws = do
+  device ← field ind_value BadAddress ws
+  object ← field object_value BadNumber device.1
+  flags ← field flags_value BadName object.1
+  ended (Flags device.0 object.0 flags.0) flags.1
+
+-- param IA NAME VALUE
+unfoldable pub param_says : List (List ℕ) → Result What Why
+param_says ws = do
+  device ← field ind_value BadAddress ws
+  name ← field name_value BadName device.1
+  value ← field number_value BadNumber name.1
+  ended (Param device.0 name.0 value.0) value.1
+
 abbrev pub some_what : Result What Why → Result (Option What) Why
 some_what (Ok x) = Ok (Some x)
 some_what (Err why) = Err why
@@ -101,7 +117,9 @@ words_say (w ∷ ws) =
     else (if bytes_eq w (codes "device") then some_what (device_says ws)
     else (if bytes_eq w (codes "object") then some_what (object_says ws)
     else (if bytes_eq w (codes "link") then some_what (link_says ws)
-    else Err UnknownWord))))
+    else (if bytes_eq w (codes "flags") then some_what (flags_says ws)
+    else (if bytes_eq w (codes "param") then some_what (param_says ws)
+    else Err UnknownWord))))))
 
 -- what a line says
 unfoldable pub line_says : List ℕ → Result (Option What) Why

@@ -38,9 +38,11 @@ pub use refusal::{Refused, Why};
 pub use script::{Cut, GroupService, ScriptLine, ScriptWhat};
 pub use status::Status;
 pub use words::{
-    Span, digit_pair, first_line, first_word, flags_in, flags_of, group_in, group_of, group_spelled, ind_in,
-    ind_of, ind_spelled, is_name, is_name_in, is_text, next_line, next_word, number_in, number_of,
-    octet_in, size_code_in, size_code_of, value_in, value_of, without_comment,
+    Span, bits_of, digit_pair, first_line, first_word, flags_in, flags_of, flags_spelled, group_in,
+    group_of, group_spelled, ind_in, ind_of, ind_spelled, is_name, is_name_in, is_text,
+    name_spelled, next_line, next_word, number_in, number_of, number_spelled, octet_in, put_device,
+    put_flags, put_group, put_number, size_code_in, size_code_of, size_spelled, value_in, value_of,
+    without_comment,
 };
 
 #[cfg(test)]

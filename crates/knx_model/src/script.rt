@@ -39,13 +39,20 @@ pub enum ScriptWhat {
     RepeatTo(IndAddr, u32),
     /// `cut D N K`: power goes in the device's N-th write and returns before the next event; the first K octets of the written
     /// range are new, and from 1 octet on load state and segment length too.
-    Cut { device: IndAddr, n: u32, k: u32 },
+    Cut {
+        device: IndAddr,
+        n: u32,
+        k: u32,
+    },
     /// `worn D N`: where the device's N-th write is a memory write, each octet becomes the complement of what was sent.
     Worn(IndAddr, u32),
     /// `close D N`: the device closes its connection after the N-th frame for it alone that it took.
     CloseAfter(IndAddr, u32),
     /// `refuse N HH`: the N-th connect request that reaches the gateway is answered with this status, 01 to FF.
-    Refuse { n: u32, status: u8 },
+    Refuse {
+        n: u32,
+        status: u8,
+    },
     /// `drop channel N`: the gateway closes the channel after the N-th tunnelling request that it acted on.
     DropChannel(u32),
     /// `off D`: the device is without power for the whole run.

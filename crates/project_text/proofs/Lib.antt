@@ -1,3 +1,5 @@
+pub mod Again
 pub mod Flags
-pub mod Steps
 pub mod Least
+pub mod Plain
+pub mod Steps

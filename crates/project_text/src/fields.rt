@@ -2,7 +2,7 @@
 
 ghost use Rattle.std.specs.Prelude.{◌≡◌, ◌<◌, ◌%◌, IfSome, IfOk, IsTrue};
 ghost use Rattle.knx_model.specs.Words.{words};
-ghost use Rattle.knx_model.specs.Numbers.{is_name};
+ghost use Rattle.knx_model.specs.Numbers.{is_name, number_value};
 ghost use Rattle.knx_model.specs.Addresses.{group_value, ind_value};
 ghost use Rattle.knx_model.specs.Flags.{flags_value};
 ghost use Rattle.knx_model.specs.Sizes.{size_value};
@@ -66,6 +66,19 @@ pub fn object_field(rest: &[u8]) -> Result<(u8, &[u8]), Why>
         Some((word, rest)) => match object_in(word) {
             None => Err(Why::BadNumber),
             Some(object) => Ok((object, rest)),
+        },
+    }
+}
+
+/// The value of a parameter.
+pub fn value_field(rest: &[u8]) -> Result<(u32, &[u8]), Why>
+    ensures { Answers (λ x. (x.0, words x.1.now)) result (field number_value BadNumber (words rest.now)) }
+{
+    match first_word(rest) {
+        None => Err(Why::MissingWord),
+        Some((word, rest)) => match number_in(word) {
+            None => Err(Why::BadNumber),
+            Some(value) => Ok((value, rest)),
         },
     }
 }

@@ -3,10 +3,12 @@
 
 mod fields;
 mod line;
+mod print;
 mod project;
 mod read;
 
 pub use knx_model::{Refused, Statement, What, Why};
+pub use print::{print_project, printed_again};
 pub use project::Project;
 pub use read::{least_line, read_project};
 

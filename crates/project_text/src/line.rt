@@ -2,11 +2,12 @@
 
 ghost use Rattle.std.specs.Prelude.{IfOk, IfSome, IsTrue};
 ghost use Rattle.knx_model.specs.Words.{words};
-ghost use Rattle.knx_model.specs.Statements.{is_spellable, title_says, ga_says, device_says, object_says, link_says, words_say, line_says};
+ghost use Rattle.knx_model.specs.Statements.{is_spellable, title_says, ga_says, device_says, object_says, link_says, flags_says, param_says, words_say, line_says};
 ghost use Rattle.project_text.specs.Reading.{Answers, Gives};
 
 use crate::fields::{
     device_field, flags_field, group_field, name_field, no_more, object_field, size_field,
+    value_field,
 };
 use knx_model::{What, Why, first_word, is_text, without_comment};
 use std::alloc::Global;
@@ -85,6 +86,40 @@ fn link_in(rest: &[u8]) -> Result<What, Why>
     })
 }
 
+/// `flags IA N FLAGS`
+#[tactic(auto, unfolding(knx_model::specs::Statements::flags_says))]
+fn flags_in(rest: &[u8]) -> Result<What, Why>
+    ensures read { Answers (λ x. x) result (flags_says (words rest.now)) }
+    ensures spelled { IfOk result (λ what. IsTrue (is_spellable what)) }
+{
+    let (device, rest) = device_field(rest)?;
+    let (object, rest) = object_field(rest)?;
+    let (flags, rest) = flags_field(rest)?;
+    no_more(rest)?;
+    Ok(What::Flags {
+        device,
+        object,
+        flags,
+    })
+}
+
+/// `param IA NAME VALUE`
+#[tactic(auto, unfolding(knx_model::specs::Statements::param_says))]
+fn param_in(alloc: Global, rest: &[u8]) -> Result<What, Why>
+    ensures read { Gives (λ x. x) result (param_says (words rest.now)) }
+    ensures spelled { IfOk result (λ what. IsTrue (is_spellable what)) }
+{
+    let (device, rest) = device_field(rest)?;
+    let (name, rest) = name_field(alloc, rest)?;
+    let (value, rest) = value_field(rest)?;
+    no_more(rest)?;
+    Ok(What::Param {
+        device,
+        name,
+        value,
+    })
+}
+
 #[tactic(auto, unfolding(knx_model::specs::Statements::words_say))]
 fn words_in(alloc: Global, rest: &[u8]) -> Result<Option<What>, Why>
     ensures read { Gives (λ x. x) result (words_say (words rest.now)) }
@@ -103,6 +138,10 @@ fn words_in(alloc: Global, rest: &[u8]) -> Result<Option<What>, Why>
                 Ok(Some(object_in(rest)?))
             } else if word == b"link".as_slice() {
                 Ok(Some(link_in(rest)?))
+            } else if word == b"flags".as_slice() {
+                Ok(Some(flags_in(rest)?))
+            } else if word == b"param".as_slice() {
+                Ok(Some(param_in(alloc, rest)?))
             } else {
                 Err(Why::UnknownWord)
             }

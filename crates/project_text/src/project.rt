@@ -1,9 +1,11 @@
-//! A project that is read.
+//! A project: statements that can be spelled, in lines that ascend.
 
-ghost use Rattle.std.specs.Prelude.{IsTrue};
-ghost use Rattle.knx_model.specs.Statements.{are_spellable, are_numbered};
+ghost use Rattle.std.specs.Prelude.{◌≡◌, ◌%◌, ◌==◌, ◌&&◌, false, IfSome, IfNone, IsTrue};
+ghost use Rattle.std.specs.List.{list_all};
+ghost use Rattle.knx_model.specs.Numbers.{is_name};
+ghost use Rattle.knx_model.specs.Statements.{is_group, is_device, is_object, is_spellable, are_spellable, are_numbered};
 
-use knx_model::{List, Statement};
+use knx_model::{GroupAddr, IndAddr, List, Statement, What, is_name_in};
 
 /// The statements of a text. Each can be spelled, and their lines ascend from 1.
 #[derive(Debug, Drop)]
@@ -11,4 +13,101 @@ pub struct Project {
     pub statements: List<Statement>,
     pub ghost spelled: { IsTrue (are_spellable statements) },
     pub ghost numbered: { IsTrue (are_numbered 0 statements) },
+}
+
+impl Project {
+    /// The project of these statements; none where one of them can't be spelled, or where their lines don't strictly ascend
+    /// from 1.
+    pub fn new(statements: List<Statement>) -> Option<Project>
+        ensures some { IfSome result (λ p. p.statements ≡ statements) }
+        ensures none { IfNone result ((are_spellable statements && are_numbered 0 statements) ≡ false) }
+    {
+        if !are_spellable(statements.as_slice()) {
+            return None;
+        }
+        if !are_numbered(statements.as_slice()) {
+            return None;
+        }
+        Some(Project { statements })
+    }
+}
+
+/// The greatest number that a word writes.
+const GREATEST_NUMBER: u32 = 4_294_967_295;
+
+fn is_group(group: GroupAddr) -> bool
+    ensures { result ≡ is_group group }
+{
+    group.raw > 0
+}
+
+fn is_device(device: IndAddr) -> bool
+    ensures { result ≡ is_device device }
+{
+    device.raw % 256 > 0 && device.raw % 256 < 255
+}
+
+fn is_object(n: u8) -> bool
+    ensures { result ≡ is_object n }
+{
+    n > 0
+}
+
+/// Whether flags are an octet with the priority 3.
+fn are_flags(flags: u8) -> bool
+    ensures { result ≡ (flags % 4 == 3) }
+{
+    flags % 4 == 3
+}
+
+/// Whether a statement can be spelled.
+fn is_spellable(what: &What) -> bool
+    ensures { result ≡ is_spellable what.now }
+{
+    match what {
+        What::Title(name) => is_name_in(name.as_slice()),
+        What::Group { group, name } => is_group(*group) && is_name_in(name.as_slice()),
+        What::Device { device, model } => is_device(*device) && is_name_in(model.as_slice()),
+        What::Object {
+            device,
+            n,
+            size,
+            flags,
+        } => is_device(*device) && is_object(*n) && *size < 15 && are_flags(*flags),
+        What::Link {
+            device,
+            object,
+            group,
+        } => is_device(*device) && is_object(*object) && is_group(*group),
+        What::Flags {
+            device,
+            object,
+            flags,
+        } => is_device(*device) && is_object(*object) && are_flags(*flags),
+        What::Param {
+            device,
+            name,
+            value,
+        } => is_device(*device) && is_name_in(name.as_slice()) && *value <= GREATEST_NUMBER,
+    }
+}
+
+fn are_spellable(statements: &[Statement]) -> bool
+    ensures { result ≡ are_spellable statements.now }
+{
+    statements.iter().all(|s| is_spellable(&s.what))
+}
+
+/// Whether lines strictly ascend from 1.
+fn are_numbered(statements: &[Statement]) -> bool
+    ensures { result ≡ are_numbered 0 statements.now }
+{
+    let mut above = 0;
+    for statement in statements {
+        if statement.line <= above {
+            return false;
+        }
+        above = statement.line;
+    }
+    true
 }

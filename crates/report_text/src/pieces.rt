@@ -1,32 +1,11 @@
-//! Numbers and addresses as they are printed.
+//! Octets as they are printed, beside numbers and addresses.
 
 ghost use Rattle.std.specs.Prelude.{◌≡◌, ◌<◌, ◌++◌, OnOk};
-ghost use Rattle.std.specs.Fmt.{decimal};
-ghost use Rattle.knx_model.specs.ReportText.{device_text, hex_digit, hex_octet, hex_text, octets_text};
+ghost use Rattle.knx_model.specs.ReportText.{hex_digit, hex_octet, hex_text, octets_text};
 
-use knx_model::{IndAddr, NoMemory, Octets};
-use std::alloc::Global;
+use knx_model::{NoMemory, Octets};
 
-/// Appends a number in decimal.
-pub fn put_number(alloc: Global, out: &mut Octets, number: u64) -> Result<(), NoMemory>
-    ensures { OnOk result (out.new ≡ out.old ++ decimal number) }
-{
-    match number.to_string(alloc) {
-        Ok(text) => out.append(text.as_bytes()),
-        Err(_) => Err(NoMemory),
-    }
-}
-
-/// Appends an individual address: three numbers apart by dots.
-pub fn put_device(alloc: Global, out: &mut Octets, device: IndAddr) -> Result<(), NoMemory>
-    ensures { OnOk result (out.new ≡ out.old ++ device_text device) }
-{
-    put_number(alloc, out, u64::from(device.area()))?;
-    out.push(b'.')?;
-    put_number(alloc, out, u64::from(device.line()))?;
-    out.push(b'.')?;
-    put_number(alloc, out, u64::from(device.device()))
-}
+pub use knx_model::{put_device, put_number};
 
 /// The digit of a number below 16.
 fn hex_digit(n: u8) -> u8

@@ -1,7 +1,10 @@
 //! The flags of an object.
 
-ghost use Rattle.std.specs.Prelude.{◌≡◌, ◌==◌, count_by};
-ghost use Rattle.knx_model.specs.Flags.{times, flags_value};
+ghost use Rattle.std.specs.Prelude.{◌≡◌, ℕ, ◌==◌, ◌↔◌, ◌++◌, count_by, List, Some, OnOk};
+ghost use Rattle.knx_model.specs.Flags.{times, flags_value, flags_text, letter_if};
+ghost use Rattle.knx_model.specs.Spells.{SpellsFlags};
+
+use crate::lists::{NoMemory, Octets};
 
 fn times(word: &[u8], letter: u8) -> usize
     ensures { result ≡ times letter word.now }
@@ -37,4 +40,31 @@ pub fn flags_of(word: &str) -> Option<u8>
     ensures { result ≡ flags_value word.now }
 {
     flags_in(word.as_bytes())
+}
+
+/// What `flags_in` reads is just what the grammar spells.
+pub fn flags_spelled()
+    ensures { (word : List ℕ) (octet : ℕ) → (flags_value word ≡ Some octet) ↔ SpellsFlags word octet }
+{}
+
+fn put_letter(out: &mut Octets, is_set: bool, letter: u8) -> Result<(), NoMemory>
+    ensures { OnOk result (out.new ≡ out.old ++ letter_if is_set letter) }
+{
+    if is_set { out.push(letter) } else { Ok(()) }
+}
+
+/// Appends the letters of a flag octet in the order C R W T U I, or `-` where none is set.
+#[tactic(auto, unfolding(crate::specs::Flags::flags_text))]
+pub fn put_flags(out: &mut Octets, octet: u8) -> Result<(), NoMemory>
+    ensures { OnOk result (out.new ≡ out.old ++ flags_text octet) }
+{
+    if octet < 4 {
+        return out.push(b'-');
+    }
+    put_letter(out, octet / 4 % 2 == 1, b'C')?;
+    put_letter(out, octet / 8 % 2 == 1, b'R')?;
+    put_letter(out, octet / 16 % 2 == 1, b'W')?;
+    put_letter(out, octet / 64 % 2 == 1, b'T')?;
+    put_letter(out, octet / 128 % 2 == 1, b'U')?;
+    put_letter(out, octet / 32 % 2 == 1, b'I')
 }

@@ -1,8 +1,9 @@
 //! Words that are names.
 
-ghost use Rattle.std.specs.Prelude.{◌≡◌};
+ghost use Rattle.std.specs.Prelude.{◌≡◌, ℕ, ◌↔◌, List, IsTrue};
 ghost use Rattle.std.specs.List.{list_all};
 ghost use Rattle.knx_model.specs.Numbers.{is_name, is_name_octet};
+ghost use Rattle.knx_model.specs.Spells.{SpellsName};
 
 fn is_name_octet(c: u8) -> bool
     ensures { result ≡ is_name_octet c }
@@ -29,3 +30,8 @@ pub fn is_name(word: &str) -> bool
 {
     is_name_in(word.as_bytes())
 }
+
+/// What `is_name_in` accepts is just what the grammar spells.
+pub fn name_spelled()
+    ensures { (word : List ℕ) → IsTrue (is_name word) ↔ SpellsName word }
+{}

@@ -1,8 +1,9 @@
 //! Words that are numbers.
 
-ghost use Rattle.std.specs.Prelude.{◌≡◌, ◌≤◌, IfSome};
+ghost use Rattle.std.specs.Prelude.{◌≡◌, ℕ, ◌≤◌, ◌↔◌, List, Some, IfSome};
 ghost use Rattle.std.specs.Char.{digit_value};
 ghost use Rattle.knx_model.specs.Numbers.{numeral, number_value, part_value};
+ghost use Rattle.knx_model.specs.Spells.{SpellsNumber};
 
 /// What a digit is worth in a base up to 36, or 36 for what is none.
 pub fn digit_value(c: u8) -> u64
@@ -76,3 +77,8 @@ pub fn number_of(word: &str) -> Option<u32>
 {
     number_in(word.as_bytes())
 }
+
+/// What `number_in` reads is just what the grammar spells.
+pub fn number_spelled()
+    ensures { (word : List ℕ) (n : ℕ) → (number_value word ≡ Some n) ↔ SpellsNumber word n }
+{}

@@ -1,7 +1,8 @@
 //! Words that are sizes of objects.
 
-ghost use Rattle.std.specs.Prelude.{◌≡◌, ◌<◌, IfSome};
-ghost use Rattle.knx_model.specs.Sizes.{size_code, size_value};
+ghost use Rattle.std.specs.Prelude.{◌≡◌, ℕ, ◌<◌, ◌↔◌, List, Some, IfSome, get_or};
+ghost use Rattle.knx_model.specs.Sizes.{bits_of, size_code, size_value};
+ghost use Rattle.knx_model.specs.Spells.{SpellsSize};
 
 use crate::words::number::number_in;
 
@@ -39,3 +40,19 @@ pub fn size_code_of(word: &str) -> Option<u8>
 {
     size_code_in(word.as_bytes())
 }
+
+/// The bits of each size code, from 0.
+const SIZES: [u8; 15] = [1, 2, 3, 4, 5, 6, 7, 8, 16, 24, 32, 48, 64, 80, 112];
+
+/// The number of bits that a size code stands for; 0 for what is no size code.
+pub fn bits_of(code: u8) -> u8
+    ensures { result ≡ bits_of code }
+{
+    let code = usize::from(code);
+    if code < SIZES.len() { SIZES[code] } else { 0 }
+}
+
+/// What `size_code_in` reads is just what the grammar spells.
+pub fn size_spelled()
+    ensures { (word : List ℕ) (code : ℕ) → (size_value word ≡ Some code) ↔ SpellsSize word code }
+{}

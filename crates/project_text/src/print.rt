@@ -1,0 +1,218 @@
+//! Statements are printed, one in a line.
+
+ghost use Rattle.std.specs.Prelude.{◌≡◌, ◌≤◌, ◌∷◌, ◌++◌, length, List, OnOk, IfOk, IsTrue, Ok};
+ghost use Rattle.std.specs.Fmt.{decimal};
+ghost use Rattle.std.specs.List.{join_with_byte};
+ghost use Rattle.knx_model.specs.Addresses.{group_text};
+ghost use Rattle.knx_model.specs.Flags.{flags_text};
+ghost use Rattle.knx_model.specs.ReportText.{device_text};
+ghost use Rattle.knx_model.specs.Statements.{are_spellable, reading};
+ghost use Rattle.knx_model.specs.declared.project.Statement.{Statement};
+ghost use Rattle.knx_model.specs.declared.project.What.TheVariants.{Title, Group, Device, Object, Link, Flags, Param};
+ghost use Rattle.project_text.specs.Printing.{words_of, line_text, printed, renumbered_from};
+
+use crate::project::Project;
+use knx_model::{
+    GroupAddr, IndAddr, NoMemory, Octets, Statement, What, bits_of, put_device, put_flags,
+    put_group, put_number,
+};
+use std::alloc::Global;
+
+/// Appends a word behind a space.
+fn put_word(out: &mut Octets, word: &[u8]) -> Result<(), NoMemory>
+    ensures { OnOk result (out.new ≡ out.old ++ 32 ∷ word.now) }
+{
+    out.push(b' ')?;
+    out.append(word)
+}
+
+/// Appends a number behind a space.
+fn put_decimal(alloc: Global, out: &mut Octets, number: u32) -> Result<(), NoMemory>
+    ensures { OnOk result (out.new ≡ out.old ++ 32 ∷ decimal number) }
+{
+    out.push(b' ')?;
+    put_number(alloc, out, u64::from(number))
+}
+
+/// Appends an individual address behind a space.
+fn put_individual(alloc: Global, out: &mut Octets, device: IndAddr) -> Result<(), NoMemory>
+    ensures { OnOk result (out.new ≡ out.old ++ 32 ∷ device_text device) }
+{
+    out.push(b' ')?;
+    put_device(alloc, out, device)
+}
+
+/// Appends a group address behind a space.
+fn put_group_word(alloc: Global, out: &mut Octets, group: GroupAddr) -> Result<(), NoMemory>
+    ensures { OnOk result (out.new ≡ out.old ++ 32 ∷ group_text group) }
+{
+    out.push(b' ')?;
+    put_group(alloc, out, group)
+}
+
+/// Appends flags behind a space.
+fn put_flags_word(out: &mut Octets, flags: u8) -> Result<(), NoMemory>
+    ensures { OnOk result (out.new ≡ out.old ++ 32 ∷ flags_text flags) }
+{
+    out.push(b' ')?;
+    put_flags(out, flags)
+}
+
+fn put_title(out: &mut Octets, name: &[u8]) -> Result<(), NoMemory>
+    ensures { OnOk result (out.new ≡ out.old ++ join_with_byte 32 (words_of (Title name.now))) }
+{
+    out.append(b"project")?;
+    put_word(out, name)
+}
+
+fn put_ga(alloc: Global, out: &mut Octets, group: GroupAddr, name: &[u8]) -> Result<(), NoMemory>
+    ensures { OnOk result (out.new ≡ out.old ++ join_with_byte 32 (words_of (Group group name.now))) }
+{
+    out.append(b"ga")?;
+    put_group_word(alloc, out, group)?;
+    put_word(out, name)
+}
+
+fn put_device_line(
+    alloc: Global,
+    out: &mut Octets,
+    device: IndAddr,
+    model: &[u8],
+) -> Result<(), NoMemory>
+    ensures { OnOk result (out.new ≡ out.old ++ join_with_byte 32 (words_of (Device device model.now))) }
+{
+    out.append(b"device")?;
+    put_individual(alloc, out, device)?;
+    put_word(out, model)
+}
+
+fn put_object(
+    alloc: Global,
+    out: &mut Octets,
+    device: IndAddr,
+    n: u8,
+    size: u8,
+    flags: u8,
+) -> Result<(), NoMemory>
+    ensures { OnOk result (out.new ≡ out.old ++ join_with_byte 32 (words_of (Object device n size flags))) }
+{
+    out.append(b"object")?;
+    put_individual(alloc, out, device)?;
+    put_decimal(alloc, out, u32::from(n))?;
+    put_decimal(alloc, out, u32::from(bits_of(size)))?;
+    put_flags_word(out, flags)
+}
+
+fn put_link(
+    alloc: Global,
+    out: &mut Octets,
+    device: IndAddr,
+    object: u8,
+    group: GroupAddr,
+) -> Result<(), NoMemory>
+    ensures { OnOk result (out.new ≡ out.old ++ join_with_byte 32 (words_of (Link device object group))) }
+{
+    out.append(b"link")?;
+    put_individual(alloc, out, device)?;
+    put_decimal(alloc, out, u32::from(object))?;
+    put_group_word(alloc, out, group)
+}
+
+fn put_flags_line(
+    alloc: Global,
+    out: &mut Octets,
+    device: IndAddr,
+    object: u8,
+    flags: u8,
+) -> Result<(), NoMemory>
+    ensures { OnOk result (out.new ≡ out.old ++ join_with_byte 32 (words_of (Flags device object flags))) }
+{
+    out.append(b"flags")?;
+    put_individual(alloc, out, device)?;
+    put_decimal(alloc, out, u32::from(object))?;
+    put_flags_word(out, flags)
+}
+
+fn put_param(
+    alloc: Global,
+    out: &mut Octets,
+    device: IndAddr,
+    name: &[u8],
+    value: u32,
+) -> Result<(), NoMemory>
+    ensures { OnOk result (out.new ≡ out.old ++ join_with_byte 32 (words_of (Param device name.now value))) }
+{
+    out.append(b"param")?;
+    put_individual(alloc, out, device)?;
+    put_word(out, name)?;
+    put_decimal(alloc, out, value)
+}
+
+/// Appends the words of a statement.
+fn put_words(alloc: Global, out: &mut Octets, what: &What) -> Result<(), NoMemory>
+    ensures { OnOk result (out.new ≡ out.old ++ join_with_byte 32 (words_of what.now)) }
+{
+    match what {
+        What::Title(name) => put_title(out, name.as_slice()),
+        What::Group { group, name } => put_ga(alloc, out, *group, name.as_slice()),
+        What::Device { device, model } => put_device_line(alloc, out, *device, model.as_slice()),
+        What::Object {
+            device,
+            n,
+            size,
+            flags,
+        } => put_object(alloc, out, *device, *n, *size, *flags),
+        What::Link {
+            device,
+            object,
+            group,
+        } => put_link(alloc, out, *device, *object, *group),
+        What::Flags {
+            device,
+            object,
+            flags,
+        } => put_flags_line(alloc, out, *device, *object, *flags),
+        What::Param {
+            device,
+            name,
+            value,
+        } => put_param(alloc, out, *device, name.as_slice(), *value),
+    }
+}
+
+#[tactic(auto, unfolding(crate::specs::Printing::line_text))]
+fn put_line(alloc: Global, out: &mut Octets, what: &What) -> Result<(), NoMemory>
+    ensures { OnOk result (out.new ≡ out.old ++ line_text what.now) }
+{
+    put_words(alloc, out, what)?;
+    out.push(b'\n')
+}
+
+#[tactic(auto, unfolding(crate::specs::Printing::printed))]
+fn print_all(alloc: Global, statements: &[Statement]) -> Result<Octets, NoMemory>
+    ensures { IfOk result (λ text. text ≡ printed statements.now) }
+{
+    let mut out = Octets::new(alloc);
+    for statement in statements {
+        put_line(alloc, &mut out, &statement.what)?;
+    }
+    Ok(out)
+}
+
+/// The text of a project: one statement in a line, its words apart by one space. Flags stand in the order C R W T U I, sizes as
+/// numbers of bits, addresses and numbers in decimal.
+pub fn print_project(alloc: Global, project: &Project) -> Result<Octets, NoMemory>
+    ensures text { IfOk result (λ text. text ≡ printed project.now.statements) }
+    // What is printed reads as the same statements, numbered anew.
+    ensures again { IfOk result (λ text. length text ≤ 4194304 → reading text ≡ Ok (renumbered_from 1 project.now.statements)) }
+{
+    match print_all(alloc, project.statements.as_slice()) {
+        Ok(text) => Ok(text),
+        Err(_) => Err(NoMemory),
+    }
+}
+
+/// Statements that can be spelled are read again from their text, numbered anew, unless it is too long.
+pub fn printed_again()
+    ensures { (statements : List Statement) → IsTrue (are_spellable statements) → length (printed statements) ≤ 4194304 → reading (printed statements) ≡ Ok (renumbered_from 1 statements) }
+{}
