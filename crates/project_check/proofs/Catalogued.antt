@@ -23,8 +23,8 @@ model_sound (named ∷ ms) name m all e = found_in (bytes_eq named.name name) na
 numbers_small : (os : List ModelObject) → All IsObject os → (q : ℕ) → list_any (eqb q) (map number_of os) ≡ true → q < 256
 numbers_small [] all q e = absurd (false≢true e)
 numbers_small (o ∷ os) all q e = elim (or_cases (eqb q o.n) (list_any (eqb q) (map number_of os)) e) as (λ _. q < 256) [
-  inl here ↦ (let same : q ≡ o.n = eqb-true q o.n here in let small : o.n ≤ 255 = (All-head IsObject o os all).up_to_255 in omega arith) |
-  inr there ↦ numbers_small os (All-tail IsObject o os all) q there
+  | inl here ↦ (let same : q ≡ o.n = eqb-true q o.n here in let small : o.n ≤ 255 = (All-head IsObject o os all).up_to_255 in omega arith)
+  | inr there ↦ numbers_small os (All-tail IsObject o os all) q there
 ]
 
 length_numbers : (os : List ModelObject) → length (map number_of os) ≡ length os

@@ -73,7 +73,6 @@ impl Checked<'_> {
         is_among(device, self.devices.as_slice())
     }
 
-
     /// How many devices, objects and links it has; the objects of the devices' models count too.
     pub fn counts(&self) -> Counts
         ensures value { result ≡ counts_of self.now }

@@ -42,6 +42,6 @@ returns c =
     let devices : c.len.result ≡ length (devices_of ss) = omega (arith, c.len.ensures, length_permutation (devices_of ss) c.self.inside.devices.items c.self.invariant.all) in
     let objects : c.object_lines.result ≡ count_lines is_object_line ss = c.object_lines.ensures ∙ ap (count_lines is_object_line) c.as_slice-statements.ensures in
     let models : c.model_objects.result ≡ sum_by (model_objects i) (devices_of ss) =
-        c.model_objects.ensures.value ∙ ap (sum_by (λ s. line_objects i.catalogue s.what)) c.as_slice-statements.ensures ∙ sym (models_counted i c.self.invariant.sound) in
+    c.model_objects.ensures.value ∙ ap (sum_by (λ s. line_objects i.catalogue s.what)) c.as_slice-statements.ensures ∙ sym (models_counted i c.self.invariant.sound) in
     let links : c.link_lines.result ≡ count_lines is_link_line ss = c.link_lines.ensures ∙ ap (count_lines is_link_line) c.as_slice-statements.ensures in
     record { value = rw (← c.self.view_is, devices, objects, models, links) refl }
