@@ -1,8 +1,12 @@
 pub mod Ascending
 pub mod Asked
+pub mod Catalogued
+pub mod Few
 pub mod Indexed
 pub mod Judged
+pub mod Limits
 pub mod Named
 pub mod Repeats
 pub mod Sound
 pub mod Steps
+pub mod Totals

@@ -13,8 +13,8 @@ use Rattle.project_check.specs.declared.keys.Repeated.{Repeated}
 -- a count that stops reaches just what the count reaches, where that lies below its stop
 same_reach : (k n : ℕ) → k ≤ 65535 → nat_le k (capped n) ≡ nat_le k n
 same_reach k n within = elim (cases_Bool (nat_le k n)) as (λ _. nat_le k (capped n) ≡ nat_le k n) [
-  inl e ↦ rw e (le-leb k (capped n) (let h : k ≤ n = leb-true k n e in omega arith)) |
-  inr e ↦ rw e (lt-leb k (capped n) (let h : n < k = leb-false k n e in omega arith))
+  | inl e ↦ rw e (le-leb k (capped n) (let h : k ≤ n = leb-true k n e in omega arith))
+  | inr e ↦ rw e (lt-leb k (capped n) (let h : n < k = leb-false k n e in omega arith))
 ]
 
 -- what was found of a line, kind by kind

@@ -1,4 +1,5 @@
 pub mod Broken
+pub mod Counting
 pub mod Devices
 pub mod Keys
 pub mod Knowing

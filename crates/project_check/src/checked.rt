@@ -3,13 +3,15 @@
 ghost use Rattle.std.specs.Prelude.{◌≡◌, ◌≢◌, None, Some, IfOk, IfErr, OnOk, IfSome, map, slice_get, IsPermutation};
 ghost use Rattle.std.specs.List.Sorted.{IsStrictlyIncreasing};
 ghost use Rattle.knx_model.specs.declared.refusal.Why.TheVariants.{NoMemory};
+ghost use Rattle.knx_model.specs.Counts.{counts_of};
 ghost use Rattle.knx_model.specs.Rules.{first_broken, devices_of, has_device};
 ghost use Rattle.project_check.specs.Devices.{raw_of};
 
+use crate::counted::{link_lines, model_objects, object_lines};
 use crate::devices::{ascending_devices, first_device, is_among};
 use crate::earlier::Earlier;
 use crate::rules::Whole;
-use knx_model::{Catalogue, IndAddr, Refused, Statement, Why};
+use knx_model::{Catalogue, Counts, IndAddr, Refused, Statement, Why};
 use project_text::Project;
 use std::alloc::{AllocError, Global};
 use std::marker::Model;
@@ -71,6 +73,17 @@ impl Checked<'_> {
         is_among(device, self.devices.as_slice())
     }
 
+    /// How many devices, objects and links it has; the objects of the devices' models count too.
+    pub fn counts(&self) -> Counts
+        ensures value { result ≡ counts_of self.now }
+    {
+        let statements = self.project.statements.as_slice();
+        Counts {
+            devices: self.devices.len() as u32,
+            objects: object_lines(statements) as u32 + model_objects(self.catalogue, statements),
+            links: link_lines(statements) as u32,
+        }
+    }
 }
 
 /// The first statement that breaks a rule.

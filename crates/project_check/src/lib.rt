@@ -3,8 +3,7 @@
 
 mod broken;
 mod checked;
-
-
+mod counted;
 mod declared;
 mod devices;
 mod earlier;
@@ -12,7 +11,8 @@ mod keys;
 mod models;
 mod rules;
 
-
 pub use checked::{Checked, check};
 pub use knx_model::Counts;
 
+#[cfg(test)]
+mod tests;

@@ -84,7 +84,13 @@ impl<'a> Whole<'a> {
     }
 
     /// The rules that a `link` line breaks.
-    fn link_broken(&self, repeated: Repeated, device: IndAddr, object: u8, group: GroupAddr) -> Broken
+    fn link_broken(
+        &self,
+        repeated: Repeated,
+        device: IndAddr,
+        object: u8,
+        group: GroupAddr,
+    ) -> Broken
         ensures { (catalogue : List NamedModel) (before all : List Stated) → DeclaresAll catalogue self.now all → repeated ≡ repeats before (LinkLine device object group) → result ≡ broken_rules catalogue before all (LinkLine device object group) }
     {
         let looked = self.declared.look(GroupObject {

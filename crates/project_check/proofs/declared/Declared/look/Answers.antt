@@ -11,7 +11,7 @@ returns-in-Some c = λ catalogue ss h.
     let is = c.in-Some.ensures.some catalogue ss h in
     let line : c.copied-line_size.result ≡ first_some (size_in o.device o.number) ss = c.copied-line_size.ensures ∙ c.get.ensures.value ∙ h.sizes o in
     let size : c.or.result ≡ or_else (size_in_model (Some is.0) o.number) (first_some (size_in o.device o.number) ss) =
-        c.or.ensures ∙ ap (λ r. option_or r c.copied-line_size.result) (c.size_of.ensures is.0 is.2) ∙ ap (option_or (size_in_model (Some is.0) o.number)) line ∙ or_same (size_in_model (Some is.0) o.number) (first_some (size_in o.device o.number) ss) in
+    c.or.ensures ∙ ap (λ r. option_or r c.copied-line_size.result) (c.size_of.ensures is.0 is.2) ∙ ap (option_or (size_in_model (Some is.0) o.number)) line ∙ or_same (size_in_model (Some is.0) o.number) (first_some (size_in o.device o.number) ss) in
     rw is.1 (ap (λ (z : Option ℕ). let l : Looked = record { modelled = true; size = z } in l) size)
 
 pub returns-in-None : goal.returns-in-None

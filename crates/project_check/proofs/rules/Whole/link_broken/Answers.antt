@@ -11,7 +11,7 @@ returns c = λ catalogue before all h k.
     let n = c.args.object in
     let look = c.look-looked.ensures catalogue all h.declared in
     let lacks : c.is_missing.result ≡ asked_of (model_of catalogue all d) (is_no_object all d n) =
-        c.is_missing.ensures ∙ ap (λ (l : Looked). l.modelled && is_none l.size) look ∙ missing catalogue all d n in
+    c.is_missing.ensures ∙ ap (λ (l : Looked). l.modelled && is_none l.size) look ∙ missing catalogue all d n in
     let size : c.look-looked.result.size ≡ size_of catalogue all d n = ap (λ (l : Looked). l.size) look in
     rw (
       k,

@@ -14,5 +14,5 @@ returns c = λ catalogue before all h.
     let seek = c.seek-sought.ensures catalogue all h.declared in
     let unknown : c.is_unknown.result ≡ asked_of m (λ m. not (has_field m name)) = c.is_unknown.ensures ∙ ap (λ (s : Sought). s.modelled && is_none s.range) seek ∙ unknown_of m name in
     let outside : c.excludes.result ≡ asked_of m (λ m. is_out_of (field_in m.parameters name) c.args.value) =
-        c.excludes.ensures ∙ ap (λ (s : Sought). is_outside s.range c.args.value) seek ∙ outside_of m name c.args.value in
+    c.excludes.ensures ∙ ap (λ (s : Sought). is_outside s.range c.args.value) seek ∙ outside_of m name c.args.value in
     rw (c.none.ensures, unknown, outside, c.has_device.ensures catalogue all h.declared) refl

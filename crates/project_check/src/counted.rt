@@ -1,0 +1,79 @@
+//! How many objects and links a text has.
+
+ghost use Rattle.std.specs.Prelude.{◌≡◌, ◌≤◌, sum_by, if◌then◌else◌};
+ghost use Rattle.knx_model.specs.Rules.{count_lines, is_device_line, is_object_line, is_link_line};
+ghost use Rattle.project_check.specs.Counting.{named_objects, line_objects};
+
+use knx_model::{Catalogue, Statement, What};
+
+/// Whether a statement is an `object` line.
+fn is_object_line(what: &What) -> bool
+    ensures { result ≡ is_object_line what.now }
+{
+    matches!(what, What::Object { .. })
+}
+
+/// Whether a statement is a `link` line.
+fn is_link_line(what: &What) -> bool
+    ensures { result ≡ is_link_line what.now }
+{
+    matches!(what, What::Link { .. })
+}
+
+/// The number of `object` lines.
+pub fn object_lines(statements: &[Statement]) -> usize
+    ensures { result ≡ count_lines is_object_line statements.now }
+{
+    statements
+        .iter()
+        .filter(|statement| is_object_line(&statement.what))
+        .count()
+}
+
+/// The number of `link` lines.
+pub fn link_lines(statements: &[Statement]) -> usize
+    ensures { result ≡ count_lines is_link_line statements.now }
+{
+    statements
+        .iter()
+        .filter(|statement| is_link_line(&statement.what))
+        .count()
+}
+
+/// The number of objects of the model of a name.
+fn named_objects(catalogue: &Catalogue, name: &[u8]) -> u32
+    ensures value { result ≡ named_objects catalogue.now name.now }
+    ensures few { result ≤ 256 }
+{
+    if name == b"inline".as_slice() {
+        return 0;
+    }
+    match catalogue.model_in(name) {
+        Some(model) => model.objects.len() as u32,
+        None => 0,
+    }
+}
+
+/// The number of objects of the model that a `device` line names; 0 of another line.
+fn line_objects(catalogue: &Catalogue, what: &What) -> u32
+    ensures value { result ≡ line_objects catalogue.now what.now }
+    ensures few { result ≤ (if is_device_line what.now then 256 else 0) }
+{
+    match what {
+        What::Device { model, .. } => named_objects(catalogue, model.as_slice()),
+        _ => 0,
+    }
+}
+
+/// The number of objects of the models that the `device` lines name.
+pub fn model_objects(catalogue: &Catalogue, statements: &[Statement]) -> u32
+    requires { count_lines is_device_line statements.now ≤ 255 }
+    ensures value { result ≡ sum_by (λ s. line_objects catalogue.now s.what) statements.now }
+    ensures few { result ≤ 65280 }
+{
+    let mut objects = 0;
+    for statement in statements {
+        objects += line_objects(catalogue, &statement.what);
+    }
+    objects
+}
