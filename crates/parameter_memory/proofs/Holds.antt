@@ -23,7 +23,7 @@ holds_it : (bits : List ℕ) (at width value : ℕ) → at + width ≤ length bi
 holds_it bits at width value within small =
     let len : length (value_bits width value) ≡ width = length-value_bits width value in
     let there : take width (drop at (overwrite bits at (value_bits width value))) ≡ value_bits width value =
-        subst (λ (n : ℕ). take n (drop at (overwrite bits at (value_bits width value))) ≡ value_bits width value) len (written bits at (value_bits width value) (omega (arith, len, within))) in
+    subst (λ (n : ℕ). take n (drop at (overwrite bits at (value_bits width value))) ≡ value_bits width value) len (written bits at (value_bits width value) (omega (arith, len, within))) in
     ap bits_value there ∙ value_fold width value 0 ∙ small_rest value (2 ^ width) small
 
 -- what lies apart stays
@@ -45,13 +45,13 @@ pub next_default : (bits : List ℕ) (fs : List ModelField) (f : ModelField) (va
 next_default bits fs f value holds within small far = record {
   digits = bits-overwrite bits f.bit (value_bits f.width (value f)) holds.digits (bits-value_bits f.width (value f));
   fields_hold = All-push (λ g. bits_value (take g.width (drop g.bit (overwrite bits f.bit (value_bits f.width (value f))))) ≡ value g) fs f
-    (λ k d lt. keeps bits f.bit f.width (value f) (get_or fs k d).bit (get_or fs k d).width (far k d lt) ∙ holds.fields_hold k d lt)
-    (holds_it bits f.bit f.width (value f) within small);
+      (λ k d lt. keeps bits f.bit f.width (value f) (get_or fs k d).bit (get_or fs k d).width (far k d lt) ∙ holds.fields_hold k d lt)
+      (holds_it bits f.bit f.width (value f) within small);
   others = λ b lt out.
-    let lt_old : b < length bits = omega (arith, lt, length-overwrite bits f.bit (value_bits f.width (value f))) in
-    let last : IsBeside b f = subst (IsBeside b) (get_or_push fs f f (length fs) refl) (out (length fs) f (omega (arith, length_push fs f))) in
-    let front : All (IsBeside b) fs = λ k d less. subst (IsBeside b) (get_or_append_left fs (f ∷ []) d k less) (out k d (omega (arith, less, length_push fs f))) in
-    keeps_bit bits f.bit f.width (value f) b last ∙ holds.others b lt_old front;
+      let lt_old : b < length bits = omega (arith, lt, length-overwrite bits f.bit (value_bits f.width (value f))) in
+      let last : IsBeside b f = subst (IsBeside b) (get_or_push fs f f (length fs) refl) (out (length fs) f (omega (arith, length_push fs f))) in
+      let front : All (IsBeside b) fs = λ k d less. subst (IsBeside b) (get_or_append_left fs (f ∷ []) d k less) (out k d (omega (arith, less, length_push fs f))) in
+      keeps_bit bits f.bit f.width (value f) b last ∙ holds.others b lt_old front;
 }
 
 -- how the value of a field changes with one more setting
@@ -71,10 +71,10 @@ next_setting bits fs p before after f holds within small each (j, less, is) at w
   digits = bits-overwrite bits p.bit (value_bits p.width p.value) holds.digits (bits-value_bits p.width p.value);
   fields_hold = λ k d lt. changed bits p before after (get_or fs k d) within small (each k d lt) (holds.fields_hold k d lt);
   others = λ b lt out.
-    let lt_old : b < length bits = omega (arith, lt, length-overwrite bits p.bit (value_bits p.width p.value)) in
-    let here : IsBeside b f = subst (IsBeside b) is (out j f less) in
-    let far : (b < p.bit) ⊎ (p.bit + p.width ≤ b) = rw (← at, ← wide) here in
-    keeps_bit bits p.bit p.width p.value b far ∙ holds.others b lt_old out;
+      let lt_old : b < length bits = omega (arith, lt, length-overwrite bits p.bit (value_bits p.width p.value)) in
+      let here : IsBeside b f = subst (IsBeside b) is (out j f less) in
+      let far : (b < p.bit) ⊎ (p.bit + p.width ≤ b) = rw (← at, ← wide) here in
+      keeps_bit bits p.bit p.width p.value b far ∙ holds.others b lt_old out;
 }
 
 -- ---- settings
@@ -171,8 +171,8 @@ sets m s i d bits model settings less size holds =
     let once : All (λ q. q.bit ≢ p.bit) (take i s) = other s i d settings.once less in
     let (j, lesser, is) = k.member in
     let each : All (Changes p (set_value (take i s)) (set_value (take i s ++ p ∷ []))) m.parameters = λ n e lt.
-        changes_at (is_of_field (get_or m.parameters n e) p) (take i s) p (get_or m.parameters n e) k.field refl once
-        (λ not_it. beside_it m.parameters n j e p k.field model.apart lt lesser is k.bit k.width not_it) k.bit k.width in
+    changes_at (is_of_field (get_or m.parameters n e) p) (take i s) p (get_or m.parameters n e) k.field refl once
+    (λ not_it. beside_it m.parameters n j e p k.field model.apart lt lesser is k.bit k.width not_it) k.bit k.width in
     rw (take_more s i d less) (next_setting bits m.parameters p (set_value (take i s)) (set_value (take i s ++ p ∷ [])) k.field holds (omega (arith, size, k.within)) k.small each k.member k.bit k.width)
 
 -- ---- a memory holds what its bits hold

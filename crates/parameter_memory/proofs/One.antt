@@ -13,7 +13,7 @@ pub one_value : (m : Model) (s : List ParamValue) (memory : List ℕ) (f : Model
 unfolding laid
 one_value m s memory f h (k, lt, is) =
     let at : field_value memory (get_or m.parameters k f).bit (get_or m.parameters k f).width ≡ set_value s (get_or m.parameters k f) =
-        subst (λ p. field_value memory p.bit p.width ≡ p.value) (get_or-map (laid_field s) m.parameters k f (laid_field s f) lt) (h.fields k (laid_field s f) (omega (arith, lt, length-map m.parameters (laid_field s)))) in
+    subst (λ p. field_value memory p.bit p.width ≡ p.value) (get_or-map (laid_field s) m.parameters k f (laid_field s f) lt) (h.fields k (laid_field s f) (omega (arith, lt, length-map m.parameters (laid_field s)))) in
     subst (λ g. field_value memory g.bit g.width ≡ set_value s g) is at
 
 -- a bit is of a field, or of none
@@ -23,8 +23,9 @@ here_or_not b p = grind arith
 of_some : (b : ℕ) (ps : List ParamValue) → All (IsOutside b) ps ⊎ ((k : ℕ) × (d : ParamValue) × (k < length ps) × ((get_or ps k d).bit ≤ b) × (b < (get_or ps k d).bit + (get_or ps k d).width))
 of_some b [] = inl (All-nil (IsOutside b))
 of_some b (p ∷ ps) = elim (here_or_not b p) [
-    inl out ↦ elim (of_some b ps) [ inl rest ↦ inl (All-cons (IsOutside b) p ps out rest) | inr (k, d, lt, low, high) ↦ inr (suc k, d, omega (arith, lt), low, high) ]
-  | inr (low, high) ↦ inr (0, p, omega arith, low, high) ]
+  | inl out ↦ elim (of_some b ps) [ inl rest ↦ inl (All-cons (IsOutside b) p ps out rest) | inr (k, d, lt, low, high) ↦ inr (suc k, d, omega (arith, lt), low, high) ]
+  | inr (low, high) ↦ inr (0, p, omega arith, low, high)
+]
 
 -- the bits of a field that holds one value
 field_bits : (one other : List ℕ) (bit width : ℕ) → length one ≡ length other → field_value one bit width ≡ field_value other bit width → take width (drop bit (bits_of one)) ≡ take width (drop bit (bits_of other))
@@ -45,13 +46,14 @@ in_range bits bit width b low high =
 
 one_bit : (len : ℕ) (ps : List ParamValue) (one other : List ℕ) (b : ℕ) → HoldsParameters one len ps → HoldsParameters other len ps → b < 8 * len → get_or (bits_of one) b 0 ≡ get_or (bits_of other) b 0
 one_bit len ps one other b h g lt = elim (of_some b ps) [
-    inl out ↦ h.others b lt out ∙ sym (g.others b lt out)
+  | inl out ↦ h.others b lt out ∙ sym (g.others b lt out)
   | inr (k, d, less, low, high) ↦
-    let bit = (get_or ps k d).bit in
-    let width = (get_or ps k d).width in
-    let same : field_value one bit width ≡ field_value other bit width = h.fields k d less ∙ sym (g.fields k d less) in
-    let bits = field_bits one other bit width (h.length ∙ sym g.length) same in
-    sym (in_range (bits_of one) bit width b low high) ∙ ap (λ xs. get_or xs (b - bit) 0) bits ∙ in_range (bits_of other) bit width b low high ]
+      let bit = (get_or ps k d).bit in
+      let width = (get_or ps k d).width in
+      let same : field_value one bit width ≡ field_value other bit width = h.fields k d less ∙ sym (g.fields k d less) in
+      let bits = field_bits one other bit width (h.length ∙ sym g.length) same in
+      sym (in_range (bits_of one) bit width b low high) ∙ ap (λ xs. get_or xs (b - bit) 0) bits ∙ in_range (bits_of other) bit width b low high
+]
 
 pub one : (len : ℕ) (ps : List ParamValue) (a b : List ℕ) → HoldsParameters a len ps → HoldsParameters b len ps → a ≡ b
 one len ps a b h g =

@@ -19,7 +19,12 @@ fn write_defaults(bits: &mut [u8], fields: &[ModelField], params: u16)
     ensures { HoldsFields bits.new fields.now (set_value []) }
 {
     for field in fields {
-        write_value(bits, field.bit as usize, usize::from(field.width), field.default);
+        write_value(
+            bits,
+            field.bit as usize,
+            usize::from(field.width),
+            field.default,
+        );
     }
 }
 
@@ -29,7 +34,12 @@ fn write_settings(bits: &mut [u8], settings: &[ParamValue])
     ensures { (m : DeviceModel) → IsModel m → AreSettings m settings.now → length bits.old ≡ 8 * m.params → HoldsFields bits.old m.parameters (set_value []) → HoldsFields bits.new m.parameters (set_value settings.now) }
 {
     for setting in settings {
-        write_value(bits, setting.bit as usize, usize::from(setting.width), setting.value);
+        write_value(
+            bits,
+            setting.bit as usize,
+            usize::from(setting.width),
+            setting.value,
+        );
     }
 }
 
@@ -41,7 +51,11 @@ pub fn lay(alloc: Global, model: &Model, settings: &[ParamValue]) -> Result<Octe
     ensures { IfOk result (λ memory. HoldsParameters memory model.now.params (laid model.now settings.now)) }
 {
     let mut bits = vec![in alloc; 0; 8 * usize::from(model.params)]?;
-    write_defaults(bits.as_mut_slice(), model.parameters.as_slice(), model.params);
+    write_defaults(
+        bits.as_mut_slice(),
+        model.parameters.as_slice(),
+        model.params,
+    );
     write_settings(bits.as_mut_slice(), settings);
     octets_of(alloc, bits.as_slice(), model.params)
 }
