@@ -244,12 +244,6 @@ device_expired (Answering s a) now =
     if has_passed idle_wait s.last now then expired.Closed disconnect
     else (if is_due a now then expired.Repeat a.frame else expired.Nothing)
 
--- where an answer is outstanding it may be sent again
-abbrev pub MayRepeat : DeviceEnd → Type 0
-MayRepeat Closed = Unit {0}
-MayRepeat (Idle s) = Unit {0}
-MayRepeat (Answering s a) = a.repeats < most_repeats
-
 abbrev pub again : Outstanding → ℕ → Outstanding
 again a now = record { frame = a.frame; repeats = a.repeats + 1; sent = now }
 
@@ -303,13 +297,6 @@ is_memory_write _ = false
 -- every service but a memory write has an answer
 abbrev pub has_answer : List ℕ → Bool
 has_answer octets = not (is_memory_write (service_in octets))
-
-abbrev pub IsntAsked : ClientEnd → Type 0
-IsntAsked (Asked device) = ⊥
-IsntAsked (Up s) = Unit {0}
-IsntAsked (Asking s q) = Unit {0}
-IsntAsked (Awaiting s) = Unit {0}
-IsntAsked Ended = Unit {0}
 
 -- ---- confirmations: of the T_Connect, and of a frame that was sent later, whose wait begins, with error or without
 
@@ -441,14 +428,6 @@ client_expired (Up s) now = over.Nothing
 client_expired (Asking s q) now = question_expired q q.confirmed now
 client_expired (Awaiting s) now = if has_passed idle_wait s.last now then over.Silent idle_wait else over.Nothing
 client_expired Ended now = over.Nothing
-
--- where a service is outstanding it may be sent again
-abbrev pub MayAskAgain : ClientEnd → Type 0
-MayAskAgain (Asked device) = Unit {0}
-MayAskAgain (Up s) = Unit {0}
-MayAskAgain (Asking s q) = q.repeats < most_repeats
-MayAskAgain (Awaiting s) = Unit {0}
-MayAskAgain Ended = Unit {0}
 
 abbrev pub asked_again : Question → Question
 asked_again q = record { frame = q.frame; awaits = q.awaits; repeats = q.repeats + 1; confirmed = None }

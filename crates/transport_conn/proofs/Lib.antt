@@ -1,0 +1,4 @@
+pub mod Carried
+pub mod DeviceEnd
+pub mod ClientEnd
+pub mod Runs

@@ -3,7 +3,8 @@ use Rattle.transport_conn.specs.declared.device.State.{State as DeviceState}
 use Rattle.transport_conn.specs.declared.device.State.TheVariants as device
 use Rattle.transport_conn.specs.declared.client.State.{State as ClientState}
 use Rattle.transport_conn.specs.declared.client.State.TheVariants as client
-use Rattle.knx_model.specs.Connection.{DeviceEnd, Closed, Idle, Answering, ClientEnd, Asked, Up, Asking, Awaiting, Ended}
+use Rattle.std.specs.Prelude.{◌<◌}
+use Rattle.knx_model.specs.Connection.{DeviceEnd, Closed, Idle, Answering, ClientEnd, Asked, Up, Asking, Awaiting, Ended, most_repeats}
 
 abbrev pub device_end : DeviceState → DeviceEnd
 device_end device.Closed = Closed
@@ -16,3 +17,24 @@ client_end (client.Up s) = Up s
 client_end (client.Asking s q) = Asking s q
 client_end (client.Awaiting s) = Awaiting s
 client_end client.Ended = Ended
+
+-- where an answer is outstanding it may be sent again
+abbrev pub MayRepeat : DeviceEnd → Type 0
+MayRepeat Closed = Unit {0}
+MayRepeat (Idle s) = Unit {0}
+MayRepeat (Answering s a) = a.repeats < most_repeats
+
+abbrev pub IsntAsked : ClientEnd → Type 0
+IsntAsked (Asked device) = ⊥
+IsntAsked (Up s) = Unit {0}
+IsntAsked (Asking s q) = Unit {0}
+IsntAsked (Awaiting s) = Unit {0}
+IsntAsked Ended = Unit {0}
+
+-- where a service is outstanding it may be sent again
+abbrev pub MayAskAgain : ClientEnd → Type 0
+MayAskAgain (Asked device) = Unit {0}
+MayAskAgain (Up s) = Unit {0}
+MayAskAgain (Asking s q) = q.repeats < most_repeats
+MayAskAgain (Awaiting s) = Unit {0}
+MayAskAgain Ended = Unit {0}

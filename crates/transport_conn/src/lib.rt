@@ -5,6 +5,7 @@
 mod client;
 mod device;
 mod frame;
+mod laws;
 mod session;
 mod wait;
 
@@ -14,3 +15,11 @@ pub use knx_model::{
     ApduOctets, Busy, ClientConfirmed, ClientExpired, ClientTook, DeviceExpired, DeviceTook,
     IndAddr,
 };
+pub use laws::{
+    deadline_is_nearest, delivers_exactly, delivers_once, frames_are_read, hears_exactly,
+    hears_once, nak_is_ignored, numbered_is_grammatical, repeats_exactly, sent_at_most_four_times,
+    silent_exactly,
+};
+
+#[cfg(test)]
+mod tests;

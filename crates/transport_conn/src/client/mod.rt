@@ -18,12 +18,12 @@
 //! confirmed, and Awaiting after 6,000 ms without a frame. An answer that comes in Asking is acknowledged at once, and that it
 //! came is kept until the T_ACK of its question.
 
-ghost use Rattle.std.specs.Prelude.{◌≡◌, Bool};
+ghost use Rattle.std.specs.Prelude.{◌≡◌};
 ghost use Rattle.std.specs.Result.{result_ok};
-ghost use Rattle.knx_model.specs.Connection.{IsApdu, frame_in, device_of, client_confirmed, after_confirmed, client_sent, after_send, client_took, client_after, stayed, told_answer, told_ack, client_expired, after_overdue, sent_again, MayAskAgain, IsntAsked, client_deadline, Asked};
-ghost use Rattle.transport_conn.specs.Ends.{client_end};
+ghost use Rattle.knx_model.specs.Connection.{IsApdu, frame_in, device_of, client_confirmed, after_confirmed, client_sent, after_send, client_took, client_after, client_expired, after_overdue, client_deadline, Asked};
 
 mod question;
+mod steps;
 mod took;
 
 use crate::frame::read;
@@ -183,97 +183,6 @@ impl ClientConn {
             State::Asking(_, question) => question.deadline(),
             State::Awaiting(session) => Some(session.end()),
             State::Asked(_) | State::Up(_) | State::Ended => None,
-        }
-    }
-}
-
-impl State {
-    /// After the frame that was sent last was confirmed.
-    #[tactic(auto, unfolding(knx_model::specs::Connection::after_confirmed))]
-    fn confirmed(self, now: u64) -> State
-        requires { IsntAsked (client_end self) }
-        ensures { (error : Bool) → client_end result ≡ after_confirmed (client_end self) error now }
-    {
-        match self {
-            State::Asking(session, question) => State::Asking(session, question.confirmed(now)),
-            state => state,
-        }
-    }
-
-    /// After this answer to a frame.
-    #[tactic(auto, unfolding(knx_model::specs::Connection::client_after))]
-    fn after(self, now: u64, took: &ClientTook) -> State
-        ensures { client_end result ≡ client_after (client_end self) now took.now }
-    {
-        match took {
-            ClientTook::Dropped => self,
-            ClientTook::Acked => self.told_ack(now),
-            ClientTook::Answer { .. } => self.told_answer(now),
-            ClientTook::Again { .. } | ClientTook::Nak(_) => self.stayed(now),
-            ClientTook::Closed { .. } => State::Ended,
-        }
-    }
-
-    /// After a frame was taken that brought nothing new.
-    fn stayed(self, now: u64) -> State
-        ensures { client_end result ≡ stayed (client_end self) now }
-    {
-        match self {
-            State::Up(session) => State::Up(session.at_time(now)),
-            State::Asking(session, question) => State::Asking(session.at_time(now), question),
-            State::Awaiting(session) => State::Awaiting(session.at_time(now)),
-            state => state,
-        }
-    }
-
-    /// After the device's next service came.
-    fn told_answer(self, now: u64) -> State
-        ensures { client_end result ≡ told_answer (client_end self) now }
-    {
-        match self {
-            State::Up(session) | State::Awaiting(session) => State::Up(session.advanced(now)),
-            State::Asking(session, question) => {
-                State::Asking(session.advanced(now), question.has_come())
-            }
-            state => state,
-        }
-    }
-
-    /// After the outstanding service was acknowledged.
-    fn told_ack(self, now: u64) -> State
-        ensures { client_end result ≡ told_ack (client_end self) now }
-    {
-        match self {
-            State::Asking(session, question) if question.awaits() => {
-                State::Awaiting(session.acknowledged(now))
-            }
-            State::Asking(session, _) => State::Up(session.acknowledged(now)),
-            state => state,
-        }
-    }
-
-    /// After this became due.
-    #[tactic(auto, unfolding(knx_model::specs::Connection::client_expired, knx_model::specs::Connection::after_overdue))]
-    fn after_overdue(self, now: u64, expired: &ClientExpired) -> State
-        requires { expired.now ≡ client_expired (client_end self) now }
-        ensures { client_end result ≡ after_overdue (client_end self) now expired.now }
-    {
-        match expired {
-            ClientExpired::Nothing => self,
-            ClientExpired::Repeat(_) => self.sent_again(now),
-            ClientExpired::Silent { .. } => State::Ended,
-        }
-    }
-
-    fn sent_again(self, now: u64) -> State
-        requires { MayAskAgain (client_end self) }
-        ensures { client_end result ≡ sent_again (client_end self) now }
-    {
-        match self {
-            State::Asking(session, question) => {
-                State::Asking(session.at_time(now), question.again())
-            }
-            state => state,
         }
     }
 }

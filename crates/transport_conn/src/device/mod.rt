@@ -17,10 +17,10 @@
 
 ghost use Rattle.std.specs.Prelude.{◌≡◌, is_some};
 ghost use Rattle.std.specs.Result.{result_ok};
-ghost use Rattle.knx_model.specs.Connection.{IsApdu, frame_in, partner_of, device_took, device_after, device_answered, after_answer, device_expired, after_expiry, device_deadline, went_on, advanced, at_time, settled, left, repeated, MayRepeat, Closed};
-ghost use Rattle.transport_conn.specs.Ends.{device_end};
+ghost use Rattle.knx_model.specs.Connection.{IsApdu, frame_in, partner_of, device_took, device_after, device_answered, after_answer, device_expired, after_expiry, device_deadline, Closed};
 
 mod outstanding;
+mod steps;
 mod took;
 
 use crate::frame::{disconnect, read};
@@ -135,14 +135,15 @@ impl DeviceConn {
         ensures answer { result ≡ device_expired self.old now }
         ensures next { self.new ≡ after_expiry self.old now (device_expired self.old now) }
     {
-        let expired = self.expired(now);
+        let expired = self.would_expire(now);
         let state = mem::replace(&mut self.state, State::Closed);
         self.state = state.after_expiry(now, &expired);
         expired
     }
 
+    /// What `expire` would answer at this time; nothing changes.
     #[tactic(auto, unfolding(knx_model::specs::Connection::device_expired))]
-    fn expired(&self, now: u64) -> DeviceExpired
+    pub fn would_expire(&self, now: u64) -> DeviceExpired
         ensures { result ≡ device_expired self.now now }
     {
         match &self.state {
@@ -165,94 +166,6 @@ impl DeviceConn {
             State::Closed => None,
             State::Idle(session) => Some(session.end()),
             State::Answering(session, outstanding) => Some(outstanding.deadline(session.end())),
-        }
-    }
-}
-
-impl State {
-    /// After this answer to a frame.
-    #[tactic(auto, unfolding(knx_model::specs::Connection::device_after))]
-    fn after(self, from: IndAddr, now: u64, took: &DeviceTook) -> State
-        ensures { device_end result ≡ device_after (device_end self) from now took.now }
-    {
-        match took {
-            DeviceTook::Dropped => self,
-            DeviceTook::Connected => State::Idle(Session::new(from, now)),
-            DeviceTook::Apdu { .. } => self.advanced(now),
-            DeviceTook::Again { .. } | DeviceTook::Nak(_) => self.at_time(now),
-            DeviceTook::Acked => self.settled(now),
-            DeviceTook::Closed { .. } => self.left(from),
-        }
-    }
-
-    fn advanced(self, now: u64) -> State
-        ensures { device_end result ≡ went_on (λ s. advanced s now) (device_end self) }
-    {
-        match self {
-            State::Closed => State::Closed,
-            State::Idle(session) => State::Idle(session.advanced(now)),
-            State::Answering(session, outstanding) => {
-                State::Answering(session.advanced(now), outstanding)
-            }
-        }
-    }
-
-    fn at_time(self, now: u64) -> State
-        ensures { device_end result ≡ went_on (λ s. at_time s now) (device_end self) }
-    {
-        match self {
-            State::Closed => State::Closed,
-            State::Idle(session) => State::Idle(session.at_time(now)),
-            State::Answering(session, outstanding) => {
-                State::Answering(session.at_time(now), outstanding)
-            }
-        }
-    }
-
-    /// After its answer was acknowledged.
-    fn settled(self, now: u64) -> State
-        ensures { device_end result ≡ settled (device_end self) now }
-    {
-        match self {
-            State::Answering(session, _) => State::Idle(session.acknowledged(now)),
-            state => state,
-        }
-    }
-
-    /// After a connection with this sender was closed.
-    fn left(self, from: IndAddr) -> State
-        ensures { device_end result ≡ left (device_end self) from }
-    {
-        match &self {
-            State::Idle(session) | State::Answering(session, _) if session.is_partner(from) => {
-                State::Closed
-            }
-            _ => self,
-        }
-    }
-
-    /// After this became due.
-    #[tactic(auto, unfolding(knx_model::specs::Connection::device_expired, knx_model::specs::Connection::after_expiry))]
-    fn after_expiry(self, now: u64, expired: &DeviceExpired) -> State
-        requires { expired.now ≡ device_expired (device_end self) now }
-        ensures { device_end result ≡ after_expiry (device_end self) now expired.now }
-    {
-        match expired {
-            DeviceExpired::Nothing => self,
-            DeviceExpired::Repeat(_) => self.repeated(now),
-            DeviceExpired::Closed(_) => State::Closed,
-        }
-    }
-
-    fn repeated(self, now: u64) -> State
-        requires { MayRepeat (device_end self) }
-        ensures { device_end result ≡ repeated (device_end self) now }
-    {
-        match self {
-            State::Answering(session, outstanding) => {
-                State::Answering(session.at_time(now), outstanding.again(now))
-            }
-            state => state,
         }
     }
 }

@@ -1,0 +1,99 @@
+//! What a client's end knows after each of its answers.
+
+ghost use Rattle.std.specs.Prelude.{◌≡◌, Bool};
+ghost use Rattle.knx_model.specs.Connection.{after_confirmed, client_after, stayed, told_answer, told_ack, client_expired, after_overdue, sent_again};
+ghost use Rattle.transport_conn.specs.Ends.{client_end, IsntAsked, MayAskAgain};
+
+use super::State;
+use knx_model::{ClientExpired, ClientTook};
+
+impl State {
+    /// After the frame that was sent last was confirmed.
+    #[tactic(auto, unfolding(knx_model::specs::Connection::after_confirmed))]
+    pub fn confirmed(self, now: u64) -> State
+        requires { IsntAsked (client_end self) }
+        ensures { (error : Bool) → client_end result ≡ after_confirmed (client_end self) error now }
+    {
+        match self {
+            State::Asking(session, question) => State::Asking(session, question.confirmed(now)),
+            state => state,
+        }
+    }
+
+    /// After this answer to a frame.
+    #[tactic(auto, unfolding(knx_model::specs::Connection::client_after))]
+    pub fn after(self, now: u64, took: &ClientTook) -> State
+        ensures { client_end result ≡ client_after (client_end self) now took.now }
+    {
+        match took {
+            ClientTook::Dropped => self,
+            ClientTook::Acked => self.told_ack(now),
+            ClientTook::Answer { .. } => self.told_answer(now),
+            ClientTook::Again { .. } | ClientTook::Nak(_) => self.stayed(now),
+            ClientTook::Closed { .. } => State::Ended,
+        }
+    }
+
+    /// After a frame was taken that brought nothing new.
+    fn stayed(self, now: u64) -> State
+        ensures { client_end result ≡ stayed (client_end self) now }
+    {
+        match self {
+            State::Up(session) => State::Up(session.at_time(now)),
+            State::Asking(session, question) => State::Asking(session.at_time(now), question),
+            State::Awaiting(session) => State::Awaiting(session.at_time(now)),
+            state => state,
+        }
+    }
+
+    /// After the device's next service came.
+    fn told_answer(self, now: u64) -> State
+        ensures { client_end result ≡ told_answer (client_end self) now }
+    {
+        match self {
+            State::Up(session) | State::Awaiting(session) => State::Up(session.advanced(now)),
+            State::Asking(session, question) => {
+                State::Asking(session.advanced(now), question.has_come())
+            }
+            state => state,
+        }
+    }
+
+    /// After the outstanding service was acknowledged.
+    fn told_ack(self, now: u64) -> State
+        ensures { client_end result ≡ told_ack (client_end self) now }
+    {
+        match self {
+            State::Asking(session, question) if question.awaits() => {
+                State::Awaiting(session.acknowledged(now))
+            }
+            State::Asking(session, _) => State::Up(session.acknowledged(now)),
+            state => state,
+        }
+    }
+
+    /// After this became due.
+    #[tactic(auto, unfolding(knx_model::specs::Connection::client_expired, knx_model::specs::Connection::after_overdue))]
+    pub fn after_overdue(self, now: u64, expired: &ClientExpired) -> State
+        requires { expired.now ≡ client_expired (client_end self) now }
+        ensures { client_end result ≡ after_overdue (client_end self) now expired.now }
+    {
+        match expired {
+            ClientExpired::Nothing => self,
+            ClientExpired::Repeat(_) => self.sent_again(now),
+            ClientExpired::Silent { .. } => State::Ended,
+        }
+    }
+
+    fn sent_again(self, now: u64) -> State
+        requires { MayAskAgain (client_end self) }
+        ensures { client_end result ≡ sent_again (client_end self) now }
+    {
+        match self {
+            State::Asking(session, question) => {
+                State::Asking(session.at_time(now), question.again())
+            }
+            state => state,
+        }
+    }
+}

@@ -1,0 +1,97 @@
+//! What a device's end knows after each of its answers.
+
+ghost use Rattle.std.specs.Prelude.{◌≡◌};
+ghost use Rattle.knx_model.specs.Connection.{device_after, device_expired, after_expiry, went_on, advanced, at_time, settled, left, repeated};
+ghost use Rattle.transport_conn.specs.Ends.{device_end, MayRepeat};
+
+use super::State;
+use crate::session::Session;
+use knx_model::{DeviceExpired, DeviceTook, IndAddr};
+
+impl State {
+    /// After this answer to a frame.
+    #[tactic(auto, unfolding(knx_model::specs::Connection::device_after))]
+    pub fn after(self, from: IndAddr, now: u64, took: &DeviceTook) -> State
+        ensures { device_end result ≡ device_after (device_end self) from now took.now }
+    {
+        match took {
+            DeviceTook::Dropped => self,
+            DeviceTook::Connected => State::Idle(Session::new(from, now)),
+            DeviceTook::Apdu { .. } => self.advanced(now),
+            DeviceTook::Again { .. } | DeviceTook::Nak(_) => self.at_time(now),
+            DeviceTook::Acked => self.settled(now),
+            DeviceTook::Closed { .. } => self.left(from),
+        }
+    }
+
+    fn advanced(self, now: u64) -> State
+        ensures { device_end result ≡ went_on (λ s. advanced s now) (device_end self) }
+    {
+        match self {
+            State::Closed => State::Closed,
+            State::Idle(session) => State::Idle(session.advanced(now)),
+            State::Answering(session, outstanding) => {
+                State::Answering(session.advanced(now), outstanding)
+            }
+        }
+    }
+
+    fn at_time(self, now: u64) -> State
+        ensures { device_end result ≡ went_on (λ s. at_time s now) (device_end self) }
+    {
+        match self {
+            State::Closed => State::Closed,
+            State::Idle(session) => State::Idle(session.at_time(now)),
+            State::Answering(session, outstanding) => {
+                State::Answering(session.at_time(now), outstanding)
+            }
+        }
+    }
+
+    /// After its answer was acknowledged.
+    fn settled(self, now: u64) -> State
+        ensures { device_end result ≡ settled (device_end self) now }
+    {
+        match self {
+            State::Answering(session, _) => State::Idle(session.acknowledged(now)),
+            state => state,
+        }
+    }
+
+    /// After a connection with this sender was closed.
+    fn left(self, from: IndAddr) -> State
+        ensures { device_end result ≡ left (device_end self) from }
+    {
+        match &self {
+            State::Idle(session) | State::Answering(session, _) if session.is_partner(from) => {
+                State::Closed
+            }
+            _ => self,
+        }
+    }
+
+    /// After this became due.
+    #[tactic(auto, unfolding(knx_model::specs::Connection::device_expired, knx_model::specs::Connection::after_expiry))]
+    pub fn after_expiry(self, now: u64, expired: &DeviceExpired) -> State
+        requires { expired.now ≡ device_expired (device_end self) now }
+        ensures { device_end result ≡ after_expiry (device_end self) now expired.now }
+    {
+        match expired {
+            DeviceExpired::Nothing => self,
+            DeviceExpired::Repeat(_) => self.repeated(now),
+            DeviceExpired::Closed(_) => State::Closed,
+        }
+    }
+
+    fn repeated(self, now: u64) -> State
+        requires { MayRepeat (device_end self) }
+        ensures { device_end result ≡ repeated (device_end self) now }
+    {
+        match self {
+            State::Answering(session, outstanding) => {
+                State::Answering(session.at_time(now), outstanding.again(now))
+            }
+            state => state,
+        }
+    }
+}

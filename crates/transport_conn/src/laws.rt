@@ -1,0 +1,84 @@
+//! The laws of both ends (ISO/IEC 14543-3, transport layer).
+
+ghost use Rattle.std.specs.Prelude.{◌≡◌, ◌≢◌, ℕ, ◌+◌, ◌<◌, ◌⊎◌, List, Bool, true, false, Option, Some, None, ◌↔◌};
+ghost use Rattle.knx_model.specs.declared.address.IndAddr.{IndAddr as Address};
+ghost use Rattle.knx_model.specs.declared.frames.tpdu.Apdu.{Apdu as Service};
+ghost use Rattle.knx_model.specs.declared.frames.tpdu.Tpdu.TheVariants as tpdu;
+ghost use Rattle.knx_model.specs.declared.connection.TransportFrame.{TransportFrame};
+ghost use Rattle.knx_model.specs.declared.connection.TransportFrame.TheVariants.{Nak, Numbered, Other};
+ghost use Rattle.knx_model.specs.declared.connection.DeviceTook.TheVariants as took;
+ghost use Rattle.knx_model.specs.declared.connection.DeviceExpired.TheVariants as expired;
+ghost use Rattle.knx_model.specs.declared.connection.ClientTook.TheVariants as heard;
+ghost use Rattle.knx_model.specs.declared.connection.ClientExpired.TheVariants as over;
+ghost use Rattle.knx_model.specs.Apdu.{Written};
+ghost use Rattle.knx_model.specs.ApduReading.{apdu_octets};
+ghost use Rattle.knx_model.specs.Connection.{DeviceEnd as Device, ClientEnd as Client, Session, Question, Asking, Up, Awaiting, frame_in, numbered, has_passed, device_took, device_after, device_expired, device_deadline, client_took, client_after, client_expired, client_deadline};
+ghost use Rattle.transport_conn.specs.Laws.{Carries, Reached, Delivers, Repeats, Hears, IsUnacknowledged, IsUnanswered, DeviceCall, ClientCall, device_after_calls, client_after_calls, IsSentAtMostFourTimes, IsAskedAtMostFourTimes};
+
+/// Octets that carry a frame are read as this frame, and octets that carry none as no frame.
+pub fn frames_are_read()
+    ensures read { (octets : List ℕ) (frame : TransportFrame) → Carries octets frame → frame_in octets ≡ frame }
+    ensures carried { (octets : List ℕ) → (frame_in octets ≡ Other) ⊎ Carries octets (frame_in octets) }
+{}
+
+/// A service that is numbered here is the grammar's numbered data.
+pub fn numbered_is_grammatical()
+    ensures { (number : ℕ) (apdu : Service) → numbered number (apdu_octets apdu) ≡ Written (tpdu.Numbered number apdu) }
+{}
+
+/// A device's end delivers a service exactly where it comes from the partner with the expected number and no answer is outstanding.
+pub fn delivers_exactly()
+    ensures only { (e : Device) (from : Address) (frame : TransportFrame) (apdu ack : List ℕ) → device_took e from frame ≡ took.Apdu apdu ack → Delivers e from frame apdu ack }
+    ensures each { (e : Device) (from : Address) (frame : TransportFrame) (apdu ack : List ℕ) → Delivers e from frame apdu ack → device_took e from frame ≡ took.Apdu apdu ack }
+{}
+
+/// The number that was just delivered is acknowledged again and isn't delivered again.
+pub fn delivers_once()
+    ensures { (e : Device) (from : Address) (number now : ℕ) (apdu other ack : List ℕ) → number < 16
+        → device_took e from (Numbered number apdu) ≡ took.Apdu apdu ack
+        → device_took (device_after e from now (took.Apdu apdu ack)) from (Numbered number other) ≡ took.Again ack }
+{}
+
+/// A T_NAK acts on nothing.
+pub fn nak_is_ignored()
+    ensures device { (e : Device) (from : Address) (number : ℕ) → device_took e from (Nak number) ≡ took.Dropped }
+    ensures client { (e : Client) (number : ℕ) → client_took e (Nak number) ≡ heard.Dropped }
+{}
+
+/// A device's end sends again exactly an outstanding answer that was sent fewer than four times, after its wait.
+pub fn repeats_exactly()
+    ensures only { (e : Device) (now : ℕ) (frame : List ℕ) → device_expired e now ≡ expired.Repeat frame → Repeats e now frame }
+    ensures each { (e : Device) (now : ℕ) (frame : List ℕ) → Repeats e now frame → device_expired e now ≡ expired.Repeat frame }
+{}
+
+/// Below the greatest time something is due exactly where the deadline is reached.
+pub fn deadline_is_nearest()
+    ensures device { (e : Device) (now : ℕ) → now < 0xFFFFFFFFFFFFFFFF → Reached (device_deadline e) now ↔ (device_expired e now ≢ expired.Nothing) }
+    ensures client { (e : Client) (now : ℕ) → now < 0xFFFFFFFFFFFFFFFF → Reached (client_deadline e) now ↔ (client_expired e now ≢ over.Nothing) }
+{}
+
+/// A client's end tells an answer exactly where its connection is up and the answer has the expected number.
+pub fn hears_exactly()
+    ensures only { (e : Client) (frame : TransportFrame) (apdu ack : List ℕ) → client_took e frame ≡ heard.Answer apdu ack → Hears e frame apdu ack }
+    ensures each { (e : Client) (frame : TransportFrame) (apdu ack : List ℕ) → Hears e frame apdu ack → client_took e frame ≡ heard.Answer apdu ack }
+{}
+
+/// The number that was just told is acknowledged again and isn't told again.
+pub fn hears_once()
+    ensures { (e : Client) (number now : ℕ) (apdu other ack : List ℕ) → number < 16
+        → client_took e (Numbered number apdu) ≡ heard.Answer apdu ack
+        → client_took (client_after e now (heard.Answer apdu ack)) (Numbered number other) ≡ heard.Again ack }
+{}
+
+/// A client's end is silent exactly after a service was sent four times without its T_ACK, or where an answer is awaited too long.
+pub fn silent_exactly()
+    ensures only { (e : Client) (now ms : ℕ) → client_expired e now ≡ over.Silent ms → ((ms ≡ 3000) × IsUnacknowledged e now) ⊎ ((ms ≡ 6000) × IsUnanswered e now) }
+    ensures unacknowledged { (e : Client) (now : ℕ) → IsUnacknowledged e now → client_expired e now ≡ over.Silent 3000 }
+    ensures unanswered { (e : Client) (now : ℕ) → IsUnanswered e now → client_expired e now ≡ over.Silent 6000 }
+{}
+
+/// Whatever calls come, at no moment was the outstanding frame of an end sent more than four times.
+pub fn sent_at_most_four_times()
+    ensures device { (calls : List DeviceCall) → IsSentAtMostFourTimes (device_after_calls calls) }
+    ensures client { (device : Address) (calls : List ClientCall) → IsAskedAtMostFourTimes (client_after_calls device calls) }
+{}
