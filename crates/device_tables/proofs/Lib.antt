@@ -1,3 +1,5 @@
 pub mod Numbers
 pub mod ObjectTable
 pub mod Counting
+pub mod Agreement
+pub mod Pigeonhole

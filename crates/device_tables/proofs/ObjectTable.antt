@@ -1,17 +1,13 @@
 -- The objects of a group objects' table, by number.
 use Rattle.std.proofs.Common.{◌≡◌, ℕ, zero, suc, ◌+◌, ◌*◌, ◌<◌, ◌≤◌, ◌⊎◌, inl, inr, Bool, true, false, ◌&&◌, cond, leb, List, [], ◌∷◌, length, take, get_or, Option, Some, None, refl, sym, ap, ◌∙◌, arith}
 use Rattle.std.specs.Prelude.{slice_get}
-use Rattle.std.proofs.lemmas.Bool.{le-leb}
+use Rattle.std.proofs.lemmas.Bool.{le-leb, cond-true}
 use Rattle.knx_model.specs.declared.config.ObjSpec.{ObjSpec}
 use Rattle.knx_model.specs.Acts.{numbers, in_specs, objects, object_in_table, numbered, at_place, is_object_number}
 use Rattle.device_tables.proofs.Numbers.{twice, twice_one, spec_is, no_spec, within, beyond, cut}
 
-is_number : (o : ℕ) → 1 ≤ o → o ≤ 255 → is_object_number o ≡ true
+pub is_number : (o : ℕ) → 1 ≤ o → o ≤ 255 → is_object_number o ≡ true
 is_number o from to = rw (le-leb 1 o from, le-leb o 255 to) refl
-
-choose : {X : Type 0} (test : Bool) (x y : X) → test ≡ true → cond test x y ≡ x
-choose true x y e = refl
-choose false x y e = absurd (cc)
 
 never : {X : Type 0} (test : Bool) (x : Option X) → x ≡ None → cond test x None ≡ None
 never true x e = e
@@ -28,7 +24,7 @@ object_is [] count (suc i) c from to le lt = absurd (omega arith)
 object_is (a ∷ []) count (suc i) c from to le lt = absurd (omega arith)
 object_is (high ∷ low ∷ rest) count (suc i) c from to le lt =
     let same : 256 * high + low ≡ count = cc in
-    choose (is_object_number (suc i)) (slice_get (objects (high ∷ low ∷ rest)) i) None (is_number (suc i) from to)
+    cond-true (is_object_number (suc i)) (slice_get (objects (high ∷ low ∷ rest)) i) None (is_number (suc i) from to)
     ∙ within (256 * high + low) (in_specs rest) i (omega arith)
     ∙ rw (twice_one, twice) (spec_is rest i (omega arith))
 

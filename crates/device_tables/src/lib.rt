@@ -10,7 +10,7 @@ mod table;
 mod telegram;
 mod value;
 
-pub use knx_model::{GroupAddr, GroupService, Image, LongValue, ObjSpec, Octets, Value};
+pub use knx_model::{GroupAddr, GroupService, Image, LongValue, NoMemory, ObjSpec, Octets, Value};
 pub use laws::{agrees, linked_exactly};
 pub use links::linked;
 pub use objects::Objects;

@@ -13,8 +13,11 @@ use knx_model::{GroupAddr, GroupService, Image, ObjSpec};
 
 /// Flags of a flag octet.
 const UPDATE: u8 = 0x80;
+
 const WRITE: u8 = 0x10;
+
 const READ: u8 = 0x08;
+
 const COMMUNICATE: u8 = 0x04;
 
 fn has_flag(object: ObjSpec, flag: u8) -> bool
@@ -30,10 +33,14 @@ fn accepts(object: ObjSpec, service: &GroupService) -> bool
     match service {
         GroupService::Read => false,
         GroupService::Write(value) => {
-            has_flag(object, COMMUNICATE) && has_flag(object, WRITE) && takes_form(object.size, value)
+            has_flag(object, COMMUNICATE)
+                && has_flag(object, WRITE)
+                && takes_form(object.size, value)
         }
         GroupService::Response(value) => {
-            has_flag(object, COMMUNICATE) && has_flag(object, UPDATE) && takes_form(object.size, value)
+            has_flag(object, COMMUNICATE)
+                && has_flag(object, UPDATE)
+                && takes_form(object.size, value)
         }
     }
 }
@@ -49,8 +56,7 @@ fn can_answer(object: ObjSpec) -> bool
 fn is_written(linked: &Objects, objs: &[u8], service: &GroupService, object: u8) -> bool
     ensures { result ≡ writes (holds linked.now) (object_in_table objs.now) service.now object }
 {
-    linked.has(object)
-        && object_in_table(objs, object).is_some_and(|spec| accepts(spec, service))
+    linked.has(object) && object_in_table(objs, object).is_some_and(|spec| accepts(spec, service))
 }
 
 /// Whether the object of a number is linked and can answer.
