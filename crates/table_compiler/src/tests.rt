@@ -1,5 +1,8 @@
+ghost use Rattle.std.specs.Prelude.{IfOk, All};
+ghost use Rattle.knx_model.specs.Models.{IsNamedModel};
+
 use super::*;
-use knx_model::{Catalogue, IndAddr};
+use knx_model::{Catalogue, IndAddr, List, Model, ModelField, ModelObject, NamedModel, Octets};
 use project_check::check;
 use project_text::read_project;
 use std::alloc::{AllocError, Global};
@@ -61,6 +64,74 @@ fn all_devices_are_compiled_in_their_order(rt: HostRuntime) -> Result<(), Fail> 
     assert_eq!(rt;
         out.as_slice(),
         b"\x00\x01\x00\x01\x00\x01\x00\x01\x00\x01\x00\x01\x17\x00\x00\x00\x00\x00\x00\x00\x00\x02\x00\x01\x0A\x03\x00\x02\x00\x02\x00\x03\x00\x01\x00\x03\x00\x03\x17\x07\x00\x00\x17\x00".as_slice()
+    );
+    Ok(())
+}
+
+/// A device of a catalogue's model, with two `flags` lines of one object and two `param` lines of one parameter.
+const OFFICE: &[u8] =
+    b"project office\nga 1/0/1 lamp\nga 1/1/1 level\ndevice 1.1.20 dim2\nlink 1.1.20 1 1/0/1\nlink 1.1.20 2 1/1/1\nflags 1.1.20 2 C\nflags 1.1.20 2 CRTU\nparam 1.1.20 delay 7\nparam 1.1.20 delay 1000\n";
+
+/// The catalogue of one model with two objects and two parameters.
+fn dim2(alloc: Global) -> Result<List<NamedModel>, NoMemory>
+    ensures { IfOk result (λ models. All IsNamedModel models) }
+{
+    let name = Octets::from_slice(alloc, b"dim2")?;
+    let delay = Octets::from_slice(alloc, b"delay")?;
+    let mode = Octets::from_slice(alloc, b"mode")?;
+    let mut objects = List::new(alloc);
+    objects.push(ModelObject {
+        n: 1,
+        size: 0,
+        flags: 0x97,
+    })?;
+    objects.push(ModelObject {
+        n: 2,
+        size: 7,
+        flags: 0x4F,
+    })?;
+    let mut parameters = List::new(alloc);
+    parameters.push(ModelField {
+        name: delay,
+        bit: 0,
+        width: 16,
+        min: 0,
+        max: 1000,
+        default: 10,
+    })?;
+    parameters.push(ModelField {
+        name: mode,
+        bit: 18,
+        width: 3,
+        min: 0,
+        max: 5,
+        default: 1,
+    })?;
+    let model = Model {
+        params: 4,
+        objects,
+        parameters,
+    };
+    let mut models = List::new(alloc);
+    models.push(NamedModel { name, model })?;
+    Ok(models)
+}
+
+/// The model's objects with the last flags, and its parameters with the last value or the default.
+#[test]
+fn a_device_of_a_model_is_compiled(rt: HostRuntime) -> Result<(), Fail> {
+    let models = dim2(rt.alloc()).ok().ok_or("models")?;
+    let catalogue = Catalogue::of(models);
+    let project = read_project(rt.alloc(), OFFICE).ok().ok_or("a project")?;
+    let checked = check(rt.alloc(), &project, &catalogue)
+        .ok()
+        .ok_or("a sound project")?;
+    let image = compile(rt.alloc(), &checked, IndAddr { raw: 0x1114 })
+        .ok()
+        .ok_or("an image")?;
+    assert_eq!(rt;
+        octets_of(rt.alloc(), &image)?.as_slice(),
+        b"\x00\x02\x08\x01\x09\x01\x00\x02\x00\x01\x00\x01\x00\x02\x00\x02\x00\x02\x97\x00\xCF\x07\x03\xE8\x08\x00".as_slice()
     );
     Ok(())
 }
