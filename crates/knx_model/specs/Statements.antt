@@ -11,7 +11,8 @@ use Rattle.knx_model.specs.declared.project.What.TheVariants.{Title, Group, Devi
 use Rattle.knx_model.specs.declared.refusal.Refused.{Refused}
 use Rattle.knx_model.specs.declared.refusal.Why.{Why}
 use Rattle.knx_model.specs.declared.refusal.Why.TheVariants.{NotText, LongLine, UnknownWord, BadAddress, BadNumber, BadName, MissingWord, ExtraWord, TooMany}
-use Rattle.knx_model.specs.Words.{words, is_text, without_comment}
+use Rattle.knx_model.specs.LeastLine.{line_text, lines_ascend, text_reading}
+use Rattle.knx_model.specs.Words.{words}
 use Rattle.knx_model.specs.Numbers.{number_value, is_name}
 use Rattle.knx_model.specs.Addresses.{group_value, ind_value}
 use Rattle.knx_model.specs.Flags.{flags_value}
@@ -123,60 +124,20 @@ words_say (w ∷ ws) =
 
 -- what a line says
 unfoldable pub line_says : List ℕ → Result (Option What) Why
-line_says line =
-    if not (is_text line) then Err NotText
-    else (if nat_lt 512 (length line) then Err LongLine
-    else words_say (words (without_comment line)))
+line_says line = line_text line >>= λ text. words_say (words text)
 
 -- ---- the whole text
 
--- a statement in its line
-abbrev pub stated : ℕ → Result (Option What) Why → Option Statement
-stated n (Ok (Some what)) = Some (record { line = n; what = what })
-stated n (Ok None) = None
-stated n (Err why) = None
+abbrev pub statement : ℕ → What → Statement
+statement n what = record { line = n; what = what }
 
--- a line that breaks a rule
-abbrev pub refused : ℕ → Result (Option What) Why → Option Refused
-refused n (Ok said) = None
-refused n (Err why) = Some (record { line = n; why = why })
+-- what the line of this number says
+abbrev pub project_says : ℕ → List ℕ → Result (Option What) Why
+project_says n line = line_says line
 
--- the statements of lines that are numbered from n
-unfoldable pub statements_from : ℕ → List (List ℕ) → List Statement
-statements_from n ls = filter_map (λ p. stated p.0 (line_says p.1)) (enumerate_from n ls)
-
--- the lines that break a rule, the least first
-unfoldable pub refusals_from : ℕ → List (List ℕ) → List Refused
-refusals_from n ls = filter_map (λ p. refused p.0 (line_says p.1)) (enumerate_from n ls)
-
-abbrev pub statements : List ℕ → List Statement
-statements octets = statements_from 1 (lines octets)
-
-abbrev pub refusals : List ℕ → List Refused
-refusals octets = refusals_from 1 (lines octets)
-
--- the first refusal, or what is read where there is none
-abbrev pub unless_refused : List Refused → List Statement → Result (List Statement) Refused
-unless_refused [] ss = Ok ss
-unless_refused (r ∷ rs) ss = Err r
-
--- what a text reads as; a text has at most 4,194,304 octets
-unfoldable pub reading : List ℕ → Result (List Statement) Refused
-reading octets = if nat_lt 4194304 (length octets) then Err (record { line = 0; why = TooMany 4194304 }) else unless_refused (refusals octets) (statements octets)
-
--- ---- the same in the language's own words
-
--- the line of this number breaks the rule, and no line before it breaks any
-pub record IsLeastRefusal (octets : List ℕ) (r : Refused) : Type 0 where
-  pub text : List ℕ
-  pub from_1 : 0 < r.line
-  pub there : slice_get (lines octets) (r.line - 1) ≡ Some text
-  pub breaks : line_says text ≡ Err r.why
-  pub before : (k : ℕ) (earlier : List ℕ) → k + 1 < r.line → slice_get (lines octets) k ≡ Some earlier → IsOk (line_says earlier)
-
--- no line breaks a rule
-abbrev pub AllSay : List ℕ → Type 0
-AllSay octets = (k : ℕ) (text : List ℕ) → slice_get (lines octets) k ≡ Some text → IsOk (line_says text)
+-- the statements of all lines, or the refusal of the least line that breaks a rule
+abbrev pub reading : List ℕ → Result (List Statement) Refused
+reading octets = text_reading statement project_says octets
 
 -- ---- statements that can be spelled, and lines that ascend
 
@@ -203,5 +164,4 @@ are_spellable ss = list_all (λ s. is_spellable s.what) ss
 
 -- each line is above the one before, and the first above n
 abbrev pub are_numbered : ℕ → List Statement → Bool
-are_numbered n [] = true
-are_numbered n (s ∷ ss) = nat_lt n s.line && are_numbered s.line ss
+are_numbered n ss = lines_ascend (λ s. s.line) n ss

@@ -27,7 +27,8 @@ use Rattle.knx_model.specs.declared.project.What.{What}
 use Rattle.knx_model.specs.declared.project.What.TheVariants.{Title, Group, Device, Object, Link, Flags, Param}
 use Rattle.knx_model.specs.declared.project.Statement.{Statement}
 use Rattle.knx_model.specs.Words.{is_text, is_text_octet, without_comment}
-use Rattle.knx_model.specs.Statements.{title_says, ga_says, device_says, object_says, link_says, flags_says, param_says, words_say, line_says, name_value, object_value, statements_from, refusals_from, reading, is_spellable, is_group, is_device, is_object}
+use Rattle.knx_model.specs.LeastLine.{said_from, refused_from, text_reading}
+use Rattle.knx_model.specs.Statements.{project_says, statement, title_says, ga_says, device_says, object_says, link_says, flags_says, param_says, words_say, line_says, name_value, object_value, reading, is_spellable, is_group, is_device, is_object}
 use Rattle.project_text.specs.Printing.{words_of, line_text, printed, renumbered_from}
 use Rattle.project_text.proofs.Plain.{is_plain, is_printed, list_all_weaker, printed_from_plain, IsShortWord, group_word, device_word, number_word, name_word, flags_word}
 
@@ -245,23 +246,23 @@ line_cut what rest e =
     ] in
     ap lines (append_assoc l (10 ∷ []) rest) ∙ lines_then l rest none end
 
-pub statements_again : (n : ℕ) (ss : List Statement) → list_all (λ s. is_spellable s.what) ss ≡ true → statements_from n (lines (printed ss)) ≡ renumbered_from n ss
-unfolding statements_from printed
+pub statements_again : (n : ℕ) (ss : List Statement) → list_all (λ s. is_spellable s.what) ss ≡ true → said_from statement project_says n (lines (printed ss)) ≡ renumbered_from n ss
+unfolding said_from printed
 statements_again n [] e = refl
 statements_again n (s ∷ ss) e =
     let h = and_parts (is_spellable s.what) (list_all (λ s. is_spellable s.what) ss) e in
     let cut : lines (printed (s ∷ ss)) ≡ join_with_byte 32 (words_of s.what) ∷ lines (printed ss) = rw flat_map-cons (line_cut s.what (printed ss) h.0) in
-    ap (statements_from n) cut ∙ rw (line_again s.what h.0) (ap (λ (xs : List Statement). record { line = n; what = s.what } ∷ xs) (statements_again (n + 1) ss h.1))
+    ap (said_from statement project_says n) cut ∙ rw (line_again s.what h.0) (ap (λ (xs : List Statement). record { line = n; what = s.what } ∷ xs) (statements_again (n + 1) ss h.1))
 
-pub refusals_again : (n : ℕ) (ss : List Statement) → list_all (λ s. is_spellable s.what) ss ≡ true → refusals_from n (lines (printed ss)) ≡ []
-unfolding refusals_from printed
+pub refusals_again : (n : ℕ) (ss : List Statement) → list_all (λ s. is_spellable s.what) ss ≡ true → refused_from project_says n (lines (printed ss)) ≡ []
+unfolding refused_from printed
 refusals_again n [] e = refl
 refusals_again n (s ∷ ss) e =
     let h = and_parts (is_spellable s.what) (list_all (λ s. is_spellable s.what) ss) e in
     let cut : lines (printed (s ∷ ss)) ≡ join_with_byte 32 (words_of s.what) ∷ lines (printed ss) = rw flat_map-cons (line_cut s.what (printed ss) h.0) in
-    ap (refusals_from n) cut ∙ rw (line_again s.what h.0) (refusals_again (n + 1) ss h.1)
+    ap (refused_from project_says n) cut ∙ rw (line_again s.what h.0) (refusals_again (n + 1) ss h.1)
 
 -- reading what is printed gives the same statements, numbered anew
 pub reading_again : (ss : List Statement) → list_all (λ s. is_spellable s.what) ss ≡ true → length (printed ss) ≤ 4194304 → reading (printed ss) ≡ Ok (renumbered_from 1 ss)
-unfolding reading
+unfolding text_reading
 reading_again ss e short = rw (le-ltb 4194304 (length (printed ss)) short, refusals_again 1 ss e, statements_again 1 ss e) refl

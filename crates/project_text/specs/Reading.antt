@@ -7,15 +7,10 @@ use Rattle.knx_model.specs.declared.refusal.Why.{Why}
 use Rattle.knx_model.specs.declared.refusal.Why.TheVariants.{NoMemory}
 use Rattle.project_text.specs.declared.project.Project.{Project}
 
--- what a function returned, seen by view, is what the text says
-abbrev pub Answers : {X Y : Type 0} → (X → Y) → Result X Why → Result Y Why → Type 0
-Answers view (Ok x) read = read ≡ Ok (view x)
-Answers view (Err why) read = read ≡ Err why
-
 abbrev pub Fails : {Y : Type 0} → Why → Result Y Why → Type 0
 Fails why read = why ≢ NoMemory → read ≡ Err why
 
--- the same, unless memory ran out
+-- what a function returned, seen by view, is what the text says, unless memory ran out
 abbrev pub Gives : {X Y : Type 0} → (X → Y) → Result X Why → Result Y Why → Type 0
 Gives view (Ok x) read = read ≡ Ok (view x)
 Gives view (Err why) read = Fails why read

@@ -3,46 +3,15 @@
 ghost use Rattle.std.specs.Prelude.{◌≡◌, ◌<◌, ◌%◌, IfSome, IfOk, IsTrue};
 ghost use Rattle.knx_model.specs.Words.{words};
 ghost use Rattle.knx_model.specs.Numbers.{is_name, number_value};
-ghost use Rattle.knx_model.specs.Addresses.{group_value, ind_value};
 ghost use Rattle.knx_model.specs.Flags.{flags_value};
 ghost use Rattle.knx_model.specs.Sizes.{size_value};
-ghost use Rattle.knx_model.specs.Statements.{field, object_value, name_value, ended};
-ghost use Rattle.knx_model.specs.declared.refusal.Why.TheVariants.{BadAddress, BadNumber, BadName};
-ghost use Rattle.project_text.specs.Reading.{Answers, Gives};
+ghost use Rattle.knx_model.specs.Statements.{field, object_value, name_value};
+ghost use Rattle.knx_model.specs.declared.refusal.Why.TheVariants.{BadNumber, BadName};
+ghost use Rattle.knx_model.specs.LeastLine.{Answers};
+ghost use Rattle.project_text.specs.Reading.{Gives};
 
-use knx_model::{
-    GroupAddr, IndAddr, Octets, Why, first_word, flags_in, group_in, ind_in, is_name_in, number_in,
-    size_code_in,
-};
+use knx_model::{Octets, Why, first_word, flags_in, is_name_in, number_in, size_code_in};
 use std::alloc::Global;
-
-/// A group address.
-pub fn group_field(rest: &[u8]) -> Result<(GroupAddr, &[u8]), Why>
-    ensures read { Answers (λ x. (x.0, words x.1.now)) result (field group_value BadAddress (words rest.now)) }
-    ensures fits { IfOk result (λ x. 0 < x.0.raw) }
-{
-    match first_word(rest) {
-        None => Err(Why::MissingWord),
-        Some((word, rest)) => match group_in(word) {
-            None => Err(Why::BadAddress),
-            Some(group) => Ok((group, rest)),
-        },
-    }
-}
-
-/// The individual address of a device.
-pub fn device_field(rest: &[u8]) -> Result<(IndAddr, &[u8]), Why>
-    ensures read { Answers (λ x. (x.0, words x.1.now)) result (field ind_value BadAddress (words rest.now)) }
-    ensures fits { IfOk result (λ x. (0 < x.0.raw % 256) × (x.0.raw % 256 < 255)) }
-{
-    match first_word(rest) {
-        None => Err(Why::MissingWord),
-        Some((word, rest)) => match ind_in(word) {
-            None => Err(Why::BadAddress),
-            Some(device) => Ok((device, rest)),
-        },
-    }
-}
 
 fn object_in(word: &[u8]) -> Option<u8>
     ensures value { result ≡ object_value word.now }
@@ -129,15 +98,5 @@ pub fn name_field(alloc: Global, rest: &[u8]) -> Result<(Octets, &[u8]), Why>
                 Err(Why::BadName)
             }
         }
-    }
-}
-
-/// No word is left.
-pub fn no_more(rest: &[u8]) -> Result<(), Why>
-    ensures { Answers (λ x. x) result (ended tt (words rest.now)) }
-{
-    match first_word(rest) {
-        None => Ok(()),
-        Some(_) => Err(Why::ExtraWord),
     }
 }

@@ -3,17 +3,12 @@
 ghost use Rattle.std.specs.Prelude.{IfOk, IfSome, IsTrue};
 ghost use Rattle.knx_model.specs.Words.{words};
 ghost use Rattle.knx_model.specs.Statements.{is_spellable, title_says, ga_says, device_says, object_says, link_says, flags_says, param_says, words_say, line_says};
-ghost use Rattle.project_text.specs.Reading.{Answers, Gives};
+ghost use Rattle.knx_model.specs.LeastLine.{Answers};
+ghost use Rattle.project_text.specs.Reading.{Gives};
 
-use crate::fields::{
-    device_field, flags_field, group_field, name_field, no_more, object_field, size_field,
-    value_field,
-};
-use knx_model::{What, Why, first_word, is_text, without_comment};
+use crate::fields::{flags_field, name_field, object_field, size_field, value_field};
+use knx_model::{What, Why, device_field, first_word, group_field, line_text, no_more};
 use std::alloc::Global;
-
-/// The longest line, in octets without its end.
-const LONGEST_LINE: usize = 512;
 
 /// `project NAME`
 #[tactic(auto, unfolding(knx_model::specs::Statements::title_says))]
@@ -155,11 +150,5 @@ pub fn line_in(alloc: Global, line: &[u8]) -> Result<Option<What>, Why>
     ensures read { Gives (λ x. x) result (line_says line.now) }
     ensures spelled { IfOk result (λ said. IfSome said (λ what. IsTrue (is_spellable what))) }
 {
-    if !is_text(line) {
-        return Err(Why::NotText);
-    }
-    if line.len() > LONGEST_LINE {
-        return Err(Why::LongLine);
-    }
-    words_in(alloc, without_comment(line))
+    words_in(alloc, line_text(line)?)
 }

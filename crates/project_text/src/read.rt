@@ -1,7 +1,9 @@
 //! A text is read line by line.
 
 ghost use Rattle.std.specs.Prelude.{◌≡◌, ℕ, List, [], ◌∷◌, ◌≢◌, ◌++◌, OnOk, IfErr, IfSome, IsTrue};
-ghost use Rattle.knx_model.specs.Statements.{is_spellable, are_spellable, reading, refusals, IsLeastRefusal, AllSay};
+ghost use Rattle.std.specs.Str.Lines.{lines};
+ghost use Rattle.knx_model.specs.LeastLine.{AllLinesSay, IsLeastRefused, refused_from};
+ghost use Rattle.knx_model.specs.Statements.{is_spellable, are_spellable, project_says, reading};
 ghost use Rattle.knx_model.specs.declared.refusal.Refused.{Refused};
 ghost use Rattle.knx_model.specs.declared.refusal.Why.TheVariants.{NoMemory as OutOfMemory};
 ghost use Rattle.project_text.specs.Reading.{Read, stated_list};
@@ -73,6 +75,6 @@ pub fn read_project(alloc: Global, octets: &[u8]) -> Result<Project, Refused>
 
 /// The refusal is of the least line that breaks a rule, and where no line does there is none.
 pub fn least_line()
-    ensures least { (octets : List ℕ) (r : Refused) (rs : List Refused) → refusals octets ≡ r ∷ rs → IsLeastRefusal octets r }
-    ensures none { (octets : List ℕ) → refusals octets ≡ [] → AllSay octets }
+    ensures least { (octets : List ℕ) (r : Refused) (rs : List Refused) → refused_from project_says 1 (lines octets) ≡ r ∷ rs → IsLeastRefused project_says octets r }
+    ensures none { (octets : List ℕ) → refused_from project_says 1 (lines octets) ≡ [] → AllLinesSay project_says octets }
 {}
