@@ -37,8 +37,8 @@ pub record LineDevice : Type 0 where
   pub state : DeviceState
   pub connection : DeviceEnd
   pub values : List (Option Value)  -- what was written to each object number from 0; [] where nothing was
-  pub unsent : List Ldata           -- the frames that it has to send, the oldest first
-  pub last : Option Ldata           -- the frame that it got last
+  pub unsent : List Ldata  -- the frames that it has to send, the oldest first
+  pub last : Option Ldata  -- the frame that it got last
 
 -- a device without connection, values and frames
 abbrev pub at_rest : DeviceState → LineDevice

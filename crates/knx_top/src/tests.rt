@@ -153,44 +153,194 @@ fn each_command_answers_its_text_and_status(rt: HostRuntime) -> Result<(), Fail>
         ("sim a.txt e e", b"", NEW, Status::Done),
         ("sim a.txt b.txt e", b"", NEW, Status::Done),
         ("sim p.txt e e catalogue=big1.toml", b"", NEW, Status::Done),
-        ("sim office.txt e e catalogue=office.toml", b"", "job 1 load 1.1.20 done\ndevice 1.1.20 new\nmissed 0\n", Status::Done),
+        (
+            "sim office.txt e e catalogue=office.toml",
+            b"",
+            "job 1 load 1.1.20 done\ndevice 1.1.20 new\nmissed 0\n",
+            Status::Done,
+        ),
         ("sim a.txt b.txt s", b"cut 1.1.5 1 0\n", NEW, Status::Done),
         ("sim a.txt b.txt s", b"cut 1.1.5 20 1\n", NEW, Status::Done),
-        ("sim a.txt b.txt s", b"cut 1.1.5 1 1\ncut 1.1.5 2 0\ncut 1.1.5 3 0\n", STOPPED, Status::SomeFailed),
-        ("sim a.txt b.txt s", b"cut 1.1.5 1 0\ncut 1.1.5 2 0\ncut 1.1.5 3 0\n", OLD, Status::SomeFailed),
-        ("sim c.txt e e", b"", "new line 0: 21 NotBuilt\n", Status::Project),
-        ("sim e e e", b"", "new line 0: 21 NotBuilt\n", Status::Project),
-        ("sim a.txt c.txt e", b"", "old line 0: 21 NotBuilt\n", Status::Project),
-        ("sim a.txt other.txt s", b"lose\n", "old line 0: 21 NotBuilt\n", Status::Project),
-        ("sim c.txt d.txt e", b"", "old line 6: 18 SizeDiffers\n", Status::Project),
-        ("sim a.txt s e", b"no statement\n", "old line 1: 3 UnknownWord\n", Status::Project),
-        ("sim d.txt s s", b"no statement\n", "new line 6: 18 SizeDiffers\n", Status::Project),
-        ("sim office.txt e e", b"", "new line 4: 12 UnknownModel\n", Status::Project),
-        ("sim a.txt none.txt e", b"", "read fault none.txt NotThere\n", Status::Read),
-        ("sim a.txt e e catalogue=none.toml", b"", "read fault none.toml NotThere\n", Status::Read),
-        ("sim g.txt e e catalogue=a.txt", b"", "catalogue: 1 Toml\n", Status::Catalogue),
-        ("sim a.txt b.txt s", b"cut 1.1.5 1\n", "script line 1: 7 MissingWord\n", Status::Script),
-        ("sim a.txt b.txt s", b"off 1.1.9\n", "script line 1: 20 NoDevice\n", Status::Script),
-        ("sim a.txt e s", b"worn 1.1.5 5\n\ncut 1.1.6 1 0\noff 1.1.7\n", "script line 3: 20 NoDevice\n", Status::Script),
-        ("sim a.txt e s", b"worn 1.1.5 5\n", "script line 0: 21 NotBuilt\n", Status::Script),
-        ("sim a.txt e s", b"then group 1/2/3 read\n", "script line 0: 21 NotBuilt\n", Status::Script),
-        ("sim none.txt e e", b"", "read fault none.txt NotThere\n", Status::Read),
+        (
+            "sim a.txt b.txt s",
+            b"cut 1.1.5 1 1\ncut 1.1.5 2 0\ncut 1.1.5 3 0\n",
+            STOPPED,
+            Status::SomeFailed,
+        ),
+        (
+            "sim a.txt b.txt s",
+            b"cut 1.1.5 1 0\ncut 1.1.5 2 0\ncut 1.1.5 3 0\n",
+            OLD,
+            Status::SomeFailed,
+        ),
+        (
+            "sim c.txt e e",
+            b"",
+            "new line 0: 21 NotBuilt\n",
+            Status::Project,
+        ),
+        (
+            "sim e e e",
+            b"",
+            "new line 0: 21 NotBuilt\n",
+            Status::Project,
+        ),
+        (
+            "sim a.txt c.txt e",
+            b"",
+            "old line 0: 21 NotBuilt\n",
+            Status::Project,
+        ),
+        (
+            "sim a.txt other.txt s",
+            b"lose\n",
+            "old line 0: 21 NotBuilt\n",
+            Status::Project,
+        ),
+        (
+            "sim c.txt d.txt e",
+            b"",
+            "old line 6: 18 SizeDiffers\n",
+            Status::Project,
+        ),
+        (
+            "sim a.txt s e",
+            b"no statement\n",
+            "old line 1: 3 UnknownWord\n",
+            Status::Project,
+        ),
+        (
+            "sim d.txt s s",
+            b"no statement\n",
+            "new line 6: 18 SizeDiffers\n",
+            Status::Project,
+        ),
+        (
+            "sim office.txt e e",
+            b"",
+            "new line 4: 12 UnknownModel\n",
+            Status::Project,
+        ),
+        (
+            "sim a.txt none.txt e",
+            b"",
+            "read fault none.txt NotThere\n",
+            Status::Read,
+        ),
+        (
+            "sim a.txt e e catalogue=none.toml",
+            b"",
+            "read fault none.toml NotThere\n",
+            Status::Read,
+        ),
+        (
+            "sim g.txt e e catalogue=a.txt",
+            b"",
+            "catalogue: 1 Toml\n",
+            Status::Catalogue,
+        ),
+        (
+            "sim a.txt b.txt s",
+            b"cut 1.1.5 1\n",
+            "script line 1: 7 MissingWord\n",
+            Status::Script,
+        ),
+        (
+            "sim a.txt b.txt s",
+            b"off 1.1.9\n",
+            "script line 1: 20 NoDevice\n",
+            Status::Script,
+        ),
+        (
+            "sim a.txt e s",
+            b"worn 1.1.5 5\n\ncut 1.1.6 1 0\noff 1.1.7\n",
+            "script line 3: 20 NoDevice\n",
+            Status::Script,
+        ),
+        (
+            "sim a.txt e s",
+            b"worn 1.1.5 5\n",
+            "script line 0: 21 NotBuilt\n",
+            Status::Script,
+        ),
+        (
+            "sim a.txt e s",
+            b"then group 1/2/3 read\n",
+            "script line 0: 21 NotBuilt\n",
+            Status::Script,
+        ),
+        (
+            "sim none.txt e e",
+            b"",
+            "read fault none.txt NotThere\n",
+            Status::Read,
+        ),
         ("sim a.txt e e workers=9", b"", USAGE, Status::Usage),
-        ("sim a.txt e e catalogue=office.toml catalogue=office.toml", b"", USAGE, Status::Usage),
+        (
+            "sim a.txt e e catalogue=office.toml catalogue=office.toml",
+            b"",
+            USAGE,
+            Status::Usage,
+        ),
         ("sim a.txt e", b"", USAGE, Status::Usage),
-        ("check a.txt", b"", "ok devices 1 objects 2 links 2\n", Status::Done),
-        ("check c.txt", b"", "ok devices 3 objects 4 links 4\n", Status::Done),
-        ("check e", b"", "ok devices 0 objects 0 links 0\n", Status::Done),
-        ("check office.txt catalogue=office.toml", b"", "ok devices 1 objects 2 links 2\n", Status::Done),
-        ("check d.txt", b"", "new line 6: 18 SizeDiffers\n", Status::Project),
-        ("check g.txt", b"", "new line 1: 4 BadAddress\n", Status::Project),
-        ("check none.txt", b"", "read fault none.txt NotThere\n", Status::Read),
+        (
+            "check a.txt",
+            b"",
+            "ok devices 1 objects 2 links 2\n",
+            Status::Done,
+        ),
+        (
+            "check c.txt",
+            b"",
+            "ok devices 3 objects 4 links 4\n",
+            Status::Done,
+        ),
+        (
+            "check e",
+            b"",
+            "ok devices 0 objects 0 links 0\n",
+            Status::Done,
+        ),
+        (
+            "check office.txt catalogue=office.toml",
+            b"",
+            "ok devices 1 objects 2 links 2\n",
+            Status::Done,
+        ),
+        (
+            "check d.txt",
+            b"",
+            "new line 6: 18 SizeDiffers\n",
+            Status::Project,
+        ),
+        (
+            "check g.txt",
+            b"",
+            "new line 1: 4 BadAddress\n",
+            Status::Project,
+        ),
+        (
+            "check none.txt",
+            b"",
+            "read fault none.txt NotThere\n",
+            Status::Read,
+        ),
         ("check", b"", USAGE, Status::Usage),
         ("check a.txt b.txt", b"", USAGE, Status::Usage),
         ("tables a.txt", b"", A_TABLES, Status::Done),
         ("tables e", b"", "", Status::Done),
-        ("tables office.txt catalogue=office.toml", b"", OFFICE_TABLES, Status::Done),
-        ("tables d.txt", b"", "new line 6: 18 SizeDiffers\n", Status::Project),
+        (
+            "tables office.txt catalogue=office.toml",
+            b"",
+            OFFICE_TABLES,
+            Status::Done,
+        ),
+        (
+            "tables d.txt",
+            b"",
+            "new line 6: 18 SizeDiffers\n",
+            Status::Project,
+        ),
         ("tables a.txt e", b"", USAGE, Status::Usage),
         ("", b"", USAGE, Status::Usage),
     ];
@@ -206,7 +356,11 @@ fn each_command_answers_its_text_and_status(rt: HostRuntime) -> Result<(), Fail>
 fn with_line(alloc: Global, text: &[u8], old: &str, new: &str) -> Result<Octets, NoMemory> {
     let mut out = Octets::new(alloc);
     for line in text.split(|octet| *octet == b'\n') {
-        let line = if line == old.as_bytes() { new.as_bytes() } else { line };
+        let line = if line == old.as_bytes() {
+            new.as_bytes()
+        } else {
+            line
+        };
         out.append(line)?;
         out.push(b'\n')?;
     }
@@ -216,7 +370,12 @@ fn with_line(alloc: Global, text: &[u8], old: &str, new: &str) -> Result<Octets,
 #[test]
 fn values_and_fields_out_of_place_are_told(rt: HostRuntime) -> Result<(), Fail> {
     let alloc = rt.alloc();
-    let project = with_line(alloc, OFFICE, "param 1.1.20 delay 1000", "param 1.1.20 delay 1001");
+    let project = with_line(
+        alloc,
+        OFFICE,
+        "param 1.1.20 delay 1000",
+        "param 1.1.20 delay 1001",
+    );
     let project = project.ok().ok_or("memory")?;
     let (told, taken) = call(alloc, "tables s catalogue=office.toml", project.as_slice())
         .ok()
@@ -230,7 +389,10 @@ fn values_and_fields_out_of_place_are_told(rt: HostRuntime) -> Result<(), Fail> 
         .ok()
         .ok_or("memory")?;
     assert_eq!(rt; told, Status::Catalogue);
-    assert_eq!(rt; taken.as_slice(), b"catalogue: 3 Overlap dim2 mode\n".as_slice());
+    assert_eq!(rt;
+        taken.as_slice(),
+        b"catalogue: 3 Overlap dim2 mode\n".as_slice()
+    );
     Ok(())
 }
 
@@ -243,7 +405,12 @@ fn many_links(alloc: Global, links: u32) -> Result<Octets, NoMemory> {
         out.append(line.as_bytes())?;
     }
     for raw in 1..links + 1 {
-        let line = format!(in alloc; "link 1.1.5 1 {}/{}/{}\n", raw / 2048, raw / 256 % 8, raw % 256)?;
+        let line = format!(in alloc;
+            "link 1.1.5 1 {}/{}/{}\n",
+            raw / 2048,
+            raw / 256 % 8,
+            raw % 256
+        )?;
         out.append(line.as_bytes())?;
     }
     Ok(out)
@@ -253,14 +420,24 @@ fn many_links(alloc: Global, links: u32) -> Result<Octets, NoMemory> {
 fn a_device_has_at_most_2047_links(rt: HostRuntime) -> Result<(), Fail> {
     let alloc = rt.alloc();
     let project = many_links(alloc, 2047).ok().ok_or("memory")?;
-    let (told, taken) = call(alloc, "check s", project.as_slice()).ok().ok_or("memory")?;
+    let (told, taken) = call(alloc, "check s", project.as_slice())
+        .ok()
+        .ok_or("memory")?;
     assert_eq!(rt; told, Status::Done);
-    assert_eq!(rt; taken.as_slice(), b"ok devices 1 objects 1 links 2047\n".as_slice());
+    assert_eq!(rt;
+        taken.as_slice(),
+        b"ok devices 1 objects 1 links 2047\n".as_slice()
+    );
 
     let project = many_links(alloc, 2048).ok().ok_or("memory")?;
-    let (told, taken) = call(alloc, "check s", project.as_slice()).ok().ok_or("memory")?;
+    let (told, taken) = call(alloc, "check s", project.as_slice())
+        .ok()
+        .ok_or("memory")?;
     assert_eq!(rt; told, Status::Project);
-    assert_eq!(rt; taken.as_slice(), b"new line 4098: 19 TooMany 2047\n".as_slice());
+    assert_eq!(rt;
+        taken.as_slice(),
+        b"new line 4098: 19 TooMany 2047\n".as_slice()
+    );
     Ok(())
 }
 

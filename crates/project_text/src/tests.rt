@@ -246,7 +246,12 @@ fn statements_make_a_project(rt: HostRuntime) -> Result<(), Fail> {
         printed.as_slice(),
         b"flags 1.1.5 1 CW\nlink 1.1.5 1 0/0/1\n".as_slice()
     );
-    for (lines, flags) in [((0, 1), 0x17), ((2, 2), 0x17), ((2, 1), 0x17), ((1, 2), 0x14)] {
+    for (lines, flags) in [
+        ((0, 1), 0x17),
+        ((2, 2), 0x17),
+        ((2, 1), 0x17),
+        ((1, 2), 0x14),
+    ] {
         assert!(rt; Project::new(two(&rt, lines, flags)?).is_none());
     }
     Ok(())

@@ -4,7 +4,6 @@ ghost use Rattle.std.specs.Prelude.{◌≡◌, ◌<◌, ◌++◌, OnOk};
 ghost use Rattle.knx_model.specs.ReportText.{hex_digit, hex_octet, hex_text, octets_text};
 
 use knx_model::{NoMemory, Octets};
-
 pub use knx_model::{put_device, put_number};
 
 /// The digit of a number below 16.

@@ -63,13 +63,13 @@ grouped_more numbers groups place s old new ss up lt named pushed grouped = reco
   whole = length-set groups place new ∙ grouped.whole;
   each = λ k g less. elim (cases_eq place k) [
     | inl same ↦ subst (λ (k : ℕ). map (λ s. s.now) (get_or (set groups place new) k g).items ≡ lines_of (get_or numbers k 0) (ss ++ s.now ∷ [])) same (
-      ap (λ (v : Vec (Bor Statement) Global). map (λ s. s.now) v.items) (get_or-set_same groups place new g (omega (arith, lt, grouped.whole)))
-      ∙ ap (map (λ s. s.now)) pushed ∙ map_push (get_or groups place old).items s
-      ∙ ap (λ (xs : List Statement). xs ++ s.now ∷ []) (grouped.each place old lt)
-      ∙ sym (lines_with (get_or numbers place 0) ss s.now named))
+        ap (λ (v : Vec (Bor Statement) Global). map (λ s. s.now) v.items) (get_or-set_same groups place new g (omega (arith, lt, grouped.whole)))
+        ∙ ap (map (λ s. s.now)) pushed ∙ map_push (get_or groups place old).items s
+        ∙ ap (λ (xs : List Statement). xs ++ s.now ∷ []) (grouped.each place old lt)
+        ∙ sym (lines_with (get_or numbers place 0) ss s.now named))
     | inr other ↦
-      ap (λ (v : Vec (Bor Statement) Global). map (λ s. s.now) v.items) (get_or-set_other groups place k new g (λ e. other (sym e))) ∙ grouped.each k g less
-      ∙ sym (lines_without (get_or numbers k 0) ss s.now (is_false _ (λ q. apart numbers place k up lt less other (names_one (get_or numbers place 0) (get_or numbers k 0) s.now.what named q))))
+        ap (λ (v : Vec (Bor Statement) Global). map (λ s. s.now) v.items) (get_or-set_other groups place k new g (λ e. other (sym e))) ∙ grouped.each k g less
+        ∙ sym (lines_without (get_or numbers k 0) ss s.now (is_false _ (λ q. apart numbers place k up lt less other (names_one (get_or numbers place 0) (get_or numbers k 0) s.now.what named q))))
   ];
 }
 

@@ -135,7 +135,7 @@ are_settings m device ss model range =
     let value : ModelField → Option ℕ = λ f. last_value device ss f.name in
     let named : All (λ f. field_in m.parameters f.name ≡ Some f) m.parameters = All-from_recursion (λ f. field_in m.parameters f.name ≡ Some f) m.parameters (each_named m.parameters model.names) in
     let each : All (λ f. Contains m.parameters f × ((n : ℕ) → value f ≡ Some n → is_out_of (Some f) n ≡ false)) m.parameters =
-        λ k d lt. ((k, lt, get_or_default m.parameters k (get_or m.parameters k d) d lt), λ n e. subst (λ (o : Option ModelField). is_out_of o n ≡ false) (named k d lt) (range (get_or m.parameters k d).name n e)) in
+    λ k d lt. ((k, lt, get_or_default m.parameters k (get_or m.parameters k d) d lt), λ n e. subst (λ (o : Option ModelField). is_out_of o n ≡ false) (named k d lt) (range (get_or m.parameters k d).name n e)) in
     record {
       each = All-from_recursion (IsSetting m) (settings m device ss) (each_setting value m m.parameters (recursion_from_All (λ f. Contains m.parameters f × ((n : ℕ) → value f ≡ Some n → is_out_of (Some f) n ≡ false)) m.parameters each));
       once = once value m.parameters (bits_of_model m model);

@@ -1,0 +1,5 @@
+use Rattle.knx_top.proofs.Options.{stripped}
+use Rattle.knx_top.proofs.asked.catalogue_name.Goals as goal
+
+pub returns : goal.returns
+returns c = stripped _ c.args.word.now c.strip_prefix.result c.strip_prefix.ensures.cases
