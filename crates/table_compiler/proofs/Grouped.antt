@@ -1,11 +1,11 @@
 -- The lines of each device, one statement later.
-use Rattle.std.proofs.Common.{◌≡◌, ℕ, ◌+◌, ◌<◌, ◌≤◌, Bool, true, false, cond, List, [], ◌∷◌, ◌++◌, length, get_or, set, take, drop, map, filter, refl, sym, ap, ◌∙◌, subst, arith, inl, inr, Vec}
+use Rattle.std.proofs.Common.{◌≡◌, ℕ, ◌<◌, Bool, true, false, cond, List, [], ◌∷◌, ◌++◌, length, get_or, set, take, map, refl, sym, ap, ◌∙◌, subst, arith, inl, inr, Vec}
 use Rattle.std.specs.Borrow.{Bor}
 use Rattle.std.specs.declared.alloc.Global.{Global}
 use Rattle.std.specs.List.{AllZip}
 use Rattle.std.specs.List.Sorted.{IsStrictlyIncreasing}
-use Rattle.std.proofs.lemmas.Bool.{eqb-true, cases_eq, cases_lt, true≢false}
-use Rattle.std.proofs.lemmas.List.{get_or_default, get_or-set_same, get_or-set_other, length-set, append-nil, take-append-le, take_all, length-map, get_or-map}
+use Rattle.std.proofs.lemmas.Bool.{eqb-true, cases_eq, cases_lt}
+use Rattle.std.proofs.lemmas.List.{get_or-set_same, get_or-set_other, length-set, take-append-le, take_all, length-map, get_or-map}
 use Rattle.std.proofs.lemmas.List.Kept.{AllPairs-from_increasing}
 use Rattle.knx_model.specs.declared.address.IndAddr.{IndAddr}
 use Rattle.knx_model.specs.declared.project.Statement.{Statement}
@@ -63,13 +63,13 @@ grouped_more numbers groups place s old new ss up lt named pushed grouped = reco
   whole = length-set groups place new ∙ grouped.whole;
   each = λ k g less. elim (cases_eq place k) [
     | inl same ↦ subst (λ (k : ℕ). map (λ s. s.now) (get_or (set groups place new) k g).items ≡ lines_of (get_or numbers k 0) (ss ++ s.now ∷ [])) same (
-      ap (λ (v : Vec (Bor Statement) Global). map (λ s. s.now) v.items) (get_or-set_same groups place new g (omega (arith, lt, grouped.whole)))
-      ∙ ap (map (λ s. s.now)) pushed ∙ map_push (get_or groups place old).items s
-      ∙ ap (λ (xs : List Statement). xs ++ s.now ∷ []) (grouped.each place old lt)
-      ∙ sym (lines_with (get_or numbers place 0) ss s.now named))
+        ap (λ (v : Vec (Bor Statement) Global). map (λ s. s.now) v.items) (get_or-set_same groups place new g (omega (arith, lt, grouped.whole)))
+        ∙ ap (map (λ s. s.now)) pushed ∙ map_push (get_or groups place old).items s
+        ∙ ap (λ (xs : List Statement). xs ++ s.now ∷ []) (grouped.each place old lt)
+        ∙ sym (lines_with (get_or numbers place 0) ss s.now named))
     | inr other ↦
-      ap (λ (v : Vec (Bor Statement) Global). map (λ s. s.now) v.items) (get_or-set_other groups place k new g (λ e. other (sym e))) ∙ grouped.each k g less
-      ∙ sym (lines_without (get_or numbers k 0) ss s.now (is_false _ (λ q. apart numbers place k up lt less other (names_one (get_or numbers place 0) (get_or numbers k 0) s.now.what named q))))
+        ap (λ (v : Vec (Bor Statement) Global). map (λ s. s.now) v.items) (get_or-set_other groups place k new g (λ e. other (sym e))) ∙ grouped.each k g less
+        ∙ sym (lines_without (get_or numbers k 0) ss s.now (is_false _ (λ q. apart numbers place k up lt less other (names_one (get_or numbers place 0) (get_or numbers k 0) s.now.what named q))))
   ];
 }
 

@@ -1,6 +1,6 @@
 -- The statements behind references.
-use Rattle.std.proofs.Common.{◌≡◌, ℕ, ◌+◌, ◌<◌, List, [], ◌∷◌, ◌++◌, Option, None, Some, length, get_or, take, drop, map, refl, sym, ap, ◌∙◌, subst}
-use Rattle.std.proofs.lemmas.List.{drop_more, drop_all}
+use Rattle.std.proofs.Common.{◌≡◌, ℕ, ◌+◌, ◌<◌, List, [], ◌∷◌, ◌++◌, Option, None, Some, length, get_or, take, drop, map, refl, sym, ap, ◌∙◌}
+use Rattle.std.proofs.lemmas.List.{drop_more}
 use Rattle.std.specs.Borrow.{Bor}
 use Rattle.std.specs.List.{filter_map, cons_option, last_or}
 use Rattle.std.specs.Option.{option_or}
@@ -25,7 +25,7 @@ pub last_step : {X : Type 0} (f : Statement → Option X) (lines : List (Bor Sta
 last_step {X = X} f lines i line {before = before} lt is was made =
     let g : Bor Statement → Option X = λ s. f s.now in
     let now : filter_map f (map (λ s. s.now) (take (i + 1) lines)) ≡ filter_map g (take i lines) ++ cons_option (f line.now) [] =
-        filter_map_told f (take (i + 1) lines) ∙ ap (filter_map g) (take_more lines i line lt) ∙ filter_map-append g (take i lines) (get_or lines i line ∷ []) ∙ ap (λ (s : Bor Statement). filter_map g (take i lines) ++ cons_option (f s.now) []) (sym is) in
+    filter_map_told f (take (i + 1) lines) ∙ ap (filter_map g) (take_more lines i line lt) ∙ filter_map-append g (take i lines) (get_or lines i line ∷ []) ∙ ap (λ (s : Bor Statement). filter_map g (take i lines) ++ cons_option (f s.now) []) (sym is) in
     made ∙ ap (option_or (f line.now)) (was ∙ ap (last_or None) (filter_map_told f (take i lines))) ∙ sym (ap (last_or None) now ∙ last_of_more None (filter_map g (take i lines)) (f line.now))
 
 -- ---- the first line that tells

@@ -28,10 +28,7 @@ fn model_in<'a>(device: IndAddr, what: &'a What) -> Option<&'a [u8]>
     ensures none { IfNone result (model_in device.raw what.now ≡ None) }
 {
     match what {
-        What::Device {
-            device: of,
-            model,
-        } if of.raw == device.raw => Some(model.as_slice()),
+        What::Device { device: of, model } if of.raw == device.raw => Some(model.as_slice()),
         _ => None,
     }
 }

@@ -43,7 +43,10 @@ fn a_device_is_compiled(rt: HostRuntime) -> Result<(), Fail> {
     let image = compile(rt.alloc(), &checked, IndAddr { raw: 0x1106 })
         .ok()
         .ok_or("an image")?;
-    assert_eq!(rt; octets_of(rt.alloc(), &image)?.as_slice(), b"\x00\x00\x00\x00\x00\x00".as_slice());
+    assert_eq!(rt;
+        octets_of(rt.alloc(), &image)?.as_slice(),
+        b"\x00\x00\x00\x00\x00\x00".as_slice()
+    );
     Ok(())
 }
 
