@@ -1,5 +1,5 @@
 -- What the parts of a device's image need of a text that breaks no rule.
-use Rattle.std.proofs.Common.{◌≡◌, ℕ, ◌≤◌, ◌<◌, Bool, true, false, cond, List, [], ◌∷◌, length, map, eqb, bytes_eq, All, Option, None, Some, Result, Ok, Err, refl, sym, ap, ◌∙◌, subst, arith}
+use Rattle.std.proofs.Common.{◌≡◌, ℕ, ◌≤◌, ◌<◌, false, List, length, map, eqb, All, Option, None, Some, Result, Ok, Err, refl, sym, ap, ◌∙◌, subst, arith}
 use Rattle.std.specs.Prelude.{IfOk}
 use Rattle.std.specs.List.{IsDistinct}
 use Rattle.knx_model.specs.declared.address.IndAddr.{IndAddr}
@@ -13,7 +13,7 @@ use Rattle.knx_model.specs.Models.{inline, field_in, IsModel}
 use Rattle.knx_model.specs.Parameters.{HoldsParameters, laid, AreSettings}
 use Rattle.knx_model.specs.Rules.{model_of, is_out_of}
 use Rattle.knx_model.specs.Tables.{raw_of, precedence}
-use Rattle.table_compiler.specs.Lines.{lines_of, AreLinesOf}
+use Rattle.table_compiler.specs.Lines.{AreLinesOf}
 use Rattle.table_compiler.specs.Settings.{settings}
 use Rattle.table_compiler.proofs.LinkLists as links
 use Rattle.table_compiler.proofs.OwnLines.{link_lines_are, last_value_is, model_is}

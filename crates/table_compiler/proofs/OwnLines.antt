@@ -1,14 +1,13 @@
 -- The lines of a device mean for it what the whole text means.
-use Rattle.std.proofs.Common.{◌≡◌, ℕ, Bool, true, false, cond, ◌&&◌, eqb, bytes_eq, List, [], ◌∷◌, ◌++◌, map, filter, Option, None, Some, unwrap_or, refl, sym, ap, ◌∙◌, subst}
+use Rattle.std.proofs.Common.{◌≡◌, ℕ, Bool, true, false, cond, List, [], ◌∷◌, ◌++◌, map, Option, None, Some, unwrap_or, refl, sym, ap, ◌∙◌}
 use Rattle.std.specs.List.{filter_map, cons_option, last_or}
 use Rattle.knx_model.specs.declared.address.IndAddr.{IndAddr}
 use Rattle.knx_model.specs.declared.catalogue.model.Model.{Model}
 use Rattle.knx_model.specs.declared.catalogue.model.NamedModel.{NamedModel}
-use Rattle.knx_model.specs.declared.config.Config.{Config}
 use Rattle.knx_model.specs.declared.project.Statement.{Statement}
 use Rattle.knx_model.specs.declared.project.What.{What}
 use Rattle.knx_model.specs.declared.project.What.TheVariants.{Title, Group, Device, Object, Link, Flags, Param}
-use Rattle.knx_model.specs.Meaning.{link_line, link_lines, links_of, object_line, declared_objects, flags_line, last_flags, flagged_objects, objects_of, model_object, param_line, last_value, params_of, or_inline, meaning}
+use Rattle.knx_model.specs.Meaning.{link_line, link_lines, links_of, object_line, flags_line, last_flags, flagged_objects, objects_of, model_object, param_line, last_value, params_of, or_inline, meaning}
 use Rattle.knx_model.specs.Rules.{first_some, model_in, named_model, model_of}
 use Rattle.table_compiler.specs.Lines.{names, lines_of}
 

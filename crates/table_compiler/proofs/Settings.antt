@@ -1,9 +1,9 @@
 -- The settings of a device, and the fields that they are laid into.
-use Rattle.std.proofs.Common.{◌≡◌, ℕ, ◌+◌, ◌<◌, ◌≤◌, ◌⊎◌, inl, inr, Bool, true, false, cond, ◌&&◌, ◌||◌, List, [], ◌∷◌, length, get_or, map, eqb, bytes_eq, ltb, All, Option, Some, None, unwrap_or, refl, sym, ap, ◌∙◌, subst, arith}
+use Rattle.std.proofs.Common.{◌≡◌, ℕ, inl, inr, Bool, true, false, ◌||◌, List, [], ◌∷◌, get_or, map, eqb, bytes_eq, ltb, All, Option, Some, None, unwrap_or, refl, ◌∙◌, subst, arith}
 use Rattle.std.specs.Prelude.{Contains}
 use Rattle.std.specs.Option.{option_map}
 use Rattle.std.specs.List.{AllByRecursion, IsDistinct, cons_option, filter_map}
-use Rattle.std.proofs.lemmas.Bool.{eq-eqb, ne_eqb, eqb-true, ltb-false}
+use Rattle.std.proofs.lemmas.Bool.{eq-eqb, ne_eqb, ltb-false}
 use Rattle.std.proofs.lemmas.List.{get_or_default}
 use Rattle.std.proofs.lemmas.List.Elements.{All-from_recursion, recursion_from_All}
 use Rattle.std.proofs.lemmas.Slice.Eq.{bytes_eq-Decides}
@@ -14,7 +14,7 @@ use Rattle.knx_model.specs.declared.address.IndAddr.{IndAddr}
 use Rattle.knx_model.specs.declared.project.Statement.{Statement}
 use Rattle.knx_model.specs.Meaning.{last_value, param_value, params_of}
 use Rattle.knx_model.specs.Models.{field_in, name_of, IsField, IsModel, AreApart, AllApart}
-use Rattle.knx_model.specs.Parameters.{is_of_field, set_value, laid, laid_field, first_bit, IsSetting, AreSettings}
+use Rattle.knx_model.specs.Parameters.{set_value, laid, laid_field, first_bit, IsSetting, AreSettings}
 use Rattle.knx_model.specs.Rules.{is_out_of}
 use Rattle.table_compiler.specs.Settings.{valued, settings}
 use Rattle.table_compiler.proofs.Places.{eqb_sym}

@@ -1,6 +1,6 @@
 -- What a text keeps that breaks no rule: the links of a device are at most 2,047, no object is linked to a group twice, and each
 -- parameter is set to a value in its range.
-use Rattle.std.proofs.Common.{◌≡◌, ℕ, zero, suc, ◌+◌, ◌<◌, ◌≤◌, Bool, true, false, cond, ◌&&◌, ◌||◌, not, List, [], ◌∷◌, ◌++◌, length, get_or, take, eqb, leb, bytes_eq, All, Option, Some, None, refl, sym, ap, ◌∙◌, subst, arith}
+use Rattle.std.proofs.Common.{◌≡◌, ℕ, zero, suc, ◌+◌, ◌<◌, ◌≤◌, Bool, true, false, cond, ◌&&◌, ◌||◌, List, [], ◌∷◌, ◌++◌, length, get_or, take, eqb, leb, bytes_eq, All, Option, Some, None, refl, sym, ap, ◌∙◌, subst, arith}
 use Rattle.std.specs.List.{AllPairs, AllByRecursion, cons_option, filter_map, last_or}
 use Rattle.std.proofs.lemmas.Bool.{eqb-true, eq-eqb, leb-false, false≢true}
 use Rattle.std.proofs.lemmas.List.{take_more, take_all, append-nil}

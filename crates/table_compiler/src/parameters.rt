@@ -2,7 +2,6 @@
 
 ghost use Rattle.std.specs.Prelude.{◌≡◌, ℕ, List, map, IfOk, OnOk};
 ghost use Rattle.std.specs.Option.{option_or};
-ghost use Rattle.std.specs.List.{filter_map};
 ghost use Rattle.knx_model.specs.declared.project.Statement.{Statement as Stated};
 ghost use Rattle.knx_model.specs.Meaning.{param_line, last_value};
 ghost use Rattle.table_compiler.specs.Settings.{value_in, HoldsValues, setting, settings};

@@ -1,4 +1,4 @@
-use Rattle.std.proofs.Common.{◌≡◌, ◌∙◌, get_or, Err, arith, inl, inr}
+use Rattle.std.proofs.Common.{◌∙◌, get_or, Err, arith, inl, inr}
 use Rattle.std.proofs.lemmas.Bool.{ne_eqb, cases_lt}
 use Rattle.std.proofs.lemmas.List.Sorted.{searched}
 use Rattle.table_compiler.proofs.Places.{rises}

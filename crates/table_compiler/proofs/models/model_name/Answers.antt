@@ -1,4 +1,4 @@
-use Rattle.std.proofs.Common.{◌≡◌, ◌∙◌}
+use Rattle.std.proofs.Common.{◌∙◌}
 use Rattle.knx_model.specs.Rules.{model_in}
 use Rattle.table_compiler.proofs.Told.{first_here}
 use Rattle.table_compiler.proofs.models.model_name.Goals as goal

@@ -1,8 +1,5 @@
-use Rattle.std.proofs.Common.{◌≡◌, ◌∙◌, ap, sym, refl, Option, None, ℕ}
-use Rattle.std.specs.Borrow.{Bor}
-use Rattle.std.specs.Option.{option_or}
+use Rattle.std.proofs.Common.{refl, None}
 use Rattle.std.proofs.lemmas.List.{get_or-replicate}
-use Rattle.knx_model.specs.declared.project.Statement.{Statement}
 use Rattle.knx_model.specs.Meaning.{flags_line}
 use Rattle.table_compiler.proofs.Told.{last_step}
 use Rattle.table_compiler.proofs.objects.last_flags.Goals as goal
