@@ -71,6 +71,13 @@ order_before_fits (Ok c) order o = before_fits c.before c.device order.before o.
 
 -- ---- the start
 
+-- the run that is lent is the one that was begun
+pub begun_run : (t : Trace) (bench : Option Trace) (start : DeviceState) → Some t ≡ bench → bench ≡ Some (record { start = start; events = [] }) → t ≡ record { start = start; events = [] }
+begun_run t bench start lent begun = some_trace t (record { start = start; events = [] }) (lent ∙ begun)
+  where
+    some_trace : (one other : Trace) → Some one ≡ Some other → one ≡ other
+    some_trace one other e = cc
+
 pub start_power : (device : IndAddr) (before : Option Image) → (start_with device before).power ≡ true
 start_power device None = refl
 start_power device (Some image) = refl

@@ -21,6 +21,7 @@ use std::alloc::Global;
 use table_compiler::compile_all;
 
 /// Appends the tables of devices, each of its image.
+#[tactic(auto, using(crate::proofs::TableLines::one_more, crate::proofs::TableLines::no_device, crate::proofs::TableLines::no_image))]
 fn put_all_tables(
     alloc: Global,
     out: &mut Octets,
@@ -29,8 +30,14 @@ fn put_all_tables(
 ) -> Result<(), NoMemory>
     ensures { OnOk result (out.new ≡ out.old ++ flat_map (λ c. tables_lines c.0 c.1) (zip devices.now images.now)) }
 {
-    for (device, image) in devices.iter().zip(images) {
+    let (mut devices, mut images) = (devices, images);
+    while let [device, next_devices @ ..] = devices {
+        let [image, next_images @ ..] = images else {
+            return Ok(());
+        };
         put_tables(alloc, out, *device, image)?;
+        devices = next_devices;
+        images = next_images;
     }
     Ok(())
 }
