@@ -1,4 +1,4 @@
-ghost use Rattle.std.specs.Prelude.{IfOk, ◌≤◌, length};
+ghost use Rattle.std.specs.Prelude.{IfOk};
 ghost use Rattle.knx_model.specs.Device.{Fits};
 
 use crate::{Device, Ldata, Took, Value, WriteKind, written_front};
@@ -122,10 +122,17 @@ fn a_cut_of_an_unload(rt: HostRuntime) -> Result<(), Fail> {
 
 const CLIENT: u16 = 0x11FF;
 
+/// A TPDU of at most 16 octets.
+fn octets(tpdu: &[u8]) -> ApduOctets {
+    if tpdu.len() <= ApduOctets::CAPACITY {
+        ApduOctets::from_slice(tpdu)
+    } else {
+        ApduOctets::new()
+    }
+}
+
 /// A frame of the client to the device.
-fn to_device(tpdu: &[u8]) -> Ldata
-    requires { length tpdu.now ≤ 16 }
-{
+fn to_device(tpdu: &[u8]) -> Ldata {
     Ldata {
         code: LdataCode::Req,
         error: false,
@@ -134,14 +141,12 @@ fn to_device(tpdu: &[u8]) -> Ldata
         hops: 6,
         source: CLIENT,
         destination: ADDRESS.raw,
-        tpdu: ApduOctets::from_slice(tpdu),
+        tpdu: octets(tpdu),
     }
 }
 
 /// A frame of the client to the group 1/2/3.
-fn to_group(tpdu: &[u8]) -> Ldata
-    requires { length tpdu.now ≤ 16 }
-{
+fn to_group(tpdu: &[u8]) -> Ldata {
     Ldata {
         code: LdataCode::Req,
         error: false,
@@ -150,7 +155,7 @@ fn to_group(tpdu: &[u8]) -> Ldata
         hops: 6,
         source: CLIENT,
         destination: 0x0A03,
-        tpdu: ApduOctets::from_slice(tpdu),
+        tpdu: octets(tpdu),
     }
 }
 
@@ -287,7 +292,7 @@ fn worn_memory_keeps_other_octets(rt: HostRuntime) -> Result<(), Fail> {
         device.take(rt.alloc(), &to_device(tpdu), 0)?;
     }
     let write = to_device(&[0x4A, 0x82, 0x40, 0x00, 0x00, 0x5F]);
-    if device.would_write(&write) == Some(WriteKind::Memory) {
+    if let Some(WriteKind::Memory) = device.would_write(&write) {
         device.take_worn(rt.alloc(), &write, 0)?;
     }
     assert_eq!(rt;
