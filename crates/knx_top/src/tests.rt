@@ -86,6 +86,26 @@ max = 5
 default = 1
 ";
 
+/// One model: an object of 1 bit, one of 8, and a parameter of 5 to 1000.
+const SENSOR: &[u8] = b"[sensor]
+params = 4
+[[sensor.object]]
+n = 1
+size = 1
+flags = \"CRTU\"
+[[sensor.object]]
+n = 2
+size = 8
+flags = \"CRT\"
+[[sensor.parameter]]
+name = \"delay\"
+bit = 0
+width = 16
+min = 5
+max = 1000
+default = 10
+";
+
 const A_TABLES: &str = "device 1.1.5
 address 000200010A03
 association 00020002000100010002
@@ -116,6 +136,7 @@ fn files(alloc: Global, script: &[u8]) -> Result<MemoryFiles, NoMemory> {
         MemoryFile::new(alloc, "office.txt", OFFICE)?,
         MemoryFile::new(alloc, "office.toml", OFFICE_MODELS)?,
         MemoryFile::new(alloc, "other.txt", OTHER)?,
+        MemoryFile::new(alloc, "sensor.toml", SENSOR)?,
         MemoryFile::new(alloc, "e", b"")?,
         MemoryFile::new(alloc, "s", script)?,
     ]?;
@@ -348,6 +369,55 @@ fn each_command_answers_its_text_and_status(rt: HostRuntime) -> Result<(), Fail>
         let (told, taken) = call(rt.alloc(), line, script).ok().ok_or("memory")?;
         assert_eq!(rt; told, status, "{line}");
         assert_eq!(rt; taken.as_slice(), text.as_bytes(), "{line}");
+    }
+    Ok(())
+}
+
+#[test]
+fn projects_are_checked_with_their_models(rt: HostRuntime) -> Result<(), Fail> {
+    let rows: [(&[u8], &str); 9] = [
+        (
+            b"device 1.1.5 sensor\nobject 1.1.5 2 8 CW\n",
+            "new line 2: 13 DuplicateObject\n",
+        ),
+        (
+            b"device 1.1.5 sensor\nflags 1.1.5 1 C\nflags 1.1.5 3 C\n",
+            "new line 3: 14 UnknownObject\n",
+        ),
+        (
+            b"device 1.1.5 sensor\nparam 1.1.5 delays 7\n",
+            "new line 2: 16 UnknownParameter\n",
+        ),
+        (
+            b"device 1.1.5 sensor\nparam 1.1.5 delay 5\nparam 1.1.5 delay 4\n",
+            "new line 3: 17 OutOfRange\n",
+        ),
+        (
+            b"device 1.1.5 sensor\nparam 1.1.5 delay 1000\nparam 1.1.5 delay 1001\n",
+            "new line 3: 17 OutOfRange\n",
+        ),
+        (
+            b"device 1.1.5 sensors\nparam 1.1.5 delay 7\n",
+            "new line 1: 12 UnknownModel\n",
+        ),
+        (
+            b"device 1.1.5 inline\nparam 1.1.5 delay 7\ndevice 1.1.5 sensor\n",
+            "new line 2: 16 UnknownParameter\n",
+        ),
+        (
+            b"ga 1/2/3 a\ndevice 1.1.5 sensor\nobject 1.1.5 3 8 CW\nlink 1.1.5 1 1/2/3\nlink 1.1.5 3 1/2/3\nobject 1.1.5 1 8 CW\n",
+            "new line 5: 18 SizeDiffers\n",
+        ),
+        (
+            b"ga 1/2/3 a\ndevice 1.1.7 sensor\ndevice 1.1.5 inline\nobject 1.1.5 1 1 CWT\nlink 1.1.5 1 1/2/3\nlink 1.1.7 1 1/2/3\nparam 1.1.7 delay 7\n",
+            "ok devices 2 objects 3 links 2\n",
+        ),
+    ];
+    for (project, text) in rows {
+        let (_, taken) = call(rt.alloc(), "check s catalogue=sensor.toml", project)
+            .ok()
+            .ok_or("memory")?;
+        assert_eq!(rt; taken.as_slice(), text.as_bytes(), "{text}");
     }
     Ok(())
 }
