@@ -168,9 +168,22 @@ fn call(alloc: Global, line: &str, script: &[u8]) -> Result<(Status, Octets), No
     Ok((status, taken))
 }
 
+/// The words of a call, the text of the file `s`, and what is told with its status.
+type Row<'a> = (&'a str, &'a [u8], &'a str, Status);
+
+/// Fails where a call doesn't tell just what its row says.
+fn assert_rows(rt: &HostRuntime, rows: &[Row<'_>]) -> Result<(), Fail> {
+    for (line, script, text, status) in rows {
+        let (told, taken) = call(rt.alloc(), line, script).ok().ok_or("memory")?;
+        assert_eq!(rt; told, *status, "{line}");
+        assert_eq!(rt; taken.as_slice(), text.as_bytes(), "{line}");
+    }
+    Ok(())
+}
+
 #[test]
-fn each_command_answers_its_text_and_status(rt: HostRuntime) -> Result<(), Fail> {
-    let rows: [(&str, &[u8], &str, Status); 43] = [
+fn a_run_is_reported(rt: HostRuntime) -> Result<(), Fail> {
+    let rows: [Row<'static>; 8] = [
         ("sim a.txt e e", b"", NEW, Status::Done),
         ("sim a.txt b.txt e", b"", NEW, Status::Done),
         ("sim p.txt e e catalogue=big1.toml", b"", NEW, Status::Done),
@@ -194,6 +207,13 @@ fn each_command_answers_its_text_and_status(rt: HostRuntime) -> Result<(), Fail>
             OLD,
             Status::SomeFailed,
         ),
+    ];
+    assert_rows(&rt, &rows)
+}
+
+#[test]
+fn what_a_run_lacks_is_told(rt: HostRuntime) -> Result<(), Fail> {
+    let rows: [Row<'static>; 8] = [
         (
             "sim c.txt e e",
             b"",
@@ -242,6 +262,13 @@ fn each_command_answers_its_text_and_status(rt: HostRuntime) -> Result<(), Fail>
             "new line 4: 12 UnknownModel\n",
             Status::Project,
         ),
+    ];
+    assert_rows(&rt, &rows)
+}
+
+#[test]
+fn what_a_script_lacks_is_told(rt: HostRuntime) -> Result<(), Fail> {
+    let rows: [Row<'static>; 9] = [
         (
             "sim a.txt none.txt e",
             b"",
@@ -296,14 +323,13 @@ fn each_command_answers_its_text_and_status(rt: HostRuntime) -> Result<(), Fail>
             "read fault none.txt NotThere\n",
             Status::Read,
         ),
-        ("sim a.txt e e workers=9", b"", USAGE, Status::Usage),
-        (
-            "sim a.txt e e catalogue=office.toml catalogue=office.toml",
-            b"",
-            USAGE,
-            Status::Usage,
-        ),
-        ("sim a.txt e", b"", USAGE, Status::Usage),
+    ];
+    assert_rows(&rt, &rows)
+}
+
+#[test]
+fn projects_are_told(rt: HostRuntime) -> Result<(), Fail> {
+    let rows: [Row<'static>; 11] = [
         (
             "check a.txt",
             b"",
@@ -346,8 +372,6 @@ fn each_command_answers_its_text_and_status(rt: HostRuntime) -> Result<(), Fail>
             "read fault none.txt NotThere\n",
             Status::Read,
         ),
-        ("check", b"", USAGE, Status::Usage),
-        ("check a.txt b.txt", b"", USAGE, Status::Usage),
         ("tables a.txt", b"", A_TABLES, Status::Done),
         ("tables e", b"", "", Status::Done),
         (
@@ -362,15 +386,27 @@ fn each_command_answers_its_text_and_status(rt: HostRuntime) -> Result<(), Fail>
             "new line 6: 18 SizeDiffers\n",
             Status::Project,
         ),
+    ];
+    assert_rows(&rt, &rows)
+}
+
+#[test]
+fn other_words_are_usage(rt: HostRuntime) -> Result<(), Fail> {
+    let rows: [Row<'static>; 7] = [
+        ("sim a.txt e e workers=9", b"", USAGE, Status::Usage),
+        (
+            "sim a.txt e e catalogue=office.toml catalogue=office.toml",
+            b"",
+            USAGE,
+            Status::Usage,
+        ),
+        ("sim a.txt e", b"", USAGE, Status::Usage),
+        ("check", b"", USAGE, Status::Usage),
+        ("check a.txt b.txt", b"", USAGE, Status::Usage),
         ("tables a.txt e", b"", USAGE, Status::Usage),
         ("", b"", USAGE, Status::Usage),
     ];
-    for (line, script, text, status) in rows {
-        let (told, taken) = call(rt.alloc(), line, script).ok().ok_or("memory")?;
-        assert_eq!(rt; told, status, "{line}");
-        assert_eq!(rt; taken.as_slice(), text.as_bytes(), "{line}");
-    }
-    Ok(())
+    assert_rows(&rt, &rows)
 }
 
 #[test]
