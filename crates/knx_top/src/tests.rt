@@ -1,6 +1,7 @@
 use crate::{Bench, Status, knx};
 use knx_model::{MemoryFile, MemoryFiles, MemorySink, NoMemory, Octets};
 use std::alloc::Global;
+use std::process::Abort;
 use std::test::Fail;
 
 const A: &[u8] = b"project hall
@@ -172,9 +173,9 @@ fn call(alloc: Global, line: &str, script: &[u8]) -> Result<(Status, Octets), No
 type Row<'a> = (&'a str, &'a [u8], &'a str, Status);
 
 /// Fails where a call doesn't tell just what its row says.
-fn assert_rows(rt: &HostRuntime, rows: &[Row<'_>]) -> Result<(), Fail> {
+fn assert_rows(rt: &impl Abort, alloc: Global, rows: &[Row<'_>]) -> Result<(), Fail> {
     for (line, script, text, status) in rows {
-        let (told, taken) = call(rt.alloc(), line, script).ok().ok_or("memory")?;
+        let (told, taken) = call(alloc, line, script).ok().ok_or("memory")?;
         assert_eq!(rt; told, *status, "{line}");
         assert_eq!(rt; taken.as_slice(), text.as_bytes(), "{line}");
     }
@@ -208,7 +209,7 @@ fn a_run_is_reported(rt: HostRuntime) -> Result<(), Fail> {
             Status::SomeFailed,
         ),
     ];
-    assert_rows(&rt, &rows)
+    assert_rows(&rt, rt.alloc(), &rows)
 }
 
 #[test]
@@ -263,7 +264,7 @@ fn what_a_run_lacks_is_told(rt: HostRuntime) -> Result<(), Fail> {
             Status::Project,
         ),
     ];
-    assert_rows(&rt, &rows)
+    assert_rows(&rt, rt.alloc(), &rows)
 }
 
 #[test]
@@ -324,7 +325,7 @@ fn what_a_script_lacks_is_told(rt: HostRuntime) -> Result<(), Fail> {
             Status::Read,
         ),
     ];
-    assert_rows(&rt, &rows)
+    assert_rows(&rt, rt.alloc(), &rows)
 }
 
 #[test]
@@ -387,7 +388,7 @@ fn projects_are_told(rt: HostRuntime) -> Result<(), Fail> {
             Status::Project,
         ),
     ];
-    assert_rows(&rt, &rows)
+    assert_rows(&rt, rt.alloc(), &rows)
 }
 
 #[test]
@@ -406,7 +407,7 @@ fn other_words_are_usage(rt: HostRuntime) -> Result<(), Fail> {
         ("tables a.txt e", b"", USAGE, Status::Usage),
         ("", b"", USAGE, Status::Usage),
     ];
-    assert_rows(&rt, &rows)
+    assert_rows(&rt, rt.alloc(), &rows)
 }
 
 #[test]
