@@ -511,7 +511,8 @@ fn many_links(alloc: Global, links: u32) -> Result<Octets, NoMemory> {
         let line = format!(in alloc; "ga {}/{}/{} g\n", raw / 2048, raw / 256 % 8, raw % 256)?;
         out.append(line.as_bytes())?;
     }
-    for raw in 1..links + 1 {
+    for before in 0..links {
+        let raw = before + 1;
         let line = format!(in alloc;
             "link 1.1.5 1 {}/{}/{}\n",
             raw / 2048,
