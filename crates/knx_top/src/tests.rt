@@ -1,7 +1,6 @@
 use crate::{Bench, Status, knx};
 use knx_model::{MemoryFile, MemoryFiles, MemorySink, NoMemory, Octets};
 use std::alloc::Global;
-use std::process::Abort;
 use std::test::Fail;
 
 const A: &[u8] = b"project hall
@@ -169,22 +168,9 @@ fn call(alloc: Global, line: &str, script: &[u8]) -> Result<(Status, Octets), No
     Ok((status, taken))
 }
 
-/// The words of a call, the text of the file `s`, and what is told with its status.
-type Row<'a> = (&'a str, &'a [u8], &'a str, Status);
-
-/// Fails where a call doesn't tell just what its row says.
-fn assert_rows(rt: &impl Abort, alloc: Global, rows: &[Row<'_>]) -> Result<(), Fail> {
-    for (line, script, text, status) in rows {
-        let (told, taken) = call(alloc, line, script).ok().ok_or("memory")?;
-        assert_eq!(rt; told, *status, "{line}");
-        assert_eq!(rt; taken.as_slice(), text.as_bytes(), "{line}");
-    }
-    Ok(())
-}
-
 #[test]
 fn a_run_is_reported(rt: HostRuntime) -> Result<(), Fail> {
-    let rows: [Row<'static>; 8] = [
+    let rows: [(&str, &[u8], &str, Status); 8] = [
         ("sim a.txt e e", b"", NEW, Status::Done),
         ("sim a.txt b.txt e", b"", NEW, Status::Done),
         ("sim p.txt e e catalogue=big1.toml", b"", NEW, Status::Done),
@@ -209,12 +195,17 @@ fn a_run_is_reported(rt: HostRuntime) -> Result<(), Fail> {
             Status::SomeFailed,
         ),
     ];
-    assert_rows(&rt, rt.alloc(), &rows)
+    for (line, script, text, status) in rows {
+        let (told, taken) = call(rt.alloc(), line, script).ok().ok_or("memory")?;
+        assert_eq!(rt; told, status, "{line}");
+        assert_eq!(rt; taken.as_slice(), text.as_bytes(), "{line}");
+    }
+    Ok(())
 }
 
 #[test]
 fn what_a_run_lacks_is_told(rt: HostRuntime) -> Result<(), Fail> {
-    let rows: [Row<'static>; 8] = [
+    let rows: [(&str, &[u8], &str, Status); 8] = [
         (
             "sim c.txt e e",
             b"",
@@ -264,12 +255,17 @@ fn what_a_run_lacks_is_told(rt: HostRuntime) -> Result<(), Fail> {
             Status::Project,
         ),
     ];
-    assert_rows(&rt, rt.alloc(), &rows)
+    for (line, script, text, status) in rows {
+        let (told, taken) = call(rt.alloc(), line, script).ok().ok_or("memory")?;
+        assert_eq!(rt; told, status, "{line}");
+        assert_eq!(rt; taken.as_slice(), text.as_bytes(), "{line}");
+    }
+    Ok(())
 }
 
 #[test]
 fn what_a_script_lacks_is_told(rt: HostRuntime) -> Result<(), Fail> {
-    let rows: [Row<'static>; 9] = [
+    let rows: [(&str, &[u8], &str, Status); 9] = [
         (
             "sim a.txt none.txt e",
             b"",
@@ -325,12 +321,17 @@ fn what_a_script_lacks_is_told(rt: HostRuntime) -> Result<(), Fail> {
             Status::Read,
         ),
     ];
-    assert_rows(&rt, rt.alloc(), &rows)
+    for (line, script, text, status) in rows {
+        let (told, taken) = call(rt.alloc(), line, script).ok().ok_or("memory")?;
+        assert_eq!(rt; told, status, "{line}");
+        assert_eq!(rt; taken.as_slice(), text.as_bytes(), "{line}");
+    }
+    Ok(())
 }
 
 #[test]
 fn projects_are_told(rt: HostRuntime) -> Result<(), Fail> {
-    let rows: [Row<'static>; 11] = [
+    let rows: [(&str, &[u8], &str, Status); 11] = [
         (
             "check a.txt",
             b"",
@@ -388,12 +389,17 @@ fn projects_are_told(rt: HostRuntime) -> Result<(), Fail> {
             Status::Project,
         ),
     ];
-    assert_rows(&rt, rt.alloc(), &rows)
+    for (line, script, text, status) in rows {
+        let (told, taken) = call(rt.alloc(), line, script).ok().ok_or("memory")?;
+        assert_eq!(rt; told, status, "{line}");
+        assert_eq!(rt; taken.as_slice(), text.as_bytes(), "{line}");
+    }
+    Ok(())
 }
 
 #[test]
 fn other_words_are_usage(rt: HostRuntime) -> Result<(), Fail> {
-    let rows: [Row<'static>; 7] = [
+    let rows: [(&str, &[u8], &str, Status); 7] = [
         ("sim a.txt e e workers=9", b"", USAGE, Status::Usage),
         (
             "sim a.txt e e catalogue=office.toml catalogue=office.toml",
@@ -407,7 +413,12 @@ fn other_words_are_usage(rt: HostRuntime) -> Result<(), Fail> {
         ("tables a.txt e", b"", USAGE, Status::Usage),
         ("", b"", USAGE, Status::Usage),
     ];
-    assert_rows(&rt, rt.alloc(), &rows)
+    for (line, script, text, status) in rows {
+        let (told, taken) = call(rt.alloc(), line, script).ok().ok_or("memory")?;
+        assert_eq!(rt; told, status, "{line}");
+        assert_eq!(rt; taken.as_slice(), text.as_bytes(), "{line}");
+    }
+    Ok(())
 }
 
 #[test]
