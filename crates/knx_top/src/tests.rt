@@ -123,23 +123,29 @@ const OLD: &str = "job 1 load 1.1.5 failed closed closed closed\ndevice 1.1.5 ol
 const USAGE: &str =
     "usage: knx check, tables, sim, download, gateway, decode or big, with their words\n";
 
-/// The files of the tests, with a script of this text.
+/// The names of the files of the tests, and what they hold.
+const FILES: [(&str, &[u8]); 12] = [
+    ("a.txt", A),
+    ("b.txt", B),
+    ("c.txt", C),
+    ("d.txt", D),
+    ("g.txt", b"ga 1/8/1 x\n"),
+    ("p.txt", b"device 1.1.5 big1\n"),
+    ("big1.toml", b"[big1]\nparams = 1200\n"),
+    ("office.txt", OFFICE),
+    ("office.toml", OFFICE_MODELS),
+    ("other.txt", OTHER),
+    ("sensor.toml", SENSOR),
+    ("e", b""),
+];
+
+/// The files of the tests, with a file `s` of this text.
 fn files(alloc: Global, script: &[u8]) -> Result<MemoryFiles, NoMemory> {
-    let files = vec![in alloc;
-        MemoryFile::new(alloc, "a.txt", A)?,
-        MemoryFile::new(alloc, "b.txt", B)?,
-        MemoryFile::new(alloc, "c.txt", C)?,
-        MemoryFile::new(alloc, "d.txt", D)?,
-        MemoryFile::new(alloc, "g.txt", b"ga 1/8/1 x\n")?,
-        MemoryFile::new(alloc, "p.txt", b"device 1.1.5 big1\n")?,
-        MemoryFile::new(alloc, "big1.toml", b"[big1]\nparams = 1200\n")?,
-        MemoryFile::new(alloc, "office.txt", OFFICE)?,
-        MemoryFile::new(alloc, "office.toml", OFFICE_MODELS)?,
-        MemoryFile::new(alloc, "other.txt", OTHER)?,
-        MemoryFile::new(alloc, "sensor.toml", SENSOR)?,
-        MemoryFile::new(alloc, "e", b"")?,
-        MemoryFile::new(alloc, "s", script)?,
-    ]?;
+    let mut files = Vec::new(alloc);
+    for (name, octets) in FILES {
+        files.push(MemoryFile::new(alloc, name, octets)?)?;
+    }
+    files.push(MemoryFile::new(alloc, "s", script)?)?;
     Ok(MemoryFiles::new(alloc, files))
 }
 
