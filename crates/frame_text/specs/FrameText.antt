@@ -25,17 +25,17 @@ use Rattle.knx_model.specs.declared.frames.ip.IpRefused.TheVariants as ip_refuse
 use Rattle.knx_model.specs.Apdu as tpdu
 use Rattle.knx_model.specs.Cemi as cemi
 use Rattle.knx_model.specs.KnxNetIp as ip
-use Rattle.knx_model.specs.ReportText.{line, device_text, hex_octet, hex_text, octets_text}
+use Rattle.knx_model.specs.Addresses.{device_text, group_text}
+use Rattle.knx_model.specs.ReportText.{line, hex_octet, hex_text, octets_text}
 use Rattle.knx_model.specs.Values.{hex_octets}
 
 -- ---- addresses
 
--- main, middle and sub group
-abbrev pub group_text : ℕ → List ℕ
-group_text raw = join_with_byte 47 (decimal (raw / 2048) ∷ decimal (raw / 256 % 8) ∷ decimal (raw % 256) ∷ [])
+abbrev pub group_word : ℕ → List ℕ
+group_word raw = group_text (record { raw = raw })
 
-abbrev pub individual_text : ℕ → List ℕ
-individual_text raw = device_text (record { raw = raw })
+abbrev pub individual_word : ℕ → List ℕ
+individual_word raw = device_text (record { raw = raw })
 
 -- ---- the services of the application layer
 
@@ -136,7 +136,7 @@ abbrev pub destination_word : Bool → List ℕ
 destination_word group = if group then codes "group" else codes "individual"
 
 abbrev pub destination_text : Bool → ℕ → List ℕ
-destination_text group raw = if group then group_text raw else individual_text raw
+destination_text group raw = if group then group_word raw else individual_word raw
 
 abbrev pub error_words : Bool → List (List ℕ)
 error_words error = if error then codes "error" ∷ [] else []
@@ -144,7 +144,7 @@ error_words error = if error then codes "error" ∷ [] else []
 -- the kind of the destination, source, destination, priority, hop count and whether a con tells of an error
 abbrev pub cemi_words : Ldata → List (List ℕ)
 cemi_words frame =
-    code_word frame.code ∷ destination_word frame.group ∷ individual_text frame.source ∷ destination_text frame.group frame.destination
+    code_word frame.code ∷ destination_word frame.group ∷ individual_word frame.source ∷ destination_text frame.group frame.destination
     ∷ codes "priority" ∷ decimal frame.priority ∷ codes "hops" ∷ decimal frame.hops ∷ error_words frame.error
 
 abbrev pub cemi_why : CemiRefused → List ℕ

@@ -4,10 +4,10 @@ ghost use Rattle.std.specs.Prelude.{◌≡◌, ◌∷◌, [], ◌++◌, OnOk, co
 ghost use Rattle.std.specs.Fmt.{decimal};
 ghost use Rattle.knx_model.specs.Cemi.{refusal_number};
 ghost use Rattle.frame_text.specs.Spaced.{spaced};
-ghost use Rattle.frame_text.specs.FrameText.{code_word, destination_word, individual_text, destination_text, error_words, cemi_words, cemi_why, cemi_line, cemi_refusal_line};
+ghost use Rattle.frame_text.specs.FrameText.{code_word, destination_word, individual_word, destination_text, error_words, cemi_words, cemi_why, cemi_line, cemi_refusal_line};
 
-use crate::pieces::{put_decimal, put_group, put_individual, put_refusal, put_word};
-use knx_model::{CemiRefused, IndAddr, Ldata, LdataCode, NoMemory, Octets};
+use crate::pieces::{put_decimal, put_group_word, put_individual, put_refusal, put_word};
+use knx_model::{CemiRefused, GroupAddr, IndAddr, Ldata, LdataCode, NoMemory, Octets};
 use std::alloc::Global;
 
 fn code_word(code: LdataCode) -> &'static str
@@ -30,7 +30,7 @@ fn put_destination(alloc: Global, out: &mut Octets, group: bool, raw: u16) -> Re
     ensures { OnOk result (out.new ≡ out.old ++ 32 ∷ destination_text group raw) }
 {
     if group {
-        put_group(alloc, out, raw)
+        put_group_word(alloc, out, GroupAddr { raw })
     } else {
         put_individual(alloc, out, IndAddr { raw })
     }
@@ -38,7 +38,7 @@ fn put_destination(alloc: Global, out: &mut Octets, group: bool, raw: u16) -> Re
 
 /// Appends the kind of the destination, the source and the destination.
 fn put_addresses(alloc: Global, out: &mut Octets, frame: &Ldata) -> Result<(), NoMemory>
-    ensures { OnOk result (out.new ≡ out.old ++ spaced (destination_word frame.now.group ∷ individual_text frame.now.source ∷ destination_text frame.now.group frame.now.destination ∷ [])) }
+    ensures { OnOk result (out.new ≡ out.old ++ spaced (destination_word frame.now.group ∷ individual_word frame.now.source ∷ destination_text frame.now.group frame.now.destination ∷ [])) }
 {
     let source = IndAddr { raw: frame.source };
     put_word(out, destination_word(frame.group))?;

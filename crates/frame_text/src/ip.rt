@@ -16,7 +16,7 @@ fn put_channel(alloc: Global, out: &mut Octets, channel: u8) -> Result<(), NoMem
     put_decimal(alloc, out, u64::from(channel))
 }
 
-fn put_number(alloc: Global, out: &mut Octets, number: u8) -> Result<(), NoMemory>
+fn put_sequence(alloc: Global, out: &mut Octets, number: u8) -> Result<(), NoMemory>
     ensures { OnOk result (out.new ≡ out.old ++ spaced (number_words number)) }
 {
     put_word(out, "number")?;
@@ -68,7 +68,7 @@ fn put_counted(alloc: Global, out: &mut Octets, channel: u8, number: u8) -> Resu
     ensures { OnOk result (out.new ≡ out.old ++ spaced (channel_words channel ++ number_words number)) }
 {
     put_channel(alloc, out, channel)?;
-    put_number(alloc, out, number)
+    put_sequence(alloc, out, number)
 }
 
 fn put_fields(alloc: Global, out: &mut Octets, frame: &IpFrame) -> Result<(), NoMemory>

@@ -3,11 +3,12 @@
 ghost use Rattle.std.specs.Prelude.{◌≡◌, ◌+◌, ◌<◌, ◌∷◌, [], ◌++◌, OnOk, codes};
 ghost use Rattle.std.specs.Fmt.{decimal};
 ghost use Rattle.knx_model.specs.Apdu.{word};
-ghost use Rattle.knx_model.specs.ReportText.{device_text, hex_octet, hex_text, octets_text};
+ghost use Rattle.knx_model.specs.Addresses.{device_text, group_text};
+ghost use Rattle.knx_model.specs.ReportText.{hex_octet, hex_text, octets_text};
 ghost use Rattle.frame_text.specs.Spaced.{spaced};
-ghost use Rattle.frame_text.specs.FrameText.{group_text, refusal_words};
+ghost use Rattle.frame_text.specs.FrameText.{refusal_words};
 
-use knx_model::{IndAddr, NoMemory, Octets};
+use knx_model::{GroupAddr, IndAddr, NoMemory, Octets, put_group};
 use report_text::{put_device, put_digits, put_hex, put_number};
 use std::alloc::Global;
 
@@ -35,15 +36,12 @@ pub fn put_individual(alloc: Global, out: &mut Octets, address: IndAddr) -> Resu
     put_device(alloc, out, address)
 }
 
-/// Appends a group address: three numbers apart by slashes.
-pub fn put_group(alloc: Global, out: &mut Octets, raw: u16) -> Result<(), NoMemory>
-    ensures { OnOk result (out.new ≡ out.old ++ 32 ∷ group_text raw) }
+/// Appends a group address.
+pub fn put_group_word(alloc: Global, out: &mut Octets, group: GroupAddr) -> Result<(), NoMemory>
+    ensures { OnOk result (out.new ≡ out.old ++ 32 ∷ group_text group) }
 {
-    put_decimal(alloc, out, u64::from(raw >> 11))?;
-    out.push(b'/')?;
-    put_number(alloc, out, u64::from(raw >> 8 & 0x07))?;
-    out.push(b'/')?;
-    put_number(alloc, out, u64::from(raw & 0xFF))
+    out.push(b' ')?;
+    put_group(alloc, out, group)
 }
 
 /// Appends an octet.

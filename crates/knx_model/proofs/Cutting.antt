@@ -1,10 +1,12 @@
 -- The first line of a text, and the first word of a line.
-use Rattle.std.proofs.Common.{◌≡◌, ℕ, suc, ◌+◌, ◌-◌, ◌<◌, ◌≤◌, Bool, true, false, cond, ltb, not, List, [], ◌∷◌, length, get_or, take, drop, Some, None, refl, sym, ap, ◌∙◌, arith, add-one, drop-cons, drop-drop, length-drop, take-take, inl, inr}
+use Rattle.std.proofs.Common.{◌≡◌, ℕ, suc, ◌+◌, ◌-◌, ◌<◌, ◌≤◌, Bool, true, false, cond, ltb, not, List, [], ◌∷◌, length, get_or, take, drop, Option, Some, None, refl, sym, ap, ◌∙◌, arith, add-one, drop-cons, drop-drop, length-drop, take-take, inl, inr}
 use Rattle.std.specs.List.{slice_split, onto_first, position_or_len, position, filter, slice_range}
 use Rattle.std.specs.Str.Lines.{lines, lines_of_parts, strip_carriage_return}
 use Rattle.std.proofs.Math.Seq.{take-length, drop-length}
-use Rattle.std.proofs.lemmas.Bool.{cases_lt, cases_Bool, not-false, le-ltb, lt-ltb}
-use Rattle.std.proofs.lemmas.List.Sums.{prefix_len-le-length, prefix_len_stops}
+use Rattle.std.specs.Prelude.{◌==◌}
+use Rattle.memchr.specs.Find.{IsFirstByte, is_byte}
+use Rattle.std.proofs.lemmas.Bool.{false_from_ne_true, cases_lt, cases_Bool, not-false, le-ltb, lt-ltb}
+use Rattle.std.proofs.lemmas.List.Sums.{prefix_len-le-length, prefix_len_stops, position_or_len_is}
 use Rattle.std.proofs.lemmas.List.Folds.{length-prefix_len}
 use Rattle.std.proofs.lemmas.List.Splits.{slice_split_first}
 use Rattle.knx_model.specs.Words.{words, is_feed, is_blank, is_not_blank}
@@ -36,6 +38,17 @@ split_step false n m x xs parts e h = ap (onto_first x) (h (omega arith))
 split_all : {X : Type 0} (p : X → Bool) (xs : List X) → position_or_len p xs ≡ length xs → slice_split p xs ≡ xs ∷ []
 split_all p [] e = refl
 split_all p (x ∷ xs) e = split_step (p x) (position_or_len p xs) (length xs) x xs (slice_split p xs) e (split_all p xs)
+
+-- what a search for an octet tells
+pub place_of_octet : (a : ℕ) (xs : List ℕ) (r : Option ℕ) → IsFirstByte (is_byte a) xs r → r ≡ position (λ b. b == a) xs
+place_of_octet a xs None none =
+    let fails : (k : ℕ) → k < length xs → (get_or xs k 0 == a) ≡ false = λ k lt. false_from_ne_true _ (none k (omega arith) lt) in
+    let all : position_or_len (λ b. b == a) xs ≡ length xs = position_or_len_is (λ b. b == a) xs (length xs) 0 (omega arith) fails (λ lt. absurd (omega arith)) in
+    rw all (sym (ap (λ (t : Bool). cond t (Some (length xs)) None) (le-ltb (length xs) (length xs) (omega arith))))
+place_of_octet a xs (Some i) (first, here) =
+    let fails : (k : ℕ) → k < i → (get_or xs k 0 == a) ≡ false = λ k lt. false_from_ne_true _ (first.before k (omega arith) lt) in
+    let at : position_or_len (λ b. b == a) xs ≡ i = position_or_len_is (λ b. b == a) xs i 0 (omega (arith, first.high)) fails (λ lt. here) in
+    rw at (sym (ap (λ (t : Bool). cond t (Some i) None) (lt-ltb i (length xs) first.high)))
 
 -- there is always a part
 pub has_part : {X : Type 0} (p : X → Bool) (xs : List X) → (part : List X) × (parts : List (List X)) × (slice_split p xs ≡ part ∷ parts)

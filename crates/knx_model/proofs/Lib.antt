@@ -2,9 +2,11 @@ pub mod Cutting
 pub mod Finite
 pub mod FlagWords
 pub mod Joined
+pub mod Known
 pub mod LeastLine
 pub mod Numbers
 pub mod Parts
+pub mod Plain
 pub mod Spelled
 pub mod SpelledFlags
 pub mod SpelledNames

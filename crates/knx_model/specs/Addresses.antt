@@ -34,6 +34,9 @@ group_value word = do
   sub ← part_value 255 parts.2
   if main * 2048 + middle * 256 + sub == 0 then None else Some (record { raw = main * 2048 + middle * 256 + sub })
 
--- the same as it is printed, without leading zeros
+-- the same as they are printed, without leading zeros
+abbrev pub device_text : IndAddr → List ℕ
+device_text d = join_with_byte 46 (decimal (d.raw / 4096) ∷ decimal (d.raw / 256 % 16) ∷ decimal (d.raw % 256) ∷ [])
+
 abbrev pub group_text : GroupAddr → List ℕ
 group_text g = join_with_byte 47 (decimal (g.raw / 2048) ∷ decimal (g.raw / 256 % 8) ∷ decimal (g.raw % 256) ∷ [])

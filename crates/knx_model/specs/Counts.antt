@@ -3,7 +3,7 @@ use Rattle.std.specs.Prelude.{ℕ, ◌+◌, length, sum_by}
 use Rattle.knx_model.specs.declared.address.IndAddr.{IndAddr}
 use Rattle.knx_model.specs.declared.command.Counts.{Counts}
 use Rattle.knx_model.specs.Meaning.{Installation, the_model}
-use Rattle.knx_model.specs.Rules.{count_lines, is_device_line, is_object_line, is_link_line, devices_of}
+use Rattle.knx_model.specs.Rules.{count_lines, is_object_line, is_link_line, devices_of}
 
 -- the objects of a device's model
 abbrev pub model_objects : Installation → IndAddr → ℕ

@@ -1,11 +1,11 @@
 -- The device on the line (ISO/IEC 14543-3, transport and application layer, management): what it has while it has power, what it
 -- makes of each frame that comes over the bus, and what it sends. A frame that is taken may be taken whole, or a power cut tears
 -- the write that it asks for, or worn memory keeps other octets than were sent.
-use Rattle.std.specs.Prelude.{ℕ, ◌-◌, Bool, true, false, not, ◌&&◌, ◌==◌, nat_lt, List, [], ◌∷◌, ◌++◌, map, slice_index_or, Option, Some, None, if◌then◌else◌}
+use Rattle.std.specs.Prelude.{ℕ, ◌-◌, Bool, true, false, not, ◌&&◌, ◌==◌, List, [], ◌∷◌, ◌++◌, map, slice_index_or, Option, Some, None, if◌then◌else◌}
 use Rattle.std.specs.List.{range_with_len}
 use Rattle.knx_model.specs.declared.address.IndAddr.{IndAddr}
 use Rattle.knx_model.specs.declared.bench.BenchEvent.{BenchEvent}
-use Rattle.knx_model.specs.declared.bench.BenchEvent.TheVariants.{Give, On}
+use Rattle.knx_model.specs.declared.bench.BenchEvent.TheVariants.{On}
 use Rattle.knx_model.specs.declared.config.Image.{Image}
 use Rattle.knx_model.specs.declared.config.ObjSpec.{ObjSpec}
 use Rattle.knx_model.specs.declared.connection.DeviceTook.{DeviceTook}

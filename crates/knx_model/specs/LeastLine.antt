@@ -1,12 +1,12 @@
 -- What a text of lines reads as. Each line says something, nothing, or the first rule that it breaks; a text is refused at the least
 -- line that breaks a rule, and else it reads as what its lines say, each with its number. Lines are numbered from 1. A line reader
 -- tells of each line, by its number and its octets, what it says.
-use Rattle.std.specs.Prelude.{◌≡◌, ◌≢◌, ℕ, ◌+◌, ◌-◌, ◌<◌, slice_get, IsOk, Bool, true, ◌&&◌, not, nat_lt, List, [], ◌∷◌, length, Option, Some, None, Result, Ok, Err, if◌then◌else◌}
+use Rattle.std.specs.Prelude.{◌≡◌, ℕ, ◌+◌, ◌-◌, ◌<◌, slice_get, IsOk, Bool, true, ◌&&◌, not, nat_lt, List, [], ◌∷◌, length, Option, Some, None, Result, Ok, Err, if◌then◌else◌}
 use Rattle.std.specs.List.{filter_map, enumerate_from}
 use Rattle.std.specs.Str.Lines.{lines}
 use Rattle.knx_model.specs.declared.refusal.Refused.{Refused}
 use Rattle.knx_model.specs.declared.refusal.Why.{Why}
-use Rattle.knx_model.specs.declared.refusal.Why.TheVariants.{NoMemory, NotText, LongLine, TooMany}
+use Rattle.knx_model.specs.declared.refusal.Why.TheVariants.{NotText, LongLine, TooMany}
 use Rattle.knx_model.specs.Words.{is_text, without_comment}
 
 -- ---- a line

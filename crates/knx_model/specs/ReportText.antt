@@ -3,6 +3,7 @@
 use Rattle.std.specs.Prelude.{ℕ, ◌+◌, ◌/◌, ◌%◌, Bool, ◌==◌, nat_lt, codes, List, [], ◌∷◌, ◌++◌, map, Option, Some, None, if◌then◌else◌}
 use Rattle.std.specs.List.{join_with_byte, flat_map, filter_map, enumerate_from}
 use Rattle.std.specs.Fmt.{decimal}
+use Rattle.knx_model.specs.Addresses.{device_text}
 use Rattle.knx_model.specs.declared.address.IndAddr.{IndAddr}
 use Rattle.knx_model.specs.declared.catalogue.refused.CatRefused.{CatRefused}
 use Rattle.knx_model.specs.declared.catalogue.refused.CatRefused.TheVariants as cat
@@ -32,9 +33,6 @@ use Rattle.knx_model.specs.Refusal.{why_number, why_word}
 -- words apart by one space, and a line feed
 abbrev pub line : List (List ℕ) → List ℕ
 line words = join_with_byte 32 words ++ 10 ∷ []
-
-abbrev pub device_text : IndAddr → List ℕ
-device_text d = join_with_byte 46 (decimal (d.raw / 4096) ∷ decimal (d.raw / 256 % 16) ∷ decimal (d.raw % 256) ∷ [])
 
 abbrev pub hex_digit : ℕ → ℕ
 hex_digit n = if nat_lt n 10 then 48 + n else 55 + n

@@ -1,6 +1,6 @@
 -- The script of a run: the line that each disturbance and each group telegram is written as, what a whole script reads as, and the
 -- devices that its lines name. The language is this project's own.
-use Rattle.std.specs.Prelude.{◌≡◌, ℕ, ◌+◌, ◌*◌, ◌<◌, slice_get, Bool, true, false, ◌&&◌, ◌||◌, not, ◌==◌, nat_lt, nat_le, bytes_eq, codes, List, [], ◌∷◌, length, is_some, Option, Some, None, Result, Ok, Err, if◌then◌else◌}
+use Rattle.std.specs.Prelude.{◌≡◌, ℕ, ◌+◌, ◌*◌, ◌<◌, slice_get, Bool, true, false, ◌&&◌, ◌==◌, nat_lt, nat_le, bytes_eq, codes, List, [], ◌∷◌, length, is_some, Option, Some, None, Result, Ok, Err, if◌then◌else◌}
 use Rattle.std.specs.Char.{digit_value}
 use Rattle.std.specs.List.{list_all, list_any, filter_map}
 use Rattle.knx_model.specs.declared.address.GroupAddr.{GroupAddr}
@@ -21,7 +21,7 @@ use Rattle.knx_model.specs.Numbers.{is_digit, number_value}
 use Rattle.knx_model.specs.Addresses.{group_value, ind_value}
 use Rattle.knx_model.specs.Values.{value_value}
 use Rattle.knx_model.specs.Statements.{◌>>=◌, field, ended, is_group, is_device}
-use Rattle.knx_model.specs.LeastLine.{line_text, said_from, refused_from, text_reading, IsLeastRefused, AllLinesSay, lines_ascend}
+use Rattle.knx_model.specs.LeastLine.{line_text, text_reading, lines_ascend}
 
 -- ---- words
 

@@ -22,6 +22,10 @@ words line = filter (λ w. nat_lt 0 (length w)) (slice_split is_blank line)
 abbrev pub is_text_octet : ℕ → Bool
 is_text_octet b = (nat_le 32 b && not (b == 127)) || (b == 9)
 
+-- an octet of a text that is plain: printable ASCII, a tab or a line feed
+abbrev pub is_plain_octet : ℕ → Bool
+is_plain_octet b = (nat_le 32 b && nat_lt b 127) || (b == 9) || (b == 10)
+
 abbrev pub is_text : List ℕ → Bool
 is_text line = is_utf8 line && list_all is_text_octet line
 

@@ -90,6 +90,7 @@ pub use script::GroupService;
 pub use script::ScriptLine;
 pub use script::ScriptWhat;
 pub use status::Status;
+pub use words::Name;
 pub use words::Span;
 pub use words::bits_of;
 pub use words::device_field;
@@ -103,6 +104,7 @@ pub use words::group_field;
 pub use words::group_in;
 pub use words::group_of;
 pub use words::group_spelled;
+pub use words::has_plain_lines;
 pub use words::ind_in;
 pub use words::ind_of;
 pub use words::ind_spelled;
@@ -129,6 +131,7 @@ pub use words::size_spelled;
 pub use words::value_in;
 pub use words::value_of;
 pub use words::without_comment;
+pub use words::words_of_text;
 
 #[cfg(test)]
 mod tests;

@@ -1,22 +1,22 @@
 //! The statements of a project text.
 
 use crate::address::{GroupAddr, IndAddr};
-use crate::lists::Octets;
+use crate::words::Name;
 
 /// What a statement says. Flags are the flag octet and sizes the size code of the group objects' table.
 #[derive(Debug, Drop)]
 pub enum What {
     /// `project NAME`
-    Title(Octets),
+    Title(Name),
     /// `ga GA NAME`
     Group {
         group: GroupAddr,
-        name: Octets,
+        name: Name,
     },
     /// `device IA MODEL`
     Device {
         device: IndAddr,
-        model: Octets,
+        model: Name,
     },
     /// `object IA N SIZE FLAGS`
     Object {
@@ -40,7 +40,7 @@ pub enum What {
     /// `param IA NAME VALUE`
     Param {
         device: IndAddr,
-        name: Octets,
+        name: Name,
         value: u32,
     },
 }

@@ -20,8 +20,7 @@ use Rattle.knx_model.proofs.Joined.{IsWordText, AreWords, words-join, lines_then
 use Rattle.knx_model.proofs.Spelled.{group_again, device_again, number_again}
 use Rattle.knx_model.proofs.FlagWords.{flags_again}
 use Rattle.knx_model.proofs.SpelledNumbers.{bits_fit, size_again}
-use Rattle.knx_model.specs.Addresses.{group_text, group_value, ind_value}
-use Rattle.knx_model.specs.ReportText.{device_text}
+use Rattle.knx_model.specs.Addresses.{device_text, group_text, group_value, ind_value}
 use Rattle.knx_model.specs.Sizes.{bits_of}
 use Rattle.knx_model.specs.declared.project.What.{What}
 use Rattle.knx_model.specs.declared.project.What.TheVariants.{Title, Group, Device, Object, Link, Flags, Param}

@@ -9,10 +9,9 @@ use Rattle.std.proofs.lemmas.List.Folds.{list_all-append}
 use Rattle.std.proofs.lemmas.Str.Parse.{digit_from_value}
 use Rattle.knx_model.specs.declared.address.GroupAddr.{GroupAddr}
 use Rattle.knx_model.specs.declared.address.IndAddr.{IndAddr}
-use Rattle.knx_model.specs.Addresses.{group_text}
+use Rattle.knx_model.specs.Addresses.{device_text, group_text}
 use Rattle.knx_model.specs.Flags.{flags_text}
 use Rattle.knx_model.specs.Numbers.{is_name, is_name_octet}
-use Rattle.knx_model.specs.ReportText.{device_text}
 use Rattle.knx_model.proofs.Finite.{all_below, below}
 use Rattle.knx_model.proofs.SpelledNames.{is_ascii}
 

@@ -6,9 +6,9 @@ use Rattle.std.specs.Fmt.{decimal}
 use Rattle.knx_model.specs.declared.project.Statement.{Statement}
 use Rattle.knx_model.specs.declared.project.What.{What}
 use Rattle.knx_model.specs.declared.project.What.TheVariants.{Title, Group, Device, Object, Link, Flags, Param}
-use Rattle.knx_model.specs.Addresses.{group_text}
+use Rattle.knx_model.specs.Addresses.{device_text, group_text}
 use Rattle.knx_model.specs.Flags.{flags_text}
-use Rattle.knx_model.specs.ReportText.{line, device_text}
+use Rattle.knx_model.specs.ReportText.{line}
 use Rattle.knx_model.specs.Sizes.{bits_of}
 
 -- the words of a statement

@@ -8,10 +8,8 @@ ghost use Rattle.knx_model.specs.Sizes.{size_value};
 ghost use Rattle.knx_model.specs.Statements.{field, object_value, name_value};
 ghost use Rattle.knx_model.specs.declared.refusal.Why.TheVariants.{BadNumber, BadName};
 ghost use Rattle.knx_model.specs.LeastLine.{Answers};
-ghost use Rattle.project_text.specs.Reading.{Gives};
 
-use knx_model::{Octets, Why, first_word, flags_in, is_name_in, number_in, size_code_in};
-use std::alloc::Global;
+use knx_model::{Name, Why, first_word, flags_in, number_in, size_code_in};
 
 fn object_in(word: &[u8]) -> Option<u8>
     ensures value { result ≡ object_value word.now }
@@ -81,22 +79,16 @@ pub fn flags_field(rest: &[u8]) -> Result<(u8, &[u8]), Why>
     }
 }
 
-/// A name, copied.
-pub fn name_field(alloc: Global, rest: &[u8]) -> Result<(Octets, &[u8]), Why>
-    ensures read { Gives (λ x. (x.0, words x.1.now)) result (field name_value BadName (words rest.now)) }
+/// A name.
+pub fn name_field(rest: &[u8]) -> Result<(Name, &[u8]), Why>
+    ensures read { Answers (λ x. (x.0, words x.1.now)) result (field name_value BadName (words rest.now)) }
     ensures fits { IfOk result (λ x. IsTrue (is_name x.0)) }
 {
     match first_word(rest) {
         None => Err(Why::MissingWord),
-        Some((word, rest)) => {
-            if is_name_in(word) {
-                match Octets::from_slice(alloc, word) {
-                    Ok(name) => Ok((name, rest)),
-                    Err(_) => Err(Why::NoMemory),
-                }
-            } else {
-                Err(Why::BadName)
-            }
-        }
+        Some((word, rest)) => match Name::of(word) {
+            None => Err(Why::BadName),
+            Some(name) => Ok((name, rest)),
+        },
     }
 }

@@ -3,9 +3,8 @@
 ghost use Rattle.std.specs.Prelude.{◌≡◌, ◌≤◌, ◌∷◌, ◌++◌, length, List, OnOk, IfOk, IsTrue, Ok};
 ghost use Rattle.std.specs.Fmt.{decimal};
 ghost use Rattle.std.specs.List.{join_with_byte};
-ghost use Rattle.knx_model.specs.Addresses.{group_text};
+ghost use Rattle.knx_model.specs.Addresses.{device_text, group_text};
 ghost use Rattle.knx_model.specs.Flags.{flags_text};
-ghost use Rattle.knx_model.specs.ReportText.{device_text};
 ghost use Rattle.knx_model.specs.Statements.{are_spellable, reading};
 ghost use Rattle.knx_model.specs.declared.project.Statement.{Statement};
 ghost use Rattle.knx_model.specs.declared.project.What.TheVariants.{Title, Group, Device, Object, Link, Flags, Param};

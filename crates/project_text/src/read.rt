@@ -10,23 +10,11 @@ ghost use Rattle.project_text.specs.Reading.{Read, stated_list};
 
 use crate::line::line_in;
 use crate::project::Project;
-use knx_model::{List, NoMemory, Refused, Statement, What, Why, first_line};
+use knx_model::{List, NoMemory, Refused, Statement, What, Why, first_line, has_plain_lines};
 use std::alloc::Global;
 
 /// The longest text, in octets: 4 MiB.
 const LONGEST_TEXT: u32 = 4_194_304;
-
-/// A refusal in a line. Want of memory is of no line.
-fn refused(line: u32, why: Why) -> Refused
-    ensures why { result.why ≡ why }
-    ensures here { why ≢ OutOfMemory → result.line ≡ line }
-    ensures nowhere { why ≡ OutOfMemory → result.line ≡ 0 }
-{
-    match why {
-        Why::NoMemory => Refused { line: 0, why },
-        _ => Refused { line, why },
-    }
-}
 
 /// Adds what a line says.
 fn put(statements: &mut List<Statement>, line: u32, said: Option<What>) -> Result<(), NoMemory>
@@ -48,24 +36,30 @@ pub fn read_project(alloc: Global, octets: &[u8]) -> Result<Project, Refused>
     ensures memory { IfErr result (λ e. e.why ≡ OutOfMemory → e.line ≡ 0) }
 {
     if octets.len() > LONGEST_TEXT as usize {
-        return Err(refused(
-            0,
-            Why::TooMany {
+        return Err(Refused {
+            line: 0,
+            why: Why::TooMany {
                 limit: LONGEST_TEXT,
             },
-        ));
+        });
     }
     let mut statements = List::new(alloc);
+    let is_plain = has_plain_lines(octets);
     let mut line = 1;
     let mut rest = octets;
     while let Some((text, after)) = first_line(rest) {
-        let said = match line_in(alloc, text) {
+        let said = match line_in(text, is_plain) {
             Ok(said) => said,
-            Err(why) => return Err(refused(line, why)),
+            Err(why) => return Err(Refused { line, why }),
         };
         match put(&mut statements, line, said) {
             Ok(()) => {}
-            Err(_) => return Err(refused(0, Why::NoMemory)),
+            Err(_) => {
+                return Err(Refused {
+                    line: 0,
+                    why: Why::NoMemory,
+                });
+            }
         }
         line += 1;
         rest = after;

@@ -3,7 +3,8 @@
 ghost use Rattle.std.specs.Prelude.{◌≡◌, ◌++◌, ◌∷◌, [], Some, OnOk, MatchOption, codes, is_some, map};
 ghost use Rattle.std.specs.List.{join_with_byte};
 ghost use Rattle.std.specs.Fmt.{decimal};
-ghost use Rattle.knx_model.specs.ReportText.{end_of, end_words, end_text, sign_word, job_word, job_line, device_text};
+ghost use Rattle.knx_model.specs.Addresses.{device_text};
+ghost use Rattle.knx_model.specs.ReportText.{end_of, end_words, end_text, sign_word, job_word, job_line};
 
 use crate::pieces::{put_device, put_number};
 use knx_model::{JobWord, LogEntry, LogWhat, NoMemory, Octets, Sign};

@@ -2,7 +2,8 @@
 
 ghost use Rattle.std.specs.Prelude.{◌≡◌, ◌++◌, ◌∷◌, [], OnOk, IfOk, codes};
 ghost use Rattle.std.specs.Fmt.{decimal};
-ghost use Rattle.knx_model.specs.ReportText.{counts_line, device_text, image_lines, line, list_line, tables_lines};
+ghost use Rattle.knx_model.specs.Addresses.{device_text};
+ghost use Rattle.knx_model.specs.ReportText.{counts_line, image_lines, line, list_line, tables_lines};
 
 use crate::pieces::{put_device, put_hex, put_number};
 use knx_model::{Counts, Image, IndAddr, NoMemory, Octets};

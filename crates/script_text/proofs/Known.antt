@@ -1,48 +1,17 @@
 -- No line of a script is refused for want of memory.
-use Rattle.std.proofs.Common.{◌≡◌, ◌≢◌, ℕ, Bool, cond, not, ltb, bytes_eq, codes, List, [], ◌∷◌, length, true, false, Option, Some, None, Result, Ok, Err, refl, ap, ◌∙◌}
+use Rattle.std.proofs.Common.{◌≡◌, ◌≢◌, ℕ, Bool, ltb, List, [], ◌∷◌, true, false, Some, Ok, Err, refl, ap, ◌∙◌}
 use Rattle.knx_model.specs.declared.address.IndAddr.{IndAddr}
 use Rattle.knx_model.specs.declared.refusal.Why.{Why}
 use Rattle.knx_model.specs.declared.refusal.Why.TheVariants.{NoMemory, UnknownWord, BadAddress, BadNumber, TooMany}
 use Rattle.knx_model.specs.declared.script.ScriptWhat.{ScriptWhat}
 use Rattle.knx_model.specs.declared.script.ScriptWhat.TheVariants.{LoseUp, LoseDown, RepeatUp, RepeatDown, LoseTo, LoseFrom, RepeatTo, Worn, CloseAfter, DropChannel}
-use Rattle.knx_model.specs.Words.{words, is_text, without_comment}
+use Rattle.knx_model.specs.Words.{words}
 use Rattle.knx_model.specs.Numbers.{number_value}
 use Rattle.knx_model.specs.Addresses.{group_value, ind_value}
 use Rattle.knx_model.specs.LeastLine.{line_text}
-use Rattle.knx_model.specs.Statements.{◌>>=◌, placed, field, ended}
+use Rattle.knx_model.specs.Statements.{◌>>=◌, field, ended}
+use Rattle.knx_model.proofs.Known.{bad_number, bad_address, unknown, next, either, ok, field_known, ended_known, text_known}
 use Rattle.knx_model.specs.ScriptText.{count_value, status_value, service_value, n_says, device_n_says, telegram_says, cut_says, refuse_says, off_says, lose_says, repeat_says, drop_says, then_says, after_word_says, script_words_say, script_line_says, script_says}
-
-bad_number : BadNumber ≢ NoMemory
-bad_number q = cc
-
-bad_address : BadAddress ≢ NoMemory
-bad_address q = cc
-
-unknown : (r : Result ScriptWhat Why) → r ≡ Err UnknownWord → r ≢ Err NoMemory
-unknown r e q = cc
-
-next : {A B : Type 0} (r : Result A Why) (f : A → Result B Why) → r ≢ Err NoMemory → ((x : A) → f x ≢ Err NoMemory) → (r >>= f) ≢ Err NoMemory
-next (Ok x) f here each = each x
-next (Err e) f here each = λ q. let same : e ≡ NoMemory = cc in here (ap (λ (x : Why). Err x) same)
-
-either : {A : Type 0} (b : Bool) (x y : Result A Why) → x ≢ Err NoMemory → y ≢ Err NoMemory → cond b x y ≢ Err NoMemory
-either true x y here there = here
-either false x y here there = there
-
-ok : {A : Type 0} (x : A) → Ok x ≢ Err NoMemory
-ok x q = cc
-
-placed_known : {A : Type 0} (o : Option A) (why : Why) (ws : List (List ℕ)) → why ≢ NoMemory → placed o why ws ≢ Err NoMemory
-placed_known None why ws known q = known cc
-placed_known (Some x) why ws known q = cc
-
-field_known : {A : Type 0} (read : List ℕ → Option A) (why : Why) (ws : List (List ℕ)) → why ≢ NoMemory → field read why ws ≢ Err NoMemory
-field_known read why [] known q = cc
-field_known read why (w ∷ ws) known q = placed_known (read w) why ws known q
-
-ended_known : {A : Type 0} (x : A) (ws : List (List ℕ)) → ended x ws ≢ Err NoMemory
-ended_known x [] q = cc
-ended_known x (w ∷ ws) q = cc
 
 n_known : (ws : List (List ℕ)) → n_says ws ≢ Err NoMemory
 unfolding n_says
@@ -114,9 +83,6 @@ words_known : (ws : List (List ℕ)) → script_words_say ws ≢ Err NoMemory
 unfolding script_words_say
 words_known [] = λ q. cc
 words_known (w ∷ ws) = next (after_word_says w ws) _ (after_word_known w ws) (λ what. ok (Some what))
-
-text_known : (line : List ℕ) → line_text line ≢ Err NoMemory
-text_known line = either (not (is_text line)) _ _ (λ q. cc) (either (ltb 512 (length line)) _ _ (λ q. cc) (ok (without_comment line)))
 
 line_known : (line : List ℕ) → script_line_says line ≢ Err NoMemory
 unfolding script_line_says

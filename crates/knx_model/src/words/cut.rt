@@ -5,6 +5,8 @@ ghost use Rattle.std.specs.List.{slice_range, position_or_len};
 ghost use Rattle.std.specs.Str.Lines.{lines, strip_carriage_return};
 ghost use Rattle.knx_model.specs.Words.{words, is_feed, is_blank, is_not_blank};
 
+use memchr::memchr;
+
 /// A piece of a text, and where to go on.
 #[derive(Clone, Copy, Debug)]
 pub struct Span {
@@ -13,10 +15,11 @@ pub struct Span {
     pub next: usize,
 }
 
+#[tactic(auto, using(crate::proofs::Cutting::place_of_octet))]
 fn feed_at(octets: &[u8]) -> Option<usize>
     ensures { result ≡ position is_feed octets.now }
 {
-    octets.iter().position(|b| *b == b'\n')
+    memchr(b'\n', octets)
 }
 
 fn blank_at(octets: &[u8]) -> Option<usize>

@@ -1,8 +1,11 @@
 //! What a line is made of.
 
-ghost use Rattle.std.specs.Prelude.{◌≡◌, ◌==◌, position};
+ghost use Rattle.std.specs.Prelude.{◌≡◌, ◌==◌, ◌&&◌, true, fold, IsTrue, position};
 ghost use Rattle.std.specs.List.{list_all, before_first};
-ghost use Rattle.knx_model.specs.Words.{is_text, is_text_octet, without_comment};
+ghost use Rattle.std.specs.Str.Lines.{lines};
+ghost use Rattle.knx_model.specs.Words.{is_text, is_text_octet, is_plain_octet, without_comment};
+
+use memchr::memchr;
 
 fn is_text_octet(b: u8) -> bool
     ensures { result ≡ is_text_octet b }
@@ -27,10 +30,34 @@ pub fn is_text(line: &[u8]) -> bool
     }
 }
 
+/// Whether an octet is printable ASCII, a tab or a line feed.
+fn is_plain_octet(b: u8) -> bool
+    ensures { result ≡ is_plain_octet b }
+{
+    (b' '..0x7F).contains(&b) || b == b'\t' || b == b'\n'
+}
+
+/// Whether a text has no other octets than plain ones. It goes through all of them without a branch.
+fn are_plain_octets(octets: &[u8]) -> bool
+    ensures { result ≡ fold (λ plain b. plain && is_plain_octet b) true octets.now }
+{
+    octets
+        .iter()
+        .fold(true, |plain, b| plain & is_plain_octet(*b))
+}
+
+/// Whether it is seen at once that each line of a text is text: it has no other octets than printable ASCII, tabs and line feeds.
+pub fn has_plain_lines(octets: &[u8]) -> bool
+    ensures { IsTrue result → IsTrue (list_all is_text (lines octets.now)) }
+{
+    are_plain_octets(octets)
+}
+
+#[tactic(auto, using(crate::proofs::Cutting::place_of_octet))]
 fn comment_at(line: &[u8]) -> Option<usize>
     ensures { result ≡ position (λ b. b == 35) line.now }
 {
-    line.iter().position(|b| *b == b'#')
+    memchr(b'#', line)
 }
 
 /// A line up to its first `#`.

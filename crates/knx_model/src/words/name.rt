@@ -4,6 +4,10 @@ ghost use Rattle.std.specs.Prelude.{◌≡◌, ℕ, ◌↔◌, List, IsTrue};
 ghost use Rattle.std.specs.List.{list_all};
 ghost use Rattle.knx_model.specs.Numbers.{is_name, is_name_octet};
 ghost use Rattle.knx_model.specs.Spells.{SpellsName};
+ghost use Rattle.knx_model.specs.Statements.{name_value};
+
+use arrayvec::ArrayVec;
+use std::marker::Model;
 
 fn is_name_octet(c: u8) -> bool
     ensures { result ≡ is_name_octet c }
@@ -29,6 +33,42 @@ pub fn is_name(word: &str) -> bool
     ensures { result ≡ is_name word.now }
 {
     is_name_in(word.as_bytes())
+}
+
+/// A name, kept in place.
+#[derive(Clone, Debug, Drop, PartialEq, Eq)]
+pub struct Name {
+    octets: ArrayVec<u8, 32>,
+}
+
+impl Model for Name {
+    ghost use Rattle.std.specs.Prelude.{List, ℕ};
+
+    ghost Value = { List ℕ };
+
+    ghost view = { λ a. a.octets.items };
+
+    ghost inverse = { λ xs. record { octets = record { items = xs } } };
+}
+
+impl Name {
+    /// The name that a word is; none where it is no name.
+    pub fn of(word: &[u8]) -> Option<Name>
+        ensures { result ≡ name_value word.now }
+    {
+        if !is_name_in(word) {
+            return None;
+        }
+        let mut octets = ArrayVec::new();
+        let _ = octets.try_extend_from_slice(word);
+        Some(Name { octets })
+    }
+
+    pub fn as_slice(&self) -> &[u8]
+        ensures { result.now ≡ self.now }
+    {
+        self.octets.as_slice()
+    }
 }
 
 /// What `is_name_in` accepts is just what the grammar spells.

@@ -2,8 +2,7 @@
 
 ghost use Rattle.std.specs.Prelude.{◌≡◌, ◌++◌, OnOk};
 ghost use Rattle.std.specs.Fmt.{decimal};
-ghost use Rattle.knx_model.specs.Addresses.{group_text};
-ghost use Rattle.knx_model.specs.ReportText.{device_text};
+ghost use Rattle.knx_model.specs.Addresses.{device_text, group_text};
 
 use crate::address::{GroupAddr, IndAddr};
 use crate::lists::{NoMemory, Octets};

@@ -1,7 +1,7 @@
 //! What the readers of all texts share: the words of a line, and the places that more than one language has.
 
-ghost use Rattle.std.specs.Prelude.{◌≡◌, ◌<◌, ◌%◌, IfOk};
-ghost use Rattle.knx_model.specs.Words.{words};
+ghost use Rattle.std.specs.Prelude.{◌≡◌, ◌<◌, ◌%◌, IfOk, IsTrue};
+ghost use Rattle.knx_model.specs.Words.{words, is_text};
 ghost use Rattle.knx_model.specs.Addresses.{group_value, ind_value};
 ghost use Rattle.knx_model.specs.LeastLine.{line_text, Answers};
 ghost use Rattle.knx_model.specs.Statements.{field, ended};
@@ -23,6 +23,14 @@ pub fn line_text(line: &[u8]) -> Result<&[u8], Why>
     if !is_text(line) {
         return Err(Why::NotText);
     }
+    words_of_text(line)
+}
+
+/// The part of a line of text that has its words, before its comment. A line that is too long is refused.
+pub fn words_of_text(line: &[u8]) -> Result<&[u8], Why>
+    requires { IsTrue (is_text line.now) }
+    ensures { Answers (λ x. x.now) result (line_text line.now) }
+{
     if line.len() > LONGEST_LINE {
         return Err(Why::LongLine);
     }
