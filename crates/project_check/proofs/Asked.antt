@@ -1,5 +1,5 @@
 -- What the rules ask of a model, in the words of what is known of it.
-use Rattle.std.proofs.Common.{◌≡◌, ℕ, Bool, true, false, ◌&&◌, not, List, Option, Some, None, refl, ap, ◌∙◌}
+use Rattle.std.proofs.Common.{◌≡◌, ℕ, Bool, ◌&&◌, not, List, Option, Some, None, refl, ap, ◌∙◌}
 use Rattle.std.specs.Prelude.{is_some, is_none}
 use Rattle.std.specs.Option.{option_map, option_or}
 use Rattle.knx_model.specs.declared.catalogue.model.Model.{Model}
@@ -10,7 +10,7 @@ use Rattle.knx_model.specs.declared.project.Statement.{Statement}
 use Rattle.knx_model.specs.Models.{has_object, has_field, object_in, field_in}
 use Rattle.knx_model.specs.Rules.{some_line, first_some, declares_object, size_in, size_of, model_of, size_of_object, size_in_model, or_else, asked_of, is_no_object, is_out_of}
 use Rattle.project_check.specs.Keys.{range_of, is_outside}
-use Rattle.project_check.specs.Knowing.{code_of, range_in}
+use Rattle.project_check.specs.Knowing.{range_in}
 use Rattle.project_check.proofs.Named.{none_not}
 use Rattle.project_check.proofs.Steps.{sized}
 

@@ -1,5 +1,5 @@
 -- Statements are judged one after another.
-use Rattle.std.proofs.Common.{◌≡◌, ℕ, ◌+◌, ◌<◌, ◌≤◌, true, List, [], ◌∷◌, ◌++◌, length, get_or, take, drop, Option, Some, None, refl, sym, ◌∙◌, add-one, drop-cons}
+use Rattle.std.proofs.Common.{◌≡◌, ℕ, ◌+◌, ◌<◌, ◌≤◌, List, [], ◌∷◌, ◌++◌, length, get_or, take, drop, Some, None, refl, sym, ◌∙◌, add-one, drop-cons}
 use Rattle.std.specs.List.{cons_option}
 use Rattle.std.proofs.lemmas.List.{drop_all, take_more}
 use Rattle.knx_model.specs.declared.catalogue.model.NamedModel.{NamedModel}
@@ -8,6 +8,7 @@ use Rattle.knx_model.specs.declared.refusal.Why.{Why}
 use Rattle.knx_model.specs.Rules.{rule_of, broken_at, broken_from, first_broken}
 use Rattle.project_check.specs.Broken.{broken_rules, least}
 use Rattle.project_check.specs.Knowing.{DeclaresAll, Precedes}
+use Rattle.project_check.specs.Links.{IsUpTo}
 use Rattle.project_check.specs.declared.earlier.Earlier.{Earlier}
 use Rattle.project_check.specs.declared.rules.Whole.{Whole}
 
@@ -20,6 +21,7 @@ least_rule catalogue before all s = refl
 pub record JudgedTo (catalogue : List NamedModel) (ss : List Statement) (earlier : Earlier) (whole : Whole) (i : ℕ) : Type 0 where
   pub earlier_is : Precedes earlier (take i ss)
   pub whole_is : DeclaresAll catalogue whole ss
+  pub up_to : IsUpTo whole.first_repeat i
   pub rest_is : broken_from catalogue ss i (drop i ss) ≡ broken_from catalogue ss 0 ss
 
 judge : (catalogue : List NamedModel) (ss : List Statement) (earlier : Earlier) (whole : Whole) (i : ℕ) (s : Statement) → i < length ss → s ≡ get_or ss i s → JudgedTo catalogue ss earlier whole i
@@ -39,9 +41,10 @@ none_broken catalogue ss earlier whole i le to = rw (← to.rest_is, drop_all i 
 
 pub goes_on : (catalogue : List NamedModel) (ss : List Statement) (earlier next : Earlier) (whole : Whole) (i : ℕ) (s : Statement) → i < length ss → s ≡ get_or ss i s
     → JudgedTo catalogue ss earlier whole i → None ≡ rule_of catalogue (take i ss) ss s.what → ((before : List Statement) → Precedes earlier before → Precedes next (before ++ s ∷ []))
-    → JudgedTo catalogue ss next whole (i + 1)
-goes_on catalogue ss earlier next whole i s lt is to e added = record {
+    → IsUpTo whole.first_repeat (i + 1) → JudgedTo catalogue ss next whole (i + 1)
+goes_on catalogue ss earlier next whole i s lt is to e added up = record {
   earlier_is = rw (take_more ss i s lt, ← is) (added (take i ss) to.earlier_is);
   whole_is = to.whole_is;
+  up_to = up;
   rest_is = sym (judge catalogue ss earlier whole i s lt is to ∙ rw (← e) refl);
 }

@@ -10,3 +10,5 @@ pub mod Repeats
 pub mod Sound
 pub mod Steps
 pub mod Totals
+pub mod Tables
+pub mod Linked

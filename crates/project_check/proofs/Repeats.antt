@@ -1,12 +1,12 @@
 -- What the sets and counts of the lines before a line tell of it.
-use Rattle.std.proofs.Common.{◌≡◌, ℕ, ◌≤◌, ◌<◌, Bool, true, false, ◌&&◌, List, refl, inl, inr, arith}
+use Rattle.std.proofs.Common.{◌≡◌, ℕ, ◌≤◌, ◌<◌, ◌&&◌, List, refl, inl, inr, arith}
 use Rattle.std.specs.Prelude.{nat_le}
 use Rattle.std.proofs.lemmas.Bool.{leb-true, leb-false, le-leb, lt-leb, cases_Bool}
 use Rattle.knx_model.specs.declared.project.Statement.{Statement}
 use Rattle.knx_model.specs.declared.project.What.{What}
 use Rattle.knx_model.specs.declared.project.What.TheVariants.{Title, Group, Device, Object, Link, Flags, Param}
-use Rattle.knx_model.specs.Rules.{count_lines, is_device_line, links_device}
-use Rattle.project_check.specs.Knowing.{Precedes, capped, count_of, has_its_group, has_its_device, has_its_object, has_its_link, is_full_of_links, repeats}
+use Rattle.knx_model.specs.Rules.{some_line, count_lines, declares_group, declares_device, is_device_line, links_device}
+use Rattle.project_check.specs.Knowing.{Precedes, capped, of_group, of_device, has_its_object, is_full_of_links, repeats}
 use Rattle.project_check.specs.declared.earlier.Earlier.{Earlier}
 use Rattle.project_check.specs.declared.keys.Repeated.{Repeated}
 
@@ -19,12 +19,11 @@ same_reach k n within = elim (cases_Bool (nat_le k n)) as (λ _. nat_le k (cappe
 
 -- what was found of a line, kind by kind
 pub all_told : (e : Earlier) (ss : List Statement) (what : What) → Precedes e ss
-    → ◌≡◌ {A = Repeated} (record { device = has_its_device e.devices what; group = has_its_group e.groups what; object = has_its_object e.objects what; link = has_its_link e.links what; devices_full = is_device_line what && nat_le 255 e.device_lines; links_full = is_full_of_links e.link_lines what }) (repeats ss what)
+    → ◌≡◌ {A = Repeated} (record { device = of_device (λ d. some_line (declares_device d) ss) what; group = of_group (λ g. some_line (declares_group g) ss) what; object = has_its_object e.objects what; devices_full = is_device_line what && nat_le 255 e.device_lines; links_full = is_full_of_links (λ d. capped (count_lines (links_device d) ss)) what }) (repeats ss what)
 all_told e ss (Title name) h = refl
-all_told e ss (Group group name) h = rw (h.groups group.raw) refl
-all_told e ss (Device device model) h = rw (h.devices device.raw, h.device_lines, same_reach 255 (count_lines is_device_line ss) (omega arith)) refl
+all_told e ss (Group group name) h = refl
+all_told e ss (Device device model) h = rw (h.device_lines, same_reach 255 (count_lines is_device_line ss) (omega arith)) refl
 all_told e ss (Object device n size flags) h = rw (h.objects (record { device = device.raw; number = n })) refl
-all_told e ss (Link device object group) h =
-    rw (h.links (record { device = device.raw; number = object; group = group.raw }), h.link_lines device.raw, same_reach 2047 (count_lines (links_device device.raw) ss) (omega arith)) refl
+all_told e ss (Link device object group) h = rw (same_reach 2047 (count_lines (links_device device.raw) ss) (omega arith)) refl
 all_told e ss (Flags device object flags) h = refl
 all_told e ss (Param device name value) h = refl

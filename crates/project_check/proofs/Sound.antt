@@ -1,13 +1,16 @@
 -- What a text that breaks no rule keeps.
-use Rattle.std.proofs.Common.{◌≡◌, ℕ, zero, suc, ◌+◌, ◌<◌, ◌≤◌, Bool, true, false, cond, List, [], ◌∷◌, ◌++◌, length, get_or, take, Option, Some, None, refl, sym, ap, ◌∙◌, subst, arith}
+use Rattle.std.proofs.Common.{◌≡◌, ℕ, zero, suc, ◌+◌, ◌<◌, ◌≤◌, Bool, true, false, cond, List, [], ◌∷◌, length, get_or, take, Option, Some, None, refl, sym, ◌∙◌, subst, inl, inr, arith}
 use Rattle.std.specs.List.{cons_option}
+use Rattle.std.proofs.lemmas.Bool.{cases_eq, false≢true}
+use Rattle.std.proofs.lemmas.Bool.Decides.{nat_tests}
 use Rattle.knx_model.specs.declared.catalogue.model.NamedModel.{NamedModel}
 use Rattle.knx_model.specs.declared.project.Statement.{Statement}
 use Rattle.knx_model.specs.declared.refusal.Refused.{Refused}
 use Rattle.knx_model.specs.declared.refusal.Why.{Why}
 use Rattle.knx_model.specs.declared.refusal.Why.TheVariants.{DuplicateDevice, DuplicateGroup, UnknownGroup, UnknownModel, DuplicateObject, UnknownObject, DuplicateLink, UnknownParameter, OutOfRange, SizeDiffers, TooMany, NoDevice}
-use Rattle.knx_model.specs.Rules.{rule_of, broken_at, broken_from, first_of, first_broken}
+use Rattle.knx_model.specs.Rules.{rule_of, broken_at, broken_from, first_of, first_broken, duplicate_link}
 use Rattle.project_check.specs.Broken.{broken_rules, least}
+use Rattle.project_check.specs.Links.{IsUpTo, is_at}
 use Rattle.project_check.specs.declared.broken.Broken.{Broken}
 use Rattle.project_check.proofs.Judged.{least_rule}
 
@@ -84,3 +87,19 @@ kept b e =
 pub unbroken_at : (catalogue : List NamedModel) (ss : List Statement) (i : ℕ) (d : Statement) → first_broken catalogue ss ≡ None → i < length ss
     → IsUnbroken (broken_rules catalogue (take i ss) ss (get_or ss i d).what)
 unbroken_at catalogue ss i d e lt = kept (broken_rules catalogue (take i ss) ss (get_or ss i d).what) (least_rule catalogue (take i ss) ss (get_or ss i d) ∙ sound_at catalogue ss i d e lt)
+
+-- a line that breaks no rule repeats no link
+pub repeats_none : (catalogue : List NamedModel) (before all : List Statement) (s : Statement) → rule_of catalogue before all s.what ≡ None → duplicate_link before s.what ≡ false
+repeats_none catalogue before all s e = (kept (broken_rules catalogue before all s.what) (least_rule catalogue before all s ∙ e)).duplicate_link
+
+pub up_to_start : (first : Option ℕ) → IsUpTo first 0
+up_to_start None = tt
+up_to_start (Some first) = omega arith
+
+-- the first repeat isn't before the place after a line that isn't it
+pub up_to_next : (first : Option ℕ) (i : ℕ) → IsUpTo first i → is_at first i ≡ false → IsUpTo first (i + 1)
+up_to_next None i up away = tt
+up_to_next (Some first) i up away = elim (cases_eq first i) as (λ _. i + 1 ≤ first) [
+  | inl same ↦ absurd (false≢true (sym away ∙ grind (arith, nat_tests, same)))
+  | inr other ↦ grind (arith, up, other)
+]

@@ -1,10 +1,9 @@
 -- One statement more.
-use Rattle.std.proofs.Common.{◌≡◌, ℕ, ◌+◌, Bool, true, false, cond, eqb, ◌||◌, bytes_eq, List, [], ◌∷◌, ◌++◌, Option, Some, None, refl, sym, ap, ◌∙◌, arith}
+use Rattle.std.proofs.Common.{◌≡◌, ℕ, ◌+◌, Bool, true, false, cond, eqb, ◌||◌, List, [], ◌∷◌, ◌++◌, Option, Some, None, refl, sym, ap, ◌∙◌, subst, arith}
 use Rattle.std.specs.Prelude.{is_some}
-use Rattle.std.specs.Bool.{nat_eq}
 use Rattle.std.specs.Option.{option_map, option_or}
 use Rattle.std.specs.HashSet.{contains}
-use Rattle.std.specs.HashMap.{get, get_by}
+use Rattle.std.specs.HashMap.{get}
 use Rattle.std.proofs.lemmas.Bool.{or_left, or_right}
 use Rattle.std.proofs.lemmas.Option.{cond_some}
 use Rattle.std.proofs.lemmas.Slice.Eq.{bytes_eq-Decides}
@@ -14,11 +13,10 @@ use Rattle.knx_model.specs.declared.catalogue.model.NamedModel.{NamedModel}
 use Rattle.knx_model.specs.declared.project.Statement.{Statement}
 use Rattle.knx_model.specs.declared.project.What.{What}
 use Rattle.knx_model.specs.declared.project.What.TheVariants.{Title, Group, Device, Object, Link, Flags, Param}
-use Rattle.knx_model.specs.Rules.{some_line, count_lines, first_some, declares_group, declares_device, declares_object, links_to, links_device, is_device_line, size_in, model_in}
-use Rattle.project_check.specs.Keys.{object_eq, link_eq, now_of, names_model}
-use Rattle.project_check.specs.Knowing.{Declares, Precedes, AreRight, capped, counted, count_of}
+use Rattle.knx_model.specs.Rules.{some_line, count_lines, first_some, declares_group, declares_device, declares_object, links_device, is_device_line, size_in, model_in}
+use Rattle.project_check.specs.Keys.{object_eq, names_model}
+use Rattle.project_check.specs.Knowing.{Holds, IsKept, KeepsModels, Declares, Precedes, capped, counted}
 use Rattle.project_check.specs.declared.keys.GroupObject.{GroupObject}
-use Rattle.project_check.specs.declared.keys.Link as keys
 use Rattle.project_check.specs.declared.declared.Declared.{Declared}
 use Rattle.project_check.specs.declared.earlier.Earlier.{Earlier}
 
@@ -114,18 +112,18 @@ pub named_in : (d : ℕ) (name : List ℕ) (ss : List Statement) → first_some 
 named_in d name [] e = absurd (cc)
 named_in d name (s ∷ ss) e = here_or_later d name s ss (model_in d s.what) refl (named_in d name ss) e
 
+-- a test that is kept of one line more
+pub marked_more : (test : ℕ → What → Bool) (table : List Bool) (ss : List Statement) (s : Statement) → Holds table (λ a. some_line (test a) ss || test a s.what) → Holds table (λ a. some_line (test a) (ss ++ s ∷ []))
+marked_more test table ss s held a value is = held a value is ∙ sym (some_more (test a) ss s)
+
 pub declares_more : (catalogue : List NamedModel) (d e : Declared) (ss : List Statement) (s : Statement)
-    → ((g : ℕ) → contains nat_eq e.groups g ≡ (contains nat_eq d.groups g || declares_group g s.what))
-    → ((a : ℕ) → option_map now_of (get nat_eq e.devices a) ≡ option_or (option_map now_of (get nat_eq d.devices a)) (model_in a s.what))
-    → ((name : List ℕ) → is_some (get_by (λ key. bytes_eq name key.now) e.models) ≡ (is_some (get_by (λ key. bytes_eq name key.now) d.models) || names_model name s.what))
-    → (AreRight catalogue d.models → AreRight catalogue e.models)
+    → ((f : ℕ → Bool) → Holds d.groups f → Holds e.groups (λ g. f g || declares_group g s.what))
+    → ((names : ℕ → Option (List ℕ)) → KeepsModels catalogue d.devices names → KeepsModels catalogue e.devices (λ a. option_or (names a) (model_in a s.what)))
     → ((o : GroupObject) → get object_eq e.sizes o ≡ option_or (get object_eq d.sizes o) (size_in o.device o.number s.what))
     → Declares catalogue d ss → Declares catalogue e (ss ++ s ∷ [])
-declares_more catalogue d e ss s groups devices present right sizes before = record {
-  groups = λ g. groups g ∙ ap (λ b. b || declares_group g s.what) (before.groups g) ∙ sym (some_more (declares_group g) ss s);
-  devices = λ a. devices a ∙ ap (λ r. option_or r (model_in a s.what)) (before.devices a) ∙ sym (first_more (model_in a) ss s);
-  present = λ name. present name ∙ ap (λ b. b || names_model name s.what) (before.present name) ∙ sym (some_more (names_model name) ss s);
-  right = right before.right;
+declares_more catalogue d e ss s groups devices sizes before = record {
+  groups = marked_more declares_group e.groups ss s (groups (λ g. some_line (declares_group g) ss) before.groups);
+  devices = λ a kept is. subst (IsKept catalogue kept) (sym (first_more (model_in a) ss s)) (devices (λ b. first_some (model_in b) ss) before.devices a kept is);
   sizes = λ o. sizes o ∙ ap (λ r. option_or r (size_in o.device o.number s.what)) (before.sizes o) ∙ sym (first_more (size_in o.device o.number) ss s);
 }
 
@@ -137,18 +135,16 @@ counted_more : (test : What → Bool) (ss : List Statement) (s : Statement) (old
 counted_more test ss s old new e before = e ∙ ap (counted (test s.what)) before ∙ capped_more (test s.what) (count_lines test ss) ∙ ap capped (sym (count_more test ss s))
 
 pub precedes_more : (d e : Earlier) (ss : List Statement) (s : Statement)
-    → ((g : ℕ) → contains nat_eq e.groups g ≡ (contains nat_eq d.groups g || declares_group g s.what))
-    → ((a : ℕ) → contains nat_eq e.devices a ≡ (contains nat_eq d.devices a || declares_device a s.what))
+    → ((f : ℕ → Bool) → Holds d.groups f → Holds e.groups (λ g. f g || declares_group g s.what))
+    → ((f : ℕ → Bool) → Holds d.devices f → Holds e.devices (λ a. f a || declares_device a s.what))
     → ((o : GroupObject) → contains object_eq e.objects o ≡ (contains object_eq d.objects o || declares_object o.device o.number s.what))
-    → ((l : keys.Link) → contains link_eq e.links l ≡ (contains link_eq d.links l || links_to l.device l.number l.group s.what))
     → e.device_lines ≡ counted (is_device_line s.what) d.device_lines
-    → ((a : ℕ) → count_of e.link_lines a ≡ counted (links_device a s.what) (count_of d.link_lines a))
+    → ((f : ℕ → ℕ) → Holds d.link_lines f → Holds e.link_lines (λ a. counted (links_device a s.what) (f a)))
     → Precedes d ss → Precedes e (ss ++ s ∷ [])
-precedes_more d e ss s groups devices objects links device_lines link_lines before = record {
-  groups = λ g. groups g ∙ ap (λ b. b || declares_group g s.what) (before.groups g) ∙ sym (some_more (declares_group g) ss s);
-  devices = λ a. devices a ∙ ap (λ b. b || declares_device a s.what) (before.devices a) ∙ sym (some_more (declares_device a) ss s);
+precedes_more d e ss s groups devices objects device_lines link_lines before = record {
+  groups = marked_more declares_group e.groups ss s (groups (λ g. some_line (declares_group g) ss) before.groups);
+  devices = marked_more declares_device e.devices ss s (devices (λ a. some_line (declares_device a) ss) before.devices);
   objects = λ o. objects o ∙ ap (λ b. b || declares_object o.device o.number s.what) (before.objects o) ∙ sym (some_more (declares_object o.device o.number) ss s);
-  links = λ l. links l ∙ ap (λ b. b || links_to l.device l.number l.group s.what) (before.links l) ∙ sym (some_more (links_to l.device l.number l.group) ss s);
   device_lines = counted_more is_device_line ss s d.device_lines e.device_lines device_lines before.device_lines;
-  link_lines = λ a. counted_more (links_device a) ss s (count_of d.link_lines a) (count_of e.link_lines a) (link_lines a) (before.link_lines a);
+  link_lines = λ a count is. counted_more (links_device a) ss s (capped (count_lines (links_device a) ss)) count (link_lines (λ b. capped (count_lines (links_device b) ss)) before.link_lines a count is) refl;
 }

@@ -1,18 +1,17 @@
 -- The objects of the devices' models, counted by their `device` lines.
-use Rattle.std.proofs.Common.{◌≡◌, ℕ, zero, suc, ◌+◌, ◌<◌, ◌≤◌, Bool, true, false, eqb, List, [], ◌∷◌, ◌++◌, length, get_or, take, Option, Some, None, refl, sym, ap, ◌∙◌, subst, add-one, arith}
+use Rattle.std.proofs.Common.{◌≡◌, ℕ, zero, suc, ◌<◌, ◌≤◌, false, eqb, List, [], ◌∷◌, ◌++◌, length, get_or, take, Option, Some, None, refl, sym, ap, ◌∙◌, subst, add-one, arith}
 use Rattle.std.specs.Prelude.{is_some, sum_by}
 use Rattle.std.proofs.lemmas.Bool.{false≢true, cond-true, eq-eqb}
 use Rattle.std.proofs.lemmas.List.{take_more, take_all}
 use Rattle.std.proofs.lemmas.List.Elements.{filter_map-append}
 use Rattle.std.proofs.lemmas.List.Sums.{sum_by-append, sum_by-cons}
 use Rattle.knx_model.specs.declared.address.IndAddr.{IndAddr}
-use Rattle.knx_model.specs.declared.catalogue.model.NamedModel.{NamedModel}
 use Rattle.knx_model.specs.declared.project.Statement.{Statement}
 use Rattle.knx_model.specs.declared.project.What.{What}
 use Rattle.knx_model.specs.declared.project.What.TheVariants.{Title, Group, Device, Object, Link, Flags, Param}
 use Rattle.knx_model.specs.Counts.{model_objects}
 use Rattle.knx_model.specs.Meaning.{Installation, or_inline}
-use Rattle.knx_model.specs.Rules.{first_broken, first_some, some_line, count_lines, declares_device, is_device_line, device_in, devices_of, model_in, named_model, duplicate_device}
+use Rattle.knx_model.specs.Rules.{first_broken, first_some, count_lines, is_device_line, device_in, devices_of, model_in, named_model, duplicate_device}
 use Rattle.project_check.specs.Counting.{line_objects}
 use Rattle.project_check.proofs.Few.{count_cons}
 use Rattle.project_check.proofs.Sound.{unbroken_at}

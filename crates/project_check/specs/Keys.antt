@@ -6,21 +6,18 @@ use Rattle.knx_model.specs.declared.catalogue.model.ModelField.{ModelField}
 use Rattle.knx_model.specs.declared.project.What.{What}
 use Rattle.knx_model.specs.declared.project.What.TheVariants.{Device}
 use Rattle.project_check.specs.declared.keys.GroupObject.{GroupObject}
-use Rattle.project_check.specs.declared.keys.Link.{Link}
 use Rattle.project_check.specs.declared.keys.Range.{Range}
+use Rattle.project_check.specs.declared.models.ModelIndex.{ModelIndex}
 
 abbrev pub object_eq : GroupObject → GroupObject → Bool
 object_eq a b = nat_eq a.device b.device && nat_eq a.number b.number
 
-abbrev pub link_eq : Link → Link → Bool
-link_eq a b = nat_eq a.device b.device && (nat_eq a.number b.number && nat_eq a.group b.group)
-
 abbrev pub range_of : ModelField → Range
 range_of f = record { min = f.min; max = f.max }
 
--- what a borrowed name points to
-abbrev pub now_of : Bor (List ℕ) → List ℕ
-now_of name = name.now
+-- what a borrowed index points to
+abbrev pub index_of : Bor ModelIndex → ModelIndex
+index_of index = index.now
 
 -- a `device` line names the model
 abbrev pub names_model : List ℕ → What → Bool

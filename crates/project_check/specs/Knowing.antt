@@ -1,5 +1,5 @@
 -- What is known of statements and models, as it is kept in sets and maps.
-use Rattle.std.specs.Prelude.{◌≡◌, ℕ, ◌+◌, ◌==◌, min, Bool, true, false, ◌&&◌, nat_le, List, Option, Some, None, IfSome, is_some, bytes_eq, unwrap_or, if◌then◌else◌}
+use Rattle.std.specs.Prelude.{◌≡◌, ℕ, ◌+◌, ◌==◌, min, Bool, true, false, nat_le, List, Option, Some, None, IfSome, is_some, bytes_eq, slice_get, if◌then◌else◌}
 use Rattle.std.specs.Bool.{nat_eq}
 use Rattle.std.specs.Borrow.{Bor}
 use Rattle.std.specs.Option.{option_map}
@@ -13,18 +13,25 @@ use Rattle.knx_model.specs.declared.project.Statement.{Statement}
 use Rattle.knx_model.specs.declared.project.What.{What}
 use Rattle.knx_model.specs.declared.project.What.TheVariants.{Group, Device, Object, Link}
 use Rattle.knx_model.specs.Models.{model_named, object_in, field_in}
-use Rattle.knx_model.specs.Rules.{some_line, count_lines, first_some, declares_group, declares_device, declares_object, links_to, links_device, is_device_line, size_in, linked_in, model_in, model_of, size_of, first_linked, duplicate_device, duplicate_group, duplicate_link, too_many_devices, too_many_links}
-use Rattle.project_check.specs.Keys.{object_eq, link_eq, range_of, now_of, names_model}
+use Rattle.knx_model.specs.Rules.{some_line, count_lines, first_some, declares_group, declares_device, declares_object, links_device, is_device_line, size_in, linked_in, model_in, model_of, size_of, first_linked, duplicate_device, duplicate_group, too_many_devices, too_many_links}
+use Rattle.project_check.specs.Keys.{object_eq, range_of, index_of, names_model}
+use Rattle.project_check.specs.Links.{IsFirstRepeat}
 use Rattle.project_check.specs.declared.declared.Declared.{Declared}
 use Rattle.project_check.specs.declared.earlier.Earlier.{Earlier}
 use Rattle.project_check.specs.declared.keys.GroupObject.{GroupObject}
-use Rattle.project_check.specs.declared.keys.Link as keys
 use Rattle.project_check.specs.declared.keys.Looked.{Looked}
 use Rattle.project_check.specs.declared.keys.Range.{Range}
 use Rattle.project_check.specs.declared.keys.Repeated.{Repeated}
 use Rattle.project_check.specs.declared.keys.Sought.{Sought}
 use Rattle.project_check.specs.declared.models.ModelIndex.{ModelIndex}
+use Rattle.project_check.specs.declared.named_models.NamedModels.{NamedModels}
 use Rattle.project_check.specs.declared.rules.Whole.{Whole}
+
+-- ---- of addresses
+
+-- the table holds f(a) for each address a
+abbrev pub Holds : {T : Type 0} → List T → (ℕ → T) → Type 0
+Holds {T} table f = (a : ℕ) (value : T) → slice_get table a ≡ Some value → value ≡ f a
 
 -- ---- of a model
 
@@ -57,12 +64,26 @@ IndexesNamed (Some index) (Some m) = Indexes index m
 abbrev pub AreRight : {S : Type 0} → List NamedModel → HashMap (Bor (List ℕ)) (Option ModelIndex) S → Type 0
 AreRight catalogue models = (name : List ℕ) → IfSome (get_by (λ key. bytes_eq name key.now) models) (λ index. IndexesNamed index (model_named catalogue name))
 
--- the sets and maps are those of these statements
+-- the models are those that these statements name
+pub record AreNamed (catalogue : List NamedModel) (named : NamedModels) (ss : List Statement) : Type 0 where
+  pub present : (name : List ℕ) → is_some (get_by (λ key. bytes_eq name key.now) named.models) ≡ some_line (names_model name) ss
+  pub right : AreRight catalogue named.models
+
+-- what is kept of a device, where this is the model that its first `device` line names
+abbrev pub IsKept : List NamedModel → Option (Option (Bor ModelIndex)) → Option (List ℕ) → Type 0
+IsKept catalogue None None = Unit {0}
+IsKept catalogue None (Some name) = ⊥
+IsKept catalogue (Some kept) None = ⊥
+IsKept catalogue (Some kept) (Some name) = IndexesNamed (option_map index_of kept) (model_named catalogue name)
+
+-- the table keeps the models of the devices' names
+abbrev pub KeepsModels : List NamedModel → List (Option (Option (Bor ModelIndex))) → (ℕ → Option (List ℕ)) → Type 0
+KeepsModels catalogue devices names = (a : ℕ) (kept : Option (Option (Bor ModelIndex))) → slice_get devices a ≡ Some kept → IsKept catalogue kept (names a)
+
+-- the tables and maps are those of these statements
 pub record Declares (catalogue : List NamedModel) (d : Declared) (ss : List Statement) : Type 0 where
-  pub groups : (g : ℕ) → contains nat_eq d.groups g ≡ some_line (declares_group g) ss
-  pub devices : (a : ℕ) → option_map now_of (get nat_eq d.devices a) ≡ first_some (model_in a) ss
-  pub present : (name : List ℕ) → is_some (get_by (λ key. bytes_eq name key.now) d.models) ≡ some_line (names_model name) ss
-  pub right : AreRight catalogue d.models
+  pub groups : Holds d.groups (λ g. some_line (declares_group g) ss)
+  pub devices : KeepsModels catalogue d.devices (λ a. first_some (model_in a) ss)
   pub sizes : (o : GroupObject) → get object_eq d.sizes o ≡ first_some (size_in o.device o.number) ss
 
 -- whether the model of a device is known, and the size of its object n
@@ -87,12 +108,14 @@ abbrev pub linked_size : List NamedModel → List Statement → ℕ → What →
 linked_size catalogue ss g what = option_map (size_at catalogue ss) (linked_in g what)
 
 -- the sizes are those of the group objects of the groups' first `link` lines
-abbrev pub FirstSizes : {S : Type 0} → List NamedModel → List Statement → HashMap ℕ (Option ℕ) S → Type 0
-FirstSizes catalogue ss sizes = (g : ℕ) → get nat_eq sizes g ≡ option_map (size_at catalogue ss) (first_linked ss g)
+abbrev pub FirstSizes : List NamedModel → List Statement → List (Option (Option ℕ)) → Type 0
+FirstSizes catalogue ss sizes = Holds sizes (λ g. option_map (size_at catalogue ss) (first_linked ss g))
 
 pub record DeclaresAll (catalogue : List NamedModel) (w : Whole) (ss : List Statement) : Type 0 where
+  pub models : AreNamed catalogue w.models.now ss
   pub declared : Declares catalogue w.declared ss
   pub first_sizes : FirstSizes catalogue ss w.first_sizes
+  pub first_repeat : IsFirstRepeat ss w.first_repeat
 
 -- the model that a `device` line names stands in a line of the text
 abbrev pub IsNamed : List Statement → What → Type 0
@@ -108,53 +131,44 @@ capped n = min n 65535
 abbrev pub counted : Bool → ℕ → ℕ
 counted counts n = if counts then capped (n + 1) else n
 
--- the count of a device
-abbrev pub count_of : {S : Type 0} → HashMap ℕ ℕ S → ℕ → ℕ
-count_of counts d = unwrap_or (get nat_eq counts d) 0
-
--- the sets and counts are those of these statements
+-- the tables, the set and the counts are those of these statements
 pub record Precedes (e : Earlier) (ss : List Statement) : Type 0 where
-  pub groups : (g : ℕ) → contains nat_eq e.groups g ≡ some_line (declares_group g) ss
-  pub devices : (d : ℕ) → contains nat_eq e.devices d ≡ some_line (declares_device d) ss
+  pub groups : Holds e.groups (λ g. some_line (declares_group g) ss)
+  pub devices : Holds e.devices (λ d. some_line (declares_device d) ss)
   pub objects : (o : GroupObject) → contains object_eq e.objects o ≡ some_line (declares_object o.device o.number) ss
-  pub links : (l : keys.Link) → contains link_eq e.links l ≡ some_line (links_to l.device l.number l.group) ss
   pub device_lines : e.device_lines ≡ capped (count_lines is_device_line ss)
-  pub link_lines : (d : ℕ) → count_of e.link_lines d ≡ capped (count_lines (links_device d) ss)
+  pub link_lines : Holds e.link_lines (λ d. capped (count_lines (links_device d) ss))
 
--- what a line declares is in the set already
-abbrev pub has_its_group : {S : Type 0} → HashSet ℕ S → What → Bool
-has_its_group groups (Group group name) = contains nat_eq groups group.raw
-has_its_group groups _ = false
+-- a test of the group or the device that a line declares
+abbrev pub of_group : (ℕ → Bool) → What → Bool
+of_group test (Group group name) = test group.raw
+of_group test _ = false
 
-abbrev pub has_its_device : {S : Type 0} → HashSet ℕ S → What → Bool
-has_its_device devices (Device device model) = contains nat_eq devices device.raw
-has_its_device devices _ = false
+abbrev pub of_device : (ℕ → Bool) → What → Bool
+of_device test (Device device model) = test device.raw
+of_device test _ = false
 
+-- what an `object` line declares is in the set already
 abbrev pub has_its_object : {S : Type 0} → HashSet GroupObject S → What → Bool
 has_its_object objects (Object device n size flags) = contains object_eq objects (record { device = device.raw; number = n })
 has_its_object objects _ = false
 
-abbrev pub has_its_link : {S : Type 0} → HashSet keys.Link S → What → Bool
-has_its_link links (Link device object group) = contains link_eq links (record { device = device.raw; number = object; group = group.raw })
-has_its_link links _ = false
-
--- a device of which these are the counts has as many links as it may
-abbrev pub is_full_of_links : {S : Type 0} → HashMap ℕ ℕ S → What → Bool
-is_full_of_links counts (Link device object group) = nat_le 2047 (count_of counts device.raw)
-is_full_of_links counts _ = false
+-- a `link` line's device has as many links as it may, by a count of them
+abbrev pub is_full_of_links : (ℕ → ℕ) → What → Bool
+is_full_of_links count (Link device object group) = nat_le 2047 (count device.raw)
+is_full_of_links count _ = false
 
 -- an `object` line's number stands in an earlier one of its device
 abbrev pub repeats_object : List Statement → What → Bool
 repeats_object earlier (Object device n size flags) = some_line (declares_object device.raw n) earlier
 repeats_object earlier _ = false
 
--- what of a line stands in the lines before it
+-- what of a line stands in the lines before it, but for its link
 abbrev pub repeats : List Statement → What → Repeated
 repeats earlier what = record {
   device = duplicate_device earlier what;
   group = duplicate_group earlier what;
   object = repeats_object earlier what;
-  link = duplicate_link earlier what;
   devices_full = too_many_devices earlier what;
   links_full = too_many_links earlier what;
 }

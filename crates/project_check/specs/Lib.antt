@@ -3,3 +3,4 @@ pub mod Counting
 pub mod Devices
 pub mod Keys
 pub mod Knowing
+pub mod Links

@@ -7,9 +7,10 @@ ghost use Rattle.knx_model.specs.Counts.{counts_of};
 ghost use Rattle.knx_model.specs.Rules.{first_broken, devices_of, has_device};
 ghost use Rattle.project_check.specs.Devices.{raw_of};
 
-use crate::counted::{link_lines, model_objects, object_lines};
+use crate::counted::totals_of;
 use crate::devices::{ascending_devices, first_device, is_among};
 use crate::earlier::Earlier;
+use crate::named_models::NamedModels;
 use crate::rules::Whole;
 use knx_model::{Catalogue, Counts, IndAddr, Refused, Statement, Why};
 use project_text::Project;
@@ -77,11 +78,11 @@ impl Checked<'_> {
     pub fn counts(&self) -> Counts
         ensures value { result ≡ counts_of self.now }
     {
-        let statements = self.project.statements.as_slice();
+        let totals = totals_of(self.catalogue, self.project.statements.as_slice());
         Counts {
             devices: self.devices.len() as u32,
-            objects: object_lines(statements) as u32 + model_objects(self.catalogue, statements),
-            links: link_lines(statements) as u32,
+            objects: totals.object_lines as u32 + totals.model_objects,
+            links: totals.link_lines as u32,
         }
     }
 }
@@ -95,11 +96,12 @@ fn first_broken(
     ensures found { IfOk result (λ found. found ≡ first_broken catalogue.now statements.now) }
     ensures never { IfOk result (λ found. IfSome found (λ refused. refused.why ≢ NoMemory)) }
 {
-    let whole = Whole::of(alloc, catalogue, statements)?;
-    let mut earlier = Earlier::new(alloc);
-    for statement in statements {
+    let models = NamedModels::of(alloc, catalogue, statements)?;
+    let whole = Whole::of(alloc, &models, statements)?;
+    let mut earlier = Earlier::new(alloc)?;
+    for (place, statement) in statements.iter().enumerate() {
         let repeated = earlier.add(statement)?;
-        if let Some(why) = whole.broken(repeated, &statement.what).least() {
+        if let Some(why) = whole.broken(place, repeated, &statement.what).least() {
             return Ok(Some(Refused {
                 line: statement.line,
                 why,

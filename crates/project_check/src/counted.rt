@@ -20,26 +20,6 @@ fn is_link_line(what: &What) -> bool
     matches!(what, What::Link { .. })
 }
 
-/// The number of `object` lines.
-pub fn object_lines(statements: &[Statement]) -> usize
-    ensures { result ≡ count_lines is_object_line statements.now }
-{
-    statements
-        .iter()
-        .filter(|statement| is_object_line(&statement.what))
-        .count()
-}
-
-/// The number of `link` lines.
-pub fn link_lines(statements: &[Statement]) -> usize
-    ensures { result ≡ count_lines is_link_line statements.now }
-{
-    statements
-        .iter()
-        .filter(|statement| is_link_line(&statement.what))
-        .count()
-}
-
 /// The number of objects of the model of a name.
 fn named_objects(catalogue: &Catalogue, name: &[u8]) -> u32
     ensures value { result ≡ named_objects catalogue.now name.now }
@@ -65,15 +45,33 @@ fn line_objects(catalogue: &Catalogue, what: &What) -> u32
     }
 }
 
-/// The number of objects of the models that the `device` lines name.
-pub fn model_objects(catalogue: &Catalogue, statements: &[Statement]) -> u32
+/// What the lines of a text have: `object` lines, `link` lines, and objects of the models that its `device` lines name.
+#[derive(Clone, Copy, Debug, PartialEq, Eq)]
+pub struct Totals {
+    pub object_lines: usize,
+    pub link_lines: usize,
+    pub model_objects: u32,
+}
+
+/// Counts what the lines have.
+pub fn totals_of(catalogue: &Catalogue, statements: &[Statement]) -> Totals
     requires { count_lines is_device_line statements.now ≤ 255 }
-    ensures value { result ≡ sum_by (λ s. line_objects catalogue.now s.what) statements.now }
-    ensures few { result ≤ 65280 }
+    ensures objects { result.object_lines ≡ count_lines is_object_line statements.now }
+    ensures links { result.link_lines ≡ count_lines is_link_line statements.now }
+    ensures models { result.model_objects ≡ sum_by (λ s. line_objects catalogue.now s.what) statements.now }
+    ensures few { result.model_objects ≤ 65280 }
 {
-    let mut objects = 0;
+    let mut object_lines = 0;
+    let mut link_lines = 0;
+    let mut model_objects = 0;
     for statement in statements {
-        objects += line_objects(catalogue, &statement.what);
+        object_lines += is_object_line(&statement.what) as usize;
+        link_lines += is_link_line(&statement.what) as usize;
+        model_objects += line_objects(catalogue, &statement.what);
     }
-    objects
+    Totals {
+        object_lines,
+        link_lines,
+        model_objects,
+    }
 }

@@ -1,4 +1,4 @@
-//! Group objects, links and what is kept of them.
+//! Group objects and what is kept of them.
 
 ghost use Rattle.std.specs.Prelude.{◌≡◌, ◌&&◌, is_none};
 ghost use Rattle.project_check.specs.Keys.{is_outside};
@@ -8,14 +8,6 @@ ghost use Rattle.project_check.specs.Keys.{is_outside};
 pub struct GroupObject {
     pub device: u16,
     pub number: u8,
-}
-
-/// A link: a group object, and the raw address of its group.
-#[derive(Clone, Copy, Debug, PartialEq, Eq, Hash)]
-pub struct Link {
-    pub device: u16,
-    pub number: u8,
-    pub group: u16,
 }
 
 /// The least and the greatest value of a parameter.
@@ -73,7 +65,6 @@ pub struct Repeated {
     pub device: bool,
     pub group: bool,
     pub object: bool,
-    pub link: bool,
     pub devices_full: bool,
     pub links_full: bool,
 }

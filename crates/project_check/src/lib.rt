@@ -2,13 +2,16 @@
 #![tactic(auto)]
 
 mod broken;
+mod by_address;
 mod checked;
 mod counted;
 mod declared;
 mod devices;
 mod earlier;
 mod keys;
+mod links;
 mod models;
+mod named_models;
 mod rules;
 
 pub use checked::{Checked, check};

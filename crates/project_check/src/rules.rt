@@ -4,23 +4,29 @@ ghost use Rattle.std.specs.Prelude.{◌≡◌, ◌&&◌, true, ℕ, List, IfOk};
 ghost use Rattle.knx_model.specs.declared.catalogue.model.NamedModel.{NamedModel};
 ghost use Rattle.knx_model.specs.declared.project.Statement.{Statement as Stated};
 ghost use Rattle.knx_model.specs.declared.project.What.TheVariants.{Device as DeviceLine, Object as ObjectLine, Link as LinkLine, Flags as FlagsLine, Param as ParamLine};
-ghost use Rattle.knx_model.specs.Rules.{some_line, duplicate_object, size_of_first, first_linked, differ};
+ghost use Rattle.knx_model.specs.Rules.{some_line, duplicate_object, duplicate_link, size_of_first, first_linked, differ};
 ghost use Rattle.project_check.specs.Broken.{broken_rules};
 ghost use Rattle.project_check.specs.Keys.{names_model};
-ghost use Rattle.project_check.specs.Knowing.{DeclaresAll, repeats, IsNamed};
+ghost use Rattle.project_check.specs.Knowing.{AreNamed, DeclaresAll, repeats, IsNamed};
+ghost use Rattle.project_check.specs.Links.{is_at};
 
 use crate::broken::Broken;
+use crate::by_address::ByAddress;
 use crate::declared::{Declared, first_sizes};
 use crate::keys::{GroupObject, Repeated};
-use knx_model::{Catalogue, GroupAddr, IndAddr, Statement, What};
+use crate::links::first_repeat;
+use crate::named_models::NamedModels;
+use knx_model::{GroupAddr, IndAddr, Statement, What};
 use std::alloc::{AllocError, Global};
-use std::collections::HashMap;
 
-/// What is known of a whole text: what it declares, and the size code of the group object of the first link of each group.
+/// What is known of a whole text: what it declares, the size code of the group object of the first link of each group, none where
+/// the group has no link, and the place of the first `link` line that repeats an earlier one.
 #[derive(Drop)]
-pub struct Whole<'a> {
-    pub declared: Declared<'a>,
-    pub first_sizes: HashMap<u16, Option<u8>>,
+pub struct Whole<'b, 'a> {
+    pub models: &'b NamedModels<'a>,
+    pub declared: Declared<'b, 'a>,
+    pub first_sizes: ByAddress<Option<Option<u8>>>,
+    pub first_repeat: Option<usize>,
 }
 
 /// Whether two sizes are known and differ.
@@ -33,20 +39,22 @@ fn differ(one: Option<u8>, other: Option<u8>) -> bool
     }
 }
 
-impl<'a> Whole<'a> {
+impl<'b, 'a> Whole<'b, 'a> {
     /// What is known of these statements.
     pub fn of(
         alloc: Global,
-        catalogue: &'a Catalogue,
+        models: &'b NamedModels<'a>,
         statements: &'a [Statement],
-    ) -> Result<Whole<'a>, AllocError>
-        ensures { IfOk result (λ whole. DeclaresAll catalogue.now whole statements.now) }
+    ) -> Result<Whole<'b, 'a>, AllocError>
+        ensures { IfOk result (λ whole. (catalogue : List NamedModel) → AreNamed catalogue models.now statements.now → DeclaresAll catalogue whole statements.now) }
     {
-        let declared = Declared::by_all(alloc, catalogue, statements)?;
+        let declared = Declared::by_all(alloc, models, statements)?;
         let first_sizes = first_sizes(alloc, &declared, statements)?;
         Ok(Whole {
+            models,
             declared,
             first_sizes,
+            first_repeat: first_repeat(alloc, statements)?,
         })
     }
 
@@ -56,7 +64,7 @@ impl<'a> Whole<'a> {
     {
         Broken {
             duplicate_device: repeated.device,
-            unknown_model: self.declared.model_named(model).is_none(),
+            unknown_model: self.models.named(model).is_none(),
             too_many_devices: repeated.devices_full,
             ..Broken::none()
         }
@@ -86,12 +94,13 @@ impl<'a> Whole<'a> {
     /// The rules that a `link` line breaks.
     fn link_broken(
         &self,
+        place: usize,
         repeated: Repeated,
         device: IndAddr,
         object: u8,
         group: GroupAddr,
     ) -> Broken
-        ensures { (catalogue : List NamedModel) (before all : List Stated) → DeclaresAll catalogue self.now all → repeated ≡ repeats before (LinkLine device object group) → result ≡ broken_rules catalogue before all (LinkLine device object group) }
+        ensures { (catalogue : List NamedModel) (before all : List Stated) → DeclaresAll catalogue self.now all → repeated ≡ repeats before (LinkLine device object group) → duplicate_link before (LinkLine device object group) ≡ is_at self.now.first_repeat place → result ≡ broken_rules catalogue before all (LinkLine device object group) }
     {
         let looked = self.declared.look(GroupObject {
             device: device.raw,
@@ -101,7 +110,7 @@ impl<'a> Whole<'a> {
         Broken {
             unknown_group: !self.declared.has_group(group.raw),
             unknown_object: looked.is_missing(),
-            duplicate_link: repeated.link,
+            duplicate_link: self.repeats_link(place),
             size_differs: self.size_differs(declared, looked.size, group.raw),
             too_many_links: repeated.links_full,
             no_device: !declared,
@@ -109,14 +118,21 @@ impl<'a> Whole<'a> {
         }
     }
 
+    /// Whether the line at a place is the first that repeats a link.
+    fn repeats_link(&self, place: usize) -> bool
+        ensures { result ≡ is_at self.now.first_repeat place }
+    {
+        match self.first_repeat {
+            Some(first) => first == place,
+            None => false,
+        }
+    }
+
     /// The size code of the group object of a group's first `link` line.
     fn first_size(&self, group: u16) -> Option<u8>
         ensures { (catalogue : List NamedModel) (all : List Stated) → DeclaresAll catalogue self.now all → result ≡ size_of_first catalogue all (first_linked all group) }
     {
-        match self.first_sizes.get(&group) {
-            Some(size) => *size,
-            None => None,
-        }
+        self.first_sizes.get(group).flatten()
     }
 
     /// Whether a size is known and another than that of a group's first `link` line, where the device of the line is declared.
@@ -155,8 +171,8 @@ impl<'a> Whole<'a> {
     }
 
     /// The rules that a statement breaks.
-    pub fn broken(&self, repeated: Repeated, what: &'a What) -> Broken
-        ensures { (catalogue : List NamedModel) (before all : List Stated) → DeclaresAll catalogue self.now all → IsNamed all what.now → repeated ≡ repeats before what.now → result ≡ broken_rules catalogue before all what.now }
+    pub fn broken(&self, place: usize, repeated: Repeated, what: &'a What) -> Broken
+        ensures { (catalogue : List NamedModel) (before all : List Stated) → DeclaresAll catalogue self.now all → IsNamed all what.now → repeated ≡ repeats before what.now → duplicate_link before what.now ≡ is_at self.now.first_repeat place → result ≡ broken_rules catalogue before all what.now }
     {
         match what {
             What::Title(_) => Broken::none(),
@@ -170,7 +186,7 @@ impl<'a> Whole<'a> {
                 device,
                 object,
                 group,
-            } => self.link_broken(repeated, *device, *object, *group),
+            } => self.link_broken(place, repeated, *device, *object, *group),
             What::Flags { device, object, .. } => self.flags_broken(*device, *object),
             What::Param {
                 device,

@@ -1,8 +1,10 @@
-use Rattle.std.proofs.Common.{◌≡◌, ◌<◌, true, Some, None, length, get_or, take, ap, ◌∙◌}
-use Rattle.std.proofs.lemmas.List.Folds.{list_any_at}
+use Rattle.std.proofs.Common.{◌≡◌, ◌<◌, false, None, length, take, refl, sym, ap, ◌∙◌}
 use Rattle.knx_model.specs.declared.project.Statement.{Statement}
+use Rattle.knx_model.specs.Rules.{rule_of, duplicate_link}
 use Rattle.project_check.specs.Broken.{least}
-use Rattle.project_check.specs.Keys.{names_model}
+use Rattle.project_check.specs.Links.{is_at}
+use Rattle.project_check.proofs.Named.{stands_named}
+use Rattle.project_check.proofs.Sound.{repeats_none, up_to_start, up_to_next}
 use Rattle.project_check.proofs.Judged.{is_broken, goes_on, none_broken, least_rule}
 use Rattle.project_check.proofs.checked.first_broken.Goals as goal
 
@@ -10,24 +12,34 @@ pub returns-in-Some-clause-found : goal.returns-in-Some-clause-found
 returns-in-Some-clause-found c =
     let cat = c.args.catalogue.now in
     let ss = c.args.statements.now in
-    let to = c.loop-statement.invariant in
-    let i = c.loop-statement.statement-index in
-    let s = c.statement-item.result in
-    let lt : i < length ss = c.loop-statement-test.true in
-    let broken = c.broken.ensures cat (take i ss) ss to.whole_is (λ name names. list_any_at (λ (t : Statement). names_model name t.what) ss i s lt (rw (← c.statement-item.is) names)) (c.in_ok-repeated.ensures.repeated (take i ss) to.earlier_is) in
-    is_broken cat ss c.loop-statement.earlier c.in_ok-whole.whole i s c.in-Some.why lt c.statement-item.is to (c.in-Some.ensures.rule ∙ ap least broken ∙ least_rule cat (take i ss) ss s)
+    let to = c.loop-place.invariant in
+    let i = c.loop-place.place in
+    let s = c.index-statements-place.result in
+    let lt : i < length ss = c.loop-place-test.true in
+    let repeats : duplicate_link (take i ss) s.what ≡ is_at c.in_ok-whole.whole.first_repeat i = ap (λ (t : Statement). duplicate_link (take i ss) t.what) c.index-statements-place.is ∙ to.whole_is.first_repeat i s lt to.up_to in
+    let broken = c.broken.ensures cat (take i ss) ss to.whole_is (stands_named ss i s lt c.index-statements-place.is) (c.in_ok-repeated.ensures.repeated (take i ss) to.earlier_is) repeats in
+    is_broken cat ss c.loop-place.earlier c.in_ok-whole.whole i s c.in-Some.why lt c.index-statements-place.is to (c.in-Some.ensures.rule ∙ ap least broken ∙ least_rule cat (take i ss) ss s)
 
-pub loop-statement-preserved : goal.loop-statement-preserved
-loop-statement-preserved c =
+pub loop-place-preserved : goal.loop-place-preserved
+loop-place-preserved c =
     let cat = c.args.catalogue.now in
     let ss = c.args.statements.now in
-    let to = c.loop-statement.invariant in
-    let i = c.loop-statement.statement-index in
-    let s = c.statement-item.result in
-    let lt : i < length ss = c.loop-statement-test.true in
-    let broken = c.broken.ensures cat (take i ss) ss to.whole_is (λ name names. list_any_at (λ (t : Statement). names_model name t.what) ss i s lt (rw (← c.statement-item.is) names)) (c.in_ok-repeated.ensures.repeated (take i ss) to.earlier_is) in
-    goes_on cat ss c.loop-statement.earlier c.add.new.self c.in_ok-whole.whole i s lt c.statement-item.is to (c.in_default.ensures.rule ∙ ap least broken ∙ least_rule cat (take i ss) ss s) c.in_ok-repeated.ensures.added
+    let to = c.loop-place.invariant in
+    let i = c.loop-place.place in
+    let s = c.index-statements-place.result in
+    let lt : i < length ss = c.loop-place-test.true in
+    let repeats : duplicate_link (take i ss) s.what ≡ is_at c.in_ok-whole.whole.first_repeat i = ap (λ (t : Statement). duplicate_link (take i ss) t.what) c.index-statements-place.is ∙ to.whole_is.first_repeat i s lt to.up_to in
+    let broken = c.broken.ensures cat (take i ss) ss to.whole_is (stands_named ss i s lt c.index-statements-place.is) (c.in_ok-repeated.ensures.repeated (take i ss) to.earlier_is) repeats in
+    let kept : None ≡ rule_of cat (take i ss) ss s.what = c.in_default.ensures.rule ∙ ap least broken ∙ least_rule cat (take i ss) ss s in
+    let away : is_at c.in_ok-whole.whole.first_repeat i ≡ false = sym repeats ∙ repeats_none cat (take i ss) ss s (sym kept) in
+    goes_on cat ss c.loop-place.earlier c.add.new.self c.in_ok-whole.whole i s lt c.index-statements-place.is to kept c.in_ok-repeated.ensures.added (up_to_next c.in_ok-whole.whole.first_repeat i to.up_to away)
 
 pub returns-clause-found : goal.returns-clause-found
 returns-clause-found c =
-    none_broken c.args.catalogue.now c.args.statements.now c.loop-statement.earlier c.in_ok-whole.whole c.loop-statement.statement-index c.loop-statement-test.false c.loop-statement.invariant
+    none_broken c.args.catalogue.now c.args.statements.now c.loop-place.earlier c.in_ok-whole.whole c.loop-place.place c.loop-place-test.false c.loop-place.invariant
+
+pub loop-place-init : goal.loop-place-init
+loop-place-init c =
+    let cat = c.args.catalogue.now in
+    let ss = c.args.statements.now in
+    record { earlier_is = c.in_ok-earlier.ensures; whole_is = c.in_ok-whole.ensures cat c.in_ok-models.ensures; up_to = up_to_start c.in_ok-whole.whole.first_repeat; rest_is = refl }

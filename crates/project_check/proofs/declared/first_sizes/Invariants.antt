@@ -1,11 +1,9 @@
-use Rattle.std.proofs.Common.{◌≡◌, ℕ, List, take}
-use Rattle.std.specs.Bool.{nat_eq}
+use Rattle.std.proofs.Common.{List, take}
 use Rattle.std.specs.Option.{option_map}
-use Rattle.std.specs.HashMap.{get}
 use Rattle.knx_model.specs.declared.catalogue.model.NamedModel.{NamedModel}
 use Rattle.knx_model.specs.Rules.{first_some, linked_in}
-use Rattle.project_check.specs.Knowing.{Declares, size_at}
+use Rattle.project_check.specs.Knowing.{Holds, Declares, size_at}
 use Rattle.project_check.proofs.declared.first_sizes.Given as goal
 
 abbrev pub invariant-loop-statement : goal.invariant-loop-statement
-invariant-loop-statement l = (catalogue : List NamedModel) → Declares catalogue l.declared l.statements → (g : ℕ) → get nat_eq l.sizes g ≡ option_map (size_at catalogue l.statements) (first_some (linked_in g) (take l.statement-index l.statements))
+invariant-loop-statement l = (catalogue : List NamedModel) → Declares catalogue l.declared l.statements → Holds l.sizes (λ g. option_map (size_at catalogue l.statements) (first_some (linked_in g) (take l.statement-index l.statements)))

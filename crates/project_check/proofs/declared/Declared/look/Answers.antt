@@ -1,4 +1,4 @@
-use Rattle.std.proofs.Common.{◌≡◌, ℕ, true, false, Option, Some, sym, ap, ◌∙◌}
+use Rattle.std.proofs.Common.{◌≡◌, ℕ, true, false, Option, Some, ap, ◌∙◌}
 use Rattle.knx_model.specs.Rules.{first_some, size_in, size_in_model, or_else}
 use Rattle.project_check.specs.declared.keys.Looked.{Looked}
 use Rattle.std.specs.Option.{option_or}

@@ -1,4 +1,4 @@
-use Rattle.std.proofs.Common.{◌≡◌, true, Option, ap, refl}
+use Rattle.std.proofs.Common.{true, Option, ap, refl}
 use Rattle.project_check.specs.declared.keys.Range.{Range}
 use Rattle.project_check.specs.declared.keys.Sought.{Sought}
 use Rattle.project_check.proofs.declared.Declared.seek.Goals as goal

@@ -1,21 +1,21 @@
-use Rattle.std.proofs.Common.{◌≡◌, sym}
+use Rattle.std.proofs.Common.{sym}
 use Rattle.std.proofs.lemmas.Slice.Eq.{bytes_eq-Decides}
 use Rattle.project_check.proofs.rules.Whole.broken.Goals as goal
 
 pub returns-in-Device : goal.returns-in-Device
-returns-in-Device c = λ catalogue before all h named k.
+returns-in-Device c = λ catalogue before all h named k repeats.
     let line = rw c.in-Device.is at k in
     let stands = rw c.in-Device.is at (named c.as_slice.result.now) in
     rw (c.in-Device.is, ← c.as_slice.ensures) (c.device_broken.ensures c.in-Device.device catalogue before all h (stands ((bytes_eq-Decides c.in-Device.model c.as_slice.result.now).1 (sym c.as_slice.ensures))) line)
 
 pub returns-in-Object : goal.returns-in-Object
-returns-in-Object c = λ catalogue before all h named k. rw c.in-Object.is (c.object_broken.ensures c.in-Object.size c.in-Object.flags catalogue before all h (rw c.in-Object.is at k))
+returns-in-Object c = λ catalogue before all h named k repeats. rw c.in-Object.is (c.object_broken.ensures c.in-Object.size c.in-Object.flags catalogue before all h (rw c.in-Object.is at k))
 
 pub returns-in-Link : goal.returns-in-Link
-returns-in-Link c = λ catalogue before all h named k. rw c.in-Link.is (c.link_broken.ensures catalogue before all h (rw c.in-Link.is at k))
+returns-in-Link c = λ catalogue before all h named k repeats. rw c.in-Link.is (c.link_broken.ensures catalogue before all h (rw c.in-Link.is at k) (rw c.in-Link.is at repeats))
 
 pub returns-in-Flags : goal.returns-in-Flags
-returns-in-Flags c = λ catalogue before all h named k. rw c.in-Flags.is (c.flags_broken.ensures c.in-Flags.flags catalogue before all h)
+returns-in-Flags c = λ catalogue before all h named k repeats. rw c.in-Flags.is (c.flags_broken.ensures c.in-Flags.flags catalogue before all h)
 
 pub returns-in-Param : goal.returns-in-Param
-returns-in-Param c = λ catalogue before all h named k. rw (c.in-Param.is, ← c.as_slice-in-Param.ensures) (c.param_broken.ensures catalogue before all h)
+returns-in-Param c = λ catalogue before all h named k repeats. rw (c.in-Param.is, ← c.as_slice-in-Param.ensures) (c.param_broken.ensures catalogue before all h)

@@ -12,5 +12,5 @@ pub returns : goal.returns
 returns c = λ device catalogue before all h named k.
     let model = c.args.model.now in
     let unknown : c.is_none.result ≡ is_none (model_named catalogue model) =
-    other_way (is_some c.model_named.result) c.is_none.result c.is_none.ensures ∙ ap not (c.model_named.ensures.known catalogue all h.declared named) ∙ sym (none_not (model_named catalogue model)) in
+    other_way (is_some c.named.result) c.is_none.result c.is_none.ensures ∙ ap not (c.named.ensures.known catalogue all h.models named) ∙ sym (none_not (model_named catalogue model)) in
     rw (k, c.none.ensures, unknown) refl

@@ -1,4 +1,4 @@
-use Rattle.std.proofs.Common.{◌≡◌, ◌&&◌, refl, ap, ◌∙◌}
+use Rattle.std.proofs.Common.{◌≡◌, ◌&&◌, refl, sym, ap, ◌∙◌}
 use Rattle.std.specs.Prelude.{is_none}
 use Rattle.knx_model.specs.Rules.{asked_of, model_of, size_of, is_no_object}
 use Rattle.project_check.specs.declared.keys.Looked.{Looked}
@@ -6,7 +6,7 @@ use Rattle.project_check.proofs.Asked.{missing}
 use Rattle.project_check.proofs.rules.Whole.link_broken.Goals as goal
 
 pub returns : goal.returns
-returns c = λ catalogue before all h k.
+returns c = λ catalogue before all h k repeats.
     let d = c.args.device.raw in
     let n = c.args.object in
     let look = c.look-looked.ensures catalogue all h.declared in
@@ -18,6 +18,7 @@ returns c = λ catalogue before all h k.
       c.none.ensures,
       c.has_group.ensures catalogue all h.declared,
       lacks,
+      c.repeats_link.ensures ∙ sym repeats,
       c.size_differs.ensures catalogue all h,
       size,
       c.has_device-declared.ensures catalogue all h.declared,

@@ -1,4 +1,6 @@
 use Rattle.project_check.proofs.rules.Whole.of.Goals as goal
 
 pub returns : goal.returns
-returns c = record { declared = c.in_ok-declared.ensures; first_sizes = c.in_ok-first_sizes.ensures c.args.catalogue.now c.in_ok-declared.ensures }
+returns c = λ catalogue named.
+    let declared = c.in_ok-declared.ensures catalogue named in
+    record { models = named; declared = declared; first_sizes = c.in_ok-first_sizes.ensures catalogue declared; first_repeat = c.in_ok-first_repeat.ensures }

@@ -1,12 +1,12 @@
-use Rattle.std.proofs.Common.{◌≡◌, ℕ, true, List, ap, ◌∙◌, subst, sym}
-use Rattle.std.specs.Prelude.{bytes_eq, is_some, IfSome}
+use Rattle.std.proofs.Common.{◌≡◌, ap, ◌∙◌}
+use Rattle.std.specs.Prelude.{bytes_eq, is_some}
 use Rattle.std.specs.HashMap.{get_by}
 use Rattle.std.proofs.lemmas.Map.Text.{hash_map_updates_str}
 use Rattle.std.proofs.lemmas.Slice.Eq.{bytes_eq-Decides}
 use Rattle.knx_model.specs.Models.{model_named}
 use Rattle.project_check.specs.Knowing.{IndexesNamed}
 use Rattle.project_check.proofs.Named.{put_some, put_right}
-use Rattle.project_check.proofs.declared.add_model.Goals as goal
+use Rattle.project_check.proofs.named_models.add_model.Goals as goal
 
 pub returns-in_ok-insert-clause-present : goal.returns-in_ok-insert-clause-present
 returns-in_ok-insert-clause-present c = λ name.

@@ -1,11 +1,11 @@
-use Rattle.std.proofs.Common.{◌≡◌, true, false, Some, None, sym, ap, ◌∙◌}
+use Rattle.std.proofs.Common.{Some, None, sym, ap, ◌∙◌}
 use Rattle.std.specs.Prelude.{bytes_eq, is_some}
 use Rattle.std.specs.HashMap.{get_by}
 use Rattle.std.proofs.lemmas.Bool.{false≢true}
 use Rattle.knx_model.specs.Models.{model_named}
 use Rattle.project_check.specs.Knowing.{IndexesNamed}
 use Rattle.project_check.proofs.Named.{right_at, indexed_some, indexed_none, same_known}
-use Rattle.project_check.proofs.declared.Declared.model_named.Goals as goal
+use Rattle.project_check.proofs.named_models.NamedModels.named.Goals as goal
 
 pub returns-in-Some-Some-clause-some : goal.returns-in-Some-Some-clause-some
 returns-in-Some-Some-clause-some c = λ catalogue ss h.
