@@ -5,18 +5,18 @@ use crate::words::Name;
 
 /// What a statement says. Flags are the flag octet and sizes the size code of the group objects' table.
 #[derive(Debug, Drop)]
-pub enum What {
+pub enum What<'a> {
     /// `project NAME`
-    Title(Name),
+    Title(Name<'a>),
     /// `ga GA NAME`
     Group {
         group: GroupAddr,
-        name: Name,
+        name: Name<'a>,
     },
     /// `device IA MODEL`
     Device {
         device: IndAddr,
-        model: Name,
+        model: Name<'a>,
     },
     /// `object IA N SIZE FLAGS`
     Object {
@@ -40,14 +40,14 @@ pub enum What {
     /// `param IA NAME VALUE`
     Param {
         device: IndAddr,
-        name: Name,
+        name: Name<'a>,
         value: u32,
     },
 }
 
 /// A statement, and the number of its line, from 1.
 #[derive(Debug, Drop)]
-pub struct Statement {
+pub struct Statement<'a> {
     pub line: u32,
-    pub what: What,
+    pub what: What<'a>,
 }
