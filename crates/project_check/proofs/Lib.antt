@@ -5,10 +5,10 @@ pub mod Few
 pub mod Indexed
 pub mod Judged
 pub mod Limits
+pub mod Linked
 pub mod Named
 pub mod Repeats
 pub mod Sound
 pub mod Steps
-pub mod Totals
 pub mod Tables
-pub mod Linked
+pub mod Totals

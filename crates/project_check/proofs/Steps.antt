@@ -87,10 +87,6 @@ model_or_none d (Param device name value) = refl
 pub modelled : (d : ℕ) (ss : List Statement) → is_some (first_some (model_in d) ss) ≡ some_line (declares_device d) ss
 modelled d ss = any_some (model_in d) (declares_device d) (model_or_none d) ss
 
-pub some_mapped : {X Y : Type 0} (f : X → Y) (o : Option X) → is_some (option_map f o) ≡ is_some o
-some_mapped f None = refl
-some_mapped f (Some x) = refl
-
 named_by : (d : ℕ) (name : List ℕ) (w : What) → model_in d w ≡ Some name → names_model name w ≡ true
 named_by d name (Title title) e = absurd (cc)
 named_by d name (Group group title) e = absurd (cc)
