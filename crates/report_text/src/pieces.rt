@@ -1,6 +1,6 @@
 //! Octets as they are printed, beside numbers and addresses.
 
-ghost use Rattle.std.specs.Prelude.{◌≡◌, ◌<◌, ◌++◌, OnOk};
+ghost use Rattle.std.specs.Prelude.{◌≡◌, ◌<◌, [], ◌∷◌, ◌++◌, OnOk};
 ghost use Rattle.knx_model.specs.ReportText.{hex_digit, hex_octet, hex_text, octets_text};
 
 use knx_model::{NoMemory, Octets};
@@ -22,11 +22,32 @@ pub fn put_digits(out: &mut Octets, octet: u8) -> Result<(), NoMemory>
     out.push(hex_digit(octet & 0x0F))
 }
 
-/// Appends the digits of octets.
+/// The digits of four octets.
+fn digits_of_four(a: u8, b: u8, c: u8, d: u8) -> [u8; 8]
+    ensures { result ≡ hex_text (a ∷ b ∷ c ∷ d ∷ []) }
+{
+    [
+        hex_digit(a / 16),
+        hex_digit(a % 16),
+        hex_digit(b / 16),
+        hex_digit(b % 16),
+        hex_digit(c / 16),
+        hex_digit(c % 16),
+        hex_digit(d / 16),
+        hex_digit(d % 16),
+    ]
+}
+
+/// Appends the digits of octets, four octets at a time.
 fn put_all_digits(out: &mut Octets, octets: &[u8]) -> Result<(), NoMemory>
     ensures { OnOk result (out.new ≡ out.old ++ hex_text octets.now) }
 {
-    for octet in octets {
+    let mut rest = octets;
+    while let [a, b, c, d, next @ ..] = rest {
+        out.append(&digits_of_four(*a, *b, *c, *d))?;
+        rest = next;
+    }
+    for octet in rest {
         put_digits(out, *octet)?;
     }
     Ok(())

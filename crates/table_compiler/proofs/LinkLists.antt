@@ -17,7 +17,8 @@ use Rattle.knx_model.specs.declared.project.Statement.{Statement}
 use Rattle.knx_model.specs.Meaning.{is_of_object, link_at, links_of, link_lines}
 use Rattle.knx_model.specs.Rules.{first_broken}
 use Rattle.knx_model.specs.Tables.{raw_of, precedence}
-use Rattle.table_compiler.proofs.Places.{no_link}
+use Rattle.table_compiler.specs.Order.{IsLink}
+use Rattle.table_compiler.proofs.GroupPlaces.{no_link}
 use Rattle.table_compiler.proofs.Sound.{Apart, few_lines, lines_apart}
 
 pub length-links_of : (lines : List (ℕ × GroupAddr)) → length (links_of lines) ≡ length lines
@@ -39,13 +40,13 @@ ranks o r p s true false lt lt' e = (omega arith, omega arith)
 ranks o r p s false true lt lt' e = (omega arith, omega arith)
 ranks o r p s false false lt lt' e = (omega arith, omega arith)
 
-pub distinct : (lines : List (ℕ × GroupAddr)) → AllPairs Apart lines → All (λ l. raw_of l < 65536) (links_of lines) → IsDistinct eqb (map precedence (links_of lines))
+pub distinct : (lines : List (ℕ × GroupAddr)) → AllPairs Apart lines → All IsLink (links_of lines) → IsDistinct eqb (map precedence (links_of lines))
 distinct lines apart small = IsDistinct-from_AllPairs Decides-eqb (map precedence (links_of lines)) (λ i j d below lt same.
     let lt' : j < length (links_of lines) = omega (arith, lt, length-map (links_of lines) precedence) in
     let within : j < length lines = omega (arith, length-links_of lines) in
     let none : ℕ × GroupAddr = (0, record { raw = 0 }) in
     let at : (k : ℕ) → k < length lines → get_or (map precedence (links_of lines)) k d ≡ precedence (link_at lines k (get_or lines k none)) = λ k less. get_or-map precedence (links_of lines) k no_link d (let h : k < length (links_of lines) = omega (arith, less, length-links_of lines) in h) ∙ ap precedence (get_or-links_of lines k none no_link less) in
-    let is_small : (k : ℕ) → k < length lines → (get_or lines k none).1.raw < 65536 = λ k less. subst (λ (l : LinkSpec). raw_of l < 65536) (get_or-links_of lines k none no_link less) (small k no_link (omega (arith, less, length-links_of lines))) in
+    let is_small : (k : ℕ) → k < length lines → (get_or lines k none).1.raw < 65536 = λ k less. subst (λ (l : LinkSpec). raw_of l < 65536) (get_or-links_of lines k none no_link less) (small k no_link (omega (arith, less, length-links_of lines))).1 in
     let less : i < length lines = omega (arith, below, within) in
     let e = sym (at i less) ∙ same ∙ at j within in
     let both = ranks (get_or lines i none).0 (get_or lines i none).1.raw (get_or lines j none).0 (get_or lines j none).1.raw (link_at lines i (get_or lines i none)).sending (link_at lines j (get_or lines j none)).sending (is_small i less) (is_small j within) e in
@@ -57,7 +58,7 @@ pub record Linked (lines : List (ℕ × GroupAddr)) (seen : List Bool) (links : 
   pub whole : length seen ≡ 256
   pub seen_is : (n : ℕ) → n < 256 → get_or seen n false ≡ list_any (is_of_object n) (take i lines)
   pub made : links ≡ take i (links_of lines)
-  pub small : All (λ l. raw_of l < 65536) links
+  pub small : All IsLink links
 
 pub no_links : (lines : List (ℕ × GroupAddr)) → Linked lines (replicate 256 false) [] 0
 no_links lines = record {
@@ -81,18 +82,18 @@ one_link lines seen links i line lt is object_small group_small linked = record 
       let within : i < length (links_of lines) = omega (arith, lt, length-links_of lines) in
       let last : get_or (links_of lines) i no_link ≡ record { object = line.0; group = line.1; sending = not (get_or seen line.0 false) } = get_or-links_of lines i line no_link lt ∙ ap (λ (l : ℕ × GroupAddr). link_at lines i l) (sym is) ∙ ap (λ (b : Bool). record { object = line.0; group = line.1; sending = not b }) (sym (linked.seen_is line.0 object_small)) in
       (λ k. linked.made k ++ sym last k ∷ []) ∙ sym (take_more (links_of lines) i no_link within);
-  small = All-push (λ l. raw_of l < 65536) links (record { object = line.0; group = line.1; sending = not (get_or seen line.0 false) }) linked.small group_small;
+  small = All-push IsLink links (record { object = line.0; group = line.1; sending = not (get_or seen line.0 false) }) linked.small (object_small, group_small);
 }
 
 abbrev pub no_line : ℕ × GroupAddr
 no_line = (0, record { raw = 0 })
 
 pub link_step : (lines : List (ℕ × GroupAddr)) (seen : List Bool) (links now : List LinkSpec) (i at number : ℕ) (link : LinkSpec) → i < length lines → at ≡ (get_or lines i no_line).0 → number ≡ (get_or lines i no_line).0 → number < 256
-    → link ≡ record { object = (get_or lines i no_line).0; group = (get_or lines i no_line).1; sending = not (get_or seen at false) } → raw_of link < 65536 → now ≡ links ++ link ∷ [] → Linked lines seen links i → Linked lines (set seen number true) now (i + 1)
-link_step lines seen links now i at number link lt at_is number_is object_small link_is group_small now_is linked =
+    → link ≡ record { object = (get_or lines i no_line).0; group = (get_or lines i no_line).1; sending = not (get_or seen at false) } → IsLink link → now ≡ links ++ link ∷ [] → Linked lines seen links i → Linked lines (set seen number true) now (i + 1)
+link_step lines seen links now i at number link lt at_is number_is object_small link_is small now_is linked =
     let line : ℕ × GroupAddr = get_or lines i no_line in
     let made : link ≡ record { object = line.0; group = line.1; sending = not (get_or seen line.0 false) } = link_is ∙ ap (λ (n : ℕ). record { object = line.0; group = line.1; sending = not (get_or seen n false) }) at_is in
-    rw (now_is, made, number_is) (one_link lines seen links i line lt (get_or_default lines i no_line line lt) (rw number_is at object_small) (rw made at group_small) linked)
+    rw (now_is, made, number_is) (one_link lines seen links i line lt (get_or_default lines i no_line line lt) (rw number_is at object_small) (rw made at small).1 linked)
 
 pub all_links : (lines : List (ℕ × GroupAddr)) (seen : List Bool) (links : List LinkSpec) (i : ℕ) → length lines ≤ i → Linked lines seen links i → links ≡ links_of lines
 all_links lines seen links i le linked = linked.made ∙ take_all i (links_of lines) (omega (arith, le, length-links_of lines))
@@ -102,5 +103,5 @@ all_links lines seen links i le linked = linked.made ∙ take_all i (links_of li
 pub few_links : (catalogue : List NamedModel) (device : IndAddr) (ss : List Statement) → first_broken catalogue ss ≡ None → length (links_of (link_lines device ss)) ≤ 2047
 few_links catalogue device ss sound = rw (length-links_of (link_lines device ss)) (few_lines catalogue device ss sound)
 
-pub once : (catalogue : List NamedModel) (device : IndAddr) (ss : List Statement) → first_broken catalogue ss ≡ None → All (λ l. raw_of l < 65536) (links_of (link_lines device ss)) → IsDistinct eqb (map precedence (links_of (link_lines device ss)))
+pub once : (catalogue : List NamedModel) (device : IndAddr) (ss : List Statement) → first_broken catalogue ss ≡ None → All IsLink (links_of (link_lines device ss)) → IsDistinct eqb (map precedence (links_of (link_lines device ss)))
 once catalogue device ss sound small = distinct (link_lines device ss) (lines_apart catalogue device ss sound) small

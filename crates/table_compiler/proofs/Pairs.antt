@@ -11,7 +11,7 @@ use Rattle.knx_model.specs.declared.config.Config.{Config}
 use Rattle.knx_model.specs.declared.config.Image.{Image}
 use Rattle.knx_model.specs.declared.config.LinkSpec.{LinkSpec}
 use Rattle.knx_model.specs.Tables.{StandsFor, raw_of, place, place_and_object, IsLinked}
-use Rattle.table_compiler.proofs.Places.{no_link, place_is}
+use Rattle.table_compiler.proofs.GroupPlaces.{no_link, place_is}
 
 -- what is listed stands at its place
 stands_at : (groups : List ℕ) (g : ℕ) → Contains groups g → (position_or_len (λ x. eqb x g) groups < length groups) × (get_or groups (position_or_len (λ x. eqb x g) groups) 0 ≡ g)

@@ -17,7 +17,7 @@ use Rattle.knx_model.specs.Models.{field_in, name_of, IsField, IsModel, AreApart
 use Rattle.knx_model.specs.Parameters.{set_value, laid, laid_field, first_bit, IsSetting, AreSettings}
 use Rattle.knx_model.specs.Rules.{is_out_of}
 use Rattle.table_compiler.specs.Settings.{valued, settings}
-use Rattle.table_compiler.proofs.Places.{eqb_sym}
+use Rattle.table_compiler.proofs.GroupPlaces.{eqb_sym}
 
 abbrev bit_of : ModelField → ℕ
 bit_of f = f.bit

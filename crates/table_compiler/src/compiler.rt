@@ -4,6 +4,7 @@ ghost use Rattle.std.specs.Prelude.{◌≡◌, None, List as Seq, map, All, IsPe
 ghost use Rattle.std.specs.List.{AllZip};
 ghost use Rattle.std.specs.List.Sorted.{IsStrictlyIncreasing};
 ghost use Rattle.knx_model.specs.declared.address.IndAddr.{IndAddr as Device};
+ghost use Rattle.knx_model.specs.Acts.{IsInRange};
 ghost use Rattle.knx_model.specs.Device.{Fits};
 ghost use Rattle.knx_model.specs.Meaning.{meaning};
 ghost use Rattle.knx_model.specs.Rules.{first_broken, devices_of};
@@ -15,6 +16,7 @@ use crate::links::{link_lines, links_of};
 use crate::models::{inline, model_of};
 use crate::objects::objects_of;
 use crate::parameters::settings;
+use crate::places::Places;
 use crate::tables::image_of;
 use knx_model::{Catalogue, Image, IndAddr, List, NoMemory, Statement};
 use parameter_memory::lay;
@@ -25,6 +27,7 @@ use std::alloc::{AllocError, Global};
 pub fn compile(alloc: Global, checked: &Checked<'_>, device: IndAddr) -> Result<Image, NoMemory>
     ensures stands { IfOk result (λ image. StandsFor image (meaning checked.now device)) }
     ensures fits { IfOk result (λ image. Fits image) }
+    ensures in_range { IfOk result (λ _. IsInRange (meaning checked.now device)) }
 {
     compile_statements(alloc, checked.catalogue(), checked.statements(), device)
 }
@@ -45,6 +48,7 @@ pub fn compile_all(alloc: Global, checked: &Checked<'_>) -> Result<List<Image>, 
 /// The image of a device, from its own lines.
 fn compile_lines(
     alloc: Global,
+    places: &mut Places,
     catalogue: &Catalogue,
     lines: &[&Statement],
     device: IndAddr,
@@ -52,6 +56,7 @@ fn compile_lines(
     requires { AreLinesOf catalogue.now device (map (λ s. s.now) lines.now) }
     ensures stands { IfOk result (λ image. StandsFor image (meaning (record { statements = map (λ s. s.now) lines.now; catalogue = catalogue.now }) device)) }
     ensures fits { IfOk result (λ image. Fits image) }
+    ensures in_range { IfOk result (λ _. IsInRange (meaning (record { statements = map (λ s. s.now) lines.now; catalogue = catalogue.now }) device)) }
 {
     let inline = inline(alloc);
     let model = model_of(catalogue, &inline, lines, device);
@@ -60,7 +65,7 @@ fn compile_lines(
     let objects = objects_of(alloc, model, lines, device)?;
     let settings = settings(alloc, model, lines, device)?;
     let params = lay(alloc, model, settings.as_slice())?;
-    image_of(alloc, links.as_slice(), objects.as_slice(), params)
+    image_of(alloc, places, links.as_slice(), objects.as_slice(), params)
 }
 
 /// The image of a device of a text that breaks no rule.
@@ -73,9 +78,11 @@ fn compile_statements(
     requires { first_broken catalogue.now statements.now ≡ None }
     ensures stands { IfOk result (λ image. StandsFor image (meaning (record { statements = statements.now; catalogue = catalogue.now }) device)) }
     ensures fits { IfOk result (λ image. Fits image) }
+    ensures in_range { IfOk result (λ _. IsInRange (meaning (record { statements = statements.now; catalogue = catalogue.now }) device)) }
 {
+    let mut places = Places::new(alloc)?;
     let lines = lines_of(alloc, statements, device)?;
-    compile_lines(alloc, catalogue, lines.as_slice(), device)
+    compile_lines(alloc, &mut places, catalogue, lines.as_slice(), device)
 }
 
 fn numbers_of(alloc: Global, devices: &[IndAddr]) -> Result<Vec<u16>, AllocError>
@@ -98,9 +105,16 @@ fn compile_devices(
 {
     let numbers = numbers_of(alloc, devices)?;
     let groups = lines_by_device(alloc, numbers.as_slice(), statements)?;
+    let mut places = Places::new(alloc)?;
     let mut images = List::new(alloc);
     for place in 0..devices.len() {
-        let image = compile_lines(alloc, catalogue, &groups[place], devices[place])?;
+        let image = compile_lines(
+            alloc,
+            &mut places,
+            catalogue,
+            &groups[place],
+            devices[place],
+        )?;
         images.push(image)?;
     }
     Ok(images)

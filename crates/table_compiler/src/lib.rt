@@ -8,6 +8,7 @@ mod links;
 mod models;
 mod objects;
 mod parameters;
+mod places;
 mod tables;
 
 pub use compiler::{compile, compile_all};

@@ -4,7 +4,9 @@ ghost use Rattle.std.specs.Prelude.{◌≡◌, ◌==◌, ℕ, ◌<◌, true, fal
 ghost use Rattle.std.specs.List.Sorted.{IsStrictlyIncreasing};
 ghost use Rattle.knx_model.specs.declared.project.Statement.{Statement as Stated};
 ghost use Rattle.table_compiler.specs.Lines.{names, lines_of, AreGrouped};
+ghost use Rattle.table_compiler.specs.Places.{ArePlaces};
 
+use crate::places::Places;
 use knx_model::{IndAddr, Statement, What};
 use std::alloc::{AllocError, Global};
 
@@ -52,30 +54,34 @@ fn device_of(what: &What) -> Option<IndAddr>
 }
 
 /// The place of the device that a statement names, where it stands among these numbers.
-fn place_of(numbers: &[u16], what: &What) -> Option<usize>
-    requires { IsStrictlyIncreasing numbers.now }
+fn place_of(places: &Places, numbers: &[u16], what: &What) -> Option<usize>
+    requires { ArePlaces places.now numbers.now }
     ensures some { IfSome result (λ place. (place < length numbers.now) × (names (slice_index numbers.now place) what.now ≡ true)) }
     ensures none { IfNone result ((k : ℕ) → k < length numbers.now → names (slice_index numbers.now k) what.now ≡ false) }
 {
     let device = device_of(what)?;
-    match numbers.binary_search(&device.raw) {
-        Ok(place) => Some(place),
-        Err(_) => None,
+    let place = usize::from(places.place(device.raw));
+    if place < numbers.len() && numbers[place] == device.raw {
+        Some(place)
+    } else {
+        None
     }
 }
 
 /// Adds a statement to the lines of the device that it names.
 fn add<'a>(
     groups: &mut [Vec<&'a Statement>],
+    places: &Places,
     numbers: &[u16],
     statement: &'a Statement,
 ) -> Result<(), AllocError>
+    requires places { ArePlaces places.now numbers.now }
     requires ascending { IsStrictlyIncreasing numbers.now }
     requires whole { length groups.old ≡ length numbers.now }
     ensures whole { length groups.new ≡ length numbers.now }
     ensures added { OnOk result ((ss : List Stated) → AreGrouped numbers.now groups.old ss → AreGrouped numbers.now groups.new (ss ++ statement.now ∷ [])) }
 {
-    if let Some(place) = place_of(numbers, &statement.what) {
+    if let Some(place) = place_of(places, numbers, &statement.what) {
         groups[place].push(statement)?;
     }
     Ok(())
@@ -101,9 +107,11 @@ pub fn lines_by_device<'a>(
     requires { IsStrictlyIncreasing numbers.now }
     ensures { IfOk result (λ groups. AreGrouped numbers.now groups.items statements.now) }
 {
+    let mut places = Places::new(alloc)?;
+    places.list(numbers);
     let mut groups = no_lines(alloc, numbers)?;
     for statement in statements {
-        add(&mut groups, numbers, statement)?;
+        add(&mut groups, &places, numbers, statement)?;
     }
     Ok(groups)
 }

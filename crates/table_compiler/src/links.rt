@@ -1,8 +1,8 @@
 //! The links of a device, in order; the first of an object is its sending one.
 
-ghost use Rattle.std.specs.Prelude.{◌≡◌, ◌<◌, not, map, IfOk, All};
+ghost use Rattle.std.specs.Prelude.{◌≡◌, not, map, IfOk, All};
 ghost use Rattle.knx_model.specs.Meaning.{link_line, link_lines, links_of};
-ghost use Rattle.knx_model.specs.Tables.{raw_of};
+ghost use Rattle.table_compiler.specs.Order.{IsLink};
 
 use knx_model::{GroupAddr, IndAddr, LinkSpec, Statement, What};
 use std::alloc::{AllocError, Global};
@@ -45,7 +45,7 @@ pub fn link_lines(
 /// The link of a line.
 fn link(object: u8, group: GroupAddr, sending: bool) -> LinkSpec
     ensures value { result ≡ record { object = object; group = group; sending = sending } }
-    ensures small { raw_of result < 65536 }
+    ensures small { IsLink result }
 {
     LinkSpec {
         object,
@@ -57,10 +57,10 @@ fn link(object: u8, group: GroupAddr, sending: bool) -> LinkSpec
 /// One link for each line, in order.
 pub fn links_of(alloc: Global, lines: &[(u8, GroupAddr)]) -> Result<Vec<LinkSpec>, AllocError>
     ensures links { IfOk result (λ links. links.items ≡ links_of lines.now) }
-    ensures small { IfOk result (λ links. All (λ l. raw_of l < 65536) links.items) }
+    ensures small { IfOk result (λ links. All IsLink links.items) }
 {
     let mut seen = [false; 256];
-    let mut links = Vec::new(alloc);
+    let mut links = Vec::with_capacity(alloc, lines.len())?;
     for line in lines {
         let (object, group) = *line;
         let sending = !seen[usize::from(object)];

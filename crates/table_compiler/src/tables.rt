@@ -1,14 +1,17 @@
 //! The address table, the association table and the group objects' table, from links and objects.
 
-ghost use Rattle.std.specs.Prelude.{◌≡◌, ℕ, ◌<◌, ◌≤◌, ◌↔◌, length, map, IfOk, Contains, IsPermutation, nat_eq, All};
+ghost use Rattle.std.specs.Prelude.{◌≡◌, ℕ, ◌<◌, ◌≤◌, ◌↔◌, ◌++◌, length, map, IfOk, Contains, IsPermutation, nat_eq, All};
 ghost use Rattle.std.specs.List.{IsDistinct};
 ghost use Rattle.std.specs.List.Sorted.{IsStrictlyIncreasing, IsNonDecreasingBy};
 ghost use Rattle.knx_model.specs.declared.config.Config.{Config};
 ghost use Rattle.knx_model.specs.Device.{Fits};
 ghost use Rattle.knx_model.specs.Parameters.{HoldsParameters};
-ghost use Rattle.knx_model.specs.Tables.{raw_of, precedence, place, address_list, association_list, object_list, StandsFor};
+ghost use Rattle.knx_model.specs.Tables.{raw_of, precedence, place, two, address_list, association_list, object_list, StandsFor};
+ghost use Rattle.table_compiler.specs.Order.{IsLink, link_at};
+ghost use Rattle.table_compiler.specs.Places.{ArePlaces};
 
-use knx_model::{Image, LinkSpec, NoMemory, ObjSpec, Octets};
+use crate::places::Places;
+use knx_model::{GroupAddr, Image, LinkSpec, NoMemory, ObjSpec, Octets};
 use std::alloc::{AllocError, Global};
 
 fn raw_groups(alloc: Global, links: &[LinkSpec]) -> Result<Vec<u16>, AllocError>
@@ -42,27 +45,52 @@ fn precedence(link: LinkSpec) -> u32
     }
 }
 
+/// The link that stands at a precedence.
+fn link_at(precedence: u32) -> LinkSpec
+    ensures { result ≡ link_at precedence }
+{
+    LinkSpec {
+        object: (precedence / 131_072 % 256) as u8,
+        group: GroupAddr {
+            raw: (precedence % 65_536) as u16,
+        },
+        sending: precedence / 65_536 % 2 == 0,
+    }
+}
+
+fn precedences(alloc: Global, links: &[LinkSpec]) -> Result<Vec<u32>, AllocError>
+    ensures { IfOk result (λ numbers. numbers.items ≡ map precedence links.now) }
+{
+    links.iter().map(|link| precedence(*link)).collect(alloc)
+}
+
+fn links_at(alloc: Global, numbers: &[u32]) -> Result<Vec<LinkSpec>, AllocError>
+    ensures { IfOk result (λ links. links.items ≡ map link_at numbers.now) }
+{
+    numbers.iter().map(|number| link_at(*number)).collect(alloc)
+}
+
 /// The links in the order of their pairs.
 fn in_order(alloc: Global, links: &[LinkSpec]) -> Result<Vec<LinkSpec>, AllocError>
+    requires { All IsLink links.now }
     ensures same { IfOk result (λ order. IsPermutation links.now order.items) }
     ensures ascending { IfOk result (λ order. IsNonDecreasingBy precedence order.items) }
 {
-    let mut order = Vec::from_slice(alloc, links)?;
-    order.sort_unstable_by_key(|link| precedence(*link));
-    Ok(order)
+    // Numbers are sorted faster than links.
+    let mut numbers = precedences(alloc, links)?;
+    numbers.sort_unstable();
+    links_at(alloc, numbers.as_slice())
 }
 
 /// The place of a group, from 1.
-fn place_of(groups: &[u16], raw: u16) -> u16
+fn place_of(places: &Places, groups: &[u16], raw: u16) -> u16
+    requires places { ArePlaces places.now groups.now }
     requires ascending { IsStrictlyIncreasing groups.now }
     requires listed { Contains groups.now raw }
     requires few { length groups.now < 65536 }
     ensures { result ≡ place groups.now raw }
 {
-    match groups.binary_search(&raw) {
-        Ok(i) => i as u16 + 1,
-        Err(_) => unreachable!(),
-    }
+    places.place(raw) + 1
 }
 
 /// A count, and the groups.
@@ -70,30 +98,43 @@ fn address_table(alloc: Global, groups: &[u16]) -> Result<Octets, NoMemory>
     requires { length groups.now < 65536 }
     ensures { IfOk result (λ octets. octets ≡ address_list groups.now) }
 {
-    let mut out = Octets::new(alloc);
-    out.append(&(groups.len() as u16).to_be_bytes())?;
+    let mut out = Vec::with_capacity(alloc, 2 + 2 * groups.len())?;
+    out.extend_from_slice(&(groups.len() as u16).to_be_bytes())?;
     for group in groups {
-        out.append(&group.to_be_bytes())?;
+        out.extend_from_slice(&group.to_be_bytes())?;
     }
-    Ok(out)
+    Ok(Octets::from_vec(out))
+}
+
+/// The octets of a pair.
+fn pair(place: u16, object: u8) -> [u8; 4]
+    ensures { result ≡ two place ++ two object }
+{
+    let [high, low] = place.to_be_bytes();
+    [high, low, 0, object]
 }
 
 /// A count, and a pair for each link.
-fn association_table(alloc: Global, groups: &[u16], order: &[LinkSpec]) -> Result<Octets, NoMemory>
+fn association_table(
+    alloc: Global,
+    places: &Places,
+    groups: &[u16],
+    order: &[LinkSpec],
+) -> Result<Octets, NoMemory>
+    requires places { ArePlaces places.now groups.now }
     requires ascending { IsStrictlyIncreasing groups.now }
     requires listed { All (λ l. Contains groups.now (raw_of l)) order.now }
     requires few { length groups.now < 65536 }
     requires few_links { length order.now < 65536 }
     ensures { IfOk result (λ octets. octets ≡ association_list groups.now order.now) }
 {
-    let mut out = Octets::new(alloc);
-    out.append(&(order.len() as u16).to_be_bytes())?;
+    let mut out = Vec::with_capacity(alloc, 2 + 4 * order.len())?;
+    out.extend_from_slice(&(order.len() as u16).to_be_bytes())?;
     for link in order {
-        let place = place_of(groups, link.group.raw);
-        out.append(&place.to_be_bytes())?;
-        out.append(&u16::from(link.object).to_be_bytes())?;
+        let place = place_of(places, groups, link.group.raw);
+        out.extend_from_slice(&pair(place, link.object))?;
     }
-    Ok(out)
+    Ok(Octets::from_vec(out))
 }
 
 /// A count, and the flag octet and size code of each object.
@@ -112,11 +153,13 @@ fn group_objects(alloc: Global, objects: &[ObjSpec]) -> Result<Octets, NoMemory>
 /// The tables of links and objects, beside a parameter memory.
 pub fn image_of(
     alloc: Global,
+    places: &mut Places,
     links: &[LinkSpec],
     objects: &[ObjSpec],
     params: Octets,
 ) -> Result<Image, NoMemory>
     requires few_links { length links.now ≤ 2047 }
+    requires links { All IsLink links.now }
     // No object is linked to a group twice.
     requires once { IsDistinct nat_eq (map precedence links.now) }
     requires few_objects { length objects.now ≤ 255 }
@@ -127,8 +170,9 @@ pub fn image_of(
     let groups = groups_of(alloc, links)?;
     let order = in_order(alloc, links)?;
     let groups = groups.as_slice();
+    places.list(groups);
     let addr = address_table(alloc, groups)?;
-    let assoc = association_table(alloc, groups, order.as_slice())?;
+    let assoc = association_table(alloc, places, groups, order.as_slice())?;
     let objs = group_objects(alloc, objects)?;
     Ok(Image {
         addr,

@@ -25,28 +25,46 @@ fn octets_of(alloc: Global, image: &Image) -> Result<Vec<u8>, AllocError> {
     Ok(out)
 }
 
+/// The octets of a device of a project text.
+fn compiled(
+    alloc: Global,
+    catalogue: &Catalogue,
+    text: &[u8],
+    device: IndAddr,
+) -> Result<Vec<u8>, Fail> {
+    let project = read_project(alloc, text).ok().ok_or("a project")?;
+    let checked = check(alloc, &project, catalogue)
+        .ok()
+        .ok_or("a sound project")?;
+    let image = compile(alloc, &checked, device).ok().ok_or("an image")?;
+    Ok(octets_of(alloc, &image)?)
+}
+
+/// The octets of all devices of a project text, one device behind the other.
+fn compiled_all(alloc: Global, catalogue: &Catalogue, text: &[u8]) -> Result<Vec<u8>, Fail> {
+    let project = read_project(alloc, text).ok().ok_or("a project")?;
+    let checked = check(alloc, &project, catalogue)
+        .ok()
+        .ok_or("a sound project")?;
+    let images = compile_all(alloc, &checked).ok().ok_or("images")?;
+    let mut out = Vec::new(alloc);
+    for image in images.as_slice() {
+        out.extend_from_slice(octets_of(alloc, image)?.as_slice())?;
+    }
+    Ok(out)
+}
+
 /// Two objects, each linked to a group; a device without lines has empty tables.
 #[test]
 fn a_device_is_compiled(rt: HostRuntime) -> Result<(), Fail> {
     let catalogue = Catalogue::empty(rt.alloc());
-    let project = read_project(rt.alloc(), HALL).ok().ok_or("a project")?;
-    let checked = check(rt.alloc(), &project, &catalogue)
-        .ok()
-        .ok_or("a sound project")?;
-    let image = compile(rt.alloc(), &checked, IndAddr { raw: 0x1105 })
-        .ok()
-        .ok_or("an image")?;
+    let octets = compiled(rt.alloc(), &catalogue, HALL, IndAddr { raw: 0x1105 })?;
     assert_eq!(rt;
-        octets_of(rt.alloc(), &image)?.as_slice(),
+        octets.as_slice(),
         b"\x00\x02\x00\x01\x0A\x03\x00\x02\x00\x02\x00\x01\x00\x01\x00\x02\x00\x02\x57\x00\x17\x00".as_slice()
     );
-    let image = compile(rt.alloc(), &checked, IndAddr { raw: 0x1106 })
-        .ok()
-        .ok_or("an image")?;
-    assert_eq!(rt;
-        octets_of(rt.alloc(), &image)?.as_slice(),
-        b"\x00\x00\x00\x00\x00\x00".as_slice()
-    );
+    let octets = compiled(rt.alloc(), &catalogue, HALL, IndAddr { raw: 0x1106 })?;
+    assert_eq!(rt; octets.as_slice(), [0; 6].as_slice());
     Ok(())
 }
 
@@ -55,17 +73,9 @@ fn a_device_is_compiled(rt: HostRuntime) -> Result<(), Fail> {
 #[test]
 fn all_devices_are_compiled_in_their_order(rt: HostRuntime) -> Result<(), Fail> {
     let catalogue = Catalogue::empty(rt.alloc());
-    let project = read_project(rt.alloc(), THREE).ok().ok_or("a project")?;
-    let checked = check(rt.alloc(), &project, &catalogue)
-        .ok()
-        .ok_or("a sound project")?;
-    let images = compile_all(rt.alloc(), &checked).ok().ok_or("images")?;
-    let mut out = Vec::new(rt.alloc());
-    for image in images.as_slice() {
-        out.extend_from_slice(octets_of(rt.alloc(), image)?.as_slice())?;
-    }
+    let octets = compiled_all(rt.alloc(), &catalogue, THREE)?;
     assert_eq!(rt;
-        out.as_slice(),
+        octets.as_slice(),
         b"\x00\x01\x00\x01\x00\x01\x00\x01\x00\x01\x00\x01\x17\x00\x00\x00\x00\x00\x00\x00\x00\x02\x00\x01\x0A\x03\x00\x02\x00\x02\x00\x03\x00\x01\x00\x03\x00\x03\x17\x07\x00\x00\x17\x00".as_slice()
     );
     Ok(())
@@ -125,15 +135,9 @@ fn dim2(alloc: Global) -> Result<List<NamedModel>, NoMemory>
 fn a_device_of_a_model_is_compiled(rt: HostRuntime) -> Result<(), Fail> {
     let models = dim2(rt.alloc()).ok().ok_or("models")?;
     let catalogue = Catalogue::of(models);
-    let project = read_project(rt.alloc(), OFFICE).ok().ok_or("a project")?;
-    let checked = check(rt.alloc(), &project, &catalogue)
-        .ok()
-        .ok_or("a sound project")?;
-    let image = compile(rt.alloc(), &checked, IndAddr { raw: 0x1114 })
-        .ok()
-        .ok_or("an image")?;
+    let octets = compiled(rt.alloc(), &catalogue, OFFICE, IndAddr { raw: 0x1114 })?;
     assert_eq!(rt;
-        octets_of(rt.alloc(), &image)?.as_slice(),
+        octets.as_slice(),
         b"\x00\x02\x08\x01\x09\x01\x00\x02\x00\x01\x00\x01\x00\x02\x00\x02\x00\x02\x97\x00\xCF\x07\x03\xE8\x08\x00".as_slice()
     );
     Ok(())

@@ -1,7 +1,14 @@
-use Rattle.std.proofs.Common.{◌≡◌, ◌++◌, drop}
+use Rattle.std.proofs.Common.{◌≡◌, ◌++◌, length, drop}
 use Rattle.knx_model.specs.ReportText.{hex_text}
 use Rattle.report_text.proofs.pieces.put_all_digits.Given as goal
 
 -- the digits so far and those of the octets that are left are all digits
+abbrev pub invariant-loop-rest : goal.invariant-loop-rest
+invariant-loop-rest l = l.out ++ hex_text l.rest ≡ l.fn.out ++ hex_text l.octets
+
+abbrev pub decreases-loop-rest : goal.decreases-loop-rest
+decreases-loop-rest l = length l.rest
+
+-- the same, where fewer than four are left
 abbrev pub invariant-loop-octet : goal.invariant-loop-octet
-invariant-loop-octet l = l.out ++ hex_text (drop l.octet-index l.octets) ≡ l.fn.out ++ hex_text l.octets
+invariant-loop-octet l = l.out ++ hex_text (drop l.octet-index l.octet-items) ≡ l.fn.out ++ hex_text l.octets

@@ -3,7 +3,7 @@ use Rattle.table_compiler.proofs.LinkLists.{no_links, link_step, all_links}
 use Rattle.table_compiler.proofs.links.links_of.Goals as goal
 
 pub loop-line-init : goal.loop-line-init
-loop-line-init c = rw c.new-links.ensures.items (no_links c.args.lines.now)
+loop-line-init c = rw c.in_ok-links.ensures.items (no_links c.args.lines.now)
 
 pub loop-line-preserved : goal.loop-line-preserved
 loop-line-preserved c =

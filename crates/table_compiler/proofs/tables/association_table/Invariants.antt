@@ -4,4 +4,4 @@ use Rattle.knx_model.specs.Tables.{two, pair}
 use Rattle.table_compiler.proofs.tables.association_table.Given as goal
 
 abbrev pub invariant-loop-link : goal.invariant-loop-link
-invariant-loop-link l = l.out ≡ two (length l.order) ++ flat_map (pair l.groups) (take l.link-index l.order)
+invariant-loop-link l = l.out.items ≡ two (length l.order) ++ flat_map (pair l.groups) (take l.link-index l.order)

@@ -1,6 +1,6 @@
 use Rattle.std.proofs.Common.{length, ap, arith}
 use Rattle.std.proofs.lemmas.List.Sorted.{length_permutation}
-use Rattle.table_compiler.proofs.Places.{listed, ascend}
+use Rattle.table_compiler.proofs.GroupPlaces.{listed, ascend}
 use Rattle.table_compiler.proofs.Lengths.{length-address_list, length-association_list, length-object_list}
 use Rattle.table_compiler.proofs.tables.image_of.Goals as goal
 
