@@ -1,29 +1,52 @@
 use super::*;
 use knx_model::{GroupAddr, IndAddr, LongValue, Value};
+use std::alloc::Global;
 use std::test::*;
 
 const DEVICE: IndAddr = IndAddr { raw: 0x1105 };
 
 const GROUP: GroupAddr = GroupAddr { raw: 0x0A03 };
 
+/// Whether a script is this only line.
+fn says(alloc: Global, text: &[u8], what: &ScriptWhat) -> bool {
+    match read_script(alloc, text) {
+        Ok(script) => match script.lines.as_slice() {
+            [only] => only.line == 1 && only.what == *what,
+            _ => false,
+        },
+        Err(_) => false,
+    }
+}
+
 #[test]
-fn each_line_is_read(rt: HostRuntime) -> Result<(), Fail> {
-    let written = |value| GroupService::Write(value);
-    let telegram = |after, service| ScriptWhat::Group {
-        after,
-        group: GROUP,
-        service,
-    };
+fn the_lines_of_the_tunnel_are_read(rt: HostRuntime) {
     let table = [
         (b"lose up 1".as_slice(), ScriptWhat::LoseUp(1)),
         (b"lose down 0x10", ScriptWhat::LoseDown(16)),
-        (b"lose to 1.1.5 3", ScriptWhat::LoseTo(DEVICE, 3)),
-        (b"lose from 1.1.5 4", ScriptWhat::LoseFrom(DEVICE, 4)),
         (b"repeat up 005", ScriptWhat::RepeatUp(5)),
         (
             b"repeat down 4294967295",
             ScriptWhat::RepeatDown(4_294_967_295),
         ),
+        (
+            b"refuse 11 fF",
+            ScriptWhat::Refuse {
+                n: 11,
+                status: 0xFF,
+            },
+        ),
+        (b"drop channel 12", ScriptWhat::DropChannel(12)),
+    ];
+    for (text, what) in table {
+        assert!(rt; says(rt.alloc(), text, &what));
+    }
+}
+
+#[test]
+fn the_lines_of_a_device_are_read(rt: HostRuntime) {
+    let table = [
+        (b"lose to 1.1.5 3".as_slice(), ScriptWhat::LoseTo(DEVICE, 3)),
+        (b"lose from 1.1.5 4", ScriptWhat::LoseFrom(DEVICE, 4)),
         (b"repeat to 1.1.5 7", ScriptWhat::RepeatTo(DEVICE, 7)),
         (
             b"\tcut 1.1.5  8 0 # nothing new",
@@ -35,39 +58,32 @@ fn each_line_is_read(rt: HostRuntime) -> Result<(), Fail> {
         ),
         (b"worn 1.1.5 9", ScriptWhat::Worn(DEVICE, 9)),
         (b"close 1.1.5 10", ScriptWhat::CloseAfter(DEVICE, 10)),
-        (
-            b"refuse 11 fF",
-            ScriptWhat::Refuse {
-                n: 11,
-                status: 0xFF,
-            },
-        ),
-        (b"drop channel 12", ScriptWhat::DropChannel(12)),
         (b"off 1.1.5", ScriptWhat::Off(DEVICE)),
-        (b"group 1/2/3 read", telegram(false, GroupService::Read)),
-        (
-            b"group 1/2/3 s3f",
-            telegram(false, written(Value::Short(0x3F))),
-        ),
-        (
-            b"then group 1/2/3 000102030405060708090a0b0C0D",
-            telegram(
-                true,
-                written(Value::Long(LongValue::from_slice(&[
-                    0, 1, 2, 3, 4, 5, 6, 7, 8, 9, 10, 11, 12, 13,
-                ]))),
-            ),
-        ),
     ];
     for (text, what) in table {
-        let script = read_script(rt.alloc(), text).ok().ok_or("a script")?;
-        let [only] = script.lines.as_slice() else {
-            return Err("one line".into());
-        };
-        assert_eq!(rt; only.line, 1);
-        assert!(rt; only.what == what);
+        assert!(rt; says(rt.alloc(), text, &what));
     }
-    Ok(())
+}
+
+#[test]
+fn the_telegrams_of_a_group_are_read(rt: HostRuntime) {
+    let short = GroupService::Write(Value::Short(0x3F));
+    let long = GroupService::Write(Value::Long(LongValue::from_slice(&[
+        0, 1, 2, 3, 4, 5, 6, 7, 8, 9, 10, 11, 12, 13,
+    ])));
+    let table = [
+        (b"group 1/2/3 read".as_slice(), false, GroupService::Read),
+        (b"group 1/2/3 s3f", false, short),
+        (b"then group 1/2/3 000102030405060708090a0b0C0D", true, long),
+    ];
+    for (text, after, service) in table {
+        let telegram = ScriptWhat::Group {
+            after,
+            group: GROUP,
+            service,
+        };
+        assert!(rt; says(rt.alloc(), text, &telegram));
+    }
 }
 
 #[test]
