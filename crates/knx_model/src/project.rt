@@ -5,18 +5,18 @@ use crate::words::Name;
 
 /// What a statement says. Flags are the flag octet and sizes the size code of the group objects' table.
 #[derive(Debug, Drop)]
-pub enum What<'a> {
+pub enum What {
     /// `project NAME`
-    Title(Name<'a>),
+    Title(Name),
     /// `ga GA NAME`
     Group {
         group: GroupAddr,
-        name: Name<'a>,
+        name: Name,
     },
     /// `device IA MODEL`
     Device {
         device: IndAddr,
-        model: Name<'a>,
+        model: Name,
     },
     /// `object IA N SIZE FLAGS`
     Object {
@@ -40,14 +40,14 @@ pub enum What<'a> {
     /// `param IA NAME VALUE`
     Param {
         device: IndAddr,
-        name: Name<'a>,
+        name: Name,
         value: u32,
     },
 }
 
 /// A statement, and the number of its line, from 1.
 #[derive(Debug, Drop)]
-pub struct Statement<'a> {
+pub struct Statement {
     pub line: u32,
-    pub what: What<'a>,
+    pub what: What,
 }

@@ -12,7 +12,7 @@ use knx_model::{
 
 /// `project NAME`
 #[tactic(auto, unfolding(knx_model::specs::Statements::title_says))]
-fn title_in(rest: &[u8]) -> Result<What<'_>, Why>
+fn title_in(rest: &[u8]) -> Result<What, Why>
     ensures read { Answers (λ x. x) result (title_says (words rest.now)) }
     ensures spelled { IfOk result (λ what. IsTrue (is_spellable what)) }
 {
@@ -23,7 +23,7 @@ fn title_in(rest: &[u8]) -> Result<What<'_>, Why>
 
 /// `ga GA NAME`
 #[tactic(auto, unfolding(knx_model::specs::Statements::ga_says))]
-fn ga_in(rest: &[u8]) -> Result<What<'_>, Why>
+fn ga_in(rest: &[u8]) -> Result<What, Why>
     ensures read { Answers (λ x. x) result (ga_says (words rest.now)) }
     ensures spelled { IfOk result (λ what. IsTrue (is_spellable what)) }
 {
@@ -35,7 +35,7 @@ fn ga_in(rest: &[u8]) -> Result<What<'_>, Why>
 
 /// `device IA MODEL`
 #[tactic(auto, unfolding(knx_model::specs::Statements::device_says))]
-fn device_in(rest: &[u8]) -> Result<What<'_>, Why>
+fn device_in(rest: &[u8]) -> Result<What, Why>
     ensures read { Answers (λ x. x) result (device_says (words rest.now)) }
     ensures spelled { IfOk result (λ what. IsTrue (is_spellable what)) }
 {
@@ -47,7 +47,7 @@ fn device_in(rest: &[u8]) -> Result<What<'_>, Why>
 
 /// `object IA N SIZE FLAGS`
 #[tactic(auto, unfolding(knx_model::specs::Statements::object_says))]
-fn object_in(rest: &[u8]) -> Result<What<'_>, Why>
+fn object_in(rest: &[u8]) -> Result<What, Why>
     ensures read { Answers (λ x. x) result (object_says (words rest.now)) }
     ensures spelled { IfOk result (λ what. IsTrue (is_spellable what)) }
 {
@@ -66,7 +66,7 @@ fn object_in(rest: &[u8]) -> Result<What<'_>, Why>
 
 /// `link IA N GA`
 #[tactic(auto, unfolding(knx_model::specs::Statements::link_says))]
-fn link_in(rest: &[u8]) -> Result<What<'_>, Why>
+fn link_in(rest: &[u8]) -> Result<What, Why>
     ensures read { Answers (λ x. x) result (link_says (words rest.now)) }
     ensures spelled { IfOk result (λ what. IsTrue (is_spellable what)) }
 {
@@ -83,7 +83,7 @@ fn link_in(rest: &[u8]) -> Result<What<'_>, Why>
 
 /// `flags IA N FLAGS`
 #[tactic(auto, unfolding(knx_model::specs::Statements::flags_says))]
-fn flags_in(rest: &[u8]) -> Result<What<'_>, Why>
+fn flags_in(rest: &[u8]) -> Result<What, Why>
     ensures read { Answers (λ x. x) result (flags_says (words rest.now)) }
     ensures spelled { IfOk result (λ what. IsTrue (is_spellable what)) }
 {
@@ -100,7 +100,7 @@ fn flags_in(rest: &[u8]) -> Result<What<'_>, Why>
 
 /// `param IA NAME VALUE`
 #[tactic(auto, unfolding(knx_model::specs::Statements::param_says))]
-fn param_in(rest: &[u8]) -> Result<What<'_>, Why>
+fn param_in(rest: &[u8]) -> Result<What, Why>
     ensures read { Answers (λ x. x) result (param_says (words rest.now)) }
     ensures spelled { IfOk result (λ what. IsTrue (is_spellable what)) }
 {
@@ -116,7 +116,7 @@ fn param_in(rest: &[u8]) -> Result<What<'_>, Why>
 }
 
 #[tactic(auto, unfolding(knx_model::specs::Statements::words_say))]
-fn words_in(rest: &[u8]) -> Result<Option<What<'_>>, Why>
+fn words_in(rest: &[u8]) -> Result<Option<What>, Why>
     ensures read { Answers (λ x. x) result (words_say (words rest.now)) }
     ensures spelled { IfOk result (λ said. IfSome said (λ what. IsTrue (is_spellable what))) }
 {
@@ -146,7 +146,7 @@ fn words_in(rest: &[u8]) -> Result<Option<What<'_>>, Why>
 
 /// What a line says: a statement, nothing, or the first rule that it breaks. A line that is known to be text isn't looked at again.
 #[tactic(auto, unfolding(knx_model::specs::Statements::line_says))]
-pub fn line_in(line: &[u8], is_plain: bool) -> Result<Option<What<'_>>, Why>
+pub fn line_in(line: &[u8], is_plain: bool) -> Result<Option<What>, Why>
     requires { IsTrue is_plain → IsTrue (is_text line.now) }
     ensures read { Answers (λ x. x) result (line_says line.now) }
     ensures spelled { IfOk result (λ said. IfSome said (λ what. IsTrue (is_spellable what))) }

@@ -17,9 +17,9 @@ use std::alloc::Global;
 const LONGEST_TEXT: u32 = 4_194_304;
 
 /// Adds what a line says.
-fn put<'a>(statements: &mut List<Statement<'a>>, line: u32, said: Option<What<'a>>) -> Result<(), NoMemory>
+fn put(statements: &mut List<Statement>, line: u32, said: Option<What>) -> Result<(), NoMemory>
     requires { IfSome said (λ what. IsTrue (is_spellable what)) }
-    ensures added { OnOk result (statements.new ≡ statements.old ++ stated_list line said.entry) }
+    ensures added { OnOk result (statements.new ≡ statements.old ++ stated_list line said) }
     ensures spelled { IsTrue (are_spellable statements.old) → OnOk result (IsTrue (are_spellable statements.new)) }
 {
     match said {
@@ -30,7 +30,7 @@ fn put<'a>(statements: &mut List<Statement<'a>>, line: u32, said: Option<What<'a
 
 /// The statements of a text of at most 4,194,304 octets, or why it is refused: the least line that breaks a rule, and the
 /// rule. Line 0 stands for a text that is too long and for want of memory.
-pub fn read_project(alloc: Global, octets: &[u8]) -> Result<Project<'_>, Refused>
+pub fn read_project(alloc: Global, octets: &[u8]) -> Result<Project, Refused>
     // What is read is what the text says, and a refusal is the text's, unless memory ran out.
     ensures read { Read result (reading octets.now) }
     ensures memory { IfErr result (λ e. e.why ≡ OutOfMemory → e.line ≡ 0) }

@@ -6,6 +6,7 @@ ghost use Rattle.knx_model.specs.Numbers.{is_name, is_name_octet};
 ghost use Rattle.knx_model.specs.Spells.{SpellsName};
 ghost use Rattle.knx_model.specs.Statements.{name_value};
 
+use arrayvec::ArrayVec;
 use std::marker::Model;
 
 fn is_name_octet(c: u8) -> bool
@@ -34,36 +35,39 @@ pub fn is_name(word: &str) -> bool
     is_name_in(word.as_bytes())
 }
 
-/// A name, where it stands in its text.
-#[derive(Debug, Drop)]
-pub struct Name<'a> {
-    octets: &'a [u8],
+/// A name, kept in place.
+#[derive(Clone, Debug, Drop, PartialEq, Eq)]
+pub struct Name {
+    octets: ArrayVec<u8, 32>,
 }
 
-impl<'a> Model for Name<'a> {
+impl Model for Name {
     ghost use Rattle.std.specs.Prelude.{List, ℕ};
 
     ghost Value = { List ℕ };
 
-    ghost view = { λ n. n.octets.now };
+    ghost view = { λ a. a.octets.items };
+
+    ghost inverse = { λ xs. record { octets = record { items = xs } } };
 }
 
-impl<'a> Name<'a> {
+impl Name {
     /// The name that a word is; none where it is no name.
-    pub fn of(word: &'a [u8]) -> Option<Name<'a>>
+    pub fn of(word: &[u8]) -> Option<Name>
         ensures { result ≡ name_value word.now }
     {
-        if is_name_in(word) {
-            Some(Name { octets: word })
-        } else {
-            None
+        if !is_name_in(word) {
+            return None;
         }
+        let mut octets = ArrayVec::new();
+        let _ = octets.try_extend_from_slice(word);
+        Some(Name { octets })
     }
 
-    pub fn as_slice(&self) -> &'a [u8]
+    pub fn as_slice(&self) -> &[u8]
         ensures { result.now ≡ self.now }
     {
-        self.octets
+        self.octets.as_slice()
     }
 }
 
