@@ -50,7 +50,7 @@ fn compile_lines(
     alloc: Global,
     places: &mut Places,
     catalogue: &Catalogue,
-    lines: &[&Statement<'_>],
+    lines: &[&Statement],
     device: IndAddr,
 ) -> Result<Image, NoMemory>
     requires { AreLinesOf catalogue.now device (map (λ s. s.now) lines.now) }
@@ -72,7 +72,7 @@ fn compile_lines(
 fn compile_statements(
     alloc: Global,
     catalogue: &Catalogue,
-    statements: &[Statement<'_>],
+    statements: &[Statement],
     device: IndAddr,
 ) -> Result<Image, NoMemory>
     requires { first_broken catalogue.now statements.now ≡ None }
@@ -95,7 +95,7 @@ fn numbers_of(alloc: Global, devices: &[IndAddr]) -> Result<Vec<u16>, AllocError
 fn compile_devices(
     alloc: Global,
     catalogue: &Catalogue,
-    statements: &[Statement<'_>],
+    statements: &[Statement],
     devices: &[IndAddr],
 ) -> Result<List<Image>, NoMemory>
     requires sound { first_broken catalogue.now statements.now ≡ None }

@@ -11,7 +11,7 @@ use knx_model::{IndAddr, Statement, What};
 use std::alloc::{AllocError, Global};
 
 /// Whether a statement names the device.
-fn names(device: IndAddr, what: &What<'_>) -> bool
+fn names(device: IndAddr, what: &What) -> bool
     ensures { result ≡ names device.raw what.now }
 {
     match what {
@@ -27,9 +27,9 @@ fn names(device: IndAddr, what: &What<'_>) -> bool
 /// The statements that name the device, in order.
 pub fn lines_of<'a>(
     alloc: Global,
-    statements: &'a [Statement<'a>],
+    statements: &'a [Statement],
     device: IndAddr,
-) -> Result<Vec<&'a Statement<'a>>, AllocError>
+) -> Result<Vec<&'a Statement>, AllocError>
     ensures { IfOk result (λ lines. map (λ s. s.now) lines.items ≡ lines_of device.raw statements.now) }
 {
     statements
@@ -39,7 +39,7 @@ pub fn lines_of<'a>(
 }
 
 /// The device that a statement names.
-fn device_of(what: &What<'_>) -> Option<IndAddr>
+fn device_of(what: &What) -> Option<IndAddr>
     ensures some { IfSome result (λ device. (d : ℕ) → names d what.now ≡ (device.raw == d)) }
     ensures none { IfNone result ((d : ℕ) → names d what.now ≡ false) }
 {
@@ -54,7 +54,7 @@ fn device_of(what: &What<'_>) -> Option<IndAddr>
 }
 
 /// The place of the device that a statement names, where it stands among these numbers.
-fn place_of(places: &Places, numbers: &[u16], what: &What<'_>) -> Option<usize>
+fn place_of(places: &Places, numbers: &[u16], what: &What) -> Option<usize>
     requires { ArePlaces places.now numbers.now }
     ensures some { IfSome result (λ place. (place < length numbers.now) × (names (slice_index numbers.now place) what.now ≡ true)) }
     ensures none { IfNone result ((k : ℕ) → k < length numbers.now → names (slice_index numbers.now k) what.now ≡ false) }
@@ -70,10 +70,10 @@ fn place_of(places: &Places, numbers: &[u16], what: &What<'_>) -> Option<usize>
 
 /// Adds a statement to the lines of the device that it names.
 fn add<'a>(
-    groups: &mut [Vec<&'a Statement<'a>>],
+    groups: &mut [Vec<&'a Statement>],
     places: &Places,
     numbers: &[u16],
-    statement: &'a Statement<'a>,
+    statement: &'a Statement,
 ) -> Result<(), AllocError>
     requires places { ArePlaces places.now numbers.now }
     requires ascending { IsStrictlyIncreasing numbers.now }
@@ -88,7 +88,7 @@ fn add<'a>(
 }
 
 /// No lines for each device.
-fn no_lines<'a>(alloc: Global, numbers: &[u16]) -> Result<Vec<Vec<&'a Statement<'a>>>, AllocError>
+fn no_lines<'a>(alloc: Global, numbers: &[u16]) -> Result<Vec<Vec<&'a Statement>>, AllocError>
     ensures { IfOk result (λ groups. AreGrouped numbers.now groups.items []) }
 {
     let mut groups = Vec::new(alloc);
@@ -102,8 +102,8 @@ fn no_lines<'a>(alloc: Global, numbers: &[u16]) -> Result<Vec<Vec<&'a Statement<
 pub fn lines_by_device<'a>(
     alloc: Global,
     numbers: &[u16],
-    statements: &'a [Statement<'a>],
-) -> Result<Vec<Vec<&'a Statement<'a>>>, AllocError>
+    statements: &'a [Statement],
+) -> Result<Vec<Vec<&'a Statement>>, AllocError>
     requires { IsStrictlyIncreasing numbers.now }
     ensures { IfOk result (λ groups. AreGrouped numbers.now groups.items statements.now) }
 {

@@ -23,7 +23,7 @@ pub fn inline(alloc: Global) -> Model
 }
 
 /// The model's name in a `device` line of the device.
-fn model_in<'a>(device: IndAddr, what: &'a What<'a>) -> Option<&'a [u8]>
+fn model_in<'a>(device: IndAddr, what: &'a What) -> Option<&'a [u8]>
     ensures some { IfSome result (λ name. model_in device.raw what.now ≡ Some name.now) }
     ensures none { IfNone result (model_in device.raw what.now ≡ None) }
 {
@@ -34,7 +34,7 @@ fn model_in<'a>(device: IndAddr, what: &'a What<'a>) -> Option<&'a [u8]>
 }
 
 /// The model's name in the first `device` line of the device.
-fn model_name<'a>(lines: &[&'a Statement<'a>], device: IndAddr) -> Option<&'a [u8]>
+fn model_name<'a>(lines: &[&'a Statement], device: IndAddr) -> Option<&'a [u8]>
     ensures some { IfSome result (λ name. first_some (model_in device.raw) (map (λ s. s.now) lines.now) ≡ Some name.now) }
     ensures none { IfNone result (first_some (model_in device.raw) (map (λ s. s.now) lines.now) ≡ None) }
 {
@@ -65,7 +65,7 @@ fn model_named<'a>(catalogue: &'a Catalogue, inline_model: &'a Model, name: &[u8
 pub fn model_of<'a>(
     catalogue: &'a Catalogue,
     inline_model: &'a Model,
-    lines: &[&Statement<'_>],
+    lines: &[&Statement],
     device: IndAddr,
 ) -> &'a Model
     requires { inline_model.now ≡ inline }

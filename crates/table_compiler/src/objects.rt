@@ -24,7 +24,7 @@ fn model_object(object: ModelObject) -> (u8, ObjSpec)
 }
 
 /// The number, flags and size of an `object` line of the device.
-fn object_line(device: IndAddr, what: &What<'_>) -> Option<(u8, ObjSpec)>
+fn object_line(device: IndAddr, what: &What) -> Option<(u8, ObjSpec)>
     ensures { result ≡ object_line device what.now }
 {
     match what {
@@ -53,7 +53,7 @@ fn object_line(device: IndAddr, what: &What<'_>) -> Option<(u8, ObjSpec)>
 fn declared_objects(
     alloc: Global,
     model: &Model,
-    lines: &[&Statement<'_>],
+    lines: &[&Statement],
     device: IndAddr,
 ) -> Result<Vec<(u8, ObjSpec)>, AllocError>
     ensures { IfOk result (λ objects. objects.items ≡ declared_objects model.now device (map (λ s. s.now) lines.now)) }
@@ -72,7 +72,7 @@ fn declared_objects(
 }
 
 /// Keeps the flags of a `flags` line of the device.
-fn keep_flags(last: &mut [Option<u8>; 256], device: IndAddr, what: &What<'_>)
+fn keep_flags(last: &mut [Option<u8>; 256], device: IndAddr, what: &What)
     ensures whole { length last.new ≡ 256 }
     ensures each { (n : ℕ) → n < 256 → slice_index_or last.new n None ≡ option_or (flags_line device n what.now) (slice_index_or last.old n None) }
 {
@@ -89,7 +89,7 @@ fn keep_flags(last: &mut [Option<u8>; 256], device: IndAddr, what: &What<'_>)
 }
 
 /// The flags of the last `flags` line of each object of the device.
-fn last_flags(lines: &[&Statement<'_>], device: IndAddr) -> [Option<u8>; 256]
+fn last_flags(lines: &[&Statement], device: IndAddr) -> [Option<u8>; 256]
     ensures whole { length result ≡ 256 }
     ensures each { HoldsFlags result device (map (λ s. s.now) lines.now) }
 {
@@ -117,7 +117,7 @@ fn flagged(last: &[Option<u8>; 256], object: (u8, ObjSpec)) -> (u8, ObjSpec)
 fn flagged_objects(
     alloc: Global,
     model: &Model,
-    lines: &[&Statement<'_>],
+    lines: &[&Statement],
     device: IndAddr,
 ) -> Result<Vec<(u8, ObjSpec)>, AllocError>
     ensures { IfOk result (λ objects. objects.items ≡ flagged_objects model.now device (map (λ s. s.now) lines.now)) }
@@ -153,7 +153,7 @@ fn table_of(objects: &[(u8, ObjSpec)]) -> [ObjSpec; 256]
 pub fn objects_of(
     alloc: Global,
     model: &Model,
-    lines: &[&Statement<'_>],
+    lines: &[&Statement],
     device: IndAddr,
 ) -> Result<Vec<ObjSpec>, AllocError>
     ensures objects { IfOk result (λ objects. objects.items ≡ objects_of (flagged_objects model.now device (map (λ s. s.now) lines.now))) }

@@ -6,7 +6,6 @@ ghost use Rattle.knx_model.specs.Numbers.{is_name, is_name_octet};
 ghost use Rattle.knx_model.specs.Spells.{SpellsName};
 ghost use Rattle.knx_model.specs.Statements.{name_value};
 
-use arrayvec::ArrayVec;
 use std::marker::Model;
 
 fn is_name_octet(c: u8) -> bool
@@ -36,19 +35,20 @@ pub fn is_name(word: &str) -> bool
 }
 
 /// A name, kept in place.
-#[derive(Clone, Debug, Drop, PartialEq, Eq)]
+#[derive(Debug, Drop)]
 pub struct Name {
-    octets: ArrayVec<u8, 32>,
+    octets: [u8; 32],
+    len: u8,
 }
 
 impl Model for Name {
-    ghost use Rattle.std.specs.Prelude.{List, ℕ};
+    ghost use Rattle.std.specs.Prelude.{List, ℕ, take, ◌≤◌};
 
     ghost Value = { List ℕ };
 
-    ghost view = { λ a. a.octets.items };
+    ghost view = { λ n. take n.len n.octets };
 
-    ghost inverse = { λ xs. record { octets = record { items = xs } } };
+    ghost invariant = { λ n. n.len ≤ 32 };
 }
 
 impl Name {
@@ -59,15 +59,19 @@ impl Name {
         if !is_name_in(word) {
             return None;
         }
-        let mut octets = ArrayVec::new();
-        let _ = octets.try_extend_from_slice(word);
-        Some(Name { octets })
+        let len = word.len();
+        let mut octets = [0; 32];
+        octets[..len].copy_from_slice(word);
+        Some(Name {
+            octets,
+            len: len as u8,
+        })
     }
 
     pub fn as_slice(&self) -> &[u8]
         ensures { result.now ≡ self.now }
     {
-        self.octets.as_slice()
+        &self.octets[..usize::from(self.len)]
     }
 }
 
