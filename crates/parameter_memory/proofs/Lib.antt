@@ -2,3 +2,4 @@ pub mod Digits
 pub mod Written
 pub mod Holds
 pub mod One
+pub mod Example

@@ -10,3 +10,6 @@ pub use knx_model::{Model, ModelField, NoMemory, Octets, ParamValue};
 pub use laws::{one_memory, setting_or_default};
 pub use laying::lay;
 pub use reading::value_at;
+
+#[cfg(test)]
+mod tests;
