@@ -191,59 +191,57 @@ fn zero_values(rt: HostRuntime) {
     assert!(rt; takes_form(6, &zero_value(6)) && !takes_form(15, &zero_value(15)));
 }
 
-/// Lists that don't ascend, end too soon, or have another count than entries.
+/// The addresses 0/0/1 and 1/2/3.
+const TWO: &[u8] = b"\x00\x02\x00\x01\x0A\x03";
+
+/// The second address with object 5.
+const SECOND: &[u8] = b"\x00\x01\x00\x02\x00\x05";
+
+/// Fails where the tables don't link just these objects to 1/2/3.
+fn assert_linked(rt: &impl Abort, addr: &[u8], assoc: &[u8], objects: &[u8]) {
+    let set = linked(addr, assoc, GroupAddr { raw: 0x0A03 });
+    assert_objects(rt, &set, objects);
+}
+
 #[test]
-fn any_octets(rt: HostRuntime) {
-    let two: &[u8] = b"\x00\x02\x00\x01\x0A\x03";
-    let rows: [(&[u8], &[u8], &[u8]); 15] = [
-        // The group stands at the places 1 and 3, and the pairs of an object lie apart.
-        (
-            b"\x00\x03\x0A\x03\x00\x01\x0A\x03",
-            b"\x00\x04\x00\x03\x00\x09\x00\x02\x00\x04\x00\x01\x00\x02\x00\x03\x00\x04",
-            &[2, 4, 9],
-        ),
-        // The count of the addresses is above the list, and below it.
-        (
-            b"\xFF\xFF\x00\x01\x0A\x03",
-            b"\x00\x01\x00\x02\x00\x05",
-            &[5],
-        ),
-        (
-            b"\x00\x01\x00\x01\x0A\x03",
-            b"\x00\x01\x00\x02\x00\x05",
-            &[],
-        ),
-        // An address isn't whole.
-        (b"\x00\x02\x00\x01\x0A", b"\x00\x01\x00\x02\x00\x05", &[]),
-        // The count of the pairs is above the list, and below it.
-        (two, b"\xFF\xFF\x00\x02\x00\x05\x00\x02\x00\x06", &[5, 6]),
-        (two, b"\x00\x01\x00\x02\x00\x05\x00\x02\x00\x06", &[5]),
-        // A pair isn't whole.
-        (two, b"\x00\x02\x00\x02\x00\x05\x00\x02\x00", &[5]),
-        // A place of 0, and one after the last.
-        (two, b"\x00\x02\x00\x00\x00\x05\x00\x03\x00\x06", &[]),
-        // The count is no entry.
-        (b"\x0A\x03", b"\x00\x01\x00\x00\x00\x05", &[]),
-        // The numbers 0, 255, 256 and 261.
-        (
-            two,
-            b"\x00\x04\x00\x02\x00\x00\x00\x02\x00\xFF\x00\x02\x01\x00\x00\x02\x01\x05",
-            &[255],
-        ),
-        // No count.
-        (b"", b"\x00\x01\x00\x01\x00\x05", &[]),
-        (b"\x00", b"\x00\x01\x00\x01\x00\x05", &[]),
-        (two, b"", &[]),
-        (two, b"\x00", &[]),
-        (two, b"\x00\x00\x00\x02\x00\x05", &[]),
-    ];
-    for (addr, assoc, objects) in rows {
-        assert_objects(
-            &rt,
-            &linked(addr, assoc, GroupAddr { raw: 0x0A03 }),
-            objects,
-        );
-    }
+fn address_tables_of_any_octets(rt: HostRuntime) {
+    // the group stands at the places 1 and 3, and the pairs of an object lie apart
+    let places = b"\x00\x04\x00\x03\x00\x09\x00\x02\x00\x04\x00\x01\x00\x02\x00\x03\x00\x04";
+    assert_linked(&rt, b"\x00\x03\x0A\x03\x00\x01\x0A\x03", places, &[2, 4, 9]);
+    // the count is above the list, and below it
+    assert_linked(&rt, b"\xFF\xFF\x00\x01\x0A\x03", SECOND, &[5]);
+    assert_linked(&rt, b"\x00\x01\x00\x01\x0A\x03", SECOND, &[]);
+    // an address isn't whole
+    assert_linked(&rt, b"\x00\x02\x00\x01\x0A", SECOND, &[]);
+    // the count is no entry
+    assert_linked(&rt, b"\x0A\x03", b"\x00\x01\x00\x00\x00\x05", &[]);
+    // no count
+    let first = b"\x00\x01\x00\x01\x00\x05";
+    assert_linked(&rt, b"", first, &[]);
+    assert_linked(&rt, b"\x00", first, &[]);
+}
+
+#[test]
+fn association_tables_of_any_octets(rt: HostRuntime) {
+    // the count is above the list, and below it
+    assert_linked(
+        &rt,
+        TWO,
+        b"\xFF\xFF\x00\x02\x00\x05\x00\x02\x00\x06",
+        &[5, 6],
+    );
+    assert_linked(&rt, TWO, b"\x00\x01\x00\x02\x00\x05\x00\x02\x00\x06", &[5]);
+    assert_linked(&rt, TWO, b"\x00\x00\x00\x02\x00\x05", &[]);
+    // a pair isn't whole
+    assert_linked(&rt, TWO, b"\x00\x02\x00\x02\x00\x05\x00\x02\x00", &[5]);
+    // a place of 0, and one after the last
+    assert_linked(&rt, TWO, b"\x00\x02\x00\x00\x00\x05\x00\x03\x00\x06", &[]);
+    // the objects 0, 255, 256 and 261
+    let objects = b"\x00\x04\x00\x02\x00\x00\x00\x02\x00\xFF\x00\x02\x01\x00\x00\x02\x01\x05";
+    assert_linked(&rt, TWO, objects, &[255]);
+    // no count
+    assert_linked(&rt, TWO, b"", &[]);
+    assert_linked(&rt, TWO, b"\x00", &[]);
 }
 
 #[test]

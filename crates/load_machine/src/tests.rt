@@ -1,6 +1,6 @@
-use crate::{LoadState, LoadableObject, Loads, Segment};
+use crate::{LoadState, LoadableObject, Loads};
 use LoadState::{Error, Loaded, Loading, Unloaded};
-use std::test::Fail;
+use std::process::Abort;
 
 const NONE: [u8; 10] = [0; 10];
 
@@ -44,62 +44,46 @@ fn in_state(state: LoadState) -> Loads {
     loads
 }
 
-#[test]
-fn each_event_in_each_state(rt: HostRuntime) -> Result<(), Fail> {
-    // the event, and what it leaves of Unloaded, Loaded, Loading and Error
-    let table: [(&[u8; 10], [(LoadState, u16); 4]); 11] = [
-        (
-            &NONE,
-            [(Unloaded, 0), (Loaded, 4), (Loading, 4), (Error, 4)],
-        ),
-        (
-            &START,
-            [(Loading, 0), (Loading, 4), (Loading, 4), (Error, 4)],
-        ),
-        (
-            &COMPLETED,
-            [(Error, 0), (Loaded, 4), (Loaded, 4), (Error, 4)],
-        ),
-        (&FOUR, [(Error, 0), (Error, 4), (Loading, 4), (Error, 4)]),
-        (
-            &AT_CAPACITY,
-            [(Error, 0), (Error, 4), (Loading, 0x0400), (Error, 4)],
-        ),
-        (
-            &OVER_CAPACITY,
-            [(Error, 0), (Error, 4), (Error, 4), (Error, 4)],
-        ),
-        (
-            &OTHER_KIND,
-            [(Error, 0), (Error, 4), (Error, 4), (Error, 4)],
-        ),
-        (
-            &OTHER_MARK,
-            [(Error, 0), (Error, 4), (Error, 4), (Error, 4)],
-        ),
-        (&OTHER_END, [(Error, 0), (Error, 4), (Error, 4), (Error, 4)]),
-        (
-            &UNLOAD,
-            [(Unloaded, 0), (Unloaded, 0), (Unloaded, 0), (Unloaded, 0)],
-        ),
-        (&OTHER, [(Error, 0), (Error, 4), (Error, 4), (Error, 4)]),
-    ];
+/// The four states, and the lengths of the segments in them.
+const STATES: [LoadState; 4] = [Unloaded, Loaded, Loading, Error];
+
+const LENGTHS: [u16; 4] = [0, 4, 4, 4];
+
+/// Fails where the event doesn't leave these states and lengths of the four states.
+fn assert_leaves(rt: &impl Abort, event: &[u8; 10], states: [LoadState; 4], lengths: [u16; 4]) {
     let object = LoadableObject::GroupObjects;
-    for (event, wanted) in table {
-        for (start, (state, len)) in [Unloaded, Loaded, Loading, Error].iter().zip(wanted.iter()) {
-            let mut loads = in_state(*start);
-            loads.event(object, event);
-            assert_eq!(rt; loads.state(object), *state, "{start:?} at {event:?}");
-            assert_eq!(rt;
-                loads.segment(object),
-                Segment {
-                    base: 0x7000,
-                    len: *len
-                },
-                "{start:?} at {event:?}"
-            );
-            assert_eq!(rt; loads.state(LoadableObject::Application), Unloaded);
-        }
+    for at in 0..4 {
+        let before = STATES[at];
+        let mut loads = in_state(before);
+        loads.event(object, event);
+        let left = (loads.state(object), loads.segment(object).len);
+        assert_eq!(rt; left, (states[at], lengths[at]), "{before:?} at {event:?}");
+        assert_eq!(rt; loads.segment(object).base, 0x7000);
+        assert_eq!(rt; loads.state(LoadableObject::Application), Unloaded);
     }
-    Ok(())
+}
+
+#[test]
+fn each_event_in_each_state(rt: HostRuntime) {
+    assert_leaves(&rt, &NONE, STATES, LENGTHS);
+    assert_leaves(&rt, &START, [Loading, Loading, Loading, Error], LENGTHS);
+    assert_leaves(&rt, &COMPLETED, [Error, Loaded, Loaded, Error], LENGTHS);
+    assert_leaves(&rt, &FOUR, [Error, Error, Loading, Error], LENGTHS);
+    assert_leaves(&rt, &UNLOAD, [Unloaded; 4], [0; 4]);
+    assert_leaves(&rt, &OTHER, [Error; 4], LENGTHS);
+}
+
+#[test]
+fn allocations_at_and_over_the_capacity_and_ill_formed(rt: HostRuntime) {
+    let at_capacity = [0, 4, 0x0400, 4];
+    assert_leaves(
+        &rt,
+        &AT_CAPACITY,
+        [Error, Error, Loading, Error],
+        at_capacity,
+    );
+    assert_leaves(&rt, &OVER_CAPACITY, [Error; 4], LENGTHS);
+    assert_leaves(&rt, &OTHER_KIND, [Error; 4], LENGTHS);
+    assert_leaves(&rt, &OTHER_MARK, [Error; 4], LENGTHS);
+    assert_leaves(&rt, &OTHER_END, [Error; 4], LENGTHS);
 }
