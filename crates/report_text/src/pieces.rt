@@ -1,6 +1,6 @@
 //! Octets as they are printed, beside numbers and addresses.
 
-ghost use Rattle.std.specs.Prelude.{◌≡◌, ◌<◌, [], ◌∷◌, ◌++◌, OnOk};
+ghost use Rattle.std.specs.Prelude.{◌≡◌, ◌<◌, ◌++◌, OnOk};
 ghost use Rattle.knx_model.specs.ReportText.{hex_digit, hex_octet, hex_text, octets_text};
 
 use knx_model::{NoMemory, Octets};
@@ -22,10 +22,11 @@ pub fn put_digits(out: &mut Octets, octet: u8) -> Result<(), NoMemory>
     out.push(hex_digit(octet & 0x0F))
 }
 
-/// The digits of four octets.
-fn digits_of_four(a: u8, b: u8, c: u8, d: u8) -> [u8; 8]
-    ensures { result ≡ hex_text (a ∷ b ∷ c ∷ d ∷ []) }
+/// The digits of eight octets.
+fn digits_of_eight(octets: [u8; 8]) -> [u8; 16]
+    ensures { result ≡ hex_text octets }
 {
+    let [a, b, c, d, e, f, g, h] = octets;
     [
         hex_digit(a / 16),
         hex_digit(a % 16),
@@ -35,16 +36,24 @@ fn digits_of_four(a: u8, b: u8, c: u8, d: u8) -> [u8; 8]
         hex_digit(c % 16),
         hex_digit(d / 16),
         hex_digit(d % 16),
+        hex_digit(e / 16),
+        hex_digit(e % 16),
+        hex_digit(f / 16),
+        hex_digit(f % 16),
+        hex_digit(g / 16),
+        hex_digit(g % 16),
+        hex_digit(h / 16),
+        hex_digit(h % 16),
     ]
 }
 
-/// Appends the digits of octets, four octets at a time.
+/// Appends the digits of octets, eight octets at a time.
 fn put_all_digits(out: &mut Octets, octets: &[u8]) -> Result<(), NoMemory>
     ensures { OnOk result (out.new ≡ out.old ++ hex_text octets.now) }
 {
     let mut rest = octets;
-    while let [a, b, c, d, next @ ..] = rest {
-        out.append(&digits_of_four(*a, *b, *c, *d))?;
+    while let [a, b, c, d, e, f, g, h, next @ ..] = rest {
+        out.append(&digits_of_eight([*a, *b, *c, *d, *e, *f, *g, *h]))?;
         rest = next;
     }
     for octet in rest {
