@@ -11,75 +11,110 @@ const ADDRESS: IndAddr = IndAddr { raw: 0x1105 };
 
 const UNLOAD_APPLICATION: [u8; 16] = [0x03, 0xD7, 4, 5, 0x10, 0x01, 4, 0, 0, 0, 0, 0, 0, 0, 0, 0];
 
+/// Fails where the service isn't answered so.
+fn assert_answers(rt: &impl Abort, device: &mut Device, apdu: &[u8], wanted: Option<&[u8]>) {
+    let answer = device.give(apdu);
+    let answer = answer.as_ref().map(|octets| octets.as_slice());
+    assert_eq!(rt; answer, wanted, "at {apdu:?}");
+}
+
+/// Fails where a property read with this count and start isn't answered by these octets.
+fn assert_reads(rt: &impl Abort, device: &mut Device, read: [u8; 4], wanted: &[u8]) {
+    let [object, property, count, start] = read;
+    assert_answers(
+        rt,
+        device,
+        &[0x03, 0xD5, object, property, count, start],
+        Some(wanted),
+    );
+}
+
 #[test]
-fn services(rt: HostRuntime) -> Result<(), Fail> {
-    let mut device = Device::blank(rt.alloc(), ADDRESS)?;
-    let table: [(&[u8], Option<&[u8]>); 15] = [
-        // descriptor, of type 0 and of another
-        (&[0x03, 0x00], Some(&[0x03, 0x40, 0x07, 0xB0])),
-        (&[0x03, 0x01], Some(&[0x03, 0x7F])),
-        // object type of the device
-        (
-            &[0x03, 0xD5, 0, 1, 0x10, 0x01],
-            Some(&[0x03, 0xD6, 0, 1, 0x10, 0x01, 0, 0]),
-        ),
-        // greatest length of an APDU
-        (
-            &[0x03, 0xD5, 0, 56, 0x10, 0x01],
-            Some(&[0x03, 0xD6, 0, 56, 0x10, 0x01, 0, 15]),
-        ),
-        // table reference of the association table
-        (
-            &[0x03, 0xD5, 2, 7, 0x10, 0x01],
-            Some(&[0x03, 0xD6, 2, 7, 0x10, 0x01, 0, 0, 0x50, 0]),
-        ),
-        // two elements, and an element other than 1
-        (
-            &[0x03, 0xD5, 2, 7, 0x20, 0x01],
-            Some(&[0x03, 0xD6, 2, 7, 0x00, 0x01]),
-        ),
-        (
-            &[0x03, 0xD5, 2, 7, 0x10, 0x00],
-            Some(&[0x03, 0xD6, 2, 7, 0x00, 0x00]),
-        ),
-        // unload the application
-        (
-            &[0x03, 0xD7, 4, 5, 0x10, 0x01, 4, 0, 0, 0, 0, 0, 0, 0, 0, 0],
-            Some(&[0x03, 0xD6, 4, 5, 0x10, 0x01, 0]),
-        ),
-        // memory that isn't allocated
-        (&[0x02, 0x04, 0x40, 0x00], Some(&[0x02, 0x40, 0x40, 0x00])),
-        // start loading the address table, allocate 4 octets, write two of them, read them, and complete
-        (
-            &[0x03, 0xD7, 1, 5, 0x10, 0x01, 1, 0, 0, 0, 0, 0, 0, 0, 0, 0],
-            Some(&[0x03, 0xD6, 1, 5, 0x10, 0x01, 2]),
-        ),
-        (
-            &[
-                0x03, 0xD7, 1, 5, 0x10, 0x01, 3, 0x0B, 0, 0, 0, 4, 1, 0, 0, 0,
-            ],
-            Some(&[0x03, 0xD6, 1, 5, 0x10, 0x01, 2]),
-        ),
-        (&[0x02, 0x82, 0x40, 0x00, 0xAB, 0xCD], None),
-        (
-            &[0x02, 0x02, 0x40, 0x00],
-            Some(&[0x02, 0x42, 0x40, 0x00, 0xAB, 0xCD]),
-        ),
-        (
-            &[0x03, 0xD7, 1, 5, 0x10, 0x01, 2, 0, 0, 0, 0, 0, 0, 0, 0, 0],
-            Some(&[0x03, 0xD6, 1, 5, 0x10, 0x01, 1]),
-        ),
-        // a group service
-        (&[0x00, 0x80], None),
-    ];
-    for (apdu, wanted) in table {
-        let answer = device.give(apdu);
-        assert_eq!(rt;
-            answer.as_ref().map(|octets| octets.as_slice()),
-            wanted,
-            "at {apdu:?}"
-        );
-    }
+fn descriptor_and_properties(rt: HostRuntime) -> Result<(), Fail> {
+    let device = &mut Device::blank(rt.alloc(), ADDRESS)?;
+    // the descriptor of type 0, and of another type
+    assert_answers(&rt, device, b"\x03\x00", Some(b"\x03\x40\x07\xB0"));
+    assert_answers(&rt, device, b"\x03\x01", Some(b"\x03\x7F"));
+    // the object type of the device, and the greatest length of an APDU
+    assert_reads(
+        &rt,
+        device,
+        [0, 1, 0x10, 1],
+        b"\x03\xD6\x00\x01\x10\x01\x00\x00",
+    );
+    assert_reads(
+        &rt,
+        device,
+        [0, 56, 0x10, 1],
+        b"\x03\xD6\x00\x38\x10\x01\x00\x0F",
+    );
+    // the table reference of the association table
+    assert_reads(
+        &rt,
+        device,
+        [2, 7, 0x10, 1],
+        b"\x03\xD6\x02\x07\x10\x01\x00\x00\x50\x00",
+    );
+    // two elements of it, and an element other than 1
+    assert_reads(&rt, device, [2, 7, 0x20, 1], b"\x03\xD6\x02\x07\x00\x01");
+    assert_reads(&rt, device, [2, 7, 0x10, 0], b"\x03\xD6\x02\x07\x00\x00");
+    Ok(())
+}
+
+/// Fails where a write of load control of the object isn't answered by this load state.
+fn assert_loads(rt: &impl Abort, device: &mut Device, object: u8, event: &[u8; 10], state: u8) {
+    let mut apdu = ApduOctets::from_slice(&[0x03, 0xD7, object, 5, 0x10, 0x01]);
+    apdu.extend(event);
+    let wanted = [0x03, 0xD6, object, 5, 0x10, 0x01, state];
+    assert_answers(rt, device, apdu.as_slice(), Some(&wanted));
+}
+
+#[test]
+fn an_address_table_is_loaded(rt: HostRuntime) -> Result<(), Fail> {
+    let device = &mut Device::blank(rt.alloc(), ADDRESS)?;
+    // memory that isn't allocated
+    assert_answers(&rt, device, b"\x02\x04\x40\x00", Some(b"\x02\x40\x40\x00"));
+    // start loading, and allocate 4 octets
+    assert_loads(
+        &rt,
+        device,
+        1,
+        b"\x01\x00\x00\x00\x00\x00\x00\x00\x00\x00",
+        2,
+    );
+    assert_loads(
+        &rt,
+        device,
+        1,
+        b"\x03\x0B\x00\x00\x00\x04\x01\x00\x00\x00",
+        2,
+    );
+    // write two of them, and read them
+    assert_answers(&rt, device, b"\x02\x82\x40\x00\xAB\xCD", None);
+    assert_answers(
+        &rt,
+        device,
+        b"\x02\x02\x40\x00",
+        Some(b"\x02\x42\x40\x00\xAB\xCD"),
+    );
+    // load completed
+    assert_loads(
+        &rt,
+        device,
+        1,
+        b"\x02\x00\x00\x00\x00\x00\x00\x00\x00\x00",
+        1,
+    );
+    // unload the application
+    assert_loads(
+        &rt,
+        device,
+        4,
+        b"\x04\x00\x00\x00\x00\x00\x00\x00\x00\x00",
+        0,
+    );
+    // a group service has no answer
+    assert_answers(&rt, device, b"\x00\x80", None);
     Ok(())
 }
 
