@@ -1,5 +1,4 @@
 pub mod Again
 pub mod Flags
-pub mod Known
 pub mod Plain
 pub mod Steps

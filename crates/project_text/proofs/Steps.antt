@@ -1,7 +1,8 @@
 -- A project is read one line after another.
-use Rattle.std.proofs.Common.{◌≡◌, ℕ, ◌+◌, ◌<◌, ◌≤◌, Bool, List, [], ◌∷◌, ◌++◌, length, true, Option, Some, None, Ok, Err, refl}
+use Rattle.std.proofs.Common.{◌≡◌, ℕ, ◌+◌, ◌<◌, ◌≤◌, Bool, List, [], ◌∷◌, ◌++◌, length, true, Option, Some, None, Result, Ok, Err, refl, ap, ◌∙◌}
 use Rattle.std.specs.Option.{option_to_list}
 use Rattle.std.specs.List.{list_all}
+use Rattle.std.proofs.lemmas.List.{append-nil}
 use Rattle.std.specs.Str.Lines.{lines}
 use Rattle.knx_model.specs.declared.project.What.{What}
 use Rattle.knx_model.specs.declared.project.Statement.{Statement}
@@ -11,7 +12,7 @@ use Rattle.knx_model.specs.Statements.{are_spellable, are_numbered, line_says, p
 use Rattle.knx_model.specs.Words.{is_text}
 use Rattle.knx_model.proofs.LeastLine as least
 use Rattle.knx_model.proofs.Plain.{first_passes, rest_pass}
-use Rattle.project_text.specs.Reading.{stated_list}
+use Rattle.project_text.specs.Reading.{with_line}
 
 -- ss are the statements of the lines before, none of which breaks a rule; where the text is plain, each line of the rest is text
 pub record ReadsOn (is_plain : Bool) (octets : List ℕ) (ss : List Statement) (n : ℕ) (rest : List ℕ) : Type 0 where
@@ -28,19 +29,28 @@ lines_plain rest text after first plain = rw first at plain
 pub line_is_text : (is_plain : Bool) (octets rest text after : List ℕ) (ss : List Statement) (n : ℕ) → ReadsOn is_plain octets ss n rest → lines rest ≡ text ∷ lines after → is_plain ≡ true → is_text text ≡ true
 line_is_text is_plain octets rest text after ss n reads first q = first_passes is_text text (lines after) (lines_plain rest text after first (reads.plain q))
 
-stated_is : (n : ℕ) (said : Option What) → option_to_list (said_in_line statement n (Ok said)) ≡ stated_list n said
-stated_is n None = refl
-stated_is n (Some what) = refl
+-- what a line adds is what it says
+added_is : (n : ℕ) (ss new : List Statement) (r : Result (Option What) Why) → with_line ss n r ≡ Ok new → (said : Option What) × (r ≡ Ok said) × (ss ++ option_to_list (said_in_line statement n (Ok said)) ≡ new)
+added_is n ss new (Ok None) e = let same : ss ≡ new = cc in (None, refl, append-nil ss ∙ same)
+added_is n ss new (Ok (Some what)) e = let same : ss ++ statement n what ∷ [] ≡ new = cc in (Some what, refl, same)
+added_is n ss new (Err why) e = absurd (cc)
 
-pub goes_on : (is_plain : Bool) (octets rest text after : List ℕ) (ss : List Statement) (n : ℕ) (said : Option What) → ReadsOn is_plain octets ss n rest → lines rest ≡ text ∷ lines after → length after < length rest
-    → line_says text ≡ Ok said → are_spellable (ss ++ stated_list n said) ≡ true → ReadsOn is_plain octets (ss ++ stated_list n said) (n + 1) after
-goes_on is_plain octets rest text after ss n said reads first less e spelled =
-    let next : least.ReadsOn statement project_says octets (ss ++ option_to_list (said_in_line statement n (Ok said))) (n + 1) after = least.goes_on statement project_says octets rest text after ss n said reads.on first less e in
-    let on : least.ReadsOn statement project_says octets (ss ++ stated_list n said) (n + 1) after = rw (stated_is n said) at next in
+pub goes_on : (is_plain : Bool) (octets rest text after : List ℕ) (ss new : List Statement) (n : ℕ) → ReadsOn is_plain octets ss n rest → lines rest ≡ text ∷ lines after → length after < length rest
+    → with_line ss n (line_says text) ≡ Ok new → are_spellable new ≡ true → ReadsOn is_plain octets new (n + 1) after
+goes_on is_plain octets rest text after ss new n reads first less e spelled =
+    let line = added_is n ss new (line_says text) e in
+    let next : least.ReadsOn statement project_says octets (ss ++ option_to_list (said_in_line statement n (Ok line.0))) (n + 1) after = least.goes_on statement project_says octets rest text after ss n line.0 reads.on first less line.1 in
+    let on : least.ReadsOn statement project_says octets new (n + 1) after = rw line.2 at next in
     record { on = on; counted = on.counted; short = on.short; spelled = spelled; plain = λ q. rest_pass is_text text (lines after) (lines_plain rest text after first (reads.plain q)) }
 
-pub is_refused : (is_plain : Bool) (octets rest text after : List ℕ) (ss : List Statement) (n : ℕ) (why : Why) → ReadsOn is_plain octets ss n rest → lines rest ≡ text ∷ lines after → line_says text ≡ Err why → reading octets ≡ Err (record { line = n; why = why })
-is_refused is_plain octets rest text after ss n why reads first e = least.is_refused statement project_says octets rest text after ss n why reads.on first e
+-- what refuses a line is its own
+refused_is : (n : ℕ) (ss : List Statement) (why : Why) (r : Result (Option What) Why) → with_line ss n r ≡ Err why → r ≡ Err why
+refused_is n ss why (Ok None) e = absurd (cc)
+refused_is n ss why (Ok (Some what)) e = absurd (cc)
+refused_is n ss why (Err other) e = let same : other ≡ why = cc in ap (λ (x : Why). Err x) same
+
+pub is_refused : (is_plain : Bool) (octets rest text after : List ℕ) (ss : List Statement) (n : ℕ) (why : Why) → ReadsOn is_plain octets ss n rest → lines rest ≡ text ∷ lines after → with_line ss n (line_says text) ≡ Err why → reading octets ≡ Err (record { line = n; why = why })
+is_refused is_plain octets rest text after ss n why reads first e = least.is_refused statement project_says octets rest text after ss n why reads.on first (refused_is n ss why (line_says text) e)
 
 pub all_read : (is_plain : Bool) (octets rest : List ℕ) (ss : List Statement) (n : ℕ) → ReadsOn is_plain octets ss n rest → lines rest ≡ [] → reading octets ≡ Ok ss
 all_read is_plain octets rest ss n reads none = least.all_read statement project_says octets rest ss n reads.on none

@@ -1,142 +1,173 @@
-//! What a line says: one function a statement.
+//! A line's statement is added to those before it: one function a statement.
 
-ghost use Rattle.std.specs.Prelude.{IfOk, IfSome, IsTrue};
+ghost use Rattle.std.specs.Prelude.{◌≡◌, ◌++◌, [], ◌∷◌, OnOk, IfErr, IsTrue};
 ghost use Rattle.knx_model.specs.Words.{words, is_text};
-ghost use Rattle.knx_model.specs.Statements.{is_spellable, title_says, ga_says, device_says, object_says, link_says, flags_says, param_says, words_say, line_says};
-ghost use Rattle.knx_model.specs.LeastLine.{Answers};
+ghost use Rattle.knx_model.specs.Statements.{is_spellable, are_spellable, statement, some_what, title_says, ga_says, device_says, object_says, link_says, flags_says, param_says, words_say, line_says};
+ghost use Rattle.knx_model.specs.declared.refusal.Why.TheVariants.{NoMemory as OutOfMemory};
+ghost use Rattle.project_text.specs.Reading.{Added, with_line};
 
 use crate::fields::{flags_field, name_field, object_field, size_field, value_field};
 use knx_model::{
-    What, Why, device_field, first_word, group_field, line_text, no_more, words_of_text,
+    List, Statement, What, Why, device_field, first_word, group_field, line_text, no_more,
+    words_of_text,
 };
+
+/// Adds the statement of a line.
+fn add(statements: &mut List<Statement>, line: u32, what: What) -> Result<(), Why>
+    ensures added { OnOk result (statements.new ≡ statements.old ++ statement line what ∷ []) }
+    ensures spelled { IsTrue (is_spellable what) → IsTrue (are_spellable statements.old) → OnOk result (IsTrue (are_spellable statements.new)) }
+    ensures memory { IfErr result (λ why. why ≡ OutOfMemory) }
+{
+    match statements.push(Statement { line, what }) {
+        Ok(()) => Ok(()),
+        Err(_) => Err(Why::NoMemory),
+    }
+}
 
 /// `project NAME`
 #[tactic(auto, unfolding(knx_model::specs::Statements::title_says))]
-fn title_in(rest: &[u8]) -> Result<What, Why>
-    ensures read { Answers (λ x. x) result (title_says (words rest.now)) }
-    ensures spelled { IfOk result (λ what. IsTrue (is_spellable what)) }
+fn title_in(statements: &mut List<Statement>, line: u32, rest: &[u8]) -> Result<(), Why>
+    ensures read { Added result statements.new (with_line statements.old line (some_what (title_says (words rest.now)))) }
+    ensures spelled { IsTrue (are_spellable statements.old) → OnOk result (IsTrue (are_spellable statements.new)) }
 {
     let (name, rest) = name_field(rest)?;
     no_more(rest)?;
-    Ok(What::Title(name))
+    add(statements, line, What::Title(name))
 }
 
 /// `ga GA NAME`
 #[tactic(auto, unfolding(knx_model::specs::Statements::ga_says))]
-fn ga_in(rest: &[u8]) -> Result<What, Why>
-    ensures read { Answers (λ x. x) result (ga_says (words rest.now)) }
-    ensures spelled { IfOk result (λ what. IsTrue (is_spellable what)) }
+fn ga_in(statements: &mut List<Statement>, line: u32, rest: &[u8]) -> Result<(), Why>
+    ensures read { Added result statements.new (with_line statements.old line (some_what (ga_says (words rest.now)))) }
+    ensures spelled { IsTrue (are_spellable statements.old) → OnOk result (IsTrue (are_spellable statements.new)) }
 {
     let (group, rest) = group_field(rest)?;
     let (name, rest) = name_field(rest)?;
     no_more(rest)?;
-    Ok(What::Group { group, name })
+    add(statements, line, What::Group { group, name })
 }
 
 /// `device IA MODEL`
 #[tactic(auto, unfolding(knx_model::specs::Statements::device_says))]
-fn device_in(rest: &[u8]) -> Result<What, Why>
-    ensures read { Answers (λ x. x) result (device_says (words rest.now)) }
-    ensures spelled { IfOk result (λ what. IsTrue (is_spellable what)) }
+fn device_in(statements: &mut List<Statement>, line: u32, rest: &[u8]) -> Result<(), Why>
+    ensures read { Added result statements.new (with_line statements.old line (some_what (device_says (words rest.now)))) }
+    ensures spelled { IsTrue (are_spellable statements.old) → OnOk result (IsTrue (are_spellable statements.new)) }
 {
     let (device, rest) = device_field(rest)?;
     let (model, rest) = name_field(rest)?;
     no_more(rest)?;
-    Ok(What::Device { device, model })
+    add(statements, line, What::Device { device, model })
 }
 
 /// `object IA N SIZE FLAGS`
 #[tactic(auto, unfolding(knx_model::specs::Statements::object_says))]
-fn object_in(rest: &[u8]) -> Result<What, Why>
-    ensures read { Answers (λ x. x) result (object_says (words rest.now)) }
-    ensures spelled { IfOk result (λ what. IsTrue (is_spellable what)) }
+fn object_in(statements: &mut List<Statement>, line: u32, rest: &[u8]) -> Result<(), Why>
+    ensures read { Added result statements.new (with_line statements.old line (some_what (object_says (words rest.now)))) }
+    ensures spelled { IsTrue (are_spellable statements.old) → OnOk result (IsTrue (are_spellable statements.new)) }
 {
     let (device, rest) = device_field(rest)?;
     let (n, rest) = object_field(rest)?;
     let (size, rest) = size_field(rest)?;
     let (flags, rest) = flags_field(rest)?;
     no_more(rest)?;
-    Ok(What::Object {
-        device,
-        n,
-        size,
-        flags,
-    })
+    add(
+        statements,
+        line,
+        What::Object {
+            device,
+            n,
+            size,
+            flags,
+        },
+    )
 }
 
 /// `link IA N GA`
 #[tactic(auto, unfolding(knx_model::specs::Statements::link_says))]
-fn link_in(rest: &[u8]) -> Result<What, Why>
-    ensures read { Answers (λ x. x) result (link_says (words rest.now)) }
-    ensures spelled { IfOk result (λ what. IsTrue (is_spellable what)) }
+fn link_in(statements: &mut List<Statement>, line: u32, rest: &[u8]) -> Result<(), Why>
+    ensures read { Added result statements.new (with_line statements.old line (some_what (link_says (words rest.now)))) }
+    ensures spelled { IsTrue (are_spellable statements.old) → OnOk result (IsTrue (are_spellable statements.new)) }
 {
     let (device, rest) = device_field(rest)?;
     let (object, rest) = object_field(rest)?;
     let (group, rest) = group_field(rest)?;
     no_more(rest)?;
-    Ok(What::Link {
-        device,
-        object,
-        group,
-    })
+    add(
+        statements,
+        line,
+        What::Link {
+            device,
+            object,
+            group,
+        },
+    )
 }
 
 /// `flags IA N FLAGS`
 #[tactic(auto, unfolding(knx_model::specs::Statements::flags_says))]
-fn flags_in(rest: &[u8]) -> Result<What, Why>
-    ensures read { Answers (λ x. x) result (flags_says (words rest.now)) }
-    ensures spelled { IfOk result (λ what. IsTrue (is_spellable what)) }
+fn flags_in(statements: &mut List<Statement>, line: u32, rest: &[u8]) -> Result<(), Why>
+    ensures read { Added result statements.new (with_line statements.old line (some_what (flags_says (words rest.now)))) }
+    ensures spelled { IsTrue (are_spellable statements.old) → OnOk result (IsTrue (are_spellable statements.new)) }
 {
     let (device, rest) = device_field(rest)?;
     let (object, rest) = object_field(rest)?;
     let (flags, rest) = flags_field(rest)?;
     no_more(rest)?;
-    Ok(What::Flags {
-        device,
-        object,
-        flags,
-    })
+    add(
+        statements,
+        line,
+        What::Flags {
+            device,
+            object,
+            flags,
+        },
+    )
 }
 
 /// `param IA NAME VALUE`
 #[tactic(auto, unfolding(knx_model::specs::Statements::param_says))]
-fn param_in(rest: &[u8]) -> Result<What, Why>
-    ensures read { Answers (λ x. x) result (param_says (words rest.now)) }
-    ensures spelled { IfOk result (λ what. IsTrue (is_spellable what)) }
+fn param_in(statements: &mut List<Statement>, line: u32, rest: &[u8]) -> Result<(), Why>
+    ensures read { Added result statements.new (with_line statements.old line (some_what (param_says (words rest.now)))) }
+    ensures spelled { IsTrue (are_spellable statements.old) → OnOk result (IsTrue (are_spellable statements.new)) }
 {
     let (device, rest) = device_field(rest)?;
     let (name, rest) = name_field(rest)?;
     let (value, rest) = value_field(rest)?;
     no_more(rest)?;
-    Ok(What::Param {
-        device,
-        name,
-        value,
-    })
+    add(
+        statements,
+        line,
+        What::Param {
+            device,
+            name,
+            value,
+        },
+    )
 }
 
+/// Adds the statement of these words, where there are any.
 #[tactic(auto, unfolding(knx_model::specs::Statements::words_say))]
-fn words_in(rest: &[u8]) -> Result<Option<What>, Why>
-    ensures read { Answers (λ x. x) result (words_say (words rest.now)) }
-    ensures spelled { IfOk result (λ said. IfSome said (λ what. IsTrue (is_spellable what))) }
+fn words_in(statements: &mut List<Statement>, line: u32, rest: &[u8]) -> Result<(), Why>
+    ensures read { Added result statements.new (with_line statements.old line (words_say (words rest.now))) }
+    ensures spelled { IsTrue (are_spellable statements.old) → OnOk result (IsTrue (are_spellable statements.new)) }
 {
     match first_word(rest) {
-        None => Ok(None),
+        None => Ok(()),
         Some((word, rest)) => {
             if word == b"project".as_slice() {
-                Ok(Some(title_in(rest)?))
+                title_in(statements, line, rest)
             } else if word == b"ga".as_slice() {
-                Ok(Some(ga_in(rest)?))
+                ga_in(statements, line, rest)
             } else if word == b"device".as_slice() {
-                Ok(Some(device_in(rest)?))
+                device_in(statements, line, rest)
             } else if word == b"object".as_slice() {
-                Ok(Some(object_in(rest)?))
+                object_in(statements, line, rest)
             } else if word == b"link".as_slice() {
-                Ok(Some(link_in(rest)?))
+                link_in(statements, line, rest)
             } else if word == b"flags".as_slice() {
-                Ok(Some(flags_in(rest)?))
+                flags_in(statements, line, rest)
             } else if word == b"param".as_slice() {
-                Ok(Some(param_in(rest)?))
+                param_in(statements, line, rest)
             } else {
                 Err(Why::UnknownWord)
             }
@@ -144,17 +175,23 @@ fn words_in(rest: &[u8]) -> Result<Option<What>, Why>
     }
 }
 
-/// What a line says: a statement, nothing, or the first rule that it breaks. A line that is known to be text isn't looked at again.
+/// Adds the statement of a line to those of the lines before it, where the line says one; or answers the first rule that the line
+/// breaks, or want of memory. A line that is known to be text isn't looked at again.
 #[tactic(auto, unfolding(knx_model::specs::Statements::line_says))]
-pub fn line_in(line: &[u8], is_plain: bool) -> Result<Option<What>, Why>
-    requires { IsTrue is_plain → IsTrue (is_text line.now) }
-    ensures read { Answers (λ x. x) result (line_says line.now) }
-    ensures spelled { IfOk result (λ said. IfSome said (λ what. IsTrue (is_spellable what))) }
+pub fn line_in(
+    statements: &mut List<Statement>,
+    line: u32,
+    text: &[u8],
+    is_plain: bool,
+) -> Result<(), Why>
+    requires { IsTrue is_plain → IsTrue (is_text text.now) }
+    ensures read { Added result statements.new (with_line statements.old line (line_says text.now)) }
+    ensures spelled { IsTrue (are_spellable statements.old) → OnOk result (IsTrue (are_spellable statements.new)) }
 {
     let rest = if is_plain {
-        words_of_text(line)?
+        words_of_text(text)?
     } else {
-        line_text(line)?
+        line_text(text)?
     };
-    words_in(rest)
+    words_in(statements, line, rest)
 }

@@ -1,32 +1,20 @@
 //! A text is read line by line.
 
-ghost use Rattle.std.specs.Prelude.{◌≡◌, ℕ, List, [], ◌∷◌, ◌≢◌, ◌++◌, OnOk, IfErr, IfSome, IsTrue};
+ghost use Rattle.std.specs.Prelude.{◌≡◌, ℕ, List, [], ◌∷◌, IfErr};
 ghost use Rattle.std.specs.Str.Lines.{lines};
 ghost use Rattle.knx_model.specs.LeastLine.{AllLinesSay, IsLeastRefused, refused_from};
-ghost use Rattle.knx_model.specs.Statements.{is_spellable, are_spellable, project_says, reading};
+ghost use Rattle.knx_model.specs.Statements.{project_says, reading};
 ghost use Rattle.knx_model.specs.declared.refusal.Refused.{Refused};
 ghost use Rattle.knx_model.specs.declared.refusal.Why.TheVariants.{NoMemory as OutOfMemory};
-ghost use Rattle.project_text.specs.Reading.{Read, stated_list};
+ghost use Rattle.project_text.specs.Reading.{Read};
 
 use crate::line::line_in;
 use crate::project::Project;
-use knx_model::{List, NoMemory, Refused, Statement, What, Why, first_line, has_plain_lines};
+use knx_model::{List, Refused, Why, first_line, has_plain_lines};
 use std::alloc::Global;
 
 /// The longest text, in octets: 4 MiB.
 const LONGEST_TEXT: u32 = 4_194_304;
-
-/// Adds what a line says.
-fn put(statements: &mut List<Statement>, line: u32, said: Option<What>) -> Result<(), NoMemory>
-    requires { IfSome said (λ what. IsTrue (is_spellable what)) }
-    ensures added { OnOk result (statements.new ≡ statements.old ++ stated_list line said) }
-    ensures spelled { IsTrue (are_spellable statements.old) → OnOk result (IsTrue (are_spellable statements.new)) }
-{
-    match said {
-        None => Ok(()),
-        Some(what) => statements.push(Statement { line, what }),
-    }
-}
 
 /// The statements of a text of at most 4,194,304 octets, or why it is refused: the least line that breaks a rule, and the
 /// rule. Line 0 stands for a text that is too long and for want of memory.
@@ -48,18 +36,15 @@ pub fn read_project(alloc: Global, octets: &[u8]) -> Result<Project, Refused>
     let mut line = 1;
     let mut rest = octets;
     while let Some((text, after)) = first_line(rest) {
-        let said = match line_in(text, is_plain) {
-            Ok(said) => said,
-            Err(why) => return Err(Refused { line, why }),
-        };
-        match put(&mut statements, line, said) {
+        match line_in(&mut statements, line, text, is_plain) {
             Ok(()) => {}
-            Err(_) => {
+            Err(Why::NoMemory) => {
                 return Err(Refused {
                     line: 0,
                     why: Why::NoMemory,
                 });
             }
+            Err(why) => return Err(Refused { line, why }),
         }
         line += 1;
         rest = after;
