@@ -1,5 +1,5 @@
 -- A text of plain octets has lines of text.
-use Rattle.std.proofs.Common.{◌≡◌, ℕ, zero, suc, ◌-◌, ◌<◌, Bool, true, false, cond, ◌&&◌, ◌||◌, List, [], ◌∷◌, length, take, get_or, refl, arith, inl, inr}
+use Rattle.std.proofs.Common.{◌≡◌, ℕ, zero, suc, ◌-◌, ◌<◌, Bool, true, false, cond, ◌&&◌, ◌||◌, List, [], ◌∷◌, length, take, get_or, refl, arith, inl, inr, sym, ◌∙◌}
 use Rattle.std.specs.Prelude.{◌==◌, nat_le, nat_lt, fold}
 use Rattle.std.specs.List.{list_all, slice_split, onto_first}
 use Rattle.std.specs.Str.{IsAscii}
@@ -20,11 +20,11 @@ never : {X : Type 0} (p : X → Bool) (xs : List X) → fold (λ all x. all && p
 never p [] = refl
 never p (x ∷ xs) = never p xs
 
-all_from_fold : {X : Type 0} (p : X → Bool) (xs : List X) → fold (λ all x. all && p x) true xs ≡ true → list_all p xs ≡ true
-all_from_fold p [] e = refl
-all_from_fold p (x ∷ xs) e = elim (cases_Bool (p x)) [
-  | inl q ↦ rw q (all_from_fold p xs (rw q at e))
-  | inr q ↦ absurd (cc (never p xs, rw q at e))
+pub fold_is_all : {X : Type 0} (p : X → Bool) (xs : List X) → fold (λ all x. all && p x) true xs ≡ list_all p xs
+fold_is_all p [] = refl
+fold_is_all p (x ∷ xs) = elim (cases_Bool (p x)) [
+  | inl q ↦ rw q (fold_is_all p xs)
+  | inr q ↦ rw q (never p xs)
 ]
 
 pub first_passes : {X : Type 0} (p : X → Bool) (x : X) (xs : List X) → list_all p (x ∷ xs) ≡ true → p x ≡ true
@@ -96,4 +96,4 @@ texts [] h = refl
 texts (l ∷ ls) h = all_pass is_text l ls (part_is_text l (first_passes is_line_part l ls h)) (texts ls (rest_pass is_line_part l ls h))
 
 pub plain_lines : (octets : List ℕ) → fold (λ plain b. plain && is_plain_octet b) true octets ≡ true → list_all is_text (lines octets) ≡ true
-plain_lines octets e = texts (lines octets) (lines_in_line (slice_split is_feed octets) (parts_in_line octets (all_from_fold is_plain_octet octets e)))
+plain_lines octets e = texts (lines octets) (lines_in_line (slice_split is_feed octets) (parts_in_line octets (sym (fold_is_all is_plain_octet octets) ∙ e)))

@@ -64,7 +64,8 @@ pub record IsLeastBroken (why : CemiRefused) (octets : List ℕ) : Type 0 where
 
 -- ---- what is written
 
--- no additional information; low priority; hop count 6
+-- no additional information; low priority; hop count 6. That all frames are written with low priority, those of the transport layer
+-- too, is this project's own.
 abbrev pub Written : Ldata → List ℕ
 Written frame =
     code_octet frame.code ∷ 0x00 ∷ (if frame.error then 0xBD else 0xBC) ∷ (if frame.group then 0xE0 else 0x60)

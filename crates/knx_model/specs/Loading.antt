@@ -60,10 +60,14 @@ completed Loaded = Loaded
 completed Loading = Loaded
 completed Error = Error
 
--- an allocation is taken while Loading, where the size is within the capacity: the length becomes the size and each octet the fill
+-- an allocation is taken while Loading, where the size is within the capacity
+abbrev pub allocates : Loadable → ℕ → Bool
+allocates p size = is_loading p.state && nat_le size (capacity_of p)
+
+-- by a taken allocation the length becomes the size and each octet the fill
 abbrev pub allocated : Loadable → ℕ → ℕ → Loadable
 allocated p size fill =
-    if is_loading p.state && nat_le size (capacity_of p)
+    if allocates p size
     then record { state = Loading; len = size; memory = replicate size fill ++ drop size p.memory }
     else with_state p Error
 
@@ -123,10 +127,6 @@ written p at octets = if takes_write p at (length octets) then with_memory p (ov
 -- what stands there where any octets may stand in the range of a taken memory write of n octets
 abbrev pub scribbled : Loadable → ℕ → ℕ → List ℕ → Loadable
 scribbled p at n octets = if takes_write p at n then with_memory p (overlaid p.memory at (take n octets)) else p
-
--- where memory is written by the event: the range of a taken allocation
-abbrev pub allocates : Loadable → ℕ → Bool
-allocates p size = is_loading p.state && nat_le size (capacity_of p)
 
 abbrev pub old_or_new : Bool → Loadable → Loadable → Loadable
 old_or_new fresh old new = if fresh then new else old

@@ -17,7 +17,9 @@ Rose old new = (old < new) ⊎ (new ≡ 2 ^ 64 - 1)
 abbrev pub MayRead : Told → ℕ → Result (List ℕ) FileFault → Type 0
 MayRead Untold limit answer = Unit {0}
 MayRead Absent limit (Ok octets) = ⊥
-MayRead Absent limit (Err why) = Unit {0}
+MayRead Absent limit (Err NotThere) = Unit {0}
+MayRead Absent limit (Err Failed) = ⊥
+MayRead Absent limit (Err NoMemory) = Unit {0}
 MayRead (Holds content) limit (Ok octets) = octets ≡ take limit content
 MayRead (Holds content) limit (Err NotThere) = ⊥
 MayRead (Holds content) limit (Err Failed) = Unit {0}

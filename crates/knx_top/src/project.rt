@@ -67,7 +67,7 @@ pub fn refusal(place: InputFile, refused: Refused) -> Stop
 }
 
 /// The project that a text reads as.
-pub fn project_in(alloc: Global, place: InputFile, octets: &[u8]) -> Result<Project, Stop>
+pub fn project_in(alloc: Global, place: InputFile, octets: &[u8]) -> Result<Project<'_>, Stop>
     ensures { Gives (λ p. p.statements) result (unless_refused place (reading octets.now)) }
 {
     match read_project(alloc, octets) {
@@ -80,7 +80,7 @@ pub fn project_in(alloc: Global, place: InputFile, octets: &[u8]) -> Result<Proj
 pub fn sound_in<'a>(
     alloc: Global,
     place: InputFile,
-    project: &'a Project,
+    project: &'a Project<'a>,
     catalogue: &'a Catalogue,
 ) -> Result<Checked<'a>, Stop>
     ensures { Gives (λ c. c) result (sound place (record { statements = project.now.statements; catalogue = catalogue.now })) }

@@ -54,13 +54,13 @@ fn tables_text(alloc: Global, checked: &Checked<'_>) -> Result<Octets, NoMemory>
 
 /// A project that was read, with the models of its catalogue.
 #[derive(Drop)]
-struct ReadProject {
-    project: Project,
+struct ReadProject<'a> {
+    project: Project<'a>,
     models: Catalogue,
 }
 
 /// The catalogue and the project of `check` and `tables` are read.
-fn read_in(alloc: Global, texts: &ProjectTexts) -> Result<ReadProject, Stop>
+fn read_in(alloc: Global, texts: &ProjectTexts) -> Result<ReadProject<'_>, Stop>
     ensures { Gives installation_of result (project_of (project_reads_of texts.now)) }
 {
     let catalogue = read_of(InputFile::Catalogue, &texts.catalogue)?;

@@ -20,7 +20,7 @@ use std::marker::Model;
 /// A project that breaks no rule, with its catalogue and its devices, ascending.
 #[derive(Drop)]
 pub struct Checked<'a> {
-    project: &'a Project,
+    project: &'a Project<'a>,
     catalogue: &'a Catalogue,
     devices: Vec<IndAddr>,
 }
@@ -36,9 +36,9 @@ impl<'a> Model for Checked<'a> {
     ghost invariant = { λ c. IsChecked c.project.now.statements c.catalogue.now c.devices.items };
 }
 
-impl Checked<'_> {
+impl<'a> Checked<'a> {
     /// Its statements, in the order of the text.
-    pub fn statements(&self) -> &[Statement]
+    pub fn statements(&self) -> &'a [Statement<'a>]
         ensures value { result.now ≡ self.now.statements }
         ensures sound { first_broken self.now.catalogue self.now.statements ≡ None }
     {
@@ -91,7 +91,7 @@ impl Checked<'_> {
 fn first_broken(
     alloc: Global,
     catalogue: &Catalogue,
-    statements: &[Statement],
+    statements: &[Statement<'_>],
 ) -> Result<Option<Refused>, AllocError>
     ensures found { IfOk result (λ found. found ≡ first_broken catalogue.now statements.now) }
     ensures never { IfOk result (λ found. IfSome found (λ refused. refused.why ≢ NoMemory)) }
@@ -115,7 +115,7 @@ fn first_broken(
 /// rule of the least number, or line 0 where memory runs out.
 pub fn check<'a>(
     alloc: Global,
-    project: &'a Project,
+    project: &'a Project<'a>,
     catalogue: &'a Catalogue,
 ) -> Result<Checked<'a>, Refused>
     ensures checked { IfOk result (λ c. c ≡ record { statements = project.now.statements; catalogue = catalogue.now }) }

@@ -7,14 +7,14 @@ ghost use Rattle.project_check.specs.Counting.{named_objects, line_objects};
 use knx_model::{Catalogue, Statement, What};
 
 /// Whether a statement is an `object` line.
-fn is_object_line(what: &What) -> bool
+fn is_object_line(what: &What<'_>) -> bool
     ensures { result ≡ is_object_line what.now }
 {
     matches!(what, What::Object { .. })
 }
 
 /// Whether a statement is a `link` line.
-fn is_link_line(what: &What) -> bool
+fn is_link_line(what: &What<'_>) -> bool
     ensures { result ≡ is_link_line what.now }
 {
     matches!(what, What::Link { .. })
@@ -35,7 +35,7 @@ fn named_objects(catalogue: &Catalogue, name: &[u8]) -> u32
 }
 
 /// The number of objects of the model that a `device` line names; 0 of another line.
-fn line_objects(catalogue: &Catalogue, what: &What) -> u32
+fn line_objects(catalogue: &Catalogue, what: &What<'_>) -> u32
     ensures value { result ≡ line_objects catalogue.now what.now }
     ensures few { result ≤ (if is_device_line what.now then 256 else 0) }
 {
@@ -54,7 +54,7 @@ pub struct Totals {
 }
 
 /// Counts what the lines have.
-pub fn totals_of(catalogue: &Catalogue, statements: &[Statement]) -> Totals
+pub fn totals_of(catalogue: &Catalogue, statements: &[Statement<'_>]) -> Totals
     requires { count_lines is_device_line statements.now ≤ 255 }
     ensures objects { result.object_lines ≡ count_lines is_object_line statements.now }
     ensures links { result.link_lines ≡ count_lines is_link_line statements.now }

@@ -29,7 +29,7 @@ pub struct Declared<'b, 'a> {
 }
 
 /// Adds the group of a `ga` line.
-fn add_group(groups: &mut ByAddress<bool>, what: &What)
+fn add_group(groups: &mut ByAddress<bool>, what: &What<'_>)
     ensures { (f : ℕ → Bool) → Holds groups.old f → Holds groups.new (λ g. f g || declares_group g what.now) }
 {
     if let What::Group { group, .. } = what {
@@ -41,7 +41,7 @@ fn add_group(groups: &mut ByAddress<bool>, what: &What)
 fn add_device<'b, 'a>(
     devices: &mut ByAddress<Option<Option<&'b ModelIndex<'a>>>>,
     models: &'b NamedModels<'a>,
-    what: &'a What,
+    what: &'a What<'a>,
 )
     ensures { (catalogue : List NamedModel) (all : List Stated) (names : ℕ → Option (List ℕ)) → AreNamed catalogue models.now all → IsNamed all what.now → KeepsModels catalogue devices.old names → KeepsModels catalogue devices.new (λ a. option_or (names a) (model_in a what.now)) }
 {
@@ -53,7 +53,7 @@ fn add_device<'b, 'a>(
 }
 
 /// Adds the size code in an `object` line, where it is the group object's first.
-fn add_size(sizes: &mut HashMap<GroupObject, u8>, what: &What) -> Result<(), AllocError>
+fn add_size(sizes: &mut HashMap<GroupObject, u8>, what: &What<'_>) -> Result<(), AllocError>
     ensures { OnOk result ((o : GroupObject) → get object_eq sizes.new o ≡ option_or (get object_eq sizes.old o) (size_in o.device o.number what.now)) }
 {
     if let What::Object {
@@ -90,7 +90,7 @@ impl<'b, 'a> Declared<'b, 'a> {
     pub fn add(
         &mut self,
         models: &'b NamedModels<'a>,
-        statement: &'a Statement,
+        statement: &'a Statement<'a>,
     ) -> Result<(), AllocError>
         ensures { OnOk result ((catalogue : List NamedModel) (before all : List Stated) → AreNamed catalogue models.now all → IsNamed all statement.now.what → Declares catalogue self.old before → Declares catalogue self.new (before ++ statement.now ∷ [])) }
     {
@@ -104,7 +104,7 @@ impl<'b, 'a> Declared<'b, 'a> {
     pub fn by_all(
         alloc: Global,
         models: &'b NamedModels<'a>,
-        statements: &'a [Statement],
+        statements: &'a [Statement<'a>],
     ) -> Result<Declared<'b, 'a>, AllocError>
         ensures { IfOk result (λ declared. (catalogue : List NamedModel) → AreNamed catalogue models.now statements.now → Declares catalogue declared statements.now) }
     {
@@ -178,7 +178,7 @@ impl<'b, 'a> Declared<'b, 'a> {
 fn add_first_size(
     first_sizes: &mut ByAddress<Option<Option<u8>>>,
     declared: &Declared<'_, '_>,
-    what: &What,
+    what: &What<'_>,
 )
     ensures { (catalogue : List NamedModel) (ss : List Stated) → Declares catalogue declared.now ss → (f : ℕ → Option (Option ℕ)) → Holds first_sizes.old f → Holds first_sizes.new (λ g. option_or (f g) (linked_size catalogue ss g what.now)) }
 {
@@ -202,7 +202,7 @@ fn add_first_size(
 pub fn first_sizes(
     alloc: Global,
     declared: &Declared<'_, '_>,
-    statements: &[Statement],
+    statements: &[Statement<'_>],
 ) -> Result<ByAddress<Option<Option<u8>>>, AllocError>
     ensures { IfOk result (λ sizes. (catalogue : List NamedModel) → Declares catalogue declared.now statements.now → FirstSizes catalogue statements.now sizes) }
 {

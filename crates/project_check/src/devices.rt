@@ -10,7 +10,7 @@ use knx_model::{IndAddr, Statement, What};
 use std::alloc::{AllocError, Global};
 
 /// The device of a `device` line.
-fn device_in(what: &What) -> Option<IndAddr>
+fn device_in(what: &What<'_>) -> Option<IndAddr>
     ensures { result ≡ device_in what.now }
 {
     match what {
@@ -20,7 +20,7 @@ fn device_in(what: &What) -> Option<IndAddr>
 }
 
 /// The devices of the `device` lines, in the order of the text.
-fn devices_of(alloc: Global, statements: &[Statement]) -> Result<Vec<IndAddr>, AllocError>
+fn devices_of(alloc: Global, statements: &[Statement<'_>]) -> Result<Vec<IndAddr>, AllocError>
     ensures { IfOk result (λ devices. devices.items ≡ devices_of statements.now) }
 {
     statements
@@ -32,7 +32,7 @@ fn devices_of(alloc: Global, statements: &[Statement]) -> Result<Vec<IndAddr>, A
 /// The devices of the `device` lines, ascending.
 pub fn ascending_devices(
     alloc: Global,
-    statements: &[Statement],
+    statements: &[Statement<'_>],
 ) -> Result<Vec<IndAddr>, AllocError>
     ensures all { IfOk result (λ devices. IsPermutation (devices_of statements.now) devices.items) }
     ensures sorted { IfOk result (λ devices. IsSorted device_order devices.items) }
@@ -43,7 +43,7 @@ pub fn ascending_devices(
 }
 
 /// The device of the first `device` line.
-pub fn first_device(statements: &[Statement]) -> Option<IndAddr>
+pub fn first_device(statements: &[Statement<'_>]) -> Option<IndAddr>
     ensures { result ≡ slice_get (devices_of statements.now) 0 }
 {
     for statement in statements {

@@ -31,7 +31,7 @@ pub struct Earlier {
 }
 
 /// Adds the group of a `ga` line, and tells whether it was there.
-fn add_group(groups: &mut ByAddress<bool>, what: &What) -> bool
+fn add_group(groups: &mut ByAddress<bool>, what: &What<'_>) -> bool
     ensures added { (f : ℕ → Bool) → Holds groups.old f → Holds groups.new (λ g. f g || declares_group g what.now) }
     ensures was { (f : ℕ → Bool) → Holds groups.old f → result ≡ of_group f what.now }
 {
@@ -46,7 +46,7 @@ fn add_group(groups: &mut ByAddress<bool>, what: &What) -> bool
 }
 
 /// Adds the device of a `device` line, and tells whether it was there.
-fn add_device(devices: &mut ByAddress<bool>, what: &What) -> bool
+fn add_device(devices: &mut ByAddress<bool>, what: &What<'_>) -> bool
     ensures added { (f : ℕ → Bool) → Holds devices.old f → Holds devices.new (λ d. f d || declares_device d what.now) }
     ensures was { (f : ℕ → Bool) → Holds devices.old f → result ≡ of_device f what.now }
 {
@@ -61,7 +61,7 @@ fn add_device(devices: &mut ByAddress<bool>, what: &What) -> bool
 }
 
 /// Adds the group object of an `object` line, and tells whether it was there.
-fn add_object(objects: &mut HashSet<GroupObject>, what: &What) -> Result<bool, AllocError>
+fn add_object(objects: &mut HashSet<GroupObject>, what: &What<'_>) -> Result<bool, AllocError>
     ensures added { OnOk result ((o : GroupObject) → contains object_eq objects.new o ≡ (contains object_eq objects.old o || declares_object o.device o.number what.now)) }
     ensures was { IfOk result (λ was. was ≡ has_its_object objects.old what.now) }
 {
@@ -78,7 +78,7 @@ fn add_object(objects: &mut HashSet<GroupObject>, what: &What) -> Result<bool, A
 }
 
 /// Counts a `device` line.
-fn count_device(device_lines: u16, what: &What) -> u16
+fn count_device(device_lines: u16, what: &What<'_>) -> u16
     ensures { result ≡ counted (is_device_line what.now) device_lines }
 {
     match what {
@@ -88,7 +88,7 @@ fn count_device(device_lines: u16, what: &What) -> u16
 }
 
 /// Counts a `link` line for its device, and tells whether the device had as many as it may.
-fn count_link(link_lines: &mut ByAddress<u16>, what: &What) -> bool
+fn count_link(link_lines: &mut ByAddress<u16>, what: &What<'_>) -> bool
     ensures counted { (f : ℕ → ℕ) → Holds link_lines.old f → Holds link_lines.new (λ d. counted (links_device d what.now) (f d)) }
     ensures was { (f : ℕ → ℕ) → Holds link_lines.old f → result ≡ is_full_of_links f what.now }
 {
@@ -103,7 +103,7 @@ fn count_link(link_lines: &mut ByAddress<u16>, what: &What) -> bool
 }
 
 /// Whether a `device` line comes after as many as there may be.
-fn is_full(device_lines: u16, what: &What) -> bool
+fn is_full(device_lines: u16, what: &What<'_>) -> bool
     ensures { result ≡ (is_device_line what.now && nat_le 255 device_lines) }
 {
     match what {
@@ -127,7 +127,7 @@ impl Earlier {
     }
 
     /// Adds a statement, and tells what of it stands in those before, but for its link.
-    pub fn add(&mut self, statement: &Statement) -> Result<Repeated, AllocError>
+    pub fn add(&mut self, statement: &Statement<'_>) -> Result<Repeated, AllocError>
         ensures added { OnOk result ((ss : List Stated) → Precedes self.old ss → Precedes self.new (ss ++ statement.now ∷ [])) }
         ensures repeated { IfOk result (λ repeated. (ss : List Stated) → Precedes self.old ss → repeated ≡ repeats ss statement.now.what) }
     {

@@ -25,7 +25,7 @@ fn link_number(device: IndAddr, object: u8, group: GroupAddr) -> u64
 }
 
 /// The link of a `link` line as one number.
-fn link_in(what: &What) -> Option<u64>
+fn link_in(what: &What<'_>) -> Option<u64>
     ensures value { result ≡ link_in what.now }
     ensures small { IsLinkOf what.now }
 {
@@ -47,7 +47,7 @@ fn precedence(link: PlacedLink) -> u128
 }
 
 /// Adds the link of a `link` line.
-fn add_link(links: &mut Vec<PlacedLink>, place: usize, what: &What) -> Result<(), AllocError>
+fn add_link(links: &mut Vec<PlacedLink>, place: usize, what: &What<'_>) -> Result<(), AllocError>
     ensures { OnOk result ((ss : List Stated) (s : Stated) → place < length ss → s ≡ get_or ss place s → what.now ≡ s.what → ArePlaced links.old.items ss place → ArePlaced links.new.items ss (place + 1)) }
 {
     if let Some(link) = link_in(what) {
@@ -57,7 +57,7 @@ fn add_link(links: &mut Vec<PlacedLink>, place: usize, what: &What) -> Result<()
 }
 
 /// The `link` lines, in the order of the text.
-fn placed_links(alloc: Global, statements: &[Statement]) -> Result<Vec<PlacedLink>, AllocError>
+fn placed_links(alloc: Global, statements: &[Statement<'_>]) -> Result<Vec<PlacedLink>, AllocError>
     ensures { IfOk result (λ links. ArePlaced links.items statements.now (length statements.now)) }
 {
     let mut links = Vec::new(alloc);
@@ -102,7 +102,7 @@ fn least_repeat(links: &[PlacedLink]) -> Option<usize>
 }
 
 /// The place of the first `link` line that repeats an earlier one.
-pub fn first_repeat(alloc: Global, statements: &[Statement]) -> Result<Option<usize>, AllocError>
+pub fn first_repeat(alloc: Global, statements: &[Statement<'_>]) -> Result<Option<usize>, AllocError>
     ensures { IfOk result (λ first. IsFirstRepeat statements.now first) }
 {
     let mut links = placed_links(alloc, statements)?;

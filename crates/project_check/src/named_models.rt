@@ -26,7 +26,7 @@ fn add_model<'a>(
     alloc: Global,
     models: &mut HashMap<&'a [u8], Option<ModelIndex<'a>>>,
     catalogue: &'a Catalogue,
-    what: &'a What,
+    what: &'a What<'a>,
 ) -> Result<(), AllocError>
     ensures present { OnOk result ((name : List ℕ) → is_some (get_by (λ key. bytes_eq name key.now) models.new) ≡ (is_some (get_by (λ key. bytes_eq name key.now) models.old) || names_model name what.now)) }
     ensures right { OnOk result (AreRight catalogue.now models.old → AreRight catalogue.now models.new) }
@@ -55,7 +55,7 @@ impl<'a> NamedModels<'a> {
     pub fn of(
         alloc: Global,
         catalogue: &'a Catalogue,
-        statements: &'a [Statement],
+        statements: &'a [Statement<'a>],
     ) -> Result<NamedModels<'a>, AllocError>
         ensures { IfOk result (λ named. AreNamed catalogue.now named statements.now) }
     {

@@ -44,7 +44,7 @@ impl<'b, 'a> Whole<'b, 'a> {
     pub fn of(
         alloc: Global,
         models: &'b NamedModels<'a>,
-        statements: &'a [Statement],
+        statements: &'a [Statement<'a>],
     ) -> Result<Whole<'b, 'a>, AllocError>
         ensures { IfOk result (λ whole. (catalogue : List NamedModel) → AreNamed catalogue models.now statements.now → DeclaresAll catalogue whole statements.now) }
     {
@@ -171,7 +171,7 @@ impl<'b, 'a> Whole<'b, 'a> {
     }
 
     /// The rules that a statement breaks.
-    pub fn broken(&self, place: usize, repeated: Repeated, what: &'a What) -> Broken
+    pub fn broken(&self, place: usize, repeated: Repeated, what: &'a What<'a>) -> Broken
         ensures { (catalogue : List NamedModel) (before all : List Stated) → DeclaresAll catalogue self.now all → IsNamed all what.now → repeated ≡ repeats before what.now → duplicate_link before what.now ≡ is_at self.now.first_repeat place → result ≡ broken_rules catalogue before all what.now }
     {
         match what {

@@ -80,7 +80,7 @@ pub fn flags_field(rest: &[u8]) -> Result<(u8, &[u8]), Why>
 }
 
 /// A name.
-pub fn name_field(rest: &[u8]) -> Result<(Name, &[u8]), Why>
+pub fn name_field(rest: &[u8]) -> Result<(Name<'_>, &[u8]), Why>
     ensures read { Answers (λ x. (x.0, words x.1.now)) result (field name_value BadName (words rest.now)) }
     ensures fits { IfOk result (λ x. IsTrue (is_name x.0)) }
 {

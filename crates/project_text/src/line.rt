@@ -13,9 +13,9 @@ use knx_model::{
 };
 
 /// Adds the statement of a line.
-fn add(statements: &mut List<Statement>, line: u32, what: What) -> Result<(), Why>
-    ensures added { OnOk result (statements.new ≡ statements.old ++ statement line what ∷ []) }
-    ensures spelled { IsTrue (is_spellable what) → IsTrue (are_spellable statements.old) → OnOk result (IsTrue (are_spellable statements.new)) }
+fn add<'a>(statements: &mut List<Statement<'a>>, line: u32, what: What<'a>) -> Result<(), Why>
+    ensures added { OnOk result (statements.new ≡ statements.old ++ statement line what.entry ∷ []) }
+    ensures spelled { IsTrue (is_spellable what.entry) → IsTrue (are_spellable statements.old) → OnOk result (IsTrue (are_spellable statements.new)) }
     ensures memory { IfErr result (λ why. why ≡ OutOfMemory) }
 {
     match statements.push(Statement { line, what }) {
@@ -26,7 +26,7 @@ fn add(statements: &mut List<Statement>, line: u32, what: What) -> Result<(), Wh
 
 /// `project NAME`
 #[tactic(auto, unfolding(knx_model::specs::Statements::title_says))]
-fn title_in(statements: &mut List<Statement>, line: u32, rest: &[u8]) -> Result<(), Why>
+fn title_in<'a>(statements: &mut List<Statement<'a>>, line: u32, rest: &'a [u8]) -> Result<(), Why>
     ensures read { Added result statements.new (with_line statements.old line (some_what (title_says (words rest.now)))) }
     ensures spelled { IsTrue (are_spellable statements.old) → OnOk result (IsTrue (are_spellable statements.new)) }
 {
@@ -37,7 +37,7 @@ fn title_in(statements: &mut List<Statement>, line: u32, rest: &[u8]) -> Result<
 
 /// `ga GA NAME`
 #[tactic(auto, unfolding(knx_model::specs::Statements::ga_says))]
-fn ga_in(statements: &mut List<Statement>, line: u32, rest: &[u8]) -> Result<(), Why>
+fn ga_in<'a>(statements: &mut List<Statement<'a>>, line: u32, rest: &'a [u8]) -> Result<(), Why>
     ensures read { Added result statements.new (with_line statements.old line (some_what (ga_says (words rest.now)))) }
     ensures spelled { IsTrue (are_spellable statements.old) → OnOk result (IsTrue (are_spellable statements.new)) }
 {
@@ -49,7 +49,7 @@ fn ga_in(statements: &mut List<Statement>, line: u32, rest: &[u8]) -> Result<(),
 
 /// `device IA MODEL`
 #[tactic(auto, unfolding(knx_model::specs::Statements::device_says))]
-fn device_in(statements: &mut List<Statement>, line: u32, rest: &[u8]) -> Result<(), Why>
+fn device_in<'a>(statements: &mut List<Statement<'a>>, line: u32, rest: &'a [u8]) -> Result<(), Why>
     ensures read { Added result statements.new (with_line statements.old line (some_what (device_says (words rest.now)))) }
     ensures spelled { IsTrue (are_spellable statements.old) → OnOk result (IsTrue (are_spellable statements.new)) }
 {
@@ -61,7 +61,7 @@ fn device_in(statements: &mut List<Statement>, line: u32, rest: &[u8]) -> Result
 
 /// `object IA N SIZE FLAGS`
 #[tactic(auto, unfolding(knx_model::specs::Statements::object_says))]
-fn object_in(statements: &mut List<Statement>, line: u32, rest: &[u8]) -> Result<(), Why>
+fn object_in<'a>(statements: &mut List<Statement<'a>>, line: u32, rest: &'a [u8]) -> Result<(), Why>
     ensures read { Added result statements.new (with_line statements.old line (some_what (object_says (words rest.now)))) }
     ensures spelled { IsTrue (are_spellable statements.old) → OnOk result (IsTrue (are_spellable statements.new)) }
 {
@@ -84,7 +84,7 @@ fn object_in(statements: &mut List<Statement>, line: u32, rest: &[u8]) -> Result
 
 /// `link IA N GA`
 #[tactic(auto, unfolding(knx_model::specs::Statements::link_says))]
-fn link_in(statements: &mut List<Statement>, line: u32, rest: &[u8]) -> Result<(), Why>
+fn link_in<'a>(statements: &mut List<Statement<'a>>, line: u32, rest: &'a [u8]) -> Result<(), Why>
     ensures read { Added result statements.new (with_line statements.old line (some_what (link_says (words rest.now)))) }
     ensures spelled { IsTrue (are_spellable statements.old) → OnOk result (IsTrue (are_spellable statements.new)) }
 {
@@ -105,7 +105,7 @@ fn link_in(statements: &mut List<Statement>, line: u32, rest: &[u8]) -> Result<(
 
 /// `flags IA N FLAGS`
 #[tactic(auto, unfolding(knx_model::specs::Statements::flags_says))]
-fn flags_in(statements: &mut List<Statement>, line: u32, rest: &[u8]) -> Result<(), Why>
+fn flags_in<'a>(statements: &mut List<Statement<'a>>, line: u32, rest: &'a [u8]) -> Result<(), Why>
     ensures read { Added result statements.new (with_line statements.old line (some_what (flags_says (words rest.now)))) }
     ensures spelled { IsTrue (are_spellable statements.old) → OnOk result (IsTrue (are_spellable statements.new)) }
 {
@@ -126,7 +126,7 @@ fn flags_in(statements: &mut List<Statement>, line: u32, rest: &[u8]) -> Result<
 
 /// `param IA NAME VALUE`
 #[tactic(auto, unfolding(knx_model::specs::Statements::param_says))]
-fn param_in(statements: &mut List<Statement>, line: u32, rest: &[u8]) -> Result<(), Why>
+fn param_in<'a>(statements: &mut List<Statement<'a>>, line: u32, rest: &'a [u8]) -> Result<(), Why>
     ensures read { Added result statements.new (with_line statements.old line (some_what (param_says (words rest.now)))) }
     ensures spelled { IsTrue (are_spellable statements.old) → OnOk result (IsTrue (are_spellable statements.new)) }
 {
@@ -147,7 +147,7 @@ fn param_in(statements: &mut List<Statement>, line: u32, rest: &[u8]) -> Result<
 
 /// Adds the statement of these words, where there are any.
 #[tactic(auto, unfolding(knx_model::specs::Statements::words_say))]
-fn words_in(statements: &mut List<Statement>, line: u32, rest: &[u8]) -> Result<(), Why>
+fn words_in<'a>(statements: &mut List<Statement<'a>>, line: u32, rest: &'a [u8]) -> Result<(), Why>
     ensures read { Added result statements.new (with_line statements.old line (words_say (words rest.now))) }
     ensures spelled { IsTrue (are_spellable statements.old) → OnOk result (IsTrue (are_spellable statements.new)) }
 {
@@ -178,10 +178,10 @@ fn words_in(statements: &mut List<Statement>, line: u32, rest: &[u8]) -> Result<
 /// Adds the statement of a line to those of the lines before it, where the line says one; or answers the first rule that the line
 /// breaks, or want of memory. A line that is known to be text isn't looked at again.
 #[tactic(auto, unfolding(knx_model::specs::Statements::line_says))]
-pub fn line_in(
-    statements: &mut List<Statement>,
+pub fn line_in<'a>(
+    statements: &mut List<Statement<'a>>,
     line: u32,
-    text: &[u8],
+    text: &'a [u8],
     is_plain: bool,
 ) -> Result<(), Why>
     requires { IsTrue is_plain → IsTrue (is_text text.now) }

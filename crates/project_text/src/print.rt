@@ -148,7 +148,7 @@ fn put_param(
 }
 
 /// Appends the words of a statement.
-fn put_words(alloc: Global, out: &mut Octets, what: &What) -> Result<(), NoMemory>
+fn put_words(alloc: Global, out: &mut Octets, what: &What<'_>) -> Result<(), NoMemory>
     ensures { OnOk result (out.new ≡ out.old ++ join_with_byte 32 (words_of what.now)) }
 {
     match what {
@@ -180,7 +180,7 @@ fn put_words(alloc: Global, out: &mut Octets, what: &What) -> Result<(), NoMemor
 }
 
 #[tactic(auto, unfolding(crate::specs::Printing::line_text))]
-fn put_line(alloc: Global, out: &mut Octets, what: &What) -> Result<(), NoMemory>
+fn put_line(alloc: Global, out: &mut Octets, what: &What<'_>) -> Result<(), NoMemory>
     ensures { OnOk result (out.new ≡ out.old ++ line_text what.now) }
 {
     put_words(alloc, out, what)?;
@@ -188,7 +188,7 @@ fn put_line(alloc: Global, out: &mut Octets, what: &What) -> Result<(), NoMemory
 }
 
 #[tactic(auto, unfolding(crate::specs::Printing::printed))]
-fn print_all(alloc: Global, statements: &[Statement]) -> Result<Octets, NoMemory>
+fn print_all(alloc: Global, statements: &[Statement<'_>]) -> Result<Octets, NoMemory>
     ensures { IfOk result (λ text. text ≡ printed statements.now) }
 {
     let mut out = Octets::new(alloc);
@@ -200,7 +200,7 @@ fn print_all(alloc: Global, statements: &[Statement]) -> Result<Octets, NoMemory
 
 /// The text of a project: one statement in a line, its words apart by one space. Flags stand in the order C R W T U I, sizes as
 /// numbers of bits, addresses and numbers in decimal.
-pub fn print_project(alloc: Global, project: &Project) -> Result<Octets, NoMemory>
+pub fn print_project(alloc: Global, project: &Project<'_>) -> Result<Octets, NoMemory>
     ensures text { IfOk result (λ text. text ≡ printed project.now.statements) }
     // What is printed reads as the same statements, numbered anew.
     ensures again { IfOk result (λ text. length text ≤ 4194304 → reading text ≡ Ok (renumbered_from 1 project.now.statements)) }

@@ -9,18 +9,18 @@ use knx_model::{GroupAddr, IndAddr, List, Statement, What, is_name_in};
 
 /// The statements of a text. Each can be spelled, and their lines ascend from 1.
 #[derive(Debug, Drop)]
-pub struct Project {
-    pub statements: List<Statement>,
+pub struct Project<'a> {
+    pub statements: List<Statement<'a>>,
     pub ghost spelled: { IsTrue (are_spellable statements) },
     pub ghost numbered: { IsTrue (are_numbered 0 statements) },
 }
 
-impl Project {
+impl<'a> Project<'a> {
     /// The project of these statements; none where one of them can't be spelled, or where their lines don't strictly ascend
     /// from 1.
-    pub fn new(statements: List<Statement>) -> Option<Project>
-        ensures some { IfSome result (λ p. p.statements ≡ statements) }
-        ensures none { IfNone result ((are_spellable statements && are_numbered 0 statements) ≡ false) }
+    pub fn new(statements: List<Statement<'a>>) -> Option<Project<'a>>
+        ensures some { IfSome result (λ p. p.statements ≡ statements.entry) }
+        ensures none { IfNone result ((are_spellable statements.entry && are_numbered 0 statements.entry) ≡ false) }
     {
         if !are_spellable(statements.as_slice()) {
             return None;
@@ -61,7 +61,7 @@ fn are_flags(flags: u8) -> bool
 }
 
 /// Whether a statement can be spelled.
-fn is_spellable(what: &What) -> bool
+fn is_spellable(what: &What<'_>) -> bool
     ensures { result ≡ is_spellable what.now }
 {
     match what {
@@ -92,14 +92,14 @@ fn is_spellable(what: &What) -> bool
     }
 }
 
-fn are_spellable(statements: &[Statement]) -> bool
+fn are_spellable(statements: &[Statement<'_>]) -> bool
     ensures { result ≡ are_spellable statements.now }
 {
     statements.iter().all(|s| is_spellable(&s.what))
 }
 
 /// Whether lines strictly ascend from 1.
-fn are_numbered(statements: &[Statement]) -> bool
+fn are_numbered(statements: &[Statement<'_>]) -> bool
     ensures { result ≡ are_numbered 0 statements.now }
 {
     let mut above = 0;

@@ -18,7 +18,7 @@ const LONGEST_TEXT: u32 = 4_194_304;
 
 /// The statements of a text of at most 4,194,304 octets, or why it is refused: the least line that breaks a rule, and the
 /// rule. Line 0 stands for a text that is too long and for want of memory.
-pub fn read_project(alloc: Global, octets: &[u8]) -> Result<Project, Refused>
+pub fn read_project(alloc: Global, octets: &[u8]) -> Result<Project<'_>, Refused>
     // What is read is what the text says, and a refusal is the text's, unless memory ran out.
     ensures read { Read result (reading octets.now) }
     ensures memory { IfErr result (λ e. e.why ≡ OutOfMemory → e.line ≡ 0) }

@@ -215,7 +215,7 @@ fn the_least_line_is_refused(rt: HostRuntime) -> Result<(), Fail> {
 }
 
 /// A `flags` statement and a `link` statement in these lines.
-fn two(rt: &HostRuntime, lines: (u32, u32), flags: u8) -> Result<List<Statement>, Fail> {
+fn two(rt: &HostRuntime, lines: (u32, u32), flags: u8) -> Result<List<Statement<'static>>, Fail> {
     let device = IndAddr { raw: 0x1105 };
     let group = GroupAddr { raw: 1 };
     let mut statements = List::new(rt.alloc());

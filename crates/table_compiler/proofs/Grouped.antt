@@ -39,10 +39,6 @@ lines_without d (t ∷ ss) s e = one (names d t.what) (lines_without d ss s e)
     one true h = ap (λ (xs : List Statement). t ∷ xs) h
     one false h = h
 
-map_push : (xs : List (Bor Statement)) (x : Bor Statement) → map (λ s. s.now) (xs ++ x ∷ []) ≡ map (λ s. s.now) xs ++ x.now ∷ []
-map_push [] x = refl
-map_push (y ∷ xs) x = ap (λ (ss : List Statement). y.now ∷ ss) (map_push xs x)
-
 apart : (numbers : List ℕ) (i k : ℕ) → IsStrictlyIncreasing numbers → i < length numbers → k < length numbers → (i ≡ k → ⊥) → get_or numbers i 0 ≡ get_or numbers k 0 → ⊥
 apart numbers i k up lt lt' ne same = elim (cases_lt i k) [
   | inl below ↦ (let h = AllPairs-from_increasing numbers up i k 0 below lt' in omega arith)
@@ -56,20 +52,20 @@ is_false : (b : Bool) → (b ≡ true → ⊥) → b ≡ false
 is_false true h = absurd (h refl)
 is_false false h = refl
 
-pub grouped_more : (numbers : List ℕ) (groups : List (Vec (Bor Statement) Global)) (place : ℕ) (s : Bor Statement) (old new : Vec (Bor Statement) Global) (ss : List Statement)
-    → IsStrictlyIncreasing numbers → place < length numbers → names (get_or numbers place 0) s.now.what ≡ true → new.items ≡ (get_or groups place old).items ++ s ∷ []
-    → AreGrouped numbers groups ss → AreGrouped numbers (set groups place new) (ss ++ s.now ∷ [])
+pub grouped_more : (numbers : List ℕ) (groups : List (Vec Statement Global)) (place : ℕ) (s : Statement) (old new : Vec Statement Global) (ss : List Statement)
+    → IsStrictlyIncreasing numbers → place < length numbers → names (get_or numbers place 0) s.what ≡ true → new.items ≡ (get_or groups place old).items ++ s ∷ []
+    → AreGrouped numbers groups ss → AreGrouped numbers (set groups place new) (ss ++ s ∷ [])
 grouped_more numbers groups place s old new ss up lt named pushed grouped = record {
   whole = length-set groups place new ∙ grouped.whole;
   each = λ k g less. elim (cases_eq place k) [
-    | inl same ↦ subst (λ (k : ℕ). map (λ s. s.now) (get_or (set groups place new) k g).items ≡ lines_of (get_or numbers k 0) (ss ++ s.now ∷ [])) same (
-        ap (λ (v : Vec (Bor Statement) Global). map (λ s. s.now) v.items) (get_or-set_same groups place new g (omega (arith, lt, grouped.whole)))
-        ∙ ap (map (λ s. s.now)) pushed ∙ map_push (get_or groups place old).items s
-        ∙ ap (λ (xs : List Statement). xs ++ s.now ∷ []) (grouped.each place old lt)
-        ∙ sym (lines_with (get_or numbers place 0) ss s.now named))
+    | inl same ↦ subst (λ (k : ℕ). (get_or (set groups place new) k g).items ≡ lines_of (get_or numbers k 0) (ss ++ s ∷ [])) same (
+        ap (λ (v : Vec Statement Global). v.items) (get_or-set_same groups place new g (omega (arith, lt, grouped.whole)))
+        ∙ pushed
+        ∙ ap (λ (xs : List Statement). xs ++ s ∷ []) (grouped.each place old lt)
+        ∙ sym (lines_with (get_or numbers place 0) ss s named))
     | inr other ↦
-        ap (λ (v : Vec (Bor Statement) Global). map (λ s. s.now) v.items) (get_or-set_other groups place k new g (λ e. other (sym e))) ∙ grouped.each k g less
-        ∙ sym (lines_without (get_or numbers k 0) ss s.now (is_false _ (λ q. apart numbers place k up lt less other (names_one (get_or numbers place 0) (get_or numbers k 0) s.now.what named q))))
+        ap (λ (v : Vec Statement Global). v.items) (get_or-set_other groups place k new g (λ e. other (sym e))) ∙ grouped.each k g less
+        ∙ sym (lines_without (get_or numbers k 0) ss s (is_false _ (λ q. apart numbers place k up lt less other (names_one (get_or numbers place 0) (get_or numbers k 0) s.what named q))))
   ];
 }
 
@@ -84,9 +80,9 @@ AllZip-push R (x' ∷ xs) [] x y all r = absurd all
 AllZip-push R (x' ∷ xs) (y' ∷ ys) x y all r = (all.0, AllZip-push R xs ys x y all.1 r)
 
 -- the lines of the device in a place
-pub lines_at : (devices : List IndAddr) (numbers : List ℕ) (groups : List (Vec (Bor Statement) Global)) (ss : List Statement) (place : ℕ) (group : Vec (Bor Statement) Global) (lines : List (Bor Statement))
-    → numbers ≡ map raw devices → AreGrouped numbers groups ss → place < length devices → group ≡ get_or groups place group → lines ≡ group.items → map (λ s. s.now) lines ≡ lines_of (get_or devices place (record { raw = 0 })).raw ss
+pub lines_at : (devices : List IndAddr) (numbers : List ℕ) (groups : List (Vec Statement Global)) (ss : List Statement) (place : ℕ) (group : Vec Statement Global) (lines : List Statement)
+    → numbers ≡ map raw devices → AreGrouped numbers groups ss → place < length devices → group ≡ get_or groups place group → lines ≡ group.items → lines ≡ lines_of (get_or devices place (record { raw = 0 })).raw ss
 lines_at devices numbers groups ss place group lines is grouped lt there same =
     let many : place < length numbers = omega (arith, lt, ap length is, length-map devices raw) in
-    ap (map (λ s. s.now)) same ∙ ap (λ (v : Vec (Bor Statement) Global). map (λ s. s.now) v.items) there ∙ grouped.each place group many
+    same ∙ ap (λ (v : Vec Statement Global). v.items) there ∙ grouped.each place group many
     ∙ ap (λ (d : ℕ). lines_of d ss) (ap (λ (ns : List ℕ). get_or ns place 0) is ∙ get_or-map raw devices place (record { raw = 0 }) 0 lt)

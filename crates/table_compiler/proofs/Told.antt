@@ -1,7 +1,6 @@
--- The statements behind references.
-use Rattle.std.proofs.Common.{◌≡◌, ℕ, ◌+◌, ◌<◌, List, [], ◌∷◌, ◌++◌, Option, None, Some, length, get_or, take, drop, map, refl, sym, ap, ◌∙◌}
+-- What the lines of a device tell last, and what they tell first.
+use Rattle.std.proofs.Common.{◌≡◌, ℕ, ◌+◌, ◌<◌, List, [], ◌∷◌, ◌++◌, Option, None, Some, length, get_or, take, drop, refl, sym, ap, ◌∙◌}
 use Rattle.std.proofs.lemmas.List.{drop_more}
-use Rattle.std.specs.Borrow.{Bor}
 use Rattle.std.specs.List.{filter_map, cons_option, last_or}
 use Rattle.std.specs.Option.{option_or}
 use Rattle.std.proofs.lemmas.List.{take_more}
@@ -10,28 +9,20 @@ use Rattle.knx_model.specs.declared.project.Statement.{Statement}
 use Rattle.knx_model.specs.declared.project.What.{What}
 use Rattle.knx_model.specs.Rules.{first_some}
 
-pub filter_map_told : {X : Type 0} (f : Statement → Option X) (lines : List (Bor Statement)) → filter_map f (map (λ s. s.now) lines) ≡ filter_map (λ s. f s.now) lines
-filter_map_told f [] = refl
-filter_map_told f (s ∷ lines) = ap (cons_option (f s.now)) (filter_map_told f lines)
-
 last_of_more : {X : Type 0} (o : Option X) (xs : List X) (p : Option X) → last_or o (xs ++ cons_option p []) ≡ option_or p (last_or o xs)
 last_of_more o [] None = refl
 last_of_more o [] (Some x) = refl
 last_of_more o (y ∷ xs) p = last_of_more (Some y) xs p
 
 -- what the lines tell last, one line later
-pub last_step : {X : Type 0} (f : Statement → Option X) (lines : List (Bor Statement)) (i : ℕ) (line : Bor Statement) {before after : Option X} → i < length lines → line ≡ get_or lines i line
-    → before ≡ last_or None (filter_map f (map (λ s. s.now) (take i lines))) → after ≡ option_or (f line.now) before → after ≡ last_or None (filter_map f (map (λ s. s.now) (take (i + 1) lines)))
-last_step {X = X} f lines i line {before = before} lt is was made =
-    let g : Bor Statement → Option X = λ s. f s.now in
-    let now : filter_map f (map (λ s. s.now) (take (i + 1) lines)) ≡ filter_map g (take i lines) ++ cons_option (f line.now) [] =
-    filter_map_told f (take (i + 1) lines) ∙ ap (filter_map g) (take_more lines i line lt) ∙ filter_map-append g (take i lines) (get_or lines i line ∷ []) ∙ ap (λ (s : Bor Statement). filter_map g (take i lines) ++ cons_option (f s.now) []) (sym is) in
-    made ∙ ap (option_or (f line.now)) (was ∙ ap (last_or None) (filter_map_told f (take i lines))) ∙ sym (ap (last_or None) now ∙ last_of_more None (filter_map g (take i lines)) (f line.now))
+pub last_step : {X : Type 0} (f : Statement → Option X) (lines : List Statement) (i : ℕ) (line : Statement) {before after : Option X} → i < length lines → line ≡ get_or lines i line
+    → before ≡ last_or None (filter_map f (take i lines)) → after ≡ option_or (f line) before → after ≡ last_or None (filter_map f (take (i + 1) lines))
+last_step f lines i line lt is was made =
+    let now : filter_map f (take (i + 1) lines) ≡ filter_map f (take i lines) ++ cons_option (f line) [] =
+    ap (filter_map f) (take_more lines i line lt) ∙ filter_map-append f (take i lines) (get_or lines i line ∷ []) ∙ ap (λ (s : Statement). filter_map f (take i lines) ++ cons_option (f s) []) (sym is) in
+    made ∙ ap (option_or (f line)) was ∙ sym (ap (last_or None) now ∙ last_of_more None (filter_map f (take i lines)) (f line))
 
 -- ---- the first line that tells
-
-abbrev pub first_told : {X : Type 0} → (What → Option X) → List (Bor Statement) → Option X
-first_told f lines = first_some f (map (λ s. s.now) lines)
 
 told_first : {X : Type 0} (o rest : Option X) → o ≡ None → (elim o as (λ _. Option X) [ None ↦ rest | Some x ↦ Some x ]) ≡ rest
 told_first None rest e = refl
@@ -41,11 +32,11 @@ told_at : {X : Type 0} (o rest : Option X) (y : X) → o ≡ Some y → (elim o 
 told_at None rest y e = absurd (cc)
 told_at (Some x) rest y e = e
 
-from_line : (lines : List (Bor Statement)) (i : ℕ) (line : Bor Statement) → i < length lines → line ≡ get_or lines i line → drop i lines ≡ line ∷ drop (i + 1) lines
-from_line lines i line lt is = drop_more lines i line lt ∙ ap (λ (s : Bor Statement). s ∷ drop (i + 1) lines) (sym is)
+from_line : (lines : List Statement) (i : ℕ) (line : Statement) → i < length lines → line ≡ get_or lines i line → drop i lines ≡ line ∷ drop (i + 1) lines
+from_line lines i line lt is = drop_more lines i line lt ∙ ap (λ (s : Statement). s ∷ drop (i + 1) lines) (sym is)
 
-pub first_later : {X : Type 0} (f : What → Option X) (lines : List (Bor Statement)) (i : ℕ) (line : Bor Statement) → i < length lines → line ≡ get_or lines i line → f line.now.what ≡ None → first_told f (drop i lines) ≡ first_told f (drop (i + 1) lines)
-first_later f lines i line lt is none = ap (first_told f) (from_line lines i line lt is) ∙ told_first (f line.now.what) (first_told f (drop (i + 1) lines)) none
+pub first_later : {X : Type 0} (f : What → Option X) (lines : List Statement) (i : ℕ) (line : Statement) → i < length lines → line ≡ get_or lines i line → f line.what ≡ None → first_some f (drop i lines) ≡ first_some f (drop (i + 1) lines)
+first_later f lines i line lt is none = ap (first_some f) (from_line lines i line lt is) ∙ told_first (f line.what) (first_some f (drop (i + 1) lines)) none
 
-pub first_here : {X : Type 0} (f : What → Option X) (lines : List (Bor Statement)) (i : ℕ) (line : Bor Statement) (x : X) → i < length lines → line ≡ get_or lines i line → f line.now.what ≡ Some x → first_told f (drop i lines) ≡ Some x
-first_here f lines i line x lt is some = ap (first_told f) (from_line lines i line lt is) ∙ told_at (f line.now.what) (first_told f (drop (i + 1) lines)) x some
+pub first_here : {X : Type 0} (f : What → Option X) (lines : List Statement) (i : ℕ) (line : Statement) (x : X) → i < length lines → line ≡ get_or lines i line → f line.what ≡ Some x → first_some f (drop i lines) ≡ Some x
+first_here f lines i line x lt is some = ap (first_some f) (from_line lines i line lt is) ∙ told_at (f line.what) (first_some f (drop (i + 1) lines)) x some

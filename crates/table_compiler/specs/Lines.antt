@@ -36,6 +36,6 @@ pub record AreLinesOf (catalogue : List NamedModel) (device : IndAddr) (lines : 
   pub are : lines ≡ lines_of device.raw whole
 
 -- for each device its lines in these statements
-pub record AreGrouped (numbers : List ℕ) (groups : List (Vec (Bor Statement) Global)) (ss : List Statement) : Type 0 where
+pub record AreGrouped (numbers : List ℕ) (groups : List (Vec Statement Global)) (ss : List Statement) : Type 0 where
   pub whole : length groups ≡ length numbers
-  pub each : (k : ℕ) (g : Vec (Bor Statement) Global) → k < length numbers → map (λ s. s.now) (slice_index_or groups k g).items ≡ lines_of (slice_index numbers k) ss
+  pub each : (k : ℕ) (g : Vec Statement Global) → k < length numbers → (slice_index_or groups k g).items ≡ lines_of (slice_index numbers k) ss

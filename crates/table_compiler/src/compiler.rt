@@ -50,13 +50,13 @@ fn compile_lines(
     alloc: Global,
     places: &mut Places,
     catalogue: &Catalogue,
-    lines: &[&Statement],
+    lines: &[Statement<'_>],
     device: IndAddr,
 ) -> Result<Image, NoMemory>
-    requires { AreLinesOf catalogue.now device (map (λ s. s.now) lines.now) }
-    ensures stands { IfOk result (λ image. StandsFor image (meaning (record { statements = map (λ s. s.now) lines.now; catalogue = catalogue.now }) device)) }
+    requires { AreLinesOf catalogue.now device lines.now }
+    ensures stands { IfOk result (λ image. StandsFor image (meaning (record { statements = lines.now; catalogue = catalogue.now }) device)) }
     ensures fits { IfOk result (λ image. Fits image) }
-    ensures in_range { IfOk result (λ _. IsInRange (meaning (record { statements = map (λ s. s.now) lines.now; catalogue = catalogue.now }) device)) }
+    ensures in_range { IfOk result (λ _. IsInRange (meaning (record { statements = lines.now; catalogue = catalogue.now }) device)) }
 {
     let inline = inline(alloc);
     let model = model_of(catalogue, &inline, lines, device);
@@ -72,7 +72,7 @@ fn compile_lines(
 fn compile_statements(
     alloc: Global,
     catalogue: &Catalogue,
-    statements: &[Statement],
+    statements: &[Statement<'_>],
     device: IndAddr,
 ) -> Result<Image, NoMemory>
     requires { first_broken catalogue.now statements.now ≡ None }
@@ -95,7 +95,7 @@ fn numbers_of(alloc: Global, devices: &[IndAddr]) -> Result<Vec<u16>, AllocError
 fn compile_devices(
     alloc: Global,
     catalogue: &Catalogue,
-    statements: &[Statement],
+    statements: &[Statement<'_>],
     devices: &[IndAddr],
 ) -> Result<List<Image>, NoMemory>
     requires sound { first_broken catalogue.now statements.now ≡ None }

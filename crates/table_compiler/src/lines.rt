@@ -11,7 +11,7 @@ use knx_model::{IndAddr, Statement, What};
 use std::alloc::{AllocError, Global};
 
 /// Whether a statement names the device.
-fn names(device: IndAddr, what: &What) -> bool
+fn names(device: IndAddr, what: &What<'_>) -> bool
     ensures { result ≡ names device.raw what.now }
 {
     match what {
@@ -27,19 +27,20 @@ fn names(device: IndAddr, what: &What) -> bool
 /// The statements that name the device, in order.
 pub fn lines_of<'a>(
     alloc: Global,
-    statements: &'a [Statement],
+    statements: &[Statement<'a>],
     device: IndAddr,
-) -> Result<Vec<&'a Statement>, AllocError>
-    ensures { IfOk result (λ lines. map (λ s. s.now) lines.items ≡ lines_of device.raw statements.now) }
+) -> Result<Vec<Statement<'a>>, AllocError>
+    ensures { IfOk result (λ lines. lines.items ≡ lines_of device.raw statements.now) }
 {
     statements
         .iter()
         .filter(|statement| names(device, &statement.what))
+        .map(|statement| statement.copied())
         .collect(alloc)
 }
 
 /// The device that a statement names.
-fn device_of(what: &What) -> Option<IndAddr>
+fn device_of(what: &What<'_>) -> Option<IndAddr>
     ensures some { IfSome result (λ device. (d : ℕ) → names d what.now ≡ (device.raw == d)) }
     ensures none { IfNone result ((d : ℕ) → names d what.now ≡ false) }
 {
@@ -54,7 +55,7 @@ fn device_of(what: &What) -> Option<IndAddr>
 }
 
 /// The place of the device that a statement names, where it stands among these numbers.
-fn place_of(places: &Places, numbers: &[u16], what: &What) -> Option<usize>
+fn place_of(places: &Places, numbers: &[u16], what: &What<'_>) -> Option<usize>
     requires { ArePlaces places.now numbers.now }
     ensures some { IfSome result (λ place. (place < length numbers.now) × (names (slice_index numbers.now place) what.now ≡ true)) }
     ensures none { IfNone result ((k : ℕ) → k < length numbers.now → names (slice_index numbers.now k) what.now ≡ false) }
@@ -70,10 +71,10 @@ fn place_of(places: &Places, numbers: &[u16], what: &What) -> Option<usize>
 
 /// Adds a statement to the lines of the device that it names.
 fn add<'a>(
-    groups: &mut [Vec<&'a Statement>],
+    groups: &mut [Vec<Statement<'a>>],
     places: &Places,
     numbers: &[u16],
-    statement: &'a Statement,
+    statement: &Statement<'a>,
 ) -> Result<(), AllocError>
     requires places { ArePlaces places.now numbers.now }
     requires ascending { IsStrictlyIncreasing numbers.now }
@@ -82,13 +83,13 @@ fn add<'a>(
     ensures added { OnOk result ((ss : List Stated) → AreGrouped numbers.now groups.old ss → AreGrouped numbers.now groups.new (ss ++ statement.now ∷ [])) }
 {
     if let Some(place) = place_of(places, numbers, &statement.what) {
-        groups[place].push(statement)?;
+        groups[place].push(statement.copied())?;
     }
     Ok(())
 }
 
 /// No lines for each device.
-fn no_lines<'a>(alloc: Global, numbers: &[u16]) -> Result<Vec<Vec<&'a Statement>>, AllocError>
+fn no_lines<'a>(alloc: Global, numbers: &[u16]) -> Result<Vec<Vec<Statement<'a>>>, AllocError>
     ensures { IfOk result (λ groups. AreGrouped numbers.now groups.items []) }
 {
     let mut groups = Vec::new(alloc);
@@ -102,8 +103,8 @@ fn no_lines<'a>(alloc: Global, numbers: &[u16]) -> Result<Vec<Vec<&'a Statement>
 pub fn lines_by_device<'a>(
     alloc: Global,
     numbers: &[u16],
-    statements: &'a [Statement],
-) -> Result<Vec<Vec<&'a Statement>>, AllocError>
+    statements: &[Statement<'a>],
+) -> Result<Vec<Vec<Statement<'a>>>, AllocError>
     requires { IsStrictlyIncreasing numbers.now }
     ensures { IfOk result (λ groups. AreGrouped numbers.now groups.items statements.now) }
 {

@@ -8,7 +8,7 @@ use knx_model::{GroupAddr, IndAddr, LinkSpec, Statement, What};
 use std::alloc::{AllocError, Global};
 
 /// The object and the group of a `link` line of the device.
-fn link_line(device: IndAddr, what: &What) -> Option<(u8, GroupAddr)>
+fn link_line(device: IndAddr, what: &What<'_>) -> Option<(u8, GroupAddr)>
     ensures { result ≡ link_line device what.now }
 {
     match what {
@@ -28,13 +28,12 @@ fn link_line(device: IndAddr, what: &What) -> Option<(u8, GroupAddr)>
 }
 
 /// The objects and groups of the `link` lines of the device, in order.
-#[tactic(auto, using(crate::proofs::Told::filter_map_told))]
 pub fn link_lines(
     alloc: Global,
-    lines: &[&Statement],
+    lines: &[Statement<'_>],
     device: IndAddr,
 ) -> Result<Vec<(u8, GroupAddr)>, AllocError>
-    ensures { IfOk result (λ found. found.items ≡ link_lines device (map (λ s. s.now) lines.now)) }
+    ensures { IfOk result (λ found. found.items ≡ link_lines device lines.now) }
 {
     lines
         .iter()

@@ -23,7 +23,7 @@ pub fn inline(alloc: Global) -> Model
 }
 
 /// The model's name in a `device` line of the device.
-fn model_in<'a>(device: IndAddr, what: &'a What) -> Option<&'a [u8]>
+fn model_in<'a>(device: IndAddr, what: &What<'a>) -> Option<&'a [u8]>
     ensures some { IfSome result (λ name. model_in device.raw what.now ≡ Some name.now) }
     ensures none { IfNone result (model_in device.raw what.now ≡ None) }
 {
@@ -34,9 +34,9 @@ fn model_in<'a>(device: IndAddr, what: &'a What) -> Option<&'a [u8]>
 }
 
 /// The model's name in the first `device` line of the device.
-fn model_name<'a>(lines: &[&'a Statement], device: IndAddr) -> Option<&'a [u8]>
-    ensures some { IfSome result (λ name. first_some (model_in device.raw) (map (λ s. s.now) lines.now) ≡ Some name.now) }
-    ensures none { IfNone result (first_some (model_in device.raw) (map (λ s. s.now) lines.now) ≡ None) }
+fn model_name<'a>(lines: &[Statement<'a>], device: IndAddr) -> Option<&'a [u8]>
+    ensures some { IfSome result (λ name. first_some (model_in device.raw) lines.now ≡ Some name.now) }
+    ensures none { IfNone result (first_some (model_in device.raw) lines.now ≡ None) }
 {
     for statement in lines {
         if let Some(name) = model_in(device, &statement.what) {
@@ -65,11 +65,11 @@ fn model_named<'a>(catalogue: &'a Catalogue, inline_model: &'a Model, name: &[u8
 pub fn model_of<'a>(
     catalogue: &'a Catalogue,
     inline_model: &'a Model,
-    lines: &[&Statement],
+    lines: &[Statement<'_>],
     device: IndAddr,
 ) -> &'a Model
     requires { inline_model.now ≡ inline }
-    ensures model { result.now ≡ or_inline (model_of catalogue.now (map (λ s. s.now) lines.now) device.raw) }
+    ensures model { result.now ≡ or_inline (model_of catalogue.now lines.now device.raw) }
     ensures sound { IsModel result.now }
 {
     match model_name(lines, device) {

@@ -24,7 +24,7 @@ fn model_object(object: ModelObject) -> (u8, ObjSpec)
 }
 
 /// The number, flags and size of an `object` line of the device.
-fn object_line(device: IndAddr, what: &What) -> Option<(u8, ObjSpec)>
+fn object_line(device: IndAddr, what: &What<'_>) -> Option<(u8, ObjSpec)>
     ensures { result ≡ object_line device what.now }
 {
     match what {
@@ -49,14 +49,13 @@ fn object_line(device: IndAddr, what: &What) -> Option<(u8, ObjSpec)>
 }
 
 /// The objects of the model and of the `object` lines of the device.
-#[tactic(auto, using(crate::proofs::Told::filter_map_told))]
 fn declared_objects(
     alloc: Global,
     model: &Model,
-    lines: &[&Statement],
+    lines: &[Statement<'_>],
     device: IndAddr,
 ) -> Result<Vec<(u8, ObjSpec)>, AllocError>
-    ensures { IfOk result (λ objects. objects.items ≡ declared_objects model.now device (map (λ s. s.now) lines.now)) }
+    ensures { IfOk result (λ objects. objects.items ≡ declared_objects model.now device lines.now) }
 {
     model
         .objects
@@ -72,7 +71,7 @@ fn declared_objects(
 }
 
 /// Keeps the flags of a `flags` line of the device.
-fn keep_flags(last: &mut [Option<u8>; 256], device: IndAddr, what: &What)
+fn keep_flags(last: &mut [Option<u8>; 256], device: IndAddr, what: &What<'_>)
     ensures whole { length last.new ≡ 256 }
     ensures each { (n : ℕ) → n < 256 → slice_index_or last.new n None ≡ option_or (flags_line device n what.now) (slice_index_or last.old n None) }
 {
@@ -89,9 +88,9 @@ fn keep_flags(last: &mut [Option<u8>; 256], device: IndAddr, what: &What)
 }
 
 /// The flags of the last `flags` line of each object of the device.
-fn last_flags(lines: &[&Statement], device: IndAddr) -> [Option<u8>; 256]
+fn last_flags(lines: &[Statement<'_>], device: IndAddr) -> [Option<u8>; 256]
     ensures whole { length result ≡ 256 }
-    ensures each { HoldsFlags result device (map (λ s. s.now) lines.now) }
+    ensures each { HoldsFlags result device lines.now }
 {
     let mut last = [None; 256];
     for statement in lines {
@@ -117,10 +116,10 @@ fn flagged(last: &[Option<u8>; 256], object: (u8, ObjSpec)) -> (u8, ObjSpec)
 fn flagged_objects(
     alloc: Global,
     model: &Model,
-    lines: &[&Statement],
+    lines: &[Statement<'_>],
     device: IndAddr,
 ) -> Result<Vec<(u8, ObjSpec)>, AllocError>
-    ensures { IfOk result (λ objects. objects.items ≡ flagged_objects model.now device (map (λ s. s.now) lines.now)) }
+    ensures { IfOk result (λ objects. objects.items ≡ flagged_objects model.now device lines.now) }
 {
     let last = last_flags(lines, device);
     declared_objects(alloc, model, lines, device)?
@@ -153,10 +152,10 @@ fn table_of(objects: &[(u8, ObjSpec)]) -> [ObjSpec; 256]
 pub fn objects_of(
     alloc: Global,
     model: &Model,
-    lines: &[&Statement],
+    lines: &[Statement<'_>],
     device: IndAddr,
 ) -> Result<Vec<ObjSpec>, AllocError>
-    ensures objects { IfOk result (λ objects. objects.items ≡ objects_of (flagged_objects model.now device (map (λ s. s.now) lines.now))) }
+    ensures objects { IfOk result (λ objects. objects.items ≡ objects_of (flagged_objects model.now device lines.now)) }
     ensures few { IfOk result (λ objects. length objects.items ≤ 255) }
 {
     let objects = flagged_objects(alloc, model, lines, device)?;

@@ -14,7 +14,7 @@ use std::collections::BTreeMap;
 fn keep_value<'a>(
     values: &mut BTreeMap<&'a [u8], u32>,
     device: IndAddr,
-    what: &'a What,
+    what: &What<'a>,
 ) -> Result<(), AllocError>
     ensures { OnOk result ((q : List ℕ) → value_in values.new q ≡ option_or (param_line device q what.now) (value_in values.old q)) }
 {
@@ -34,10 +34,10 @@ fn keep_value<'a>(
 /// The value of the last `param` line of each name.
 fn last_values<'a>(
     alloc: Global,
-    lines: &[&'a Statement],
+    lines: &[Statement<'a>],
     device: IndAddr,
 ) -> Result<BTreeMap<&'a [u8], u32>, AllocError>
-    ensures { IfOk result (λ values. HoldsValues values device (map (λ s. s.now) lines.now)) }
+    ensures { IfOk result (λ values. HoldsValues values device lines.now) }
 {
     let mut values = BTreeMap::new(alloc);
     for statement in lines {
@@ -62,10 +62,10 @@ fn setting(values: &BTreeMap<&[u8], u32>, field: &ModelField) -> Option<ParamVal
 pub fn settings(
     alloc: Global,
     model: &Model,
-    lines: &[&Statement],
+    lines: &[Statement<'_>],
     device: IndAddr,
 ) -> Result<Vec<ParamValue>, AllocError>
-    ensures { IfOk result (λ found. found.items ≡ settings model.now device (map (λ s. s.now) lines.now)) }
+    ensures { IfOk result (λ found. found.items ≡ settings model.now device lines.now) }
 {
     let values = last_values(alloc, lines, device)?;
     model

@@ -8,7 +8,7 @@ use std::marker::Model;
 /// A TPDU, or an APDU with its transport bits 0: at most 16 octets.
 #[derive(Clone, Debug, Drop, PartialEq, Eq)]
 pub struct ApduOctets {
-    octets: ArrayVec<u8, 16>,
+    octets: ArrayVec<u8, { ApduOctets::CAPACITY }>,
 }
 
 impl Model for ApduOctets {
@@ -90,7 +90,7 @@ impl ApduOctets {
 /// The octets of a group value that does not fit into six bits.
 #[derive(Clone, Debug, Drop, PartialEq, Eq)]
 pub struct LongValue {
-    octets: ArrayVec<u8, 14>,
+    octets: ArrayVec<u8, { LongValue::CAPACITY }>,
 }
 
 impl Model for LongValue {
@@ -127,7 +127,7 @@ impl LongValue {
 /// The octets of one datagram: at most 300.
 #[derive(Clone, Debug, Drop, PartialEq, Eq)]
 pub struct Datagram {
-    octets: ArrayVec<u8, 300>,
+    octets: ArrayVec<u8, { Datagram::CAPACITY }>,
 }
 
 impl Model for Datagram {

@@ -29,7 +29,7 @@ impl MemoryFile {
     }
 }
 
-/// Files in memory; the first of a name counts. Calls are numbered from 1, and those in `failing` fail.
+/// Files in memory; the first of a name counts. Calls are numbered from 1, and those in `failing` fail where there is such a file.
 #[derive(Debug, Drop)]
 pub struct MemoryFiles {
     pub files: Vec<MemoryFile>,
@@ -41,7 +41,9 @@ pub struct MemoryFiles {
 impl MemoryFiles {
     /// Files of which no read fails.
     pub fn new(alloc: Global, files: Vec<MemoryFile>) -> MemoryFiles
-        ensures { result.files ≡ files }
+        ensures files { result.files ≡ files }
+        ensures fails { result.failing.items ≡ [] }
+        ensures counts { (result.calls ≡ 0) × (result.faults ≡ 0) }
     {
         MemoryFiles {
             files,
@@ -85,16 +87,16 @@ impl Files for MemoryFiles {
 
     fn read(&mut self, alloc: Global, name: &str, limit: usize) -> Result<Octets, FileFault> {
         self.calls = self.calls.saturating_add(1);
+        let Some(file) = file_of(self.files.as_slice(), name.as_bytes()) else {
+            return Err(FileFault::NotThere);
+        };
         if self.failing.contains(&self.calls) {
             self.faults = self.faults.saturating_add(1);
             return Err(FileFault::Failed);
         }
-        match file_of(self.files.as_slice(), name.as_bytes()) {
-            None => Err(FileFault::NotThere),
-            Some(file) => match Octets::from_slice(alloc, front(file.content.as_slice(), limit)) {
-                Ok(octets) => Ok(octets),
-                Err(_) => Err(FileFault::NoMemory),
-            },
+        match Octets::from_slice(alloc, front(file.content.as_slice(), limit)) {
+            Ok(octets) => Ok(octets),
+            Err(_) => Err(FileFault::NoMemory),
         }
     }
 }
@@ -111,7 +113,9 @@ pub struct MemorySink {
 impl MemorySink {
     /// A sink that took nothing and of which no write fails.
     pub fn new(alloc: Global) -> MemorySink
-        ensures { result.taken ≡ [] }
+        ensures taken { result.taken ≡ [] }
+        ensures fails { result.failing.items ≡ [] }
+        ensures counts { (result.calls ≡ 0) × (result.faults ≡ 0) }
     {
         MemorySink {
             taken: Octets::new(alloc),

@@ -84,7 +84,7 @@ fn len_without_return(line: &[u8]) -> usize
 pub fn next_line(octets: &[u8], at: usize) -> Option<Span>
     requires { at ≤ length octets.now }
     ensures found { IfSome result (λ s. lines (drop at octets.now) ≡ slice_range octets.now s.start s.end ∷ lines (drop s.next octets.now)) }
-    ensures within { IfSome result (λ s. (s.start ≤ s.end) × (s.end ≤ length octets.now) × (at < s.next) × (s.next ≤ length octets.now)) }
+    ensures within { IfSome result (λ s. (s.start ≡ at) × (s.start ≤ s.end) × (s.end ≤ s.next) × (at < s.next) × (s.next ≤ length octets.now)) }
     ensures none { IfNone result (lines (drop at octets.now) ≡ []) }
 {
     let rest = &octets[at..];
@@ -111,7 +111,7 @@ pub fn next_line(octets: &[u8], at: usize) -> Option<Span>
 pub fn next_word(line: &[u8], at: usize) -> Option<Span>
     requires { at ≤ length line.now }
     ensures found { IfSome result (λ s. words (drop at line.now) ≡ slice_range line.now s.start s.end ∷ words (drop s.next line.now)) }
-    ensures within { IfSome result (λ s. (s.start < s.end) × (s.end ≤ length line.now) × (at < s.next) × (s.next ≤ length line.now)) }
+    ensures within { IfSome result (λ s. (at ≤ s.start) × (s.start < s.end) × (s.end ≤ s.next) × (s.next ≤ length line.now)) }
     ensures none { IfNone result (words (drop at line.now) ≡ []) }
 {
     let rest = &line[at..];

@@ -46,9 +46,11 @@ fn are_plain_octets(octets: &[u8]) -> bool
         .fold(true, |plain, b| plain & is_plain_octet(*b))
 }
 
-/// Whether it is seen at once that each line of a text is text: it has no other octets than printable ASCII, tabs and line feeds.
+/// Whether a text has no other octets than printable ASCII, tabs and line feeds. Then each of its lines is text; of another text
+/// this says nothing.
 pub fn has_plain_lines(octets: &[u8]) -> bool
-    ensures { IsTrue result → IsTrue (list_all is_text (lines octets.now)) }
+    ensures exactly { result ≡ list_all is_plain_octet octets.now }
+    ensures text { IsTrue result → IsTrue (list_all is_text (lines octets.now)) }
 {
     are_plain_octets(octets)
 }

@@ -34,44 +34,46 @@ pub fn is_name(word: &str) -> bool
     is_name_in(word.as_bytes())
 }
 
-/// A name, kept in place.
+/// A name, borrowed from the text that it stands in.
 #[derive(Debug, Drop)]
-pub struct Name {
-    octets: [u8; 32],
-    len: u8,
+pub struct Name<'a> {
+    octets: &'a [u8],
 }
 
-impl Model for Name {
-    ghost use Rattle.std.specs.Prelude.{List, ℕ, take, ◌≤◌};
+impl<'a> Model for Name<'a> {
+    ghost use Rattle.std.specs.Prelude.{List, ℕ};
 
     ghost Value = { List ℕ };
 
-    ghost view = { λ n. take n.len n.octets };
-
-    ghost invariant = { λ n. n.len ≤ 32 };
+    ghost view = { λ n. n.octets.now };
 }
 
-impl Name {
+impl<'a> Name<'a> {
     /// The name that a word is; none where it is no name.
-    pub fn of(word: &[u8]) -> Option<Name>
+    pub fn of(word: &'a [u8]) -> Option<Name<'a>>
         ensures { result ≡ name_value word.now }
     {
-        if !is_name_in(word) {
-            return None;
+        if is_name_in(word) {
+            Some(Name { octets: word })
+        } else {
+            None
         }
-        let len = word.len();
-        let mut octets = [0; 32];
-        octets[..len].copy_from_slice(word);
-        Some(Name {
-            octets,
-            len: len as u8,
-        })
     }
 
-    pub fn as_slice(&self) -> &[u8]
+    /// The same name, borrowed from the same text.
+    pub fn copied(&self) -> Name<'a>
+        ensures { result ≡ self.now }
+    {
+        Name {
+            octets: self.octets,
+        }
+    }
+
+    /// Its octets.
+    pub fn as_slice(&self) -> &'a [u8]
         ensures { result.now ≡ self.now }
     {
-        &self.octets[..usize::from(self.len)]
+        self.octets
     }
 }
 

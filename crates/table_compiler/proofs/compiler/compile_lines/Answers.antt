@@ -12,27 +12,27 @@ use Rattle.table_compiler.proofs.compiler.compile_lines.Goals as goal
 
 pub lay-requires-clause-settings : goal.lay-requires-clause-settings
 lay-requires-clause-settings c =
-    settings_are c.args.catalogue.now c.args.device (map (λ s. s.now) c.args.lines.now) _ _ c.requires c.model_of-model.ensures.model c.model_of-model.ensures.sound (c.as_slice-2.ensures.value ∙ c.in_ok-settings.ensures)
+    settings_are c.args.catalogue.now c.args.device c.args.lines.now _ _ c.requires c.model_of-model.ensures.model c.model_of-model.ensures.sound (c.as_slice-2.ensures.value ∙ c.in_ok-settings.ensures)
 
 -- the links are those of the lines
-are : (c : goal.After-as_slice-4) → c.as_slice-3.result.now ≡ links_of (link_lines c.args.device (map (λ s. s.now) c.args.lines.now))
+are : (c : goal.After-as_slice-4) → c.as_slice-3.result.now ≡ links_of (link_lines c.args.device c.args.lines.now)
 are c = c.as_slice-3.ensures.value ∙ c.in_ok-links.ensures.links ∙ ap links_of (c.as_slice.ensures.value ∙ c.in_ok-link_lines.ensures)
 
 small : (c : goal.After-as_slice-4) → All IsLink c.as_slice-3.result.now
 small c = rw c.as_slice-3.ensures.value c.in_ok-links.ensures.small
 
 pub image_of-requires-clause-few_links : goal.image_of-requires-clause-few_links
-image_of-requires-clause-few_links c = subst (λ (ls : List LinkSpec). length ls ≤ 2047) (sym (are c)) (few_links c.args.catalogue.now c.args.device (map (λ s. s.now) c.args.lines.now) c.requires)
+image_of-requires-clause-few_links c = subst (λ (ls : List LinkSpec). length ls ≤ 2047) (sym (are c)) (few_links c.args.catalogue.now c.args.device c.args.lines.now c.requires)
 
 pub image_of-requires-clause-links : goal.image_of-requires-clause-links
 image_of-requires-clause-links c = small c
 
 pub image_of-requires-clause-once : goal.image_of-requires-clause-once
-image_of-requires-clause-once c = subst (λ (ls : List LinkSpec). IsDistinct eqb (map precedence ls)) (sym (are c)) (once c.args.catalogue.now c.args.device (map (λ s. s.now) c.args.lines.now) c.requires (subst (λ (ls : List LinkSpec). All IsLink ls) (are c) (small c)))
+image_of-requires-clause-once c = subst (λ (ls : List LinkSpec). IsDistinct eqb (map precedence ls)) (sym (are c)) (once c.args.catalogue.now c.args.device c.args.lines.now c.requires (subst (λ (ls : List LinkSpec). All IsLink ls) (are c) (small c)))
 
 pub returns-clause-in_range : goal.returns-clause-in_range
 returns-clause-in_range c =
-    let lines = map (λ s. s.now) c.args.lines.now in
+    let lines = c.args.lines.now in
     let links : c.as_slice-3.result.now ≡ links_of (link_lines c.args.device lines) = c.as_slice-3.ensures.value ∙ c.in_ok-links.ensures.links ∙ ap links_of (c.as_slice.ensures.value ∙ c.in_ok-link_lines.ensures) in
     let small : All IsLink c.as_slice-3.result.now = rw c.as_slice-3.ensures.value c.in_ok-links.ensures.small in
     let each : All IsLink (links_of (link_lines c.args.device lines)) = subst (λ (ls : List LinkSpec). All IsLink ls) links small in
@@ -46,7 +46,7 @@ returns-clause-in_range c =
 
 pub returns-clause-stands : goal.returns-clause-stands
 returns-clause-stands c =
-    let lines = map (λ s. s.now) c.args.lines.now in
+    let lines = c.args.lines.now in
     let model = c.model_of-model in
     let config = meaning (record { statements = lines; catalogue = c.args.catalogue.now }) c.args.device in
     let links : config.links ≡ c.as_slice-3.result.now = sym (c.as_slice-3.ensures.value ∙ c.in_ok-links.ensures.links ∙ ap links_of (c.as_slice.ensures.value ∙ c.in_ok-link_lines.ensures)) in

@@ -15,7 +15,7 @@ means : (catalogue : List NamedModel) (device : IndAddr) (ss own : List Statemen
 means catalogue device ss own e = ap (λ (ls : List Statement). meaning (record { statements = ls; catalogue = catalogue }) device) e ∙ meaning_is catalogue device ss
 
 pub returns-clause-stands : goal.returns-clause-stands
-returns-clause-stands c = subst (λ (config : Config). IfOk c.compile_lines.result (λ image. StandsFor image config)) (means c.args.catalogue.now c.args.device c.args.statements.now _ (ap (map (λ s. s.now)) c.as_slice.ensures.value ∙ c.in_ok-lines.ensures)) c.compile_lines.ensures.stands
+returns-clause-stands c = subst (λ (config : Config). IfOk c.compile_lines.result (λ image. StandsFor image config)) (means c.args.catalogue.now c.args.device c.args.statements.now _ (c.as_slice.ensures.value ∙ c.in_ok-lines.ensures)) c.compile_lines.ensures.stands
 
 pub returns-clause-in_range : goal.returns-clause-in_range
-returns-clause-in_range c = subst (λ (config : Config). IfOk c.compile_lines.result (λ image. IsInRange config)) (means c.args.catalogue.now c.args.device c.args.statements.now _ (ap (map (λ s. s.now)) c.as_slice.ensures.value ∙ c.in_ok-lines.ensures)) c.compile_lines.ensures.in_range
+returns-clause-in_range c = subst (λ (config : Config). IfOk c.compile_lines.result (λ image. IsInRange config)) (means c.args.catalogue.now c.args.device c.args.statements.now _ (c.as_slice.ensures.value ∙ c.in_ok-lines.ensures)) c.compile_lines.ensures.in_range

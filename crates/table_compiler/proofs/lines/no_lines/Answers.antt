@@ -17,5 +17,5 @@ loop-number-preserved c = record {
 pub returns : goal.returns
 returns c = record {
   whole = omega (arith, c.loop-number.invariant.whole, c.loop-number-test.false, c.loop-number.auto._number-index-end);
-  each = λ k g lt. ap (map (λ s. s.now)) (c.loop-number.invariant.empty k g (omega (arith, lt, c.loop-number.invariant.whole, c.loop-number-test.false)));
+  each = λ k g lt. c.loop-number.invariant.empty k g (omega (arith, lt, c.loop-number.invariant.whole, c.loop-number-test.false));
 }

@@ -1,7 +1,6 @@
 use Rattle.std.proofs.Common.{◌≡◌, drop}
-use Rattle.knx_model.specs.Rules.{model_in}
-use Rattle.table_compiler.proofs.Told.{first_told}
+use Rattle.knx_model.specs.Rules.{model_in, first_some}
 use Rattle.table_compiler.proofs.models.model_name.Given as goal
 
 abbrev pub invariant-loop-statement : goal.invariant-loop-statement
-invariant-loop-statement l = first_told (model_in l.device.raw) l.lines ≡ first_told (model_in l.device.raw) (drop l.statement-index l.lines)
+invariant-loop-statement l = first_some (model_in l.device.raw) l.lines ≡ first_some (model_in l.device.raw) (drop l.statement-index l.lines)
