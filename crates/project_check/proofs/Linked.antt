@@ -1,19 +1,14 @@
 -- The first `link` line that repeats an earlier one, from the links in ascending order.
-use Rattle.std.proofs.Common.{◌≡◌, ℕ, ◌+◌, ◌-◌, ◌<◌, ◌≤◌, true, false, cond, eqb, ltb, leb, ◌&&◌, List, Ordering, Less, Equal, Greater, [], ◌∷◌, ◌++◌, length, get_or, take, map, Option, Some, None, refl, sym, ap, ◌∙◌, subst, inl, inr, arith}
+use Rattle.std.proofs.Common.{◌≡◌, ℕ, ◌+◌, ◌-◌, ◌<◌, ◌≤◌, true, false, cond, eqb, leb, ◌&&◌, List, length, get_or, take, map, Option, Some, None, refl, sym, ap, ◌∙◌, subst, inl, inr, arith}
 use Rattle.std.specs.Prelude.{min, pred, IsPermutation, Contains, IfSome}
-use Rattle.std.specs.List.{IsDistinct, list_any}
-use Rattle.std.specs.List.Sorted.{IsSorted}
-use Rattle.std.specs.Ordering.{is_lt, nat_cmp, ordering_then}
-use Rattle.std.proofs.lemmas.Bool.{eqb-true, leb-true, leb-false, ltb-false, cases_Bool, cases_eq, and_parts, false≢true}
+use Rattle.std.specs.List.{IsDistinct}
+use Rattle.std.proofs.lemmas.Bool.{eqb-true, leb-true, leb-false, cases_Bool, cases_eq, and_parts, false≢true}
 use Rattle.std.proofs.lemmas.Bool.Decides.{nat_tests}
-use Rattle.std.specs.Cmp.{IsTotalOrder, nat_eq_equiv}
-use Rattle.std.proofs.lemmas.Cmp.{nat_cmp_total, on_total, then_total}
-use Rattle.std.proofs.lemmas.List.{get_or-take, get_or-map, get_or_default, map-append, length-map, length-take-le}
-use Rattle.std.proofs.lemmas.List.Elements.{Contains-push, Contains-push_cases, Contains-append_left, Contains-get_or}
+use Rattle.std.proofs.lemmas.List.{get_or-take, get_or-map, get_or_default, length-map, length-take-le}
+use Rattle.std.proofs.lemmas.List.Elements.{Contains-get_or}
 use Rattle.std.proofs.lemmas.List.Folds.{Any-from_list_any, list_any_at}
-use Rattle.std.proofs.lemmas.List.Sorted.{Contains-permutation, IsPermutation-sym, IsPermutation-map, ranks_by, sorted_far}
-use Rattle.std.proofs.lemmas.Map.Keys.{IsDistinct-push, IsDistinct-IsPermutation, apart_from_distinct}
-use Rattle.std.proofs.lemmas.Map.Views.{Contains-from_any}
+use Rattle.std.proofs.lemmas.List.Sorted.{Contains-permutation, IsPermutation-sym, IsPermutation-map}
+use Rattle.std.proofs.lemmas.Map.Keys.{IsDistinct-IsPermutation, apart_from_distinct}
 use Rattle.std.proofs.lemmas.Option.{same_Some, MatchOption-at_some}
 use Rattle.knx_model.specs.declared.address.GroupAddr.{GroupAddr}
 use Rattle.knx_model.specs.declared.address.IndAddr.{IndAddr}
@@ -21,166 +16,14 @@ use Rattle.knx_model.specs.declared.project.Statement.{Statement}
 use Rattle.knx_model.specs.declared.project.What.{What}
 use Rattle.knx_model.specs.declared.project.What.TheVariants.{Title, Group, Device, Object, Link as LinkStated, Flags, Param}
 use Rattle.knx_model.specs.Rules.{links_to, duplicate_link}
-use Rattle.project_check.specs.Links.{link_in, link_eq, place_of, lesser, ArePlaced, IsRepeat, IsLeastRepeat, IsUpTo, is_at, IsFirstRepeat}
+use Rattle.project_check.specs.Links.{link_in, link_eq, lesser, link_lines, IsRepeat, IsLeastRepeat, IsUpTo, is_at, IsFirstRepeat}
 use Rattle.project_check.specs.declared.links.Link.{Link}
 use Rattle.project_check.specs.declared.links.LinkLine.{LinkLine}
+use Rattle.project_check.proofs.Ordered.{eqb_same, link, link_eq_same, link_eq_other, IsUpToLine, Ascend, between, places_rise}
+use Rattle.project_check.proofs.Placed.{placed, place_of, ArePlaced, all_placed}
 
 flip : (a b : ℕ) → eqb a b ≡ eqb b a
 flip a b = grind (arith, nat_tests)
-
-eqb_same : (a b : ℕ) → a ≡ b → eqb a b ≡ true
-eqb_same a b e = grind (arith, nat_tests, e)
-
--- ---- links
-
-abbrev link : ℕ → ℕ → ℕ → Link
-link device object group = record { device = device; object = object; group = group }
-
-same_link : (a b : Link) → a.device ≡ b.device → a.object ≡ b.object → a.group ≡ b.group → a ≡ b
-same_link a b d o g = ap (λ n. link n a.object a.group) d ∙ ap (λ n. link b.device n a.group) o ∙ ap (link b.device b.object) g
-
-link_eq_same : (a b : Link) → link_eq a b ≡ true → a ≡ b
-link_eq_same a b e =
-    let parts = and_parts (eqb a.device b.device) (eqb a.object b.object && eqb a.group b.group) e in
-    let more = and_parts (eqb a.object b.object) (eqb a.group b.group) parts.1 in
-    same_link a b (eqb-true a.device b.device parts.0) (eqb-true a.object b.object more.0) (eqb-true a.group b.group more.1)
-
-link_eq_other : (a b : Link) → link_eq a b ≡ false → a ≡ b → ⊥
-link_eq_other a b e same = false≢true (sym e ∙ rw (eqb_same a.device b.device (ap (λ (l : Link). l.device) same), eqb_same a.object b.object (ap (λ (l : Link). l.object) same), eqb_same a.group b.group (ap (λ (l : Link). l.group) same)) refl)
-
--- ---- lines in ascending order
-
-abbrev link_cmp : Link → Link → Ordering
-link_cmp a b = ordering_then (nat_cmp a.device b.device) (ordering_then (nat_cmp a.object b.object) (nat_cmp a.group b.group))
-
-abbrev pub line_cmp : LinkLine → LinkLine → Ordering
-line_cmp a b = ordering_then (link_cmp a.link b.link) (nat_cmp a.place b.place)
-
-links_total : IsTotalOrder link_cmp
-links_total = then_total (on_total (λ l. l.device) nat_cmp_total) (then_total (on_total (λ l. l.object) nat_cmp_total) (on_total (λ l. l.group) nat_cmp_total))
-
-lines_total : IsTotalOrder line_cmp
-lines_total = then_total (on_total (λ l. l.link) links_total) (on_total (λ l. l.place) nat_cmp_total)
-
--- a line doesn't stand after another
-abbrev IsUpToLine : LinkLine → LinkLine → Type 0
-IsUpToLine x y =
-    (x.link.device ≤ y.link.device)
-    × (x.link.device ≡ y.link.device → (x.link.object ≤ y.link.object) × (x.link.object ≡ y.link.object → (x.link.group ≤ y.link.group) × (x.link.group ≡ y.link.group → x.place ≤ y.place)))
-
-abbrev pub Ascend : List LinkLine → Type 0
-Ascend ys = (i j : ℕ) (d : LinkLine) → i ≤ j → j < length ys → IsUpToLine (get_or ys i d) (get_or ys j d)
-
-then_next : (a b c : Ordering) → ordering_then (ordering_then a b) c ≡ ordering_then a (ordering_then b c)
-then_next Less b c = refl
-then_next Equal b c = refl
-then_next Greater b c = refl
-
--- where the rest of two is compared too, the first isn't above
-first_part : (a b : ℕ) (rest : Ordering) → is_lt (ordering_then (nat_cmp b a) rest) ≡ false → (a ≤ b) × (a ≡ b → is_lt rest ≡ false)
-first_part a b rest h = elim (cases_Bool (ltb b a)) as (λ _. (a ≤ b) × (a ≡ b → is_lt rest ≡ false)) [
-  | inl lt ↦ absurd (false≢true (sym h ∙ rw lt refl))
-  | inr ge ↦ (ltb-false b a ge, λ same. rw (ge, eqb_same b a (sym same)) at h)
-]
-
-last_part : (a b : ℕ) → is_lt (nat_cmp b a) ≡ false → a ≤ b
-last_part a b h = elim (cases_Bool (ltb b a)) as (λ _. a ≤ b) [
-  | inl lt ↦ absurd (false≢true (sym h ∙ rw lt refl))
-  | inr ge ↦ ltb-false b a ge
-]
-
-up_to_line : (x y : LinkLine) → is_lt (line_cmp y x) ≡ false → IsUpToLine x y
-up_to_line x y h =
-    let of_place = nat_cmp y.place x.place in
-    let of_group = ordering_then (nat_cmp y.link.group x.link.group) of_place in
-    let of_object = ordering_then (nat_cmp y.link.object x.link.object) of_group in
-    let whole : line_cmp y x ≡ ordering_then (nat_cmp y.link.device x.link.device) of_object =
-    then_next (nat_cmp y.link.device x.link.device) (ordering_then (nat_cmp y.link.object x.link.object) (nat_cmp y.link.group x.link.group)) of_place
-    ∙ ap (ordering_then (nat_cmp y.link.device x.link.device)) (then_next (nat_cmp y.link.object x.link.object) (nat_cmp y.link.group x.link.group) of_place) in
-    let device = first_part x.link.device y.link.device of_object (ap is_lt (sym whole) ∙ h) in (
-      device.0,
-      λ same_device. let object = first_part x.link.object y.link.object of_group (device.1 same_device) in (
-        object.0,
-        λ same_object. let group = first_part x.link.group y.link.group of_place (object.1 same_object) in (group.0, λ same_group. last_part x.place y.place (group.1 same_group)),
-      ),
-    )
-
-pub ascending : (ys : List LinkLine) → IsSorted line_cmp ys → Ascend ys
-ascending ys sorted i j d le lt = up_to_line (get_or ys i d) (get_or ys j d) (sorted_far (λ x y. is_lt (line_cmp x y)) (ranks_by lines_total (λ x. x)) ys sorted i j d le lt)
-
--- between two lines of a link is that link alone
-between : (x y z : LinkLine) → x.link ≡ z.link → IsUpToLine x y → IsUpToLine y z → x.link ≡ y.link
-between x y z same low high =
-    let device : x.link.device ≡ y.link.device = omega (arith, low.0, high.0, ap (λ (l : Link). l.device) same) in
-    let from = low.1 device in
-    let to = high.1 (sym device ∙ ap (λ (l : Link). l.device) same) in
-    let object : x.link.object ≡ y.link.object = omega (arith, from.0, to.0, ap (λ (l : Link). l.object) same) in
-    let from_object = from.1 object in
-    let to_object = to.1 (sym object ∙ ap (λ (l : Link). l.object) same) in
-    let group : x.link.group ≡ y.link.group = omega (arith, from_object.0, to_object.0, ap (λ (l : Link). l.group) same) in
-    same_link x.link y.link device object group
-
--- the places of two lines of a link
-places_rise : (x y : LinkLine) → x.link ≡ y.link → IsUpToLine x y → x.place ≤ y.place
-places_rise x y same up = (((up.1 (ap (λ (l : Link). l.device) same)).1 (ap (λ (l : Link). l.object) same)).1 (ap (λ (l : Link). l.group) same))
-
--- ---- one statement more
-
-abbrev placed : Link → ℕ → LinkLine
-placed link place = record { link = link; place = place }
-
-pub none_placed : (ss : List Statement) → ArePlaced [] ss 0
-unfolding IsDistinct
-none_placed ss = record {
-  before = λ l has. absurd (omega (arith, has.1));
-  sound = λ l s has. absurd (omega (arith, has.1));
-  all = λ k link s lt is. absurd (omega arith);
-  apart = tt;
-}
-
-pub no_link_more : (links : List LinkLine) (ss : List Statement) (i : ℕ) (s : Statement) → i < length ss → s ≡ get_or ss i s → link_in s.what ≡ None → ArePlaced links ss i → ArePlaced links ss (i + 1)
-no_link_more links ss i s lt is none to = record {
-  before = λ l has. let b = to.before l has in omega (arith, b);
-  sound = to.sound;
-  all = λ k link t before there. elim (cases_eq k i) as (λ _. Contains links (record { link = link; place = k })) [
-    | inl same ↦ (let here : get_or ss i t ≡ s = get_or_default ss i t s lt ∙ sym is in let e : None ≡ Some link = sym none ∙ ap (λ (u : Statement). link_in u.what) (sym here) ∙ subst (λ (n : ℕ). link_in (get_or ss n t).what ≡ Some link) same there in absurd (cc))
-    | inr other ↦ to.all k link t (grind (arith, before, other)) there
-  ];
-  apart = to.apart;
-}
-
--- the line of a place
-with_place : (links : List LinkLine) (n : ℕ) → list_any (eqb n) (map place_of links) ≡ true → (l : LinkLine) × Contains links l × (l.place ≡ n)
-with_place links n found =
-    let has = Contains-from_any {eq = eqb} eqb-true n (map place_of links) found in
-    let k = has.0 in
-    let d : LinkLine = placed (link 0 0 0) 0 in
-    let lt : k < length links = omega (arith, has.1, length-map links place_of) in
-    (get_or links k d, Contains-get_or links k d lt, sym (get_or-map place_of links k d n lt) ∙ has.2)
-
-place_more : (links : List LinkLine) (i : ℕ) → ((l : LinkLine) → Contains links l → l.place < i) → list_any (eqb i) (map place_of links) ≡ false
-place_more links i before = elim (cases_Bool (list_any (eqb i) (map place_of links))) as (λ _. list_any (eqb i) (map place_of links) ≡ false) [
-  | inl found ↦ (let has = with_place links i found in let b : has.0.place < i = before has.0 has.1 in absurd (omega (arith, has.2, b)))
-  | inr none ↦ none
-]
-
-pub link_more : (links : List LinkLine) (ss : List Statement) (i : ℕ) (link : Link) (s : Statement) → i < length ss → s ≡ get_or ss i s → link_in s.what ≡ Some link → ArePlaced links ss i
-    → ArePlaced (links ++ record { link = link; place = i } ∷ []) ss (i + 1)
-link_more links ss i link s lt is here to = record {
-  before = λ l has. elim (Contains-push_cases links (placed link i) l has) as (λ _. l.place < i + 1) [
-    | inl old ↦ (let b = to.before l old in omega (arith, b))
-    | inr new ↦ rw (← new) (omega arith)
-  ];
-  sound = λ l t has. elim (Contains-push_cases links (placed link i) l has) as (λ _. link_in (get_or ss l.place t).what ≡ Some l.link) [
-    | inl old ↦ to.sound l t old
-    | inr new ↦ (let same : s ≡ get_or ss i t = is ∙ get_or_default ss i s t lt in rw (← new, ← same) here)
-  ];
-  all = λ k other t before there. elim (cases_eq k i) as (λ _. Contains (links ++ placed link i ∷ []) (placed other k)) [
-    | inl same ↦ (let at : get_or ss i t ≡ s = get_or_default ss i t s lt ∙ sym is in let e : Some link ≡ Some other = sym here ∙ ap (λ (u : Statement). link_in u.what) (sym at) ∙ subst (λ (n : ℕ). link_in (get_or ss n t).what ≡ Some other) same there in rw (same, ← same_Some link other e) (Contains-push links (placed link i)))
-    | inr different ↦ Contains-append_left links (placed link i ∷ []) (placed other k) (to.all k other t (grind (arith, before, different)) there)
-  ];
-  apart = rw (map-append place_of links (placed link i ∷ [])) (IsDistinct-push nat_eq_equiv (map place_of links) i to.apart (place_more links i to.before));
-}
 
 -- ---- a repeat is one of a pair
 
@@ -355,8 +198,8 @@ repeat_at links ys ss k s to same ascends pair =
     let at : get_or (take k ss) x.place s ≡ get_or ss x.place s = get_or-take k ss x.place s earlier in
     repeats_link (take k ss) (get_or ss k s).what x.place x.link s (omega (arith, taken, earlier)) (rw at (to.sound x s has_x)) (here ∙ ap Some (sym is.0))
 
-pub first_found : (links ys : List LinkLine) (ss : List Statement) (least : Option ℕ) → ArePlaced links ss (length ss) → IsPermutation links ys → Ascend ys → IsLeastRepeat ys least (length ys) → IsFirstRepeat ss least
-first_found links ys ss least to same ascends pairs k s lt up =
+first_found_of : (links ys : List LinkLine) (ss : List Statement) (least : Option ℕ) → ArePlaced links ss (length ss) → IsPermutation links ys → Ascend ys → IsLeastRepeat ys least (length ys) → IsFirstRepeat ss least
+first_found_of links ys ss least to same ascends pairs k s lt up =
     let what = (get_or ss k s).what in
     let before = take k ss in
     let taken : length before ≡ k = length-take-le k ss (omega (arith, lt)) in
@@ -377,3 +220,6 @@ first_found links ys ss least to same ascends pairs k s lt up =
         | inr away ↦ none ∙ sym away
       ]
     ]
+
+pub first_found : (links ys : List LinkLine) (ss : List Statement) (least : Option ℕ) → links ≡ link_lines ss → IsPermutation links ys → Ascend ys → IsLeastRepeat ys least (length ys) → IsFirstRepeat ss least
+first_found links ys ss least lines same ascends pairs = first_found_of links ys ss least (rw lines (all_placed ss)) same ascends pairs

@@ -1,7 +1,6 @@
--- The first `link` line that repeats an earlier one.
-use Rattle.std.specs.Prelude.{◌≡◌, ℕ, ◌+◌, ◌<◌, ◌≤◌, ◌==◌, Bool, false, ◌&&◌, List, length, take, get_or, Option, Some, None, IfSome, Contains, map, min}
+-- The `link` lines of a text, and the first that repeats an earlier one.
+use Rattle.std.specs.Prelude.{◌≡◌, ℕ, ◌+◌, ◌<◌, ◌≤◌, ◌==◌, Bool, false, ◌&&◌, List, [], ◌∷◌, ◌++◌, length, take, get_or, Option, Some, None, IfSome, min}
 use Rattle.std.specs.Bool.{nat_eq}
-use Rattle.std.specs.List.{IsDistinct}
 use Rattle.knx_model.specs.declared.project.Statement.{Statement}
 use Rattle.knx_model.specs.declared.project.What.{What}
 use Rattle.knx_model.specs.declared.project.What.TheVariants.{Link as LinkStated}
@@ -14,18 +13,22 @@ abbrev pub link_in : What → Option Link
 link_in (LinkStated device object group) = Some (record { device = device.raw; object = object; group = group.raw })
 link_in _ = None
 
+-- the line of a link at a place, where there is one
+abbrev pub lines_of : ℕ → Option Link → List LinkLine
+lines_of place None = []
+lines_of place (Some link) = record { link = link; place = place } ∷ []
+
+-- the `link` lines of statements of which the first has this place, in the order of the text
+abbrev pub links_from : ℕ → List Statement → List LinkLine
+links_from place [] = []
+links_from place (s ∷ ss) = lines_of place (link_in s.what) ++ links_from (place + 1) ss
+
+-- the `link` lines of a text
+abbrev pub link_lines : List Statement → List LinkLine
+link_lines ss = links_from 0 ss
+
 abbrev pub link_eq : Link → Link → Bool
 link_eq a b = nat_eq a.device b.device && (nat_eq a.object b.object && nat_eq a.group b.group)
-
-abbrev pub place_of : LinkLine → ℕ
-place_of l = l.place
-
--- these are the `link` lines of the first i statements
-pub record ArePlaced (links : List LinkLine) (ss : List Statement) (i : ℕ) : Type 0 where
-  pub before : (l : LinkLine) → Contains links l → l.place < i
-  pub sound : (l : LinkLine) (s : Statement) → Contains links l → link_in (get_or ss l.place s).what ≡ Some l.link
-  pub all : (k : ℕ) (link : Link) (s : Statement) → k < i → link_in (get_or ss k s).what ≡ Some link → Contains links (record { link = link; place = k })
-  pub apart : IsDistinct nat_eq (map place_of links)
 
 -- the links at places k and k + 1 of the list are the same
 abbrev pub IsRepeat : List LinkLine → ℕ → LinkLine → Type 0

@@ -1,8 +1,8 @@
-//! The first link that stands twice.
+//! The links of a text, and the first that stands twice.
 
-ghost use Rattle.std.specs.Prelude.{◌≡◌, ◌+◌, ◌<◌, List, length, get_or, Some, if◌then◌else◌, IfOk, OnOk};
+ghost use Rattle.std.specs.Prelude.{◌≡◌, ◌++◌, List, length, Some, if◌then◌else◌, IfOk, OnOk};
 ghost use Rattle.knx_model.specs.declared.project.Statement.{Statement as Stated};
-ghost use Rattle.project_check.specs.Links.{link_in, link_eq, lesser, ArePlaced, IsLeastRepeat, IsFirstRepeat};
+ghost use Rattle.project_check.specs.Links.{link_in, link_eq, lesser, lines_of, link_lines, IsLeastRepeat, IsFirstRepeat};
 
 use knx_model::{Statement, What};
 use std::alloc::{AllocError, Global};
@@ -43,7 +43,7 @@ fn link_in(what: &What) -> Option<Link>
 
 /// Adds the link of a `link` line.
 fn add_link(links: &mut Vec<LinkLine>, place: usize, what: &What) -> Result<(), AllocError>
-    ensures { OnOk result ((ss : List Stated) (s : Stated) → place < length ss → s ≡ get_or ss place s → what.now ≡ s.what → ArePlaced links.old.items ss place → ArePlaced links.new.items ss (place + 1)) }
+    ensures { OnOk result (links.new.items ≡ links.old.items ++ lines_of place (link_in what.now)) }
 {
     if let Some(link) = link_in(what) {
         links.push(LinkLine { link, place })?;
@@ -52,8 +52,8 @@ fn add_link(links: &mut Vec<LinkLine>, place: usize, what: &What) -> Result<(), 
 }
 
 /// The `link` lines, in the order of the text.
-fn link_lines(alloc: Global, statements: &[Statement]) -> Result<Vec<LinkLine>, AllocError>
-    ensures { IfOk result (λ links. ArePlaced links.items statements.now (length statements.now)) }
+pub fn link_lines(alloc: Global, statements: &[Statement]) -> Result<Vec<LinkLine>, AllocError>
+    ensures { IfOk result (λ links. links.items ≡ link_lines statements.now) }
 {
     let mut links = Vec::new(alloc);
     for (place, statement) in statements.iter().enumerate() {
@@ -97,10 +97,9 @@ fn least_repeat(links: &[LinkLine]) -> Option<usize>
 }
 
 /// The place of the first `link` line that repeats an earlier one.
-pub fn first_repeat(alloc: Global, statements: &[Statement]) -> Result<Option<usize>, AllocError>
-    ensures { IfOk result (λ first. IsFirstRepeat statements.now first) }
+pub fn first_repeat(mut links: Vec<LinkLine>) -> Option<usize>
+    ensures { (ss : List Stated) → links.items ≡ link_lines ss → IsFirstRepeat ss result }
 {
-    let mut links = link_lines(alloc, statements)?;
     links.sort_unstable();
-    Ok(least_repeat(links.as_slice()))
+    least_repeat(links.as_slice())
 }

@@ -15,7 +15,7 @@ use crate::broken::Broken;
 use crate::by_address::ByAddress;
 use crate::declared::{Declared, first_sizes};
 use crate::keys::{GroupObject, Repeated};
-use crate::links::first_repeat;
+use crate::links::{first_repeat, link_lines};
 use crate::named_models::NamedModels;
 use knx_model::{GroupAddr, IndAddr, Statement, What, Why};
 use std::alloc::{AllocError, Global};
@@ -50,12 +50,13 @@ impl<'b, 'a> Whole<'b, 'a> {
         ensures { IfOk result (λ whole. (catalogue : List NamedModel) → AreNamed catalogue models.now statements.now → DeclaresAll catalogue whole statements.now) }
     {
         let declared = Declared::by_all(alloc, models, statements)?;
-        let first_sizes = first_sizes(alloc, &declared, statements)?;
+        let links = link_lines(alloc, statements)?;
+        let first_sizes = first_sizes(alloc, &declared, links.as_slice())?;
         Ok(Whole {
             models,
             declared,
             first_sizes,
-            first_repeat: first_repeat(alloc, statements)?,
+            first_repeat: first_repeat(links),
         })
     }
 
