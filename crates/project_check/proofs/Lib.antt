@@ -7,7 +7,10 @@ pub mod Judged
 pub mod Limits
 pub mod Linked
 pub mod Named
+pub mod Ordered
+pub mod Placed
 pub mod Repeats
+pub mod Sized
 pub mod Sound
 pub mod Steps
 pub mod Tables

@@ -11,9 +11,9 @@ use Rattle.knx_model.specs.declared.catalogue.model.ModelObject.{ModelObject}
 use Rattle.knx_model.specs.declared.catalogue.model.NamedModel.{NamedModel}
 use Rattle.knx_model.specs.declared.project.Statement.{Statement}
 use Rattle.knx_model.specs.declared.project.What.{What}
-use Rattle.knx_model.specs.declared.project.What.TheVariants.{Group, Device, Object, Link}
+use Rattle.knx_model.specs.declared.project.What.TheVariants.{Group, Device, Object, Link as LinkStated}
 use Rattle.knx_model.specs.Models.{model_named, object_in, field_in}
-use Rattle.knx_model.specs.Rules.{some_line, count_lines, first_some, declares_group, declares_device, declares_object, links_device, is_device_line, size_in, linked_in, model_in, model_of, size_of, first_linked, duplicate_device, duplicate_group, too_many_devices, too_many_links}
+use Rattle.knx_model.specs.Rules.{some_line, count_lines, first_some, declares_group, declares_device, declares_object, links_device, is_device_line, size_in, model_in, model_of, size_of, first_linked, duplicate_device, duplicate_group, too_many_devices, too_many_links}
 use Rattle.project_check.specs.Keys.{object_eq, range_of, index_of, names_model}
 use Rattle.project_check.specs.Links.{IsFirstRepeat}
 use Rattle.project_check.specs.declared.declared.Declared.{Declared}
@@ -23,6 +23,7 @@ use Rattle.project_check.specs.declared.keys.Looked.{Looked}
 use Rattle.project_check.specs.declared.keys.Range.{Range}
 use Rattle.project_check.specs.declared.keys.Repeated.{Repeated}
 use Rattle.project_check.specs.declared.keys.Sought.{Sought}
+use Rattle.project_check.specs.declared.links.Link.{Link}
 use Rattle.project_check.specs.declared.models.ModelIndex.{ModelIndex}
 use Rattle.project_check.specs.declared.named_models.NamedModels.{NamedModels}
 use Rattle.project_check.specs.declared.rules.Whole.{Whole}
@@ -103,9 +104,9 @@ sought catalogue ss d name = record { modelled = is_some (model_of catalogue ss 
 abbrev pub size_at : List NamedModel → List Statement → ℕ × ℕ → Option ℕ
 size_at catalogue ss o = size_of catalogue ss o.0 o.1
 
--- the size of the group object of a `link` line of the group
-abbrev pub linked_size : List NamedModel → List Statement → ℕ → What → Option (Option ℕ)
-linked_size catalogue ss g what = option_map (size_at catalogue ss) (linked_in g what)
+-- the size of the group object of a link to the group
+abbrev pub linked_size : List NamedModel → List Statement → ℕ → Link → Option (Option ℕ)
+linked_size catalogue ss g link = if link.group == g then Some (size_of catalogue ss link.device link.object) else None
 
 -- the sizes are those of the group objects of the groups' first `link` lines
 abbrev pub FirstSizes : List NamedModel → List Statement → List (Option (Option ℕ)) → Type 0
@@ -155,7 +156,7 @@ has_its_object objects _ = false
 
 -- a `link` line's device has as many links as it may, by a count of them
 abbrev pub is_full_of_links : (ℕ → ℕ) → What → Bool
-is_full_of_links count (Link device object group) = nat_le 2047 (count device.raw)
+is_full_of_links count (LinkStated device object group) = nat_le 2047 (count device.raw)
 is_full_of_links count _ = false
 
 -- an `object` line's number stands in an earlier one of its device

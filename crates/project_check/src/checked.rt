@@ -101,7 +101,7 @@ fn first_broken(
     let mut earlier = Earlier::new(alloc)?;
     for (place, statement) in statements.iter().enumerate() {
         let repeated = earlier.add(statement)?;
-        if let Some(why) = whole.broken(place, repeated, &statement.what).least() {
+        if let Some(why) = whole.first_rule(place, repeated, &statement.what) {
             return Ok(Some(Refused {
                 line: statement.line,
                 why,

@@ -10,9 +10,11 @@ ghost use Rattle.knx_model.specs.declared.project.Statement.{Statement as Stated
 ghost use Rattle.knx_model.specs.Rules.{some_line, first_some, declares_group, declares_device, size_in, model_in, model_of};
 ghost use Rattle.project_check.specs.Keys.{object_eq, names_model};
 ghost use Rattle.project_check.specs.Knowing.{Holds, AreNamed, IsNamed, KeepsModels, Declares, Indexes, FirstSizes, looked, linked_size, sought};
+ghost use Rattle.project_check.specs.Links.{link_lines};
 
 use crate::by_address::ByAddress;
 use crate::keys::{GroupObject, Looked, Sought};
+use crate::links::{Link, LinkLine};
 use crate::models::ModelIndex;
 use crate::named_models::NamedModels;
 use knx_model::{Statement, What};
@@ -174,27 +176,20 @@ impl<'b, 'a> Declared<'b, 'a> {
     }
 }
 
-/// Adds the size code of the group object of a `link` line, where it is the group's first.
+/// Adds the size code of the group object of a link, where it is the group's first.
 fn add_first_size(
     first_sizes: &mut ByAddress<Option<Option<u8>>>,
     declared: &Declared<'_, '_>,
-    what: &What<'_>,
+    link: Link,
 )
-    ensures { (catalogue : List NamedModel) (ss : List Stated) → Declares catalogue declared.now ss → (f : ℕ → Option (Option ℕ)) → Holds first_sizes.old f → Holds first_sizes.new (λ g. option_or (f g) (linked_size catalogue ss g what.now)) }
+    ensures { (catalogue : List NamedModel) (ss : List Stated) → Declares catalogue declared.now ss → (f : ℕ → Option (Option ℕ)) → Holds first_sizes.old f → Holds first_sizes.new (λ g. option_or (f g) (linked_size catalogue ss g link)) }
 {
-    if let What::Link {
-        device,
-        object,
-        group,
-    } = what
-    {
-        if first_sizes.get(group.raw).is_none() {
-            let object = GroupObject {
-                device: device.raw,
-                number: *object,
-            };
-            first_sizes.set(group.raw, Some(declared.look(object).size));
-        }
+    if first_sizes.get(link.group).is_none() {
+        let object = GroupObject {
+            device: link.device,
+            number: link.object,
+        };
+        first_sizes.set(link.group, Some(declared.look(object).size));
     }
 }
 
@@ -202,13 +197,13 @@ fn add_first_size(
 pub fn first_sizes(
     alloc: Global,
     declared: &Declared<'_, '_>,
-    statements: &[Statement<'_>],
+    links: &[LinkLine],
 ) -> Result<ByAddress<Option<Option<u8>>>, AllocError>
-    ensures { IfOk result (λ sizes. (catalogue : List NamedModel) → Declares catalogue declared.now statements.now → FirstSizes catalogue statements.now sizes) }
+    ensures { IfOk result (λ sizes. (catalogue : List NamedModel) (ss : List Stated) → Declares catalogue declared.now ss → links.now ≡ link_lines ss → FirstSizes catalogue ss sizes) }
 {
     let mut sizes = ByAddress::new(alloc, None)?;
-    for statement in statements {
-        add_first_size(&mut sizes, declared, &statement.what);
+    for line in links {
+        add_first_size(&mut sizes, declared, line.link);
     }
     Ok(sizes)
 }

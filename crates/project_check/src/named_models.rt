@@ -21,6 +21,23 @@ pub struct NamedModels<'a> {
     pub models: HashMap<&'a [u8], Option<ModelIndex<'a>>>,
 }
 
+/// Adds the model of a name, where there is none yet.
+fn add_named<'a>(
+    alloc: Global,
+    models: &mut HashMap<&'a [u8], Option<ModelIndex<'a>>>,
+    catalogue: &'a Catalogue,
+    name: &'a [u8],
+) -> Result<(), AllocError>
+    ensures present { OnOk result ((other : List ℕ) → is_some (get_by (λ key. bytes_eq other key.now) models.new) ≡ (is_some (get_by (λ key. bytes_eq other key.now) models.old) || bytes_eq name.now other)) }
+    ensures right { OnOk result (AreRight catalogue.now models.old → AreRight catalogue.now models.new) }
+{
+    if !models.contains_key(&name) {
+        let index = ModelIndex::named(alloc, catalogue, name)?;
+        models.insert(name, index)?;
+    }
+    Ok(())
+}
+
 /// Adds the model that a `device` line names, where it is the first that names it.
 fn add_model<'a>(
     alloc: Global,
@@ -31,14 +48,10 @@ fn add_model<'a>(
     ensures present { OnOk result ((name : List ℕ) → is_some (get_by (λ key. bytes_eq name key.now) models.new) ≡ (is_some (get_by (λ key. bytes_eq name key.now) models.old) || names_model name what.now)) }
     ensures right { OnOk result (AreRight catalogue.now models.old → AreRight catalogue.now models.new) }
 {
-    if let What::Device { model, .. } = what {
-        let name = model.as_slice();
-        if !models.contains_key(&name) {
-            let index = ModelIndex::named(alloc, catalogue, name)?;
-            models.insert(name, index)?;
-        }
+    match what {
+        What::Device { model, .. } => add_named(alloc, models, catalogue, model.as_slice()),
+        _ => Ok(()),
     }
-    Ok(())
 }
 
 impl<'a> NamedModels<'a> {

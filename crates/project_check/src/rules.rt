@@ -1,11 +1,12 @@
-//! Which rules a statement breaks.
+//! Which rules a statement breaks, and the one of the least number.
 
-ghost use Rattle.std.specs.Prelude.{◌≡◌, ◌&&◌, true, ℕ, List, IfOk};
+ghost use Rattle.std.specs.Prelude.{◌≡◌, ◌≢◌, ◌&&◌, true, ℕ, List, IfOk, IfSome};
 ghost use Rattle.knx_model.specs.declared.catalogue.model.NamedModel.{NamedModel};
 ghost use Rattle.knx_model.specs.declared.project.Statement.{Statement as Stated};
 ghost use Rattle.knx_model.specs.declared.project.What.TheVariants.{Device as DeviceLine, Object as ObjectLine, Link as LinkLine, Flags as FlagsLine, Param as ParamLine};
+ghost use Rattle.knx_model.specs.declared.refusal.Why.TheVariants.{NoMemory};
 ghost use Rattle.knx_model.specs.Rules.{some_line, duplicate_object, duplicate_link, size_of_first, first_linked, differ};
-ghost use Rattle.project_check.specs.Broken.{broken_rules};
+ghost use Rattle.project_check.specs.Broken.{broken_rules, least};
 ghost use Rattle.project_check.specs.Keys.{names_model};
 ghost use Rattle.project_check.specs.Knowing.{AreNamed, DeclaresAll, repeats, IsNamed};
 ghost use Rattle.project_check.specs.Links.{is_at};
@@ -14,9 +15,9 @@ use crate::broken::Broken;
 use crate::by_address::ByAddress;
 use crate::declared::{Declared, first_sizes};
 use crate::keys::{GroupObject, Repeated};
-use crate::links::first_repeat;
+use crate::links::{first_repeat, link_lines};
 use crate::named_models::NamedModels;
-use knx_model::{GroupAddr, IndAddr, Statement, What};
+use knx_model::{GroupAddr, IndAddr, Statement, What, Why};
 use std::alloc::{AllocError, Global};
 
 /// What is known of a whole text: what it declares, the size code of the group object of the first link of each group, none where
@@ -49,12 +50,13 @@ impl<'b, 'a> Whole<'b, 'a> {
         ensures { IfOk result (λ whole. (catalogue : List NamedModel) → AreNamed catalogue models.now statements.now → DeclaresAll catalogue whole statements.now) }
     {
         let declared = Declared::by_all(alloc, models, statements)?;
-        let first_sizes = first_sizes(alloc, &declared, statements)?;
+        let links = link_lines(alloc, statements)?;
+        let first_sizes = first_sizes(alloc, &declared, links.as_slice())?;
         Ok(Whole {
             models,
             declared,
             first_sizes,
-            first_repeat: first_repeat(alloc, statements)?,
+            first_repeat: first_repeat(links),
         })
     }
 
@@ -170,29 +172,33 @@ impl<'b, 'a> Whole<'b, 'a> {
         }
     }
 
-    /// The rules that a statement breaks.
-    pub fn broken(&self, place: usize, repeated: Repeated, what: &'a What<'a>) -> Broken
-        ensures { (catalogue : List NamedModel) (before all : List Stated) → DeclaresAll catalogue self.now all → IsNamed all what.now → repeated ≡ repeats before what.now → duplicate_link before what.now ≡ is_at self.now.first_repeat place → result ≡ broken_rules catalogue before all what.now }
+    /// The rule of the least number that a statement breaks.
+    pub fn first_rule(&self, place: usize, repeated: Repeated, what: &'a What) -> Option<Why>
+        ensures rule { (catalogue : List NamedModel) (before all : List Stated) → DeclaresAll catalogue self.now all → IsNamed all what.now → repeated ≡ repeats before what.now → duplicate_link before what.now ≡ is_at self.now.first_repeat place → result ≡ least (broken_rules catalogue before all what.now) }
+        ensures never { IfSome result (λ why. why ≢ NoMemory) }
     {
         match what {
-            What::Title(_) => Broken::none(),
+            What::Title(_) => None,
             What::Group { .. } => Broken {
                 duplicate_group: repeated.group,
                 ..Broken::none()
-            },
-            What::Device { model, .. } => self.device_broken(repeated, model.as_slice()),
-            What::Object { device, n, .. } => self.object_broken(repeated, *device, *n),
+            }
+            .least(),
+            What::Device { model, .. } => self.device_broken(repeated, model.as_slice()).least(),
+            What::Object { device, n, .. } => self.object_broken(repeated, *device, *n).least(),
             What::Link {
                 device,
                 object,
                 group,
-            } => self.link_broken(place, repeated, *device, *object, *group),
-            What::Flags { device, object, .. } => self.flags_broken(*device, *object),
+            } => self
+                .link_broken(place, repeated, *device, *object, *group)
+                .least(),
+            What::Flags { device, object, .. } => self.flags_broken(*device, *object).least(),
             What::Param {
                 device,
                 name,
                 value,
-            } => self.param_broken(*device, name.as_slice(), *value),
+            } => self.param_broken(*device, name.as_slice(), *value).least(),
         }
     }
 }

@@ -1,15 +1,10 @@
-use Rattle.std.proofs.Common.{◌≡◌, None, Some, sym, ap, subst, ◌∙◌}
-use Rattle.knx_model.specs.declared.project.What.{What}
-use Rattle.project_check.specs.Links.{link_in, IsLinkOf}
-use Rattle.project_check.proofs.Linked.{no_link_more, link_more}
+use Rattle.std.proofs.Common.{sym, ap, ◌++◌, ◌∙◌}
+use Rattle.std.proofs.lemmas.List.{append-nil}
+use Rattle.project_check.specs.Links.{lines_of}
 use Rattle.project_check.proofs.links.add_link.Goals as goal
 
 pub returns-in_ok-push : goal.returns-in_ok-push
-returns-in_ok-push c = λ ss s lt at what placed.
-    let here : link_in s.what ≡ Some c.in-Some.link = ap link_in (sym what) ∙ sym c.link_in.ensures.value ∙ c.in-Some.is in
-    rw c.in_ok-push.ensures.items (link_more c.args.links.now.items ss c.args.place c.in-Some.link s lt c.ranges.place.fits at here (subst (λ (w : What). IsLinkOf w) what c.link_in.ensures.small) placed)
+returns-in_ok-push c = c.in_ok-push.ensures.items ∙ ap (λ found. c.args.links.now.items ++ lines_of c.args.place found) (sym c.in-Some.is ∙ c.link_in.ensures)
 
 pub returns-in_default : goal.returns-in_default
-returns-in_default c = λ ss s lt at what placed.
-    let none : link_in s.what ≡ None = ap link_in (sym what) ∙ sym c.link_in.ensures.value ∙ c.in_default.is in
-    no_link_more c.args.links.now.items ss c.args.place s lt at none placed
+returns-in_default c = sym (append-nil c.args.links.now.items) ∙ ap (λ found. c.args.links.now.items ++ lines_of c.args.place found) (sym c.in_default.is ∙ c.link_in.ensures)

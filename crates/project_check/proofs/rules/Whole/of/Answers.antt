@@ -1,6 +1,14 @@
+use Rattle.std.proofs.Common.{◌∙◌}
 use Rattle.project_check.proofs.rules.Whole.of.Goals as goal
 
 pub returns : goal.returns
 returns c = λ catalogue named.
+    let ss = c.args.statements.now in
     let declared = c.in_ok-declared.ensures catalogue named in
-    record { models = named; declared = declared; first_sizes = c.in_ok-first_sizes.ensures catalogue declared; first_repeat = c.in_ok-first_repeat.ensures }
+    let lines = c.in_ok-links.ensures in
+    record {
+      models = named;
+      declared = declared;
+      first_sizes = c.in_ok-first_sizes.ensures catalogue ss declared (c.as_slice.ensures.value ∙ lines);
+      first_repeat = c.first_repeat.ensures ss lines;
+    }
