@@ -1,13 +1,13 @@
 //! The address table, the association table and the group objects' table, from links and objects.
 
-ghost use Rattle.std.specs.Prelude.{◌≡◌, ℕ, ◌<◌, ◌≤◌, ◌↔◌, ◌++◌, length, map, IfOk, Contains, IsPermutation, nat_eq, All};
+ghost use Rattle.std.specs.Prelude.{◌≡◌, ℕ, ◌<◌, ◌≤◌, ◌↔◌, ◌++◌, length, map, not, IfOk, Contains, IsPermutation, nat_eq, All};
 ghost use Rattle.std.specs.List.{IsDistinct};
 ghost use Rattle.std.specs.List.Sorted.{IsStrictlyIncreasing, IsNonDecreasingBy};
 ghost use Rattle.knx_model.specs.declared.config.Config.{Config};
 ghost use Rattle.knx_model.specs.Device.{Fits};
 ghost use Rattle.knx_model.specs.Parameters.{HoldsParameters};
 ghost use Rattle.knx_model.specs.Tables.{raw_of, precedence, place, two, address_list, association_list, object_list, StandsFor};
-ghost use Rattle.table_compiler.specs.Order.{IsLink, link_at};
+ghost use Rattle.table_compiler.specs.Order.{IsLink};
 ghost use Rattle.table_compiler.specs.Places.{ArePlaces};
 
 use crate::places::Places;
@@ -32,42 +32,24 @@ fn groups_of(alloc: Global, links: &[LinkSpec]) -> Result<Vec<u16>, AllocError>
     Ok(groups)
 }
 
-/// Where a link stands: by its object, the sending one first, then by its group.
-fn precedence(link: LinkSpec) -> u32
-    ensures { result ≡ precedence link }
-{
-    let object = u32::from(link.object) * 131_072;
-    let raw = u32::from(link.group.raw);
-    if link.sending {
-        object + raw
-    } else {
-        object + 65_536 + raw
+/// Where a link stands in the association table: by its object, the sending link first, then by its group.
+#[derive(Clone, Copy, Debug, PartialEq, Eq, PartialOrd, Ord)]
+struct Precedence {
+    object: u8,
+    receives_only: bool,
+    group: GroupAddr,
+}
+
+impl Precedence {
+    fn of(link: LinkSpec) -> Self
+        ensures { result ≡ record { object = link.object; receives_only = not link.sending; group = link.group } }
+    {
+        Precedence {
+            object: link.object,
+            receives_only: !link.sending,
+            group: link.group,
+        }
     }
-}
-
-/// The link that stands at a precedence.
-fn link_at(precedence: u32) -> LinkSpec
-    ensures { result ≡ link_at precedence }
-{
-    LinkSpec {
-        object: (precedence / 131_072 % 256) as u8,
-        group: GroupAddr {
-            raw: (precedence % 65_536) as u16,
-        },
-        sending: precedence / 65_536 % 2 == 0,
-    }
-}
-
-fn precedences(alloc: Global, links: &[LinkSpec]) -> Result<Vec<u32>, AllocError>
-    ensures { IfOk result (λ numbers. numbers.items ≡ map precedence links.now) }
-{
-    links.iter().map(|link| precedence(*link)).collect(alloc)
-}
-
-fn links_at(alloc: Global, numbers: &[u32]) -> Result<Vec<LinkSpec>, AllocError>
-    ensures { IfOk result (λ links. links.items ≡ map link_at numbers.now) }
-{
-    numbers.iter().map(|number| link_at(*number)).collect(alloc)
 }
 
 /// The links in the order of their pairs.
@@ -76,10 +58,9 @@ fn in_order(alloc: Global, links: &[LinkSpec]) -> Result<Vec<LinkSpec>, AllocErr
     ensures same { IfOk result (λ order. IsPermutation links.now order.items) }
     ensures ascending { IfOk result (λ order. IsNonDecreasingBy precedence order.items) }
 {
-    // Numbers are sorted faster than links.
-    let mut numbers = precedences(alloc, links)?;
-    numbers.sort_unstable();
-    links_at(alloc, numbers.as_slice())
+    let mut order = links.to_vec(alloc)?;
+    order.sort_unstable_by_key(|link| Precedence::of(*link));
+    Ok(order)
 }
 
 /// The place of a group, from 1.
