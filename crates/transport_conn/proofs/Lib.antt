@@ -1,4 +1,5 @@
 pub mod Carried
 pub mod DeviceEnd
 pub mod ClientEnd
+pub mod Closing
 pub mod Runs

@@ -1,5 +1,5 @@
 -- The words of this crate's laws on numbered connections.
-use Rattle.std.specs.Prelude.{◌≡◌, ℕ, ◌+◌, ◌-◌, ◌<◌, ◌≤◌, List, [], ◌∷◌, Bool, Option, Some, None}
+use Rattle.std.specs.Prelude.{◌≡◌, ◌≢◌, ℕ, ◌+◌, ◌-◌, ◌%◌, ◌<◌, ◌≤◌, List, [], ◌∷◌, Bool, Option, Some, None}
 use Rattle.knx_model.specs.declared.address.IndAddr.{IndAddr}
 use Rattle.knx_model.specs.declared.frames.tpdu.Tpdu.TheVariants as tpdu
 use Rattle.knx_model.specs.declared.connection.TransportFrame.{TransportFrame}
@@ -39,6 +39,33 @@ pub record Repeats (e : DeviceEnd) (now : ℕ) (frame : List ℕ) : Type 0 where
   pub waited : 3000 ≤ now - answer.sent
   pub recent : now - session.last < 6000
 
+-- the connection is open, with this session
+abbrev pub IsOpen : DeviceEnd → Session → Type 0
+IsOpen Closed s = ⊥
+IsOpen (Idle t) s = s ≡ t
+IsOpen (Answering t a) s = s ≡ t
+
+-- an answer of this number is outstanding
+abbrev pub IsAnswering : DeviceEnd → ℕ → Type 0
+IsAnswering Closed number = ⊥
+IsAnswering (Idle s) number = ⊥
+IsAnswering (Answering s a) number = number ≡ s.number
+
+-- the connection with the sender is closed, and the sender is answered so: by its T_Disconnect or by its T_ACK that is neither of the
+-- outstanding number nor of the number before, by the T_Connect of another sender, or by numbered data where no connection is open
+pub data ClosesDevice (e : DeviceEnd) (from : IndAddr) : TransportFrame → Option (List ℕ) → Type 0 where
+  ByDisconnect : (s : Session) → IsOpen e s → s.partner.raw ≡ from.raw → ClosesDevice e from Disconnect None
+  ByAck : (s : Session) (number : ℕ) → IsOpen e s → s.partner.raw ≡ from.raw → ¬ IsAnswering e number → (number + 1) % 16 ≢ s.number
+      → ClosesDevice e from (Ack number) (Some (Written tpdu.Disconnect))
+  ByStranger : (s : Session) → IsOpen e s → s.partner.raw ≢ from.raw → ClosesDevice e from Connect (Some (Written tpdu.Disconnect))
+  ByService : (number : ℕ) (apdu : List ℕ) → e ≡ Closed → ClosesDevice e from (Numbered number apdu) (Some (Written tpdu.Disconnect))
+
+-- the connection is open, and 6,000 ms passed in which no frame was taken or sent
+pub record IsIdle (e : DeviceEnd) (now : ℕ) : Type 0 where
+  pub session : Session
+  pub open_ : IsOpen e session
+  pub idle : 6000 ≤ now - session.last
+
 -- the connection is up, with this session
 abbrev pub HasSession : ClientEnd → Session → Type 0
 HasSession (Asked device) s = ⊥
@@ -53,6 +80,31 @@ pub record Hears (e : ClientEnd) (frame : TransportFrame) (apdu ack : List ℕ) 
   pub up : HasSession e session
   pub expected : frame ≡ Numbered session.expected apdu
   pub acknowledged : ack ≡ Written (tpdu.Ack session.expected)
+
+-- a service of this number is outstanding
+abbrev pub IsAsking : ClientEnd → ℕ → Type 0
+IsAsking (Asked device) number = ⊥
+IsAsking (Up s) number = ⊥
+IsAsking (Asking s q) number = number ≡ s.number
+IsAsking (Awaiting s) number = ⊥
+IsAsking Ended number = ⊥
+
+-- the frame closes the connection: a T_Disconnect, or a T_ACK that is neither of the outstanding number nor of the number before
+pub data ClosesClient (e : ClientEnd) : TransportFrame → Option (List ℕ) → Type 0 where
+  HeardDisconnect : (s : Session) → HasSession e s → ClosesClient e Disconnect None
+  HeardAck : (s : Session) (number : ℕ) → HasSession e s → ¬ IsAsking e number → (number + 1) % 16 ≢ s.number
+      → ClosesClient e (Ack number) (Some (Written tpdu.Disconnect))
+
+-- a service is sent again: the same octets, at most three times, each 3,000 ms after its last confirmation without its T_ACK
+pub record AsksAgain (e : ClientEnd) (now : ℕ) (frame : List ℕ) : Type 0 where
+  pub session : Session
+  pub question : Question
+  pub since : ℕ
+  pub asking : e ≡ Asking session question
+  pub same : frame ≡ question.frame
+  pub fewer : question.repeats < 3
+  pub confirmed : question.confirmed ≡ Some since
+  pub waited : 3000 ≤ now - since
 
 -- a service was sent four times, and 3,000 ms passed after its last confirmation without its T_ACK
 pub record IsUnacknowledged (e : ClientEnd) (now : ℕ) : Type 0 where

@@ -13,7 +13,7 @@ ghost use Rattle.knx_model.specs.declared.connection.ClientExpired.TheVariants a
 ghost use Rattle.knx_model.specs.Apdu.{Written};
 ghost use Rattle.knx_model.specs.ApduReading.{apdu_octets};
 ghost use Rattle.knx_model.specs.Connection.{DeviceEnd as Device, ClientEnd as Client, Session, Question, Asking, Up, Awaiting, frame_in, numbered, has_passed, device_took, device_after, device_expired, device_deadline, client_took, client_after, client_expired, client_deadline};
-ghost use Rattle.transport_conn.specs.Laws.{Carries, Reached, Delivers, Repeats, Hears, IsUnacknowledged, IsUnanswered, DeviceCall, ClientCall, device_after_calls, client_after_calls, IsSentAtMostFourTimes, IsAskedAtMostFourTimes};
+ghost use Rattle.transport_conn.specs.Laws.{Carries, Reached, Delivers, Repeats, ClosesDevice, IsIdle, Hears, ClosesClient, AsksAgain, IsUnacknowledged, IsUnanswered, DeviceCall, ClientCall, device_after_calls, client_after_calls, IsSentAtMostFourTimes, IsAskedAtMostFourTimes};
 
 /// Octets that carry a frame are read as this frame, and octets that carry none as no frame.
 pub fn frames_are_read()
@@ -51,6 +51,19 @@ pub fn repeats_exactly()
     ensures each { (e : Device) (now : ℕ) (frame : List ℕ) → Repeats e now frame → device_expired e now ≡ expired.Repeat frame }
 {}
 
+/// A device's end closes the connection with a sender exactly at its T_Disconnect, at its T_ACK that is neither of the outstanding
+/// number nor of the number before, at the T_Connect of another sender, and at numbered data where no connection is open.
+pub fn device_closes_exactly()
+    ensures only { (e : Device) (from : Address) (frame : TransportFrame) (answer : Option (List ℕ)) → device_took e from frame ≡ took.Closed answer → ClosesDevice e from frame answer }
+    ensures each { (e : Device) (from : Address) (frame : TransportFrame) (answer : Option (List ℕ)) → ClosesDevice e from frame answer → device_took e from frame ≡ took.Closed answer }
+{}
+
+/// Of itself a device's end closes exactly an open connection in which 6,000 ms passed without a frame, by a T_Disconnect.
+pub fn device_expires_exactly()
+    ensures only { (e : Device) (now : ℕ) (answer : List ℕ) → device_expired e now ≡ expired.Closed answer → (answer ≡ Written tpdu.Disconnect) × IsIdle e now }
+    ensures each { (e : Device) (now : ℕ) → IsIdle e now → device_expired e now ≡ expired.Closed (Written tpdu.Disconnect) }
+{}
+
 /// Below the greatest time something is due exactly where the deadline is reached.
 pub fn deadline_is_nearest()
     ensures device { (e : Device) (now : ℕ) → now < 0xFFFFFFFFFFFFFFFF → Reached (device_deadline e) now ↔ (device_expired e now ≢ expired.Nothing) }
@@ -68,6 +81,18 @@ pub fn hears_once()
     ensures { (e : Client) (number now : ℕ) (apdu other ack : List ℕ) → number < 16
         → client_took e (Numbered number apdu) ≡ heard.Answer apdu ack
         → client_took (client_after e now (heard.Answer apdu ack)) (Numbered number other) ≡ heard.Again ack }
+{}
+
+/// A client's end closes exactly at a T_Disconnect, and at a T_ACK that is neither of the outstanding number nor of the number before.
+pub fn client_closes_exactly()
+    ensures only { (e : Client) (frame : TransportFrame) (answer : Option (List ℕ)) → client_took e frame ≡ heard.Closed answer → ClosesClient e frame answer }
+    ensures each { (e : Client) (frame : TransportFrame) (answer : Option (List ℕ)) → ClosesClient e frame answer → client_took e frame ≡ heard.Closed answer }
+{}
+
+/// A client's end sends again exactly a service that was sent fewer than four times, 3,000 ms after its last confirmation.
+pub fn asks_again_exactly()
+    ensures only { (e : Client) (now : ℕ) (frame : List ℕ) → client_expired e now ≡ over.Repeat frame → AsksAgain e now frame }
+    ensures each { (e : Client) (now : ℕ) (frame : List ℕ) → AsksAgain e now frame → client_expired e now ≡ over.Repeat frame }
 {}
 
 /// A client's end is silent exactly after a service was sent four times without its T_ACK, or where an answer is awaited too long.

@@ -16,7 +16,8 @@ pub use knx_model::{
     IndAddr,
 };
 pub use laws::{
-    deadline_is_nearest, delivers_exactly, delivers_once, frames_are_read, hears_exactly,
+    asks_again_exactly, client_closes_exactly, deadline_is_nearest, delivers_exactly,
+    delivers_once, device_closes_exactly, device_expires_exactly, frames_are_read, hears_exactly,
     hears_once, nak_is_ignored, numbered_is_grammatical, repeats_exactly, sent_at_most_four_times,
     silent_exactly,
 };
