@@ -24,7 +24,7 @@ pub struct LinkLine {
 }
 
 /// The link of a `link` line.
-fn link_in(what: &What) -> Option<Link>
+fn link_in(what: &What<'_>) -> Option<Link>
     ensures { result ≡ link_in what.now }
 {
     match what {
@@ -42,7 +42,7 @@ fn link_in(what: &What) -> Option<Link>
 }
 
 /// Adds the link of a `link` line.
-fn add_link(links: &mut Vec<LinkLine>, place: usize, what: &What) -> Result<(), AllocError>
+fn add_link(links: &mut Vec<LinkLine>, place: usize, what: &What<'_>) -> Result<(), AllocError>
     ensures { OnOk result (links.new.items ≡ links.old.items ++ lines_of place (link_in what.now)) }
 {
     if let Some(link) = link_in(what) {
@@ -52,7 +52,7 @@ fn add_link(links: &mut Vec<LinkLine>, place: usize, what: &What) -> Result<(), 
 }
 
 /// The `link` lines, in the order of the text.
-pub fn link_lines(alloc: Global, statements: &[Statement]) -> Result<Vec<LinkLine>, AllocError>
+pub fn link_lines(alloc: Global, statements: &[Statement<'_>]) -> Result<Vec<LinkLine>, AllocError>
     ensures { IfOk result (λ links. links.items ≡ link_lines statements.now) }
 {
     let mut links = Vec::new(alloc);
