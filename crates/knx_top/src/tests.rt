@@ -1,6 +1,7 @@
 use crate::{Bench, Status, knx};
 use knx_model::{MemoryFile, MemoryFiles, MemorySink, NoMemory, Octets};
 use std::alloc::Global;
+use std::process::Abort;
 use std::test::Fail;
 
 const A: &[u8] = b"project hall
@@ -174,257 +175,190 @@ fn call(alloc: Global, line: &str, script: &[u8]) -> Result<(Status, Octets), No
     Ok((status, taken))
 }
 
+/// Fails where a call with these words doesn't write the text, or has another status.
+fn assert_call(
+    rt: &impl Abort,
+    alloc: Global,
+    line: &str,
+    script: &[u8],
+    status: Status,
+    text: &str,
+) -> Result<(), Fail> {
+    let (told, taken) = call(alloc, line, script).ok().ok_or("memory")?;
+    assert_eq!(rt; told, status, "{line}");
+    assert_eq!(rt; taken.as_slice(), text.as_bytes(), "{line}");
+    Ok(())
+}
+
+/// The words of a call, what its file `s` holds, and what it writes.
+type Row = (&'static str, &'static [u8], &'static str);
+
+/// Fails where a call doesn't write its text, or has another status.
+fn assert_calls(rt: &impl Abort, alloc: Global, status: Status, rows: &[Row]) -> Result<(), Fail> {
+    for row in rows {
+        let (line, script, text) = *row;
+        assert_call(rt, alloc, line, script, status, text)?;
+    }
+    Ok(())
+}
+
 #[test]
 fn a_run_is_reported(rt: HostRuntime) -> Result<(), Fail> {
-    let rows: [(&str, &[u8], &str, Status); 8] = [
-        ("sim a.txt e e", b"", NEW, Status::Done),
-        ("sim a.txt b.txt e", b"", NEW, Status::Done),
-        ("sim p.txt e e catalogue=big1.toml", b"", NEW, Status::Done),
+    let done: [Row; 6] = [
+        ("sim a.txt e e", b"", NEW),
+        ("sim a.txt b.txt e", b"", NEW),
+        ("sim p.txt e e catalogue=big1.toml", b"", NEW),
         (
             "sim office.txt e e catalogue=office.toml",
             b"",
             "job 1 load 1.1.20 done\ndevice 1.1.20 new\nmissed 0\n",
-            Status::Done,
         ),
-        ("sim a.txt b.txt s", b"cut 1.1.5 1 0\n", NEW, Status::Done),
-        ("sim a.txt b.txt s", b"cut 1.1.5 20 1\n", NEW, Status::Done),
+        ("sim a.txt b.txt s", b"cut 1.1.5 1 0\n", NEW),
+        ("sim a.txt b.txt s", b"cut 1.1.5 20 1\n", NEW),
+    ];
+    let failed: [Row; 2] = [
         (
             "sim a.txt b.txt s",
             b"cut 1.1.5 1 1\ncut 1.1.5 2 0\ncut 1.1.5 3 0\n",
             STOPPED,
-            Status::SomeFailed,
         ),
         (
             "sim a.txt b.txt s",
             b"cut 1.1.5 1 0\ncut 1.1.5 2 0\ncut 1.1.5 3 0\n",
             OLD,
-            Status::SomeFailed,
         ),
     ];
-    for (line, script, text, status) in rows {
-        let (told, taken) = call(rt.alloc(), line, script).ok().ok_or("memory")?;
-        assert_eq!(rt; told, status, "{line}");
-        assert_eq!(rt; taken.as_slice(), text.as_bytes(), "{line}");
-    }
-    Ok(())
+    assert_calls(&rt, rt.alloc(), Status::Done, &done)?;
+    assert_calls(&rt, rt.alloc(), Status::SomeFailed, &failed)
 }
 
 #[test]
 fn what_a_run_lacks_is_told(rt: HostRuntime) -> Result<(), Fail> {
-    let rows: [(&str, &[u8], &str, Status); 8] = [
-        (
-            "sim c.txt e e",
-            b"",
-            "new line 0: 21 NotBuilt\n",
-            Status::Project,
-        ),
-        (
-            "sim e e e",
-            b"",
-            "new line 0: 21 NotBuilt\n",
-            Status::Project,
-        ),
-        (
-            "sim a.txt c.txt e",
-            b"",
-            "old line 0: 21 NotBuilt\n",
-            Status::Project,
-        ),
+    let rows: [Row; 8] = [
+        ("sim c.txt e e", b"", "new line 0: 21 NotBuilt\n"),
+        ("sim e e e", b"", "new line 0: 21 NotBuilt\n"),
+        ("sim a.txt c.txt e", b"", "old line 0: 21 NotBuilt\n"),
         (
             "sim a.txt other.txt s",
             b"lose\n",
             "old line 0: 21 NotBuilt\n",
-            Status::Project,
         ),
-        (
-            "sim c.txt d.txt e",
-            b"",
-            "old line 6: 18 SizeDiffers\n",
-            Status::Project,
-        ),
+        ("sim c.txt d.txt e", b"", "old line 6: 18 SizeDiffers\n"),
         (
             "sim a.txt s e",
             b"no statement\n",
             "old line 1: 3 UnknownWord\n",
-            Status::Project,
         ),
         (
             "sim d.txt s s",
             b"no statement\n",
             "new line 6: 18 SizeDiffers\n",
-            Status::Project,
         ),
-        (
-            "sim office.txt e e",
-            b"",
-            "new line 4: 12 UnknownModel\n",
-            Status::Project,
-        ),
+        ("sim office.txt e e", b"", "new line 4: 12 UnknownModel\n"),
     ];
-    for (line, script, text, status) in rows {
-        let (told, taken) = call(rt.alloc(), line, script).ok().ok_or("memory")?;
-        assert_eq!(rt; told, status, "{line}");
-        assert_eq!(rt; taken.as_slice(), text.as_bytes(), "{line}");
-    }
-    Ok(())
+    assert_calls(&rt, rt.alloc(), Status::Project, &rows)
 }
 
 #[test]
 fn what_a_script_lacks_is_told(rt: HostRuntime) -> Result<(), Fail> {
-    let rows: [(&str, &[u8], &str, Status); 9] = [
-        (
-            "sim a.txt none.txt e",
-            b"",
-            "read fault none.txt NotThere\n",
-            Status::Read,
-        ),
-        (
-            "sim a.txt e e catalogue=none.toml",
-            b"",
-            "read fault none.toml NotThere\n",
-            Status::Read,
-        ),
-        (
-            "sim g.txt e e catalogue=a.txt",
-            b"",
-            "catalogue: 1 Toml\n",
-            Status::Catalogue,
-        ),
+    let rows: [Row; 5] = [
         (
             "sim a.txt b.txt s",
             b"cut 1.1.5 1\n",
             "script line 1: 7 MissingWord\n",
-            Status::Script,
         ),
         (
             "sim a.txt b.txt s",
             b"off 1.1.9\n",
             "script line 1: 20 NoDevice\n",
-            Status::Script,
         ),
         (
             "sim a.txt e s",
             b"worn 1.1.5 5\n\ncut 1.1.6 1 0\noff 1.1.7\n",
             "script line 3: 20 NoDevice\n",
-            Status::Script,
         ),
         (
             "sim a.txt e s",
             b"worn 1.1.5 5\n",
             "script line 0: 21 NotBuilt\n",
-            Status::Script,
         ),
         (
             "sim a.txt e s",
             b"then group 1/2/3 read\n",
             "script line 0: 21 NotBuilt\n",
-            Status::Script,
-        ),
-        (
-            "sim none.txt e e",
-            b"",
-            "read fault none.txt NotThere\n",
-            Status::Read,
         ),
     ];
-    for (line, script, text, status) in rows {
-        let (told, taken) = call(rt.alloc(), line, script).ok().ok_or("memory")?;
-        assert_eq!(rt; told, status, "{line}");
-        assert_eq!(rt; taken.as_slice(), text.as_bytes(), "{line}");
-    }
-    Ok(())
+    assert_calls(&rt, rt.alloc(), Status::Script, &rows)
+}
+
+#[test]
+fn what_a_file_lacks_is_told(rt: HostRuntime) -> Result<(), Fail> {
+    let absent: [Row; 4] = [
+        ("sim none.txt e e", b"", "read fault none.txt NotThere\n"),
+        (
+            "sim a.txt none.txt e",
+            b"",
+            "read fault none.txt NotThere\n",
+        ),
+        (
+            "sim a.txt e e catalogue=none.toml",
+            b"",
+            "read fault none.toml NotThere\n",
+        ),
+        ("check none.txt", b"", "read fault none.txt NotThere\n"),
+    ];
+    let no_toml: [Row; 1] = [("sim g.txt e e catalogue=a.txt", b"", "catalogue: 1 Toml\n")];
+    assert_calls(&rt, rt.alloc(), Status::Read, &absent)?;
+    assert_calls(&rt, rt.alloc(), Status::Catalogue, &no_toml)
 }
 
 #[test]
 fn projects_are_told(rt: HostRuntime) -> Result<(), Fail> {
-    let rows: [(&str, &[u8], &str, Status); 11] = [
-        (
-            "check a.txt",
-            b"",
-            "ok devices 1 objects 2 links 2\n",
-            Status::Done,
-        ),
-        (
-            "check c.txt",
-            b"",
-            "ok devices 3 objects 4 links 4\n",
-            Status::Done,
-        ),
-        (
-            "check e",
-            b"",
-            "ok devices 0 objects 0 links 0\n",
-            Status::Done,
-        ),
+    let sound: [Row; 7] = [
+        ("check a.txt", b"", "ok devices 1 objects 2 links 2\n"),
+        ("check c.txt", b"", "ok devices 3 objects 4 links 4\n"),
+        ("check e", b"", "ok devices 0 objects 0 links 0\n"),
         (
             "check office.txt catalogue=office.toml",
             b"",
             "ok devices 1 objects 2 links 2\n",
-            Status::Done,
         ),
-        (
-            "check d.txt",
-            b"",
-            "new line 6: 18 SizeDiffers\n",
-            Status::Project,
-        ),
-        (
-            "check g.txt",
-            b"",
-            "new line 1: 4 BadAddress\n",
-            Status::Project,
-        ),
-        (
-            "check none.txt",
-            b"",
-            "read fault none.txt NotThere\n",
-            Status::Read,
-        ),
-        ("tables a.txt", b"", A_TABLES, Status::Done),
-        ("tables e", b"", "", Status::Done),
+        ("tables a.txt", b"", A_TABLES),
+        ("tables e", b"", ""),
         (
             "tables office.txt catalogue=office.toml",
             b"",
             OFFICE_TABLES,
-            Status::Done,
-        ),
-        (
-            "tables d.txt",
-            b"",
-            "new line 6: 18 SizeDiffers\n",
-            Status::Project,
         ),
     ];
-    for (line, script, text, status) in rows {
-        let (told, taken) = call(rt.alloc(), line, script).ok().ok_or("memory")?;
-        assert_eq!(rt; told, status, "{line}");
-        assert_eq!(rt; taken.as_slice(), text.as_bytes(), "{line}");
-    }
-    Ok(())
+    let refused: [Row; 3] = [
+        ("check d.txt", b"", "new line 6: 18 SizeDiffers\n"),
+        ("check g.txt", b"", "new line 1: 4 BadAddress\n"),
+        ("tables d.txt", b"", "new line 6: 18 SizeDiffers\n"),
+    ];
+    assert_calls(&rt, rt.alloc(), Status::Done, &sound)?;
+    assert_calls(&rt, rt.alloc(), Status::Project, &refused)
 }
 
 #[test]
 fn other_words_are_usage(rt: HostRuntime) -> Result<(), Fail> {
-    let rows: [(&str, &[u8], &str, Status); 7] = [
-        ("sim a.txt e e workers=9", b"", USAGE, Status::Usage),
+    let rows: [Row; 10] = [
+        ("sim a.txt e e workers=9", b"", USAGE),
         (
             "sim a.txt e e catalogue=office.toml catalogue=office.toml",
             b"",
             USAGE,
-            Status::Usage,
         ),
-        ("sim a.txt e", b"", USAGE, Status::Usage),
-        ("check", b"", USAGE, Status::Usage),
-        ("check a.txt b.txt", b"", USAGE, Status::Usage),
-        ("tables a.txt e", b"", USAGE, Status::Usage),
-        ("", b"", USAGE, Status::Usage),
+        ("sim a.txt e", b"", USAGE),
+        ("check", b"", USAGE),
+        ("check a.txt b.txt", b"", USAGE),
+        ("tables a.txt e", b"", USAGE),
+        ("decode 0610042", b"", USAGE),
+        ("decode", b"", USAGE),
+        ("decode 061004 061004", b"", USAGE),
+        ("", b"", USAGE),
     ];
-    for (line, script, text, status) in rows {
-        let (told, taken) = call(rt.alloc(), line, script).ok().ok_or("memory")?;
-        assert_eq!(rt; told, status, "{line}");
-        assert_eq!(rt; taken.as_slice(), text.as_bytes(), "{line}");
-    }
-    Ok(())
+    assert_calls(&rt, rt.alloc(), Status::Usage, &rows)
 }
 
 #[test]
@@ -501,23 +435,25 @@ fn values_and_fields_out_of_place_are_told(rt: HostRuntime) -> Result<(), Fail> 
         "param 1.1.20 delay 1001",
     );
     let project = project.ok().ok_or("memory")?;
-    let (told, taken) = call(alloc, "tables s catalogue=office.toml", project.as_slice())
-        .ok()
-        .ok_or("memory")?;
-    assert_eq!(rt; told, Status::Project);
-    assert_eq!(rt; taken.as_slice(), b"new line 8: 17 OutOfRange\n".as_slice());
+    assert_call(
+        &rt,
+        alloc,
+        "tables s catalogue=office.toml",
+        project.as_slice(),
+        Status::Project,
+        "new line 8: 17 OutOfRange\n",
+    )?;
 
     let models = with_line(alloc, OFFICE_MODELS, "bit = 18", "bit = 15");
     let models = models.ok().ok_or("memory")?;
-    let (told, taken) = call(alloc, "tables office.txt catalogue=s", models.as_slice())
-        .ok()
-        .ok_or("memory")?;
-    assert_eq!(rt; told, Status::Catalogue);
-    assert_eq!(rt;
-        taken.as_slice(),
-        b"catalogue: 3 Overlap dim2 mode\n".as_slice()
-    );
-    Ok(())
+    assert_call(
+        &rt,
+        alloc,
+        "tables office.txt catalogue=s",
+        models.as_slice(),
+        Status::Catalogue,
+        "catalogue: 3 Overlap dim2 mode\n",
+    )
 }
 
 /// One object that is linked to so many groups.
@@ -545,80 +481,78 @@ fn many_links(alloc: Global, links: u32) -> Result<Octets, NoMemory> {
 fn a_device_has_at_most_2047_links(rt: HostRuntime) -> Result<(), Fail> {
     let alloc = rt.alloc();
     let project = many_links(alloc, 2047).ok().ok_or("memory")?;
-    let (told, taken) = call(alloc, "check s", project.as_slice())
-        .ok()
-        .ok_or("memory")?;
-    assert_eq!(rt; told, Status::Done);
-    assert_eq!(rt;
-        taken.as_slice(),
-        b"ok devices 1 objects 1 links 2047\n".as_slice()
-    );
-
+    let text = "ok devices 1 objects 1 links 2047\n";
+    assert_call(
+        &rt,
+        alloc,
+        "check s",
+        project.as_slice(),
+        Status::Done,
+        text,
+    )?;
     let project = many_links(alloc, 2048).ok().ok_or("memory")?;
-    let (told, taken) = call(alloc, "check s", project.as_slice())
-        .ok()
-        .ok_or("memory")?;
-    assert_eq!(rt; told, Status::Project);
-    assert_eq!(rt;
-        taken.as_slice(),
-        b"new line 4098: 19 TooMany 2047\n".as_slice()
-    );
-    Ok(())
+    let text = "new line 4098: 19 TooMany 2047\n";
+    assert_call(
+        &rt,
+        alloc,
+        "check s",
+        project.as_slice(),
+        Status::Project,
+        text,
+    )
 }
+
+const GROUP_WRITE: &str = "ip tunnelling-request channel 1 number 0
+cemi req group 0.0.0 1/2/3 priority 3 hops 6
+tpdu unnumbered group-write s01
+";
+
+const DESCRIPTOR_READ: &str = "ip tunnelling-request channel 1 number 0
+cemi req individual 0.0.0 1.1.5 priority 3 hops 6
+tpdu numbered 0 descriptor-read 0 -
+";
+
+const UNLOAD: &str = "ip tunnelling-request channel 1 number 0
+cemi req individual 0.0.0 1.1.5 priority 3 hops 6
+tpdu numbered 1 property-write 4 5 1 1 04000000000000000000
+";
 
 #[test]
 fn decode_tells_the_parts_of_a_datagram(rt: HostRuntime) -> Result<(), Fail> {
-    let rows: [(&str, &str, Status); 10] = [
+    let rows: [Row; 7] = [
         (
             "decode 061004200015040100001100BCE000000A03010081",
-            "ip tunnelling-request channel 1 number 0
-cemi req group 0.0.0 1/2/3 priority 3 hops 6
-tpdu unnumbered group-write s01
-",
-            Status::Done,
+            b"",
+            GROUP_WRITE,
         ),
         (
             "decode 061004200014040100001100bce000000a03010081",
+            b"",
             "ip refused 3 Length\n",
-            Status::Done,
         ),
-        ("decode 061004", "ip refused 1 Header\n", Status::Done),
+        ("decode 061004", b"", "ip refused 1 Header\n"),
         (
             "decode 06100205001A0801000000000000080100000000000004040200",
+            b"",
             "ip connect-request\n",
-            Status::Done,
         ),
         (
             "decode 06100206001401000801000000000000040411FF",
+            b"",
             "ip connect-response channel 1 status 00 tunnel 1.1.255\n",
-            Status::Done,
         ),
         (
             "decode 061004200015040100001100BC6000001105014300",
-            "ip tunnelling-request channel 1 number 0
-cemi req individual 0.0.0 1.1.5 priority 3 hops 6
-tpdu numbered 0 descriptor-read 0 -
-",
-            Status::Done,
+            b"",
+            DESCRIPTOR_READ,
         ),
         (
             "decode 061004200023040100001100BC60000011050F47D70405100104000000000000000000",
-            "ip tunnelling-request channel 1 number 0
-cemi req individual 0.0.0 1.1.5 priority 3 hops 6
-tpdu numbered 1 property-write 4 5 1 1 04000000000000000000
-",
-            Status::Done,
+            b"",
+            UNLOAD,
         ),
-        ("decode 0610042", USAGE, Status::Usage),
-        ("decode", USAGE, Status::Usage),
-        ("decode 061004 061004", USAGE, Status::Usage),
     ];
-    for (line, text, status) in rows {
-        let (told, taken) = call(rt.alloc(), line, b"").ok().ok_or("memory")?;
-        assert_eq!(rt; told, status, "{line}");
-        assert_eq!(rt; taken.as_slice(), text.as_bytes(), "{line}");
-    }
-    Ok(())
+    assert_calls(&rt, rt.alloc(), Status::Done, &rows)
 }
 
 #[test]
@@ -644,22 +578,25 @@ fn a_script_has_at_most_65536_lines(rt: HostRuntime) -> Result<(), Fail> {
     for _ in 0..65_536u32 {
         script.push(b'\n').ok().ok_or("memory")?;
     }
-    let (told, taken) = call(alloc, "sim a.txt e s", script.as_slice())
-        .ok()
-        .ok_or("memory")?;
-    assert_eq!(rt; told, Status::Done);
-    assert_eq!(rt; taken.as_slice(), NEW.as_bytes());
+    assert_call(
+        &rt,
+        alloc,
+        "sim a.txt e s",
+        script.as_slice(),
+        Status::Done,
+        NEW,
+    )?;
 
     script.push(b'\n').ok().ok_or("memory")?;
-    let (told, taken) = call(alloc, "sim a.txt e s", script.as_slice())
-        .ok()
-        .ok_or("memory")?;
-    assert_eq!(rt; told, Status::Script);
-    assert_eq!(rt;
-        taken.as_slice(),
-        b"script line 65537: 19 TooMany 65536\n".as_slice()
-    );
-    Ok(())
+    let text = "script line 65537: 19 TooMany 65536\n";
+    assert_call(
+        &rt,
+        alloc,
+        "sim a.txt e s",
+        script.as_slice(),
+        Status::Script,
+        text,
+    )
 }
 
 #[test]
