@@ -69,27 +69,22 @@ fn assert_loads(rt: &impl Abort, device: &mut Device, object: u8, event: &[u8; 1
     assert_answers(rt, device, apdu.as_slice(), Some(&wanted));
 }
 
+const START: &[u8; 10] = b"\x01\x00\x00\x00\x00\x00\x00\x00\x00\x00";
+
+const ALLOCATE_FOUR: &[u8; 10] = b"\x03\x0B\x00\x00\x00\x04\x01\x00\x00\x00";
+
+const COMPLETE: &[u8; 10] = b"\x02\x00\x00\x00\x00\x00\x00\x00\x00\x00";
+
+const UNLOAD: &[u8; 10] = b"\x04\x00\x00\x00\x00\x00\x00\x00\x00\x00";
+
 #[test]
 fn an_address_table_is_loaded(rt: HostRuntime) -> Result<(), Fail> {
     let device = &mut Device::blank(rt.alloc(), ADDRESS)?;
     // memory that isn't allocated
     assert_answers(&rt, device, b"\x02\x04\x40\x00", Some(b"\x02\x40\x40\x00"));
-    // start loading, and allocate 4 octets
-    assert_loads(
-        &rt,
-        device,
-        1,
-        b"\x01\x00\x00\x00\x00\x00\x00\x00\x00\x00",
-        2,
-    );
-    assert_loads(
-        &rt,
-        device,
-        1,
-        b"\x03\x0B\x00\x00\x00\x04\x01\x00\x00\x00",
-        2,
-    );
-    // write two of them, and read them
+    assert_loads(&rt, device, 1, START, 2);
+    assert_loads(&rt, device, 1, ALLOCATE_FOUR, 2);
+    // write two of the four octets, and read them
     assert_answers(&rt, device, b"\x02\x82\x40\x00\xAB\xCD", None);
     assert_answers(
         &rt,
@@ -97,22 +92,9 @@ fn an_address_table_is_loaded(rt: HostRuntime) -> Result<(), Fail> {
         b"\x02\x02\x40\x00",
         Some(b"\x02\x42\x40\x00\xAB\xCD"),
     );
-    // load completed
-    assert_loads(
-        &rt,
-        device,
-        1,
-        b"\x02\x00\x00\x00\x00\x00\x00\x00\x00\x00",
-        1,
-    );
-    // unload the application
-    assert_loads(
-        &rt,
-        device,
-        4,
-        b"\x04\x00\x00\x00\x00\x00\x00\x00\x00\x00",
-        0,
-    );
+    assert_loads(&rt, device, 1, COMPLETE, 1);
+    // the application
+    assert_loads(&rt, device, 4, UNLOAD, 0);
     // a group service has no answer
     assert_answers(&rt, device, b"\x00\x80", None);
     Ok(())
