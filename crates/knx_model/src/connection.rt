@@ -2,7 +2,7 @@
 
 use crate::frames::ApduOctets;
 
-/// A frame as the transport layer sees it.
+/// A frame as the transport layer sees it. Sequence numbers are 0 to 15.
 #[derive(Clone, Debug, Drop, PartialEq, Eq)]
 pub enum TransportFrame {
     Connect,

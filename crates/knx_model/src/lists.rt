@@ -70,18 +70,21 @@ impl Octets {
         octets
     }
 
+    /// The octets.
     pub fn as_slice(&self) -> &[u8]
         ensures { result.now ≡ self.now }
     {
         self.octets.as_slice()
     }
 
+    /// The number of octets.
     pub fn len(&self) -> usize
         ensures { result ≡ length self.now }
     {
         self.octets.len()
     }
 
+    /// Whether there are no octets.
     pub fn is_empty(&self) -> bool
         ensures { IsTrue result ↔ (length self.now ≡ 0) }
     {
@@ -150,18 +153,21 @@ impl<T> List<T> {
         items
     }
 
+    /// The items.
     pub fn as_slice(&self) -> &[T]
         ensures { result.now ≡ self.now }
     {
         self.items.as_slice()
     }
 
+    /// The number of items.
     pub fn len(&self) -> usize
         ensures { result ≡ length self.now }
     {
         self.items.len()
     }
 
+    /// Whether there are no items.
     pub fn is_empty(&self) -> bool
         ensures { IsTrue result ↔ (length self.now ≡ 0) }
     {

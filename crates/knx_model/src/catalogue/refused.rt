@@ -4,20 +4,21 @@ ghost use Rattle.std.specs.Prelude.{◌≡◌};
 
 use crate::lists::{NoMemory, Octets};
 
-/// Why a catalogue is refused. Models and parameters are named as they stand in the document.
+/// Why a catalogue is refused, each with its number but for want of memory. Models and parameters are named as they stand in the
+/// document.
 #[derive(Debug, Drop)]
 pub enum CatRefused {
     /// There was no memory.
     NoMemory,
-    /// The octets are no TOML document.
+    /// 1: the octets are no TOML document.
     Toml,
-    /// A model's name, keys, kinds of values, or one of its numbers, sizes, flags or names isn't as it must be.
+    /// 2: a model's name, keys, kinds of values, or one of its numbers, sizes, flags or names isn't as it must be.
     Shape { model: Octets },
-    /// A parameter shares a bit with an earlier one.
+    /// 3: a parameter shares a bit with an earlier one.
     Overlap { model: Octets, parameter: Octets },
-    /// A parameter's width, place or values aren't in their ranges.
+    /// 4: a parameter's width, place or values aren't in their ranges.
     Range { model: Octets, parameter: Octets },
-    /// The text has more than 4,194,304 octets.
+    /// 5: the text has more than 4,194,304 octets.
     Long,
 }
 

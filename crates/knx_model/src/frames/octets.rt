@@ -22,6 +22,7 @@ impl Model for ApduOctets {
 }
 
 impl ApduOctets {
+    /// The most octets.
     pub const CAPACITY: usize = 16;
 
     /// No octets.
@@ -33,6 +34,7 @@ impl ApduOctets {
         }
     }
 
+    /// The number of octets.
     pub fn len(&self) -> usize
         ensures value { result ≡ length self.now }
         ensures fits { result ≤ 16 }
@@ -40,12 +42,14 @@ impl ApduOctets {
         self.octets.len()
     }
 
+    /// Whether there are no octets.
     pub fn is_empty(&self) -> bool
         ensures { IsTrue result ↔ (length self.now ≡ 0) }
     {
         self.octets.is_empty()
     }
 
+    /// The octets.
     pub fn as_slice(&self) -> &[u8]
         ensures value { result.now ≡ self.now }
         ensures fits { length self.now ≤ 16 }
@@ -104,8 +108,10 @@ impl Model for LongValue {
 }
 
 impl LongValue {
+    /// The most octets.
     pub const CAPACITY: usize = 14;
 
+    /// The octets.
     pub fn as_slice(&self) -> &[u8]
         ensures value { result.now ≡ self.now }
         ensures fits { length self.now ≤ 14 }
@@ -141,6 +147,7 @@ impl Model for Datagram {
 }
 
 impl Datagram {
+    /// The most octets.
     pub const CAPACITY: usize = 300;
 
     /// No octets.
@@ -152,6 +159,7 @@ impl Datagram {
         }
     }
 
+    /// The number of octets.
     pub fn len(&self) -> usize
         ensures value { result ≡ length self.now }
         ensures fits { result ≤ 300 }
@@ -159,12 +167,14 @@ impl Datagram {
         self.octets.len()
     }
 
+    /// Whether there are no octets.
     pub fn is_empty(&self) -> bool
         ensures { IsTrue result ↔ (length self.now ≡ 0) }
     {
         self.octets.is_empty()
     }
 
+    /// The octets.
     pub fn as_slice(&self) -> &[u8]
         ensures value { result.now ≡ self.now }
         ensures fits { length self.now ≤ 300 }

@@ -3,38 +3,52 @@
 use crate::address::IndAddr;
 use crate::frames::{ApduOctets, Value};
 
-/// A service of the application layer.
+/// A service of the application layer. Memory addresses are those of the device; counts of memory are 1 to 12 octets, of a response
+/// 0 to 12; a property's count has 4 bits, its start 12, and its value at most 10 octets.
 #[derive(Clone, Debug, Drop, PartialEq, Eq)]
 pub enum Apdu {
+    /// A_GroupValue_Read.
     GroupRead,
+    /// A_GroupValue_Response.
     GroupResponse(Value),
+    /// A_GroupValue_Write.
     GroupWrite(Value),
+    /// A_IndividualAddress_Write.
     AddressWrite(IndAddr),
+    /// A_IndividualAddress_Read.
     AddressRead,
+    /// A_IndividualAddress_Response, whose address is its sender's.
     AddressResponse,
+    /// A_Memory_Read.
     MemoryRead {
         count: u8,
         address: u16,
     },
+    /// A_Memory_Response; without octets where the address can't be read.
     MemoryResponse {
         address: u16,
         octets: ApduOctets,
     },
+    /// A_Memory_Write.
     MemoryWrite {
         address: u16,
         octets: ApduOctets,
     },
+    /// A_DeviceDescriptor_Read of a type, 0 to 63.
     DescriptorRead(u8),
+    /// A_DeviceDescriptor_Response; without a value exactly where the type is 63.
     DescriptorResponse {
         kind: u8,
         value: Option<u16>,
     },
+    /// A_PropertyValue_Read.
     PropertyRead {
         object: u8,
         property: u8,
         count: u8,
         start: u16,
     },
+    /// A_PropertyValue_Response; of count 0 and without octets where the property can't be read or written so.
     PropertyResponse {
         object: u8,
         property: u8,
@@ -42,6 +56,7 @@ pub enum Apdu {
         start: u16,
         octets: ApduOctets,
     },
+    /// A_PropertyValue_Write.
     PropertyWrite {
         object: u8,
         property: u8,
@@ -51,7 +66,7 @@ pub enum Apdu {
     },
 }
 
-/// A frame of the transport layer.
+/// A frame of the transport layer. Sequence numbers are 0 to 15.
 #[derive(Clone, Debug, Drop, PartialEq, Eq)]
 pub enum Tpdu {
     Unnumbered(Apdu),
@@ -65,8 +80,12 @@ pub enum Tpdu {
 /// Why octets are no frame.
 #[derive(Clone, Copy, Debug, PartialEq, Eq)]
 pub enum TpduRefused {
+    /// 1: no octet.
     Empty,
+    /// 2: no form of a first octet, or none of the services.
     Code,
+    /// 3: the number of octets isn't one of its form or service, counted octets aside.
     Length,
+    /// 4: the count of a memory service is out of its range, or isn't the number of octets that follow.
     Count,
 }

@@ -19,8 +19,8 @@ fn are_text_octets(line: &[u8]) -> bool
     line.iter().all(|b| is_text_octet(*b))
 }
 
-#[tactic(auto, using(crate::proofs::Text::utf8_true, crate::proofs::Text::utf8_false))]
 /// Whether a line is text: UTF-8 without control characters but tab.
+#[tactic(auto, using(crate::proofs::Text::utf8_true, crate::proofs::Text::utf8_false))]
 pub fn is_text(line: &[u8]) -> bool
     ensures { result ≡ is_text line.now }
 {

@@ -41,8 +41,8 @@ pub fn numeral(radix: u64, most: usize, digits: &[u8]) -> Option<u64>
     Some(number)
 }
 
-#[tactic(auto, unfolding(crate::specs::Numbers::number_value))]
 /// The number that a word writes, in decimal or behind `0x` in hexadecimal.
+#[tactic(auto, unfolding(crate::specs::Numbers::number_value))]
 pub fn number_in(word: &[u8]) -> Option<u32>
     ensures { result ≡ number_value word.now }
 {
@@ -57,8 +57,8 @@ pub fn number_in(word: &[u8]) -> Option<u32>
     }
 }
 
-#[tactic(auto, unfolding(crate::specs::Numbers::part_value))]
 /// A part of an address: 1 to 3 decimal digits.
+#[tactic(auto, unfolding(crate::specs::Numbers::part_value))]
 pub fn part_in(most: u32, word: &[u8]) -> Option<u32>
     ensures value { result ≡ part_value most word.now }
     ensures within { IfSome result (λ n. n ≤ most) }
