@@ -29,8 +29,8 @@ fn is_place(params: u16, bit: u64, width: u64) -> bool
     bit + width <= 8 * u64::from(params)
 }
 
-#[tactic(auto, using(crate::proofs::Numbers::holds_in_32))]
 /// Whether the least value, the default and the greatest value ascend, and the width holds them.
+#[tactic(auto, using(crate::proofs::Numbers::holds_in_32))]
 fn is_span(width: u64, min: u64, max: u64, default: u64) -> bool
     requires { width ≤ 32 }
     ensures value { result ≡ is_span width min max default }

@@ -5,10 +5,11 @@ ghost use Rattle.knx_model.specs.Cemi.{code_octet, IsCode};
 
 use knx_model::LdataCode;
 
+/// L_Data.req.
 const L_DATA_REQ: u8 = 0x11;
-
+/// L_Data.con.
 const L_DATA_CON: u8 = 0x2E;
-
+/// L_Data.ind.
 const L_DATA_IND: u8 = 0x29;
 
 /// The code that an octet is.

@@ -26,10 +26,13 @@ const NO_DESCRIPTOR: u8 = 0x3F;
 /// The greatest length of an APDU, in octets.
 const MAX_APDU_LENGTH: u16 = 15;
 
+/// The property that tells the type of an object.
 const OBJECT_TYPE: u8 = 1;
 
+/// The property that tells the base of an object's segment.
 const TABLE_REFERENCE: u8 = 7;
 
+/// The property of the device that tells the greatest length of an APDU.
 const GREATEST_LENGTH: u8 = 56;
 
 fn word(n: u16) -> ApduOctets

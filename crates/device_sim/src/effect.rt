@@ -38,6 +38,7 @@ fn loads(index: u8, octets: &[u8]) -> Effect
     }
 }
 
+/// What a service does.
 pub fn effect_of(apdu: &Apdu) -> Effect
     ensures { meant result ≡ effect_of apdu.now }
 {

@@ -49,6 +49,7 @@ fn same_state(one: LoadState, other: LoadState) -> bool
 }
 
 impl Kept {
+    /// The load states of its four objects.
     pub fn load_states(&self) -> LoadStates
         ensures { result ≡ states_of self.now }
     {
@@ -70,6 +71,7 @@ impl Kept {
             && same_state(states.application, self.application.state())
     }
 
+    /// One of its four objects.
     pub fn object(&self, object: LoadableObject) -> &Loadable
         ensures { result.now ≡ content self.now object }
     {

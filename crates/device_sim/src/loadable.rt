@@ -53,6 +53,7 @@ impl Loadable {
         })
     }
 
+    /// Its load state.
     pub fn state(&self) -> LoadState
         ensures { result ≡ self.now.state }
     {
@@ -67,6 +68,7 @@ impl Loadable {
         &self.memory[..self.machine.len() as usize]
     }
 
+    /// Whether it is Loaded.
     pub fn is_loaded(&self) -> bool
         ensures { result ≡ is_loaded self.now.state }
     {

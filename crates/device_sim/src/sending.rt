@@ -8,9 +8,10 @@ ghost use Rattle.device_sim.specs.Sending.{and_frame};
 use knx_model::{ApduOctets, GroupAddr, IndAddr, Ldata, LdataCode};
 use std::collections::VecDeque;
 
-/// Low.
+/// The priority of what a device sends: low.
 const PRIORITY: u8 = 3;
 
+/// The hop count of what a device sends.
 const HOP_COUNT: u8 = 6;
 
 /// A frame of the device to one device.

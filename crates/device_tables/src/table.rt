@@ -29,8 +29,8 @@ pub fn address_at(addr: &[u8], place: u16) -> Option<u16>
     number_at(addr, usize::from(place))
 }
 
-#[tactic(auto, using(crate::proofs::Numbers::first_pair_is, crate::proofs::Numbers::no_count, crate::proofs::Numbers::not_counted, crate::proofs::Numbers::no_object, crate::proofs::Numbers::no_place))]
 /// The pair at an index of an association table: a place in the address table, and an object number.
+#[tactic(auto, using(crate::proofs::Numbers::first_pair_is, crate::proofs::Numbers::no_count, crate::proofs::Numbers::not_counted, crate::proofs::Numbers::no_object, crate::proofs::Numbers::no_place))]
 pub fn pair_at(assoc: &[u8], at: usize) -> Option<(u16, u16)>
     ensures pair { result ≡ slice_get (pairs assoc.now) at }
     ensures few { IfSome result (λ _. at < 65536) }

@@ -11,13 +11,13 @@ use crate::table::object_in_table;
 use crate::value::takes_form;
 use knx_model::{GroupAddr, GroupService, Image, ObjSpec};
 
-/// Flags of a flag octet.
+/// The flag update in a flag octet.
 const UPDATE: u8 = 0x80;
-
+/// The flag write.
 const WRITE: u8 = 0x10;
-
+/// The flag read.
 const READ: u8 = 0x08;
-
+/// The flag communicate.
 const COMMUNICATE: u8 = 0x04;
 
 fn has_flag(object: ObjSpec, flag: u8) -> bool

@@ -1,3 +1,5 @@
+//! The law of the load plan: it is good for each image that fits.
+
 ghost use Rattle.std.specs.Prelude.{◌≡◌, Some};
 ghost use Rattle.knx_model.specs.declared.config.Image.{Image};
 ghost use Rattle.knx_model.specs.Device.{NonVolatile, Fits, runs};

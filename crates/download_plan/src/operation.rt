@@ -1,3 +1,5 @@
+//! The operations of a load plan (ISO/IEC 14543-3, application layer and management): a service, and the answer that it expects.
+
 ghost use Rattle.std.specs.Prelude.{◌≡◌, ◌+◌, ◌*◌, ◌<◌, ◌≤◌, length};
 ghost use Rattle.knx_model.specs.Apdu.{IsApduInRange};
 ghost use Rattle.knx_model.specs.ApduReading.{apdu_octets};
@@ -14,7 +16,7 @@ use knx_model::{Apdu, ApduOctets, Expect, LoadEvent, LoadState, LoadableObject, 
 const LOAD_CONTROL: u8 = 5;
 /// The property of a loadable object that answers its base.
 const TABLE_REFERENCE: u8 = 7;
-/// The octets of a memory service.
+/// How many octets one memory service carries.
 pub const PIECE: usize = 12;
 
 fn octets_of(service: Apdu) -> ApduOctets

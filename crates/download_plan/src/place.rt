@@ -1,3 +1,5 @@
+//! Which operation of which object stands at a number of the plan.
+
 ghost use Rattle.std.specs.Prelude.{◌≡◌, ◌+◌, ◌*◌, ◌<◌, ◌≤◌, length, Some};
 ghost use Rattle.std.specs.List.{slice_get};
 ghost use Rattle.knx_model.specs.Device.{Fits, capacity};

@@ -1,3 +1,5 @@
+//! The load plan of an image, operation by operation.
+
 ghost use Rattle.std.specs.Prelude.{◌≡◌, ◌<◌, length, Some};
 ghost use Rattle.std.specs.List.{slice_get};
 ghost use Rattle.knx_model.specs.Device.{Fits, NonVolatile, runs};

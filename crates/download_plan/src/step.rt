@@ -1,3 +1,5 @@
+//! The steps of one object's loading, in their order.
+
 ghost use Rattle.std.specs.Prelude.{◌≡◌, ◌+◌, ◌*◌, ◌<◌, ℕ, List as Seq, length, Some};
 ghost use Rattle.std.specs.List.{slice_get};
 ghost use Rattle.knx_model.specs.declared.loading.LoadableObject.{LoadableObject};

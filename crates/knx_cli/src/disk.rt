@@ -19,6 +19,7 @@ pub struct Disk<'a, R> {
 }
 
 impl<'a, R: rt::Files> Disk<'a, R> {
+    /// The files of the system, of which no read failed yet.
     pub fn new(rt: &'a R) -> Self
         ensures { result.faults ≡ 0 }
     {

@@ -13,6 +13,7 @@ pub struct Output<'a, R> {
 }
 
 impl<'a, R: Print> Output<'a, R> {
+    /// The standard output, at which no write failed yet.
     pub fn new(rt: &'a R) -> Self
         ensures { result.faults ≡ 0 }
     {

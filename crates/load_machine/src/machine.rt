@@ -52,6 +52,7 @@ impl LoadMachine {
         }
     }
 
+    /// The load state.
     pub fn state(&self) -> LoadState
         ensures { result ≡ self.now.state }
     {
@@ -65,12 +66,14 @@ impl LoadMachine {
         self.len
     }
 
+    /// Whether the state is Loading.
     pub fn is_loading(&self) -> bool
         ensures { result ≡ is_loading self.now.state }
     {
         matches!(self.state, LoadState::Loading)
     }
 
+    /// Whether the state is Loaded.
     pub fn is_loaded(&self) -> bool
         ensures { result ≡ is_loaded self.now.state }
     {

@@ -24,8 +24,8 @@ pub fn counts_text(alloc: Global, counts: Counts) -> Result<Octets, NoMemory>
     Ok(out)
 }
 
-#[tactic(auto, unfolding(knx_model::specs::ReportText::list_line))]
 /// Appends a line of a word and octets in hexadecimal.
+#[tactic(auto, unfolding(knx_model::specs::ReportText::list_line))]
 fn put_list(out: &mut Octets, word: &str, octets: &Octets) -> Result<(), NoMemory>
     ensures { OnOk result (out.new ≡ out.old ++ list_line word.now octets.now) }
 {

@@ -42,6 +42,7 @@ impl Session {
         }
     }
 
+    /// Whether frames of this sender are the partner's.
     pub fn is_partner(&self, from: IndAddr) -> bool
         ensures { result ≡ is_partner self.now from }
     {

@@ -41,6 +41,7 @@ pub struct ClientConn {
     state: State,
 }
 
+/// The states of the drawing.
 #[derive(Drop)]
 enum State {
     Asked(IndAddr),

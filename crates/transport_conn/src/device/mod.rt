@@ -37,6 +37,7 @@ pub struct DeviceConn {
     state: State,
 }
 
+/// The states of the drawing.
 #[derive(Drop)]
 enum State {
     Closed,
