@@ -7,7 +7,7 @@ ghost use Rattle.catalogue.specs.Catalogue.{Gives, named_model, models_of};
 
 use crate::fields::fields_of;
 use crate::tables::model_in;
-use knx_model::{CatRefused, List, Model, NamedModel, Octets, is_name_in};
+use knx_model::{CatRefused, INLINE, List, Model, NamedModel, Octets, is_name_in};
 use std::alloc::Global;
 use toml::{Table, Value};
 
@@ -26,7 +26,7 @@ fn shape(alloc: Global, name: &[u8]) -> CatRefused
 fn named_model(alloc: Global, name: &[u8], table: &Value) -> Result<NamedModel, CatRefused>
     ensures { Gives result (named_model name.now (view table.now)) }
 {
-    if !is_name_in(name) || name == b"inline".as_slice() {
+    if !is_name_in(name) || name == INLINE {
         return Err(shape(alloc, name));
     }
     let Some(stated) = model_in(alloc, table)? else {

@@ -5,12 +5,9 @@ ghost use Rattle.toml.specs.View.{table_view};
 ghost use Rattle.catalogue.specs.Catalogue.{Gives, document_of, catalogue_of};
 
 use crate::models::models_of;
-use knx_model::{CatRefused, Catalogue};
+use knx_model::{CatRefused, Catalogue, LONGEST_TEXT};
 use std::alloc::Global;
 use toml::Table;
-
-/// The longest catalogue, in octets: 4 MiB.
-const LONGEST_CATALOGUE: usize = 4_194_304;
 
 /// The table of a document.
 #[tactic(auto, using(knx_model::proofs::Text::utf8_true, knx_model::proofs::Text::utf8_false))]
@@ -41,7 +38,7 @@ fn document_in(alloc: Global, octets: &[u8]) -> Result<Table, CatRefused>
 pub fn read_catalogue(alloc: Global, octets: &[u8]) -> Result<Catalogue, CatRefused>
     ensures { Gives result (catalogue_of octets.now) }
 {
-    if octets.len() > LONGEST_CATALOGUE {
+    if octets.len() > LONGEST_TEXT as usize {
         return Err(CatRefused::Long);
     }
     let table = document_in(alloc, octets)?;

@@ -3,22 +3,17 @@
 ghost use Rattle.std.specs.Prelude.{◌≡◌, IfSome, Some, None, ◌==◌, if◌then◌else◌};
 ghost use Rattle.knx_model.specs.Apdu.{word, IsApduInRange};
 ghost use Rattle.knx_model.specs.ApduReading.{option_map};
-ghost use Rattle.knx_model.specs.Loading.{state_number};
 ghost use Rattle.knx_model.specs.Device.{object_type, object_of_index, load_state, table_reference, property_value, property_response, where_one, whole, taken, effect_of, effect_in, answer, answer_in};
 ghost use Rattle.knx_model.specs.Connection.{IsApdu};
 ghost use Rattle.knx_model.specs.DeviceFrames.{worn_octets};
 ghost use Rattle.device_sim.specs.Wear.{served_kept};
 
-use crate::effect::{Effect, LOAD_CONTROL, effect_of, is_load_control};
+use crate::effect::{Effect, effect_of, is_load_control};
 use crate::kept::Kept;
 use crate::places::object_of_index;
 use crate::service::{effect_in, octets_of, service_in};
 use crate::worn::Memory;
-use knx_model::{Apdu, ApduOctets, LoadState};
-use load_machine::base;
-
-/// The mask of a System B device.
-const DEVICE_DESCRIPTOR: u16 = 0x07B0;
+use knx_model::{Apdu, ApduOctets, DEVICE_DESCRIPTOR, LOAD_CONTROL, TABLE_REFERENCE};
 
 /// The descriptor type of a device that has no descriptor of the type that is asked for.
 const NO_DESCRIPTOR: u8 = 0x3F;
@@ -28,9 +23,6 @@ const MAX_APDU_LENGTH: u16 = 15;
 
 /// The property that tells the type of an object.
 const OBJECT_TYPE: u8 = 1;
-
-/// The property that tells the base of an object's segment.
-const TABLE_REFERENCE: u8 = 7;
 
 /// The property of the device that tells the greatest length of an APDU.
 const GREATEST_LENGTH: u8 = 56;
@@ -55,23 +47,11 @@ fn object_type(index: u8) -> Option<u16>
     }
 }
 
-/// The number of a load state, as it is answered.
-pub fn state_number(state: LoadState) -> u8
-    ensures { result ≡ state_number state }
-{
-    match state {
-        LoadState::Unloaded => 0,
-        LoadState::Loaded => 1,
-        LoadState::Loading => 2,
-        LoadState::Error => 3,
-    }
-}
-
 /// The base of the object of an index, in four octets.
 fn table_reference(index: u8) -> Option<ApduOctets>
     ensures { result ≡ option_map table_reference (object_of_index index) }
 {
-    let base = base(object_of_index(index)?);
+    let base = object_of_index(index)?.base();
     let mut octets = ApduOctets::from_slice(&[0, 0]);
     octets.extend(&base.to_be_bytes());
     Some(octets)
@@ -123,7 +103,7 @@ impl Kept {
     {
         let object = object_of_index(index)?;
         let state = self.object(object).state();
-        Some(ApduOctets::from_slice(&[state_number(state)]))
+        Some(ApduOctets::from_slice(&[state.number()]))
     }
 
     fn property_value(&self, index: u8, property: u8) -> Option<ApduOctets>

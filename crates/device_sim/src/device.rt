@@ -10,7 +10,6 @@ use crate::loadable::Loadable;
 use crate::sending::copied;
 use crate::values::Values;
 use knx_model::{Image, IndAddr, Ldata, LoadableObject, NoMemory, Octets};
-use load_machine::capacity;
 use std::alloc::Global;
 use std::collections::VecDeque;
 use std::marker::Model;
@@ -43,10 +42,10 @@ impl Device {
         ensures { IfOk result (λ made. made ≡ at_rest (blank address)) }
     {
         let kept = Kept {
-            address_table: Loadable::blank(alloc, capacity(LoadableObject::AddressTable))?,
-            association_table: Loadable::blank(alloc, capacity(LoadableObject::AssociationTable))?,
-            group_objects: Loadable::blank(alloc, capacity(LoadableObject::GroupObjects))?,
-            application: Loadable::blank(alloc, capacity(LoadableObject::Application))?,
+            address_table: Loadable::blank(alloc, LoadableObject::AddressTable.capacity())?,
+            association_table: Loadable::blank(alloc, LoadableObject::AssociationTable.capacity())?,
+            group_objects: Loadable::blank(alloc, LoadableObject::GroupObjects.capacity())?,
+            application: Loadable::blank(alloc, LoadableObject::Application.capacity())?,
         };
         Ok(Device::at_rest(alloc, address, kept))
     }
@@ -59,22 +58,22 @@ impl Device {
         let kept = Kept {
             address_table: Loadable::loaded(
                 alloc,
-                capacity(LoadableObject::AddressTable),
+                LoadableObject::AddressTable.capacity(),
                 image.addr.as_slice(),
             )?,
             association_table: Loadable::loaded(
                 alloc,
-                capacity(LoadableObject::AssociationTable),
+                LoadableObject::AssociationTable.capacity(),
                 image.assoc.as_slice(),
             )?,
             group_objects: Loadable::loaded(
                 alloc,
-                capacity(LoadableObject::GroupObjects),
+                LoadableObject::GroupObjects.capacity(),
                 image.objs.as_slice(),
             )?,
             application: Loadable::loaded(
                 alloc,
-                capacity(LoadableObject::Application),
+                LoadableObject::Application.capacity(),
                 image.params.as_slice(),
             )?,
         };

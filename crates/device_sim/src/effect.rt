@@ -7,12 +7,9 @@ ghost use Rattle.device_sim.specs.Effects.{meant};
 
 use crate::loadable::first;
 use crate::places::object_of_index;
-use knx_model::{Apdu, ApduOctets, LoadEvent, LoadableObject, NoMemory, Octets};
+use knx_model::{Apdu, ApduOctets, LOAD_CONTROL, LoadEvent, LoadableObject, NoMemory, Octets};
 use load_machine::load_event;
 use std::alloc::Global;
-
-/// The property that takes load events and tells the load state.
-pub const LOAD_CONTROL: u8 = 5;
 
 /// What a service does to a device: a load event of an object, octets that are stored from an address on, or nothing.
 #[derive(Drop)]

@@ -7,13 +7,11 @@ ghost use Rattle.knx_model.specs.DeviceFrames.{same_state, complements, worn_oct
 ghost use Rattle.device_sim.specs.Effects.{meant};
 ghost use Rattle.device_sim.specs.States.{states_of, has_states};
 
-use crate::answer::state_number;
 use crate::effect::Effect;
 use crate::loadable::{Loadable, first};
 use crate::places::object_at;
 use crate::worn::complements;
 use knx_model::{LoadEvent, LoadState, LoadableObject};
-use load_machine::base;
 use std::marker::Model;
 
 /// The four loadable objects of a device.
@@ -45,7 +43,7 @@ pub struct LoadStates {
 fn same_state(one: LoadState, other: LoadState) -> bool
     ensures { result ≡ same_state one other }
 {
-    state_number(one) == state_number(other)
+    one.number() == other.number()
 }
 
 impl Kept {
@@ -109,7 +107,7 @@ impl Kept {
         ensures { self.new ≡ whole self.old (Stores address octets.now) }
     {
         if let Some(object) = object_at(address) {
-            let at = (address - base(object)) as usize;
+            let at = (address - object.base()) as usize;
             match object {
                 LoadableObject::AddressTable => self.address_table.write(at, octets),
                 LoadableObject::AssociationTable => self.association_table.write(at, octets),
@@ -125,7 +123,7 @@ impl Kept {
     {
         let n = asked.len();
         if let Some(object) = object_at(address) {
-            let at = (address - base(object)) as usize;
+            let at = (address - object.base()) as usize;
             match object {
                 LoadableObject::AddressTable => self.address_table.write_torn(at, n, octets),
                 LoadableObject::AssociationTable => self
@@ -191,7 +189,7 @@ impl Kept {
     {
         match object_at(address) {
             Some(object) => {
-                let at = (address - base(object)) as usize;
+                let at = (address - object.base()) as usize;
                 self.object(object).takes_write(at, n)
             }
             None => false,
@@ -216,7 +214,7 @@ impl Kept {
     {
         match object_at(address) {
             Some(object) => {
-                let at = (address - base(object)) as usize;
+                let at = (address - object.base()) as usize;
                 self.object(object).range(at, n)
             }
             None => &[],

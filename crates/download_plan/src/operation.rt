@@ -3,19 +3,17 @@
 ghost use Rattle.std.specs.Prelude.{◌≡◌, ◌+◌, ◌*◌, ◌<◌, ◌≤◌, length};
 ghost use Rattle.knx_model.specs.Apdu.{IsApduInRange};
 ghost use Rattle.knx_model.specs.ApduReading.{apdu_octets};
-ghost use Rattle.knx_model.specs.Loading.{state_number};
-ghost use Rattle.knx_model.specs.Device.{object_index, base, capacity};
+ghost use Rattle.knx_model.specs.Device.{capacity};
 ghost use Rattle.knx_model.specs.Plan.{op_of, asks, tells, load_octets, loads, reads_base, piece, piece_count, writes_piece, reads_piece};
 ghost use Rattle.download_plan.specs.Step.{step_operation, IsShort, IsStepOf};
 
 use crate::step::Step;
 use apdu_frames::encode;
-use knx_model::{Apdu, ApduOctets, Expect, LoadEvent, LoadState, LoadableObject, Op, Tpdu};
+use knx_model::{
+    Apdu, ApduOctets, Expect, LOAD_CONTROL, LoadEvent, LoadState, LoadableObject, Op,
+    TABLE_REFERENCE, Tpdu,
+};
 
-/// The property of a loadable object that takes load events, and answers its load state.
-const LOAD_CONTROL: u8 = 5;
-/// The property of a loadable object that answers its base.
-const TABLE_REFERENCE: u8 = 7;
 /// How many octets one memory service carries.
 pub const PIECE: usize = 12;
 
@@ -46,39 +44,6 @@ fn tells(service: Apdu) -> Op
     Op::Send {
         apdu: octets_of(service),
         expect: Expect::AckOnly,
-    }
-}
-
-fn index_of(object: LoadableObject) -> u8
-    ensures { result ≡ object_index object }
-{
-    match object {
-        LoadableObject::AddressTable => 1,
-        LoadableObject::AssociationTable => 2,
-        LoadableObject::GroupObjects => 3,
-        LoadableObject::Application => 4,
-    }
-}
-
-fn base_of(object: LoadableObject) -> u16
-    ensures { result ≡ base object }
-{
-    match object {
-        LoadableObject::AddressTable => 0x4000,
-        LoadableObject::AssociationTable => 0x5000,
-        LoadableObject::GroupObjects => 0x7000,
-        LoadableObject::Application => 0x8000,
-    }
-}
-
-fn state_number(state: LoadState) -> u8
-    ensures { result ≡ state_number state }
-{
-    match state {
-        LoadState::Unloaded => 0,
-        LoadState::Loaded => 1,
-        LoadState::Loading => 2,
-        LoadState::Error => 3,
     }
 }
 
@@ -116,7 +81,7 @@ pub fn load(object: LoadableObject, event: LoadEvent, state: LoadState) -> Op
     requires { IsShort event }
     ensures { result ≡ op_of (loads object event state) }
 {
-    let index = index_of(object);
+    let index = object.index();
     asks(
         Apdu::PropertyWrite {
             object: index,
@@ -130,7 +95,7 @@ pub fn load(object: LoadableObject, event: LoadEvent, state: LoadState) -> Op
             property: LOAD_CONTROL,
             count: 1,
             start: 1,
-            octets: ApduOctets::from_slice(&[state_number(state)]),
+            octets: ApduOctets::from_slice(&[state.number()]),
         },
     )
 }
@@ -138,8 +103,8 @@ pub fn load(object: LoadableObject, event: LoadEvent, state: LoadState) -> Op
 fn read_base(object: LoadableObject) -> Op
     ensures { result ≡ op_of (reads_base object) }
 {
-    let index = index_of(object);
-    let base = base_of(object);
+    let index = object.index();
+    let base = object.base();
     asks(
         Apdu::PropertyRead {
             object: index,
@@ -178,7 +143,7 @@ fn write_piece(object: LoadableObject, list: &[u8], k: u32) -> Op
     requires room { length list.now ≤ capacity object }
     ensures { result ≡ op_of (writes_piece object list.now k) }
 {
-    let address = base_of(object) + PIECE as u16 * k as u16;
+    let address = object.base() + PIECE as u16 * k as u16;
     tells(Apdu::MemoryWrite {
         address,
         octets: piece_at(list, k),
@@ -190,7 +155,7 @@ fn read_piece(object: LoadableObject, list: &[u8], k: u32) -> Op
     requires room { length list.now ≤ capacity object }
     ensures { result ≡ op_of (reads_piece object list.now k) }
 {
-    let address = base_of(object) + PIECE as u16 * k as u16;
+    let address = object.base() + PIECE as u16 * k as u16;
     let octets = piece_at(list, k);
     asks(
         Apdu::MemoryRead {

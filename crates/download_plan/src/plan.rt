@@ -7,11 +7,8 @@ ghost use Rattle.knx_model.specs.Plan.{load_plan, GoodPlan, Serves, HasCapacitie
 
 use crate::operation::{asks, load};
 use crate::place::{object_op, operation_count};
-use knx_model::{Apdu, Image, LoadEvent, LoadState, LoadableObject, Op};
+use knx_model::{Apdu, DEVICE_DESCRIPTOR, Image, LoadEvent, LoadState, LoadableObject, Op};
 use std::marker::Model;
-
-/// The device descriptor of the mask version that a plan is for.
-const MASK_VERSION: u16 = 0x07B0;
 
 /// The operations that load an image.
 #[derive(Drop)]
@@ -69,7 +66,7 @@ impl LoadPlan {
                 Apdu::DescriptorRead(0),
                 Apdu::DescriptorResponse {
                     kind: 0,
-                    value: Some(MASK_VERSION),
+                    value: Some(DEVICE_DESCRIPTOR),
                 },
             ),
             1 => load(

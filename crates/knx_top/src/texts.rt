@@ -6,11 +6,11 @@ ghost use Rattle.knx_top.specs.Judged.{IsRead, IsReadWhereNamed, ProjectIsRead, 
 ghost use Rattle.knx_top.specs.Names.{named, project_reads_of, project_words_of, sim_reads_of, sim_words_of};
 
 use crate::asked::{ProjectNames, SimNames};
-use knx_model::{FileFault, Files, Octets};
+use knx_model::{FileFault, Files, LONGEST_TEXT, Octets};
 use std::alloc::Global;
 
 /// One octet more than a text may have, so that a longer one is seen to be longer.
-const LIMIT: usize = 4_194_305;
+const LIMIT: usize = LONGEST_TEXT as usize + 1;
 
 /// What the reads of `check` and `tables` answered; a catalogue that isn't named isn't read.
 #[derive(Drop)]

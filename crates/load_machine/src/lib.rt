@@ -5,13 +5,11 @@
 mod loads;
 mod machine;
 mod octets;
-mod places;
 
 pub use knx_model::{LoadEvent, LoadState, LoadableObject};
 pub use loads::{Loads, Segment};
 pub use machine::LoadMachine;
 pub use octets::load_event;
-pub use places::{base, capacity};
 
 #[cfg(test)]
 mod tests;

@@ -61,7 +61,7 @@ impl Loads {
     fn load(&mut self, object: LoadableObject, event: LoadEvent)
         ensures { (p : Loadable) → machine_of p ≡ machine self.old object → capacity_of p ≡ capacity object → self.new ≡ with_machine self.old object (machine_of (load_step p event)) }
     {
-        let capacity = capacity(object);
+        let capacity = object.capacity();
         match object {
             LoadableObject::AddressTable => self.address_table.load(event, capacity),
             LoadableObject::AssociationTable => self.association_table.load(event, capacity),
@@ -91,7 +91,7 @@ impl Loads {
         ensures len { result.len ≡ (machine self.now object).len }
     {
         Segment {
-            base: base(object),
+            base: object.base(),
             len: self.machine(object).len(),
         }
     }

@@ -4,7 +4,7 @@ ghost use Rattle.std.specs.Prelude.{◌≡◌, ◌≤◌, sum_by, if◌then◌el
 ghost use Rattle.knx_model.specs.Rules.{count_lines, is_device_line, is_object_line, is_link_line};
 ghost use Rattle.project_check.specs.Counting.{named_objects, line_objects};
 
-use knx_model::{Catalogue, Statement, What};
+use knx_model::{Catalogue, INLINE, Statement, What};
 
 /// Whether a statement is an `object` line.
 fn is_object_line(what: &What<'_>) -> bool
@@ -25,7 +25,7 @@ fn named_objects(catalogue: &Catalogue, name: &[u8]) -> u32
     ensures value { result ≡ named_objects catalogue.now name.now }
     ensures few { result ≤ 256 }
 {
-    if name == b"inline".as_slice() {
+    if name == INLINE {
         return 0;
     }
     match catalogue.model_in(name) {

@@ -11,7 +11,7 @@ ghost use Rattle.project_check.specs.Keys.{range_of};
 ghost use Rattle.project_check.specs.Knowing.{code_of, code_at, range_at, Indexes, IndexesNamed};
 
 use crate::keys::Range;
-use knx_model::{Catalogue, Model, ModelField, ModelObject};
+use knx_model::{Catalogue, INLINE, Model, ModelField, ModelObject};
 use std::alloc::{AllocError, Global};
 use std::collections::HashMap;
 
@@ -104,7 +104,7 @@ impl<'a> ModelIndex<'a> {
     ) -> Result<Option<ModelIndex<'a>>, AllocError>
         ensures { IfOk result (λ index. IndexesNamed index (model_named catalogue.now name.now)) }
     {
-        if name == b"inline".as_slice() {
+        if name == INLINE {
             return Ok(Some(ModelIndex::inline(alloc)));
         }
         match catalogue.model_in(name) {

@@ -10,11 +10,8 @@ ghost use Rattle.project_text.specs.Reading.{Read};
 
 use crate::line::line_in;
 use crate::project::Project;
-use knx_model::{List, Refused, Why, first_line, has_plain_lines};
+use knx_model::{LONGEST_TEXT, List, Refused, Why, first_line, has_plain_lines};
 use std::alloc::Global;
-
-/// The longest text, in octets: 4 MiB.
-const LONGEST_TEXT: u32 = 4_194_304;
 
 /// The statements of a text of at most 4,194,304 octets, or why it is refused: the least line that breaks a rule, and the
 /// rule. Line 0 stands for a text that is too long and for want of memory.

@@ -9,11 +9,8 @@ ghost use Rattle.script_text.specs.Reading.{IsRead};
 
 use crate::line::line_in;
 use crate::script::Script;
-use knx_model::{List, NoMemory, Refused, ScriptLine, ScriptWhat, Why, first_line};
+use knx_model::{LONGEST_TEXT, List, NoMemory, Refused, ScriptLine, ScriptWhat, Why, first_line};
 use std::alloc::Global;
-
-/// The longest script, in octets: 4 MiB.
-const LONGEST_TEXT: u32 = 4_194_304;
 
 /// Adds what the line of this number says.
 fn put(lines: &mut List<ScriptLine>, line: u32, said: Option<ScriptWhat>) -> Result<(), NoMemory>

@@ -5,11 +5,8 @@ ghost use Rattle.knx_model.specs.Meaning.{or_inline};
 ghost use Rattle.knx_model.specs.Models.{inline, IsModel};
 ghost use Rattle.knx_model.specs.Rules.{model_in, first_some, named_model, model_of};
 
-use knx_model::{Catalogue, IndAddr, List, Model, Statement, What};
+use knx_model::{Catalogue, INLINE, IndAddr, List, Model, Statement, What};
 use std::alloc::Global;
-
-/// The name that no catalogue's model has.
-const INLINE: &[u8] = b"inline";
 
 /// The model of a device that is declared `inline`. It takes no memory.
 pub fn inline(alloc: Global) -> Model

@@ -4,6 +4,6 @@ mod model;
 mod models;
 mod refused;
 
-pub use model::{Model, ModelField, ModelObject, NamedModel};
+pub use model::{INLINE, Model, ModelField, ModelObject, NamedModel};
 pub use models::Catalogue;
 pub use refused::CatRefused;

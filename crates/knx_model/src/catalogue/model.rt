@@ -30,6 +30,9 @@ pub struct Model {
     pub parameters: List<ModelField>,
 }
 
+/// The model of no objects and no parameters; no catalogue's model has this name.
+pub const INLINE: &[u8] = b"inline";
+
 /// A model with its name.
 #[derive(Debug, Drop)]
 pub struct NamedModel {

@@ -13,6 +13,9 @@ use crate::words::address::{group_in, ind_in};
 use crate::words::cut::first_word;
 use crate::words::line::{is_text, without_comment};
 
+/// The longest text of a project, a script or a catalogue, in octets: 4 MiB.
+pub const LONGEST_TEXT: u32 = 4_194_304;
+
 /// The longest line, in octets without its end.
 const LONGEST_LINE: usize = 512;
 
