@@ -19,13 +19,13 @@ use transport_conn::DeviceConn;
 /// only while it has: its connection, its objects' values, the frames that it has to send, and the frame that it got last.
 #[derive(Drop)]
 pub struct Device {
-    pub address: IndAddr,
-    pub kept: Kept,
-    pub power: bool,
-    pub connection: DeviceConn,
-    pub values: Values,
-    pub unsent: VecDeque<Ldata>,
-    pub last: Option<Ldata>,
+    pub(crate) address: IndAddr,
+    pub(crate) kept: Kept,
+    pub(crate) power: bool,
+    pub(crate) connection: DeviceConn,
+    pub(crate) values: Values,
+    pub(crate) unsent: VecDeque<Ldata>,
+    pub(crate) last: Option<Ldata>,
 }
 
 impl Model for Device {

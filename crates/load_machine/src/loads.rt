@@ -6,7 +6,6 @@ ghost use Rattle.knx_model.specs.Device.{base, capacity, machine, with_machine, 
 
 use crate::machine::LoadMachine;
 use crate::octets::load_event;
-use crate::places::{base, capacity};
 use knx_model::{LoadEvent, LoadState, LoadableObject};
 use std::marker::Model;
 
