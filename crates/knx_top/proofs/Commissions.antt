@@ -133,8 +133,8 @@ told_for c t Done h = (λ job e. absurd cc, (λ job e. subst (λ (d : DeviceStat
 told_for c t Failed h = (λ job e. absurd cc, (λ job e. absurd cc, tt))
 
 over_for : (c : Commission) (order : Order) (t : Trace) (end : JobEnd) → IsOrder c order → HasEnded order.image t end → IsOver c t (log_of end (length t.events))
-over_for c order t Done o h = IsDone (h.fewer refl) (record { image = order.image; stands = o.image.stands; whole = h.whole refl })
-over_for c order t Failed o h = HasFailed (h.failed refl)
+over_for c order t Done o h = IsDone order.image o.image.stands (h.got_through refl)
+over_for c order t Failed o h = HasFailed order.image o.image.stands (h.failed refl)
 
 ran : (c : Commission) (order : Order) (t : Trace) (ended : Ended) → IsOrder c order → t.start ≡ start_with order.device order.before → HasLoaded order.image order.cuts t → Reported order.image order.device t ended → Ran c t ended.report (ended.job ∷ []) (ended.device ∷ [])
 ran c order t ended o start loaded r = record {

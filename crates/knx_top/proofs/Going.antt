@@ -1,5 +1,5 @@
 -- An attempt goes on: operation after operation, with the plan's promise for those that are left.
-use Rattle.std.proofs.Common.{ℕ, ◌≡◌, ◌+◌, ◌<◌, Bool, true, List, [], ◌∷◌, ◌++◌, length, drop, take, append_assoc, append-nil, Option, Some, None, refl, sym, ◌∙◌, ap, subst, arith, inl, inr, drop-cons, add-one, suc, ltb}
+use Rattle.std.proofs.Common.{ℕ, ◌≡◌, ◌+◌, ◌<◌, Bool, true, List, [], ◌∷◌, ◌++◌, length, drop, take, append_assoc, append-nil, take-append-drop, Option, Some, None, refl, sym, ◌∙◌, ap, subst, arith, inl, inr, drop-cons, add-one, suc, ltb}
 use Rattle.std.specs.List.{slice_get}
 use Rattle.std.proofs.lemmas.List.{take_more, drop_all, take_all}
 use Rattle.std.proofs.lemmas.Option.{slice_get_within, get_or_from_slice_get}
@@ -9,10 +9,10 @@ use Rattle.knx_model.specs.declared.config.Image.{Image}
 use Rattle.knx_model.specs.declared.plan.Op.{Op}
 use Rattle.knx_model.specs.Device.{NonVolatile, DeviceState, Effect, Loads, Stores, Nothing, runs, whole, torn, taken, effect_in, answer_in}
 use Rattle.knx_model.specs.Bench.{Trace, happens, replay, now, after, answered, cut_after, written_front, Went}
-use Rattle.knx_model.specs.Plan.{Leads, Serves, HasCapacities, OldStoppedOrImage, GoodPlan, load_plan, apdu_of, expected_of, gives, AnswersAll, GaveWhole}
-use Rattle.knx_model.specs.Script.{cut_count}
+use Rattle.knx_model.specs.Plan.{Leads, Serves, HasCapacities, OldStoppedOrImage, GoodPlan, load_plan, apdu_of, expected_of, gives, AnswersAll}
 use Rattle.download_plan.proofs.Capacities.{replay_capacities}
-use Rattle.knx_top.specs.Attempt.{Moves, Passes, CutsOff}
+use Rattle.knx_top.specs.Attempt.{Moves, Passes, CutsOff, EndsCutOff}
+use Rattle.knx_top.specs.Ran.{WereCutOff, NoneYet, OneMore, GotThrough}
 use Rattle.knx_top.proofs.Traces.{replay_last, Went_none, Went_more, Went_join, Went_weaker, Went_now}
 
 -- the bench went from first to here with P at every moment, has power, gave these operations as they were expected, and the rest of
@@ -71,28 +71,6 @@ Went_on P R op given rest first here new g m =
       ]
     ] in
     by m
-
-cut_count-append : (es fs : List BenchEvent) → cut_count (es ++ fs) ≡ cut_count es + cut_count fs
-cut_count-append [] fs = omega arith
-cut_count-append (Give s ∷ es) fs = cut_count-append es fs
-cut_count-append (GiveTorn s fresh octets ∷ es) fs = omega (arith, cut_count-append es fs)
-cut_count-append (On ∷ es) fs = cut_count-append es fs
-
-cut_count_gives : (ops : List Op) → cut_count (gives ops) ≡ 0
-cut_count_gives [] = refl
-cut_count_gives (op ∷ ops) = cut_count_gives ops
-
--- no cut yet in this attempt
-pub uncut : (P R : NonVolatile → Type 0) (first here : Trace) (given rest : List Op) → IsGoing P R first here given rest → cut_count here.events ≡ cut_count first.events
-uncut P R first here given rest g = rw g.events (omega (arith, cut_count-append first.events (gives given), cut_count_gives given))
-
--- a cut is counted
-pub cut_counted : (P R : NonVolatile → Type 0) (op : Op) (given rest : List Op) (first here new : Trace) → IsGoing P R first here given rest → CutsOff op here new → cut_count new.events ≡ cut_count first.events + 1
-cut_counted P R op given rest first here new g c =
-    let torn : List BenchEvent = here.events ++ GiveTorn (apdu_of op) c.fresh c.octets ∷ [] in
-    let a : cut_count torn ≡ cut_count here.events + 1 = omega (arith, cut_count-append here.events (GiveTorn (apdu_of op) c.fresh c.octets ∷ [])) in
-    let b : cut_count (torn ++ On ∷ []) ≡ cut_count torn = omega (arith, cut_count-append torn (On ∷ [])) in
-    rw c.is (b ∙ (a ∙ ap (λ n. n + 1) (uncut P R first here given rest g)))
 
 -- the answer is the expected one
 pub agrees : (P R : NonVolatile → Type 0) (op : Op) (given rest : List Op) (first here : Trace) → IsGoing P R first here given (op ∷ rest) → answered (now here) (apdu_of op) ≡ expected_of op
@@ -172,6 +150,29 @@ goes_on_at P R ops k op first here new e g m p w =
     subst (λ (given : List Op). IsGoing P R first new given (drop (k + 1) ops)) (sym (taken_more ops k op e))
     (goes_on P R op (take k ops) (drop (k + 1) ops) first here new (going_at P R ops k op first here e g) m p w)
 
+-- the events of an attempt that a cut ended
+cut_events : (first given : List BenchEvent) (torn : BenchEvent) → ((first ++ given) ++ torn ∷ []) ++ On ∷ [] ≡ first ++ (given ++ torn ∷ On ∷ [])
+cut_events first given torn = append_assoc (first ++ given) (torn ∷ []) (On ∷ []) ∙ append_assoc first given (torn ∷ On ∷ [])
+
+-- the next operation is the plan's at this index, and a cut in it ends the attempt
+pub ends_cut_off_at : (P R : NonVolatile → Type 0) (ops : List Op) (k : ℕ) (op : Op) (first here new : Trace) → slice_get ops k ≡ Some op → IsGoing P R first here (take k ops) (drop k ops) → CutsOff op here new → EndsCutOff ops first new
+ends_cut_off_at P R ops k op first here new e g c =
+    let torn : BenchEvent = GiveTorn (apdu_of op) c.fresh c.octets in
+    record {
+      events = gives (take k ops) ++ torn ∷ On ∷ [];
+      more = rw (c.is, g.events) (cut_events first.events (gives (take k ops)) torn);
+      cut_off = record {
+        given = take k ops;
+        op = op;
+        rest = drop (k + 1) ops;
+        in_order = sym (take-append-drop k ops) ∙ ap (λ (rest : List Op). take k ops ++ rest) (front_of ops k op e);
+        answers = g.answers;
+        fresh = c.fresh;
+        octets = c.octets;
+        events_are = refl;
+      };
+    }
+
 -- all operations were given
 pub all_given : (P R : NonVolatile → Type 0) (ops : List Op) (n : ℕ) (first here : Trace) → n ≡ length ops → IsGoing P R first here (take n ops) (drop n ops) → IsGoing P R first here ops []
 all_given P R ops n first here e g =
@@ -179,8 +180,24 @@ all_given P R ops n first here e g =
     let d : drop n ops ≡ [] = drop_all n ops (omega (arith, e)) in
     rw (t, d) at g
 
-pub gave_whole : (P R : NonVolatile → Type 0) (ops : List Op) (first here : Trace) → IsGoing P R first here ops [] → GaveWhole ops here
-gave_whole P R ops first here g = record { front = first.events; events = g.events; answers = rw g.went.start g.answers }
+-- nothing was given yet
+pub none_yet : (ops : List Op) (t : Trace) → t.events ≡ [] → WereCutOff ops t.start 0 t.events
+none_yet ops t e = rw e NoneYet
+
+-- one attempt more that a cut ended
+pub one_more : (ops : List Op) (n : ℕ) (old new : Trace) → new.start ≡ old.start → WereCutOff ops old.start n old.events → EndsCutOff ops old new → WereCutOff ops new.start (n + 1) new.events
+one_more ops n old new start were ends = rw (start, ends.more) (OneMore n old.events ends.events were ends.cut_off)
+
+-- the next attempt got through
+pub got_through : (ops : List Op) (n : ℕ) (old new : Trace) → n < 3 → new.start ≡ old.start → WereCutOff ops old.start n old.events → new.events ≡ old.events ++ gives ops → AnswersAll (now old) ops → GotThrough ops new
+got_through ops n old new fewer start were whole answers = record {
+  cuts = n;
+  fewer = fewer;
+  front = old.events;
+  cut_off = rw start were;
+  whole = whole;
+  answers = rw start answers;
+}
 
 -- a new attempt begins from content that is already one of the cases
 pub case_case : (start mid : NonVolatile) (image : Image) → OldStoppedOrImage start image mid → (u : NonVolatile) → OldStoppedOrImage mid image u → OldStoppedOrImage start image u

@@ -1,11 +1,13 @@
--- What may come of one operation of an attempt.
-use Rattle.std.specs.Prelude.{ℕ, ◌≡◌, Bool, List, ◌⊎◌}
+-- What may come of one operation of an attempt, and of an attempt.
+use Rattle.std.specs.Prelude.{ℕ, ◌≡◌, Bool, List, ◌++◌, ◌⊎◌}
+use Rattle.knx_model.specs.declared.bench.BenchEvent.{BenchEvent}
 use Rattle.knx_model.specs.declared.bench.BenchEvent.TheVariants.{Give, GiveTorn, On}
 use Rattle.knx_model.specs.declared.plan.Op.{Op}
 use Rattle.knx_model.specs.declared.script.Cut.{Cut}
 use Rattle.knx_model.specs.Bench.{Trace, now, after, answered}
 use Rattle.knx_model.specs.Plan.{apdu_of, expected_of}
 use Rattle.knx_model.specs.Script.{Follows, write_count}
+use Rattle.knx_top.specs.Ran.{WasCutOff}
 
 -- nothing yet, or it was taken whole, or it was torn, and then power may have come back
 abbrev pub Moves : Op → Trace → Trace → Type 0
@@ -24,6 +26,12 @@ pub record CutsOff (op : Op) (old new : Trace) : Type 0 where
   pub fresh : Bool
   pub octets : List ℕ
   pub is : new ≡ after (after old (GiveTorn (apdu_of op) fresh octets)) On
+
+-- from old to new there was an attempt that a cut ended
+pub record EndsCutOff (ops : List Op) (old new : Trace) : Type 0 where
+  pub events : List BenchEvent
+  pub more : new.events ≡ old.events ++ events
+  pub cut_off : WasCutOff ops (now old) events
 
 -- all events of a bench follow the script, and so many writes came
 pub record IsScripted (cuts : List Cut) (n : ℕ) (t : Trace) : Type 0 where

@@ -1,5 +1,5 @@
 -- What a run has done so far, and what is reported of it in the end.
-use Rattle.std.specs.Prelude.{ℕ, ◌≡◌, ◌<◌, ◌≤◌, false, List, [], ◌∷◌, length, Option, Some, None, Result, Ok, Err}
+use Rattle.std.specs.Prelude.{ℕ, ◌≡◌, ◌≤◌, false, List, [], ◌∷◌, length, Some, Result, Ok, Err}
 use Rattle.knx_model.specs.declared.address.IndAddr.{IndAddr}
 use Rattle.knx_model.specs.declared.command.Stop.{Stop}
 use Rattle.knx_model.specs.declared.command.Stop.TheVariants as stop
@@ -11,12 +11,12 @@ use Rattle.knx_model.specs.declared.log.LogWhat.TheVariants as told
 use Rattle.knx_model.specs.declared.log.Sign.TheVariants.{Closed}
 use Rattle.knx_model.specs.declared.script.Cut.{Cut}
 use Rattle.knx_model.specs.Bench.{Trace, now, moment}
-use Rattle.knx_top.specs.Ran.{Outcome, Stops, Tells, Reports, entry}
+use Rattle.knx_top.specs.Ran.{Outcome, Stops, Tells, Reports, entry, WereCutOff, GotThrough}
 use Rattle.knx_model.specs.Device.{runs}
 use Rattle.knx_model.specs.Meaning.{Installation, meaning}
-use Rattle.knx_model.specs.Plan.{OldStoppedOrImage, GaveWhole, load_plan}
+use Rattle.knx_model.specs.Plan.{OldStoppedOrImage, load_plan}
 use Rattle.knx_model.specs.Promises.{IsCase}
-use Rattle.knx_model.specs.Script.{Follows, cut_count}
+use Rattle.knx_model.specs.Script.{Follows}
 use Rattle.knx_model.specs.Tables.{StandsFor}
 use Rattle.knx_top.specs.declared.commission.Ended.{Ended}
 use Rattle.knx_top.specs.declared.download.JobEnd.{JobEnd}
@@ -45,9 +45,8 @@ pub record HasReported (image : Image) (named : IndAddr) (t : Trace) (end : JobE
 
 -- what the end of a job says of the run
 pub record HasEnded (image : Image) (t : Trace) (end : JobEnd) : Type 0 where
-  pub failed : end ≡ Failed → cut_count t.events ≡ 3
-  pub fewer : end ≡ Done → cut_count t.events < 3
-  pub whole : end ≡ Done → GaveWhole (load_plan image) t
+  pub failed : end ≡ Failed → WereCutOff (load_plan image) t.start 3 t.events
+  pub got_through : end ≡ Done → GotThrough (load_plan image) t
   pub done : end ≡ Done → runs (now t).kept ≡ Some image
 
 -- the job's end, with what was reported of it

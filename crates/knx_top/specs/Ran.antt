@@ -1,5 +1,7 @@
 -- What a run did: from where it began, over what was done to the device, to what was told of it.
-use Rattle.std.specs.Prelude.{ℕ, ◌≡◌, ◌<◌, ◌⊎◌, false, List, [], ◌∷◌, length, Option, Some, Result, Ok, Err}
+use Rattle.std.specs.Prelude.{ℕ, ◌≡◌, ◌+◌, ◌<◌, ◌⊎◌, Bool, false, List, [], ◌∷◌, ◌++◌, length, Option, Some, Result, Ok, Err}
+use Rattle.knx_model.specs.declared.bench.BenchEvent.{BenchEvent}
+use Rattle.knx_model.specs.declared.bench.BenchEvent.TheVariants.{GiveTorn, On}
 use Rattle.knx_model.specs.declared.command.Stop.{Stop}
 use Rattle.knx_model.specs.declared.command.Stop.TheVariants as stop
 use Rattle.knx_model.specs.declared.config.Image.{Image}
@@ -11,11 +13,13 @@ use Rattle.knx_model.specs.declared.log.LogWhat.{LogWhat}
 use Rattle.knx_model.specs.declared.log.LogWhat.TheVariants.{Took, Done, Failed}
 use Rattle.knx_model.specs.declared.log.Report.{Report}
 use Rattle.knx_model.specs.declared.log.Sign.TheVariants.{Closed}
-use Rattle.knx_model.specs.Bench.{Trace, now}
+use Rattle.knx_model.specs.declared.plan.Op.{Op}
+use Rattle.knx_model.specs.Bench.{Trace, now, replay}
+use Rattle.knx_model.specs.Device.{DeviceState}
 use Rattle.knx_model.specs.Meaning.{meaning}
-use Rattle.knx_model.specs.Plan.{load_plan, GaveWhole}
+use Rattle.knx_model.specs.Plan.{load_plan, apdu_of, gives, AnswersAll}
 use Rattle.knx_model.specs.Promises.{StartOf, AtEveryMoment, ToldTruly, IsCase}
-use Rattle.knx_model.specs.Script.{Follows, cut_count}
+use Rattle.knx_model.specs.Script.{Follows}
 use Rattle.knx_model.specs.Tables.{StandsFor}
 use Rattle.knx_top.specs.Judged.{Commission}
 
@@ -25,20 +29,42 @@ pub record Began (c : Commission) (t : Trace) : Type 0 where
   pub follows : Follows c.cuts t.start 0 t.events
   pub moments : AtEveryMoment c.project c.device t
 
--- `done` is told after the whole plan of the project's image, each answer the expected one
-pub record PlanWasGiven (c : Commission) (t : Trace) : Type 0 where
-  pub image : Image
-  pub stands : StandsFor image (meaning c.project c.device)
-  pub whole : GaveWhole (load_plan image) t
+-- ---- the attempts of a job
+
+-- These events, from the device d on, are an attempt that a cut ended: operations of the plan, from its first on, were given whole and
+-- each was answered as expected, then power was cut in the next one, and came back.
+pub record WasCutOff (ops : List Op) (d : DeviceState) (events : List BenchEvent) : Type 0 where
+  pub given : List Op
+  pub op : Op
+  pub rest : List Op
+  pub in_order : ops ≡ given ++ op ∷ rest
+  pub answers : AnswersAll d given
+  pub fresh : Bool
+  pub octets : List ℕ
+  pub events_are : events ≡ gives given ++ GiveTorn (apdu_of op) fresh octets ∷ On ∷ []
+
+-- these events, from the device d on, are so many such attempts, one after another, and nothing more
+pub data WereCutOff (ops : List Op) (d : DeviceState) : ℕ → List BenchEvent → Type 0 where
+  NoneYet : WereCutOff ops d 0 []
+  OneMore : (n : ℕ) (before last : List BenchEvent) → WereCutOff ops d n before → WasCutOff ops (replay d before) last → WereCutOff ops d (n + 1) (before ++ last)
+
+-- all events of a run are fewer than three such attempts, and then the whole plan, each answer the expected one, and nothing more
+pub record GotThrough (ops : List Op) (t : Trace) : Type 0 where
+  pub cuts : ℕ
+  pub fewer : cuts < 3
+  pub front : List BenchEvent
+  pub cut_off : WereCutOff ops t.start cuts front
+  pub whole : t.events ≡ front ++ gives ops
+  pub answers : AnswersAll (replay t.start front) ops
 
 abbrev pub entry : ℕ → LogWhat → LogEntry
 entry at what = record { at = at; worker = 1; what = what }
 
--- the one job was taken at the beginning and told of at the end: done after its whole plan and fewer than three cuts, or failed after
--- three attempts that each had a cut
+-- the one job was taken at the beginning and told of at the end: done where an attempt got through with the whole plan of the project's
+-- image, or failed where a cut ended each of three
 pub data IsOver (c : Commission) (t : Trace) : List LogEntry → Type 0 where
-  IsDone : cut_count t.events < 3 → PlanWasGiven c t → IsOver c t (entry 0 (Took 1) ∷ entry (length t.events) (Done 1) ∷ [])
-  HasFailed : cut_count t.events ≡ 3 → IsOver c t (entry 0 (Took 1) ∷ entry (length t.events) (Failed 1 (Closed ∷ Closed ∷ Closed ∷ [])) ∷ [])
+  IsDone : (image : Image) → StandsFor image (meaning c.project c.device) → GotThrough (load_plan image) t → IsOver c t (entry 0 (Took 1) ∷ entry (length t.events) (Done 1) ∷ [])
+  HasFailed : (image : Image) → StandsFor image (meaning c.project c.device) → WereCutOff (load_plan image) t.start 3 t.events → IsOver c t (entry 0 (Took 1) ∷ entry (length t.events) (Failed 1 (Closed ∷ Closed ∷ Closed ∷ [])) ∷ [])
 
 -- a run that has ended: what was told is true, and the report is of this job and this device
 pub record Ran (c : Commission) (t : Trace) (report : Report) (jobs : List JobWord) (devices : List DeviceCase) : Type 0 where

@@ -1,11 +1,12 @@
 //! A job: three attempts, each of which gives the operations of the plan in order until a cut.
 
-ghost use Rattle.std.specs.Prelude.{◌≡◌, ◌≢◌, ◌+◌, ◌<◌, ◌++◌, [], IfSome, IfOk, OnOk, IsTrue, ◌↔◌, Some, None, true};
+ghost use Rattle.std.specs.Prelude.{◌≡◌, ◌≢◌, ◌++◌, [], IfSome, IfOk, OnOk, IsTrue, ◌↔◌, Some, None, true};
 ghost use Rattle.knx_model.specs.Device.{runs, effect_in, is_write};
 ghost use Rattle.knx_model.specs.Bench.{now, answered, Went};
-ghost use Rattle.knx_model.specs.Plan.{OldStoppedOrImage, HasCapacities, GaveWhole, load_plan, apdu_of, expected_of};
-ghost use Rattle.knx_model.specs.Script.{cut_for, cut_count, number_with, Follows};
-ghost use Rattle.knx_top.specs.Attempt.{Moves, Passes, CutsOff, IsScripted};
+ghost use Rattle.knx_model.specs.Plan.{OldStoppedOrImage, HasCapacities, AnswersAll, load_plan, apdu_of, expected_of, gives};
+ghost use Rattle.knx_model.specs.Script.{cut_for, number_with, Follows};
+ghost use Rattle.knx_top.specs.Attempt.{Moves, Passes, CutsOff, EndsCutOff, IsScripted};
+ghost use Rattle.knx_top.specs.Ran.{WereCutOff, GotThrough};
 
 use crate::bench::Run;
 use download_plan::LoadPlan;
@@ -134,9 +135,9 @@ fn attempt(
     ensures script { OnOk result (IsScripted cuts.now count.new run.new) }
     ensures moments { Went (OldStoppedOrImage (now run.old).kept plan.now) run.old run.new }
     ensures power { OnOk result ((now run.new).power ≡ true) }
-    ensures uncut { IfOk result (λ ending. ending ≡ AttemptEnd.Done → cut_count run.new.events ≡ cut_count run.old.events) }
-    ensures closed { IfOk result (λ ending. ending ≡ AttemptEnd.Closed → cut_count run.new.events ≡ cut_count run.old.events + 1) }
-    ensures whole { IfOk result (λ ending. ending ≡ AttemptEnd.Done → GaveWhole (load_plan plan.now) run.new) }
+    ensures closed { IfOk result (λ ending. ending ≡ AttemptEnd.Closed → EndsCutOff (load_plan plan.now) run.old run.new) }
+    ensures whole { IfOk result (λ ending. ending ≡ AttemptEnd.Done → run.new.events ≡ run.old.events ++ gives (load_plan plan.now)) }
+    ensures answers { IfOk result (λ ending. ending ≡ AttemptEnd.Done → AnswersAll (now run.old) (load_plan plan.now)) }
     ensures done { IfOk result (λ ending. ending ≡ AttemptEnd.Done → runs (now run.new).kept ≡ Some plan.now) }
 {
     plan.keeps();
@@ -152,7 +153,8 @@ fn attempt(
 }
 
 /// Loads the plan's image, in three attempts. Whatever is cut, at every moment of the call the device's content is what it was
-/// before, or the device is stopped, or it runs the image; and where `Done` is answered, it runs the image.
+/// before, or the device is stopped, or it runs the image; and where `Done` is answered, it runs the image. `Failed` is answered after three
+/// attempts that a cut ended, `Done` after fewer and then the whole plan.
 pub fn download(
     alloc: Global,
     run: &mut Run,
@@ -164,9 +166,8 @@ pub fn download(
     requires fresh { run.old.events ≡ [] }
     ensures follows { Follows cuts.now run.new.start 0 run.new.events }
     ensures moments { Went (OldStoppedOrImage (now run.old).kept plan.now) run.old run.new }
-    ensures failed { IfOk result (λ ending. ending ≡ JobEnd.Failed → cut_count run.new.events ≡ 3) }
-    ensures fewer { IfOk result (λ ending. ending ≡ JobEnd.Done → cut_count run.new.events < 3) }
-    ensures whole { IfOk result (λ ending. ending ≡ JobEnd.Done → GaveWhole (load_plan plan.now) run.new) }
+    ensures failed { IfOk result (λ ending. ending ≡ JobEnd.Failed → WereCutOff (load_plan plan.now) run.new.start 3 run.new.events) }
+    ensures got_through { IfOk result (λ ending. ending ≡ JobEnd.Done → GotThrough (load_plan plan.now) run.new) }
     ensures done { IfOk result (λ ending. ending ≡ JobEnd.Done → runs (now run.new).kept ≡ Some plan.now) }
 {
     let mut count = 0;

@@ -1,5 +1,5 @@
 use Rattle.std.proofs.Common.{arith}
-use Rattle.knx_top.proofs.Going.{starts, Went_on, going_at, goes_on_at, cut_counted, agrees, uncut, all_given, gave_whole}
+use Rattle.knx_top.proofs.Going.{starts, Went_on, going_at, goes_on_at, ends_cut_off_at, agrees, all_given}
 use Rattle.knx_top.proofs.download.attempt.Goals as goal
 
 pub loop-k-init : goal.loop-k-init
@@ -15,7 +15,7 @@ returns-in-CutOff-clause-moments c =
 
 pub returns-in-CutOff-clause-closed : goal.returns-in-CutOff-clause-closed
 returns-in-CutOff-clause-closed c = λ _.
-    cut_counted _ _ _ _ _ _ _ _ (going_at _ _ _ _ _ _ _ c.op-op.ensures c.loop-k.invariant.going) (c.in_ok-operate.ensures.cut_off c.in-CutOff.is)
+    ends_cut_off_at _ _ _ _ _ _ _ _ c.op-op.ensures c.loop-k.invariant.going (c.in_ok-operate.ensures.cut_off c.in-CutOff.is)
 
 pub unreachable-requires : goal.unreachable-requires
 unreachable-requires c =
@@ -28,11 +28,11 @@ loop-k-preserved c = record {
   script = c.in_ok-operate.ensures.script;
 }
 
-pub returns-clause-uncut : goal.returns-clause-uncut
-returns-clause-uncut c = λ _. uncut _ _ _ _ _ _ c.loop-k.invariant.going
-
 pub returns-clause-whole : goal.returns-clause-whole
-returns-clause-whole c = λ _. gave_whole _ _ _ _ _ (all_given _ _ _ c.loop-k.k _ _ (omega arith) c.loop-k.invariant.going)
+returns-clause-whole c = λ _. (all_given _ _ _ c.loop-k.k _ _ (omega arith) c.loop-k.invariant.going).events
+
+pub returns-clause-answers : goal.returns-clause-answers
+returns-clause-answers c = λ _. (all_given _ _ _ c.loop-k.k _ _ (omega arith) c.loop-k.invariant.going).answers
 
 pub returns-clause-done : goal.returns-clause-done
 returns-clause-done c = λ _. (all_given _ _ _ c.loop-k.k _ _ (omega arith) c.loop-k.invariant.going).leads.1
