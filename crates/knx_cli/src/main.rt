@@ -8,7 +8,7 @@ mod output;
 use crate::disk::Disk;
 use crate::output::Output;
 use knx_model::{NoMemory, Sink};
-use knx_top::{Bench, Status, knx};
+use knx_top::{Bench, NO_MEMORY, Status, knx};
 use std::alloc::Global;
 use std::env;
 use std::io::ErrorKind;
@@ -39,7 +39,7 @@ fn main(rt: HostRuntime) -> ExitCode {
     let mut sim = Bench::empty(alloc);
     let status = match words_of(&rt, alloc) {
         Ok(words) => knx(alloc, words.as_slice(), &mut files, &mut out, &mut sim),
-        Err(_) => match out.write(b"no memory\n") {
+        Err(_) => match out.write(NO_MEMORY) {
             Ok(()) => Status::NoMemory,
             Err(_) => Status::Write,
         },

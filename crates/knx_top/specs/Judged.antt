@@ -12,7 +12,6 @@ use Rattle.knx_model.specs.declared.command.Stop.{Stop}
 use Rattle.knx_model.specs.declared.command.Stop.TheVariants as stop
 use Rattle.knx_model.specs.declared.outside.files.FileFault.{FileFault}
 use Rattle.knx_model.specs.declared.outside.files.FileFault.TheVariants as fault
-use Rattle.knx_model.specs.declared.project.Statement.{Statement}
 use Rattle.knx_model.specs.declared.refusal.Refused.{Refused}
 use Rattle.knx_model.specs.declared.refusal.Why.TheVariants.{NotBuilt}
 use Rattle.knx_model.specs.declared.script.Cut.{Cut}

@@ -1,5 +1,5 @@
 -- What the bench is after the run on it was lent.
-use Rattle.std.specs.Prelude.{Option, Some, None}
+use Rattle.std.specs.Prelude.{Option, Some}
 use Rattle.std.specs.Borrow.{LendsIf, MutBor, Fml}
 use Rattle.knx_model.specs.Bench.{Trace}
 use Rattle.knx_top.specs.declared.bench.Bench.{Bench}

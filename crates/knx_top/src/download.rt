@@ -13,6 +13,9 @@ use download_plan::LoadPlan;
 use knx_model::{ApduOctets, Cut, Expect, NoMemory, Op};
 use std::alloc::Global;
 
+/// How often a job is tried.
+const ATTEMPTS: u32 = 3;
+
 /// How a job ended.
 #[derive(Clone, Copy, Debug, Drop, PartialEq, Eq)]
 pub enum JobEnd {
@@ -171,7 +174,7 @@ pub fn download(
     ensures done { IfOk result (λ ending. ending ≡ JobEnd.Done → runs (now run.new).kept ≡ Some plan.now) }
 {
     let mut count = 0;
-    for attempts in 0..3u32 {
+    for attempts in 0..ATTEMPTS {
         match attempt(alloc, run, plan, cuts, &mut count)? {
             AttemptEnd::Done => return Ok(JobEnd::Done),
             AttemptEnd::Closed => {}

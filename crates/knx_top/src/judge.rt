@@ -28,7 +28,7 @@ pub struct Order {
 }
 
 /// NEW's device, where it has just one.
-fn the_device(new: &Checked<'_>) -> Result<IndAddr, Stop>
+fn the_device(new: &Checked<'_, '_>) -> Result<IndAddr, Stop>
     ensures { Gives (λ x. x) result (built New (the_device (devices_of new.now.statements))) }
 {
     match (new.counts().devices, new.first()) {
@@ -38,7 +38,7 @@ fn the_device(new: &Checked<'_>) -> Result<IndAddr, Stop>
 }
 
 /// OLD has no device but this one.
-fn has_at_most(device: IndAddr, old: &Checked<'_>) -> Result<(), Stop>
+fn has_at_most(device: IndAddr, old: &Checked<'_, '_>) -> Result<(), Stop>
     ensures { Gives (λ _. old.now) result (built Old (with_at_most device old.now)) }
 {
     match (old.counts().devices, old.first()) {
@@ -86,7 +86,7 @@ fn cuts_in(alloc: Global, octets: &[u8], device: IndAddr) -> Result<List<Cut>, S
 }
 
 /// The image of a device of a project.
-fn image_of(alloc: Global, checked: &Checked<'_>, device: IndAddr) -> Result<Image, Stop>
+fn image_of(alloc: Global, checked: &Checked<'_, '_>, device: IndAddr) -> Result<Image, Stop>
     ensures ok { IfOk result (λ image. IsImage checked.now device image) }
     ensures err { IfErr result (λ why. why ≡ OutOfMemory) }
 {
@@ -99,7 +99,7 @@ fn image_of(alloc: Global, checked: &Checked<'_>, device: IndAddr) -> Result<Ima
 /// The image of a device where a project has it.
 fn image_before(
     alloc: Global,
-    checked: &Checked<'_>,
+    checked: &Checked<'_, '_>,
     device: IndAddr,
 ) -> Result<Option<Image>, Stop>
     ensures ok { IfOk result (λ image. IsBefore checked.now device image) }

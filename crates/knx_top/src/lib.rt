@@ -16,6 +16,7 @@ mod told;
 pub use bench::{Bench, Run};
 pub use call::knx;
 pub use knx_model::{BenchEvent, Status};
+pub use stop::NO_MEMORY;
 
 #[cfg(test)]
 mod tests;

@@ -77,12 +77,12 @@ pub fn project_in(alloc: Global, place: InputFile, octets: &[u8]) -> Result<Proj
 }
 
 /// The project, where it breaks no rule.
-pub fn sound_in<'a>(
+pub fn sound_in<'b, 'a>(
     alloc: Global,
     place: InputFile,
-    project: &'a Project<'a>,
-    catalogue: &'a Catalogue,
-) -> Result<Checked<'a>, Stop>
+    project: &'b Project<'a>,
+    catalogue: &'b Catalogue,
+) -> Result<Checked<'b, 'a>, Stop>
     ensures { Gives (λ c. c) result (sound place (record { statements = project.now.statements; catalogue = catalogue.now })) }
 {
     match check(alloc, project, catalogue) {

@@ -1,6 +1,7 @@
 //! The files are read.
 
-ghost use Rattle.std.specs.Prelude.{◌≡◌, ◌≤◌, ℕ, List};
+ghost use Rattle.std.specs.Prelude.{◌≡◌, ◌≤◌, ℕ, List, Err, IfErr};
+ghost use Rattle.knx_model.specs.declared.outside.files.FileFault.TheVariants.{NoMemory as Unread};
 ghost use Rattle.knx_model.specs.Outside.{Rose};
 ghost use Rattle.knx_top.specs.Judged.{IsRead, IsReadWhereNamed, ProjectIsRead, SimIsRead};
 ghost use Rattle.knx_top.specs.Names.{named, project_reads_of, project_words_of, sim_reads_of, sim_words_of};
@@ -54,6 +55,8 @@ fn read_after<T, F: Files>(
     files: &mut F,
     name: &str,
 ) -> Result<Octets, FileFault>
+    ensures unread { IfErr before.now (λ _. result ≡ Err Unread) }
+    ensures still { IfErr before.now (λ _. F.faults files.new ≡ F.faults files.old) }
     ensures read { IsRead (F.file files.old name.now) (Rose (F.faults files.old) (F.faults files.new)) result }
     ensures count { F.faults files.old ≤ F.faults files.new }
     ensures stays { (other : List ℕ) → F.file files.new other ≡ F.file files.old other }
@@ -71,7 +74,8 @@ pub fn read_project_texts<F: Files>(
     files: &mut F,
     names: ProjectNames<'_>,
 ) -> ProjectTexts
-    ensures { ProjectIsRead (F.file files.old) (Rose (F.faults files.old) (F.faults files.new)) (project_words_of names.entry) (project_reads_of result) }
+    ensures project { IfErr result.catalogue (λ _. result.project ≡ Err Unread) }
+    ensures read { ProjectIsRead (F.file files.old) (Rose (F.faults files.old) (F.faults files.new)) (project_words_of names.entry) (project_reads_of result) }
 {
     let catalogue = read_named(alloc, files, names.catalogue);
     let project = read_after(&catalogue, alloc, files, names.project);
@@ -81,7 +85,10 @@ pub fn read_project_texts<F: Files>(
 /// Reads the catalogue, then NEW, OLD and the script.
 #[tactic(auto, using(crate::proofs::Counts::rose_before, crate::proofs::Counts::rose_after))]
 pub fn read_sim_texts<F: Files>(alloc: Global, files: &mut F, names: SimNames<'_>) -> SimTexts
-    ensures { SimIsRead (F.file files.old) (Rose (F.faults files.old) (F.faults files.new)) (sim_words_of names.entry) (sim_reads_of result) }
+    ensures new { IfErr result.catalogue (λ _. result.new ≡ Err Unread) }
+    ensures old { IfErr result.new (λ _. result.old ≡ Err Unread) }
+    ensures script { IfErr result.old (λ _. result.script ≡ Err Unread) }
+    ensures read { SimIsRead (F.file files.old) (Rose (F.faults files.old) (F.faults files.new)) (sim_words_of names.entry) (sim_reads_of result) }
 {
     let catalogue = read_named(alloc, files, names.catalogue);
     let new = read_after(&catalogue, alloc, files, names.new);

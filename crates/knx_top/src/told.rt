@@ -43,7 +43,7 @@ fn put_all_tables(
 }
 
 /// The tables of the devices of a project, ascending.
-fn tables_text(alloc: Global, checked: &Checked<'_>) -> Result<Octets, NoMemory>
+fn tables_text(alloc: Global, checked: &Checked<'_, '_>) -> Result<Octets, NoMemory>
     ensures { IfOk result (λ text. IsTablesText checked.now text) }
 {
     let images = compile_all(alloc, checked)?;

@@ -1,13 +1,12 @@
 -- The model of the tests breaks no rule, and its two fields can be set.
-use Rattle.std.proofs.Common.{ℕ, ◌≤◌, List, [], ◌∷◌, All, refl, inl, arith, codes, nat_eq, map}
+use Rattle.std.proofs.Common.{ℕ, ◌≤◌, [], ◌∷◌, refl, inl, arith, codes}
 use Rattle.std.specs.List.{IsDistinct}
 use Rattle.std.proofs.lemmas.List.Elements.{All-nil, All-from_recursion}
 use Rattle.knx_model.specs.declared.catalogue.model.Model.{Model}
 use Rattle.knx_model.specs.declared.catalogue.model.ModelField.{ModelField}
-use Rattle.knx_model.specs.declared.catalogue.model.ModelObject.{ModelObject}
 use Rattle.knx_model.specs.declared.config.ParamValue.{ParamValue}
 use Rattle.knx_model.specs.Models.{IsObject, IsField, IsModel, AreApart}
-use Rattle.knx_model.specs.Parameters.{IsSetting, AreSettings, first_bit}
+use Rattle.knx_model.specs.Parameters.{IsSetting, AreSettings}
 
 abbrev pub mode_field : ModelField
 mode_field = record { name = codes "mode"; bit = 1; width = 3; min = 0; max = 7; default = 5 }

@@ -1,7 +1,6 @@
 -- Fields that are written one after another.
-use Rattle.std.proofs.Common.{◌≡◌, ◌≢◌, ◌⊎◌, inl, inr, ℕ, zero, suc, ◌+◌, ◌*◌, ◌%◌, ◌^◌, ◌<◌, ◌≤◌, Bool, true, false, ◌&&◌, ◌==◌, nat_eq, List, [], ◌∷◌, ◌++◌, length, get_or, map, take, drop, All, Contains, if◌then◌else◌, Result, Ok, Err, IfOk, refl, sym, ap, ◌∙◌, subst, arith}
+use Rattle.std.proofs.Common.{◌≡◌, ◌≢◌, ◌⊎◌, inl, inr, ℕ, zero, suc, ◌+◌, ◌*◌, ◌^◌, ◌<◌, ◌≤◌, Bool, true, false, nat_eq, List, [], ◌∷◌, ◌++◌, length, get_or, map, take, drop, All, Contains, if◌then◌else◌, Result, Ok, Err, IfOk, refl, sym, ap, ◌∙◌, subst, arith}
 use Rattle.std.specs.List.{IsDistinct}
-use Rattle.std.proofs.lemmas.Bool.{cases_Bool, and_parts}
 use Rattle.std.proofs.lemmas.Bool.Decides.{nat_tests}
 use Rattle.std.proofs.lemmas.List.{get_or_append_left, get_or_push, length_push, get_or-take, length-take-le, get_or-map, length-map, take_more, get_or_default}
 use Rattle.std.proofs.lemmas.List.Elements.{All-push, All-map}
@@ -12,7 +11,7 @@ use Rattle.knx_model.specs.declared.config.ParamValue.{ParamValue}
 use Rattle.knx_model.specs.declared.lists.NoMemory.{NoMemory}
 use Rattle.knx_model.specs.Models.{AreApart, AllApart, IsField, IsModel}
 use Rattle.knx_model.specs.Parameters.{bits_value, bits_of, field_value, is_of_field, set_value, laid_field, laid, first_bit, IsOutside, HoldsParameters, IsSetting, AreSettings}
-use Rattle.parameter_memory.specs.Bits.{AreBits, AreOctets, value_bits, overwrite, IsBeside, HoldsFields}
+use Rattle.parameter_memory.specs.Bits.{AreOctets, value_bits, overwrite, IsBeside, HoldsFields}
 use Rattle.parameter_memory.proofs.Digits.{value_fold, small_rest}
 use Rattle.parameter_memory.proofs.Written.{length-value_bits, bits-value_bits, length-overwrite, bits-overwrite, beside, apart, written}
 

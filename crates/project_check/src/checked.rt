@@ -19,13 +19,13 @@ use std::marker::Model;
 
 /// A project that breaks no rule, with its catalogue and its devices, ascending.
 #[derive(Drop)]
-pub struct Checked<'a> {
-    project: &'a Project<'a>,
-    catalogue: &'a Catalogue,
+pub struct Checked<'b, 'a> {
+    project: &'b Project<'a>,
+    catalogue: &'b Catalogue,
     devices: Vec<IndAddr>,
 }
 
-impl<'a> Model for Checked<'a> {
+impl<'b, 'a> Model for Checked<'b, 'a> {
     ghost use Rattle.knx_model.specs.Meaning.{Installation};
     ghost use Rattle.project_check.specs.Devices.{IsChecked};
 
@@ -36,9 +36,9 @@ impl<'a> Model for Checked<'a> {
     ghost invariant = { λ c. IsChecked c.project.now.statements c.catalogue.now c.devices.items };
 }
 
-impl<'a> Checked<'a> {
+impl<'b, 'a> Checked<'b, 'a> {
     /// Its statements, in the order of the text.
-    pub fn statements(&self) -> &'a [Statement<'a>]
+    pub fn statements(&self) -> &'b [Statement<'a>]
         ensures value { result.now ≡ self.now.statements }
         ensures sound { first_broken self.now.catalogue self.now.statements ≡ None }
     {
@@ -113,11 +113,11 @@ fn first_broken(
 
 /// Checks the rules that look at the whole text and at the catalogue. At `Err` it gives the least line that breaks one, with its
 /// rule of the least number, or line 0 where memory runs out.
-pub fn check<'a>(
+pub fn check<'b, 'a>(
     alloc: Global,
-    project: &'a Project<'a>,
-    catalogue: &'a Catalogue,
-) -> Result<Checked<'a>, Refused>
+    project: &'b Project<'a>,
+    catalogue: &'b Catalogue,
+) -> Result<Checked<'b, 'a>, Refused>
     ensures checked { IfOk result (λ c. c ≡ record { statements = project.now.statements; catalogue = catalogue.now }) }
     ensures sound { OnOk result (first_broken catalogue.now project.now.statements ≡ None) }
     ensures refused { IfErr result (λ e. e.why ≢ NoMemory → first_broken catalogue.now project.now.statements ≡ Some e) }

@@ -1,6 +1,5 @@
 -- The lines of one device, and what is kept of them.
-use Rattle.std.specs.Prelude.{◌≡◌, ℕ, ◌<◌, Bool, false, ◌==◌, List, filter, Option, None, slice_index, slice_index_or, length, map, Vec}
-use Rattle.std.specs.Borrow.{Bor}
+use Rattle.std.specs.Prelude.{◌≡◌, ℕ, ◌<◌, Bool, false, ◌==◌, List, filter, Option, None, slice_index, slice_index_or, length, Vec}
 use Rattle.std.specs.declared.alloc.Global.{Global}
 use Rattle.knx_model.specs.declared.address.IndAddr.{IndAddr}
 use Rattle.knx_model.specs.declared.catalogue.model.NamedModel.{NamedModel}

@@ -24,7 +24,7 @@ use project_check::Checked;
 use std::alloc::{AllocError, Global};
 
 /// The tables and the parameter memory of a device of the project; one that the project doesn't have has no objects.
-pub fn compile(alloc: Global, checked: &Checked<'_>, device: IndAddr) -> Result<Image, NoMemory>
+pub fn compile(alloc: Global, checked: &Checked<'_, '_>, device: IndAddr) -> Result<Image, NoMemory>
     ensures stands { IfOk result (λ image. StandsFor image (meaning checked.now device)) }
     ensures fits { IfOk result (λ image. Fits image) }
     ensures in_range { IfOk result (λ _. IsInRange (meaning checked.now device)) }
@@ -33,7 +33,7 @@ pub fn compile(alloc: Global, checked: &Checked<'_>, device: IndAddr) -> Result<
 }
 
 /// The tables and the parameter memories of the devices of the project, in their ascending order.
-pub fn compile_all(alloc: Global, checked: &Checked<'_>) -> Result<List<Image>, NoMemory>
+pub fn compile_all(alloc: Global, checked: &Checked<'_, '_>) -> Result<List<Image>, NoMemory>
     ensures stands { IfOk result (λ images. (devices : Seq Device) → IsPermutation (devices_of checked.now.statements) devices → IsStrictlyIncreasing (map raw devices) → AllZip (λ image device. StandsFor image (meaning checked.now device)) images devices) }
     ensures fits { IfOk result (λ images. All Fits images) }
 {

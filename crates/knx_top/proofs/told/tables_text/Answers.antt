@@ -1,5 +1,4 @@
 use Rattle.std.proofs.Common.{List, ◌++◌, ℕ, ap, ◌∙◌}
-use Rattle.std.specs.List.{flat_map, zip}
 use Rattle.knx_model.specs.declared.config.Image.{Image}
 use Rattle.knx_top.proofs.TableLines.{all_lines}
 use Rattle.knx_top.proofs.told.tables_text.Goals as goal

@@ -1,7 +1,7 @@
-use Rattle.std.proofs.Common.{◌≡◌, ℕ, ◌+◌, ◌*◌, ◌<◌, ◌++◌, ◌∷◌, [], length, take, drop, refl, sym, ap, ◌∙◌, arith}
+use Rattle.std.proofs.Common.{◌≡◌, ℕ, ◌+◌, ◌*◌, ◌<◌, refl, ap, ◌∙◌, arith}
 use Rattle.std.proofs.lemmas.List.{length_push}
 use Rattle.std.proofs.lemmas.List.Elements.{All-push, All-nil}
-use Rattle.knx_model.specs.Parameters.{bits_of, octet_bits}
+use Rattle.knx_model.specs.Parameters.{bits_of}
 use Rattle.parameter_memory.proofs.Digits.{bits_push, take_plus}
 use Rattle.parameter_memory.proofs.bits.octets_of.Goals as goal
 

@@ -1,4 +1,4 @@
-use Rattle.std.proofs.Common.{◌≡◌, ℕ, suc, ◌+◌, ◌-◌, arith, ◌∙◌}
+use Rattle.std.proofs.Common.{◌+◌, ◌-◌, arith, ◌∙◌}
 use Rattle.parameter_memory.proofs.Written.{one_more}
 use Rattle.parameter_memory.proofs.bits.write_value.Goals as goal
 

@@ -1,6 +1,5 @@
-use Rattle.std.proofs.Common.{◌≡◌, ℕ, ◌+◌, ◌*◌, ◌<◌, ◌≤◌, ◌^◌, ◌++◌, ◌∷◌, [], length, get_or, take, All, refl, sym, ap, ◌∙◌, subst, arith}
+use Rattle.std.proofs.Common.{◌≡◌, ◌+◌, ◌<◌, ◌≤◌, ◌^◌, ◌++◌, ◌∷◌, [], length, get_or, take, All, sym, ap, ◌∙◌, subst, arith}
 use Rattle.std.proofs.lemmas.List.{take_more}
-use Rattle.knx_model.specs.declared.catalogue.model.ModelField.{ModelField}
 use Rattle.knx_model.specs.Models.{AreApart, IsField}
 use Rattle.knx_model.specs.Parameters.{set_value}
 use Rattle.parameter_memory.specs.Bits.{overwrite, value_bits, HoldsFields}

@@ -1,6 +1,6 @@
-use Rattle.std.proofs.Common.{◌≡◌, ℕ, ◌+◌, ◌*◌, ◌<◌, List, length, get_or, drop, refl, sym, ap, ◌∙◌, arith}
+use Rattle.std.proofs.Common.{◌≡◌, ℕ, ◌<◌, List, length, get_or, drop, refl, sym, ◌∙◌, arith}
 use Rattle.std.proofs.lemmas.List.{length-drop, get_or-drop}
-use Rattle.knx_model.specs.Parameters.{bits_of, bits_value}
+use Rattle.knx_model.specs.Parameters.{bits_of}
 use Rattle.parameter_memory.proofs.Digits.{value_more, doubled, length-bits_of}
 use Rattle.parameter_memory.proofs.reading.number_at.Goals as goal
 

@@ -1,5 +1,4 @@
 use Rattle.std.proofs.Common.{rules, tests}
-use Rattle.std.specs.Borrow.{Bor}
 use Rattle.std.proofs.lemmas.Iterator.{items_from_collect, YieldsList-from_slice, YieldsList-from_map}
 use Rattle.std.proofs.lemmas.Iterator.Consumers.{YieldsList-at, YieldsList-from_filter_map, YieldsList-from_chain}
 use Rattle.knx_model.specs.declared.project.Statement.{Statement}

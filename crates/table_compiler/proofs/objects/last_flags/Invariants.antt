@@ -1,4 +1,4 @@
-use Rattle.std.proofs.Common.{◌≡◌, length, take, map}
+use Rattle.std.proofs.Common.{◌≡◌, length, take}
 use Rattle.table_compiler.specs.Lines.{HoldsFlags}
 use Rattle.table_compiler.proofs.objects.last_flags.Given as goal
 

@@ -1,4 +1,4 @@
-use Rattle.std.proofs.Common.{take, map}
+use Rattle.std.proofs.Common.{take}
 use Rattle.table_compiler.specs.Settings.{HoldsValues}
 use Rattle.table_compiler.proofs.parameters.last_values.Given as goal
 
