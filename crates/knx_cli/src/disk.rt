@@ -1,9 +1,9 @@
 //! Files on disk: they tell nothing of their contents, and their count rises at each error.
 
-ghost use Rattle.std.specs.Prelude.{◌≡◌};
+ghost use Rattle.std.specs.Prelude.{◌≡◌, ◌≤◌, IfOk, OnOk, length};
 
 use knx_model::{FileFault, Files, Octets};
-use std::alloc::Global;
+use std::alloc::{AllocError, Global};
 use std::fs::File;
 use std::io::{self, ErrorKind, Read};
 use std::rt;
@@ -27,17 +27,27 @@ impl<'a, R: rt::Files> Disk<'a, R> {
     }
 }
 
+/// Appends of a piece what there is room for up to `limit` octets.
+fn append_front(octets: &mut Vec<u8>, piece: &[u8], limit: usize) -> Result<(), AllocError>
+    requires { length octets.old.items ≤ limit }
+    ensures { OnOk result (length octets.new.items ≤ limit) }
+{
+    let room = limit - octets.len();
+    octets.extend_from_slice(&piece[..piece.len().min(room)])
+}
+
 /// The first `limit` octets of a reader.
-fn read_front<F: Read>(alloc: Global, file: &mut F, limit: usize) -> io::Result<Vec<u8>> {
+fn read_front<F: Read>(alloc: Global, file: &mut F, limit: usize) -> io::Result<Vec<u8>>
+    ensures { IfOk result (λ octets. length octets.items ≤ limit) }
+{
     let mut piece = vec![in alloc; 0; PIECE]?;
     let mut octets = Vec::new(alloc);
     for _ in 0..u64::MAX {
         let count = file.read(piece.as_mut_slice())?;
-        let room = limit.saturating_sub(octets.len());
-        if count == 0 || room == 0 {
+        if count == 0 || octets.len() == limit {
             break;
         }
-        octets.extend_from_slice(&piece[..count.min(room)])?;
+        append_front(&mut octets, &piece[..count], limit)?;
     }
     Ok(octets)
 }

@@ -1,6 +1,7 @@
 //! Standard output: it tells nothing of what it took, and its count rises at each error.
 
-ghost use Rattle.std.specs.Prelude.{◌≡◌};
+ghost use Rattle.std.specs.Prelude.{◌≡◌, ◌≤◌, OnErr, OnOk, is_ok};
+ghost use Rattle.knx_model.specs.Outside.{Rose};
 
 use knx_model::{Sink, SinkFailed};
 use std::io::{self, Write};
@@ -21,10 +22,27 @@ impl<'a, R: Print> Output<'a, R> {
     }
 }
 
+/// Writes all of the octets, and sees them out.
 fn write_all<R: Print>(rt: &R, octets: &[u8]) -> io::Result<()> {
     let mut out = io::writer(rt);
     out.write_all(octets)?;
     out.flush()
+}
+
+/// Whether a write succeeded; one that failed is counted.
+fn counted(faults: &mut u64, written: io::Result<()>) -> Result<(), SinkFailed>
+    ensures exactly { is_ok result ≡ is_ok written }
+    ensures failed { OnErr result (Rose faults.old faults.new) }
+    ensures still { OnOk result (faults.new ≡ faults.old) }
+    ensures count { faults.old ≤ faults.new }
+{
+    match written {
+        Ok(()) => Ok(()),
+        Err(_) => {
+            *faults = faults.saturating_add(1);
+            Err(SinkFailed)
+        }
+    }
 }
 
 impl<R: Print> Sink for Output<'_, R> {
@@ -35,13 +53,7 @@ impl<R: Print> Sink for Output<'_, R> {
     ghost taken = { λ o. None };
 
     fn write(&mut self, octets: &[u8]) -> Result<(), SinkFailed> {
-        match write_all(self.rt, octets) {
-            Ok(()) => Ok(()),
-            Err(_) => {
-                self.faults = self.faults.saturating_add(1);
-                Err(SinkFailed)
-            }
-        }
+        counted(&mut self.faults, write_all(self.rt, octets))
     }
 }
 
