@@ -1,4 +1,4 @@
-//! The codes that name the services (ISO/IEC 14543-3, application layer, APCI).
+//! The codes that name the services (ISO/IEC 14543-3-1, application layer, APCI).
 
 /// A_GroupValue_Read.
 pub const GROUP_VALUE_READ: u16 = 0x000;

@@ -1,4 +1,4 @@
-//! The frames of the transport layer (ISO/IEC 14543-3): data, unnumbered `000000aa` or numbered `01ssssaa`, with the upper two
+//! The frames of the transport layer (ISO/IEC 14543-3-2): data, unnumbered `000000aa` or numbered `01ssssaa`, with the upper two
 //! bits of a service's code in the first octet, and the control frames of one octet.
 
 ghost use Rattle.std.specs.Prelude.{◌≡◌, ◌+◌, ◌*◌, ◌/◌, ◌%◌, ◌<◌, ◌≤◌, ◌^◌, [], ◌∷◌, ◌++◌, length, IfOk, IfErr, Ok};
@@ -10,7 +10,7 @@ ghost use Rattle.knx_model.specs.ApduReading.{tpdu_in};
 use crate::{control, services};
 use knx_model::{Apdu, ApduOctets, Tpdu, TpduRefused};
 
-/// The frame that the octets are (ISO/IEC 14543-3, transport layer), or the least rule that they break: `Empty` for none, `Code` for a first octet or a service
+/// The frame that the octets are (ISO/IEC 14543-3-2, transport layer), or the least rule that they break: `Empty` for none, `Code` for a first octet or a service
 /// that isn't in the table, `Length` and `Count` for a number of octets that its row doesn't allow.
 pub fn decode(octets: &[u8]) -> Result<Tpdu, TpduRefused>
     ensures read { IfOk result (λ frame. Reads octets.now frame) }
@@ -36,10 +36,9 @@ fn frame_of(octets: &[u8]) -> Result<Tpdu, TpduRefused>
             let code = code_at(first, second);
             if first < 0x04 {
                 Ok(Tpdu::Unnumbered(services::read(code, rest)?))
-            } else if first >= 0x40 && first < 0x80 {
-                let number = (first >> 2) & 0x0F;
+            } else if control::is_numbered(first) {
                 Ok(Tpdu::Numbered {
-                    number,
+                    number: control::sequence_number(first),
                     apdu: services::read(code, rest)?,
                 })
             } else {
@@ -57,7 +56,7 @@ fn code_at(first: u8, second: u8) -> u16
     (first as u16 & 0x03) << 8 | second as u16
 }
 
-/// The octets of the frame (ISO/IEC 14543-3, transport layer), with a short value of six bits, a long one of 1 to 14 octets, and the counts that its row allows.
+/// The octets of the frame (ISO/IEC 14543-3-2, transport layer), with a short value of six bits, a long one of 1 to 14 octets, and the counts that its row allows.
 pub fn encode(tpdu: &Tpdu) -> ApduOctets
     requires { IsInRange tpdu.now }
     ensures written { result ≡ Written tpdu.now }
@@ -65,7 +64,7 @@ pub fn encode(tpdu: &Tpdu) -> ApduOctets
 {
     match tpdu {
         Tpdu::Unnumbered(apdu) => data(0x00, apdu),
-        Tpdu::Numbered { number, apdu } => data(0x10 | *number, apdu),
+        Tpdu::Numbered { number, apdu } => data(control::NUMBERED >> 2 | *number, apdu),
         Tpdu::Connect => ApduOctets::from_slice(&[control::CONNECT]),
         Tpdu::Disconnect => ApduOctets::from_slice(&[control::DISCONNECT]),
         Tpdu::Ack(number) => control::ack(*number),
@@ -79,8 +78,8 @@ fn data(upper: u8, apdu: &Apdu) -> ApduOctets
     requires upper { upper < 64 }
     ensures { result ≡ WrittenApdu upper apdu.now }
 {
-    let code = services::code_of(apdu);
-    let mut out = ApduOctets::from_slice(&[upper << 2 | (code >> 8) as u8, (code & 0xFF) as u8]);
+    let [high, below] = services::code_of(apdu).to_be_bytes();
+    let mut out = ApduOctets::from_slice(&[upper << 2 | high, below]);
     services::push_rest(&mut out, apdu);
     out
 }

@@ -1,15 +1,15 @@
-//! Numbers of two octets, the high one first.
+//! Numbers of two octets, the high one first, and the low six bits of a code.
 
-ghost use Rattle.std.specs.Prelude.{◌≡◌, ◌+◌, ◌*◌, ◌≤◌, ◌++◌, length};
-ghost use Rattle.knx_model.specs.Apdu.{word as written};
+ghost use Rattle.std.specs.Prelude.{◌≡◌, ◌+◌, ◌%◌, ◌≤◌, ◌++◌, length};
+ghost use Rattle.knx_model.specs.Apdu.{low, word as written};
 
 use knx_model::ApduOctets;
 
-/// The number that two octets are.
-pub fn word(high: u8, below: u8) -> u16
-    ensures { result ≡ 256 * high + below }
+/// The low six bits of a code: a short value, a count or a type.
+pub fn low(code: u16) -> u8
+    ensures { result ≡ low code }
 {
-    u16::from_be_bytes([high, below])
+    (code & 0x3F) as u8
 }
 
 /// Appends a number.

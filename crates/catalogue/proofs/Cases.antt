@@ -1,10 +1,10 @@
 -- What the parts were where the whole is something.
-use Rattle.std.proofs.Common.{◌≡◌, Bool, true, false, List, [], ◌∷◌, Option, Some, None, Result, Ok, Err, option_map, if◌then◌else◌, refl}
+use Rattle.std.proofs.Common.{◌≡◌, ◌⊎◌, inl, inr, Bool, true, false, List, ◌∷◌, Option, Some, None, Result, Ok, Err, option_map, if◌then◌else◌, refl}
 use Rattle.std.specs.Option.{option_and_then}
 use Rattle.std.proofs.lemmas.Option.{same_Some, none-some}
 use Rattle.knx_model.specs.declared.catalogue.refused.CatRefused.{CatRefused}
+use Rattle.knx_model.specs.Answers.{◌>>=◌}
 use Rattle.catalogue.specs.Shapes.{cons_if}
-use Rattle.catalogue.specs.Catalogue.{then_on}
 
 abbrev pub fine : {A : Type 0} → A → Result A CatRefused
 fine x = Ok x
@@ -35,6 +35,16 @@ cons_parts (Some z) (Some zs) ys e = (z, zs, refl, refl, same_Some (z ∷ zs) ys
 cons_parts None xs ys e = absurd (none-some ys e)
 cons_parts (Some z) None ys e = absurd (none-some ys e)
 
-pub then_parts : {X Y : Type 0} (r : Result X CatRefused) (next : X → Result Y CatRefused) (y : Y) → then_on r next ≡ Ok y → (x : X) × (r ≡ Ok x) × (next x ≡ Ok y)
+pub then_parts : {X Y : Type 0} (r : Result X CatRefused) (next : X → Result Y CatRefused) (y : Y) → (r >>= next) ≡ Ok y → (x : X) × (r ≡ Ok x) × (next x ≡ Ok y)
 then_parts (Ok x) next y e = (x, refl, e)
 then_parts (Err x) next y e = absurd (err_ok x y e)
+
+pub same_err : (A : Type 0) (x y : CatRefused) → refused A x ≡ Err y → x ≡ y
+same_err A x y e = cc
+
+pub ok_err : {A : Type 0} (x : A) (y : CatRefused) → fine x ≡ Err y → ⊥
+ok_err x y e = cc
+
+pub then_refused : {X Y : Type 0} (r : Result X CatRefused) (next : X → Result Y CatRefused) (why : CatRefused) → (r >>= next) ≡ Err why → (r ≡ Err why) ⊎ ((x : X) × (r ≡ Ok x) × (next x ≡ Err why))
+then_refused (Ok x) next why e = inr (x, refl, e)
+then_refused {X} {Y} (Err x) next why e = inl (rw (same_err Y x why e) refl)

@@ -2,5 +2,8 @@ pub mod Numbers
 pub mod Twice
 pub mod Apart
 pub mod Cases
+pub mod Judged
+pub mod FirstRefusal
 pub mod SoundShapes
 pub mod Sound
+pub mod FirstFault

@@ -1,5 +1,5 @@
 -- What a table states breaks no rule, but for the ranges of its parameters.
-use Rattle.std.proofs.Common.{◌≡◌, ℕ, ℤ, pos, negsuc, ◌+◌, ◌*◌, ◌%◌, ◌<◌, ◌≤◌, Bool, true, false, ◌&&◌, ◌||◌, cond, nat_eq, nat_lt, eqb, ltb, bytes_eq, codes, List, [], ◌∷◌, length, map, All, Option, Some, None, refl, sym, subst, arith}
+use Rattle.std.proofs.Common.{◌≡◌, ℕ, ℤ, pos, negsuc, ◌+◌, ◌*◌, ◌%◌, ◌<◌, ◌≤◌, Bool, true, false, ◌&&◌, ◌||◌, cond, nat_eq, eqb, ltb, bytes_eq, codes, List, [], ◌∷◌, length, map, All, Option, Some, None, refl, subst, arith}
 use Rattle.std.specs.List.{list_any, AllByRecursion, IsDistinct}
 use Rattle.std.specs.Option.{option_and_then}
 use Rattle.std.proofs.lemmas.Bool.{or_parts}
@@ -16,7 +16,7 @@ use Rattle.catalogue.specs.declared.stated.FieldNumbers.{FieldNumbers}
 use Rattle.catalogue.specs.declared.stated.StatedField.{StatedField}
 use Rattle.catalogue.specs.declared.stated.StatedModel.{StatedModel}
 use Rattle.catalogue.specs.declared.stated.TableKind.TheVariants as kind
-use Rattle.catalogue.specs.Shapes.{between, integer_at, number_at, named, name_at, list_at, text_at, is_table, each, object_from, object_of, parameter_from, parameter_of, numbers_of, stated_name, repeats, model_from, model_of}
+use Rattle.catalogue.specs.Shapes.{between, integer_at, number_at, named, list_at, text_at, is_table, each, object_from, object_of, parameter_from, parameter_of, numbers_of, stated_name, repeats, model_from, model_of}
 use Rattle.catalogue.proofs.Cases.{if_parts, bind_parts, cons_parts}
 
 between_within : (least most : ℕ) (z : ℤ) (n : ℕ) → between least most z ≡ Some n → (least ≤ n) × (n ≤ most)

@@ -1,13 +1,13 @@
 -- The catalogue that octets are, or why they are refused: too long, no document, or the first model, ascending by the octets of its name,
 -- that isn't as it must be; in a model its shape, then its parameters in order, each its ranges and then its overlap with earlier ones.
-use Rattle.std.specs.Prelude.{◌≡◌, ◌≢◌, ℕ, ◌+◌, ◌*◌, ◌^◌, ◌&&◌, ◌||◌, not, nat_le, nat_lt, Bool, ℤ, pos, negsuc, List, [], ◌∷◌, ◌++◌, length, bytes_eq, codes, Option, Some, None, option_map, Result, Ok, Err, if◌then◌else◌}
+use Rattle.std.specs.Prelude.{◌≡◌, ℕ, ◌+◌, ◌*◌, ◌^◌, ◌&&◌, not, nat_le, nat_lt, Bool, ℤ, pos, negsuc, List, [], ◌∷◌, ◌++◌, length, bytes_eq, codes, Option, Some, None, option_map, Result, Ok, Err, if◌then◌else◌}
 use Rattle.std.specs.List.{list_any}
 use Rattle.std.specs.Str.{is_utf8}
-use Rattle.knx_model.specs.declared.catalogue.model.Model.{Model}
 use Rattle.knx_model.specs.declared.catalogue.model.ModelField.{ModelField}
 use Rattle.knx_model.specs.declared.catalogue.model.NamedModel.{NamedModel}
 use Rattle.knx_model.specs.declared.catalogue.refused.CatRefused.{CatRefused}
 use Rattle.knx_model.specs.declared.catalogue.refused.CatRefused.TheVariants.{NoMemory, Toml, Shape, Overlap, Range, Long}
+use Rattle.knx_model.specs.Answers.{◌>>=◌, AnswersUnless}
 use Rattle.knx_model.specs.Numbers.{is_name}
 use Rattle.toml.specs.Data.{Data, Members, no_members, member}
 use Rattle.toml.specs.Parse.{parse_document}
@@ -18,17 +18,8 @@ use Rattle.catalogue.specs.declared.stated.StatedModel.{StatedModel}
 use Rattle.catalogue.specs.Shapes.{model_of}
 
 -- what a function returned is what the document states, unless memory ran out
-abbrev pub Fails : {Y : Type 0} → CatRefused → Result Y CatRefused → Type 0
-Fails e stated = e ≢ NoMemory → stated ≡ Err e
-
 abbrev pub Gives : {Y : Type 0} → Result Y CatRefused → Result Y CatRefused → Type 0
-Gives (Ok x) stated = stated ≡ Ok x
-Gives (Err e) stated = Fails e stated
-
--- what follows a first step, or its refusal
-abbrev pub then_on : {X Y : Type 0} → Result X CatRefused → (X → Result Y CatRefused) → Result Y CatRefused
-then_on (Ok x) next = next x
-then_on (Err e) next = Err e
+Gives returned stated = AnswersUnless (λ why. why ≡ NoMemory) (λ x. x) returned stated
 
 -- ---- parameters
 
@@ -76,7 +67,7 @@ judged model params earlier s = judged_field model s.name earlier (field_of para
 -- the fields of parameters, after earlier ones
 abbrev pub fields_after : List ℕ → ℕ → List ModelField → List StatedField → Result (List ModelField) CatRefused
 fields_after model params earlier [] = Ok earlier
-fields_after model params earlier (s ∷ ss) = then_on (judged model params earlier s) (λ f. fields_after model params (earlier ++ f ∷ []) ss)
+fields_after model params earlier (s ∷ ss) = judged model params earlier s >>= (λ f. fields_after model params (earlier ++ f ∷ []) ss)
 
 -- ---- models
 
@@ -85,7 +76,7 @@ with_fields name s fields = record { name = name; model = record { params = s.pa
 
 abbrev pub judged_model : List ℕ → Option StatedModel → Result NamedModel CatRefused
 judged_model name None = Err (Shape name)
-judged_model name (Some s) = then_on (fields_after name s.params [] s.parameters) (λ fields. Ok (with_fields name s fields))
+judged_model name (Some s) = fields_after name s.params [] s.parameters >>= (λ fields. Ok (with_fields name s fields))
 
 -- a model of a name, which isn't `inline`
 unfoldable pub named_model : List ℕ → Data → Result NamedModel CatRefused
@@ -94,7 +85,7 @@ named_model name d = if is_name name && not (bytes_eq name (codes "inline")) the
 -- a document lists the members of its table ascending by their keys' octets
 abbrev pub models_after : List NamedModel → Members → Result (List NamedModel) CatRefused
 models_after earlier no_members = Ok earlier
-models_after earlier (member name d ms) = then_on (named_model name d) (λ m. models_after (earlier ++ m ∷ []) ms)
+models_after earlier (member name d ms) = named_model name d >>= (λ m. models_after (earlier ++ m ∷ []) ms)
 
 abbrev pub models_of : Members → Result (List NamedModel) CatRefused
 models_of ms = models_after [] ms

@@ -1,3 +1,4 @@
 pub mod Shapes
 pub mod Catalogue
 pub mod Taken
+pub mod FirstRefusal

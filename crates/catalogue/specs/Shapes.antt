@@ -1,6 +1,6 @@
 -- The shapes of the tables of a catalogue, and what each states: the table of a model, of an object and of a parameter. The words for a
 -- document's data are those of TOML's own definition in `toml`.
-use Rattle.std.specs.Prelude.{ℕ, ◌&&◌, ◌||◌, not, nat_le, nat_eq, ℤ, pos, negsuc, Bool, true, false, List, [], ◌∷◌, ◌++◌, map, bytes_eq, codes, Option, Some, None, option_and_then, if◌then◌else◌}
+use Rattle.std.specs.Prelude.{ℕ, ◌&&◌, ◌||◌, nat_le, nat_eq, ℤ, pos, negsuc, Bool, true, false, List, [], ◌∷◌, ◌++◌, map, bytes_eq, codes, Option, Some, None, option_and_then, if◌then◌else◌}
 use Rattle.std.specs.List.{list_any}
 use Rattle.knx_model.specs.declared.catalogue.model.ModelObject.{ModelObject}
 use Rattle.knx_model.specs.Flags.{flags_value}

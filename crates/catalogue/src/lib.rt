@@ -2,6 +2,7 @@
 #![tactic(auto)]
 
 mod fields;
+mod laws;
 mod models;
 mod read;
 mod repeats;
@@ -11,6 +12,7 @@ mod taken;
 mod values;
 
 pub use knx_model::{CatRefused, Catalogue, Model, ModelField, ModelObject, NamedModel};
+pub use laws::{first_refused, taken_whole};
 pub use read::read_catalogue;
 
 #[cfg(test)]

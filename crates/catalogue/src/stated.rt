@@ -3,7 +3,7 @@
 use knx_model::{List, ModelObject, Octets};
 
 /// The kinds of tables.
-#[derive(Clone, Copy, Debug, PartialEq, Eq)]
+#[derive(Clone, Copy)]
 pub enum TableKind {
     Model,
     Object,
@@ -11,7 +11,7 @@ pub enum TableKind {
 }
 
 /// The five numbers of a parameter, as they stand.
-#[derive(Clone, Copy, Debug, PartialEq, Eq)]
+#[derive(Clone, Copy)]
 pub struct FieldNumbers {
     pub bit: i64,
     pub width: i64,
@@ -21,7 +21,7 @@ pub struct FieldNumbers {
 }
 
 /// The five numbers of a parameter, in their ranges.
-#[derive(Clone, Copy, Debug, PartialEq, Eq)]
+#[derive(Clone, Copy)]
 pub struct FieldRange {
     pub bit: u32,
     pub width: u8,
@@ -31,14 +31,14 @@ pub struct FieldRange {
 }
 
 /// A parameter with its name.
-#[derive(Debug, Drop)]
+#[derive(Drop)]
 pub struct StatedField {
     pub name: Octets,
     pub numbers: FieldNumbers,
 }
 
 /// A model: the octets of its parameter memory, its objects, and its parameters.
-#[derive(Debug, Drop)]
+#[derive(Drop)]
 pub struct StatedModel {
     pub params: u16,
     pub objects: List<ModelObject>,

@@ -8,9 +8,15 @@ ghost use Rattle.catalogue.specs.Shapes.{is_key, are_keys, is_table, each, objec
 use crate::repeats::{repeats_name, repeats_number};
 use crate::stated::{FieldNumbers, StatedField, StatedModel, TableKind};
 use crate::values::{integer_at, list_at, name_at, number_at, text_at};
-use knx_model::{List, ModelObject, NoMemory, Octets, flags_of, size_code};
+use knx_model::{List, LoadableObject, ModelObject, NoMemory, Octets, flags_of, size_code};
 use std::alloc::Global;
 use toml::{Table, Value};
+
+/// The greatest number of a group object.
+const GREATEST_OBJECT: u16 = 255;
+
+/// The most bits of a group object, of 14 octets.
+const MOST_OBJECT_BITS: u16 = 112;
 
 impl TableKind {
     /// Whether a table of this kind may have the key.
@@ -68,8 +74,8 @@ fn object_in(table: &Value) -> Option<ModelObject>
     if !TableKind::Object.is_kind_of(table) {
         return None;
     }
-    let n = number_at(table, "n", 1, 255)?;
-    let size = size_code(u32::from(number_at(table, "size", 1, 112)?))?;
+    let n = number_at(table, "n", 1, GREATEST_OBJECT)?;
+    let size = size_code(u32::from(number_at(table, "size", 1, MOST_OBJECT_BITS)?))?;
     let flags = flags_of(text_at(table, "flags")?)?;
     Some(ModelObject {
         n: n as u8,
@@ -168,7 +174,8 @@ pub fn model_in(alloc: Global, table: &Value) -> Result<Option<StatedModel>, NoM
     if !TableKind::Model.is_kind_of(table) {
         return Ok(None);
     }
-    let Some(params) = number_at(table, "params", 0, 8192) else {
+    let most = LoadableObject::Application.capacity();
+    let Some(params) = number_at(table, "params", 0, most) else {
         return Ok(None);
     };
     let Some(objects) = list_at(table, "object") else {

@@ -31,7 +31,7 @@ body_once first body a b p q =
 pub reads_once : (octets : List ℕ) (a b : Ldata) → Reads octets a → Reads octets b → a ≡ b
 reads_once octets a b p q = body_once (slice_index octets 0) (drop (2 + slice_index octets 1) octets) a b p.body q.body
 
-reads_breaks : (octets : List ℕ) (why : CemiRefused) (frame : Ldata) → Reads octets frame → Breaks why octets → ⊥
+pub reads_breaks : (octets : List ℕ) (why : CemiRefused) (frame : Ldata) → Reads octets frame → Breaks why octets → ⊥
 reads_breaks octets Short frame p h = grind (arith, p.long)
 reads_breaks octets Code frame p h = grind (arith, common_steps, p.body)
 reads_breaks octets Extended frame p h = grind (arith, common_steps, p.body.standard)

@@ -9,6 +9,15 @@ ghost use Rattle.cemi_frames.specs.Refusing.{RefusesBody};
 use crate::{code, control};
 use knx_model::{ApduOctets, CemiRefused, Datagram, Ldata};
 
+/// The octets before the additional information: the message code and how many octets that information has.
+const PREFIX: usize = 2;
+/// The octets of what follows the additional information, up to the length: control octets, source, destination and length.
+const HEAD: usize = 7;
+/// The fewest octets of a frame without additional information: its TPDU has at least one.
+const LEAST: usize = PREFIX + HEAD + 1;
+/// The greatest length of a standard frame. The length counts the octets of the TPDU behind its first.
+const GREATEST_LENGTH: u8 = 15;
+
 /// The frame that the octets are (KNX standard 3/6/3, common EMI), or the least rule that they break. Additional information is skipped.
 #[tactic(auto, using(crate::proofs::Once::only_frame))]
 pub fn decode(octets: &[u8]) -> Result<Ldata, CemiRefused>
@@ -23,14 +32,14 @@ fn frame_of(octets: &[u8]) -> Result<Ldata, CemiRefused>
     ensures read { IfOk result (λ frame. Reads octets.now frame) }
     ensures refused { IfErr result (λ why. IsLeastBroken why octets.now) }
 {
-    if octets.len() < 2 {
+    if octets.len() < PREFIX {
         return Err(CemiRefused::Short);
     }
     let skip = octets[1] as usize;
-    if octets.len() < 10 + skip {
+    if octets.len() < LEAST + skip {
         return Err(CemiRefused::Short);
     }
-    body_of(octets[0], &octets[2 + skip..])
+    body_of(octets[0], &octets[PREFIX + skip..])
 }
 
 /// What follows the additional information.
@@ -44,8 +53,8 @@ fn body_of(code: u8, body: &[u8]) -> Result<Ldata, CemiRefused>
     if !control::is_standard(first) {
         return Err(CemiRefused::Extended);
     }
-    let tpdu = &body[7..];
-    if body[6] > 15 || tpdu.len() != body[6] as usize + 1 {
+    let tpdu = &body[HEAD..];
+    if body[6] > GREATEST_LENGTH || tpdu.len() != body[6] as usize + 1 {
         return Err(CemiRefused::Length);
     }
     Ok(Ldata {
@@ -54,16 +63,10 @@ fn body_of(code: u8, body: &[u8]) -> Result<Ldata, CemiRefused>
         group: control::is_to_group(second),
         priority: control::priority_of(first),
         hops: control::hops_of(second),
-        source: word(body[2], body[3]),
-        destination: word(body[4], body[5]),
+        source: u16::from_be_bytes([body[2], body[3]]),
+        destination: u16::from_be_bytes([body[4], body[5]]),
         tpdu: ApduOctets::from_slice(tpdu),
     })
-}
-
-fn word(high: u8, below: u8) -> u16
-    ensures { result ≡ 256 * high + below }
-{
-    u16::from_be_bytes([high, below])
 }
 
 /// The octets of the frame (KNX standard 3/6/3, common EMI), of low priority and hop count 6, and with source 0 for a request.
@@ -80,18 +83,15 @@ fn octets_of(frame: &Ldata) -> Datagram
     requires { IsInRange frame.now }
     ensures { result ≡ Written frame.now }
 {
-    let (source, destination) = (frame.source, frame.destination);
     let mut out = Datagram::from_slice(&[
         code::octet_of(frame.code),
         0x00,
         control::first_of(frame.error),
         control::second_of(frame.group),
-        (source >> 8) as u8,
-        (source & 0xFF) as u8,
-        (destination >> 8) as u8,
-        (destination & 0xFF) as u8,
-        (frame.tpdu.len() - 1) as u8,
     ]);
+    out.extend(&frame.source.to_be_bytes());
+    out.extend(&frame.destination.to_be_bytes());
+    out.extend(&[(frame.tpdu.len() - 1) as u8]);
     out.extend(frame.tpdu.as_slice());
     out
 }

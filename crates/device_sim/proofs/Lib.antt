@@ -1,7 +1,6 @@
 pub mod Memory
-pub mod Ranges
 pub mod Answers
 pub mod Answered
-pub mod Apdus
 pub mod Slots
 pub mod Written
+pub mod Leaving

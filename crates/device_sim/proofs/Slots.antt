@@ -1,5 +1,5 @@
 -- Slots of values, one more behind.
-use Rattle.std.proofs.Common.{ℕ, zero, suc, ◌≡◌, List, [], ◌∷◌, ◌++◌, Option, Some, None}
+use Rattle.std.proofs.Common.{ℕ, zero, suc, List, [], ◌∷◌, ◌++◌, Option}
 use Rattle.std.specs.Prelude.{IfSome}
 use Rattle.knx_model.specs.declared.frames.value.Value.{Value}
 use Rattle.knx_model.specs.Apdu.{IsValueInRange}

@@ -1,5 +1,5 @@
 -- A frame that asks for a write of the device: it is taken, and it delivers a service.
-use Rattle.std.proofs.Common.{ℕ, ◌≡◌, List, Bool, true, false, not, ◌&&◌, Option, Some, None, refl, sym, ap, ◌∙◌, if◌then◌else◌}
+use Rattle.std.proofs.Common.{ℕ, ◌≡◌, List, Bool, true, false, not, ◌&&◌, Some, None, refl, sym, ap, ◌∙◌, if◌then◌else◌}
 use Rattle.std.specs.Prelude.{is_some}
 use Rattle.std.proofs.lemmas.Bool.{false≢true}
 use Rattle.knx_model.specs.declared.address.IndAddr.{IndAddr}
@@ -12,7 +12,7 @@ use Rattle.knx_model.specs.declared.frames.cemi.Ldata.{Ldata}
 use Rattle.knx_model.specs.Bench.{with_kept}
 use Rattle.knx_model.specs.Connection.{device_after}
 use Rattle.knx_model.specs.Device.{NonVolatile, DeviceState, Effect, Nothing, torn, is_write, effect_in, answer_in}
-use Rattle.knx_model.specs.DeviceFrames.{LineDevice, Outcome, Whole, Torn, Worn, at_rest, powerless, took_of, takes, takes_so, ended, got, with_last, taken_alone, taken_group, acted, served, moved, queued_to, queued_if, with_answer, with_connection, connection_took, sender, is_taken, effect_delivered, effect_of_frame, write_kind, would_write, worn_octets}
+use Rattle.knx_model.specs.DeviceFrames.{LineDevice, Outcome, Torn, Worn, at_rest, powerless, took_of, takes, takes_so, ended, got, with_last, taken_alone, taken_group, acted, moved, queued_to, with_connection, connection_took, sender, is_taken, effect_delivered, effect_of_frame, write_kind, would_write, worn_octets}
 use Rattle.device_sim.proofs.Answered.{queued_if_is, with_answer_is}
 
 acted_state : (d : LineDevice) (from : IndAddr) (now : ℕ) (fresh : Bool) (octets : List ℕ) (answer : DeviceTook) → ◌≡◌ {A = DeviceState} (acted d from now (Torn fresh octets) answer).state (with_kept d.state (torn d.state.kept (effect_delivered answer) fresh octets) d.state.power)

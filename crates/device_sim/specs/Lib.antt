@@ -1,3 +1,4 @@
+pub mod Delivery
 pub mod Effects
 pub mod Sending
 pub mod States

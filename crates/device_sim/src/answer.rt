@@ -11,12 +11,12 @@ ghost use Rattle.device_sim.specs.Wear.{served_kept};
 use crate::effect::{Effect, effect_of, is_load_control};
 use crate::kept::Kept;
 use crate::places::object_of_index;
-use crate::service::{effect_in, octets_of, service_in};
+use crate::service::effect_in;
 use crate::worn::Memory;
-use knx_model::{Apdu, ApduOctets, DEVICE_DESCRIPTOR, LOAD_CONTROL, TABLE_REFERENCE};
-
-/// The descriptor type of a device that has no descriptor of the type that is asked for.
-const NO_DESCRIPTOR: u8 = 0x3F;
+use apdu_frames::{service_in, service_octets};
+use knx_model::{
+    Apdu, ApduOctets, DEVICE_DESCRIPTOR, LOAD_CONTROL, NO_DESCRIPTOR, TABLE_REFERENCE,
+};
 
 /// The greatest length of an APDU, in octets.
 const MAX_APDU_LENGTH: u16 = 15;
@@ -27,7 +27,7 @@ const OBJECT_TYPE: u8 = 1;
 /// The property of the device that tells the greatest length of an APDU.
 const GREATEST_LENGTH: u8 = 56;
 
-fn word(n: u16) -> ApduOctets
+fn word_octets(n: u16) -> ApduOctets
     ensures { result ≡ word n }
 {
     ApduOctets::from_slice(&n.to_be_bytes())
@@ -110,10 +110,10 @@ impl Kept {
         ensures { result ≡ property_value self.now index property }
     {
         match property {
-            OBJECT_TYPE => Some(word(object_type(index)?)),
+            OBJECT_TYPE => Some(word_octets(object_type(index)?)),
             LOAD_CONTROL => self.load_state(index),
             TABLE_REFERENCE => table_reference(index),
-            GREATEST_LENGTH if index == 0 => Some(word(MAX_APDU_LENGTH)),
+            GREATEST_LENGTH if index == 0 => Some(word_octets(MAX_APDU_LENGTH)),
             _ => None,
         }
     }
@@ -149,7 +149,7 @@ impl Kept {
     {
         let service = service_in(octets)?;
         let answer = self.take_service(&service)?;
-        Some(octets_of(answer))
+        Some(service_octets(answer))
     }
 
     #[tactic(auto, using(crate::proofs::Answers::stores_unanswered))]

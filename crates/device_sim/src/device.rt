@@ -7,7 +7,6 @@ ghost use Rattle.knx_model.specs.DeviceFrames.{at_rest, cut, switched_on};
 
 use crate::kept::Kept;
 use crate::loadable::Loadable;
-use crate::sending::copied;
 use crate::values::Values;
 use knx_model::{Image, IndAddr, Ldata, LoadableObject, NoMemory, Octets};
 use std::alloc::Global;
@@ -103,7 +102,7 @@ impl Device {
     }
 
     /// What it has only while it has power is lost.
-    pub fn forget(&mut self)
+    fn forget(&mut self)
         ensures { self.new ≡ at_rest self.old.state }
     {
         self.connection = DeviceConn::idle();
@@ -141,7 +140,7 @@ impl Device {
     pub fn last(&self) -> Option<Ldata>
         ensures { result ≡ self.now.last }
     {
-        Some(copied(self.last.as_ref()?))
+        Some(self.last.as_ref()?.copied())
     }
 
     /// Whether it runs, that is whether all four objects are Loaded.

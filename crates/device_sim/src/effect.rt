@@ -5,9 +5,10 @@ ghost use Rattle.knx_model.specs.Device.{is_load_control, loads, object_of_index
 ghost use Rattle.knx_model.specs.Bench.{written_front};
 ghost use Rattle.device_sim.specs.Effects.{meant};
 
-use crate::loadable::first;
 use crate::places::object_of_index;
-use knx_model::{Apdu, ApduOctets, LOAD_CONTROL, LoadEvent, LoadableObject, NoMemory, Octets};
+use knx_model::{
+    Apdu, ApduOctets, LOAD_CONTROL, LoadEvent, LoadableObject, NoMemory, Octets, front,
+};
 use load_machine::load_event;
 use std::alloc::Global;
 
@@ -67,7 +68,7 @@ pub fn front_of(alloc: Global, effect: &Effect, k: u32) -> Result<Octets, NoMemo
             Ok(Octets::from_vec(fill))
         }
         Effect::Stores { octets, .. } => {
-            Octets::from_slice(alloc, first(octets.as_slice(), k as usize))
+            Octets::from_slice(alloc, front(octets.as_slice(), k as usize))
         }
         _ => Ok(Octets::new(alloc)),
     }

@@ -12,7 +12,7 @@ ghost use Rattle.device_sim.specs.Effects.{meant};
 use crate::device::Device;
 use crate::effect::Effect;
 use crate::given::serve;
-use crate::sending::{copied, frame_to, queue, queue_if};
+use crate::sending::{frame_to, queue, queue_if};
 use crate::service::effect_in;
 use crate::worn::Memory;
 use apdu_frames::encode;
@@ -56,7 +56,7 @@ impl Device {
         ensures err { OnErr result (self.new ≡ self.old) }
     {
         self.act(alloc, frame, now)?;
-        self.last = Some(copied(frame));
+        self.last = Some(frame.copied());
         Ok(())
     }
 
@@ -92,12 +92,8 @@ impl Device {
                 queue_if(&mut self.unsent, self.address, from, tpdu);
                 Ok(())
             }
-            DeviceTook::Again { ack } => {
-                queue(&mut self.unsent, frame_to(self.address, from, ack));
-                Ok(())
-            }
-            DeviceTook::Nak(nak) => {
-                queue(&mut self.unsent, frame_to(self.address, from, nak));
+            DeviceTook::Again { ack: tpdu } | DeviceTook::Nak(tpdu) => {
+                queue(&mut self.unsent, frame_to(self.address, from, tpdu));
                 Ok(())
             }
             DeviceTook::Closed { answer } => {
@@ -155,7 +151,7 @@ impl Device {
         ensures err { OnErr result (self.new ≡ self.old) }
     {
         self.take_alone(frame, now, Memory::Worn)?;
-        self.last = Some(copied(frame));
+        self.last = Some(frame.copied());
         Ok(())
     }
 

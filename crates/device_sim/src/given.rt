@@ -70,7 +70,7 @@ pub fn serve(
 }
 
 /// All values become zero where the load states aren't those of before.
-pub fn zero_where_changed(values: &mut Values, kept: &Kept, before: LoadStates)
+fn zero_where_changed(values: &mut Values, kept: &Kept, before: LoadStates)
     ensures { values.new ≡ (if has_states before kept.now then values.old else []) }
 {
     if !kept.has_states(before) {

@@ -8,10 +8,10 @@ ghost use Rattle.device_sim.specs.Effects.{meant};
 ghost use Rattle.device_sim.specs.States.{states_of, has_states};
 
 use crate::effect::Effect;
-use crate::loadable::{Loadable, first};
+use crate::loadable::Loadable;
 use crate::places::object_at;
 use crate::worn::complements;
-use knx_model::{LoadEvent, LoadState, LoadableObject};
+use knx_model::{LoadEvent, LoadState, LoadableObject, front};
 use std::marker::Model;
 
 /// The four loadable objects of a device.
@@ -139,7 +139,7 @@ impl Kept {
     fn store_torn(&mut self, address: u16, octets: &[u8], k: u32)
         ensures { self.new ≡ torn self.old (Stores address octets.now) (nat_lt 0 k) (take k octets.now) }
     {
-        self.scribble(address, octets, first(octets, k as usize));
+        self.scribble(address, octets, front(octets, k as usize));
     }
 
     /// Stores the complement of each of these octets.

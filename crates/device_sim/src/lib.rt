@@ -1,4 +1,4 @@
-//! The simulated device of a line (ISO/IEC 14543-3, transport and application layer, management, after System B): four loadable
+//! The simulated device of a line (ISO/IEC 14543-3-2, 3-1 and 3-4, transport and application layer, management, after System B): four loadable
 //! objects with their memory, which outlive a power cut, its end of a numbered connection, its objects' values, and what each
 //! frame does and is answered. On a bench a service is given to it by itself.
 #![tactic(auto)]
@@ -9,6 +9,7 @@ mod effect;
 mod frames;
 mod given;
 mod kept;
+mod laws;
 mod loadable;
 mod places;
 mod sending;
@@ -19,6 +20,10 @@ mod worn;
 
 pub use device::Device;
 pub use knx_model::{ApduOctets, Image, IndAddr, Ldata, NoMemory, Octets, Took, Value, WriteKind};
+pub use laws::{
+    group_telegrams_load_nothing, only_delivered_services_load, telegrams_write_by_the_tables,
+    what_is_not_taken_changes_nothing,
+};
 pub use service::written_front;
 
 #[cfg(test)]

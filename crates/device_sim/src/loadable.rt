@@ -5,7 +5,7 @@ ghost use Rattle.knx_model.specs.Loading.{load_step, load_torn, written, scribbl
 ghost use Rattle.knx_model.specs.Device.{blank_object, loaded_object};
 ghost use Rattle.knx_model.specs.Bench.{front_of_load};
 
-use knx_model::{LoadEvent, LoadState, NoMemory};
+use knx_model::{LoadEvent, LoadState, NoMemory, front};
 use load_machine::LoadMachine;
 use std::alloc::Global;
 use std::marker::Model;
@@ -158,7 +158,7 @@ impl Loadable {
         ensures { self.new ≡ scribbled self.old at n octets.now }
     {
         if self.takes_write(at, n) {
-            overlay(self.memory.as_mut_slice(), at, first(octets, n));
+            overlay(self.memory.as_mut_slice(), at, front(octets, n));
         }
     }
 
@@ -171,17 +171,6 @@ impl Loadable {
         } else {
             &[]
         }
-    }
-}
-
-/// The first n, or all where there are fewer.
-pub fn first(octets: &[u8], n: usize) -> &[u8]
-    ensures { result.now ≡ take n octets.now }
-{
-    if n <= octets.len() {
-        &octets[..n]
-    } else {
-        octets
     }
 }
 

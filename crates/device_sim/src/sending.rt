@@ -46,22 +46,6 @@ pub fn frame_to_group(address: IndAddr, group: GroupAddr, tpdu: ApduOctets) -> L
     }
 }
 
-/// The same frame again. It takes no memory.
-pub fn copied(frame: &Ldata) -> Ldata
-    ensures { result ≡ frame.now }
-{
-    Ldata {
-        code: frame.code,
-        error: frame.error,
-        group: frame.group,
-        priority: frame.priority,
-        hops: frame.hops,
-        source: frame.source,
-        destination: frame.destination,
-        tpdu: frame.tpdu.copied(),
-    }
-}
-
 /// Puts a frame behind those that wait. There is room for it.
 pub fn queue(unsent: &mut VecDeque<Ldata>, frame: Ldata)
     requires { deque_len unsent.old < deque_capacity unsent.old }

@@ -9,7 +9,7 @@ ghost use Rattle.device_sim.specs.Telegrams.{IsServiceInRange};
 
 use crate::device::Device;
 use crate::sending::frame_to_group;
-use crate::service::{octets_of, service_in};
+use apdu_frames::{service_in, service_octets};
 use device_tables::{acts, object_in_table};
 use knx_model::{Apdu, ApduOctets, GroupAddr, GroupService, Image, Ldata, NoMemory, Value};
 use std::alloc::Global;
@@ -28,7 +28,7 @@ impl Device {
     }
 
     /// Takes a frame to a group.
-    pub fn take_telegram(&mut self, alloc: Global, frame: &Ldata) -> Result<(), NoMemory>
+    pub(crate) fn take_telegram(&mut self, alloc: Global, frame: &Ldata) -> Result<(), NoMemory>
         ensures next { OnOk result (self.new ≡ taken_group self.old frame.now) }
         ensures err { OnErr result (self.new ≡ self.old) }
     {
@@ -87,7 +87,7 @@ fn response_octets(value: Value) -> ApduOctets
     requires { IsValueInRange value }
     ensures { result ≡ response_octets value }
 {
-    octets_of(Apdu::GroupResponse(value))
+    service_octets(Apdu::GroupResponse(value))
 }
 
 /// The group service that octets are; None where they are another service or none.

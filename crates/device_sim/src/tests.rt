@@ -1,4 +1,4 @@
-ghost use Rattle.std.specs.Prelude.{IfOk};
+ghost use Rattle.std.specs.Prelude.{◌≤◌, length, IfOk};
 ghost use Rattle.knx_model.specs.Device.{Fits};
 
 use crate::{Device, Ldata, Took, Value, WriteKind, written_front};
@@ -9,135 +9,39 @@ use std::test::Fail;
 
 const ADDRESS: IndAddr = IndAddr { raw: 0x1105 };
 
-const UNLOAD_APPLICATION: [u8; 16] = [0x03, 0xD7, 4, 5, 0x10, 0x01, 4, 0, 0, 0, 0, 0, 0, 0, 0, 0];
-
-/// Fails where the service isn't answered so.
-fn assert_answers(rt: &impl Abort, device: &mut Device, apdu: &[u8], wanted: Option<&[u8]>) {
-    let answer = device.give(apdu);
-    let answer = answer.as_ref().map(|octets| octets.as_slice());
-    assert_eq!(rt; answer, wanted, "at {apdu:?}");
-}
-
-/// Fails where a property read with this count and start isn't answered by these octets.
-fn assert_reads(rt: &impl Abort, device: &mut Device, read: [u8; 4], wanted: &[u8]) {
-    let [object, property, count, start] = read;
-    assert_answers(
-        rt,
-        device,
-        &[0x03, 0xD5, object, property, count, start],
-        Some(wanted),
-    );
-}
-
-#[test]
-fn descriptor_and_properties(rt: HostRuntime) -> Result<(), Fail> {
-    let device = &mut Device::blank(rt.alloc(), ADDRESS)?;
-    // the descriptor of type 0, and of another type
-    assert_answers(&rt, device, b"\x03\x00", Some(b"\x03\x40\x07\xB0"));
-    assert_answers(&rt, device, b"\x03\x01", Some(b"\x03\x7F"));
-    // the object type of the device, and the greatest length of an APDU
-    assert_reads(
-        &rt,
-        device,
-        [0, 1, 0x10, 1],
-        b"\x03\xD6\x00\x01\x10\x01\x00\x00",
-    );
-    assert_reads(
-        &rt,
-        device,
-        [0, 56, 0x10, 1],
-        b"\x03\xD6\x00\x38\x10\x01\x00\x0F",
-    );
-    // the table reference of the association table
-    assert_reads(
-        &rt,
-        device,
-        [2, 7, 0x10, 1],
-        b"\x03\xD6\x02\x07\x10\x01\x00\x00\x50\x00",
-    );
-    // two elements of it, and an element other than 1
-    assert_reads(&rt, device, [2, 7, 0x20, 1], b"\x03\xD6\x02\x07\x00\x01");
-    assert_reads(&rt, device, [2, 7, 0x10, 0], b"\x03\xD6\x02\x07\x00\x00");
-    Ok(())
-}
-
-/// Fails where a write of load control of the object isn't answered by this load state.
-fn assert_loads(rt: &impl Abort, device: &mut Device, object: u8, event: &[u8; 10], state: u8) {
-    let mut apdu = ApduOctets::from_slice(&[0x03, 0xD7, object, 5, 0x10, 0x01]);
-    apdu.extend(event);
-    let wanted = [0x03, 0xD6, object, 5, 0x10, 0x01, state];
-    assert_answers(rt, device, apdu.as_slice(), Some(&wanted));
-}
-
-const START: &[u8; 10] = b"\x01\x00\x00\x00\x00\x00\x00\x00\x00\x00";
-
-const ALLOCATE_FOUR: &[u8; 10] = b"\x03\x0B\x00\x00\x00\x04\x01\x00\x00\x00";
-
-const COMPLETE: &[u8; 10] = b"\x02\x00\x00\x00\x00\x00\x00\x00\x00\x00";
-
-const UNLOAD: &[u8; 10] = b"\x04\x00\x00\x00\x00\x00\x00\x00\x00\x00";
-
-#[test]
-fn an_address_table_is_loaded(rt: HostRuntime) -> Result<(), Fail> {
-    let device = &mut Device::blank(rt.alloc(), ADDRESS)?;
-    // memory that isn't allocated
-    assert_answers(&rt, device, b"\x02\x04\x40\x00", Some(b"\x02\x40\x40\x00"));
-    assert_loads(&rt, device, 1, START, 2);
-    assert_loads(&rt, device, 1, ALLOCATE_FOUR, 2);
-    // write two of the four octets, and read them
-    assert_answers(&rt, device, b"\x02\x82\x40\x00\xAB\xCD", None);
-    assert_answers(
-        &rt,
-        device,
-        b"\x02\x02\x40\x00",
-        Some(b"\x02\x42\x40\x00\xAB\xCD"),
-    );
-    assert_loads(&rt, device, 1, COMPLETE, 1);
-    // the application
-    assert_loads(&rt, device, 4, UNLOAD, 0);
-    // a group service has no answer
-    assert_answers(&rt, device, b"\x00\x80", None);
-    Ok(())
-}
-
-fn small_image(alloc: Global) -> Result<Image, NoMemory>
-    ensures { IfOk result Fits }
-{
-    Ok(Image {
-        addr: Octets::from_slice(alloc, &[1, 2])?,
-        assoc: Octets::from_slice(alloc, &[])?,
-        objs: Octets::from_slice(alloc, &[3])?,
-        params: Octets::from_slice(alloc, &[4, 5, 6])?,
-    })
-}
-
-#[test]
-fn a_cut_of_an_unload(rt: HostRuntime) -> Result<(), Fail> {
-    let image = small_image(rt.alloc())?;
-    let mut device = Device::loaded(rt.alloc(), ADDRESS, &image)?;
-    assert_eq!(rt; device.address(), ADDRESS);
-    assert!(rt; device.runs());
-    assert!(rt;
-        device
-            .image(rt.alloc())?
-            .is_some_and(|runs| runs.params.as_slice() == [4, 5, 6].as_slice())
-    );
-    if device.gives_write(&UNLOAD_APPLICATION) {
-        device.give_torn(&UNLOAD_APPLICATION, 1);
-    }
-    assert!(rt; !device.runs());
-    assert!(rt; device.give(&[0x03, 0x00]).is_none());
-    device.on();
-    assert!(rt; device.give(&[0x03, 0x00]).is_some());
-    let write = [0x02, 0x82, 0x40, 0x00, 0xAB, 0xCD];
-    assert_eq!(rt;
-        written_front(rt.alloc(), &write, 1)?.as_slice(),
-        [0xAB].as_slice()
-    );
-    Ok(())
-}
+const OTHER: IndAddr = IndAddr { raw: 0x1106 };
 
 const CLIENT: u16 = 0x11FF;
+
+/// What is done to a device, and what must come of it.
+#[derive(Drop)]
+enum Step<'a> {
+    /// A service is given to it, which it answers so.
+    Give(&'a [u8], Option<&'a [u8]>),
+    /// A service is given to it, and power is cut in its write after so many octets.
+    GiveTorn(&'a [u8], u32),
+    /// A frame of the client comes to it, and these it sends next.
+    Take(&'a [u8], Option<&'a [u8]>, Option<&'a [u8]>),
+    /// A frame of the client to this address comes, which it doesn't take.
+    Leave(&'a [u8], IndAddr, Took),
+    /// A frame of the client comes to it, and power is cut in its write after so many octets.
+    TakeTorn(&'a [u8], u32),
+    /// A frame of the client comes to it, and worn memory keeps the complements.
+    TakeWorn(&'a [u8]),
+    /// A frame of the client to it would be this write.
+    WouldWrite(&'a [u8], Option<WriteKind>),
+    /// The frame that it sends next.
+    Send(&'a [u8]),
+    /// The frame that it got last.
+    Last(&'a [u8]),
+    /// When a wait of its connection has passed.
+    Deadline(u64),
+    /// Whether it runs.
+    Runs(bool),
+    Shut,
+    Cut,
+    On,
+}
 
 /// A TPDU of at most 16 octets.
 fn octets(tpdu: &[u8]) -> ApduOctets {
@@ -148,83 +52,285 @@ fn octets(tpdu: &[u8]) -> ApduOctets {
     }
 }
 
-/// A frame of the client to the device.
+/// A frame of the client.
+fn frame(group: bool, destination: u16, tpdu: &[u8]) -> Ldata {
+    Ldata {
+        code: LdataCode::Req,
+        error: false,
+        group,
+        priority: 3,
+        hops: 6,
+        source: CLIENT,
+        destination,
+        tpdu: octets(tpdu),
+    }
+}
+
 fn to_device(tpdu: &[u8]) -> Ldata {
-    Ldata {
-        code: LdataCode::Req,
-        error: false,
-        group: false,
-        priority: 3,
-        hops: 6,
-        source: CLIENT,
-        destination: ADDRESS.raw,
-        tpdu: octets(tpdu),
+    frame(false, ADDRESS.raw, tpdu)
+}
+
+fn gives(device: &mut Device, apdu: &[u8], wanted: Option<&[u8]>) -> bool {
+    match (device.give(apdu), wanted) {
+        (Some(answer), Some(wanted)) => answer.as_slice() == wanted,
+        (None, None) => true,
+        _ => false,
     }
 }
 
-/// A frame of the client to the group 1/2/3.
-fn to_group(tpdu: &[u8]) -> Ldata {
-    Ldata {
-        code: LdataCode::Req,
-        error: false,
-        group: true,
-        priority: 3,
-        hops: 6,
-        source: CLIENT,
-        destination: 0x0A03,
-        tpdu: octets(tpdu),
+fn gives_torn(device: &mut Device, apdu: &[u8], k: u32) -> bool {
+    let writes = device.gives_write(apdu);
+    if writes {
+        device.give_torn(apdu, k);
+    }
+    writes
+}
+
+fn sends(device: &mut Device, wanted: Option<&[u8]>) -> bool {
+    match (device.sends(0), wanted) {
+        (Some(frame), Some(wanted)) => {
+            frame.source == ADDRESS.raw && frame.tpdu.as_slice() == wanted
+        }
+        (None, None) => true,
+        _ => false,
     }
 }
 
-/// Fails where this isn't the next frame that the device sends.
-fn assert_sends(rt: &impl Abort, device: &mut Device, wanted: Option<&[u8]>) {
-    let sent = device.sends(0);
-    assert_eq!(rt; sent.as_ref().map(|frame| frame.tpdu.as_slice()), wanted);
-    assert!(rt; sent.is_none_or(|frame| frame.source == ADDRESS.raw));
+fn takes(
+    alloc: Global,
+    device: &mut Device,
+    frame: &Ldata,
+    wanted: Took,
+) -> Result<bool, NoMemory> {
+    Ok(device.take(alloc, frame, 0)? == wanted)
 }
 
-#[test]
-fn a_descriptor_read_by_numbered_data(rt: HostRuntime) -> Result<(), Fail> {
-    let mut device = Device::blank(rt.alloc(), ADDRESS)?;
-    // a frame, and the two that the device sends next
-    let table: [(&[u8], Option<&[u8]>, Option<&[u8]>); 7] = [
-        // a closed device answers numbered data by T_Disconnect
-        (&[0x43, 0x00], Some(&[0x81]), None),
-        (&[0x80], None, None),
-        (
-            &[0x43, 0x00],
-            Some(&[0xC2]),
-            Some(&[0x43, 0x40, 0x07, 0xB0]),
-        ),
-        // the same number again is acknowledged and dropped
-        (&[0x43, 0x00], Some(&[0xC2]), None),
-        // the next one is neither taken nor acknowledged before the answer's T_ACK
-        (&[0x47, 0x00], None, None),
-        (&[0xC2], None, None),
-        (&[0x4B, 0x00], Some(&[0xCB]), None),
-    ];
-    for (tpdu, first, second) in table {
-        assert_eq!(rt; device.take(rt.alloc(), &to_device(tpdu), 0)?, Took::Taken);
-        assert_sends(&rt, &mut device, first);
-        assert_sends(&rt, &mut device, second);
+fn takes_torn(device: &mut Device, frame: &Ldata, k: u32) -> bool {
+    let writes = device.would_write(frame).is_some();
+    if writes {
+        device.take_torn(frame, k, 0);
+    }
+    writes
+}
+
+fn takes_worn(alloc: Global, device: &mut Device, frame: &Ldata) -> Result<bool, NoMemory> {
+    if let Some(WriteKind::Memory) = device.would_write(frame) {
+        device.take_worn(alloc, frame, 0)?;
+        return Ok(true);
+    }
+    Ok(false)
+}
+
+fn is_last(device: &Device, wanted: &[u8]) -> bool {
+    match device.last() {
+        Some(frame) => frame.tpdu.as_slice() == wanted,
+        None => false,
+    }
+}
+
+/// Does a step to the device, and says whether of it comes what must.
+fn goes(alloc: Global, device: &mut Device, step: &Step<'_>) -> Result<bool, NoMemory> {
+    match step {
+        Step::Give(apdu, answer) => Ok(gives(device, apdu, *answer)),
+        Step::GiveTorn(apdu, k) => Ok(gives_torn(device, apdu, *k)),
+        Step::Take(tpdu, first, second) => {
+            let taken = takes(alloc, device, &to_device(tpdu), Took::Taken)?;
+            Ok(taken && sends(device, *first) && sends(device, *second))
+        }
+        Step::Leave(tpdu, to, took) => takes(alloc, device, &frame(false, to.raw, tpdu), *took),
+        Step::TakeTorn(tpdu, k) => Ok(takes_torn(device, &to_device(tpdu), *k)),
+        Step::TakeWorn(tpdu) => takes_worn(alloc, device, &to_device(tpdu)),
+        Step::WouldWrite(tpdu, kind) => Ok(device.would_write(&to_device(tpdu)) == *kind),
+        Step::Send(tpdu) => Ok(sends(device, Some(tpdu))),
+        Step::Shut => {
+            device.shut(alloc)?;
+            Ok(true)
+        }
+        _ => Ok(stands(device, step)),
+    }
+}
+
+/// The steps that take no memory.
+fn stands(device: &mut Device, step: &Step<'_>) -> bool {
+    match step {
+        Step::Last(tpdu) => is_last(device, tpdu),
+        Step::Deadline(at) => device.deadline() == Some(*at),
+        Step::Runs(runs) => device.runs() == *runs,
+        Step::Cut => {
+            device.cut();
+            true
+        }
+        Step::On => {
+            device.on();
+            true
+        }
+        _ => false,
+    }
+}
+
+/// Fails where of a step doesn't come what must.
+fn assert_goes(
+    rt: &impl Abort,
+    alloc: Global,
+    device: &mut Device,
+    steps: &[Step<'_>],
+) -> Result<(), NoMemory> {
+    for (at, step) in steps.iter().enumerate() {
+        assert!(rt; goes(alloc, device, step)?, "step {at}");
     }
     Ok(())
 }
 
-/// Objects 1 to 4 with the flags and the size codes of a table, each linked to the group 1/2/3.
-fn linked_image(alloc: Global, objects: &[(u8, u8); 4]) -> Result<Image, NoMemory>
-    ensures { IfOk result Fits }
+#[test]
+fn descriptor_and_properties(rt: HostRuntime) -> Result<(), Fail> {
+    let device = &mut Device::blank(rt.alloc(), ADDRESS)?;
+    let steps = [
+        // the descriptor of type 0, and of another type
+        Step::Give(b"\x03\x00", Some(b"\x03\x40\x07\xB0")),
+        Step::Give(b"\x03\x01", Some(b"\x03\x7F")),
+        // the object type of the device, and the greatest length of an APDU
+        Step::Give(
+            b"\x03\xD5\x00\x01\x10\x01",
+            Some(b"\x03\xD6\x00\x01\x10\x01\x00\x00"),
+        ),
+        Step::Give(
+            b"\x03\xD5\x00\x38\x10\x01",
+            Some(b"\x03\xD6\x00\x38\x10\x01\x00\x0F"),
+        ),
+        // the table reference of the association table
+        Step::Give(
+            b"\x03\xD5\x02\x07\x10\x01",
+            Some(b"\x03\xD6\x02\x07\x10\x01\x00\x00\x50\x00"),
+        ),
+        // two elements of it, and an element other than 1
+        Step::Give(
+            b"\x03\xD5\x02\x07\x20\x01",
+            Some(b"\x03\xD6\x02\x07\x00\x01"),
+        ),
+        Step::Give(
+            b"\x03\xD5\x02\x07\x10\x00",
+            Some(b"\x03\xD6\x02\x07\x00\x00"),
+        ),
+    ];
+    assert_goes(&rt, rt.alloc(), device, &steps)?;
+    Ok(())
+}
+
+#[test]
+fn an_address_table_is_loaded(rt: HostRuntime) -> Result<(), Fail> {
+    let device = &mut Device::blank(rt.alloc(), ADDRESS)?;
+    let steps = [
+        // memory that isn't allocated
+        Step::Give(b"\x02\x04\x40\x00", Some(b"\x02\x40\x40\x00")),
+        // start loading, and an allocation of four octets
+        Step::Give(
+            b"\x03\xD7\x01\x05\x10\x01\x01\x00\x00\x00\x00\x00\x00\x00\x00\x00",
+            Some(b"\x03\xD6\x01\x05\x10\x01\x02"),
+        ),
+        Step::Give(
+            b"\x03\xD7\x01\x05\x10\x01\x03\x0B\x00\x00\x00\x04\x01\x00\x00\x00",
+            Some(b"\x03\xD6\x01\x05\x10\x01\x02"),
+        ),
+        // write two of the four octets, and read them
+        Step::Give(b"\x02\x82\x40\x00\xAB\xCD", None),
+        Step::Give(b"\x02\x02\x40\x00", Some(b"\x02\x42\x40\x00\xAB\xCD")),
+        // load completed
+        Step::Give(
+            b"\x03\xD7\x01\x05\x10\x01\x02\x00\x00\x00\x00\x00\x00\x00\x00\x00",
+            Some(b"\x03\xD6\x01\x05\x10\x01\x01"),
+        ),
+        // unload the application
+        Step::Give(UNLOAD_APPLICATION, Some(b"\x03\xD6\x04\x05\x10\x01\x00")),
+        // a group service has no answer
+        Step::Give(b"\x00\x80", None),
+    ];
+    assert_goes(&rt, rt.alloc(), device, &steps)?;
+    Ok(())
+}
+
+/// A device that is loaded with these tables and this parameter memory.
+fn loaded(
+    alloc: Global,
+    addr: &[u8],
+    assoc: &[u8],
+    objs: &[u8],
+    params: &[u8],
+) -> Result<Device, NoMemory>
+    requires addr { length addr.now ≤ 20 }
+    requires assoc { length assoc.now ≤ 20 }
+    requires objs { length objs.now ≤ 20 }
+    requires params { length params.now ≤ 20 }
 {
-    let [(f, s), (g, t), (h, u), (i, v)] = *objects;
-    Ok(Image {
-        addr: Octets::from_slice(alloc, &[0, 1, 0x0A, 0x03])?,
-        assoc: Octets::from_slice(
-            alloc,
-            &[0, 4, 0, 1, 0, 1, 0, 1, 0, 2, 0, 1, 0, 3, 0, 1, 0, 4],
-        )?,
-        objs: Octets::from_slice(alloc, &[0, 4, f, s, g, t, h, u, i, v])?,
-        params: Octets::from_slice(alloc, &[])?,
-    })
+    let image = Image {
+        addr: Octets::from_slice(alloc, addr)?,
+        assoc: Octets::from_slice(alloc, assoc)?,
+        objs: Octets::from_slice(alloc, objs)?,
+        params: Octets::from_slice(alloc, params)?,
+    };
+    Device::loaded(alloc, ADDRESS, &image)
+}
+
+fn small(alloc: Global) -> Result<Device, NoMemory> {
+    loaded(alloc, b"\x01\x02", b"", b"\x03", b"\x04\x05\x06")
+}
+
+fn has_params(alloc: Global, device: &Device, params: &[u8]) -> Result<bool, NoMemory> {
+    match device.image(alloc)? {
+        Some(image) => Ok(image.params.as_slice() == params),
+        None => Ok(false),
+    }
+}
+
+#[test]
+fn a_device_is_loaded_with_an_image(rt: HostRuntime) -> Result<(), Fail> {
+    let device = small(rt.alloc())?;
+    assert!(rt; device.address() == ADDRESS);
+    assert!(rt; has_params(rt.alloc(), &device, b"\x04\x05\x06")?);
+    Ok(())
+}
+
+const UNLOAD_APPLICATION: &[u8] =
+    b"\x03\xD7\x04\x05\x10\x01\x04\x00\x00\x00\x00\x00\x00\x00\x00\x00";
+
+#[test]
+fn a_cut_of_an_unload(rt: HostRuntime) -> Result<(), Fail> {
+    let device = &mut small(rt.alloc())?;
+    let steps = [
+        Step::Runs(true),
+        Step::GiveTorn(UNLOAD_APPLICATION, 1),
+        Step::Runs(false),
+        Step::Give(b"\x03\x00", None),
+        Step::On,
+        Step::Give(b"\x03\x00", Some(b"\x03\x40\x07\xB0")),
+    ];
+    assert_goes(&rt, rt.alloc(), device, &steps)?;
+    Ok(())
+}
+
+#[test]
+fn the_front_of_a_write(rt: HostRuntime) -> Result<(), Fail> {
+    let front = written_front(rt.alloc(), b"\x02\x82\x40\x00\xAB\xCD", 1)?;
+    assert!(rt; front.as_slice() == b"\xAB".as_slice());
+    Ok(())
+}
+
+#[test]
+fn a_descriptor_read_by_numbered_data(rt: HostRuntime) -> Result<(), Fail> {
+    let device = &mut Device::blank(rt.alloc(), ADDRESS)?;
+    let steps = [
+        // a closed device answers numbered data by T_Disconnect
+        Step::Take(b"\x43\x00", Some(b"\x81"), None),
+        Step::Take(b"\x80", None, None),
+        Step::Take(b"\x43\x00", Some(b"\xC2"), Some(b"\x43\x40\x07\xB0")),
+        // the same number again is acknowledged and dropped
+        Step::Take(b"\x43\x00", Some(b"\xC2"), None),
+        // the next one is neither taken nor acknowledged before the answer's T_ACK
+        Step::Take(b"\x47\x00", None, None),
+        Step::Take(b"\xC2", None, None),
+        Step::Take(b"\x4B\x00", Some(b"\xCB"), None),
+    ];
+    assert_goes(&rt, rt.alloc(), device, &steps)?;
+    Ok(())
 }
 
 fn is_short(value: Option<Value>, wanted: u8) -> bool {
@@ -241,83 +347,108 @@ fn is_long(value: Option<Value>, wanted: &[u8]) -> bool {
     }
 }
 
-#[test]
-fn group_telegrams_by_flag_and_size(rt: HostRuntime) -> Result<(), Fail> {
-    // communicate and write; write alone; communicate, update and read; communicate, write and read, of one octet
-    let image = linked_image(rt.alloc(), &[(0x17, 0), (0x13, 0), (0x8F, 3), (0x1F, 7)])?;
-    let mut device = Device::loaded(rt.alloc(), ADDRESS, &image)?;
-    assert!(rt; device.value(5).is_none());
-    // a write of a short value, a response, a write of one octet and one of two
-    let table: [(&[u8], [u8; 3], &[u8]); 4] = [
-        (&[0x00, 0x81], [1, 0, 0], &[0]),
-        (&[0x00, 0x42], [1, 0, 2], &[0]),
-        (&[0x00, 0x80, 0x5A], [1, 0, 2], &[0x5A]),
-        (&[0x00, 0x80, 0x5B, 0x5C], [1, 0, 2], &[0x5A]),
-    ];
-    for (tpdu, [first, second, third], fourth) in table {
-        device.take(rt.alloc(), &to_group(tpdu), 0)?;
-        assert!(rt; is_short(device.value(1), first), "at {tpdu:?}");
-        assert!(rt; is_short(device.value(2), second), "at {tpdu:?}");
-        assert!(rt; is_short(device.value(3), third), "at {tpdu:?}");
-        assert!(rt; is_long(device.value(4), fourth), "at {tpdu:?}");
-    }
-    // the lowest object with read answers
-    device.take(rt.alloc(), &to_group(&[0x00, 0x00]), 0)?;
-    assert_sends(&rt, &mut device, Some(&[0x00, 0x42]));
+/// Whether the objects 1 to 3 have these short values, and object 4 this long one.
+fn has_values(device: &Device, short: [u8; 3], long: &[u8]) -> bool {
+    let [first, second, third] = short;
+    is_short(device.value(1), first)
+        && is_short(device.value(2), second)
+        && is_short(device.value(3), third)
+        && is_long(device.value(4), long)
+}
+
+/// Fails where after the telegram to 1/2/3 the objects 1 to 4 haven't these values.
+fn assert_leaves(
+    rt: &impl Abort,
+    device: &mut Device,
+    alloc: Global,
+    tpdu: &[u8],
+    short: [u8; 3],
+    long: &[u8],
+) -> Result<(), NoMemory> {
+    let taken = takes(alloc, device, &frame(true, 0x0A03, tpdu), Took::Taken)?;
+    assert!(rt; taken && has_values(device, short, long), "at {tpdu:?}");
     Ok(())
 }
 
+/// The objects 1 to 4 are linked to the group 1/2/3. Their flags are communicate and write; write alone; communicate, update and read;
+/// communicate, write and read. The last one is of one octet.
+fn linked(alloc: Global) -> Result<Device, NoMemory> {
+    loaded(
+        alloc,
+        b"\x00\x01\x0A\x03",
+        b"\x00\x04\x00\x01\x00\x01\x00\x01\x00\x02\x00\x01\x00\x03\x00\x01\x00\x04",
+        b"\x00\x04\x17\x00\x13\x00\x8F\x03\x1F\x07",
+        b"",
+    )
+}
+
+#[test]
+fn group_telegrams_by_flag_and_size(rt: HostRuntime) -> Result<(), Fail> {
+    let device = &mut linked(rt.alloc())?;
+    // a write of a short value, a response, a write of one octet and one of two, and a read
+    let table: [(&[u8], [u8; 3], &[u8]); 5] = [
+        (b"\x00\x81", [1, 0, 0], b"\x00"),
+        (b"\x00\x42", [1, 0, 2], b"\x00"),
+        (b"\x00\x80\x5A", [1, 0, 2], b"\x5A"),
+        (b"\x00\x80\x5B\x5C", [1, 0, 2], b"\x5A"),
+        (b"\x00\x00", [1, 0, 2], b"\x5A"),
+    ];
+    for (tpdu, short, long) in table {
+        assert_leaves(&rt, device, rt.alloc(), tpdu, short, long)?;
+    }
+    // there is no object 5, and the lowest object with read answers
+    assert!(rt; device.value(5).is_none());
+    assert!(rt; sends(device, Some(b"\x00\x42")));
+    Ok(())
+}
+
+/// Unload the address table, by numbered data.
+const UNLOAD: &[u8] = b"\x43\xD7\x01\x05\x10\x01\x04\x00\x00\x00\x00\x00\x00\x00\x00\x00";
+
 #[test]
 fn a_write_by_frames(rt: HostRuntime) -> Result<(), Fail> {
-    let image = small_image(rt.alloc())?;
-    let mut device = Device::loaded(rt.alloc(), ADDRESS, &image)?;
-    let unload = to_device(&[0x43, 0xD7, 1, 5, 0x10, 0x01, 4, 0, 0, 0, 0, 0, 0, 0, 0, 0]);
-    assert!(rt; device.would_write(&unload).is_none());
-    device.take(rt.alloc(), &to_device(&[0x80]), 0)?;
-    assert!(rt; device.would_write(&unload) == Some(WriteKind::Load));
-    assert_eq!(rt; device.deadline(), Some(6000));
-    let mut other = to_device(&[0x43, 0x00]);
-    other.destination = 0x1106;
-    assert_eq!(rt; device.take(rt.alloc(), &other, 0)?, Took::NotMine);
-    assert!(rt;
-        device
-            .last()
-            .is_some_and(|last| last.tpdu.as_slice() == [0x80].as_slice())
-    );
-    device.shut(rt.alloc())?;
-    assert_sends(&rt, &mut device, Some(&[0x81]));
-    device.cut();
-    assert_eq!(rt; device.take(rt.alloc(), &unload, 0)?, Took::Off);
-    device.on();
-    device.take(rt.alloc(), &to_device(&[0x80]), 0)?;
-    if device.would_write(&unload).is_some() {
-        device.take_torn(&unload, 0, 0);
-    }
-    assert!(rt; device.runs());
+    let device = &mut small(rt.alloc())?;
+    let steps = [
+        Step::WouldWrite(UNLOAD, None),
+        Step::Take(b"\x80", None, None),
+        Step::WouldWrite(UNLOAD, Some(WriteKind::Load)),
+        Step::Deadline(6000),
+        Step::Leave(b"\x43\x00", OTHER, Took::NotMine),
+        Step::Last(b"\x80"),
+        Step::Shut,
+        Step::Send(b"\x81"),
+        Step::Cut,
+        Step::Leave(UNLOAD, ADDRESS, Took::Off),
+        Step::On,
+        Step::Take(b"\x80", None, None),
+        Step::TakeTorn(UNLOAD, 0),
+        Step::Runs(true),
+    ];
+    assert_goes(&rt, rt.alloc(), device, &steps)?;
     Ok(())
 }
 
 #[test]
 fn worn_memory_keeps_other_octets(rt: HostRuntime) -> Result<(), Fail> {
-    let mut device = Device::blank(rt.alloc(), ADDRESS)?;
-    let start: [u8; 16] = [0x43, 0xD7, 1, 5, 0x10, 0x01, 1, 0, 0, 0, 0, 0, 0, 0, 0, 0];
-    let allocate: [u8; 16] = [
-        0x47, 0xD7, 1, 5, 0x10, 0x01, 3, 0x0B, 0, 0, 0, 2, 1, 0, 0, 0,
+    let device = &mut Device::blank(rt.alloc(), ADDRESS)?;
+    let steps = [
+        Step::Take(b"\x80", None, None),
+        // start loading, and an allocation of two octets
+        Step::Take(
+            b"\x43\xD7\x01\x05\x10\x01\x01\x00\x00\x00\x00\x00\x00\x00\x00\x00",
+            Some(b"\xC2"),
+            Some(b"\x43\xD6\x01\x05\x10\x01\x02"),
+        ),
+        Step::Take(b"\xC2", None, None),
+        Step::Take(
+            b"\x47\xD7\x01\x05\x10\x01\x03\x0B\x00\x00\x00\x02\x01\x00\x00\x00",
+            Some(b"\xC6"),
+            Some(b"\x47\xD6\x01\x05\x10\x01\x02"),
+        ),
+        Step::Take(b"\xC6", None, None),
+        Step::TakeWorn(b"\x4A\x82\x40\x00\x00\x5F"),
+        Step::Give(b"\x02\x02\x40\x00", Some(b"\x02\x42\x40\x00\xFF\xA0")),
     ];
-    let before: [&[u8]; 5] = [&[0x80], &start, &[0xC2], &allocate, &[0xC6]];
-    for tpdu in before {
-        device.take(rt.alloc(), &to_device(tpdu), 0)?;
-    }
-    let write = to_device(&[0x4A, 0x82, 0x40, 0x00, 0x00, 0x5F]);
-    if let Some(WriteKind::Memory) = device.would_write(&write) {
-        device.take_worn(rt.alloc(), &write, 0)?;
-    }
-    assert_eq!(rt;
-        device
-            .give(&[0x02, 0x02, 0x40, 0x00])
-            .as_ref()
-            .map(|octets| octets.as_slice()),
-        Some([0x02, 0x42, 0x40, 0x00, 0xFF, 0xA0].as_slice())
-    );
+    assert_goes(&rt, rt.alloc(), device, &steps)?;
     Ok(())
 }

@@ -7,24 +7,14 @@ ghost use Rattle.knx_model.specs.DeviceFrames.{slot, value_or_zero, written_valu
 ghost use Rattle.device_tables.specs.Objects.{holds};
 
 use device_tables::{Objects, zero_value};
-use knx_model::{LongValue, NoMemory, Value};
+use knx_model::{NoMemory, Value};
 use std::alloc::Global;
 use std::marker::Model;
-
-/// The same value again. It takes no memory.
-fn copied(value: &Value) -> Value
-    ensures { result ≡ value.now }
-{
-    match value {
-        Value::Short(bits) => Value::Short(*bits),
-        Value::Long(octets) => Value::Long(LongValue::from_slice(octets.as_slice())),
-    }
-}
 
 fn copied_slot(slot: &Option<Value>) -> Option<Value>
     ensures { result ≡ slot.now }
 {
-    Some(copied(slot.as_ref()?))
+    Some(slot.as_ref()?.copied())
 }
 
 /// How many object numbers there are, from 0.
@@ -114,7 +104,7 @@ impl Values {
         ensures range { IfSome result IsValueInRange }
     {
         if objects.has(object as u8) {
-            Some(copied(value))
+            Some(value.copied())
         } else {
             self.slot(object)
         }

@@ -1,8 +1,7 @@
 -- The numbers of two octets of a list, and the entries of the tables, by index.
-use Rattle.std.proofs.Common.{◌≡◌, ℕ, zero, suc, ◌+◌, ◌*◌, ◌<◌, ◌≤◌, List, [], ◌∷◌, length, take, get_or, Option, Some, None, refl, ◌∙◌, add-one, arith}
+use Rattle.std.proofs.Common.{◌≡◌, ℕ, zero, suc, ◌+◌, ◌*◌, ◌<◌, ◌≤◌, List, [], ◌∷◌, length, take, get_or, Some, None, refl, ◌∙◌, add-one, arith}
 use Rattle.std.specs.Prelude.{slice_get}
-use Rattle.knx_model.specs.declared.config.ObjSpec.{ObjSpec}
-use Rattle.knx_model.specs.Acts.{numbers, first_entries, in_pairs, first_pairs, in_specs, at_place}
+use Rattle.knx_model.specs.Acts.{numbers, in_pairs, first_pairs, in_specs}
 
 pub twice : (i : ℕ) → 2 * suc i ≡ suc (suc (2 * i))
 twice i = omega arith

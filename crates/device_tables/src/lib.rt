@@ -1,11 +1,10 @@
-//! What the tables of a running device say of a group telegram (ISO/IEC 14543-3, application layer; the tables and the group
+//! What the tables of a running device say of a group telegram (ISO/IEC 14543-3-1, application layer; the tables and the group
 //! objects after System B): which objects take its value, and which one answers it. All is total: a table is any octets.
 #![tactic(auto)]
 
 mod laws;
 mod links;
 mod objects;
-mod outcome;
 mod table;
 mod telegram;
 mod value;
@@ -13,8 +12,7 @@ mod value;
 pub use knx_model::{GroupAddr, GroupService, Image, LongValue, NoMemory, ObjSpec, Octets, Value};
 pub use laws::{agrees, linked_exactly};
 pub use links::linked;
-pub use objects::Objects;
-pub use outcome::Acts;
+pub use objects::{Acts, Objects};
 pub use table::object_in_table;
 pub use telegram::acts;
 pub use value::{takes_form, zero_value};

@@ -1,4 +1,4 @@
-//! Sets of object numbers.
+//! Sets of object numbers, and those that a group telegram acts on.
 
 ghost use Rattle.std.specs.Prelude.{◌≡◌, ℕ, ◌<◌, ◌||◌, ◌==◌, false, length};
 ghost use Rattle.device_tables.specs.Objects.{holds};
@@ -6,7 +6,7 @@ ghost use Rattle.device_tables.specs.Objects.{holds};
 use std::marker::Model;
 
 /// A set of object numbers, 1 to 255.
-#[derive(Clone, Copy, Debug, PartialEq, Eq)]
+#[derive(Clone, Copy)]
 pub struct Objects {
     held: [bool; 256],
 }
@@ -42,4 +42,11 @@ impl Objects {
     {
         self.held[usize::from(object)] = true;
     }
+}
+
+/// The objects to which a telegram's value is written, and the object whose value answers it.
+#[derive(Clone, Copy)]
+pub struct Acts {
+    pub written: Objects,
+    pub answers: Option<u8>,
 }

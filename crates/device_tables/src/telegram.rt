@@ -5,20 +5,10 @@ ghost use Rattle.knx_model.specs.Acts.{has_flag, accepts, can_answer, writes, ma
 ghost use Rattle.device_tables.specs.Objects.{holds};
 
 use crate::links::linked;
-use crate::objects::Objects;
-use crate::outcome::Acts;
+use crate::objects::{Acts, Objects};
 use crate::table::object_in_table;
 use crate::value::takes_form;
-use knx_model::{GroupAddr, GroupService, Image, ObjSpec};
-
-/// The flag update in a flag octet.
-const UPDATE: u8 = 0x80;
-/// The flag write.
-const WRITE: u8 = 0x10;
-/// The flag read.
-const READ: u8 = 0x08;
-/// The flag communicate.
-const COMMUNICATE: u8 = 0x04;
+use knx_model::{COMMUNICATE, GroupAddr, GroupService, Image, ObjSpec, READ, UPDATE, WRITE};
 
 fn has_flag(object: ObjSpec, flag: u8) -> bool
     ensures { result ≡ has_flag object flag }

@@ -1,28 +1,18 @@
-//! The operations of a load plan (ISO/IEC 14543-3, application layer and management): a service, and the answer that it expects.
+//! The operations of a load plan (ISO/IEC 14543-3-1 and 3-4, application layer and management): a service, and the answer that it expects.
 
 ghost use Rattle.std.specs.Prelude.{◌≡◌, ◌+◌, ◌*◌, ◌<◌, ◌≤◌, length};
 ghost use Rattle.knx_model.specs.Apdu.{IsApduInRange};
-ghost use Rattle.knx_model.specs.ApduReading.{apdu_octets};
 ghost use Rattle.knx_model.specs.Device.{capacity};
-ghost use Rattle.knx_model.specs.Plan.{op_of, asks, tells, load_octets, loads, reads_base, piece, piece_count, writes_piece, reads_piece};
-ghost use Rattle.download_plan.specs.Step.{step_operation, IsShort, IsStepOf};
+ghost use Rattle.knx_model.specs.Plan.{op_of, asks, tells, loads, reads_base, piece, piece_count, writes_piece, reads_piece};
+ghost use Rattle.download_plan.specs.Step.{step_operation, IsStepOf};
 
 use crate::step::Step;
-use apdu_frames::encode;
+use apdu_frames::service_octets;
 use knx_model::{
-    Apdu, ApduOctets, Expect, LOAD_CONTROL, LoadEvent, LoadState, LoadableObject, Op,
-    TABLE_REFERENCE, Tpdu,
+    Apdu, ApduOctets, Expect, LOAD_CONTROL, LoadEvent, LoadState, LoadableObject,
+    MOST_MEMORY_OCTETS, Op, TABLE_REFERENCE, front,
 };
-
-/// How many octets one memory service carries.
-pub const PIECE: usize = 12;
-
-fn octets_of(service: Apdu) -> ApduOctets
-    requires { IsApduInRange service }
-    ensures { result ≡ apdu_octets service }
-{
-    encode(&Tpdu::Unnumbered(service))
-}
+use load_machine::load_octets;
 
 /// A service that expects just this answer.
 pub fn asks(service: Apdu, expected: Apdu) -> Op
@@ -31,8 +21,8 @@ pub fn asks(service: Apdu, expected: Apdu) -> Op
     ensures { result ≡ op_of (asks service expected) }
 {
     Op::Send {
-        apdu: octets_of(service),
-        expect: Expect::Is(octets_of(expected)),
+        apdu: service_octets(service),
+        expect: Expect::Is(service_octets(expected)),
     }
 }
 
@@ -42,43 +32,13 @@ fn tells(service: Apdu) -> Op
     ensures { result ≡ op_of (tells service) }
 {
     Op::Send {
-        apdu: octets_of(service),
+        apdu: service_octets(service),
         expect: Expect::AckOnly,
     }
 }
 
-fn load_octets(event: LoadEvent) -> ApduOctets
-    requires { IsShort event }
-    ensures value { result ≡ load_octets event }
-    ensures len { length result ≡ 10 }
-{
-    let octets = match event {
-        LoadEvent::NoOperation => [0, 0, 0, 0, 0, 0, 0, 0, 0, 0],
-        LoadEvent::StartLoading => [1, 0, 0, 0, 0, 0, 0, 0, 0, 0],
-        LoadEvent::LoadCompleted => [2, 0, 0, 0, 0, 0, 0, 0, 0, 0],
-        LoadEvent::Allocate { size, fill } => {
-            [
-                3,
-                0x0B,
-                0,
-                0,
-                (size >> 8) as u8,
-                (size & 0xFF) as u8,
-                1,
-                fill,
-                0,
-                0,
-            ]
-        }
-        LoadEvent::Unload => [4, 0, 0, 0, 0, 0, 0, 0, 0, 0],
-        LoadEvent::Undefined => [5, 0, 0, 0, 0, 0, 0, 0, 0, 0],
-    };
-    ApduOctets::from_slice(&octets)
-}
-
 /// A load event to an object, which expects the state after it.
 pub fn load(object: LoadableObject, event: LoadEvent, state: LoadState) -> Op
-    requires { IsShort event }
     ensures { result ≡ op_of (loads object event state) }
 {
     let index = object.index();
@@ -129,13 +89,8 @@ fn piece_at(list: &[u8], k: u32) -> ApduOctets
     ensures some { 1 ≤ length result }
     ensures few { length result ≤ 12 }
 {
-    let rest = &list[PIECE * k as usize..];
-    let piece = if rest.len() <= PIECE {
-        rest
-    } else {
-        &rest[..PIECE]
-    };
-    ApduOctets::from_slice(piece)
+    let rest = &list[MOST_MEMORY_OCTETS * k as usize..];
+    ApduOctets::from_slice(front(rest, MOST_MEMORY_OCTETS))
 }
 
 fn write_piece(object: LoadableObject, list: &[u8], k: u32) -> Op
@@ -143,7 +98,7 @@ fn write_piece(object: LoadableObject, list: &[u8], k: u32) -> Op
     requires room { length list.now ≤ capacity object }
     ensures { result ≡ op_of (writes_piece object list.now k) }
 {
-    let address = object.base() + PIECE as u16 * k as u16;
+    let address = object.base() + MOST_MEMORY_OCTETS as u16 * k as u16;
     tells(Apdu::MemoryWrite {
         address,
         octets: piece_at(list, k),
@@ -155,7 +110,7 @@ fn read_piece(object: LoadableObject, list: &[u8], k: u32) -> Op
     requires room { length list.now ≤ capacity object }
     ensures { result ≡ op_of (reads_piece object list.now k) }
 {
-    let address = object.base() + PIECE as u16 * k as u16;
+    let address = object.base() + MOST_MEMORY_OCTETS as u16 * k as u16;
     let octets = piece_at(list, k);
     asks(
         Apdu::MemoryRead {

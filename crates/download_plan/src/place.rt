@@ -6,9 +6,9 @@ ghost use Rattle.knx_model.specs.Device.{Fits, capacity};
 ghost use Rattle.knx_model.specs.Plan.{piece_count, loading, load_operations, load_plan};
 ghost use Rattle.download_plan.specs.Step.{list_of};
 
-use crate::operation::{PIECE, step_operation};
+use crate::operation::step_operation;
 use crate::step::step_at;
-use knx_model::{Image, LoadableObject, Op};
+use knx_model::{Image, LoadableObject, MOST_MEMORY_OCTETS, Op};
 
 /// An operation of one object's loading, by its number there.
 #[derive(Clone, Copy)]
@@ -35,7 +35,7 @@ fn piece_count(list: &[u8]) -> u32
     requires { length list.now ≤ 0x2000 }
     ensures { result ≡ piece_count list.now }
 {
-    list.len().div_ceil(PIECE) as u32
+    list.len().div_ceil(MOST_MEMORY_OCTETS) as u32
 }
 
 /// How many operations load an object.

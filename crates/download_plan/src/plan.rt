@@ -2,8 +2,8 @@
 
 ghost use Rattle.std.specs.Prelude.{◌≡◌, ◌<◌, length, Some};
 ghost use Rattle.std.specs.List.{slice_get};
-ghost use Rattle.knx_model.specs.Device.{Fits, NonVolatile, runs};
-ghost use Rattle.knx_model.specs.Plan.{load_plan, GoodPlan, Serves, HasCapacities};
+ghost use Rattle.knx_model.specs.Device.{Fits};
+ghost use Rattle.knx_model.specs.Plan.{load_plan};
 
 use crate::operation::{asks, load};
 use crate::place::{object_op, operation_count};
@@ -43,10 +43,11 @@ impl LoadPlan {
         &self.image
     }
 
-    /// How many operations there are.
+    /// How many operations there are; the lists of the image are within the capacities of their segments.
     #[tactic(auto, using(crate::proofs::Places::plan_length, crate::proofs::Places::operations_length))]
     pub fn len(&self) -> u32
-        ensures { result ≡ length (load_plan self.now) }
+        ensures value { result ≡ length (load_plan self.now) }
+        ensures fits { Fits self.now }
     {
         let image = &self.image;
         2 + operation_count(image, LoadableObject::AddressTable)
@@ -76,15 +77,5 @@ impl LoadPlan {
             ),
             _ => object_op(&self.image, k - 2),
         }
-    }
-
-    /// Whatever a device holds, any beginning of the plan leaves it as it was, or stopped, or with the image, and a device that
-    /// nothing disturbs gives every expected answer and then runs the image.
-    #[tactic(auto, using(crate::proofs::Octets::plan_good, crate::proofs::Octets::plan_serves))]
-    pub fn keeps(&self)
-        ensures good { GoodPlan (load_plan self.now) self.now }
-        ensures serves { (nv : NonVolatile) → HasCapacities nv → Serves (λ after. runs after ≡ Some self.now) (load_plan self.now) nv }
-    {
-        let _image = &self.image;
     }
 }

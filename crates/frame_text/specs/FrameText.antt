@@ -1,8 +1,7 @@
 -- The text of a datagram of KNXnet/IP, in up to three lines: the frame of KNXnet/IP, the frame of the link layer in a tunnelling
 -- request, and the TPDU in that one. Where octets are no frame, the last line has the number and the word of the least rule that
 -- they break. Numbers are decimal; octets are two hexadecimal digits each, with capital letters.
-use Rattle.std.specs.Prelude.{◌≡◌, ℕ, ◌/◌, ◌%◌, ◌+◌, Bool, ◌&&◌, ◌⊎◌, nat_lt, nat_le, codes, List, [], ◌∷◌, ◌++◌, length, Option, Some, None, if◌then◌else◌}
-use Rattle.std.specs.List.{join_with_byte, flat_map}
+use Rattle.std.specs.Prelude.{◌≡◌, ℕ, Bool, ◌&&◌, ◌⊎◌, nat_le, codes, List, [], ◌∷◌, ◌++◌, length, Option, Some, None, if◌then◌else◌}
 use Rattle.std.specs.Fmt.{decimal}
 use Rattle.knx_model.specs.declared.address.IndAddr.{IndAddr}
 use Rattle.knx_model.specs.declared.frames.value.Value.{Value}
@@ -12,16 +11,13 @@ use Rattle.knx_model.specs.declared.frames.tpdu.Apdu.TheVariants.{GroupRead, Gro
 use Rattle.knx_model.specs.declared.frames.tpdu.Tpdu.{Tpdu}
 use Rattle.knx_model.specs.declared.frames.tpdu.Tpdu.TheVariants.{Unnumbered, Numbered, Connect, Disconnect, Ack, Nak}
 use Rattle.knx_model.specs.declared.frames.tpdu.TpduRefused.{TpduRefused}
-use Rattle.knx_model.specs.declared.frames.tpdu.TpduRefused.TheVariants as tpdu_refused
 use Rattle.knx_model.specs.declared.frames.cemi.Ldata.{Ldata}
 use Rattle.knx_model.specs.declared.frames.cemi.LdataCode.{LdataCode}
 use Rattle.knx_model.specs.declared.frames.cemi.LdataCode.TheVariants.{Req, Con, Ind}
 use Rattle.knx_model.specs.declared.frames.cemi.CemiRefused.{CemiRefused}
-use Rattle.knx_model.specs.declared.frames.cemi.CemiRefused.TheVariants as cemi_refused
 use Rattle.knx_model.specs.declared.frames.ip.IpFrame.{IpFrame}
 use Rattle.knx_model.specs.declared.frames.ip.IpFrame.TheVariants.{ConnectRequest, ConnectResponse, StateRequest, StateResponse, DisconnectRequest, DisconnectResponse, TunnellingRequest, TunnellingAck}
 use Rattle.knx_model.specs.declared.frames.ip.IpRefused.{IpRefused}
-use Rattle.knx_model.specs.declared.frames.ip.IpRefused.TheVariants as ip_refused
 use Rattle.knx_model.specs.Apdu as tpdu
 use Rattle.knx_model.specs.Cemi as cemi
 use Rattle.knx_model.specs.KnxNetIp as ip
@@ -108,12 +104,6 @@ tpdu_fields (Numbered number apdu) = decimal number ∷ apdu_words apdu
 abbrev pub tpdu_words : Tpdu → List (List ℕ)
 tpdu_words frame = tpdu_name frame ∷ tpdu_fields frame
 
-abbrev pub tpdu_why : TpduRefused → List ℕ
-tpdu_why tpdu_refused.Empty = codes "Empty"
-tpdu_why tpdu_refused.Code = codes "Code"
-tpdu_why tpdu_refused.Length = codes "Length"
-tpdu_why tpdu_refused.Count = codes "Count"
-
 -- a refusal's number and its word
 abbrev pub refusal_words : ℕ → List ℕ → List (List ℕ)
 refusal_words number why = codes "refused" ∷ decimal number ∷ why ∷ []
@@ -122,7 +112,7 @@ abbrev pub tpdu_line : Tpdu → List ℕ
 tpdu_line frame = line (codes "tpdu" ∷ tpdu_words frame)
 
 abbrev pub tpdu_refusal_line : TpduRefused → List ℕ
-tpdu_refusal_line why = line (codes "tpdu" ∷ refusal_words (tpdu.refusal_number why) (tpdu_why why))
+tpdu_refusal_line why = line (codes "tpdu" ∷ refusal_words (tpdu.refusal_number why) (tpdu.refusal_word why))
 
 -- ---- the frame of the link layer
 
@@ -147,17 +137,11 @@ cemi_words frame =
     code_word frame.code ∷ destination_word frame.group ∷ individual_word frame.source ∷ destination_text frame.group frame.destination
     ∷ codes "priority" ∷ decimal frame.priority ∷ codes "hops" ∷ decimal frame.hops ∷ error_words frame.error
 
-abbrev pub cemi_why : CemiRefused → List ℕ
-cemi_why cemi_refused.Short = codes "Short"
-cemi_why cemi_refused.Code = codes "Code"
-cemi_why cemi_refused.Extended = codes "Extended"
-cemi_why cemi_refused.Length = codes "Length"
-
 abbrev pub cemi_line : Ldata → List ℕ
 cemi_line frame = line (codes "cemi" ∷ cemi_words frame)
 
 abbrev pub cemi_refusal_line : CemiRefused → List ℕ
-cemi_refusal_line why = line (codes "cemi" ∷ refusal_words (cemi.refusal_number why) (cemi_why why))
+cemi_refusal_line why = line (codes "cemi" ∷ refusal_words (cemi.refusal_number why) (cemi.refusal_word why))
 
 -- ---- the frame of KNXnet/IP
 
@@ -199,17 +183,11 @@ ip_fields (TunnellingAck channel number status) = channel_words channel ++ numbe
 abbrev pub ip_words : IpFrame → List (List ℕ)
 ip_words frame = ip_name frame ∷ ip_fields frame
 
-abbrev pub ip_why : IpRefused → List ℕ
-ip_why ip_refused.Header = codes "Header"
-ip_why ip_refused.Service = codes "Service"
-ip_why ip_refused.Length = codes "Length"
-ip_why ip_refused.Body = codes "Body"
-
 abbrev pub ip_line : IpFrame → List ℕ
 ip_line frame = line (codes "ip" ∷ ip_words frame)
 
 abbrev pub ip_refusal_line : IpRefused → List ℕ
-ip_refusal_line why = line (codes "ip" ∷ refusal_words (ip.refusal_number why) (ip_why why))
+ip_refusal_line why = line (codes "ip" ∷ refusal_words (ip.refusal_number why) (ip.refusal_word why))
 
 -- ---- the text of octets
 

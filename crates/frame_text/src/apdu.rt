@@ -1,4 +1,4 @@
-//! A service of the application layer (ISO/IEC 14543-3) and its fields.
+//! A service of the application layer (ISO/IEC 14543-3-1) and its fields.
 
 ghost use Rattle.std.specs.Prelude.{◌≡◌, ◌∷◌, [], ◌++◌, OnOk, codes};
 ghost use Rattle.std.specs.Fmt.{decimal};
@@ -7,8 +7,8 @@ ghost use Rattle.frame_text.specs.Spaced.{spaced};
 ghost use Rattle.knx_model.specs.ReportText.{hex_text, octets_text};
 ghost use Rattle.frame_text.specs.FrameText.{value_text, property_words, property_fields, apdu_name, apdu_fields, apdu_words};
 
-use crate::pieces::{put_decimal, put_hex_word, put_individual, put_octets, put_word};
-use knx_model::{Apdu, NoMemory, Octets, Value};
+use crate::pieces::{put_hex_word, put_octets};
+use knx_model::{Apdu, NoMemory, Octets, Value, put_device_word, put_number_word, put_word};
 use report_text::put_digits;
 use std::alloc::Global;
 
@@ -39,10 +39,10 @@ fn put_descriptor(
 ) -> Result<(), NoMemory>
     ensures { OnOk result (out.new ≡ out.old ++ spaced (decimal kind ∷ octets_text (optional_word value) ∷ [])) }
 {
-    put_decimal(alloc, out, u64::from(kind))?;
+    put_number_word(alloc, out, u64::from(kind))?;
     match value {
         None => put_octets(out, &[]),
-        Some(value) => put_octets(out, &[(value >> 8) as u8, (value & 0xFF) as u8]),
+        Some(value) => put_octets(out, &value.to_be_bytes()),
     }
 }
 
@@ -63,10 +63,10 @@ fn put_elements(
 ) -> Result<(), NoMemory>
     ensures { OnOk result (out.new ≡ out.old ++ spaced (property_words of.object of.property of.count of.start octets.now)) }
 {
-    put_decimal(alloc, out, u64::from(of.object))?;
-    put_decimal(alloc, out, u64::from(of.property))?;
-    put_decimal(alloc, out, u64::from(of.count))?;
-    put_decimal(alloc, out, u64::from(of.start))?;
+    put_number_word(alloc, out, u64::from(of.object))?;
+    put_number_word(alloc, out, u64::from(of.property))?;
+    put_number_word(alloc, out, u64::from(of.count))?;
+    put_number_word(alloc, out, u64::from(of.start))?;
     put_octets(out, octets)
 }
 
@@ -134,9 +134,9 @@ fn put_fields(alloc: Global, out: &mut Octets, apdu: &Apdu) -> Result<(), NoMemo
     match apdu {
         Apdu::GroupResponse(value) => put_value(out, value),
         Apdu::GroupWrite(value) => put_value(out, value),
-        Apdu::AddressWrite(address) => put_individual(alloc, out, *address),
+        Apdu::AddressWrite(address) => put_device_word(alloc, out, *address),
         Apdu::MemoryRead { count, address } => {
-            put_decimal(alloc, out, u64::from(*count))?;
+            put_number_word(alloc, out, u64::from(*count))?;
             put_hex_word(out, *address)
         }
         Apdu::MemoryResponse { address, octets } => put_memory(out, *address, octets.as_slice()),
@@ -152,6 +152,6 @@ fn put_fields(alloc: Global, out: &mut Octets, apdu: &Apdu) -> Result<(), NoMemo
 pub fn put_apdu(alloc: Global, out: &mut Octets, apdu: &Apdu) -> Result<(), NoMemory>
     ensures { OnOk result (out.new ≡ out.old ++ spaced (apdu_words apdu.now)) }
 {
-    put_word(out, name_of(apdu))?;
+    put_word(out, name_of(apdu).as_bytes())?;
     put_fields(alloc, out, apdu)
 }

@@ -2,12 +2,14 @@
 
 ghost use Rattle.std.specs.Prelude.{◌≡◌, ◌∷◌, [], ◌++◌, OnOk, codes};
 ghost use Rattle.std.specs.Fmt.{decimal};
-ghost use Rattle.knx_model.specs.Cemi.{refusal_number};
 ghost use Rattle.frame_text.specs.Spaced.{spaced};
-ghost use Rattle.frame_text.specs.FrameText.{code_word, destination_word, individual_word, destination_text, error_words, cemi_words, cemi_why, cemi_line, cemi_refusal_line};
+ghost use Rattle.frame_text.specs.FrameText.{code_word, destination_word, individual_word, destination_text, error_words, cemi_words, cemi_line, cemi_refusal_line};
 
-use crate::pieces::{put_decimal, put_group_word, put_individual, put_refusal, put_word};
-use knx_model::{CemiRefused, GroupAddr, IndAddr, Ldata, LdataCode, NoMemory, Octets};
+use crate::pieces::put_refusal;
+use knx_model::{
+    CemiRefused, GroupAddr, IndAddr, Ldata, LdataCode, NoMemory, Octets, put_device_word,
+    put_group_word, put_number_word, put_word,
+};
 use std::alloc::Global;
 
 fn code_word(code: LdataCode) -> &'static str
@@ -32,7 +34,7 @@ fn put_destination(alloc: Global, out: &mut Octets, group: bool, raw: u16) -> Re
     if group {
         put_group_word(alloc, out, GroupAddr { raw })
     } else {
-        put_individual(alloc, out, IndAddr { raw })
+        put_device_word(alloc, out, IndAddr { raw })
     }
 }
 
@@ -41,8 +43,8 @@ fn put_addresses(alloc: Global, out: &mut Octets, frame: &Ldata) -> Result<(), N
     ensures { OnOk result (out.new ≡ out.old ++ spaced (destination_word frame.now.group ∷ individual_word frame.now.source ∷ destination_text frame.now.group frame.now.destination ∷ [])) }
 {
     let source = IndAddr { raw: frame.source };
-    put_word(out, destination_word(frame.group))?;
-    put_individual(alloc, out, source)?;
+    put_word(out, destination_word(frame.group).as_bytes())?;
+    put_device_word(alloc, out, source)?;
     put_destination(alloc, out, frame.group, frame.destination)
 }
 
@@ -50,17 +52,17 @@ fn put_addresses(alloc: Global, out: &mut Octets, frame: &Ldata) -> Result<(), N
 fn put_control(alloc: Global, out: &mut Octets, priority: u8, hops: u8) -> Result<(), NoMemory>
     ensures { OnOk result (out.new ≡ out.old ++ spaced (codes "priority" ∷ decimal priority ∷ codes "hops" ∷ decimal hops ∷ [])) }
 {
-    put_word(out, "priority")?;
-    put_decimal(alloc, out, u64::from(priority))?;
-    put_word(out, "hops")?;
-    put_decimal(alloc, out, u64::from(hops))
+    put_word(out, b"priority")?;
+    put_number_word(alloc, out, u64::from(priority))?;
+    put_word(out, b"hops")?;
+    put_number_word(alloc, out, u64::from(hops))
 }
 
 fn put_error(out: &mut Octets, error: bool) -> Result<(), NoMemory>
     ensures { OnOk result (out.new ≡ out.old ++ spaced (error_words error)) }
 {
     if error {
-        put_word(out, "error")
+        put_word(out, b"error")
     } else {
         Ok(())
     }
@@ -70,7 +72,7 @@ fn put_error(out: &mut Octets, error: bool) -> Result<(), NoMemory>
 fn put_fields(alloc: Global, out: &mut Octets, frame: &Ldata) -> Result<(), NoMemory>
     ensures { OnOk result (out.new ≡ out.old ++ spaced (cemi_words frame.now)) }
 {
-    put_word(out, code_word(frame.code))?;
+    put_word(out, code_word(frame.code).as_bytes())?;
     put_addresses(alloc, out, frame)?;
     put_control(alloc, out, frame.priority, frame.hops)?;
     put_error(out, frame.error)
@@ -86,34 +88,12 @@ pub fn put_line(alloc: Global, out: &mut Octets, frame: &Ldata) -> Result<(), No
     out.push(b'\n')
 }
 
-fn number_of(why: CemiRefused) -> u64
-    ensures { result ≡ refusal_number why }
-{
-    match why {
-        CemiRefused::Short => 1,
-        CemiRefused::Code => 2,
-        CemiRefused::Extended => 3,
-        CemiRefused::Length => 4,
-    }
-}
-
-fn word_of(why: CemiRefused) -> &'static str
-    ensures { result.now ≡ cemi_why why }
-{
-    match why {
-        CemiRefused::Short => "Short",
-        CemiRefused::Code => "Code",
-        CemiRefused::Extended => "Extended",
-        CemiRefused::Length => "Length",
-    }
-}
-
 /// Appends the line of a refusal.
 #[tactic(auto, using(crate::proofs::Lines::line_spaced))]
 pub fn put_refusal_line(alloc: Global, out: &mut Octets, why: CemiRefused) -> Result<(), NoMemory>
     ensures { OnOk result (out.new ≡ out.old ++ cemi_refusal_line why) }
 {
     out.append(b"cemi")?;
-    put_refusal(alloc, out, number_of(why), word_of(why))?;
+    put_refusal(alloc, out, u64::from(why.number()), why.word())?;
     out.push(b'\n')
 }

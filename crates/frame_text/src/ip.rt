@@ -1,32 +1,33 @@
 //! The line of a frame of KNXnet/IP (ISO 22510).
 
 ghost use Rattle.std.specs.Prelude.{◌≡◌, ◌∷◌, [], ◌++◌, OnOk, codes};
-ghost use Rattle.knx_model.specs.KnxNetIp.{refusal_number};
 ghost use Rattle.frame_text.specs.Spaced.{spaced};
-ghost use Rattle.frame_text.specs.FrameText.{channel_words, number_words, status_words, tunnel_words, ip_name, ip_fields, ip_words, ip_why, ip_line, ip_refusal_line};
+ghost use Rattle.frame_text.specs.FrameText.{channel_words, number_words, status_words, tunnel_words, ip_name, ip_fields, ip_words, ip_line, ip_refusal_line};
 
-use crate::pieces::{put_decimal, put_individual, put_octet, put_refusal, put_word};
-use knx_model::{IndAddr, IpFrame, IpRefused, NoMemory, Octets};
+use crate::pieces::{put_octet, put_refusal};
+use knx_model::{
+    IndAddr, IpFrame, IpRefused, NoMemory, Octets, put_device_word, put_number_word, put_word,
+};
 use std::alloc::Global;
 
 fn put_channel(alloc: Global, out: &mut Octets, channel: u8) -> Result<(), NoMemory>
     ensures { OnOk result (out.new ≡ out.old ++ spaced (channel_words channel)) }
 {
-    put_word(out, "channel")?;
-    put_decimal(alloc, out, u64::from(channel))
+    put_word(out, b"channel")?;
+    put_number_word(alloc, out, u64::from(channel))
 }
 
 fn put_sequence(alloc: Global, out: &mut Octets, number: u8) -> Result<(), NoMemory>
     ensures { OnOk result (out.new ≡ out.old ++ spaced (number_words number)) }
 {
-    put_word(out, "number")?;
-    put_decimal(alloc, out, u64::from(number))
+    put_word(out, b"number")?;
+    put_number_word(alloc, out, u64::from(number))
 }
 
 fn put_status(out: &mut Octets, status: u8) -> Result<(), NoMemory>
     ensures { OnOk result (out.new ≡ out.old ++ spaced (status_words status)) }
 {
-    put_word(out, "status")?;
+    put_word(out, b"status")?;
     put_octet(out, status)
 }
 
@@ -36,8 +37,8 @@ fn put_tunnel(alloc: Global, out: &mut Octets, tunnel: Option<IndAddr>) -> Resul
     match tunnel {
         None => Ok(()),
         Some(address) => {
-            put_word(out, "tunnel")?;
-            put_individual(alloc, out, address)
+            put_word(out, b"tunnel")?;
+            put_device_word(alloc, out, address)
         }
     }
 }
@@ -110,7 +111,7 @@ fn put_fields(alloc: Global, out: &mut Octets, frame: &IpFrame) -> Result<(), No
 fn put_service(alloc: Global, out: &mut Octets, frame: &IpFrame) -> Result<(), NoMemory>
     ensures { OnOk result (out.new ≡ out.old ++ spaced (ip_words frame.now)) }
 {
-    put_word(out, name_of(frame))?;
+    put_word(out, name_of(frame).as_bytes())?;
     put_fields(alloc, out, frame)
 }
 
@@ -124,34 +125,12 @@ pub fn put_line(alloc: Global, out: &mut Octets, frame: &IpFrame) -> Result<(), 
     out.push(b'\n')
 }
 
-fn number_of(why: IpRefused) -> u64
-    ensures { result ≡ refusal_number why }
-{
-    match why {
-        IpRefused::Header => 1,
-        IpRefused::Service => 2,
-        IpRefused::Length => 3,
-        IpRefused::Body => 4,
-    }
-}
-
-fn word_of(why: IpRefused) -> &'static str
-    ensures { result.now ≡ ip_why why }
-{
-    match why {
-        IpRefused::Header => "Header",
-        IpRefused::Service => "Service",
-        IpRefused::Length => "Length",
-        IpRefused::Body => "Body",
-    }
-}
-
 /// Appends the line of a refusal.
 #[tactic(auto, using(crate::proofs::Lines::line_spaced))]
 pub fn put_refusal_line(alloc: Global, out: &mut Octets, why: IpRefused) -> Result<(), NoMemory>
     ensures { OnOk result (out.new ≡ out.old ++ ip_refusal_line why) }
 {
     out.append(b"ip")?;
-    put_refusal(alloc, out, number_of(why), word_of(why))?;
+    put_refusal(alloc, out, u64::from(why.number()), why.word())?;
     out.push(b'\n')
 }

@@ -1,13 +1,12 @@
-//! The line of a TPDU (ISO/IEC 14543-3, transport layer).
+//! The line of a TPDU (ISO/IEC 14543-3-2, transport layer).
 
 ghost use Rattle.std.specs.Prelude.{◌≡◌, ◌∷◌, [], ◌++◌, OnOk, codes};
-ghost use Rattle.knx_model.specs.Apdu.{refusal_number};
 ghost use Rattle.frame_text.specs.Spaced.{spaced};
-ghost use Rattle.frame_text.specs.FrameText.{tpdu_name, tpdu_fields, tpdu_words, tpdu_why, tpdu_line, tpdu_refusal_line};
+ghost use Rattle.frame_text.specs.FrameText.{tpdu_name, tpdu_fields, tpdu_words, tpdu_line, tpdu_refusal_line};
 
 use crate::apdu::put_apdu;
-use crate::pieces::{put_decimal, put_refusal, put_word};
-use knx_model::{NoMemory, Octets, Tpdu, TpduRefused};
+use crate::pieces::put_refusal;
+use knx_model::{NoMemory, Octets, Tpdu, TpduRefused, put_number_word, put_word};
 use std::alloc::Global;
 
 fn name_of(frame: &Tpdu) -> &'static str
@@ -29,11 +28,11 @@ fn put_fields(alloc: Global, out: &mut Octets, frame: &Tpdu) -> Result<(), NoMem
     match frame {
         Tpdu::Connect => Ok(()),
         Tpdu::Disconnect => Ok(()),
-        Tpdu::Ack(number) => put_decimal(alloc, out, u64::from(*number)),
-        Tpdu::Nak(number) => put_decimal(alloc, out, u64::from(*number)),
+        Tpdu::Ack(number) => put_number_word(alloc, out, u64::from(*number)),
+        Tpdu::Nak(number) => put_number_word(alloc, out, u64::from(*number)),
         Tpdu::Unnumbered(apdu) => put_apdu(alloc, out, apdu),
         Tpdu::Numbered { number, apdu } => {
-            put_decimal(alloc, out, u64::from(*number))?;
+            put_number_word(alloc, out, u64::from(*number))?;
             put_apdu(alloc, out, apdu)
         }
     }
@@ -43,7 +42,7 @@ fn put_fields(alloc: Global, out: &mut Octets, frame: &Tpdu) -> Result<(), NoMem
 fn put_form(alloc: Global, out: &mut Octets, frame: &Tpdu) -> Result<(), NoMemory>
     ensures { OnOk result (out.new ≡ out.old ++ spaced (tpdu_words frame.now)) }
 {
-    put_word(out, name_of(frame))?;
+    put_word(out, name_of(frame).as_bytes())?;
     put_fields(alloc, out, frame)
 }
 
@@ -57,34 +56,12 @@ pub fn put_line(alloc: Global, out: &mut Octets, frame: &Tpdu) -> Result<(), NoM
     out.push(b'\n')
 }
 
-fn number_of(why: TpduRefused) -> u64
-    ensures { result ≡ refusal_number why }
-{
-    match why {
-        TpduRefused::Empty => 1,
-        TpduRefused::Code => 2,
-        TpduRefused::Length => 3,
-        TpduRefused::Count => 4,
-    }
-}
-
-fn word_of(why: TpduRefused) -> &'static str
-    ensures { result.now ≡ tpdu_why why }
-{
-    match why {
-        TpduRefused::Empty => "Empty",
-        TpduRefused::Code => "Code",
-        TpduRefused::Length => "Length",
-        TpduRefused::Count => "Count",
-    }
-}
-
 /// Appends the line of a refusal.
 #[tactic(auto, using(crate::proofs::Lines::line_spaced))]
 pub fn put_refusal_line(alloc: Global, out: &mut Octets, why: TpduRefused) -> Result<(), NoMemory>
     ensures { OnOk result (out.new ≡ out.old ++ tpdu_refusal_line why) }
 {
     out.append(b"tpdu")?;
-    put_refusal(alloc, out, number_of(why), word_of(why))?;
+    put_refusal(alloc, out, u64::from(why.number()), why.word())?;
     out.push(b'\n')
 }

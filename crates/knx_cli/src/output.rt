@@ -1,4 +1,4 @@
-//! Standard output: it tells nothing of what it took, and its count rises at each error.
+//! Standard output: it tells nothing of what it took, and its count rises at each write that failed.
 
 ghost use Rattle.std.specs.Prelude.{◌≡◌, ◌≤◌, OnErr, OnOk, is_ok};
 ghost use Rattle.knx_model.specs.Outside.{Rose};

@@ -2,7 +2,6 @@ pub mod Cutting
 pub mod Finite
 pub mod FlagWords
 pub mod Joined
-pub mod Known
 pub mod LeastLine
 pub mod Numbers
 pub mod Parts
@@ -11,6 +10,7 @@ pub mod Spelled
 pub mod SpelledFlags
 pub mod SpelledNames
 pub mod SpelledNumbers
+pub mod SpelledValues
 pub mod Spells
 pub mod Text
 pub mod Values

@@ -1,4 +1,5 @@
--- Words that are addresses (ISO/IEC 14543-3, network layer): three numbers of 1 to 3 decimal digits.
+-- Words that are addresses (ISO/IEC 14543-3-2, network layer): three numbers of 1 to 3 decimal digits. That 0 and 255 are no device's
+-- part is this project's own: 0 is left to couplers, and 255 to tunnels and to devices without an address.
 use Rattle.std.specs.Prelude.{ℕ, ◌+◌, ◌*◌, ◌/◌, ◌%◌, ◌==◌, List, [], ◌∷◌, Option, Some, None, if◌then◌else◌}
 use Rattle.std.specs.List.{slice_split, join_with_byte}
 use Rattle.std.specs.Fmt.{decimal}

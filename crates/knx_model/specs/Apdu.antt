@@ -1,6 +1,6 @@
--- Which octets are which TPDU (ISO/IEC 14543-3, transport and application layer): the forms of the first octet, the ten bits that
+-- Which octets are which TPDU (ISO/IEC 14543-3-2 and 3-1, transport and application layer): the forms of the first octet, the ten bits that
 -- name the service (APCI), and what follows the second octet.
-use Rattle.std.specs.Prelude.{◌≡◌, ◌≢◌, ℕ, ◌+◌, ◌*◌, ◌/◌, ◌%◌, ◌<◌, ◌≤◌, ◌⊎◌, List, [], ◌∷◌, ◌++◌, length, Option, Some, None}
+use Rattle.std.specs.Prelude.{◌≡◌, ◌≢◌, ℕ, ◌+◌, ◌*◌, ◌/◌, ◌%◌, ◌<◌, ◌≤◌, ◌⊎◌, codes, List, [], ◌∷◌, ◌++◌, length, Option, Some, None}
 use Rattle.knx_model.specs.declared.frames.value.Value.{Value}
 use Rattle.knx_model.specs.declared.frames.value.Value.TheVariants.{Short, Long}
 use Rattle.knx_model.specs.declared.frames.tpdu.Apdu.{Apdu}
@@ -161,11 +161,19 @@ Breaks refused.Code octets = HasNoCode octets
 Breaks refused.Length octets = HasWrongLength octets
 Breaks refused.Count octets = HasWrongCount octets
 
+-- its number, from 1
 abbrev pub refusal_number : TpduRefused → ℕ
 refusal_number refused.Empty = 1
 refusal_number refused.Code = 2
 refusal_number refused.Length = 3
 refusal_number refused.Count = 4
+
+-- its word, as it is printed
+abbrev pub refusal_word : TpduRefused → List ℕ
+refusal_word refused.Empty = codes "Empty"
+refusal_word refused.Code = codes "Code"
+refusal_word refused.Length = codes "Length"
+refusal_word refused.Count = codes "Count"
 
 -- the least number whose rule the octets break
 pub record IsLeastBroken (why : TpduRefused) (octets : List ℕ) : Type 0 where

@@ -1,6 +1,6 @@
 -- Which octets are which frame of the link layer (KNX standard 3/6/3, common EMI): message code, length of the additional
 -- information, that information, two control octets, source, destination, length, TPDU. Octets are named by their place.
-use Rattle.std.specs.Prelude.{◌≡◌, ◌≢◌, ℕ, ◌+◌, ◌-◌, ◌/◌, ◌%◌, ◌<◌, ◌≤◌, ◌⊎◌, ◌&&◌, ◌==◌, if◌then◌else◌, List, ◌∷◌, length, drop, slice_index, IsTrue}
+use Rattle.std.specs.Prelude.{◌≡◌, ◌≢◌, ℕ, ◌+◌, ◌-◌, ◌/◌, ◌%◌, ◌<◌, ◌≤◌, ◌⊎◌, ◌&&◌, ◌==◌, if◌then◌else◌, codes, List, ◌∷◌, length, drop, slice_index, IsTrue}
 use Rattle.knx_model.specs.declared.frames.cemi.Ldata.{Ldata}
 use Rattle.knx_model.specs.declared.frames.cemi.LdataCode.{LdataCode}
 use Rattle.knx_model.specs.declared.frames.cemi.LdataCode.TheVariants.{Req, Con, Ind}
@@ -51,11 +51,19 @@ Breaks refused.Extended octets = slice_index octets (2 + slice_index octets 1) <
 Breaks refused.Length octets =
     (15 < slice_index octets (8 + slice_index octets 1)) ⊎ (length octets ≢ 10 + slice_index octets 1 + slice_index octets (8 + slice_index octets 1))
 
+-- its number, from 1
 abbrev pub refusal_number : CemiRefused → ℕ
 refusal_number refused.Short = 1
 refusal_number refused.Code = 2
 refusal_number refused.Extended = 3
 refusal_number refused.Length = 4
+
+-- its word, as it is printed
+abbrev pub refusal_word : CemiRefused → List ℕ
+refusal_word refused.Short = codes "Short"
+refusal_word refused.Code = codes "Code"
+refusal_word refused.Extended = codes "Extended"
+refusal_word refused.Length = codes "Length"
 
 -- the least number whose rule the octets break
 pub record IsLeastBroken (why : CemiRefused) (octets : List ℕ) : Type 0 where

@@ -1,7 +1,7 @@
 -- How many devices, objects and links a project has.
 use Rattle.std.specs.Prelude.{ℕ, ◌+◌, length, sum_by}
 use Rattle.knx_model.specs.declared.address.IndAddr.{IndAddr}
-use Rattle.knx_model.specs.declared.command.Counts.{Counts}
+use Rattle.knx_model.specs.declared.counts.Counts.{Counts}
 use Rattle.knx_model.specs.Meaning.{Installation, the_model}
 use Rattle.knx_model.specs.Rules.{count_lines, is_object_line, is_link_line, devices_of}
 

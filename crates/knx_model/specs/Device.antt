@@ -1,6 +1,6 @@
--- The device (ISO/IEC 14543-3, management, after System B): what it keeps without power, what it runs, and what each service does
--- and is answered. The segments' bases and capacities are this project's own, and so are the 15 octets of property 56 (the greatest
--- length of an APDU), and that a start of 0 is refused.
+-- The device (ISO/IEC 14543-3-4, management, and KNX standard 3/5/1, resources, after System B): what it keeps without power, what it runs, and what each service does
+-- and is answered. The segments' bases and capacities are this project's own, and so are the number and the content of property 56 (the
+-- greatest length of an APDU), and that a start of 0 is refused.
 use Rattle.std.specs.Prelude.{ℕ, ◌+◌, ◌-◌, ◌≤◌, Bool, true, false, ◌&&◌, ◌==◌, nat_le, nat_lt, List, [], ◌∷◌, ◌++◌, length, take, drop, replicate, Option, Some, None, if◌then◌else◌}
 use Rattle.knx_model.specs.declared.address.IndAddr.{IndAddr}
 use Rattle.knx_model.specs.declared.config.Image.{Image}
@@ -256,20 +256,20 @@ abbrev pub blank : IndAddr → DeviceState
 blank address = record {
   address = address;
   kept = record {
-    address_table = blank_object 0x1000;
-    association_table = blank_object 0x2000;
-    group_objects = blank_object 0x0400;
-    application = blank_object 0x2000;
+    address_table = blank_object (capacity AddressTable);
+    association_table = blank_object (capacity AssociationTable);
+    group_objects = blank_object (capacity GroupObjects);
+    application = blank_object (capacity Application);
   };
   power = true;
 }
 
 -- the lists of an image are within the capacities of their segments
 pub record Fits (image : Image) : Type 0 where
-  pub addr : length image.addr ≤ 0x1000
-  pub assoc : length image.assoc ≤ 0x2000
-  pub objs : length image.objs ≤ 0x0400
-  pub params : length image.params ≤ 0x2000
+  pub addr : length image.addr ≤ capacity AddressTable
+  pub assoc : length image.assoc ≤ capacity AssociationTable
+  pub objs : length image.objs ≤ capacity GroupObjects
+  pub params : length image.params ≤ capacity Application
 
 -- a device with power that is loaded with an image: the rest of each memory is 0
 abbrev pub loaded_object : ℕ → List ℕ → Loadable
@@ -279,10 +279,10 @@ abbrev pub loaded_with : IndAddr → Image → DeviceState
 loaded_with address image = record {
   address = address;
   kept = record {
-    address_table = loaded_object 0x1000 image.addr;
-    association_table = loaded_object 0x2000 image.assoc;
-    group_objects = loaded_object 0x0400 image.objs;
-    application = loaded_object 0x2000 image.params;
+    address_table = loaded_object (capacity AddressTable) image.addr;
+    association_table = loaded_object (capacity AssociationTable) image.assoc;
+    group_objects = loaded_object (capacity GroupObjects) image.objs;
+    application = loaded_object (capacity Application) image.params;
   };
   power = true;
 }

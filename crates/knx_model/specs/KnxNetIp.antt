@@ -1,6 +1,6 @@
 -- Which octets are which frame of KNXnet/IP (ISO 22510, Core and Tunnelling): the header `06 10`, the service, the total length,
 -- and the body of that service. Octets are named by their place.
-use Rattle.std.specs.Prelude.{◌≡◌, ◌≢◌, ℕ, ◌+◌, ◌≤◌, ◌<◌, ◌⊎◌, List, [], ◌∷◌, ◌++◌, length, drop, slice_index, Option, Some, None}
+use Rattle.std.specs.Prelude.{◌≡◌, ◌≢◌, ℕ, ◌+◌, ◌≤◌, ◌<◌, ◌⊎◌, codes, List, [], ◌∷◌, ◌++◌, length, drop, slice_index, Option, Some, None}
 use Rattle.knx_model.specs.declared.address.IndAddr.{IndAddr}
 use Rattle.knx_model.specs.declared.frames.ip.IpFrame.{IpFrame}
 use Rattle.knx_model.specs.declared.frames.ip.IpFrame.TheVariants.{ConnectRequest, ConnectResponse, StateRequest, StateResponse, DisconnectRequest, DisconnectResponse, TunnellingRequest, TunnellingAck}
@@ -86,11 +86,19 @@ Breaks refused.Service octets = ¬ IsService (word_at octets 2)
 Breaks refused.Length octets = word_at octets 4 ≢ length octets
 Breaks refused.Body octets = ¬ IsBody (word_at octets 2) (drop 6 octets)
 
+-- its number, from 1
 abbrev pub refusal_number : IpRefused → ℕ
 refusal_number refused.Header = 1
 refusal_number refused.Service = 2
 refusal_number refused.Length = 3
 refusal_number refused.Body = 4
+
+-- its word, as it is printed
+abbrev pub refusal_word : IpRefused → List ℕ
+refusal_word refused.Header = codes "Header"
+refusal_word refused.Service = codes "Service"
+refusal_word refused.Length = codes "Length"
+refusal_word refused.Body = codes "Body"
 
 -- the least number whose rule the octets break
 pub record IsLeastBroken (why : IpRefused) (octets : List ℕ) : Type 0 where

@@ -39,6 +39,11 @@ said_from numbered says n ls = filter_map (λ p. said_in_line numbered p.0 (says
 unfoldable pub refused_from : {W : Type 0} → (ℕ → List ℕ → Result (Option W) Why) → ℕ → List (List ℕ) → List Refused
 refused_from says n ls = filter_map (λ p. refused_in_line p.0 (says p.0 p.1)) (enumerate_from n ls)
 
+-- the first refusal, where there is one
+abbrev pub first_refused : List Refused → Option Refused
+first_refused [] = None
+first_refused (r ∷ rs) = Some r
+
 -- the first refusal, or what is read where there is none
 abbrev pub first_refusal_or : {S : Type 0} → List Refused → List S → Result (List S) Refused
 first_refusal_or [] said = Ok said
@@ -68,10 +73,3 @@ AllLinesSay says octets = (k : ℕ) (text : List ℕ) → slice_get (lines octet
 abbrev pub lines_ascend : {S : Type 0} → (S → ℕ) → ℕ → List S → Bool
 lines_ascend line n [] = true
 lines_ascend line n (s ∷ ss) = nat_lt n (line s) && lines_ascend line (line s) ss
-
--- ---- what a function that reads answers
-
--- what it returned, seen by view, is what the text says
-abbrev pub Answers : {X Y : Type 0} → (X → Y) → Result X Why → Result Y Why → Type 0
-Answers view (Ok x) read = read ≡ Ok (view x)
-Answers view (Err why) read = read ≡ Err why

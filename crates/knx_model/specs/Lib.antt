@@ -14,6 +14,7 @@ pub mod Connection
 pub mod Octets
 pub mod Cemi
 pub mod KnxNetIp
+pub mod Answers
 pub mod LeastLine
 pub mod Statements
 pub mod ScriptText

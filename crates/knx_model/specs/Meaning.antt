@@ -1,5 +1,5 @@
 -- What a project means for one device: its links, its objects and its parameters, taken from the statements and the device's model
--- alone. No group is numbered here.
+-- alone. No group is numbered here. The project language is this project's own.
 use Rattle.std.specs.Prelude.{ℕ, Bool, not, ◌&&◌, ◌==◌, bytes_eq, List, [], ◌∷◌, ◌++◌, take, map, fold, max, Option, Some, None, unwrap_or, if◌then◌else◌}
 use Rattle.std.specs.List.{list_any, filter_map, enumerate_from, range_with_len, last_or}
 use Rattle.knx_model.specs.declared.address.GroupAddr.{GroupAddr}

@@ -1,4 +1,4 @@
--- Words that are numbers and names, each None exactly where the word isn't one.
+-- Words that are numbers and names, each None exactly where the word isn't one. How they are written is this project's own.
 use Rattle.std.specs.Prelude.{ℕ, Bool, ◌&&◌, ◌||◌, ◌==◌, nat_lt, nat_le, List, length, drop, codes, nat_eq, Option, Some, None, if◌then◌else◌}
 use Rattle.std.specs.List.{list_all, starts_with}
 use Rattle.std.specs.Char.{digit_value, is_ascii_alphanumeric}

@@ -1,5 +1,5 @@
 -- The outside: what files and sinks promise. A count of faults is a number of 64 bits that stands still at its greatest.
-use Rattle.std.specs.Prelude.{◌≡◌, ℕ, ◌-◌, ◌^◌, ◌<◌, ◌⊎◌, List, ◌++◌, take, Option, Some, None, Result, Ok, Err}
+use Rattle.std.specs.Prelude.{◌≡◌, ℕ, ◌-◌, ◌^◌, ◌<◌, ◌⊎◌, List, ◌++◌, length, ◌≤◌, take, Option, Some, None, Result, Ok, Err}
 use Rattle.knx_model.specs.declared.outside.files.FileFault.{FileFault}
 use Rattle.knx_model.specs.declared.outside.files.FileFault.TheVariants.{NotThere, Failed, NoMemory}
 
@@ -13,9 +13,11 @@ pub data Told : Type 0 where
 abbrev pub Rose : ℕ → ℕ → Type 0
 Rose old new = (old < new) ⊎ (new ≡ 2 ^ 64 - 1)
 
--- what a read of at most `limit` octets may answer: the front of the file that is told, or that it isn't there just where it is absent
+-- What a read of at most `limit` octets may answer: the front of the file that is told, or that it isn't there just where it is absent.
+-- Where nothing is told, at most so many octets are read.
 abbrev pub MayRead : Told → ℕ → Result (List ℕ) FileFault → Type 0
-MayRead Untold limit answer = Unit {0}
+MayRead Untold limit (Ok octets) = length octets ≤ limit
+MayRead Untold limit (Err why) = Unit {0}
 MayRead Absent limit (Ok octets) = ⊥
 MayRead Absent limit (Err NotThere) = Unit {0}
 MayRead Absent limit (Err Failed) = ⊥

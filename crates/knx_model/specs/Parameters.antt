@@ -1,5 +1,5 @@
 -- The parameter memory of a device: bit 0 is the highest bit of the first octet, and a field holds its value with the highest bit
--- first.
+-- first. Its layout is this project's own.
 use Rattle.std.specs.Prelude.{◌≡◌, ◌⊎◌, ℕ, ◌+◌, ◌*◌, ◌/◌, ◌%◌, ◌<◌, ◌≤◌, Bool, true, ◌&&◌, ◌==◌, List, [], ◌∷◌, length, map, take, drop, fold, All, Contains, nat_eq, slice_index, if◌then◌else◌}
 use Rattle.std.specs.List.{flat_map, IsDistinct}
 use Rattle.knx_model.specs.declared.catalogue.model.Model.{Model}

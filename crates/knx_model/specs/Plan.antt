@@ -1,5 +1,6 @@
 -- The load plan of an image, and what makes a plan good: whatever a device held before, any beginning of the plan leaves it as it
--- was, or stopped, or with the image, and all of it leaves the image.
+-- was, or stopped, or with the image, and all of it leaves the image. The plan follows the standard's order of loading (ISO/IEC 14543-3-4,
+-- management procedures); its pieces, and that all is read back, are this project's own.
 use Rattle.std.specs.Prelude.{ℕ, ◌≡◌, ◌+◌, ◌*◌, ◌/◌, ◌%◌, Bool, List, [], ◌∷◌, ◌++◌, length, take, drop, map, Option, Some, None, ◌⊎◌}
 use Rattle.std.specs.List.{range_with_len}
 use Rattle.knx_model.specs.declared.config.Image.{Image}
@@ -17,11 +18,11 @@ use Rattle.knx_model.specs.declared.plan.Op.{Op}
 use Rattle.knx_model.specs.declared.plan.Op.TheVariants.{Send}
 use Rattle.knx_model.specs.declared.bench.BenchEvent.{BenchEvent}
 use Rattle.knx_model.specs.declared.bench.BenchEvent.TheVariants.{Give}
-use Rattle.knx_model.specs.Bench.{Trace, happens, replay, answered}
+use Rattle.knx_model.specs.Bench.{happens, answered}
 use Rattle.knx_model.specs.Apdu.{word}
 use Rattle.knx_model.specs.ApduReading.{apdu_octets}
 use Rattle.knx_model.specs.Loading.{capacity_of, state_number}
-use Rattle.knx_model.specs.Device.{NonVolatile, DeviceState, object_index, base, runs, effect_in, answer_in, whole, torn, taken, table_reference}
+use Rattle.knx_model.specs.Device.{NonVolatile, DeviceState, object_index, base, capacity, runs, effect_in, answer_in, whole, torn, taken, table_reference}
 
 -- ---- the load plan
 
@@ -132,10 +133,10 @@ Serves R (op ∷ ops) nv = (answer_in nv (apdu_of op) ≡ expected_of op) × Ser
 
 -- each object's memory has the capacity of its segment
 pub record HasCapacities (nv : NonVolatile) : Type 0 where
-  pub addr : capacity_of nv.address_table ≡ 0x1000
-  pub assoc : capacity_of nv.association_table ≡ 0x2000
-  pub objs : capacity_of nv.group_objects ≡ 0x0400
-  pub params : capacity_of nv.application ≡ 0x2000
+  pub addr : capacity_of nv.address_table ≡ capacity AddressTable
+  pub assoc : capacity_of nv.association_table ≡ capacity AssociationTable
+  pub objs : capacity_of nv.group_objects ≡ capacity GroupObjects
+  pub params : capacity_of nv.application ≡ capacity Application
 
 -- ---- a plan that was given whole
 
@@ -148,9 +149,3 @@ gives (op ∷ ops) = Give (apdu_of op) ∷ gives ops
 abbrev pub AnswersAll : DeviceState → List Op → Type 0
 AnswersAll d [] = Unit {0}
 AnswersAll d (op ∷ ops) = (answered d (apdu_of op) ≡ expected_of op) × AnswersAll (happens d (Give (apdu_of op))) ops
-
--- the last events of a trace gave the whole plan, and each answer was the expected one
-pub record GaveWhole (ops : List Op) (t : Trace) : Type 0 where
-  pub front : List BenchEvent
-  pub events : t.events ≡ front ++ gives ops
-  pub answers : AnswersAll (replay t.start front) ops

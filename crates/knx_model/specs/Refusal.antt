@@ -1,5 +1,7 @@
 -- The numbers and words of refusals, and the numbers of the program's exit statuses.
 use Rattle.std.specs.Prelude.{ℕ, codes, List, Option, Some, None}
+use Rattle.knx_model.specs.declared.catalogue.refused.CatRefused.{CatRefused}
+use Rattle.knx_model.specs.declared.catalogue.refused.CatRefused.TheVariants as cat
 use Rattle.knx_model.specs.declared.refusal.Why.{Why}
 use Rattle.knx_model.specs.declared.refusal.Why.TheVariants as why
 use Rattle.knx_model.specs.declared.status.Status.{Status}
@@ -54,6 +56,23 @@ why_word why.SizeDiffers = codes "SizeDiffers"
 why_word (why.TooMany limit) = codes "TooMany"
 why_word why.NoDevice = codes "NoDevice"
 why_word why.NotBuilt = codes "NotBuilt"
+
+-- the same of a catalogue's refusal
+abbrev pub catalogue_number : CatRefused → Option ℕ
+catalogue_number cat.NoMemory = None
+catalogue_number cat.Toml = Some 1
+catalogue_number (cat.Shape model) = Some 2
+catalogue_number (cat.Overlap model parameter) = Some 3
+catalogue_number (cat.Range model parameter) = Some 4
+catalogue_number cat.Long = Some 5
+
+abbrev pub catalogue_word : CatRefused → List ℕ
+catalogue_word cat.NoMemory = codes "NoMemory"
+catalogue_word cat.Toml = codes "Toml"
+catalogue_word (cat.Shape model) = codes "Shape"
+catalogue_word (cat.Overlap model parameter) = codes "Overlap"
+catalogue_word (cat.Range model parameter) = codes "Range"
+catalogue_word cat.Long = codes "Long"
 
 -- the exit status of the program
 abbrev pub status_number : Status → ℕ

@@ -7,7 +7,7 @@ use Rattle.knx_model.specs.Addresses.{device_text}
 use Rattle.knx_model.specs.declared.address.IndAddr.{IndAddr}
 use Rattle.knx_model.specs.declared.catalogue.refused.CatRefused.{CatRefused}
 use Rattle.knx_model.specs.declared.catalogue.refused.CatRefused.TheVariants as cat
-use Rattle.knx_model.specs.declared.command.Counts.{Counts}
+use Rattle.knx_model.specs.declared.counts.Counts.{Counts}
 use Rattle.knx_model.specs.declared.command.InputFile.{InputFile}
 use Rattle.knx_model.specs.declared.command.InputFile.TheVariants as file
 use Rattle.knx_model.specs.declared.command.Stop.{Stop}
@@ -28,7 +28,7 @@ use Rattle.knx_model.specs.declared.refusal.Why.{Why}
 use Rattle.knx_model.specs.declared.refusal.Why.TheVariants.{TooMany}
 use Rattle.knx_model.specs.declared.status.Status.{Status}
 use Rattle.knx_model.specs.declared.status.Status.TheVariants as status
-use Rattle.knx_model.specs.Refusal.{why_number, why_word}
+use Rattle.knx_model.specs.Refusal.{why_number, why_word, catalogue_number, catalogue_word}
 
 -- words apart by one space, and a line feed
 abbrev pub line : List (List ℕ) → List ℕ
@@ -138,14 +138,18 @@ abbrev pub refusal_line : InputFile → Refused → List ℕ
 refusal_line place refused =
     line (file_word place ∷ codes "line" ∷ (decimal refused.line ++ codes ":") ∷ (optional_number (why_number refused.why) ++ (why_word refused.why ∷ optional_number (limit_of refused.why))))
 
+-- the model and the parameter that a catalogue's refusal has
+abbrev pub refused_names : CatRefused → List (List ℕ)
+refused_names cat.NoMemory = []
+refused_names cat.Toml = []
+refused_names (cat.Shape model) = model ∷ []
+refused_names (cat.Overlap model parameter) = model ∷ parameter ∷ []
+refused_names (cat.Range model parameter) = model ∷ parameter ∷ []
+refused_names cat.Long = []
+
 -- the number and the word of a catalogue's refusal, then the model and the parameter where it has them
 abbrev pub catalogue_words : CatRefused → List (List ℕ)
-catalogue_words cat.NoMemory = codes "NoMemory" ∷ []
-catalogue_words cat.Toml = codes "1" ∷ codes "Toml" ∷ []
-catalogue_words (cat.Shape model) = codes "2" ∷ codes "Shape" ∷ model ∷ []
-catalogue_words (cat.Overlap model parameter) = codes "3" ∷ codes "Overlap" ∷ model ∷ parameter ∷ []
-catalogue_words (cat.Range model parameter) = codes "4" ∷ codes "Range" ∷ model ∷ parameter ∷ []
-catalogue_words cat.Long = codes "5" ∷ codes "Long" ∷ []
+catalogue_words refused = optional_number (catalogue_number refused) ++ (catalogue_word refused ∷ refused_names refused)
 
 -- catalogue: N WHY
 abbrev pub catalogue_line : CatRefused → List ℕ

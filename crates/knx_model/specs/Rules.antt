@@ -1,7 +1,8 @@
 -- The rules that look at a whole project text, at the lines before a line and at the catalogue. Each is a sentence of its own; a line
--- breaks the one of the least number, and a text is refused at its least line that breaks one.
+-- breaks the one of the least number, and a text is refused at its least line that breaks one. The rules are this project's own.
 use Rattle.std.specs.Prelude.{ℕ, Bool, true, false, ◌&&◌, ◌||◌, not, ◌==◌, nat_le, nat_lt, is_none, count_by, List, [], ◌∷◌, take, Option, Some, None, if◌then◌else◌}
 use Rattle.std.specs.List.{list_any, filter_map, enumerate_from}
+use Rattle.knx_model.specs.LeastLine.{first_refused}
 use Rattle.knx_model.specs.declared.address.IndAddr.{IndAddr}
 use Rattle.knx_model.specs.declared.catalogue.model.Model.{Model}
 use Rattle.knx_model.specs.declared.catalogue.model.ModelField.{ModelField}
@@ -238,13 +239,9 @@ broken_at line (Some why) = Some (record { line = line; why = why })
 unfoldable pub broken_from : List NamedModel → List Statement → ℕ → List Statement → List Refused
 broken_from catalogue ss k rest = filter_map (λ p. broken_at p.1.line (rule_of catalogue (take p.0 ss) ss p.1.what)) (enumerate_from k rest)
 
-abbrev pub first_of : List Refused → Option Refused
-first_of [] = None
-first_of (r ∷ rs) = Some r
-
 -- the least line that breaks a rule
 abbrev pub first_broken : List NamedModel → List Statement → Option Refused
-first_broken catalogue ss = first_of (broken_from catalogue ss 0 ss)
+first_broken catalogue ss = first_refused (broken_from catalogue ss 0 ss)
 
 -- the devices of a text: just those of its `device` lines
 abbrev pub has_device : List Statement → ℕ → Bool

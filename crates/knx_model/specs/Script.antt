@@ -1,5 +1,5 @@
 -- The script's cuts: those that its lines say, and when the events of a bench follow them. Power goes just where a line says so, and
--- comes back before the next event.
+-- comes back before the next event. The script is this project's own.
 use Rattle.std.specs.Prelude.{ℕ, ◌≡◌, ◌+◌, ◌-◌, ◌^◌, min, true, false, ◌==◌, List, [], ◌∷◌, Option, Some, None, if◌then◌else◌}
 use Rattle.std.specs.List.{filter_map}
 use Rattle.knx_model.specs.declared.bench.BenchEvent.{BenchEvent}
@@ -49,10 +49,3 @@ Follows cuts d n (event ∷ events) = IsAllowed cuts d n event × Follows cuts (
 abbrev pub write_count : DeviceState → ℕ → List BenchEvent → ℕ
 write_count d n [] = n
 write_count d n (event ∷ events) = write_count (happens d event) (counted d n event) events
-
--- how often power was cut
-abbrev pub cut_count : List BenchEvent → ℕ
-cut_count [] = 0
-cut_count (Give apdu ∷ events) = cut_count events
-cut_count (GiveTorn apdu fresh octets ∷ events) = cut_count events + 1
-cut_count (On ∷ events) = cut_count events

@@ -20,8 +20,9 @@ use Rattle.knx_model.specs.Words.{words}
 use Rattle.knx_model.specs.Numbers.{is_digit, number_value}
 use Rattle.knx_model.specs.Addresses.{group_value, ind_value}
 use Rattle.knx_model.specs.Values.{value_value}
-use Rattle.knx_model.specs.Statements.{◌>>=◌, field, ended, is_group, is_device}
-use Rattle.knx_model.specs.LeastLine.{line_text, text_reading, lines_ascend}
+use Rattle.knx_model.specs.Answers.{◌>>=◌}
+use Rattle.knx_model.specs.Statements.{field, ended, is_group, is_device}
+use Rattle.knx_model.specs.LeastLine.{line_text, text_reading, lines_ascend, first_refused}
 
 -- ---- words
 
@@ -277,13 +278,9 @@ refused_unless_listed devices line (Some device) = if is_listed devices device t
 unfoldable pub strangers : List IndAddr → List ScriptLine → List Refused
 strangers devices ls = filter_map (λ l. refused_unless_listed devices l.line (device_named l.what)) ls
 
-abbrev pub first_of_them : List Refused → Option Refused
-first_of_them [] = None
-first_of_them (r ∷ rs) = Some r
-
 -- the first line that names a device which isn't listed
 abbrev pub first_stranger : List IndAddr → List ScriptLine → Option Refused
-first_stranger devices ls = first_of_them (strangers devices ls)
+first_stranger devices ls = first_refused (strangers devices ls)
 
 -- ---- the same in the language's own words
 

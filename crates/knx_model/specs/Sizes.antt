@@ -1,4 +1,4 @@
--- The size of an object as a word, a number of bits, and the size code that it stands for (after System B, group objects).
+-- The size of an object as a word, a number of bits, and the size code that it stands for (KNX standard 3/5/1, resources, group objects of System B).
 use Rattle.std.specs.Prelude.{ℕ, ◌-◌, ◌&&◌, ◌==◌, nat_le, List, [], ◌∷◌, get_or, Option, Some, None, if◌then◌else◌}
 use Rattle.knx_model.specs.Numbers.{number_value}
 

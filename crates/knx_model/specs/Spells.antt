@@ -1,9 +1,12 @@
--- What spells an address, a number, a size, flags and a name, as the grammar writes it.
-use Rattle.std.specs.Prelude.{◌≡◌, ℕ, ◌+◌, ◌*◌, ◌<◌, ◌≤◌, true, codes, nat_eq, List, ◌∷◌, ◌++◌, length, map, sum, All, Contains, slice_get, Some}
+-- What spells an address, a number, a size, flags, a name and a group value, as the grammar writes it.
+use Rattle.std.specs.Prelude.{◌≡◌, ℕ, ◌+◌, ◌*◌, ◌<◌, ◌≤◌, true, codes, nat_eq, List, [], ◌∷◌, ◌++◌, length, map, sum, All, Contains, slice_get, Some}
 use Rattle.std.specs.List.{list_all, IsDistinct}
+use Rattle.std.specs.Char.{digit_value}
 use Rattle.std.specs.Str.Parse.{digits_value}
 use Rattle.knx_model.specs.declared.address.GroupAddr.{GroupAddr}
 use Rattle.knx_model.specs.declared.address.IndAddr.{IndAddr}
+use Rattle.knx_model.specs.declared.frames.value.Value.{Value}
+use Rattle.knx_model.specs.declared.frames.value.Value.TheVariants.{Short, Long}
 use Rattle.knx_model.specs.Numbers.{is_digit}
 use Rattle.knx_model.specs.Sizes.{sizes}
 use Rattle.knx_model.specs.Flags.{flag_bit}
@@ -74,3 +77,14 @@ pub record SpellsName (word : List ℕ) : Type 0 where
   pub some : 0 < length word
   pub short : length word ≤ 32
   pub octets : All (Contains (codes "ABCDEFGHIJKLMNOPQRSTUVWXYZabcdefghijklmnopqrstuvwxyz0123456789_-.")) word
+
+-- octets, each as two hexadecimal digits in either case, the high one first
+pub data SpellsOctets : List ℕ → List ℕ → Type 0 where
+  NoOctets : SpellsOctets [] []
+  OneMore : (high below : ℕ) (digits octets : List ℕ) → is_digit 16 high ≡ true → is_digit 16 below ≡ true → SpellsOctets digits octets
+      → SpellsOctets (high ∷ (below ∷ digits)) ((digit_value high * 16 + digit_value below) ∷ octets)
+
+-- `s` and one octet up to 3F, or 1 to 14 octets
+pub data SpellsValue : List ℕ → Value → Type 0 where
+  ShortWord : (digits : List ℕ) (octet : ℕ) → SpellsOctets digits (octet ∷ []) → octet ≤ 0x3F → SpellsValue (115 ∷ digits) (Short octet)
+  LongWord : (digits octets : List ℕ) → SpellsOctets digits octets → 1 ≤ length octets → length octets ≤ 14 → SpellsValue digits (Long octets)

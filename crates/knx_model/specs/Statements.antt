@@ -10,17 +10,13 @@ use Rattle.knx_model.specs.declared.project.What.TheVariants.{Title, Group, Devi
 use Rattle.knx_model.specs.declared.refusal.Refused.{Refused}
 use Rattle.knx_model.specs.declared.refusal.Why.{Why}
 use Rattle.knx_model.specs.declared.refusal.Why.TheVariants.{UnknownWord, BadAddress, BadNumber, BadName, MissingWord, ExtraWord}
+use Rattle.knx_model.specs.Answers.{◌>>=◌}
 use Rattle.knx_model.specs.LeastLine.{line_text, lines_ascend, text_reading}
 use Rattle.knx_model.specs.Words.{words}
 use Rattle.knx_model.specs.Numbers.{number_value, is_name}
 use Rattle.knx_model.specs.Addresses.{group_value, ind_value}
 use Rattle.knx_model.specs.Flags.{flags_value}
 use Rattle.knx_model.specs.Sizes.{size_value}
-
-infixl 10 ◌>>=◌
-abbrev pub ◌>>=◌ : {A B : Type 0} → Result A Why → (A → Result B Why) → Result B Why
-(Ok x) >>= f = f x
-(Err e) >>= f = Err e
 
 -- ---- words in their places
 

@@ -1,5 +1,5 @@
 -- Lines and words: the lines of a text are std's `lines` (cut at each line feed, a carriage return before it left out, a last line
--- counts where it isn't empty), and the words of a line stand between spaces and tabs.
+-- counts where it isn't empty), and the words of a line stand between spaces and tabs. They are the same in all texts of this project.
 use Rattle.std.specs.Prelude.{ℕ, Bool, List, length, ◌==◌, ◌&&◌, ◌||◌, nat_lt, nat_le, filter, not}
 use Rattle.std.specs.List.{list_all, slice_split, before_first}
 use Rattle.std.specs.Str.{is_utf8}

@@ -1,6 +1,7 @@
-//! Individual and group addresses (ISO/IEC 14543-3, network layer).
+//! Individual and group addresses (ISO/IEC 14543-3-2, network layer).
 
-ghost use Rattle.std.specs.Prelude.{◌≡◌, ◌/◌, ◌%◌, ◌<◌};
+ghost use Rattle.std.specs.Prelude.{◌≡◌, ◌/◌, ◌%◌, ◌<◌, ◌==◌};
+ghost use Rattle.std.specs.List.{list_any};
 
 /// The individual address of a device: area in the upper 4 bits, then line in 4, then device in 8.
 #[derive(Clone, Copy, Debug, PartialEq, Eq, PartialOrd, Ord)]
@@ -29,10 +30,17 @@ impl IndAddr {
     {
         (self.raw & 0xFF) as u8
     }
+
+    /// Whether it is one of these.
+    pub fn is_among(self, devices: &[IndAddr]) -> bool
+        ensures { result ≡ list_any (λ d. d.raw == self.raw) devices.now }
+    {
+        devices.iter().any(|device| device.raw == self.raw)
+    }
 }
 
 /// A group address: main group in the upper 5 bits, then middle group in 3, then sub group in 8.
-#[derive(Clone, Copy, Debug, PartialEq, Eq, PartialOrd, Ord)]
+#[derive(Clone, Copy, PartialEq, Eq, PartialOrd, Ord)]
 pub struct GroupAddr {
     pub raw: u16,
 }

@@ -4,7 +4,7 @@ use crate::frames::ApduOctets;
 use crate::lists::Octets;
 
 /// One event on a bench.
-#[derive(Debug, Drop)]
+#[derive(Drop)]
 pub enum BenchEvent {
     /// The device takes the service whole.
     Give(ApduOctets),

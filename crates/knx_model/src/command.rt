@@ -1,10 +1,13 @@
 //! What the program reads, and why it stops before a run.
 
+ghost use Rattle.std.specs.Prelude.{◌≡◌};
+
 use crate::catalogue::CatRefused;
+use crate::lists::NoMemory;
 use crate::refusal::Refused;
 
 /// A file that the program reads, by its place among the words.
-#[derive(Clone, Copy, Debug, Drop, PartialEq, Eq)]
+#[derive(Clone, Copy, Drop)]
 pub enum InputFile {
     /// The catalogue of device models.
     Catalogue,
@@ -17,7 +20,7 @@ pub enum InputFile {
 }
 
 /// Why the program stops before its report.
-#[derive(Debug, Drop)]
+#[derive(Drop)]
 pub enum Stop {
     /// The words aren't a command's.
     Usage,
@@ -33,11 +36,12 @@ pub enum Stop {
     NoMemory,
 }
 
-/// How many devices, objects and links a project has: the devices of its `device` lines, the objects of all devices, those of
-/// their models too, and the links of all devices.
-#[derive(Clone, Copy, Debug, PartialEq, Eq)]
-pub struct Counts {
-    pub devices: u32,
-    pub objects: u32,
-    pub links: u32,
+impl From<NoMemory> for Stop {
+    ghost use Rattle.knx_model.specs.declared.command.Stop.{Stop};
+
+    ghost from_gives = { λ _ stop. stop ≡ Stop.NoMemory };
+
+    fn from(_error: NoMemory) -> Stop {
+        Stop::NoMemory
+    }
 }

@@ -1,9 +1,9 @@
-//! Numbered connections (ISO/IEC 14543-3, transport layer): the frames as this layer sees them, and what the two ends answer.
+//! Numbered connections (ISO/IEC 14543-3-2, transport layer): the frames as this layer sees them, and what the two ends answer.
 
 use crate::frames::ApduOctets;
 
 /// A frame as the transport layer sees it. Sequence numbers are 0 to 15.
-#[derive(Clone, Debug, Drop, PartialEq, Eq)]
+#[derive(Drop)]
 pub enum TransportFrame {
     Connect,
     Disconnect,
@@ -20,7 +20,7 @@ pub enum TransportFrame {
 pub struct Busy;
 
 /// What the device's end makes of a frame. The octets that an answer holds are to be sent to the frame's sender.
-#[derive(Clone, Debug, Drop, PartialEq, Eq)]
+#[derive(Debug, Drop, PartialEq, Eq)]
 pub enum DeviceTook {
     /// The frame acts on nothing.
     Dropped,
@@ -39,7 +39,7 @@ pub enum DeviceTook {
 }
 
 /// What has become due at the device's end.
-#[derive(Clone, Debug, Drop, PartialEq, Eq)]
+#[derive(Debug, Drop, PartialEq, Eq)]
 pub enum DeviceExpired {
     Nothing,
     /// The outstanding answer, to be sent again.
@@ -60,7 +60,7 @@ pub enum ClientConfirmed {
 }
 
 /// What the client's end makes of a frame. The octets that an answer holds are to be sent to the device.
-#[derive(Clone, Debug, Drop, PartialEq, Eq)]
+#[derive(Debug, Drop, PartialEq, Eq)]
 pub enum ClientTook {
     /// The frame acts on nothing.
     Dropped,
@@ -77,7 +77,7 @@ pub enum ClientTook {
 }
 
 /// What has become due at the client's end.
-#[derive(Clone, Debug, Drop, PartialEq, Eq)]
+#[derive(Debug, Drop, PartialEq, Eq)]
 pub enum ClientExpired {
     Nothing,
     /// The outstanding service, to be sent again.

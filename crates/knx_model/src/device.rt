@@ -12,7 +12,7 @@ pub enum Took {
 }
 
 /// A write of a device, at which a cut of the power may fall.
-#[derive(Clone, Copy, Debug, Drop, PartialEq, Eq)]
+#[derive(Clone, Copy, Drop, PartialEq, Eq)]
 pub enum WriteKind {
     /// A memory write that is taken.
     Memory,

@@ -1,12 +1,12 @@
 //! Lists that contracts see as lists, and the answer for want of memory.
 
-ghost use Rattle.std.specs.Prelude.{◌≡◌, ℕ, List as Seq, [], ◌∷◌, ◌++◌, length, OnOk, OnErr, IfOk, IsTrue, ◌↔◌};
+ghost use Rattle.std.specs.Prelude.{◌≡◌, ℕ, List as Seq, [], ◌∷◌, ◌++◌, length, take, OnOk, OnErr, IfOk, IsTrue, ◌↔◌};
 
 use std::alloc::{AllocError, AllocFailed, Global};
 use std::marker::Model;
 
 /// There was no memory.
-#[derive(Clone, Copy, Debug, PartialEq, Eq)]
+#[derive(Clone, Copy, Debug)]
 pub struct NoMemory;
 
 impl From<AllocError> for NoMemory {
@@ -21,8 +21,19 @@ impl<T: Drop> From<AllocFailed<T>> for NoMemory {
     }
 }
 
+/// The first `most` octets, or all where there are fewer.
+pub fn front(octets: &[u8], most: usize) -> &[u8]
+    ensures { result.now ≡ take most octets.now }
+{
+    if octets.len() <= most {
+        octets
+    } else {
+        &octets[..most]
+    }
+}
+
 /// Octets of any number, on the heap.
-#[derive(Debug, Drop)]
+#[derive(Drop)]
 pub struct Octets {
     octets: Vec<u8>,
 }
@@ -49,10 +60,8 @@ impl Octets {
     pub fn from_slice(alloc: Global, octets: &[u8]) -> Result<Octets, NoMemory>
         ensures { IfOk result (λ made. made ≡ octets.now) }
     {
-        match Vec::from_slice(alloc, octets) {
-            Ok(octets) => Ok(Octets { octets }),
-            Err(_) => Err(NoMemory),
-        }
+        let octets = Vec::from_slice(alloc, octets)?;
+        Ok(Octets { octets })
     }
 
     /// The octets of a `Vec`. It takes no memory.
@@ -96,10 +105,8 @@ impl Octets {
         ensures ok { OnOk result (self.new ≡ self.old ++ octet ∷ []) }
         ensures err { OnErr result (self.new ≡ self.old) }
     {
-        match self.octets.push(octet) {
-            Ok(()) => Ok(()),
-            Err(_) => Err(NoMemory),
-        }
+        self.octets.push(octet)?;
+        Ok(())
     }
 
     /// Appends octets. At `Err` nothing has changed.
@@ -107,15 +114,13 @@ impl Octets {
         ensures ok { OnOk result (self.new ≡ self.old ++ octets.now) }
         ensures err { OnErr result (self.new ≡ self.old) }
     {
-        match self.octets.extend_from_slice(octets) {
-            Ok(()) => Ok(()),
-            Err(_) => Err(NoMemory),
-        }
+        self.octets.extend_from_slice(octets)?;
+        Ok(())
     }
 }
 
 /// A list on the heap.
-#[derive(Debug, Drop)]
+#[derive(Drop)]
 pub struct List<T> {
     items: Vec<T>,
 }
@@ -181,9 +186,7 @@ impl<T: Drop> List<T> {
         ensures ok { OnOk result (self.new ≡ self.old ++ item ∷ []) }
         ensures err { OnErr result (self.new ≡ self.old) }
     {
-        match self.items.push(item) {
-            Ok(()) => Ok(()),
-            Err(_) => Err(NoMemory),
-        }
+        self.items.push(item)?;
+        Ok(())
     }
 }

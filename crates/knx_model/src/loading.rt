@@ -1,4 +1,4 @@
-//! The load machine of a device: its loadable objects, load states and load events (ISO/IEC 14543-3, management).
+//! The load machine of a device: its loadable objects, load states and load events (ISO/IEC 14543-3-4, management).
 
 ghost use Rattle.std.specs.Prelude.{◌≡◌};
 ghost use Rattle.knx_model.specs.Device.{object_index, base, capacity};
@@ -13,8 +13,11 @@ pub const TABLE_REFERENCE: u8 = 7;
 /// The device descriptor of type 0: the mask of a System B device.
 pub const DEVICE_DESCRIPTOR: u16 = 0x07B0;
 
+/// The type of a descriptor response that tells that there is no descriptor of the asked type.
+pub const NO_DESCRIPTOR: u8 = 0x3F;
+
 /// The loadable objects of a device, by their object index 1 to 4.
-#[derive(Clone, Copy, Debug, Drop, PartialEq, Eq)]
+#[derive(Clone, Copy, Drop)]
 pub enum LoadableObject {
     AddressTable,
     AssociationTable,
@@ -84,7 +87,7 @@ impl LoadState {
 }
 
 /// A load event, as the ten octets of load control ask for it.
-#[derive(Clone, Copy, Debug, Drop, PartialEq, Eq)]
+#[derive(Clone, Copy, Drop)]
 pub enum LoadEvent {
     /// 0, which changes nothing.
     NoOperation,

@@ -4,7 +4,7 @@ use crate::address::IndAddr;
 use crate::lists::List;
 
 /// Why an attempt ended before its plan's end.
-#[derive(Clone, Copy, Debug, Drop, PartialEq, Eq)]
+#[derive(Clone, Copy, Drop)]
 pub enum Sign {
     /// The device kept silent for so many milliseconds.
     Silent { ms: u32 },
@@ -17,7 +17,7 @@ pub enum Sign {
 }
 
 /// What is told; jobs are numbered from 1.
-#[derive(Clone, Copy, Debug, Drop, PartialEq, Eq)]
+#[derive(Clone, Copy, Drop)]
 pub enum LogWhat {
     /// A worker took the job.
     Took(u32),
@@ -28,7 +28,7 @@ pub enum LogWhat {
 }
 
 /// An entry of the log: after how many events, by which worker, what.
-#[derive(Clone, Copy, Debug, Drop, PartialEq, Eq)]
+#[derive(Clone, Copy, Drop)]
 pub struct LogEntry {
     pub at: u64,
     pub worker: u8,
@@ -36,21 +36,21 @@ pub struct LogEntry {
 }
 
 /// What a run tells.
-#[derive(Debug, Drop)]
+#[derive(Drop)]
 pub struct Report {
     pub log: List<LogEntry>,
     pub missed: u64,
 }
 
 /// A job of a run, as its word names it.
-#[derive(Clone, Copy, Debug, Drop, PartialEq, Eq)]
+#[derive(Clone, Copy, Drop)]
 pub struct JobWord {
     pub device: IndAddr,
     pub check: bool,
 }
 
 /// What the final content of a device is, beside the project's.
-#[derive(Clone, Copy, Debug, Drop, PartialEq, Eq)]
+#[derive(Clone, Copy, Drop)]
 pub enum Case {
     /// It stands for the project's meaning.
     New,
@@ -61,7 +61,7 @@ pub enum Case {
 }
 
 /// A device of the simulated line at the end of a run.
-#[derive(Clone, Copy, Debug, Drop, PartialEq, Eq)]
+#[derive(Clone, Copy, Drop)]
 pub struct DeviceCase {
     pub device: IndAddr,
     pub case: Case,

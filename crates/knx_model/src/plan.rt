@@ -3,7 +3,7 @@
 use crate::frames::ApduOctets;
 
 /// What a plan expects of an operation.
-#[derive(Clone, Debug, Drop, PartialEq, Eq)]
+#[derive(Debug, Drop, PartialEq, Eq)]
 pub enum Expect {
     /// No answer but the acknowledgement.
     AckOnly,
@@ -12,7 +12,7 @@ pub enum Expect {
 }
 
 /// An operation of a plan. The octets are whole APDUs with transport bits 0.
-#[derive(Clone, Debug, Drop, PartialEq, Eq)]
+#[derive(Debug, Drop, PartialEq, Eq)]
 pub enum Op {
     Send { apdu: ApduOctets, expect: Expect },
 }

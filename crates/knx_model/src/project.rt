@@ -6,7 +6,7 @@ use crate::address::{GroupAddr, IndAddr};
 use crate::words::Name;
 
 /// What a statement says. Flags are the flag octet and sizes the size code of the group objects' table.
-#[derive(Debug, Drop)]
+#[derive(Drop)]
 pub enum What<'a> {
     /// `project NAME`
     Title(Name<'a>),
@@ -105,7 +105,7 @@ impl<'a> What<'a> {
 }
 
 /// A statement, and the number of its line, from 1.
-#[derive(Debug, Drop)]
+#[derive(Drop)]
 pub struct Statement<'a> {
     pub line: u32,
     pub what: What<'a>,

@@ -13,7 +13,7 @@ pub struct Cut {
 }
 
 /// What is asked of a group by a telegram: its value, or to take one that was written or answered.
-#[derive(Clone, Debug, Drop, PartialEq, Eq)]
+#[derive(Debug, Drop, PartialEq, Eq)]
 pub enum GroupService {
     Read,
     Write(Value),
@@ -21,7 +21,7 @@ pub enum GroupService {
 }
 
 /// What a line of a script says. The counts N are at least 1.
-#[derive(Clone, Debug, Drop, PartialEq, Eq)]
+#[derive(Drop, PartialEq, Eq)]
 pub enum ScriptWhat {
     /// `lose up N`: the N-th datagram that the client sends is lost.
     LoseUp(u32),
@@ -66,7 +66,7 @@ pub enum ScriptWhat {
 }
 
 /// A line of a script, and its number, from 1.
-#[derive(Clone, Debug, Drop, PartialEq, Eq)]
+#[derive(Drop)]
 pub struct ScriptLine {
     pub line: u32,
     pub what: ScriptWhat,

@@ -6,7 +6,8 @@ use Rattle.knx_model.specs.declared.status.Status.{Status}
 use Rattle.knx_model.specs.Bench.{Trace}
 use Rattle.knx_model.specs.Outside.{Told}
 use Rattle.knx_top.specs.Asked.{Command, Check, Tables, Sim, Decode, files_of, no_files}
-use Rattle.knx_top.specs.Call.{AnswersTo, ComesTo, TellsOf, WroteOf, WroteOutcome}
+use Rattle.knx_top.specs.Call.{AnswersTo, ComesTo, TellsOf, WroteOutcome}
+use Rattle.knx_top.specs.Ended.{WroteOf}
 use Rattle.knx_top.specs.Judged.{Commission}
 use Rattle.knx_top.specs.Ran.{Outcome, Stops, Tells, Reports, Commissions}
 

@@ -11,7 +11,7 @@ use Rattle.knx_model.specs.declared.script.Cut.{Cut}
 use Rattle.knx_model.specs.Bench.{Trace, now, moment, replay, Went}
 use Rattle.knx_model.specs.Device.{NonVolatile, DeviceState, blank_object, Fits}
 use Rattle.knx_model.specs.Meaning.{Installation, meaning}
-use Rattle.knx_model.specs.Plan.{HasCapacities, OldStoppedOrImage}
+use Rattle.knx_model.specs.Plan.{HasCapacities, OldStoppedOrImage, load_plan}
 use Rattle.knx_model.specs.Promises.{StartOf, BeginsLoaded, BeginsBlank, OldStoppedOrNew, RunsProject, ToldTruly}
 use Rattle.knx_model.specs.Script.{Follows}
 use Rattle.knx_model.specs.Tables.{StandsFor}
@@ -21,7 +21,7 @@ use Rattle.knx_top.specs.declared.download.JobEnd.{JobEnd}
 use Rattle.knx_top.specs.declared.download.JobEnd.TheVariants.{Done, Failed}
 use Rattle.knx_top.specs.Judged.{Commission}
 use Rattle.knx_top.specs.Order.{OrderFor, IsOrder, IsBefore}
-use Rattle.knx_top.specs.Ran.{Commissions, Stops, Reports, Outcome, Began, Ran, IsOver, IsDone, HasFailed}
+use Rattle.knx_top.specs.Ran.{Commissions, Stops, Reports, Outcome, Began, Ran, IsOver, IsDone, HasFailed, KeptToPlan}
 use Rattle.knx_top.specs.Start.{start_with}
 use Rattle.knx_top.specs.Ended.{log_of, run_outcome, HasLoaded, HasEnded, Reported}
 
@@ -102,12 +102,13 @@ start_for project device (Some image) b = BeginsLoaded b.0 image b.1.stands refl
 -- ---- the moments
 
 -- from the first event on
-pub loaded_since : (image : Image) (cuts : List Cut) (old new : Trace) → old.events ≡ [] → Went (OldStoppedOrImage (now old).kept image) old new → Follows cuts new.start 0 new.events → HasLoaded image cuts new
-loaded_since image cuts old new none went follows =
+pub loaded_since : (image : Image) (cuts : List Cut) (old new : Trace) → old.events ≡ [] → Went (OldStoppedOrImage (now old).kept image) old new → Follows cuts new.start 0 new.events → KeptToPlan (load_plan image) new → HasLoaded image cuts new
+loaded_since image cuts old new none went follows kept_to =
     let start : (now old).kept ≡ new.start.kept = rw (none, went.start) refl in
     record {
       follows = follows;
       moments = λ k h. subst (λ (nv : NonVolatile). OldStoppedOrImage nv image (moment new k).kept) start (went.each k (rw none (omega arith)) h);
+      kept_to = kept_to;
     }
 
 image_case : (c : Commission) (image : Image) (start nv : NonVolatile) → StandsFor image (meaning c.project c.device) → OldStoppedOrImage start image nv → OldStoppedOrNew c.project c.device start nv
@@ -121,6 +122,9 @@ begun c order t o start h = record {
   start = subst (StartOf c.before c.device) (sym (start ∙ ap (λ (d : IndAddr). start_with d order.before) o.device)) (start_for c.before c.device order.before o.before);
   follows = subst (λ (cuts : List Cut). Follows cuts t.start 0 t.events) o.cuts h.follows;
   moments = λ k l. image_case c order.image t.start.kept (moment t k).kept o.image.stands (h.moments k l);
+  image = order.image;
+  stands = o.image.stands;
+  kept_to = h.kept_to;
 }
 
 -- ---- the end

@@ -1,6 +1,7 @@
 -- An attempt goes on: operation after operation, with the plan's promise for those that are left.
-use Rattle.std.proofs.Common.{ℕ, ◌≡◌, ◌+◌, ◌<◌, Bool, true, List, [], ◌∷◌, ◌++◌, length, drop, take, append_assoc, append-nil, take-append-drop, Option, Some, None, refl, sym, ◌∙◌, ap, subst, arith, inl, inr, drop-cons, add-one, suc, ltb}
+use Rattle.std.proofs.Common.{ℕ, ◌≡◌, ◌+◌, ◌<◌, Bool, true, List, [], ◌∷◌, ◌++◌, length, drop, take, append_assoc, append-nil, take-append-drop, Option, Some, None, Result, Ok, Err, refl, sym, ◌∙◌, ap, subst, arith, inl, inr, drop-cons, add-one, suc, ltb}
 use Rattle.std.specs.List.{slice_get}
+use Rattle.std.specs.Result.{OnErr}
 use Rattle.std.proofs.lemmas.List.{take_more, drop_all, take_all}
 use Rattle.std.proofs.lemmas.Option.{slice_get_within, get_or_from_slice_get}
 use Rattle.knx_model.specs.declared.bench.BenchEvent.{BenchEvent}
@@ -11,8 +12,8 @@ use Rattle.knx_model.specs.Device.{NonVolatile, DeviceState, Effect, Loads, Stor
 use Rattle.knx_model.specs.Bench.{Trace, happens, replay, now, after, answered, cut_after, written_front, Went}
 use Rattle.knx_model.specs.Plan.{Leads, Serves, HasCapacities, OldStoppedOrImage, GoodPlan, load_plan, apdu_of, expected_of, gives, AnswersAll}
 use Rattle.download_plan.proofs.Capacities.{replay_capacities}
-use Rattle.knx_top.specs.Attempt.{Moves, Passes, CutsOff, EndsCutOff}
-use Rattle.knx_top.specs.Ran.{WereCutOff, NoneYet, OneMore, GotThrough}
+use Rattle.knx_top.specs.Attempt.{Begins, Moves, Passes, CutsOff, EndsCutOff, StopsIn}
+use Rattle.knx_top.specs.Ran.{WereCutOff, NoneYet, OneMore, GotThrough, WasBegun, HasGiven, WasCut, KeptToPlan, InAttempt, AfterThree}
 use Rattle.knx_top.proofs.Traces.{replay_last, Went_none, Went_more, Went_join, Went_weaker, Went_now}
 
 -- the bench went from first to here with P at every moment, has power, gave these operations as they were expected, and the rest of
@@ -173,6 +174,26 @@ ends_cut_off_at P R ops k op first here new e g c =
       };
     }
 
+-- what stands holds where there is an error
+pub on_err : {T E : Type 0} (result : Result T E) (P : Type 0) → P → OnErr result P
+on_err (Ok x) P h = tt
+on_err (Err why) P h = h
+
+-- memory was wanting in the operation at this index
+pub begins_at : (P R : NonVolatile → Type 0) (ops : List Op) (k : ℕ) (op : Op) (first here new : Trace) → slice_get ops k ≡ Some op → IsGoing P R first here (take k ops) (drop k ops) → StopsIn op here new → Begins ops first new
+begins_at P R ops k op first here new e g (inl n) = record {
+  events = gives (take k ops);
+  more = rw n g.events;
+  begun = HasGiven (take k ops) (drop k ops) (sym (take-append-drop k ops)) g.answers;
+}
+begins_at P R ops k op first here new e g (inr n) =
+    let torn : BenchEvent = GiveTorn (apdu_of op) n.0 n.1.0 in
+    record {
+      events = gives (take k ops) ++ torn ∷ [];
+      more = rw (n.1.1, g.events) (append_assoc first.events (gives (take k ops)) (torn ∷ []));
+      begun = WasCut (take k ops) (drop (k + 1) ops) op n.0 n.1.0 (sym (take-append-drop k ops) ∙ ap (λ (rest : List Op). take k ops ++ rest) (front_of ops k op e)) g.answers;
+    }
+
 -- all operations were given
 pub all_given : (P R : NonVolatile → Type 0) (ops : List Op) (n : ℕ) (first here : Trace) → n ≡ length ops → IsGoing P R first here (take n ops) (drop n ops) → IsGoing P R first here ops []
 all_given P R ops n first here e g =
@@ -198,6 +219,14 @@ got_through ops n old new fewer start were whole answers = record {
   whole = whole;
   answers = rw start answers;
 }
+
+-- memory was wanting in the next attempt
+pub kept_wanting : (ops : List Op) (n : ℕ) (old new : Trace) → n < 3 → new.start ≡ old.start → WereCutOff ops old.start n old.events → Begins ops old new → KeptToPlan ops new
+kept_wanting ops n old new fewer start were b = InAttempt n fewer old.events b.events (rw start were) (rw start b.begun) b.more
+
+-- a run that got through has kept to the plan
+pub kept_through : (ops : List Op) (t : Trace) → GotThrough ops t → KeptToPlan ops t
+kept_through ops t g = InAttempt g.cuts g.fewer g.front (gives ops) g.cut_off (HasGiven ops [] (sym (append-nil ops)) g.answers) g.whole
 
 -- a new attempt begins from content that is already one of the cases
 pub case_case : (start mid : NonVolatile) (image : Image) → OldStoppedOrImage start image mid → (u : NonVolatile) → OldStoppedOrImage mid image u → OldStoppedOrImage start image u

@@ -7,7 +7,7 @@ use Rattle.knx_model.specs.declared.script.Cut.{Cut}
 use Rattle.knx_model.specs.Bench.{Trace, now, after, answered}
 use Rattle.knx_model.specs.Plan.{apdu_of, expected_of}
 use Rattle.knx_model.specs.Script.{Follows, write_count}
-use Rattle.knx_top.specs.Ran.{WasCutOff}
+use Rattle.knx_top.specs.Ran.{WasBegun, WasCutOff}
 
 -- nothing yet, or it was taken whole, or it was torn, and then power may have come back
 abbrev pub Moves : Op → Trace → Trace → Type 0
@@ -32,6 +32,16 @@ pub record EndsCutOff (ops : List Op) (old new : Trace) : Type 0 where
   pub events : List BenchEvent
   pub more : new.events ≡ old.events ++ events
   pub cut_off : WasCutOff ops (now old) events
+
+-- memory was wanting in it: nothing was done, or power was cut in it and didn't come back
+abbrev pub StopsIn : Op → Trace → Trace → Type 0
+StopsIn op old new = (new ≡ old) ⊎ ((fresh : Bool) × ((octets : List ℕ) × (new ≡ after old (GiveTorn (apdu_of op) fresh octets))))
+
+-- from old to new there was a beginning of an attempt
+pub record Begins (ops : List Op) (old new : Trace) : Type 0 where
+  pub events : List BenchEvent
+  pub more : new.events ≡ old.events ++ events
+  pub begun : WasBegun ops (now old) events
 
 -- all events of a bench follow the script, and so many writes came
 pub record IsScripted (cuts : List Cut) (n : ℕ) (t : Trace) : Type 0 where

@@ -89,16 +89,8 @@ outcome_text names (Reports report jobs devices) = report_text report jobs devic
 abbrev pub Wrote : List ℕ → Status → Type 0 → Option (List ℕ) → Option (List ℕ) → Status → Type 0
 Wrote text ending rose before after told = ((told ≡ ending) × Takes text before after) ⊎ ((told ≡ status.Write) × (rose × TakesFront text before after))
 
--- the text of an outcome and its status
-abbrev pub IsTextOf : FileNames → Outcome → List ℕ → Status → Type 0
-IsTextOf names outcome text ending = (text ≡ outcome_text names outcome) × (ending ≡ outcome_status outcome)
-
 abbrev pub WroteOutcome : FileNames → Outcome → Type 0 → Option (List ℕ) → Option (List ℕ) → Status → Type 0
 WroteOutcome names outcome rose before after told = Wrote (outcome_text names outcome) (outcome_status outcome) rose before after told
-
--- an outcome was written, or that there was no memory for its text
-abbrev pub WroteOf : FileNames → Outcome → Type 0 → Option (List ℕ) → Option (List ℕ) → Status → Type 0
-WroteOf names outcome rose before after told = WroteOutcome names outcome rose before after told ⊎ WroteOutcome names (Stops stop.NoMemory) rose before after told
 
 -- What a call does that is asked for a command, or for nothing: the sink had taken `taken` and has taken `taken'`, and the call ended
 -- with a status.

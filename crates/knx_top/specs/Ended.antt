@@ -1,5 +1,5 @@
--- What a run has done so far, and what is reported of it in the end.
-use Rattle.std.specs.Prelude.{ℕ, ◌≡◌, ◌≤◌, false, List, [], ◌∷◌, length, Some, Result, Ok, Err}
+-- What a run has done so far, what is reported of it in the end, and what is written of that.
+use Rattle.std.specs.Prelude.{ℕ, ◌≡◌, ◌≤◌, ◌⊎◌, false, List, [], ◌∷◌, length, Option, Some, Result, Ok, Err}
 use Rattle.knx_model.specs.declared.address.IndAddr.{IndAddr}
 use Rattle.knx_model.specs.declared.command.Stop.{Stop}
 use Rattle.knx_model.specs.declared.command.Stop.TheVariants as stop
@@ -10,8 +10,11 @@ use Rattle.knx_model.specs.declared.log.LogWhat.{LogWhat}
 use Rattle.knx_model.specs.declared.log.LogWhat.TheVariants as told
 use Rattle.knx_model.specs.declared.log.Sign.TheVariants.{Closed}
 use Rattle.knx_model.specs.declared.script.Cut.{Cut}
+use Rattle.knx_model.specs.declared.status.Status.{Status}
 use Rattle.knx_model.specs.Bench.{Trace, now, moment}
-use Rattle.knx_top.specs.Ran.{Outcome, Stops, Tells, Reports, entry, WereCutOff, GotThrough}
+use Rattle.knx_top.specs.Asked.{FileNames}
+use Rattle.knx_top.specs.Call.{WroteOutcome, outcome_status, outcome_text}
+use Rattle.knx_top.specs.Ran.{Outcome, Stops, Tells, Reports, entry, WereCutOff, GotThrough, KeptToPlan}
 use Rattle.knx_model.specs.Device.{runs}
 use Rattle.knx_model.specs.Meaning.{Installation, meaning}
 use Rattle.knx_model.specs.Plan.{OldStoppedOrImage, load_plan}
@@ -30,10 +33,11 @@ end_of Failed = told.Failed 1 (Closed ∷ Closed ∷ Closed ∷ [])
 abbrev pub log_of : JobEnd → ℕ → List LogEntry
 log_of end at = entry 0 (told.Took 1) ∷ entry at (end_of end) ∷ []
 
--- the events so far follow the script, and at each moment the content is the start's, or stopped, or the image's
+-- the events so far follow the script and keep to the image's plan, and at each moment the content is the start's, or stopped, or the image's
 pub record HasLoaded (image : Image) (cuts : List Cut) (t : Trace) : Type 0 where
   pub follows : Follows cuts t.start 0 t.events
   pub moments : (k : ℕ) → k ≤ length t.events → OldStoppedOrImage t.start.kept image (moment t k).kept
+  pub kept_to : KeptToPlan (load_plan image) t
 
 -- the job ended so, and this was reported
 pub record HasReported (image : Image) (named : IndAddr) (t : Trace) (end : JobEnd) (ended : Ended) : Type 0 where
@@ -68,3 +72,13 @@ run_outcome (Err why) = Stops stop.NoMemory
 abbrev pub told_outcome : Result (List ℕ) Stop → Outcome
 told_outcome (Ok text) = Tells text
 told_outcome (Err why) = Stops why
+
+-- ---- what is written of it
+
+-- the text of an outcome and its status
+abbrev pub IsTextOf : FileNames → Outcome → List ℕ → Status → Type 0
+IsTextOf names outcome text ending = (text ≡ outcome_text names outcome) × (ending ≡ outcome_status outcome)
+
+-- an outcome was written, or that there was no memory for its text
+abbrev pub WroteOf : FileNames → Outcome → Type 0 → Option (List ℕ) → Option (List ℕ) → Status → Type 0
+WroteOf names outcome rose before after told = WroteOutcome names outcome rose before after told ⊎ WroteOutcome names (Stops stop.NoMemory) rose before after told

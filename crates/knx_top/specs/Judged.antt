@@ -1,6 +1,6 @@
 -- What a call reads, and where it stops: the files are read in the order catalogue, NEW or P, OLD, SCRIPT; then the catalogue, NEW,
 -- OLD, the script and the script's devices are tried. The first refusal ends the call.
-use Rattle.std.specs.Prelude.{ℕ, ◌≡◌, ◌≢◌, Bool, true, false, ◌==◌, List, [], ◌∷◌, Option, Some, None, Result, Ok, Err, if◌then◌else◌}
+use Rattle.std.specs.Prelude.{ℕ, ◌≡◌, Bool, true, false, ◌==◌, List, [], ◌∷◌, Option, Some, None, Result, Ok, Err, if◌then◌else◌}
 use Rattle.std.specs.List.{list_all}
 use Rattle.catalogue.specs.Catalogue.{catalogue_of}
 use Rattle.knx_model.specs.declared.address.IndAddr.{IndAddr}
@@ -16,6 +16,7 @@ use Rattle.knx_model.specs.declared.refusal.Refused.{Refused}
 use Rattle.knx_model.specs.declared.refusal.Why.TheVariants.{NotBuilt}
 use Rattle.knx_model.specs.declared.script.Cut.{Cut}
 use Rattle.knx_model.specs.declared.script.ScriptLine.{ScriptLine}
+use Rattle.knx_model.specs.Answers.{◌>>=◌, AnswersUnless}
 use Rattle.knx_model.specs.Meaning.{Installation}
 use Rattle.knx_model.specs.Outside.{Told, MayRead}
 use Rattle.knx_model.specs.Rules.{first_broken, devices_of}
@@ -64,11 +65,6 @@ pub record SimIsRead (told : List ℕ → Told) (rose : Type 0) (words : SimWord
   pub script : IsRead (told words.script) rose reads.script
 
 -- ---- where a call stops
-
-infixl 10 ◌>>=◌
-abbrev pub ◌>>=◌ : {A B : Type 0} → Result A Stop → (A → Result B Stop) → Result B Stop
-(Ok x) >>= f = f x
-(Err e) >>= f = Err e
 
 abbrev pub fault_of : InputFile → FileFault → Stop
 fault_of place fault.NotThere = stop.NotThere place
@@ -178,5 +174,4 @@ judged reads = do
 
 -- ---- an answer of the code beside the definition's: the same, unless memory was wanting
 abbrev pub Gives : {A B : Type 0} → (A → B) → Result A Stop → Result B Stop → Type 0
-Gives view (Ok x) defined = defined ≡ Ok (view x)
-Gives view (Err why) defined = why ≢ stop.NoMemory → defined ≡ Err why
+Gives view answer defined = AnswersUnless (λ why. why ≡ stop.NoMemory) view answer defined

@@ -23,12 +23,6 @@ use Rattle.knx_model.specs.Script.{Follows}
 use Rattle.knx_model.specs.Tables.{StandsFor}
 use Rattle.knx_top.specs.Judged.{Commission}
 
--- a run that has begun: its start is the one that is stated, its events follow the script, and each moment is old, stopped or new
-pub record Began (c : Commission) (t : Trace) : Type 0 where
-  pub start : StartOf c.before c.device t.start
-  pub follows : Follows c.cuts t.start 0 t.events
-  pub moments : AtEveryMoment c.project c.device t
-
 -- ---- the attempts of a job
 
 -- These events, from the device d on, are an attempt that a cut ended: operations of the plan, from its first on, were given whole and
@@ -56,6 +50,30 @@ pub record GotThrough (ops : List Op) (t : Trace) : Type 0 where
   pub cut_off : WereCutOff ops t.start cuts front
   pub whole : t.events ≡ front ++ gives ops
   pub answers : AnswersAll (replay t.start front) ops
+
+-- These events, from the device d on, are a beginning of an attempt: operations of the plan, from its first on, were given whole and
+-- each was answered as expected, and then power may have been cut in the next one.
+pub data WasBegun (ops : List Op) (d : DeviceState) : List BenchEvent → Type 0 where
+  HasGiven : (given rest : List Op) → ops ≡ given ++ rest → AnswersAll d given → WasBegun ops d (gives given)
+  WasCut : (given rest : List Op) (op : Op) (fresh : Bool) (octets : List ℕ) → ops ≡ given ++ op ∷ rest → AnswersAll d given → WasBegun ops d (gives given ++ GiveTorn (apdu_of op) fresh octets ∷ [])
+
+-- all events of a run so far are fewer than three attempts that a cut ended and then a beginning of one more, or three that a cut ended,
+-- and nothing more
+pub data KeptToPlan (ops : List Op) (t : Trace) : Type 0 where
+  InAttempt : (cuts : ℕ) → cuts < 3 → (front last : List BenchEvent) → WereCutOff ops t.start cuts front → WasBegun ops (replay t.start front) last → t.events ≡ front ++ last → KeptToPlan ops t
+  AfterThree : WereCutOff ops t.start 3 t.events → KeptToPlan ops t
+
+-- A run that has begun, whether it ends or memory is wanting on the way: its start is the one that is stated, its events follow the
+-- script and keep to the load plan of the project's image, and each moment is old, stopped or new.
+pub record Began (c : Commission) (t : Trace) : Type 0 where
+  pub start : StartOf c.before c.device t.start
+  pub follows : Follows c.cuts t.start 0 t.events
+  pub moments : AtEveryMoment c.project c.device t
+  pub image : Image
+  pub stands : StandsFor image (meaning c.project c.device)
+  pub kept_to : KeptToPlan (load_plan image) t
+
+-- ---- how a run ends
 
 abbrev pub entry : ℕ → LogWhat → LogEntry
 entry at what = record { at = at; worker = 1; what = what }

@@ -4,8 +4,8 @@ ghost use Rattle.std.specs.Prelude.{◌≡◌, Some, map, string_bytes, IfOk};
 ghost use Rattle.std.specs.List.{list_any};
 ghost use Rattle.knx_model.specs.Outside.{Rose};
 ghost use Rattle.knx_top.specs.Asked.{FileNames as Named};
-ghost use Rattle.knx_top.specs.Call.{Answers, AnswersTo, IsTextOf, Wrote, WroteOf, is_failed, log_status};
-ghost use Rattle.knx_top.specs.Ended.{outcome_of, told_outcome};
+ghost use Rattle.knx_top.specs.Call.{Answers, AnswersTo, Wrote, is_failed, log_status};
+ghost use Rattle.knx_top.specs.Ended.{IsTextOf, WroteOf, outcome_of, told_outcome};
 ghost use Rattle.knx_top.specs.Names.{command_of, files_of};
 ghost use Rattle.knx_top.specs.Ran.{Outcome, Stops};
 

@@ -127,11 +127,7 @@ fn commission_order(alloc: Global, order: Order, sim: &mut Bench) -> Result<Ende
 pub fn commission(alloc: Global, texts: &SimTexts, sim: &mut Bench) -> Result<Ended, Stop>
     ensures { Commissions (judged (sim_reads_of texts.now)) sim.old sim.new (outcome_of result) }
 {
-    match judge(alloc, texts) {
-        Err(why) => Err(why),
-        Ok(order) => match commission_order(alloc, order, sim) {
-            Ok(ended) => Ok(ended),
-            Err(_) => Err(Stop::NoMemory),
-        },
-    }
+    let order = judge(alloc, texts)?;
+    let ended = commission_order(alloc, order, sim)?;
+    Ok(ended)
 }

@@ -1,15 +1,15 @@
 //! A job: three attempts, each of which gives the operations of the plan in order until a cut.
 
-ghost use Rattle.std.specs.Prelude.{◌≡◌, ◌≢◌, ◌++◌, [], IfSome, IfOk, OnOk, IsTrue, ◌↔◌, Some, None, true};
+ghost use Rattle.std.specs.Prelude.{◌≡◌, ◌≢◌, ◌++◌, [], IfSome, IfOk, OnOk, OnErr, IsTrue, ◌↔◌, Some, None, true};
 ghost use Rattle.knx_model.specs.Device.{runs, effect_in, is_write};
 ghost use Rattle.knx_model.specs.Bench.{now, answered, Went};
 ghost use Rattle.knx_model.specs.Plan.{OldStoppedOrImage, HasCapacities, AnswersAll, load_plan, apdu_of, expected_of, gives};
 ghost use Rattle.knx_model.specs.Script.{cut_for, number_with, Follows};
-ghost use Rattle.knx_top.specs.Attempt.{Moves, Passes, CutsOff, EndsCutOff, IsScripted};
-ghost use Rattle.knx_top.specs.Ran.{WereCutOff, GotThrough};
+ghost use Rattle.knx_top.specs.Attempt.{Begins, Moves, Passes, CutsOff, EndsCutOff, IsScripted, StopsIn};
+ghost use Rattle.knx_top.specs.Ran.{WereCutOff, GotThrough, KeptToPlan};
 
 use crate::bench::Run;
-use download_plan::LoadPlan;
+use download_plan::{LoadPlan, each_plan_is_good};
 use knx_model::{ApduOctets, Cut, Expect, NoMemory, Op};
 use std::alloc::Global;
 
@@ -17,7 +17,7 @@ use std::alloc::Global;
 const ATTEMPTS: u32 = 3;
 
 /// How a job ended.
-#[derive(Clone, Copy, Debug, Drop, PartialEq, Eq)]
+#[derive(Clone, Copy, Drop)]
 pub enum JobEnd {
     /// The project's configuration runs.
     Done,
@@ -26,14 +26,14 @@ pub enum JobEnd {
 }
 
 /// How one attempt ended.
-#[derive(Clone, Copy, Debug, Drop, PartialEq, Eq)]
+#[derive(Clone, Copy, Drop)]
 enum AttemptEnd {
     Done,
     Closed,
 }
 
 /// How one operation went.
-#[derive(Clone, Copy, Debug, Drop, PartialEq, Eq)]
+#[derive(Clone, Copy, Drop)]
 enum Progress {
     Passed,
     CutOff,
@@ -101,6 +101,7 @@ fn operate(
     ensures script { OnOk result (IsScripted cuts.now count.new run.new) }
     ensures moves { Moves op.now run.old run.new }
     ensures power { OnOk result ((now run.new).power ≡ true) }
+    ensures wanting { OnErr result (StopsIn op.now run.old run.new) }
     ensures passed { IfOk result (λ progress. progress ≡ Progress.Passed → Passes op.now run.old run.new) }
     ensures cut_off { IfOk result (λ progress. progress ≡ Progress.CutOff → CutsOff op.now run.old run.new) }
     ensures differs { IfOk result (λ progress. progress ≡ Progress.Differs → answered (now run.old) (apdu_of op.now) ≢ expected_of op.now) }
@@ -138,12 +139,13 @@ fn attempt(
     ensures script { OnOk result (IsScripted cuts.now count.new run.new) }
     ensures moments { Went (OldStoppedOrImage (now run.old).kept plan.now) run.old run.new }
     ensures power { OnOk result ((now run.new).power ≡ true) }
+    ensures wanting { OnErr result (Begins (load_plan plan.now) run.old run.new) }
     ensures closed { IfOk result (λ ending. ending ≡ AttemptEnd.Closed → EndsCutOff (load_plan plan.now) run.old run.new) }
     ensures whole { IfOk result (λ ending. ending ≡ AttemptEnd.Done → run.new.events ≡ run.old.events ++ gives (load_plan plan.now)) }
     ensures answers { IfOk result (λ ending. ending ≡ AttemptEnd.Done → AnswersAll (now run.old) (load_plan plan.now)) }
     ensures done { IfOk result (λ ending. ending ≡ AttemptEnd.Done → runs (now run.new).kept ≡ Some plan.now) }
 {
-    plan.keeps();
+    each_plan_is_good();
     for k in 0..plan.len() {
         let op = plan.op(k);
         match operate(alloc, run, &op, cuts, count)? {
@@ -157,7 +159,7 @@ fn attempt(
 
 /// Loads the plan's image, in three attempts. Whatever is cut, at every moment of the call the device's content is what it was
 /// before, or the device is stopped, or it runs the image; and where `Done` is answered, it runs the image. `Failed` is answered after three
-/// attempts that a cut ended, `Done` after fewer and then the whole plan.
+/// attempts that a cut ended, `Done` after fewer and then the whole plan; and where memory is wanting, what was done is a beginning of these.
 pub fn download(
     alloc: Global,
     run: &mut Run,
@@ -169,6 +171,7 @@ pub fn download(
     requires fresh { run.old.events ≡ [] }
     ensures follows { Follows cuts.now run.new.start 0 run.new.events }
     ensures moments { Went (OldStoppedOrImage (now run.old).kept plan.now) run.old run.new }
+    ensures kept_to { KeptToPlan (load_plan plan.now) run.new }
     ensures failed { IfOk result (λ ending. ending ≡ JobEnd.Failed → WereCutOff (load_plan plan.now) run.new.start 3 run.new.events) }
     ensures got_through { IfOk result (λ ending. ending ≡ JobEnd.Done → GotThrough (load_plan plan.now) run.new) }
     ensures done { IfOk result (λ ending. ending ≡ JobEnd.Done → runs (now run.new).kept ≡ Some plan.now) }

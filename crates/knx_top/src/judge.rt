@@ -78,10 +78,9 @@ fn cuts_in(alloc: Global, octets: &[u8], device: IndAddr) -> Result<List<Cut>, S
     if let Some(refused) = first_stranger(&[device], lines) {
         return Err(refusal(InputFile::Script, refused));
     }
-    match just_cuts(alloc, lines) {
-        Ok(Some(cuts)) => Ok(cuts),
-        Ok(None) => Err(not_built(InputFile::Script)),
-        Err(_) => Err(Stop::NoMemory),
+    match just_cuts(alloc, lines)? {
+        Some(cuts) => Ok(cuts),
+        None => Err(not_built(InputFile::Script)),
     }
 }
 
@@ -90,10 +89,8 @@ fn image_of(alloc: Global, checked: &Checked<'_, '_>, device: IndAddr) -> Result
     ensures ok { IfOk result (λ image. IsImage checked.now device image) }
     ensures err { IfErr result (λ why. why ≡ OutOfMemory) }
 {
-    match compile(alloc, checked, device) {
-        Ok(image) => Ok(image),
-        Err(_) => Err(Stop::NoMemory),
-    }
+    let image = compile(alloc, checked, device)?;
+    Ok(image)
 }
 
 /// The image of a device where a project has it.

@@ -3,14 +3,16 @@
 ghost use Rattle.std.specs.Prelude.{◌≡◌, ◌≢◌, ◌++◌, ◌∷◌, [], codes, OnOk, IfOk};
 ghost use Rattle.std.specs.Fmt.{decimal};
 ghost use Rattle.std.specs.List.{join_with_byte};
-ghost use Rattle.knx_model.specs.Refusal.{why_number, why_word};
+ghost use Rattle.knx_model.specs.Refusal.{catalogue_number, catalogue_word, why_number, why_word};
 ghost use Rattle.knx_model.specs.ReportText.{catalogue_line, catalogue_words, file_word, limit_of, optional_number, read_fault_line, refusal_line, refusal_status, stop_status, stop_text};
 ghost use Rattle.knx_top.specs.Asked.{name_in};
 ghost use Rattle.knx_top.specs.Names.{files_of};
 
 use crate::asked::FileNames;
-use knx_model::{CatRefused, InputFile, NoMemory, Octets, Refused, Status, Stop, Why};
-use report_text::put_number;
+use knx_model::{
+    CatRefused, InputFile, NoMemory, Octets, Refused, Status, Stop, Why, put_number,
+    put_number_word, put_word,
+};
 use std::alloc::Global;
 
 /// The line for words that are no command.
@@ -69,10 +71,9 @@ fn read_fault(alloc: Global, name: &str, why: &str) -> Result<Octets, NoMemory>
     ensures { IfOk result (λ text. text ≡ read_fault_line name.now why.now) }
 {
     let mut out = Octets::new(alloc);
-    out.append(b"read fault ")?;
-    out.append(name.as_bytes())?;
-    out.push(b' ')?;
-    out.append(why.as_bytes())?;
+    out.append(b"read fault")?;
+    put_word(&mut out, name.as_bytes())?;
+    put_word(&mut out, why.as_bytes())?;
     out.push(b'\n')?;
     Ok(out)
 }
@@ -87,55 +88,51 @@ fn put_why(alloc: Global, out: &mut Octets, why: Why) -> Result<(), NoMemory>
     }
     out.append(why.word().as_bytes())?;
     if let Why::TooMany { limit } = why {
-        out.push(b' ')?;
-        put_number(alloc, out, u64::from(limit))?;
+        put_number_word(alloc, out, u64::from(limit))?;
     }
     Ok(())
 }
 
-fn refusal(alloc: Global, place: InputFile, refused: Refused) -> Result<Octets, NoMemory>
+fn refusal_text(alloc: Global, place: InputFile, refused: Refused) -> Result<Octets, NoMemory>
     ensures { IfOk result (λ text. text ≡ refusal_line place refused) }
 {
     let mut out = Octets::new(alloc);
     out.append(file_word(place).as_bytes())?;
-    out.append(b" line ")?;
-    put_number(alloc, &mut out, u64::from(refused.line))?;
+    out.append(b" line")?;
+    put_number_word(alloc, &mut out, u64::from(refused.line))?;
     out.append(b": ")?;
     put_why(alloc, &mut out, refused.why)?;
     out.push(b'\n')?;
     Ok(out)
 }
 
-/// Appends a word behind a space.
-fn put_word(out: &mut Octets, word: &[u8]) -> Result<(), NoMemory>
-    ensures { OnOk result (out.new ≡ out.old ++ 32 ∷ word.now) }
+/// Appends the number and the word of a catalogue's refusal.
+fn put_catalogue_why(alloc: Global, out: &mut Octets, refused: &CatRefused) -> Result<(), NoMemory>
+    ensures { OnOk result (out.new ≡ out.old ++ join_with_byte 32 (optional_number (catalogue_number refused.now) ++ catalogue_word refused.now ∷ [])) }
 {
-    out.push(b' ')?;
-    out.append(word)
+    if let Some(number) = refused.number() {
+        put_number(alloc, out, u64::from(number))?;
+        out.push(b' ')?;
+    }
+    out.append(refused.word().as_bytes())
 }
 
 /// Appends the number and the word of a catalogue's refusal, and the model and the parameter where it has them.
-fn put_catalogue_words(out: &mut Octets, refused: &CatRefused) -> Result<(), NoMemory>
+fn put_catalogue_words(
+    alloc: Global,
+    out: &mut Octets,
+    refused: &CatRefused,
+) -> Result<(), NoMemory>
     ensures { OnOk result (out.new ≡ out.old ++ join_with_byte 32 (catalogue_words refused.now)) }
 {
+    put_catalogue_why(alloc, out, refused)?;
     match refused {
-        CatRefused::NoMemory => out.append(b"NoMemory"),
-        CatRefused::Toml => out.append(b"1 Toml"),
-        CatRefused::Shape { model } => {
-            out.append(b"2 Shape")?;
-            put_word(out, model.as_slice())
-        }
-        CatRefused::Overlap { model, parameter } => {
-            out.append(b"3 Overlap")?;
+        CatRefused::Shape { model } => put_word(out, model.as_slice()),
+        CatRefused::Overlap { model, parameter } | CatRefused::Range { model, parameter } => {
             put_word(out, model.as_slice())?;
             put_word(out, parameter.as_slice())
         }
-        CatRefused::Range { model, parameter } => {
-            out.append(b"4 Range")?;
-            put_word(out, model.as_slice())?;
-            put_word(out, parameter.as_slice())
-        }
-        CatRefused::Long => out.append(b"5 Long"),
+        CatRefused::NoMemory | CatRefused::Toml | CatRefused::Long => Ok(()),
     }
 }
 
@@ -144,7 +141,7 @@ fn catalogue_refusal(alloc: Global, refused: &CatRefused) -> Result<Octets, NoMe
 {
     let mut out = Octets::new(alloc);
     out.append(b"catalogue: ")?;
-    put_catalogue_words(&mut out, refused)?;
+    put_catalogue_words(alloc, &mut out, refused)?;
     out.push(b'\n')?;
     Ok(out)
 }
@@ -158,7 +155,7 @@ pub fn stop_text(alloc: Global, names: FileNames<'_>, stop: &Stop) -> Result<Oct
         Stop::NotThere(place) => read_fault(alloc, name_in(names, *place), "NotThere"),
         Stop::ReadFailed(place) => read_fault(alloc, name_in(names, *place), "Failed"),
         Stop::CatalogueRefused(refused) => catalogue_refusal(alloc, refused),
-        Stop::Refused(place, refused) => refusal(alloc, *place, *refused),
+        Stop::Refused(place, refused) => refusal_text(alloc, *place, *refused),
         Stop::NoMemory => Octets::from_slice(alloc, NO_MEMORY),
     }
 }

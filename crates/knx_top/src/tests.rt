@@ -410,50 +410,50 @@ fn projects_are_checked_with_their_models(rt: HostRuntime) -> Result<(), Fail> {
     Ok(())
 }
 
-/// The text with the first of its lines that is `old` replaced.
-fn with_line(alloc: Global, text: &[u8], old: &str, new: &str) -> Result<Octets, NoMemory> {
-    let mut out = Octets::new(alloc);
-    for line in text.split(|octet| *octet == b'\n') {
-        let line = if line == old.as_bytes() {
-            new.as_bytes()
-        } else {
-            line
-        };
-        out.append(line)?;
-        out.push(b'\n')?;
-    }
-    Ok(out)
-}
+/// The project of `OFFICE` with a delay above the greatest.
+const OFFICE_OUT_OF_RANGE: &[u8] = b"project office
+ga 1/0/1 lamp
+ga 1/1/1 level
+device 1.1.20 dim2
+link 1.1.20 1 1/0/1
+link 1.1.20 2 1/1/1
+flags 1.1.20 2 CRTU
+param 1.1.20 delay 1001
+";
+
+/// The parameters of `OFFICE_MODELS`, of which the second begins in the first.
+const OVERLAPPING_MODELS: &[u8] = b"[dim2]
+params = 4
+[[dim2.parameter]]
+name = \"delay\"
+bit = 0
+width = 16
+min = 0
+max = 1000
+default = 10
+[[dim2.parameter]]
+name = \"mode\"
+bit = 15
+width = 3
+min = 0
+max = 5
+default = 1
+";
 
 #[test]
 fn values_and_fields_out_of_place_are_told(rt: HostRuntime) -> Result<(), Fail> {
-    let alloc = rt.alloc();
-    let project = with_line(
-        alloc,
-        OFFICE,
-        "param 1.1.20 delay 1000",
-        "param 1.1.20 delay 1001",
-    );
-    let project = project.ok().ok_or("memory")?;
-    assert_call(
-        &rt,
-        alloc,
+    let project: [Row; 1] = [(
         "tables s catalogue=office.toml",
-        project.as_slice(),
-        Status::Project,
+        OFFICE_OUT_OF_RANGE,
         "new line 8: 17 OutOfRange\n",
-    )?;
-
-    let models = with_line(alloc, OFFICE_MODELS, "bit = 18", "bit = 15");
-    let models = models.ok().ok_or("memory")?;
-    assert_call(
-        &rt,
-        alloc,
+    )];
+    let catalogue: [Row; 1] = [(
         "tables office.txt catalogue=s",
-        models.as_slice(),
-        Status::Catalogue,
+        OVERLAPPING_MODELS,
         "catalogue: 3 Overlap dim2 mode\n",
-    )
+    )];
+    assert_calls(&rt, rt.alloc(), Status::Project, &project)?;
+    assert_calls(&rt, rt.alloc(), Status::Catalogue, &catalogue)
 }
 
 /// One object that is linked to so many groups.
@@ -602,7 +602,7 @@ fn a_script_has_at_most_65536_lines(rt: HostRuntime) -> Result<(), Fail> {
 #[test]
 fn faults_of_the_outside_are_told(rt: HostRuntime) -> Result<(), Fail> {
     let alloc = rt.alloc();
-    let words = words(alloc, "sim a.txt e e").ok().ok_or("memory")?;
+    let words = words(alloc, "sim a.txt b.txt s").ok().ok_or("memory")?;
 
     let mut files_fine = files(alloc, b"").ok().ok_or("memory")?;
     let mut out_fails = MemorySink::new(alloc);
@@ -623,6 +623,9 @@ fn faults_of_the_outside_are_told(rt: HostRuntime) -> Result<(), Fail> {
     let mut out = MemorySink::new(alloc);
     let status = knx(alloc, words.as_slice(), &mut files_fail, &mut out, &mut sim);
     assert_eq!(rt; status, Status::Read);
-    assert_eq!(rt; out.taken.as_slice(), b"read fault e Failed\n".as_slice());
+    assert_eq!(rt;
+        out.taken.as_slice(),
+        b"read fault b.txt Failed\n".as_slice()
+    );
     Ok(())
 }

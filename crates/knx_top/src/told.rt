@@ -1,9 +1,8 @@
 //! What is told by the commands without a run: `check`, `tables` and `decode`.
 
-ghost use Rattle.std.specs.Prelude.{◌≡◌, ◌++◌, Ok, OnOk, IfOk, IfErr};
+ghost use Rattle.std.specs.Prelude.{◌≡◌, ◌++◌, OnOk, IfOk};
 ghost use Rattle.std.specs.List.{flat_map, zip};
 ghost use Rattle.frame_text.specs.FrameText.{IsFrameText, hex_word};
-ghost use Rattle.knx_model.specs.declared.command.Stop.TheVariants.{NoMemory as OutOfMemory};
 ghost use Rattle.knx_model.specs.ReportText.{tables_lines};
 ghost use Rattle.knx_top.specs.Call.{IsCountsText, IsTablesText, TellsOf, octets_or_usage};
 ghost use Rattle.knx_top.specs.Ended.{told_outcome};
@@ -70,24 +69,14 @@ fn read_in(alloc: Global, texts: &ProjectTexts) -> Result<ReadProject<'_>, Stop>
     Ok(ReadProject { project, models })
 }
 
-/// A text, unless memory was wanting.
-fn told(text: Result<Octets, NoMemory>) -> Result<Octets, Stop>
-    ensures ok { IfOk result (λ octets. text ≡ Ok octets) }
-    ensures err { IfErr result (λ why. why ≡ OutOfMemory) }
-{
-    match text {
-        Ok(octets) => Ok(octets),
-        Err(_) => Err(Stop::NoMemory),
-    }
-}
-
 /// The command `check`.
 pub fn check_told(alloc: Global, texts: &ProjectTexts) -> Result<Octets, Stop>
     ensures { TellsOf IsCountsText (judged_project (project_reads_of texts.now)) (told_outcome result) }
 {
     let read = read_in(alloc, texts)?;
     let checked = sound_in(alloc, InputFile::New, &read.project, &read.models)?;
-    told(counts_text(alloc, checked.counts()))
+    let text = counts_text(alloc, checked.counts())?;
+    Ok(text)
 }
 
 /// The command `tables`.
@@ -96,16 +85,17 @@ pub fn tables_told(alloc: Global, texts: &ProjectTexts) -> Result<Octets, Stop>
 {
     let read = read_in(alloc, texts)?;
     let checked = sound_in(alloc, InputFile::New, &read.project, &read.models)?;
-    told(tables_text(alloc, &checked))
+    let text = tables_text(alloc, &checked)?;
+    Ok(text)
 }
 
 /// The command `decode`.
 pub fn decode_told(alloc: Global, word: &str) -> Result<Octets, Stop>
     ensures { TellsOf IsFrameText (octets_or_usage (hex_word word.now)) (told_outcome result) }
 {
-    match hex_in(alloc, word.as_bytes()) {
-        Ok(Some(octets)) => told(frame_text(alloc, octets.as_slice())),
-        Ok(None) => Err(Stop::Usage),
-        Err(_) => Err(Stop::NoMemory),
-    }
+    let Some(octets) = hex_in(alloc, word.as_bytes())? else {
+        return Err(Stop::Usage);
+    };
+    let text = frame_text(alloc, octets.as_slice())?;
+    Ok(text)
 }

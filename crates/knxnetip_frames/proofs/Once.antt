@@ -34,7 +34,7 @@ body_service service body a p = grind (arith, common_steps)
 body_is : (service : ℕ) (body : List ℕ) (a : IpFrame) → ReadsBody service body a → IsBody service body
 body_is service body a p = grind (arith, common_steps, tunnel_is)
 
-reads_breaks : (octets : List ℕ) (why : IpRefused) (frame : IpFrame) → Reads octets frame → Breaks why octets → ⊥
+pub reads_breaks : (octets : List ℕ) (why : IpRefused) (frame : IpFrame) → Reads octets frame → Breaks why octets → ⊥
 reads_breaks octets Header frame p h = h p.header
 reads_breaks octets Service frame p h = h (body_service _ _ frame p.body)
 reads_breaks octets Length frame p h = h p.total

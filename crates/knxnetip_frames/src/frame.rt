@@ -4,7 +4,6 @@ ghost use Rattle.std.specs.Prelude.{◌≡◌, IfOk, IfErr, Ok};
 ghost use Rattle.knx_model.specs.declared.frames.ip.IpFrame.{IpFrame as Frame};
 ghost use Rattle.knx_model.specs.KnxNetIp.{Reads, Written, IsInRange, IsLeastBroken};
 
-use crate::header::word;
 use crate::service::is_service;
 use crate::{header, services};
 use knx_model::{Datagram, IpFrame, IpRefused};
@@ -26,11 +25,11 @@ fn frame_of(octets: &[u8]) -> Result<IpFrame, IpRefused>
     if octets.len() < 6 || octets[0] != header::LENGTH || octets[1] != header::VERSION {
         return Err(IpRefused::Header);
     }
-    let service = word(octets[2], octets[3]);
+    let service = u16::from_be_bytes([octets[2], octets[3]]);
     if !is_service(service) {
         return Err(IpRefused::Service);
     }
-    if word(octets[4], octets[5]) as usize != octets.len() {
+    if u16::from_be_bytes([octets[4], octets[5]]) as usize != octets.len() {
         return Err(IpRefused::Length);
     }
     services::read(service, &octets[6..]).ok_or(IpRefused::Body)

@@ -27,7 +27,7 @@ impl Model for Loads {
 }
 
 /// Where the octets of a loadable object lie: the address of the first and their number.
-#[derive(Clone, Copy, Debug, PartialEq, Eq)]
+#[derive(Clone, Copy)]
 pub struct Segment {
     pub base: u16,
     pub len: u16,

@@ -3,11 +3,14 @@
 //! ```text
 //!              start                completed
 //!   Unloaded ---------> Loading <-------------> Loaded
-//!      ^                 |  ^       start
-//!      | unload          |  | allocation within the capacity
-//!   any state            +--+
+//!                        |   ^       start       |   ^
+//!                        +---+                   +---+
+//!              start, allocation               completed
+//!              within the capacity
 //!
-//!   any event that has no place here, an undefined one and one that is refused: Error, which only unload leaves
+//!   in each state: no operation changes nothing, and unload leads to Unloaded
+//!   any event that has no place here leads to Error, which only unload leaves: completed in Unloaded, an allocation outside Loading or
+//!   over the capacity, and an undefined event
 //! ```
 
 ghost use Rattle.std.specs.Prelude.{◌≡◌, ◌&&◌, ℕ, nat_le};

@@ -1,5 +1,6 @@
 pub mod Ascending
 pub mod Asked
+pub mod Breaking
 pub mod Catalogued
 pub mod Few
 pub mod Indexed

@@ -2,7 +2,7 @@
 use Rattle.std.proofs.Common.{◌≡◌, ℕ, ◌<◌, Bool, true, false, cond, eqb, not, ◌||◌, List, length, get_or, Option, Some, None, refl, sym}
 use Rattle.std.specs.Prelude.{bytes_eq, is_some, is_none, IfSome, IfNone}
 use Rattle.std.specs.Borrow.{Bor}
-use Rattle.std.specs.Option.{option_map, option_or}
+use Rattle.std.specs.Option.{option_map, option_or, option_flatten}
 use Rattle.std.proofs.lemmas.List.Folds.{list_any_at}
 use Rattle.std.specs.HashMap.{HashMap, get_by}
 use Rattle.std.proofs.lemmas.Bool.{eqb-true}
@@ -59,11 +59,15 @@ put_right P false old x here before = before
 pub right_at : {X : Type 0} (P : X → Type 0) (o : Option X) (x : X) → o ≡ Some x → IfSome o P → P x
 right_at P o x e h = MatchOption-at_some _ P x e h
 
-pub same_known : (o : Option ModelIndex) (m : Option Model) → IndexesNamed o m → is_some o ≡ is_some m
+same_known : (o : Option ModelIndex) (m : Option Model) → IndexesNamed o m → is_some o ≡ is_some m
 same_known None None h = refl
 same_known None (Some m) h = absurd h
 same_known (Some index) None h = absurd h
 same_known (Some index) (Some m) h = refl
+
+pub known_is : (kept : Option (Bor ModelIndex)) (m : Option Model) → IndexesNamed (option_map index_of kept) m → is_some kept ≡ is_some m
+known_is None m h = same_known None m h
+known_is (Some index) m h = same_known (Some index.now) m h
 
 pub indexed_none : (m : Option Model) → IndexesNamed None m → m ≡ None
 indexed_none None h = refl
@@ -93,13 +97,12 @@ kept_known catalogue None (Some name) h = absurd h
 kept_known catalogue (Some kept) None h = absurd h
 kept_known catalogue (Some kept) (Some name) h = refl
 
-pub kept_model : (catalogue : List NamedModel) (kept : Option (Bor ModelIndex)) (name : Option (List ℕ)) → IsKept catalogue (Some kept) name → IndexesNamed (option_map index_of kept) (named_model catalogue name)
-kept_model catalogue kept None h = absurd h
-kept_model catalogue kept (Some name) h = h
-
-pub kept_none : (catalogue : List NamedModel) (name : Option (List ℕ)) → IsKept catalogue None name → named_model catalogue name ≡ None
-kept_none catalogue None h = refl
-kept_none catalogue (Some name) h = absurd h
+-- the model that is kept of a device, where something is
+pub kept_model : (catalogue : List NamedModel) (kept : Option (Option (Bor ModelIndex))) (name : Option (List ℕ)) → IsKept catalogue kept name → IndexesNamed (option_map index_of (option_flatten kept)) (named_model catalogue name)
+kept_model catalogue None None h = tt
+kept_model catalogue None (Some name) h = absurd h
+kept_model catalogue (Some kept) None h = absurd h
+kept_model catalogue (Some kept) (Some name) h = h
 
 -- what is found is indexed, whatever is known
 pub indexed_found : {P : List NamedModel → List Statement → Type 0} (found : List NamedModel → List Statement → Option Model) (kept : Option (Bor ModelIndex))

@@ -8,7 +8,7 @@ use Rattle.knx_model.specs.declared.project.What.TheVariants.{Title, Group, Devi
 use Rattle.knx_model.specs.Rules.{some_line, count_lines, declares_group, declares_device, is_device_line, links_device}
 use Rattle.project_check.specs.Knowing.{Precedes, capped, of_group, of_device, has_its_object, is_full_of_links, repeats}
 use Rattle.project_check.specs.declared.earlier.Earlier.{Earlier}
-use Rattle.project_check.specs.declared.keys.Repeated.{Repeated}
+use Rattle.project_check.specs.declared.earlier.Repeated.{Repeated}
 
 -- a count that stops reaches just what the count reaches, where that lies below its stop
 same_reach : (k n : ℕ) → k ≤ 65535 → nat_le k (capped n) ≡ nat_le k n

@@ -8,7 +8,8 @@ use Rattle.knx_model.specs.declared.project.Statement.{Statement}
 use Rattle.knx_model.specs.declared.refusal.Refused.{Refused}
 use Rattle.knx_model.specs.declared.refusal.Why.{Why}
 use Rattle.knx_model.specs.declared.refusal.Why.TheVariants.{DuplicateDevice, DuplicateGroup, UnknownGroup, UnknownModel, DuplicateObject, UnknownObject, DuplicateLink, UnknownParameter, OutOfRange, SizeDiffers, TooMany, NoDevice}
-use Rattle.knx_model.specs.Rules.{rule_of, broken_at, broken_from, first_of, first_broken, duplicate_link}
+use Rattle.knx_model.specs.LeastLine.{first_refused}
+use Rattle.knx_model.specs.Rules.{rule_of, broken_at, broken_from, first_broken, duplicate_link}
 use Rattle.project_check.specs.Broken.{broken_rules, least}
 use Rattle.project_check.specs.Links.{IsUpTo, is_at}
 use Rattle.project_check.specs.declared.broken.Broken.{Broken}
@@ -16,7 +17,7 @@ use Rattle.project_check.proofs.Judged.{least_rule}
 
 -- ---- no rule is broken at any place
 
-first_none : (o : Option Refused) (rs : List Refused) → first_of (cons_option o rs) ≡ None → (o ≡ None) × (first_of rs ≡ None)
+first_none : (o : Option Refused) (rs : List Refused) → first_refused (cons_option o rs) ≡ None → (o ≡ None) × (first_refused rs ≡ None)
 first_none None rs e = (refl, e)
 first_none (Some r) rs e = absurd (cc)
 
@@ -24,7 +25,7 @@ not_broken : (line : ℕ) (o : Option Why) → broken_at line o ≡ None → o �
 not_broken line None e = refl
 not_broken line (Some why) e = absurd (cc)
 
-sound_from : (catalogue : List NamedModel) (ss : List Statement) (k : ℕ) (rest : List Statement) (i : ℕ) (d : Statement) → first_of (broken_from catalogue ss k rest) ≡ None → i < length rest
+sound_from : (catalogue : List NamedModel) (ss : List Statement) (k : ℕ) (rest : List Statement) (i : ℕ) (d : Statement) → first_refused (broken_from catalogue ss k rest) ≡ None → i < length rest
     → rule_of catalogue (take (k + i) ss) ss (get_or rest i d).what ≡ None
 unfolding broken_from
 sound_from catalogue ss k [] i d e lt = absurd (omega arith)

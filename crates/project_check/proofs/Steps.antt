@@ -16,7 +16,7 @@ use Rattle.knx_model.specs.declared.project.What.TheVariants.{Title, Group, Devi
 use Rattle.knx_model.specs.Rules.{some_line, count_lines, first_some, declares_group, declares_device, declares_object, links_device, is_device_line, size_in, model_in}
 use Rattle.project_check.specs.Keys.{object_eq, names_model}
 use Rattle.project_check.specs.Knowing.{Holds, IsKept, KeepsModels, Declares, Precedes, capped, counted}
-use Rattle.project_check.specs.declared.keys.GroupObject.{GroupObject}
+use Rattle.project_check.specs.declared.group_object.GroupObject.{GroupObject}
 use Rattle.project_check.specs.declared.declared.Declared.{Declared}
 use Rattle.project_check.specs.declared.earlier.Earlier.{Earlier}
 

@@ -1,4 +1,4 @@
--- Which rules a line breaks, and the one of the least number.
+-- The set of rules that a line breaks, and the one of the least number.
 use Rattle.std.specs.Prelude.{false, List, Option, Some, None, if◌then◌else◌}
 use Rattle.knx_model.specs.declared.catalogue.model.NamedModel.{NamedModel}
 use Rattle.knx_model.specs.declared.project.Statement.{Statement}

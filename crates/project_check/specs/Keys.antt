@@ -5,8 +5,8 @@ use Rattle.std.specs.Bool.{nat_eq}
 use Rattle.knx_model.specs.declared.catalogue.model.ModelField.{ModelField}
 use Rattle.knx_model.specs.declared.project.What.{What}
 use Rattle.knx_model.specs.declared.project.What.TheVariants.{Device}
-use Rattle.project_check.specs.declared.keys.GroupObject.{GroupObject}
-use Rattle.project_check.specs.declared.keys.Range.{Range}
+use Rattle.project_check.specs.declared.group_object.GroupObject.{GroupObject}
+use Rattle.project_check.specs.declared.models.Range.{Range}
 use Rattle.project_check.specs.declared.models.ModelIndex.{ModelIndex}
 
 abbrev pub object_eq : GroupObject → GroupObject → Bool

@@ -18,11 +18,11 @@ use Rattle.project_check.specs.Keys.{object_eq, range_of, index_of, names_model}
 use Rattle.project_check.specs.Links.{IsFirstRepeat}
 use Rattle.project_check.specs.declared.declared.Declared.{Declared}
 use Rattle.project_check.specs.declared.earlier.Earlier.{Earlier}
-use Rattle.project_check.specs.declared.keys.GroupObject.{GroupObject}
-use Rattle.project_check.specs.declared.keys.Looked.{Looked}
-use Rattle.project_check.specs.declared.keys.Range.{Range}
-use Rattle.project_check.specs.declared.keys.Repeated.{Repeated}
-use Rattle.project_check.specs.declared.keys.Sought.{Sought}
+use Rattle.project_check.specs.declared.group_object.GroupObject.{GroupObject}
+use Rattle.project_check.specs.declared.known.KnownObject.{KnownObject}
+use Rattle.project_check.specs.declared.models.Range.{Range}
+use Rattle.project_check.specs.declared.earlier.Repeated.{Repeated}
+use Rattle.project_check.specs.declared.known.KnownParameter.{KnownParameter}
 use Rattle.project_check.specs.declared.links.Link.{Link}
 use Rattle.project_check.specs.declared.models.ModelIndex.{ModelIndex}
 use Rattle.project_check.specs.declared.named_models.NamedModels.{NamedModels}
@@ -88,8 +88,8 @@ pub record Declares (catalogue : List NamedModel) (d : Declared) (ss : List Stat
   pub sizes : (o : GroupObject) → get object_eq d.sizes o ≡ first_some (size_in o.device o.number) ss
 
 -- whether the model of a device is known, and the size of its object n
-abbrev pub looked : List NamedModel → List Statement → ℕ → ℕ → Looked
-looked catalogue ss d n = record { modelled = is_some (model_of catalogue ss d); size = size_of catalogue ss d n }
+abbrev pub known_object : List NamedModel → List Statement → ℕ → ℕ → KnownObject
+known_object catalogue ss d n = record { modelled = is_some (model_of catalogue ss d); size = size_of catalogue ss d n }
 
 -- the range of a model's parameter of this name
 abbrev pub range_in : Option Model → List ℕ → Option Range
@@ -97,8 +97,8 @@ range_in None name = None
 range_in (Some m) name = option_map range_of (field_in m.parameters name)
 
 -- whether the model of a device is known, and the range of its parameter of this name
-abbrev pub sought : List NamedModel → List Statement → ℕ → List ℕ → Sought
-sought catalogue ss d name = record { modelled = is_some (model_of catalogue ss d); range = range_in (model_of catalogue ss d) name }
+abbrev pub known_parameter : List NamedModel → List Statement → ℕ → List ℕ → KnownParameter
+known_parameter catalogue ss d name = record { modelled = is_some (model_of catalogue ss d); range = range_in (model_of catalogue ss d) name }
 
 -- the size of a group object
 abbrev pub size_at : List NamedModel → List Statement → ℕ × ℕ → Option ℕ

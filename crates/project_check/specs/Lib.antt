@@ -1,3 +1,4 @@
+pub mod Breaking
 pub mod Broken
 pub mod Counting
 pub mod Devices

@@ -1,4 +1,4 @@
-//! Which rules a line breaks, and the one of the least number.
+//! The set of rules that a line breaks.
 
 ghost use Rattle.std.specs.Prelude.{◌≡◌, ◌≢◌, IfSome};
 ghost use Rattle.knx_model.specs.declared.refusal.Why.TheVariants.{NoMemory};
@@ -8,7 +8,7 @@ use crate::earlier::{MOST_DEVICES, MOST_LINKS};
 use knx_model::Why;
 
 /// Whether a line breaks each rule, in the order of their numbers.
-#[derive(Clone, Copy, Debug, PartialEq, Eq)]
+#[derive(Clone, Copy)]
 pub struct Broken {
     pub duplicate_device: bool,
     pub duplicate_group: bool,

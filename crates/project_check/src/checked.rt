@@ -8,7 +8,7 @@ ghost use Rattle.knx_model.specs.Rules.{first_broken, devices_of, has_device};
 ghost use Rattle.project_check.specs.Devices.{raw_of};
 
 use crate::counted::totals_of;
-use crate::devices::{ascending_devices, first_device, is_among};
+use crate::devices::{ascending_devices, first_device};
 use crate::earlier::Earlier;
 use crate::named_models::NamedModels;
 use crate::rules::Whole;
@@ -71,7 +71,7 @@ impl<'b, 'a> Checked<'b, 'a> {
     pub fn has(&self, device: IndAddr) -> bool
         ensures value { result ≡ has_device self.now.statements device.raw }
     {
-        is_among(device, self.devices.as_slice())
+        device.is_among(self.devices.as_slice())
     }
 
     /// How many devices, objects and links it has; the objects of the devices' models count too.

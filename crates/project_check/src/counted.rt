@@ -46,7 +46,7 @@ fn line_objects(catalogue: &Catalogue, what: &What<'_>) -> u32
 }
 
 /// What the lines of a text have: `object` lines, `link` lines, and objects of the models that its `device` lines name.
-#[derive(Clone, Copy, Debug, PartialEq, Eq)]
+#[derive(Clone, Copy)]
 pub struct Totals {
     pub object_lines: usize,
     pub link_lines: usize,

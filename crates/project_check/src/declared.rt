@@ -9,11 +9,12 @@ ghost use Rattle.knx_model.specs.declared.catalogue.model.NamedModel.{NamedModel
 ghost use Rattle.knx_model.specs.declared.project.Statement.{Statement as Stated};
 ghost use Rattle.knx_model.specs.Rules.{some_line, first_some, declares_group, declares_device, size_in, model_in, model_of};
 ghost use Rattle.project_check.specs.Keys.{object_eq, names_model};
-ghost use Rattle.project_check.specs.Knowing.{Holds, AreNamed, IsNamed, KeepsModels, Declares, Indexes, FirstSizes, looked, linked_size, sought};
+ghost use Rattle.project_check.specs.Knowing.{Holds, AreNamed, IsNamed, KeepsModels, Declares, Indexes, FirstSizes, known_object, linked_size, known_parameter};
 ghost use Rattle.project_check.specs.Links.{link_lines};
 
 use crate::by_address::ByAddress;
-use crate::keys::{GroupObject, Looked, Sought};
+use crate::group_object::GroupObject;
+use crate::known::{KnownObject, KnownParameter};
 use crate::links::{Link, LinkLine};
 use crate::models::ModelIndex;
 use crate::named_models::NamedModels;
@@ -136,22 +137,19 @@ impl<'b, 'a> Declared<'b, 'a> {
         ensures some { IfSome result (λ index. (catalogue : List NamedModel) (ss : List Stated) → Declares catalogue self.now ss → (m : Model) × (model_of catalogue ss device ≡ Some m) × Indexes index.now m) }
         ensures none { IfNone result ((catalogue : List NamedModel) (ss : List Stated) → Declares catalogue self.now ss → model_of catalogue ss device ≡ None) }
     {
-        match self.devices.get(device) {
-            Some(model) => model,
-            None => None,
-        }
+        self.devices.get(device).flatten()
     }
 
     /// What is known of a parameter of a device.
-    pub fn seek(&self, device: u16, name: &[u8]) -> Sought
-        ensures { (catalogue : List NamedModel) (ss : List Stated) → Declares catalogue self.now ss → result ≡ sought catalogue ss device name.now }
+    pub fn known_parameter(&self, device: u16, name: &[u8]) -> KnownParameter
+        ensures { (catalogue : List NamedModel) (ss : List Stated) → Declares catalogue self.now ss → result ≡ known_parameter catalogue ss device name.now }
     {
         match self.model(device) {
-            Some(index) => Sought {
+            Some(index) => KnownParameter {
                 modelled: true,
                 range: index.range_of(name),
             },
-            None => Sought {
+            None => KnownParameter {
                 modelled: false,
                 range: None,
             },
@@ -159,16 +157,16 @@ impl<'b, 'a> Declared<'b, 'a> {
     }
 
     /// What is known of a group object.
-    pub fn look(&self, object: GroupObject) -> Looked
-        ensures { (catalogue : List NamedModel) (ss : List Stated) → Declares catalogue self.now ss → result ≡ looked catalogue ss object.device object.number }
+    pub fn known_object(&self, object: GroupObject) -> KnownObject
+        ensures { (catalogue : List NamedModel) (ss : List Stated) → Declares catalogue self.now ss → result ≡ known_object catalogue ss object.device object.number }
     {
         let line_size = self.sizes.get(&object).copied();
         match self.model(object.device) {
-            Some(index) => Looked {
+            Some(index) => KnownObject {
                 modelled: true,
                 size: index.size_of(object.number).or(line_size),
             },
-            None => Looked {
+            None => KnownObject {
                 modelled: false,
                 size: line_size,
             },
@@ -189,7 +187,7 @@ fn add_first_size(
             device: link.device,
             number: link.object,
         };
-        first_sizes.set(link.group, Some(declared.look(object).size));
+        first_sizes.set(link.group, Some(declared.known_object(object).size));
     }
 }
 

@@ -1,7 +1,6 @@
 //! The devices of a text.
 
-ghost use Rattle.std.specs.Prelude.{◌≡◌, ◌==◌, slice_get, IsPermutation, IfOk};
-ghost use Rattle.std.specs.List.{list_any};
+ghost use Rattle.std.specs.Prelude.{◌≡◌, slice_get, IsPermutation, IfOk};
 ghost use Rattle.std.specs.List.Sorted.{IsSorted};
 ghost use Rattle.knx_model.specs.Rules.{device_in, devices_of};
 ghost use Rattle.project_check.specs.Devices.{device_order};
@@ -52,11 +51,4 @@ pub fn first_device(statements: &[Statement<'_>]) -> Option<IndAddr>
         }
     }
     None
-}
-
-/// Whether a device is one of these.
-pub fn is_among(device: IndAddr, devices: &[IndAddr]) -> bool
-    ensures { result ≡ list_any (λ a. a.raw == device.raw) devices.now }
-{
-    devices.iter().any(|its| its.raw == device.raw)
 }

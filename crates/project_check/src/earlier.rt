@@ -8,7 +8,7 @@ ghost use Rattle.project_check.specs.Keys.{object_eq};
 ghost use Rattle.project_check.specs.Knowing.{Holds, Precedes, counted, repeats, of_group, of_device, has_its_object, is_full_of_links};
 
 use crate::by_address::ByAddress;
-use crate::keys::{GroupObject, Repeated};
+use crate::group_object::GroupObject;
 use knx_model::{Statement, What};
 use std::alloc::{AllocError, Global};
 use std::collections::HashSet;
@@ -110,6 +110,16 @@ fn is_full(device_lines: u16, what: &What<'_>) -> bool
         What::Device { .. } => device_lines >= MOST_DEVICES,
         _ => false,
     }
+}
+
+/// What of a statement stands in the lines before it, and whether these are as many as may be.
+#[derive(Clone, Copy)]
+pub struct Repeated {
+    pub device: bool,
+    pub group: bool,
+    pub object: bool,
+    pub devices_full: bool,
+    pub links_full: bool,
 }
 
 impl Earlier {

@@ -8,14 +8,18 @@ mod counted;
 mod declared;
 mod devices;
 mod earlier;
-mod keys;
+mod group_object;
+mod known;
+mod laws;
 mod links;
 mod models;
 mod named_models;
 mod rules;
 
+pub use by_address::ByAddress;
 pub use checked::{Checked, check};
 pub use knx_model::Counts;
+pub use laws::least_broken;
 
 #[cfg(test)]
 mod tests;

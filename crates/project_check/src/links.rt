@@ -8,7 +8,7 @@ use knx_model::{Statement, What};
 use std::alloc::{AllocError, Global};
 
 /// A link: the raw address of its device, its object there, and its raw group.
-#[derive(Clone, Copy, Debug, PartialEq, Eq, PartialOrd, Ord)]
+#[derive(Clone, Copy, PartialEq, Eq, PartialOrd, Ord)]
 pub struct Link {
     pub device: u16,
     pub object: u8,
@@ -17,7 +17,7 @@ pub struct Link {
 
 /// A `link` line: its link, and its place among the statements. Lines are ordered by their links, and where these are the same by their
 /// places.
-#[derive(Clone, Copy, Debug, PartialEq, Eq, PartialOrd, Ord)]
+#[derive(Clone, Copy, PartialEq, Eq, PartialOrd, Ord)]
 pub struct LinkLine {
     pub link: Link,
     pub place: usize,

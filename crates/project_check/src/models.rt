@@ -10,10 +10,16 @@ ghost use Rattle.knx_model.specs.Rules.{size_in_model};
 ghost use Rattle.project_check.specs.Keys.{range_of};
 ghost use Rattle.project_check.specs.Knowing.{code_of, code_at, range_at, Indexes, IndexesNamed};
 
-use crate::keys::Range;
 use knx_model::{Catalogue, INLINE, Model, ModelField, ModelObject};
 use std::alloc::{AllocError, Global};
 use std::collections::HashMap;
+
+/// The least and the greatest value of a parameter.
+#[derive(Clone, Copy)]
+pub struct Range {
+    pub min: u32,
+    pub max: u32,
+}
 
 /// A model's size codes by object number, and its ranges by parameter name.
 #[derive(Drop)]

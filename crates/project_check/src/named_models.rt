@@ -85,10 +85,6 @@ impl<'a> NamedModels<'a> {
         ensures none { IfNone result ((catalogue : List NamedModel) (ss : List Stated) → AreNamed catalogue self.now ss → some_line (names_model name.now) ss ≡ true → model_named catalogue name.now ≡ None) }
         ensures known { (catalogue : List NamedModel) (ss : List Stated) → AreNamed catalogue self.now ss → some_line (names_model name.now) ss ≡ true → is_some result ≡ is_some (model_named catalogue name.now) }
     {
-        match self.models.get(&name) {
-            Some(Some(index)) => Some(index),
-            Some(None) => None,
-            None => None,
-        }
+        self.models.get(&name)?.as_ref()
     }
 }

@@ -14,7 +14,8 @@ ghost use Rattle.project_check.specs.Links.{is_at};
 use crate::broken::Broken;
 use crate::by_address::ByAddress;
 use crate::declared::{Declared, first_sizes};
-use crate::keys::{GroupObject, Repeated};
+use crate::earlier::Repeated;
+use crate::group_object::GroupObject;
 use crate::links::{first_repeat, link_lines};
 use crate::named_models::NamedModels;
 use knx_model::{GroupAddr, IndAddr, Statement, What, Why};
@@ -104,16 +105,16 @@ impl<'b, 'a> Whole<'b, 'a> {
     ) -> Broken
         ensures { (catalogue : List NamedModel) (before all : List Stated) → DeclaresAll catalogue self.now all → repeated ≡ repeats before (LinkLine device object group) → duplicate_link before (LinkLine device object group) ≡ is_at self.now.first_repeat place → result ≡ broken_rules catalogue before all (LinkLine device object group) }
     {
-        let looked = self.declared.look(GroupObject {
+        let known = self.declared.known_object(GroupObject {
             device: device.raw,
             number: object,
         });
         let declared = self.declared.has_device(device.raw);
         Broken {
             unknown_group: !self.declared.has_group(group.raw),
-            unknown_object: looked.is_missing(),
+            unknown_object: known.is_missing(),
             duplicate_link: self.repeats_link(place),
-            size_differs: self.size_differs(declared, looked.size, group.raw),
+            size_differs: self.size_differs(declared, known.size, group.raw),
             too_many_links: repeated.links_full,
             no_device: !declared,
             ..Broken::none()
@@ -148,12 +149,12 @@ impl<'b, 'a> Whole<'b, 'a> {
     fn flags_broken(&self, device: IndAddr, object: u8) -> Broken
         ensures { (flags : ℕ) (catalogue : List NamedModel) (before all : List Stated) → DeclaresAll catalogue self.now all → result ≡ broken_rules catalogue before all (FlagsLine device object flags) }
     {
-        let looked = self.declared.look(GroupObject {
+        let known = self.declared.known_object(GroupObject {
             device: device.raw,
             number: object,
         });
         Broken {
-            unknown_object: looked.is_missing(),
+            unknown_object: known.is_missing(),
             no_device: !self.declared.has_device(device.raw),
             ..Broken::none()
         }
@@ -163,10 +164,10 @@ impl<'b, 'a> Whole<'b, 'a> {
     fn param_broken(&self, device: IndAddr, name: &[u8], value: u32) -> Broken
         ensures { (catalogue : List NamedModel) (before all : List Stated) → DeclaresAll catalogue self.now all → result ≡ broken_rules catalogue before all (ParamLine device name.now value) }
     {
-        let sought = self.declared.seek(device.raw, name);
+        let known = self.declared.known_parameter(device.raw, name);
         Broken {
-            unknown_parameter: sought.is_unknown(),
-            out_of_range: sought.excludes(value),
+            unknown_parameter: known.is_unknown(),
+            out_of_range: known.excludes(value),
             no_device: !self.declared.has_device(device.raw),
             ..Broken::none()
         }

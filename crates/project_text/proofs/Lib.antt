@@ -1,5 +1,6 @@
 pub mod Again
 pub mod Flags
+pub mod Lengths
 pub mod Plain
 pub mod Spelling
 pub mod Steps

@@ -10,7 +10,8 @@ use Rattle.knx_model.specs.Numbers.{number_value, is_name}
 use Rattle.knx_model.specs.Addresses.{group_value, ind_value}
 use Rattle.knx_model.specs.Flags.{flags_value}
 use Rattle.knx_model.specs.Sizes.{size_value}
-use Rattle.knx_model.specs.Statements.{◌>>=◌, placed, field, ended, object_value, name_value, title_says, ga_says, device_says, object_says, link_says, flags_says, param_says, some_what, words_say}
+use Rattle.knx_model.specs.Answers.{◌>>=◌}
+use Rattle.knx_model.specs.Statements.{placed, field, ended, object_value, name_value, title_says, ga_says, device_says, object_says, link_says, flags_says, param_says, some_what, words_say}
 use Rattle.project_text.specs.Spelling.{SpellsStatement, TitleLine, GroupLine, DeviceLine, ObjectLine, LinkLine, FlagsLine, ParamLine}
 
 -- ---- what is spelled is read

@@ -9,10 +9,10 @@ mod project;
 mod read;
 
 pub use knx_model::{Refused, Statement, What, Why};
-pub use laws::statement_spelled;
-pub use print::{print_project, printed_again};
+pub use laws::{least_line, printed_again, statement_spelled, words_too_many_or_few};
+pub use print::print_project;
 pub use project::Project;
-pub use read::{least_line, read_project};
+pub use read::read_project;
 
 #[cfg(test)]
 mod tests;

@@ -26,7 +26,7 @@ fn add<'a>(statements: &mut List<Statement<'a>>, line: u32, what: What<'a>) -> R
 
 /// `project NAME`
 #[tactic(auto, unfolding(knx_model::specs::Statements::title_says))]
-fn title_in<'a>(statements: &mut List<Statement<'a>>, line: u32, rest: &'a [u8]) -> Result<(), Why>
+fn add_title<'a>(statements: &mut List<Statement<'a>>, line: u32, rest: &'a [u8]) -> Result<(), Why>
     ensures read { Added result statements.new (with_line statements.old line (some_what (title_says (words rest.now)))) }
     ensures spelled { IsTrue (are_spellable statements.old) → OnOk result (IsTrue (are_spellable statements.new)) }
 {
@@ -37,7 +37,7 @@ fn title_in<'a>(statements: &mut List<Statement<'a>>, line: u32, rest: &'a [u8])
 
 /// `ga GA NAME`
 #[tactic(auto, unfolding(knx_model::specs::Statements::ga_says))]
-fn ga_in<'a>(statements: &mut List<Statement<'a>>, line: u32, rest: &'a [u8]) -> Result<(), Why>
+fn add_group<'a>(statements: &mut List<Statement<'a>>, line: u32, rest: &'a [u8]) -> Result<(), Why>
     ensures read { Added result statements.new (with_line statements.old line (some_what (ga_says (words rest.now)))) }
     ensures spelled { IsTrue (are_spellable statements.old) → OnOk result (IsTrue (are_spellable statements.new)) }
 {
@@ -49,7 +49,11 @@ fn ga_in<'a>(statements: &mut List<Statement<'a>>, line: u32, rest: &'a [u8]) ->
 
 /// `device IA MODEL`
 #[tactic(auto, unfolding(knx_model::specs::Statements::device_says))]
-fn device_in<'a>(statements: &mut List<Statement<'a>>, line: u32, rest: &'a [u8]) -> Result<(), Why>
+fn add_device<'a>(
+    statements: &mut List<Statement<'a>>,
+    line: u32,
+    rest: &'a [u8],
+) -> Result<(), Why>
     ensures read { Added result statements.new (with_line statements.old line (some_what (device_says (words rest.now)))) }
     ensures spelled { IsTrue (are_spellable statements.old) → OnOk result (IsTrue (are_spellable statements.new)) }
 {
@@ -61,7 +65,11 @@ fn device_in<'a>(statements: &mut List<Statement<'a>>, line: u32, rest: &'a [u8]
 
 /// `object IA N SIZE FLAGS`
 #[tactic(auto, unfolding(knx_model::specs::Statements::object_says))]
-fn object_in<'a>(statements: &mut List<Statement<'a>>, line: u32, rest: &'a [u8]) -> Result<(), Why>
+fn add_object<'a>(
+    statements: &mut List<Statement<'a>>,
+    line: u32,
+    rest: &'a [u8],
+) -> Result<(), Why>
     ensures read { Added result statements.new (with_line statements.old line (some_what (object_says (words rest.now)))) }
     ensures spelled { IsTrue (are_spellable statements.old) → OnOk result (IsTrue (are_spellable statements.new)) }
 {
@@ -84,7 +92,7 @@ fn object_in<'a>(statements: &mut List<Statement<'a>>, line: u32, rest: &'a [u8]
 
 /// `link IA N GA`
 #[tactic(auto, unfolding(knx_model::specs::Statements::link_says))]
-fn link_in<'a>(statements: &mut List<Statement<'a>>, line: u32, rest: &'a [u8]) -> Result<(), Why>
+fn add_link<'a>(statements: &mut List<Statement<'a>>, line: u32, rest: &'a [u8]) -> Result<(), Why>
     ensures read { Added result statements.new (with_line statements.old line (some_what (link_says (words rest.now)))) }
     ensures spelled { IsTrue (are_spellable statements.old) → OnOk result (IsTrue (are_spellable statements.new)) }
 {
@@ -105,7 +113,7 @@ fn link_in<'a>(statements: &mut List<Statement<'a>>, line: u32, rest: &'a [u8]) 
 
 /// `flags IA N FLAGS`
 #[tactic(auto, unfolding(knx_model::specs::Statements::flags_says))]
-fn flags_in<'a>(statements: &mut List<Statement<'a>>, line: u32, rest: &'a [u8]) -> Result<(), Why>
+fn add_flags<'a>(statements: &mut List<Statement<'a>>, line: u32, rest: &'a [u8]) -> Result<(), Why>
     ensures read { Added result statements.new (with_line statements.old line (some_what (flags_says (words rest.now)))) }
     ensures spelled { IsTrue (are_spellable statements.old) → OnOk result (IsTrue (are_spellable statements.new)) }
 {
@@ -126,7 +134,11 @@ fn flags_in<'a>(statements: &mut List<Statement<'a>>, line: u32, rest: &'a [u8])
 
 /// `param IA NAME VALUE`
 #[tactic(auto, unfolding(knx_model::specs::Statements::param_says))]
-fn param_in<'a>(statements: &mut List<Statement<'a>>, line: u32, rest: &'a [u8]) -> Result<(), Why>
+fn add_parameter<'a>(
+    statements: &mut List<Statement<'a>>,
+    line: u32,
+    rest: &'a [u8],
+) -> Result<(), Why>
     ensures read { Added result statements.new (with_line statements.old line (some_what (param_says (words rest.now)))) }
     ensures spelled { IsTrue (are_spellable statements.old) → OnOk result (IsTrue (are_spellable statements.new)) }
 {
@@ -155,19 +167,19 @@ fn words_in<'a>(statements: &mut List<Statement<'a>>, line: u32, rest: &'a [u8])
         None => Ok(()),
         Some((word, rest)) => {
             if word == b"project".as_slice() {
-                title_in(statements, line, rest)
+                add_title(statements, line, rest)
             } else if word == b"ga".as_slice() {
-                ga_in(statements, line, rest)
+                add_group(statements, line, rest)
             } else if word == b"device".as_slice() {
-                device_in(statements, line, rest)
+                add_device(statements, line, rest)
             } else if word == b"object".as_slice() {
-                object_in(statements, line, rest)
+                add_object(statements, line, rest)
             } else if word == b"link".as_slice() {
-                link_in(statements, line, rest)
+                add_link(statements, line, rest)
             } else if word == b"flags".as_slice() {
-                flags_in(statements, line, rest)
+                add_flags(statements, line, rest)
             } else if word == b"param".as_slice() {
-                param_in(statements, line, rest)
+                add_parameter(statements, line, rest)
             } else {
                 Err(Why::UnknownWord)
             }

@@ -1,61 +1,17 @@
 //! Statements are printed, one in a line.
 
-ghost use Rattle.std.specs.Prelude.{◌≡◌, ◌≤◌, ◌∷◌, ◌++◌, length, List, OnOk, IfOk, IsTrue, Ok};
-ghost use Rattle.std.specs.Fmt.{decimal};
+ghost use Rattle.std.specs.Prelude.{◌≡◌, ◌≤◌, ◌++◌, length, OnOk, IfOk, Ok};
 ghost use Rattle.std.specs.List.{join_with_byte};
-ghost use Rattle.knx_model.specs.Addresses.{device_text, group_text};
-ghost use Rattle.knx_model.specs.Flags.{flags_text};
-ghost use Rattle.knx_model.specs.Statements.{are_spellable, reading};
-ghost use Rattle.knx_model.specs.declared.project.Statement.{Statement};
+ghost use Rattle.knx_model.specs.Statements.{reading};
 ghost use Rattle.knx_model.specs.declared.project.What.TheVariants.{Title, Group, Device, Object, Link, Flags, Param};
 ghost use Rattle.project_text.specs.Printing.{words_of, line_text, printed, renumbered_from};
 
 use crate::project::Project;
 use knx_model::{
-    GroupAddr, IndAddr, NoMemory, Octets, Statement, What, bits_of, put_device, put_flags,
-    put_group, put_number,
+    GroupAddr, IndAddr, NoMemory, Octets, Statement, What, bits_of, put_device_word,
+    put_flags_word, put_group_word, put_number_word, put_word,
 };
 use std::alloc::Global;
-
-/// Appends a word behind a space.
-fn put_word(out: &mut Octets, word: &[u8]) -> Result<(), NoMemory>
-    ensures { OnOk result (out.new ≡ out.old ++ 32 ∷ word.now) }
-{
-    out.push(b' ')?;
-    out.append(word)
-}
-
-/// Appends a number behind a space.
-fn put_decimal(alloc: Global, out: &mut Octets, number: u32) -> Result<(), NoMemory>
-    ensures { OnOk result (out.new ≡ out.old ++ 32 ∷ decimal number) }
-{
-    out.push(b' ')?;
-    put_number(alloc, out, u64::from(number))
-}
-
-/// Appends an individual address behind a space.
-fn put_individual(alloc: Global, out: &mut Octets, device: IndAddr) -> Result<(), NoMemory>
-    ensures { OnOk result (out.new ≡ out.old ++ 32 ∷ device_text device) }
-{
-    out.push(b' ')?;
-    put_device(alloc, out, device)
-}
-
-/// Appends a group address behind a space.
-fn put_group_word(alloc: Global, out: &mut Octets, group: GroupAddr) -> Result<(), NoMemory>
-    ensures { OnOk result (out.new ≡ out.old ++ 32 ∷ group_text group) }
-{
-    out.push(b' ')?;
-    put_group(alloc, out, group)
-}
-
-/// Appends flags behind a space.
-fn put_flags_word(out: &mut Octets, flags: u8) -> Result<(), NoMemory>
-    ensures { OnOk result (out.new ≡ out.old ++ 32 ∷ flags_text flags) }
-{
-    out.push(b' ')?;
-    put_flags(out, flags)
-}
 
 fn put_title(out: &mut Octets, name: &[u8]) -> Result<(), NoMemory>
     ensures { OnOk result (out.new ≡ out.old ++ join_with_byte 32 (words_of (Title name.now))) }
@@ -81,7 +37,7 @@ fn put_device_line(
     ensures { OnOk result (out.new ≡ out.old ++ join_with_byte 32 (words_of (Device device model.now))) }
 {
     out.append(b"device")?;
-    put_individual(alloc, out, device)?;
+    put_device_word(alloc, out, device)?;
     put_word(out, model)
 }
 
@@ -96,9 +52,9 @@ fn put_object(
     ensures { OnOk result (out.new ≡ out.old ++ join_with_byte 32 (words_of (Object device n size flags))) }
 {
     out.append(b"object")?;
-    put_individual(alloc, out, device)?;
-    put_decimal(alloc, out, u32::from(n))?;
-    put_decimal(alloc, out, u32::from(bits_of(size)))?;
+    put_device_word(alloc, out, device)?;
+    put_number_word(alloc, out, u64::from(n))?;
+    put_number_word(alloc, out, u64::from(bits_of(size)))?;
     put_flags_word(out, flags)
 }
 
@@ -112,8 +68,8 @@ fn put_link(
     ensures { OnOk result (out.new ≡ out.old ++ join_with_byte 32 (words_of (Link device object group))) }
 {
     out.append(b"link")?;
-    put_individual(alloc, out, device)?;
-    put_decimal(alloc, out, u32::from(object))?;
+    put_device_word(alloc, out, device)?;
+    put_number_word(alloc, out, u64::from(object))?;
     put_group_word(alloc, out, group)
 }
 
@@ -127,8 +83,8 @@ fn put_flags_line(
     ensures { OnOk result (out.new ≡ out.old ++ join_with_byte 32 (words_of (Flags device object flags))) }
 {
     out.append(b"flags")?;
-    put_individual(alloc, out, device)?;
-    put_decimal(alloc, out, u32::from(object))?;
+    put_device_word(alloc, out, device)?;
+    put_number_word(alloc, out, u64::from(object))?;
     put_flags_word(out, flags)
 }
 
@@ -142,9 +98,9 @@ fn put_param(
     ensures { OnOk result (out.new ≡ out.old ++ join_with_byte 32 (words_of (Param device name.now value))) }
 {
     out.append(b"param")?;
-    put_individual(alloc, out, device)?;
+    put_device_word(alloc, out, device)?;
     put_word(out, name)?;
-    put_decimal(alloc, out, value)
+    put_number_word(alloc, out, u64::from(value))
 }
 
 /// Appends the words of a statement.
@@ -205,13 +161,5 @@ pub fn print_project(alloc: Global, project: &Project<'_>) -> Result<Octets, NoM
     // What is printed reads as the same statements, numbered anew.
     ensures again { IfOk result (λ text. length text ≤ 4194304 → reading text ≡ Ok (renumbered_from 1 project.now.statements)) }
 {
-    match print_all(alloc, project.statements.as_slice()) {
-        Ok(text) => Ok(text),
-        Err(_) => Err(NoMemory),
-    }
+    print_all(alloc, project.statements.as_slice())
 }
-
-/// Statements that can be spelled are read again from their text, numbered anew, unless it is too long.
-pub fn printed_again()
-    ensures { (statements : List Statement) → IsTrue (are_spellable statements) → length (printed statements) ≤ 4194304 → reading (printed statements) ≡ Ok (renumbered_from 1 statements) }
-{}

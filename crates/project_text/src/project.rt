@@ -5,10 +5,10 @@ ghost use Rattle.std.specs.List.{list_all};
 ghost use Rattle.knx_model.specs.Numbers.{is_name};
 ghost use Rattle.knx_model.specs.Statements.{is_group, is_device, is_object, is_spellable, are_spellable, are_numbered};
 
-use knx_model::{GroupAddr, IndAddr, List, Statement, What, is_name_in};
+use knx_model::{GroupAddr, IndAddr, List, PRIORITY, Statement, What, is_name_in};
 
 /// The statements of a text. Each can be spelled, and their lines ascend from 1.
-#[derive(Debug, Drop)]
+#[derive(Drop)]
 pub struct Project<'a> {
     pub statements: List<Statement<'a>>,
     pub ghost spelled: { IsTrue (are_spellable statements) },
@@ -32,8 +32,8 @@ impl<'a> Project<'a> {
     }
 }
 
-/// The greatest number that a word writes.
-const GREATEST_NUMBER: u32 = 4_294_967_295;
+/// How many sizes an object may have: the size codes are 0 to 14.
+const SIZES: u8 = 15;
 
 fn is_group(group: GroupAddr) -> bool
     ensures { result ≡ is_group group }
@@ -57,7 +57,7 @@ fn is_object(n: u8) -> bool
 fn are_flags(flags: u8) -> bool
     ensures { result ≡ (flags % 4 == 3) }
 {
-    flags % 4 == 3
+    flags % 4 == PRIORITY
 }
 
 /// Whether a statement can be spelled.
@@ -73,7 +73,7 @@ fn is_spellable(what: &What<'_>) -> bool
             n,
             size,
             flags,
-        } => is_device(*device) && is_object(*n) && *size < 15 && are_flags(*flags),
+        } => is_device(*device) && is_object(*n) && *size < SIZES && are_flags(*flags),
         What::Link {
             device,
             object,
@@ -88,7 +88,10 @@ fn is_spellable(what: &What<'_>) -> bool
             device,
             name,
             value,
-        } => is_device(*device) && is_name_in(name.as_slice()) && *value <= GREATEST_NUMBER,
+        } => {
+            // Always so of a `u32`: the clause tells of any number.
+            is_device(*device) && is_name_in(name.as_slice()) && *value <= u32::MAX
+        }
     }
 }
 

@@ -6,8 +6,9 @@ ghost use Rattle.std.specs.Fmt.{decimal};
 ghost use Rattle.knx_model.specs.Addresses.{device_text};
 ghost use Rattle.knx_model.specs.ReportText.{end_of, end_words, end_text, sign_word, job_word, job_line};
 
-use crate::pieces::{put_device, put_number};
-use knx_model::{JobWord, LogEntry, LogWhat, NoMemory, Octets, Sign};
+use knx_model::{
+    JobWord, LogEntry, LogWhat, NoMemory, Octets, Sign, put_device_word, put_number_word, put_word,
+};
 use std::alloc::Global;
 
 fn sign_word(sign: Sign) -> &'static str
@@ -49,12 +50,10 @@ fn put_failed(out: &mut Octets, signs: [Sign; 3]) -> Result<(), NoMemory>
     ensures { OnOk result (out.new ≡ out.old ++ join_with_byte 32 (codes "failed" ∷ map sign_word signs)) }
 {
     let [first, second, third] = signs;
-    out.append(b"failed ")?;
-    out.append(sign_word(first).as_bytes())?;
-    out.push(b' ')?;
-    out.append(sign_word(second).as_bytes())?;
-    out.push(b' ')?;
-    out.append(sign_word(third).as_bytes())
+    out.append(b"failed")?;
+    put_word(out, sign_word(first).as_bytes())?;
+    put_word(out, sign_word(second).as_bytes())?;
+    put_word(out, sign_word(third).as_bytes())
 }
 
 #[tactic(auto, unfolding(knx_model::specs::ReportText::end_text))]
@@ -78,12 +77,10 @@ fn job_word(check: bool) -> &'static str
 fn put_job_words(alloc: Global, out: &mut Octets, number: u64, job: JobWord) -> Result<(), NoMemory>
     ensures { OnOk result (out.new ≡ out.old ++ (join_with_byte 32 (codes "job" ∷ decimal number ∷ job_word job.check ∷ device_text job.device ∷ []) ++ 32 ∷ [])) }
 {
-    out.append(b"job ")?;
-    put_number(alloc, out, number)?;
-    out.push(b' ')?;
-    out.append(job_word(job.check).as_bytes())?;
-    out.push(b' ')?;
-    put_device(alloc, out, job.device)?;
+    out.append(b"job")?;
+    put_number_word(alloc, out, number)?;
+    put_word(out, job_word(job.check).as_bytes())?;
+    put_device_word(alloc, out, job.device)?;
     out.push(b' ')
 }
 

@@ -7,7 +7,7 @@ mod project;
 mod report;
 
 pub use knx_model::{Case, Counts, DeviceCase, JobWord, LogEntry, LogWhat, Report, Sign};
-pub use pieces::{put_device, put_digits, put_hex, put_number};
+pub use pieces::{put_digits, put_hex};
 pub use project::{counts_text, put_tables};
 pub use report::report_of;
 

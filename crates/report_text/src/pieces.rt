@@ -1,10 +1,9 @@
-//! Octets as they are printed, beside numbers and addresses.
+//! Octets as they are printed.
 
 ghost use Rattle.std.specs.Prelude.{◌≡◌, ◌<◌, ◌++◌, OnOk};
 ghost use Rattle.knx_model.specs.ReportText.{hex_digit, hex_octet, hex_text, octets_text};
 
 use knx_model::{NoMemory, Octets};
-pub use knx_model::{put_device, put_number};
 
 /// The digit of a number below 16.
 fn hex_digit(n: u8) -> u8

@@ -5,8 +5,8 @@ ghost use Rattle.std.specs.Fmt.{decimal};
 ghost use Rattle.knx_model.specs.Addresses.{device_text};
 ghost use Rattle.knx_model.specs.ReportText.{counts_line, image_lines, line, list_line, tables_lines};
 
-use crate::pieces::{put_device, put_hex, put_number};
-use knx_model::{Counts, Image, IndAddr, NoMemory, Octets};
+use crate::pieces::put_hex;
+use knx_model::{Counts, Image, IndAddr, NoMemory, Octets, put_device_word, put_number_word};
 use std::alloc::Global;
 
 /// How many devices, objects and links a project has, as the line `ok devices N objects N links N`.
@@ -14,12 +14,12 @@ pub fn counts_text(alloc: Global, counts: Counts) -> Result<Octets, NoMemory>
     ensures { IfOk result (λ text. text ≡ counts_line counts) }
 {
     let mut out = Octets::new(alloc);
-    out.append(b"ok devices ")?;
-    put_number(alloc, &mut out, u64::from(counts.devices))?;
-    out.append(b" objects ")?;
-    put_number(alloc, &mut out, u64::from(counts.objects))?;
-    out.append(b" links ")?;
-    put_number(alloc, &mut out, u64::from(counts.links))?;
+    out.append(b"ok devices")?;
+    put_number_word(alloc, &mut out, u64::from(counts.devices))?;
+    out.append(b" objects")?;
+    put_number_word(alloc, &mut out, u64::from(counts.objects))?;
+    out.append(b" links")?;
+    put_number_word(alloc, &mut out, u64::from(counts.links))?;
     out.push(b'\n')?;
     Ok(out)
 }
@@ -39,8 +39,8 @@ fn put_list(out: &mut Octets, word: &str, octets: &Octets) -> Result<(), NoMemor
 fn put_device_line(alloc: Global, out: &mut Octets, device: IndAddr) -> Result<(), NoMemory>
     ensures { OnOk result (out.new ≡ out.old ++ line (codes "device" ∷ device_text device ∷ [])) }
 {
-    out.append(b"device ")?;
-    put_device(alloc, out, device)?;
+    out.append(b"device")?;
+    put_device_word(alloc, out, device)?;
     out.push(b'\n')
 }
 

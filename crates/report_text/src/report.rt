@@ -6,8 +6,10 @@ ghost use Rattle.std.specs.Fmt.{decimal};
 ghost use Rattle.knx_model.specs.ReportText.{line, job_line, case_word, device_line, report_text};
 
 use crate::job::put_job;
-use crate::pieces::{put_device, put_number};
-use knx_model::{Case, DeviceCase, JobWord, LogEntry, NoMemory, Octets, Report};
+use knx_model::{
+    Case, DeviceCase, JobWord, LogEntry, NoMemory, Octets, Report, put_device_word,
+    put_number_word, put_word,
+};
 use std::alloc::Global;
 
 fn case_word(case: Case) -> &'static str
@@ -37,10 +39,9 @@ fn put_jobs(
 fn put_case(alloc: Global, out: &mut Octets, device: DeviceCase) -> Result<(), NoMemory>
     ensures { OnOk result (out.new ≡ out.old ++ device_line device) }
 {
-    out.append(b"device ")?;
-    put_device(alloc, out, device.device)?;
-    out.push(b' ')?;
-    out.append(case_word(device.case).as_bytes())?;
+    out.append(b"device")?;
+    put_device_word(alloc, out, device.device)?;
+    put_word(out, case_word(device.case).as_bytes())?;
     out.push(b'\n')
 }
 
@@ -56,8 +57,8 @@ fn put_cases(alloc: Global, out: &mut Octets, devices: &[DeviceCase]) -> Result<
 fn put_missed(alloc: Global, out: &mut Octets, missed: u64) -> Result<(), NoMemory>
     ensures { OnOk result (out.new ≡ out.old ++ line (codes "missed" ∷ decimal missed ∷ [])) }
 {
-    out.append(b"missed ")?;
-    put_number(alloc, out, missed)?;
+    out.append(b"missed")?;
+    put_number_word(alloc, out, missed)?;
     out.push(b'\n')
 }
 

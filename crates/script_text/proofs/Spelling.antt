@@ -4,13 +4,14 @@ use Rattle.std.proofs.lemmas.Slice.Eq.{bytes_eq-Decides}
 use Rattle.knx_model.specs.declared.address.GroupAddr.{GroupAddr}
 use Rattle.knx_model.specs.declared.address.IndAddr.{IndAddr}
 use Rattle.knx_model.specs.declared.refusal.Why.{Why}
-use Rattle.knx_model.specs.declared.refusal.Why.TheVariants.{UnknownWord, BadAddress, BadNumber}
+use Rattle.knx_model.specs.declared.refusal.Why.TheVariants.{BadAddress, BadNumber}
 use Rattle.knx_model.specs.declared.script.GroupService.{GroupService}
 use Rattle.knx_model.specs.declared.script.ScriptWhat.{ScriptWhat}
 use Rattle.knx_model.specs.declared.script.ScriptWhat.TheVariants.{LoseUp, LoseDown, RepeatUp, RepeatDown, LoseTo, LoseFrom, RepeatTo, Cut, Worn, CloseAfter, Refuse, DropChannel, Off, Group}
 use Rattle.knx_model.specs.Numbers.{number_value}
 use Rattle.knx_model.specs.Addresses.{group_value, ind_value}
-use Rattle.knx_model.specs.Statements.{◌>>=◌, placed, field, ended}
+use Rattle.knx_model.specs.Answers.{◌>>=◌}
+use Rattle.knx_model.specs.Statements.{placed, field, ended}
 use Rattle.knx_model.specs.ScriptText.{count_value, status_value, service_value, n_says, device_n_says, telegram_says, cut_says, refuse_says, off_says, lose_says, repeat_says, drop_says, then_says, after_word_says, script_words_say, SpellsLine, SpellsLoseUp, SpellsLoseDown, SpellsLoseTo, SpellsLoseFrom, SpellsRepeatUp, SpellsRepeatDown, SpellsRepeatTo, SpellsCut, SpellsWorn, SpellsClose, SpellsRefuse, SpellsDrop, SpellsOff, SpellsGroup, SpellsThenGroup}
 
 -- ---- what is spelled is read

@@ -7,7 +7,8 @@ use Rattle.knx_model.specs.declared.address.IndAddr.{IndAddr}
 use Rattle.knx_model.specs.declared.refusal.Refused.{Refused}
 use Rattle.knx_model.specs.declared.refusal.Why.TheVariants.{NoDevice}
 use Rattle.knx_model.specs.declared.script.ScriptLine.{ScriptLine}
-use Rattle.knx_model.specs.ScriptText.{device_named, is_listed, refused_unless_listed, strangers, first_of_them, first_stranger, IsStranger, IsFirstStranger}
+use Rattle.knx_model.specs.LeastLine.{first_refused}
+use Rattle.knx_model.specs.ScriptText.{device_named, is_listed, refused_unless_listed, strangers, first_stranger, IsStranger, IsFirstStranger}
 
 abbrev told : ScriptLine → Refused
 told l = record { line = l.line; why = NoDevice }
@@ -51,7 +52,7 @@ unfolding strangers
 first_from devices [] r rs e = absurd cc
 first_from devices (l ∷ ls) r rs e = first_step devices l ls (refused_unless_listed devices l.line (device_named l.what)) r rs refl e (first_from devices ls r rs)
 
-first_of : (devices : List IndAddr) (ls : List ScriptLine) (all : List Refused) (r : Refused) → strangers devices ls ≡ all → first_of_them all ≡ Some r → IsFirstStranger devices ls r
+first_of : (devices : List IndAddr) (ls : List ScriptLine) (all : List Refused) (r : Refused) → strangers devices ls ≡ all → first_refused all ≡ Some r → IsFirstStranger devices ls r
 first_of devices ls [] r is e = absurd (none-some r e)
 first_of devices ls (x ∷ xs) r is e = first_from devices ls r xs (is ∙ ap (λ (y : Refused). y ∷ xs) (same_Some x r e))
 
@@ -69,7 +70,7 @@ unfolding strangers
 none_from devices [] e k x there = absurd cc
 none_from devices (l ∷ ls) e k x there = none_step devices l ls (refused_unless_listed devices l.line (device_named l.what)) refl e (none_from devices ls) k x there
 
-none_of : (devices : List IndAddr) (ls : List ScriptLine) (all : List Refused) → strangers devices ls ≡ all → first_of_them all ≡ None → strangers devices ls ≡ []
+none_of : (devices : List IndAddr) (ls : List ScriptLine) (all : List Refused) → strangers devices ls ≡ all → first_refused all ≡ None → strangers devices ls ≡ []
 none_of devices ls [] is e = is
 none_of devices ls (x ∷ xs) is e = absurd (none-some x (sym e))
 

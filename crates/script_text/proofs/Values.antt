@@ -1,5 +1,5 @@
 -- Words that are values.
-use Rattle.std.proofs.Common.{◌≡◌, ℕ, Bool, cond, eqb, leb, ltb, bytes_eq, codes, List, [], ◌∷◌, length, true, false, ◌&&◌, Option, Some, None, refl, subst, arith}
+use Rattle.std.proofs.Common.{◌≡◌, ℕ, Bool, cond, eqb, leb, bytes_eq, codes, List, [], ◌∷◌, length, true, false, ◌&&◌, Option, Some, None, refl, subst, arith}
 use Rattle.std.proofs.lemmas.Option.{same_Some, none-some}
 use Rattle.std.proofs.lemmas.Bool.{lt-ltb, leb-true, and_from}
 use Rattle.knx_model.specs.declared.frames.value.Value.{Value}

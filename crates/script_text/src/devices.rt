@@ -1,9 +1,8 @@
 //! The devices that lines name, and the cuts among the lines.
 
-ghost use Rattle.std.specs.Prelude.{◌≡◌, ◌==◌, IfOk};
-ghost use Rattle.std.specs.List.{list_any};
+ghost use Rattle.std.specs.Prelude.{◌≡◌, IfOk};
 ghost use Rattle.knx_model.specs.Script.{cuts_of};
-ghost use Rattle.knx_model.specs.ScriptText.{cut_of, is_cut, device_named, is_listed, refused_unless_listed, first_stranger, strangers};
+ghost use Rattle.knx_model.specs.ScriptText.{cut_of, is_cut, device_named, refused_unless_listed, first_stranger, strangers};
 
 use knx_model::{Cut, IndAddr, List, NoMemory, Refused, ScriptLine, ScriptWhat, Why};
 use std::alloc::Global;
@@ -60,18 +59,12 @@ pub fn device_named(what: &ScriptWhat) -> Option<IndAddr>
     }
 }
 
-fn is_listed(devices: &[IndAddr], device: IndAddr) -> bool
-    ensures { result ≡ is_listed devices.now device }
-{
-    devices.iter().any(|listed| listed.raw == device.raw)
-}
-
 /// The refusal of a line that names a device which isn't listed.
 fn stranger(devices: &[IndAddr], line: &ScriptLine) -> Option<Refused>
     ensures { result ≡ refused_unless_listed devices.now line.now.line (device_named line.now.what) }
 {
     let device = device_named(&line.what)?;
-    if is_listed(devices, device) {
+    if device.is_among(devices) {
         return None;
     }
     Some(Refused {

@@ -1,14 +1,14 @@
 //! The words of a script's line, each read as its place wants.
 
 ghost use Rattle.std.specs.Prelude.{◌≡◌, ◌<◌, IfSome, IfOk, IsTrue};
+ghost use Rattle.knx_model.specs.Answers.{Answers};
 ghost use Rattle.knx_model.specs.Words.{words};
 ghost use Rattle.knx_model.specs.Numbers.{number_value};
-ghost use Rattle.knx_model.specs.LeastLine.{Answers};
 ghost use Rattle.knx_model.specs.Statements.{field};
 ghost use Rattle.knx_model.specs.ScriptText.{count_value, status_value, service_value, is_service};
 ghost use Rattle.knx_model.specs.declared.refusal.Why.TheVariants.{BadNumber};
 
-use knx_model::{GroupService, Why, first_word, number_in, octet_in, value_in};
+use knx_model::{GroupService, Why, next_field, number_in, octet_in, value_in};
 
 /// A number of at least 1.
 fn count_in(word: &[u8]) -> Option<u32>
@@ -48,26 +48,18 @@ pub fn count_field(rest: &[u8]) -> Result<(u32, &[u8]), Why>
     ensures read { Answers (λ x. (x.0, words x.1.now)) result (field count_value BadNumber (words rest.now)) }
     ensures fits { IfOk result (λ x. 0 < x.0) }
 {
-    match first_word(rest) {
-        None => Err(Why::MissingWord),
-        Some((word, rest)) => match count_in(word) {
-            None => Err(Why::BadNumber),
-            Some(n) => Ok((n, rest)),
-        },
-    }
+    let (word, rest) = next_field(rest)?;
+    let n = count_in(word).ok_or(Why::BadNumber)?;
+    Ok((n, rest))
 }
 
 /// A number, and the words after it.
 pub fn number_field(rest: &[u8]) -> Result<(u32, &[u8]), Why>
     ensures { Answers (λ x. (x.0, words x.1.now)) result (field number_value BadNumber (words rest.now)) }
 {
-    match first_word(rest) {
-        None => Err(Why::MissingWord),
-        Some((word, rest)) => match number_in(word) {
-            None => Err(Why::BadNumber),
-            Some(n) => Ok((n, rest)),
-        },
-    }
+    let (word, rest) = next_field(rest)?;
+    let n = number_in(word).ok_or(Why::BadNumber)?;
+    Ok((n, rest))
 }
 
 /// A status, and the words after it.
@@ -75,13 +67,9 @@ pub fn status_field(rest: &[u8]) -> Result<(u8, &[u8]), Why>
     ensures read { Answers (λ x. (x.0, words x.1.now)) result (field status_value BadNumber (words rest.now)) }
     ensures fits { IfOk result (λ x. 0 < x.0) }
 {
-    match first_word(rest) {
-        None => Err(Why::MissingWord),
-        Some((word, rest)) => match status_in(word) {
-            None => Err(Why::BadNumber),
-            Some(status) => Ok((status, rest)),
-        },
-    }
+    let (word, rest) = next_field(rest)?;
+    let status = status_in(word).ok_or(Why::BadNumber)?;
+    Ok((status, rest))
 }
 
 /// What is asked of a group, and the words after it.
@@ -90,11 +78,7 @@ pub fn service_field(rest: &[u8]) -> Result<(GroupService, &[u8]), Why>
     ensures read { Answers (λ x. (x.0, words x.1.now)) result (field service_value BadNumber (words rest.now)) }
     ensures fits { IfOk result (λ x. IsTrue (is_service x.0)) }
 {
-    match first_word(rest) {
-        None => Err(Why::MissingWord),
-        Some((word, rest)) => match service_in(word) {
-            None => Err(Why::BadNumber),
-            Some(service) => Ok((service, rest)),
-        },
-    }
+    let (word, rest) = next_field(rest)?;
+    let service = service_in(word).ok_or(Why::BadNumber)?;
+    Ok((service, rest))
 }

@@ -10,7 +10,8 @@ use Rattle.knx_model.specs.declared.address.IndAddr.{IndAddr}
 use Rattle.knx_model.specs.declared.project.Statement.{Statement}
 use Rattle.knx_model.specs.declared.project.What.{What}
 use Rattle.knx_model.specs.declared.project.What.TheVariants.{Title, Group, Device, Object, Link, Flags, Param}
-use Rattle.table_compiler.specs.Lines.{raw, names, lines_of, AreGrouped}
+use Rattle.project_check.specs.Devices.{raw_of}
+use Rattle.table_compiler.specs.Lines.{names, lines_of, AreGrouped}
 
 -- a statement names at most one device
 names_one : (d e : ℕ) (what : What) → names d what ≡ true → names e what ≡ true → d ≡ e
@@ -80,8 +81,8 @@ AllZip-push R (x' ∷ xs) (y' ∷ ys) x y all r = (all.0, AllZip-push R xs ys x 
 
 -- the lines of the device in a place
 pub lines_at : (devices : List IndAddr) (numbers : List ℕ) (groups : List (Vec Statement Global)) (ss : List Statement) (place : ℕ) (group : Vec Statement Global) (lines : List Statement)
-    → numbers ≡ map raw devices → AreGrouped numbers groups ss → place < length devices → group ≡ get_or groups place group → lines ≡ group.items → lines ≡ lines_of (get_or devices place (record { raw = 0 })).raw ss
+    → numbers ≡ map raw_of devices → AreGrouped numbers groups ss → place < length devices → group ≡ get_or groups place group → lines ≡ group.items → lines ≡ lines_of (get_or devices place (record { raw = 0 })).raw ss
 lines_at devices numbers groups ss place group lines is grouped lt there same =
-    let many : place < length numbers = omega (arith, lt, ap length is, length-map devices raw) in
+    let many : place < length numbers = omega (arith, lt, ap length is, length-map devices raw_of) in
     same ∙ ap (λ (v : Vec Statement Global). v.items) there ∙ grouped.each place group many
-    ∙ ap (λ (d : ℕ). lines_of d ss) (ap (λ (ns : List ℕ). get_or ns place 0) is ∙ get_or-map raw devices place (record { raw = 0 }) 0 lt)
+    ∙ ap (λ (d : ℕ). lines_of d ss) (ap (λ (ns : List ℕ). get_or ns place 0) is ∙ get_or-map raw_of devices place (record { raw = 0 }) 0 lt)

@@ -8,7 +8,7 @@ use Rattle.std.proofs.lemmas.List.Sorted.{Contains-permutation, IsPermutation-sy
 use Rattle.knx_model.specs.declared.address.IndAddr.{IndAddr}
 use Rattle.knx_model.specs.declared.config.Config.{Config}
 use Rattle.knx_model.specs.declared.config.Image.{Image}
-use Rattle.table_compiler.specs.Lines.{raw}
+use Rattle.project_check.specs.Devices.{raw_of}
 use Rattle.parameter_memory.proofs.One.{one as one_memory}
 use Rattle.knx_model.specs.Tables.{StandsFor, precedence, address_list, association_list}
 
@@ -97,7 +97,7 @@ one_image config one other s t =
     λ i. record { addr = addr i; assoc = assoc i; objs = objs i; params = params i }
 
 -- the devices of a text have one ascending list
-pub one_order : (devices one other : List IndAddr) → IsPermutation devices one → IsPermutation devices other → IsStrictlyIncreasing (map raw one) → IsStrictlyIncreasing (map raw other) → one ≡ other
-one_order devices one other p q up vp = one_list raw one other up vp
+pub one_order : (devices one other : List IndAddr) → IsPermutation devices one → IsPermutation devices other → IsStrictlyIncreasing (map raw_of one) → IsStrictlyIncreasing (map raw_of other) → one ≡ other
+one_order devices one other p q up vp = one_list raw_of one other up vp
     (λ d h. Contains-permutation devices other d q (Contains-permutation one devices d (IsPermutation-sym devices one p) h))
     (λ d h. Contains-permutation devices one d p (Contains-permutation other devices d (IsPermutation-sym devices other q) h))

@@ -9,9 +9,6 @@ use Rattle.knx_model.specs.declared.project.What.TheVariants.{Device, Object, Li
 use Rattle.knx_model.specs.Meaning.{last_flags}
 use Rattle.knx_model.specs.Rules.{first_broken}
 
-abbrev pub raw : IndAddr → ℕ
-raw device = device.raw
-
 -- the statement names the device
 abbrev pub names : ℕ → What → Bool
 names d (Device device model) = device.raw == d

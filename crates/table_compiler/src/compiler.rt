@@ -9,7 +9,8 @@ ghost use Rattle.knx_model.specs.Device.{Fits};
 ghost use Rattle.knx_model.specs.Meaning.{meaning};
 ghost use Rattle.knx_model.specs.Rules.{first_broken, devices_of};
 ghost use Rattle.knx_model.specs.Tables.{StandsFor};
-ghost use Rattle.table_compiler.specs.Lines.{raw, AreLinesOf};
+ghost use Rattle.project_check.specs.Devices.{raw_of};
+ghost use Rattle.table_compiler.specs.Lines.{AreLinesOf};
 
 use crate::lines::{lines_by_device, lines_of};
 use crate::links::{link_lines, links_of};
@@ -34,7 +35,7 @@ pub fn compile(alloc: Global, checked: &Checked<'_, '_>, device: IndAddr) -> Res
 
 /// The tables and the parameter memories of the devices of the project, in their ascending order.
 pub fn compile_all(alloc: Global, checked: &Checked<'_, '_>) -> Result<List<Image>, NoMemory>
-    ensures stands { IfOk result (λ images. (devices : Seq Device) → IsPermutation (devices_of checked.now.statements) devices → IsStrictlyIncreasing (map raw devices) → AllZip (λ image device. StandsFor image (meaning checked.now device)) images devices) }
+    ensures stands { IfOk result (λ images. (devices : Seq Device) → IsPermutation (devices_of checked.now.statements) devices → IsStrictlyIncreasing (map raw_of devices) → AllZip (λ image device. StandsFor image (meaning checked.now device)) images devices) }
     ensures fits { IfOk result (λ images. All Fits images) }
 {
     compile_devices(
@@ -86,7 +87,7 @@ fn compile_statements(
 }
 
 fn numbers_of(alloc: Global, devices: &[IndAddr]) -> Result<Vec<u16>, AllocError>
-    ensures { IfOk result (λ numbers. numbers.items ≡ map raw devices.now) }
+    ensures { IfOk result (λ numbers. numbers.items ≡ map raw_of devices.now) }
 {
     devices.iter().map(|device| device.raw).collect(alloc)
 }
@@ -99,7 +100,7 @@ fn compile_devices(
     devices: &[IndAddr],
 ) -> Result<List<Image>, NoMemory>
     requires sound { first_broken catalogue.now statements.now ≡ None }
-    requires ascending { IsStrictlyIncreasing (map raw devices.now) }
+    requires ascending { IsStrictlyIncreasing (map raw_of devices.now) }
     ensures stands { IfOk result (λ images. AllZip (λ image device. StandsFor image (meaning (record { statements = statements.now; catalogue = catalogue.now }) device)) images devices.now) }
     ensures fits { IfOk result (λ images. All Fits images) }
 {

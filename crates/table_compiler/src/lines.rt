@@ -10,17 +10,28 @@ use crate::places::Places;
 use knx_model::{IndAddr, Statement, What};
 use std::alloc::{AllocError, Global};
 
+/// The device that a statement names.
+fn device_of(what: &What<'_>) -> Option<IndAddr>
+    ensures some { IfSome result (λ device. (d : ℕ) → names d what.now ≡ (device.raw == d)) }
+    ensures none { IfNone result ((d : ℕ) → names d what.now ≡ false) }
+{
+    match what {
+        What::Device { device, .. }
+        | What::Object { device, .. }
+        | What::Link { device, .. }
+        | What::Flags { device, .. }
+        | What::Param { device, .. } => Some(*device),
+        What::Title(_) | What::Group { .. } => None,
+    }
+}
+
 /// Whether a statement names the device.
 fn names(device: IndAddr, what: &What<'_>) -> bool
     ensures { result ≡ names device.raw what.now }
 {
-    match what {
-        What::Device { device: named, .. }
-        | What::Object { device: named, .. }
-        | What::Link { device: named, .. }
-        | What::Flags { device: named, .. }
-        | What::Param { device: named, .. } => named.raw == device.raw,
-        What::Title(_) | What::Group { .. } => false,
+    match device_of(what) {
+        Some(named) => named.raw == device.raw,
+        None => false,
     }
 }
 
@@ -37,21 +48,6 @@ pub fn lines_of<'a>(
         .filter(|statement| names(device, &statement.what))
         .map(|statement| statement.copied())
         .collect(alloc)
-}
-
-/// The device that a statement names.
-fn device_of(what: &What<'_>) -> Option<IndAddr>
-    ensures some { IfSome result (λ device. (d : ℕ) → names d what.now ≡ (device.raw == d)) }
-    ensures none { IfNone result ((d : ℕ) → names d what.now ≡ false) }
-{
-    match what {
-        What::Device { device, .. }
-        | What::Object { device, .. }
-        | What::Link { device, .. }
-        | What::Flags { device, .. }
-        | What::Param { device, .. } => Some(*device),
-        What::Title(_) | What::Group { .. } => None,
-    }
 }
 
 /// The place of the device that a statement names, where it stands among these numbers.

@@ -16,13 +16,7 @@ fn link_line(device: IndAddr, what: &What<'_>) -> Option<(u8, GroupAddr)>
             device: of,
             object,
             group,
-        } => {
-            if of.raw == device.raw {
-                Some((*object, *group))
-            } else {
-                None
-            }
-        }
+        } if of.raw == device.raw => Some((*object, *group)),
         _ => None,
     }
 }

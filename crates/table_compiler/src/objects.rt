@@ -33,16 +33,12 @@ fn object_line(device: IndAddr, what: &What<'_>) -> Option<(u8, ObjSpec)>
             n,
             size,
             flags,
-        } => {
-            if of.raw == device.raw {
-                let spec = ObjSpec {
-                    flags: *flags,
-                    size: *size,
-                };
-                Some((*n, spec))
-            } else {
-                None
-            }
+        } if of.raw == device.raw => {
+            let spec = ObjSpec {
+                flags: *flags,
+                size: *size,
+            };
+            Some((*n, spec))
         }
         _ => None,
     }

@@ -1,46 +1,41 @@
 //! The places of ascending numbers, each found in one step.
 
-ghost use Rattle.std.specs.Prelude.{◌≡◌, length, slice_index};
+ghost use Rattle.std.specs.Prelude.{◌≡◌, slice_index};
 ghost use Rattle.std.specs.List.Sorted.{IsStrictlyIncreasing};
 ghost use Rattle.table_compiler.specs.Places.{ArePlaces};
 
+use project_check::ByAddress;
 use std::alloc::{AllocError, Global};
 use std::marker::Model;
-
-/// How many numbers two octets write.
-const NUMBERS: usize = 65_536;
 
 /// A place for each number of two octets; what it is of a number that wasn't listed is left open.
 #[derive(Drop)]
 pub struct Places {
-    places: Vec<u16>,
+    places: ByAddress<u16>,
 }
 
 impl Model for Places {
-    ghost use Rattle.std.specs.Prelude.{◌≡◌, List, ℕ, length};
+    ghost use Rattle.std.specs.Prelude.{List, ℕ};
 
     ghost Value = { List ℕ };
 
-    ghost view = { λ p. p.places.items };
-
-    ghost invariant = { λ p. length p.places.items ≡ 65536 };
+    ghost view = { λ p. p.places };
 }
 
 /// Writes the place of each of these numbers, from 0, under it.
-fn write_places(places: &mut [u16], numbers: &[u16])
-    requires whole { length places.old ≡ 65536 }
-    requires ascending { IsStrictlyIncreasing numbers.now }
+fn write_places(places: &mut ByAddress<u16>, numbers: &[u16])
+    requires { IsStrictlyIncreasing numbers.now }
     ensures { ArePlaces places.new numbers.now }
 {
     for place in 0..numbers.len() {
-        places[usize::from(numbers[place])] = place as u16;
+        places.set(numbers[place], place as u16);
     }
 }
 
 impl Places {
     /// Places for which no number was listed yet.
     pub fn new(alloc: Global) -> Result<Places, AllocError> {
-        let places = vec![in alloc; 0; NUMBERS]?;
+        let places = ByAddress::new(alloc, 0)?;
         Ok(Places { places })
     }
 
@@ -56,6 +51,6 @@ impl Places {
     pub fn place(&self, number: u16) -> u16
         ensures { result ≡ slice_index self.now number }
     {
-        self.places[usize::from(number)]
+        self.places.get(number)
     }
 }

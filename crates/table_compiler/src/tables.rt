@@ -33,7 +33,7 @@ fn groups_of(alloc: Global, links: &[LinkSpec]) -> Result<Vec<u16>, AllocError>
 }
 
 /// Where a link stands in the association table: by its object, the sending link first, then by its group.
-#[derive(Clone, Copy, Debug, PartialEq, Eq, PartialOrd, Ord)]
+#[derive(Clone, Copy, PartialEq, Eq, PartialOrd, Ord)]
 struct Precedence {
     object: u8,
     receives_only: bool,
@@ -123,12 +123,12 @@ fn group_objects(alloc: Global, objects: &[ObjSpec]) -> Result<Octets, NoMemory>
     requires { length objects.now < 65536 }
     ensures { IfOk result (λ octets. octets ≡ object_list objects.now) }
 {
-    let mut out = Octets::new(alloc);
-    out.append(&(objects.len() as u16).to_be_bytes())?;
+    let mut out = Vec::with_capacity(alloc, 2 + 2 * objects.len())?;
+    out.extend_from_slice(&(objects.len() as u16).to_be_bytes())?;
     for object in objects {
-        out.append(&[object.flags, object.size])?;
+        out.extend_from_slice(&[object.flags, object.size])?;
     }
-    Ok(out)
+    Ok(Octets::from_vec(out))
 }
 
 /// The tables of links and objects, beside a parameter memory.

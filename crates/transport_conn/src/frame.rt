@@ -1,4 +1,4 @@
-//! Frames as the transport layer sees them (ISO/IEC 14543-3, transport layer): the control frames, and numbered data
+//! Frames as the transport layer sees them (ISO/IEC 14543-3-2, transport layer): the control frames, and numbered data
 //! `01ssssaa` whatever its service.
 
 ghost use Rattle.std.specs.Prelude.{◌≡◌, ◌≤◌, ◌<◌, length};
@@ -6,7 +6,7 @@ ghost use Rattle.knx_model.specs.declared.frames.tpdu.Tpdu.TheVariants as tpdu;
 ghost use Rattle.knx_model.specs.Apdu.{Written};
 ghost use Rattle.knx_model.specs.Connection.{frame_in, numbered, next, is_before, HasNumber, IsApdu};
 
-use apdu_frames::{decode, encode};
+use apdu_frames::{NUMBERED, decode, encode, is_numbered, sequence_number};
 use knx_model::{ApduOctets, Tpdu, TransportFrame};
 
 /// The frame that octets are. One of more than 16 octets is no frame of a device: it is `Other`.
@@ -17,13 +17,13 @@ pub fn read(octets: &[u8]) -> TransportFrame
 {
     match octets {
         [_] => control(octets),
-        [first @ 0x40..=0x7F, rest @ ..]
-            if octets.len() >= 2 && octets.len() <= ApduOctets::CAPACITY => {
+        [first, rest @ ..]
+            if is_numbered(*first) && octets.len() >= 2 && octets.len() <= ApduOctets::CAPACITY => {
             let first = *first;
             let mut apdu = ApduOctets::from_slice(&[first & 0x03]);
             apdu.extend(rest);
             TransportFrame::Numbered {
-                number: (first >> 2) & 0x0F,
+                number: sequence_number(first),
                 apdu,
             }
         }
@@ -56,7 +56,7 @@ pub fn numbered(number: u8, apdu: &[u8]) -> ApduOctets
     match apdu {
         [] => ApduOctets::new(),
         [first, rest @ ..] => {
-            let mut frame = ApduOctets::from_slice(&[0x40 + 4 * number + *first]);
+            let mut frame = ApduOctets::from_slice(&[NUMBERED + 4 * number + *first]);
             frame.extend(rest);
             frame
         }

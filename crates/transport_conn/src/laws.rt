@@ -1,4 +1,4 @@
-//! The laws of both ends (ISO/IEC 14543-3, transport layer).
+//! The laws of both ends (ISO/IEC 14543-3-2, transport layer).
 
 ghost use Rattle.std.specs.Prelude.{◌≡◌, ◌≢◌, ℕ, ◌+◌, ◌<◌, ◌⊎◌, List, Bool, true, false, Option, Some, None, ◌↔◌};
 ghost use Rattle.knx_model.specs.declared.address.IndAddr.{IndAddr as Address};

@@ -1,4 +1,4 @@
-//! Both ends of a numbered connection (ISO/IEC 14543-3, transport layer), as values that are told frames and times and that
+//! Both ends of a numbered connection (ISO/IEC 14543-3-2, transport layer), as values that are told frames and times and that
 //! answer what is to be sent.
 #![tactic(auto)]
 

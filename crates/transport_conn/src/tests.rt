@@ -73,7 +73,7 @@ fn a_device_delivers_each_service_once(rt: HostRuntime) {
         conn.take(CLIENT, &[0x81], 0),
         DeviceTook::Closed { answer: None }
     );
-    assert!(rt; !conn.is_open());
+    assert!(rt; conn.partner().is_none());
 }
 
 #[test]

@@ -1,4 +1,4 @@
-//! The waits of a connection (ISO/IEC 14543-3, transport layer).
+//! The waits of a connection (ISO/IEC 14543-3-2, transport layer).
 
 ghost use Rattle.std.specs.Prelude.{◌≡◌};
 ghost use Rattle.knx_model.specs.Connection.{has_passed, end_of, earlier};

@@ -1,10 +1,11 @@
-//! A_GroupValue_Read, A_GroupValue_Response and A_GroupValue_Write (ISO/IEC 14543-3, application layer). A value stands in the
+//! A_GroupValue_Read, A_GroupValue_Response and A_GroupValue_Write (ISO/IEC 14543-3-1, application layer). A value stands in the
 //! low six bits of the code, or is 1 to 14 octets.
 
 ghost use Rattle.std.specs.Prelude.{◌≡◌, ◌≤◌, ◌^◌, ◌<◌, length, ◌+◌, ◌++◌, IfOk, IfErr};
 ghost use Rattle.knx_model.specs.Apdu.{ReadsApdu, IsValue, service, short, long};
 ghost use Rattle.apdu_frames.specs.Refusing.{RefusesApdu};
 
+use crate::words::low;
 use knx_model::{Apdu, ApduOctets, LongValue, TpduRefused, Value};
 
 /// A_GroupValue_Read has no octets.
@@ -43,7 +44,7 @@ fn value_of(code: u16, rest: &[u8]) -> Result<Value, TpduRefused>
     ensures long { IfErr result (λ why. (why ≡ TpduRefused.Length) × (14 < length rest.now)) }
 {
     if rest.is_empty() {
-        Ok(Value::Short((code & 0x3F) as u8))
+        Ok(Value::Short(low(code)))
     } else if rest.len() <= LongValue::CAPACITY {
         Ok(Value::Long(LongValue::from_slice(rest)))
     } else {

@@ -1,10 +1,9 @@
-//! A_IndividualAddress_Write, A_IndividualAddress_Read and A_IndividualAddress_Response (ISO/IEC 14543-3, application layer).
+//! A_IndividualAddress_Write, A_IndividualAddress_Read and A_IndividualAddress_Response (ISO/IEC 14543-3-1, application layer).
 
 ghost use Rattle.std.specs.Prelude.{◌≡◌, IfOk, IfErr};
 ghost use Rattle.knx_model.specs.Apdu.{ReadsApdu, service};
 ghost use Rattle.apdu_frames.specs.Refusing.{RefusesApdu};
 
-use crate::words::word;
 use knx_model::{Apdu, IndAddr, TpduRefused};
 
 /// A_IndividualAddress_Write of an address of two octets.
@@ -15,7 +14,7 @@ pub fn read_write(code: u16, rest: &[u8]) -> Result<Apdu, TpduRefused>
 {
     match rest {
         [high, below] => Ok(Apdu::AddressWrite(IndAddr {
-            raw: word(*high, *below),
+            raw: u16::from_be_bytes([*high, *below]),
         })),
         _ => Err(TpduRefused::Length),
     }

@@ -1,22 +1,12 @@
-//! A_Memory_Read, A_Memory_Response and A_Memory_Write (ISO/IEC 14543-3, application layer). The low six bits of the code
+//! A_Memory_Read, A_Memory_Response and A_Memory_Write (ISO/IEC 14543-3-1, application layer). The low six bits of the code
 //! count the octets, and an address of two octets goes first.
 
-ghost use Rattle.std.specs.Prelude.{◌≡◌, ◌+◌, ◌≤◌, ◌%◌, ◌++◌, length, IfOk, IfErr};
-ghost use Rattle.knx_model.specs.Apdu.{ReadsApdu, service, low, word as written};
+ghost use Rattle.std.specs.Prelude.{◌≡◌, ◌+◌, ◌≤◌, ◌++◌, length, IfOk, IfErr};
+ghost use Rattle.knx_model.specs.Apdu.{ReadsApdu, service, word as written};
 ghost use Rattle.apdu_frames.specs.Refusing.{RefusesApdu};
 
-use crate::words::{push_word, word};
-use knx_model::{Apdu, ApduOctets, TpduRefused};
-
-/// How many octets of memory a frame carries at most.
-const MOST_OCTETS: u8 = 12;
-
-/// The count in the low six bits of the code.
-fn count_of(code: u16) -> u8
-    ensures { result ≡ low code }
-{
-    (code & 0x3F) as u8
-}
+use crate::words::{low, push_word};
+use knx_model::{Apdu, ApduOctets, MOST_MEMORY_OCTETS, TpduRefused};
 
 /// A_Memory_Read of 1 to 12 octets.
 pub fn read_request(code: u16, rest: &[u8]) -> Result<Apdu, TpduRefused>
@@ -27,13 +17,13 @@ pub fn read_request(code: u16, rest: &[u8]) -> Result<Apdu, TpduRefused>
     let [high, below] = rest else {
         return Err(TpduRefused::Length);
     };
-    let count = count_of(code);
-    if count < 1 || count > MOST_OCTETS {
+    let count = low(code);
+    if count < 1 || count as usize > MOST_MEMORY_OCTETS {
         return Err(TpduRefused::Count);
     }
     Ok(Apdu::MemoryRead {
         count,
-        address: word(*high, *below),
+        address: u16::from_be_bytes([*high, *below]),
     })
 }
 
@@ -46,12 +36,12 @@ pub fn read_response(code: u16, rest: &[u8]) -> Result<Apdu, TpduRefused>
     let [high, below, octets @ ..] = rest else {
         return Err(TpduRefused::Length);
     };
-    let count = count_of(code);
-    if count > MOST_OCTETS || octets.len() != count as usize {
+    let count = low(code);
+    if count as usize > MOST_MEMORY_OCTETS || octets.len() != count as usize {
         return Err(TpduRefused::Count);
     }
     Ok(Apdu::MemoryResponse {
-        address: word(*high, *below),
+        address: u16::from_be_bytes([*high, *below]),
         octets: ApduOctets::from_slice(octets),
     })
 }
@@ -65,12 +55,12 @@ pub fn read_write(code: u16, rest: &[u8]) -> Result<Apdu, TpduRefused>
     let [high, below, octets @ ..] = rest else {
         return Err(TpduRefused::Length);
     };
-    let count = count_of(code);
-    if count < 1 || count > MOST_OCTETS || octets.len() != count as usize {
+    let count = low(code);
+    if count < 1 || count as usize > MOST_MEMORY_OCTETS || octets.len() != count as usize {
         return Err(TpduRefused::Count);
     }
     Ok(Apdu::MemoryWrite {
-        address: word(*high, *below),
+        address: u16::from_be_bytes([*high, *below]),
         octets: ApduOctets::from_slice(octets),
     })
 }

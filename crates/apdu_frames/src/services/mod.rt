@@ -1,4 +1,4 @@
-//! The services (ISO/IEC 14543-3, application layer): for each group of services one file, which reads and writes what follows
+//! The services (ISO/IEC 14543-3-1, application layer): for each group of services one file, which reads and writes what follows
 //! the code.
 
 ghost use Rattle.std.specs.Prelude.{◌≡◌, ◌+◌, ◌<◌, ◌≤◌, ◌^◌, ◌++◌, length, IfOk, IfErr};

@@ -1,11 +1,11 @@
-//! A_PropertyValue_Read, A_PropertyValue_Response and A_PropertyValue_Write (ISO/IEC 14543-3, application layer): object,
+//! A_PropertyValue_Read, A_PropertyValue_Response and A_PropertyValue_Write (ISO/IEC 14543-3-1, application layer): object,
 //! property, a count of four bits and a start of twelve, and then the octets.
 
 ghost use Rattle.std.specs.Prelude.{◌≡◌, ◌+◌, ◌*◌, ◌/◌, ◌%◌, ◌<◌, ◌≤◌, ◌++◌, length, IfOk, IfErr};
 ghost use Rattle.knx_model.specs.Apdu.{ReadsApdu, IsApduInRange, apdu_code, rest_of, property_head};
 ghost use Rattle.apdu_frames.specs.Refusing.{RefusesApdu};
 
-use crate::words::{push_word, word};
+use crate::words::push_word;
 use knx_model::{Apdu, ApduOctets, TpduRefused};
 
 /// How many octets of a property's value a frame carries at most.
@@ -15,7 +15,7 @@ const MOST_OCTETS: usize = 10;
 fn start_of(high: u8, below: u8) -> u16
     ensures { result ≡ 256 * (high % 16) + below }
 {
-    word(high & 0x0F, below)
+    u16::from_be_bytes([high & 0x0F, below])
 }
 
 /// A_PropertyValue_Read has no octets.

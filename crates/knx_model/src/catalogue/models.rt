@@ -9,7 +9,7 @@ use std::alloc::Global;
 use std::marker::Model;
 
 /// Models by name; each breaks no rule.
-#[derive(Debug, Drop)]
+#[derive(Drop)]
 pub struct Catalogue {
     models: List<NamedModel>,
 }

@@ -1,12 +1,13 @@
 //! Why a catalogue is refused.
 
 ghost use Rattle.std.specs.Prelude.{◌≡◌};
+ghost use Rattle.knx_model.specs.Refusal.{catalogue_number, catalogue_word};
 
 use crate::lists::{NoMemory, Octets};
 
 /// Why a catalogue is refused, each with its number but for want of memory. Models and parameters are named as they stand in the
 /// document.
-#[derive(Debug, Drop)]
+#[derive(Drop)]
 pub enum CatRefused {
     /// There was no memory.
     NoMemory,
@@ -20,6 +21,36 @@ pub enum CatRefused {
     Range { model: Octets, parameter: Octets },
     /// 5: the text has more than 4,194,304 octets.
     Long,
+}
+
+impl CatRefused {
+    /// Its number, from 1; none for want of memory.
+    pub fn number(&self) -> Option<u8>
+        ensures { result ≡ catalogue_number self.now }
+    {
+        match self {
+            CatRefused::NoMemory => None,
+            CatRefused::Toml => Some(1),
+            CatRefused::Shape { .. } => Some(2),
+            CatRefused::Overlap { .. } => Some(3),
+            CatRefused::Range { .. } => Some(4),
+            CatRefused::Long => Some(5),
+        }
+    }
+
+    /// Its word, as it is printed.
+    pub fn word(&self) -> &'static str
+        ensures { result.now ≡ catalogue_word self.now }
+    {
+        match self {
+            CatRefused::NoMemory => "NoMemory",
+            CatRefused::Toml => "Toml",
+            CatRefused::Shape { .. } => "Shape",
+            CatRefused::Overlap { .. } => "Overlap",
+            CatRefused::Range { .. } => "Range",
+            CatRefused::Long => "Long",
+        }
+    }
 }
 
 impl From<NoMemory> for CatRefused {

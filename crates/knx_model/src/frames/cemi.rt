@@ -1,5 +1,8 @@
 //! Frames of the link layer as a tunnel carries them (KNX standard 3/6/3, common EMI).
 
+ghost use Rattle.std.specs.Prelude.{◌≡◌};
+ghost use Rattle.knx_model.specs.Cemi.{refusal_number, refusal_word};
+
 use crate::frames::ApduOctets;
 
 /// Which L_Data service a frame belongs to.
@@ -14,7 +17,7 @@ pub enum LdataCode {
 }
 
 /// A standard frame of L_Data.
-#[derive(Clone, Debug, Drop, PartialEq, Eq)]
+#[derive(Debug, Drop, PartialEq, Eq)]
 pub struct Ldata {
     pub code: LdataCode,
     /// Whether a con tells that the frame met an error.
@@ -33,6 +36,24 @@ pub struct Ldata {
     pub tpdu: ApduOctets,
 }
 
+impl Ldata {
+    /// The same frame again. It takes no memory.
+    pub fn copied(&self) -> Ldata
+        ensures { result ≡ self.now }
+    {
+        Ldata {
+            code: self.code,
+            error: self.error,
+            group: self.group,
+            priority: self.priority,
+            hops: self.hops,
+            source: self.source,
+            destination: self.destination,
+            tpdu: self.tpdu.copied(),
+        }
+    }
+}
+
 /// Why octets are no frame of L_Data.
 #[derive(Clone, Copy, Debug, PartialEq, Eq)]
 pub enum CemiRefused {
@@ -44,4 +65,30 @@ pub enum CemiRefused {
     Extended,
     /// 4: the length isn't that of the TPDU, or is above 15.
     Length,
+}
+
+impl CemiRefused {
+    /// Its number, from 1.
+    pub fn number(self) -> u8
+        ensures { result ≡ refusal_number self }
+    {
+        match self {
+            CemiRefused::Short => 1,
+            CemiRefused::Code => 2,
+            CemiRefused::Extended => 3,
+            CemiRefused::Length => 4,
+        }
+    }
+
+    /// Its word, as it is printed.
+    pub fn word(self) -> &'static str
+        ensures { result.now ≡ refusal_word self }
+    {
+        match self {
+            CemiRefused::Short => "Short",
+            CemiRefused::Code => "Code",
+            CemiRefused::Extended => "Extended",
+            CemiRefused::Length => "Length",
+        }
+    }
 }

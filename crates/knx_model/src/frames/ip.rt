@@ -1,10 +1,13 @@
 //! Frames of KNXnet/IP (ISO 22510): the services of Core and Tunnelling.
 
+ghost use Rattle.std.specs.Prelude.{◌≡◌};
+ghost use Rattle.knx_model.specs.KnxNetIp.{refusal_number, refusal_word};
+
 use crate::address::IndAddr;
 use crate::frames::Datagram;
 
 /// A frame of a client or of a gateway.
-#[derive(Clone, Debug, Drop, PartialEq, Eq)]
+#[derive(Debug, Drop, PartialEq, Eq)]
 pub enum IpFrame {
     /// Asks for a tunnel on the link layer.
     ConnectRequest,
@@ -53,4 +56,30 @@ pub enum IpRefused {
     Length,
     /// 4: not the body of its service.
     Body,
+}
+
+impl IpRefused {
+    /// Its number, from 1.
+    pub fn number(self) -> u8
+        ensures { result ≡ refusal_number self }
+    {
+        match self {
+            IpRefused::Header => 1,
+            IpRefused::Service => 2,
+            IpRefused::Length => 3,
+            IpRefused::Body => 4,
+        }
+    }
+
+    /// Its word, as it is printed.
+    pub fn word(self) -> &'static str
+        ensures { result.now ≡ refusal_word self }
+    {
+        match self {
+            IpRefused::Header => "Header",
+            IpRefused::Service => "Service",
+            IpRefused::Length => "Length",
+            IpRefused::Body => "Body",
+        }
+    }
 }

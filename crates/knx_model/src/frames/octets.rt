@@ -6,7 +6,7 @@ use arrayvec::ArrayVec;
 use std::marker::Model;
 
 /// A TPDU, or an APDU with its transport bits 0: at most 16 octets.
-#[derive(Clone, Debug, Drop, PartialEq, Eq)]
+#[derive(Debug, Drop, PartialEq, Eq)]
 pub struct ApduOctets {
     octets: ArrayVec<u8, { ApduOctets::CAPACITY }>,
 }
@@ -92,7 +92,7 @@ impl ApduOctets {
 }
 
 /// The octets of a group value that does not fit into six bits.
-#[derive(Clone, Debug, Drop, PartialEq, Eq)]
+#[derive(Debug, Drop, PartialEq, Eq)]
 pub struct LongValue {
     octets: ArrayVec<u8, { LongValue::CAPACITY }>,
 }
@@ -128,10 +128,17 @@ impl LongValue {
         let _ = all.try_extend_from_slice(octets);
         LongValue { octets: all }
     }
+
+    /// The same octets again. It takes no memory.
+    pub fn copied(&self) -> Self
+        ensures { result ≡ self.now }
+    {
+        LongValue::from_slice(self.octets.as_slice())
+    }
 }
 
 /// The octets of one datagram: at most 300.
-#[derive(Clone, Debug, Drop, PartialEq, Eq)]
+#[derive(Debug, Drop, PartialEq, Eq)]
 pub struct Datagram {
     octets: ArrayVec<u8, { Datagram::CAPACITY }>,
 }

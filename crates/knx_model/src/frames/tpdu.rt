@@ -1,11 +1,17 @@
-//! The protocol data units of the transport and application layers (ISO/IEC 14543-3).
+//! The protocol data units of the transport and application layers (ISO/IEC 14543-3-2 and 3-1).
+
+ghost use Rattle.std.specs.Prelude.{◌≡◌};
+ghost use Rattle.knx_model.specs.Apdu.{refusal_number, refusal_word};
 
 use crate::address::IndAddr;
 use crate::frames::{ApduOctets, Value};
 
+/// How many octets of memory one service carries at most.
+pub const MOST_MEMORY_OCTETS: usize = 12;
+
 /// A service of the application layer. Memory addresses are those of the device; counts of memory are 1 to 12 octets, of a response
 /// 0 to 12; a property's count has 4 bits, its start 12, and its value at most 10 octets.
-#[derive(Clone, Debug, Drop, PartialEq, Eq)]
+#[derive(Debug, Drop, PartialEq, Eq)]
 pub enum Apdu {
     /// A_GroupValue_Read.
     GroupRead,
@@ -67,7 +73,7 @@ pub enum Apdu {
 }
 
 /// A frame of the transport layer. Sequence numbers are 0 to 15.
-#[derive(Clone, Debug, Drop, PartialEq, Eq)]
+#[derive(Debug, Drop, PartialEq, Eq)]
 pub enum Tpdu {
     Unnumbered(Apdu),
     Numbered { number: u8, apdu: Apdu },
@@ -88,4 +94,30 @@ pub enum TpduRefused {
     Length,
     /// 4: the count of a memory service is out of its range, or isn't the number of octets that follow.
     Count,
+}
+
+impl TpduRefused {
+    /// Its number, from 1.
+    pub fn number(self) -> u8
+        ensures { result ≡ refusal_number self }
+    {
+        match self {
+            TpduRefused::Empty => 1,
+            TpduRefused::Code => 2,
+            TpduRefused::Length => 3,
+            TpduRefused::Count => 4,
+        }
+    }
+
+    /// Its word, as it is printed.
+    pub fn word(self) -> &'static str
+        ensures { result.now ≡ refusal_word self }
+    {
+        match self {
+            TpduRefused::Empty => "Empty",
+            TpduRefused::Code => "Code",
+            TpduRefused::Length => "Length",
+            TpduRefused::Count => "Count",
+        }
+    }
 }

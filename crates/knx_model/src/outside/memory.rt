@@ -1,16 +1,16 @@
 //! Files and a sink in memory, each with a list of the calls that fail.
 
-ghost use Rattle.std.specs.Prelude.{◌≡◌, [], take, MatchOption, IfOk};
+ghost use Rattle.std.specs.Prelude.{◌≡◌, [], MatchOption, IfOk};
 ghost use Rattle.knx_model.specs.Memory.{told_of};
 ghost use Rattle.knx_model.specs.Outside.{Absent, Holds};
 
-use crate::lists::{NoMemory, Octets};
+use crate::lists::{NoMemory, Octets, front};
 use crate::outside::files::{FileFault, Files};
 use crate::outside::sink::{Sink, SinkFailed};
 use std::alloc::Global;
 
 /// A file in memory.
-#[derive(Debug, Drop)]
+#[derive(Drop)]
 pub struct MemoryFile {
     pub name: Octets,
     pub content: Octets,
@@ -30,7 +30,7 @@ impl MemoryFile {
 }
 
 /// Files in memory; the first of a name counts. Calls are numbered from 1, and those in `failing` fail where there is such a file.
-#[derive(Debug, Drop)]
+#[derive(Drop)]
 pub struct MemoryFiles {
     pub files: Vec<MemoryFile>,
     pub failing: Vec<u64>,
@@ -66,17 +66,6 @@ fn file_of<'a>(files: &'a [MemoryFile], name: &[u8]) -> Option<&'a MemoryFile>
     None
 }
 
-/// At most the first `limit` octets.
-fn front(octets: &[u8], limit: usize) -> &[u8]
-    ensures { result.now ≡ take limit octets.now }
-{
-    if octets.len() <= limit {
-        octets
-    } else {
-        &octets[..limit]
-    }
-}
-
 impl Files for MemoryFiles {
     ghost use Rattle.std.specs.Prelude.{ℕ};
     ghost use Rattle.knx_model.specs.Memory.{told_of};
@@ -102,7 +91,7 @@ impl Files for MemoryFiles {
 }
 
 /// A sink in memory. Calls are numbered from 1, and those in `failing` fail and take nothing.
-#[derive(Debug, Drop)]
+#[derive(Drop)]
 pub struct MemorySink {
     pub taken: Octets,
     pub failing: Vec<u64>,

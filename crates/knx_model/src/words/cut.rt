@@ -8,7 +8,7 @@ ghost use Rattle.knx_model.specs.Words.{words, is_feed, is_blank, is_not_blank};
 use memchr::memchr;
 
 /// A piece of a text, and where to go on.
-#[derive(Clone, Copy, Debug)]
+#[derive(Clone, Copy)]
 pub struct Span {
     pub start: usize,
     pub end: usize,

@@ -4,6 +4,7 @@ ghost use Rattle.std.specs.Prelude.{◌≡◌, ℕ, ◌==◌, ◌↔◌, ◌++�
 ghost use Rattle.knx_model.specs.Flags.{times, flags_value, flags_text, letter_if};
 ghost use Rattle.knx_model.specs.Spells.{SpellsFlags};
 
+use crate::config::{COMMUNICATE, PRIORITY, READ, READ_AT_START, TRANSMIT, UPDATE, WRITE};
 use crate::lists::{NoMemory, Octets};
 
 fn times(word: &[u8], letter: u8) -> usize
@@ -18,7 +19,7 @@ pub fn flags_in(word: &[u8]) -> Option<u8>
     ensures { result ≡ flags_value word.now }
 {
     if word == b"-".as_slice() {
-        return Some(3);
+        return Some(PRIORITY);
     }
     let c = times(word, b'C');
     let r = times(word, b'R');
@@ -32,7 +33,13 @@ pub fn flags_in(word: &[u8]) -> Option<u8>
     if word.is_empty() || c + r + w + t + u + i != word.len() {
         return None;
     }
-    Some((3 + c * 4 + r * 8 + w * 16 + i * 32 + t * 64 + u * 128) as u8)
+    let flags = c * usize::from(COMMUNICATE)
+        + r * usize::from(READ)
+        + w * usize::from(WRITE)
+        + i * usize::from(READ_AT_START)
+        + t * usize::from(TRANSMIT)
+        + u * usize::from(UPDATE);
+    Some((usize::from(PRIORITY) + flags) as u8)
 }
 
 /// The flag octet that a word spells; none for a word that isn't flags.
@@ -61,10 +68,10 @@ pub fn put_flags(out: &mut Octets, octet: u8) -> Result<(), NoMemory>
     if octet < 4 {
         return out.push(b'-');
     }
-    put_letter(out, octet / 4 % 2 == 1, b'C')?;
-    put_letter(out, octet / 8 % 2 == 1, b'R')?;
-    put_letter(out, octet / 16 % 2 == 1, b'W')?;
-    put_letter(out, octet / 64 % 2 == 1, b'T')?;
-    put_letter(out, octet / 128 % 2 == 1, b'U')?;
-    put_letter(out, octet / 32 % 2 == 1, b'I')
+    put_letter(out, octet / COMMUNICATE % 2 == 1, b'C')?;
+    put_letter(out, octet / READ % 2 == 1, b'R')?;
+    put_letter(out, octet / WRITE % 2 == 1, b'W')?;
+    put_letter(out, octet / TRANSMIT % 2 == 1, b'T')?;
+    put_letter(out, octet / UPDATE % 2 == 1, b'U')?;
+    put_letter(out, octet / READ_AT_START % 2 == 1, b'I')
 }

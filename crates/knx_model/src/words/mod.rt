@@ -17,7 +17,13 @@ pub use flags::{flags_in, flags_of, flags_spelled, put_flags};
 pub use line::{has_plain_lines, is_text, without_comment};
 pub use name::{Name, is_name, is_name_in, name_spelled};
 pub use number::{number_in, number_of, number_spelled};
-pub use put::{put_device, put_group, put_number};
-pub use reading::{LONGEST_TEXT, device_field, group_field, line_text, no_more, words_of_text};
+pub use put::{
+    put_device, put_device_word, put_flags_word, put_group, put_group_word, put_number,
+    put_number_word, put_word,
+};
+pub use reading::{
+    LONGEST_TEXT, device_field, group_field, line_text, next_field, no_more, refused_at,
+    words_of_text,
+};
 pub use size::{bits_of, size_code, size_code_in, size_code_of, size_spelled};
-pub use value::{digit_pair, octet_in, value_in, value_of};
+pub use value::{digit_pair, octet_in, value_in, value_of, value_spelled};

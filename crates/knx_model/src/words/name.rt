@@ -35,7 +35,7 @@ pub fn is_name(word: &str) -> bool
 }
 
 /// A name, borrowed from the text that it stands in.
-#[derive(Debug, Drop)]
+#[derive(Drop)]
 pub struct Name<'a> {
     octets: &'a [u8],
 }

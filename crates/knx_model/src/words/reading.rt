@@ -1,14 +1,15 @@
 //! What the readers of all texts share: the words of a line, and the places that more than one language has.
 
-ghost use Rattle.std.specs.Prelude.{◌≡◌, ◌<◌, ◌%◌, IfOk, IsTrue};
+ghost use Rattle.std.specs.Prelude.{◌≡◌, ◌<◌, ◌%◌, ◌∷◌, [], IfOk, IfErr, IsTrue};
 ghost use Rattle.knx_model.specs.Words.{words, is_text};
 ghost use Rattle.knx_model.specs.Addresses.{group_value, ind_value};
-ghost use Rattle.knx_model.specs.LeastLine.{line_text, Answers};
+ghost use Rattle.knx_model.specs.Answers.{Answers};
+ghost use Rattle.knx_model.specs.LeastLine.{line_text};
 ghost use Rattle.knx_model.specs.Statements.{field, ended};
-ghost use Rattle.knx_model.specs.declared.refusal.Why.TheVariants.{BadAddress};
+ghost use Rattle.knx_model.specs.declared.refusal.Why.TheVariants.{BadAddress, MissingWord, NoMemory as OutOfMemory};
 
 use crate::address::{GroupAddr, IndAddr};
-use crate::refusal::Why;
+use crate::refusal::{Refused, Why};
 use crate::words::address::{group_in, ind_in};
 use crate::words::cut::first_word;
 use crate::words::line::{is_text, without_comment};
@@ -40,18 +41,22 @@ pub fn words_of_text(line: &[u8]) -> Result<&[u8], Why>
     Ok(without_comment(line))
 }
 
+/// The next word of a line, and the words after it.
+pub fn next_field(rest: &[u8]) -> Result<(&[u8], &[u8]), Why>
+    ensures word { IfOk result (λ x. words rest.now ≡ x.0.now ∷ words x.1.now) }
+    ensures missing { IfErr result (λ why. (why ≡ MissingWord) × (words rest.now ≡ [])) }
+{
+    first_word(rest).ok_or(Why::MissingWord)
+}
+
 /// A group address, and the words after it.
 pub fn group_field(rest: &[u8]) -> Result<(GroupAddr, &[u8]), Why>
     ensures read { Answers (λ x. (x.0, words x.1.now)) result (field group_value BadAddress (words rest.now)) }
     ensures fits { IfOk result (λ x. 0 < x.0.raw) }
 {
-    match first_word(rest) {
-        None => Err(Why::MissingWord),
-        Some((word, rest)) => match group_in(word) {
-            None => Err(Why::BadAddress),
-            Some(group) => Ok((group, rest)),
-        },
-    }
+    let (word, rest) = next_field(rest)?;
+    let group = group_in(word).ok_or(Why::BadAddress)?;
+    Ok((group, rest))
 }
 
 /// The individual address of a device, and the words after it.
@@ -59,13 +64,9 @@ pub fn device_field(rest: &[u8]) -> Result<(IndAddr, &[u8]), Why>
     ensures read { Answers (λ x. (x.0, words x.1.now)) result (field ind_value BadAddress (words rest.now)) }
     ensures fits { IfOk result (λ x. (0 < x.0.raw % 256) × (x.0.raw % 256 < 255)) }
 {
-    match first_word(rest) {
-        None => Err(Why::MissingWord),
-        Some((word, rest)) => match ind_in(word) {
-            None => Err(Why::BadAddress),
-            Some(device) => Ok((device, rest)),
-        },
-    }
+    let (word, rest) = next_field(rest)?;
+    let device = ind_in(word).ok_or(Why::BadAddress)?;
+    Ok((device, rest))
 }
 
 /// No word is left.
@@ -75,5 +76,17 @@ pub fn no_more(rest: &[u8]) -> Result<(), Why>
     match first_word(rest) {
         None => Ok(()),
         Some(_) => Err(Why::ExtraWord),
+    }
+}
+
+/// The refusal of a line; of line 0 for want of memory.
+pub fn refused_at(line: u32, why: Why) -> Refused
+    ensures why { result.why ≡ why }
+    ensures line { ¬ (why ≡ OutOfMemory) → result ≡ record { line = line; why = why } }
+    ensures memory { why ≡ OutOfMemory → result.line ≡ 0 }
+{
+    match why {
+        Why::NoMemory => Refused { line: 0, why },
+        _ => Refused { line, why },
     }
 }

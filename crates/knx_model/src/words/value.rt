@@ -1,8 +1,10 @@
 //! Words that are group values.
 
-ghost use Rattle.std.specs.Prelude.{◌≡◌, ◌+◌, ◌*◌, ◌&&◌, ◌<◌, ◌≤◌, ◌∷◌, length, Some, None, IfSome, IfNone, if◌then◌else◌};
+ghost use Rattle.std.specs.Prelude.{◌≡◌, ℕ, List, ◌↔◌, ◌+◌, ◌*◌, ◌&&◌, ◌<◌, ◌≤◌, ◌∷◌, length, Some, None, IfSome, IfNone, if◌then◌else◌};
 ghost use Rattle.std.specs.Char.{digit_value};
 ghost use Rattle.knx_model.specs.Numbers.{is_digit};
+ghost use Rattle.knx_model.specs.Spells.{SpellsValue};
+ghost use Rattle.knx_model.specs.declared.frames.value.Value.{Value as GroupValue};
 ghost use Rattle.knx_model.specs.Values.{hex_octets, short_of, long_of, value_value};
 
 use crate::frames::{LongValue, Value};
@@ -41,7 +43,7 @@ fn octets_in(digits: &[u8]) -> Option<LongValue>
     requires { length digits.now ≤ 28 }
     ensures { result ≡ hex_octets digits.now }
 {
-    let mut octets: ArrayVec<u8, 14> = ArrayVec::new();
+    let mut octets: ArrayVec<u8, { LongValue::CAPACITY }> = ArrayVec::new();
     let mut rest = digits;
     while let Some((high, below, after)) = digit_pair(rest) {
         let octet = octet_in(high, below)?;
@@ -77,7 +79,7 @@ fn short_in(digits: &[u8]) -> Option<Value>
 fn long_in(digits: &[u8]) -> Option<Value>
     ensures { result ≡ long_of (hex_octets digits.now) }
 {
-    if digits.is_empty() || digits.len() > 28 {
+    if digits.is_empty() || digits.len() > 2 * LongValue::CAPACITY {
         return None;
     }
     Some(Value::Long(octets_in(digits)?))
@@ -101,3 +103,8 @@ pub fn value_of(word: &str) -> Option<Value>
 {
     value_in(word.as_bytes())
 }
+
+/// What `value_in` reads is just what the grammar spells.
+pub fn value_spelled()
+    ensures { (word : List ℕ) (value : GroupValue) → (value_value word ≡ Some value) ↔ SpellsValue word value }
+{}

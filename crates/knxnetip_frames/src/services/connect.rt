@@ -4,7 +4,6 @@ ghost use Rattle.std.specs.Prelude.{◌≡◌, ◌≢◌, Some, None, IfSome, If
 ghost use Rattle.knx_model.specs.Octets.{word_at};
 ghost use Rattle.knx_model.specs.KnxNetIp.{ReadsBody, IsBody, HasTunnel, Written};
 
-use crate::header::word;
 use crate::{endpoint, header, service};
 use knx_model::{Datagram, IndAddr, IpFrame};
 
@@ -66,7 +65,7 @@ fn tunnel_of(body: &[u8]) -> Option<IndAddr>
         && body[11] == TUNNEL_CONNECTION
     {
         Some(IndAddr {
-            raw: word(body[12], body[13]),
+            raw: u16::from_be_bytes([body[12], body[13]]),
         })
     } else {
         None
@@ -93,16 +92,11 @@ pub fn write_request() -> Datagram
 pub fn write_tunnel(channel: u8, tunnel: IndAddr) -> Datagram
     ensures { result ≡ Written (IpFrame.ConnectResponse channel 0x00 (Some tunnel)) }
 {
-    let raw = tunnel.raw;
+    let [high, below] = tunnel.raw.to_be_bytes();
     let mut out = header::write(service::CONNECT_RESPONSE, 14);
     out.extend(&[channel, NO_ERROR]);
     endpoint::push(&mut out);
-    out.extend(&[
-        INFORMATION_LENGTH,
-        TUNNEL_CONNECTION,
-        (raw >> 8) as u8,
-        (raw & 0xFF) as u8,
-    ]);
+    out.extend(&[INFORMATION_LENGTH, TUNNEL_CONNECTION, high, below]);
     out
 }
 

@@ -1,4 +1,4 @@
-//! The client's end of a numbered connection (ISO/IEC 14543-3, transport layer).
+//! The client's end of a numbered connection (ISO/IEC 14543-3-2, transport layer).
 //!
 //! ```text
 //!               confirmed                 send
@@ -35,13 +35,14 @@ use std::marker::Model;
 use std::mem;
 use took::{asking_took, up_took};
 
-/// The client's end of a numbered connection (ISO/IEC 14543-3, transport layer). Times are in milliseconds.
+/// The client's end of a numbered connection (ISO/IEC 14543-3-2, transport layer). Times are in milliseconds.
 #[derive(Drop)]
 pub struct ClientConn {
     state: State,
 }
 
-/// The states of the drawing.
+/// Where the connection is, with what is known there: the device until its T_Connect is confirmed, then the session, and the
+/// service that isn't acknowledged.
 #[derive(Drop)]
 enum State {
     Asked(IndAddr),
@@ -157,7 +158,7 @@ impl ClientConn {
     {
         let expired = self.would_expire(now);
         let state = mem::replace(&mut self.state, State::Ended);
-        self.state = state.after_overdue(now, &expired);
+        self.state = state.after_expiry(now, &expired);
         expired
     }
 

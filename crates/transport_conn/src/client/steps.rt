@@ -27,15 +27,15 @@ impl State {
     {
         match took {
             ClientTook::Dropped => self,
-            ClientTook::Acked => self.told_ack(now),
-            ClientTook::Answer { .. } => self.told_answer(now),
-            ClientTook::Again { .. } | ClientTook::Nak(_) => self.stayed(now),
+            ClientTook::Acked => self.settled(now),
+            ClientTook::Answer { .. } => self.advanced(now),
+            ClientTook::Again { .. } | ClientTook::Nak(_) => self.at_time(now),
             ClientTook::Closed { .. } => State::Ended,
         }
     }
 
     /// After a frame was taken that brought nothing new.
-    fn stayed(self, now: u64) -> State
+    fn at_time(self, now: u64) -> State
         ensures { client_end result ≡ stayed (client_end self) now }
     {
         match self {
@@ -47,7 +47,7 @@ impl State {
     }
 
     /// After the device's next service came.
-    fn told_answer(self, now: u64) -> State
+    fn advanced(self, now: u64) -> State
         ensures { client_end result ≡ told_answer (client_end self) now }
     {
         match self {
@@ -60,7 +60,7 @@ impl State {
     }
 
     /// After the outstanding service was acknowledged.
-    fn told_ack(self, now: u64) -> State
+    fn settled(self, now: u64) -> State
         ensures { client_end result ≡ told_ack (client_end self) now }
     {
         match self {
@@ -74,18 +74,18 @@ impl State {
 
     /// After this became due.
     #[tactic(auto, unfolding(knx_model::specs::Connection::client_expired, knx_model::specs::Connection::after_overdue))]
-    pub fn after_overdue(self, now: u64, expired: &ClientExpired) -> State
+    pub fn after_expiry(self, now: u64, expired: &ClientExpired) -> State
         requires { expired.now ≡ client_expired (client_end self) now }
         ensures { client_end result ≡ after_overdue (client_end self) now expired.now }
     {
         match expired {
             ClientExpired::Nothing => self,
-            ClientExpired::Repeat(_) => self.sent_again(now),
+            ClientExpired::Repeat(_) => self.repeated(now),
             ClientExpired::Silent { .. } => State::Ended,
         }
     }
 
-    fn sent_again(self, now: u64) -> State
+    fn repeated(self, now: u64) -> State
         requires { MayAskAgain (client_end self) }
         ensures { client_end result ≡ sent_again (client_end self) now }
     {

@@ -14,15 +14,15 @@ pub fn up_took(session: &Session, frame: TransportFrame) -> ClientTook
 {
     match frame {
         TransportFrame::Disconnect => ClientTook::Closed { answer: None },
-        TransportFrame::Ack(number) => ack_heard(session, number),
-        TransportFrame::Numbered { number, apdu } => answer_heard(session, number, apdu),
+        TransportFrame::Ack(number) => ack_took(session, number),
+        TransportFrame::Numbered { number, apdu } => service_took(session, number, apdu),
         TransportFrame::Connect | TransportFrame::Nak(_) | TransportFrame::Other => {
             ClientTook::Dropped
         }
     }
 }
 
-fn ack_heard(session: &Session, number: u8) -> ClientTook
+fn ack_took(session: &Session, number: u8) -> ClientTook
     requires { number < 16 }
     ensures { result ≡ ack_heard session.now number }
 {
@@ -35,7 +35,7 @@ fn ack_heard(session: &Session, number: u8) -> ClientTook
     }
 }
 
-fn answer_heard(session: &Session, number: u8, apdu: ApduOctets) -> ClientTook
+fn service_took(session: &Session, number: u8, apdu: ApduOctets) -> ClientTook
     requires { number < 16 }
     ensures { result ≡ answer_heard session.now number apdu }
 {

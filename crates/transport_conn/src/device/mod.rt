@@ -1,4 +1,4 @@
-//! The device's end of a numbered connection (ISO/IEC 14543-3, transport layer).
+//! The device's end of a numbered connection (ISO/IEC 14543-3-2, transport layer).
 //!
 //! ```text
 //!             T_Connect                 answer
@@ -15,7 +15,7 @@
 //! service before once more, and begin anew at a T_Connect of the partner. Another sender's T_Connect, and numbered data at
 //! a closed end, are answered by T_Disconnect.
 
-ghost use Rattle.std.specs.Prelude.{◌≡◌, is_some};
+ghost use Rattle.std.specs.Prelude.{◌≡◌};
 ghost use Rattle.std.specs.Result.{result_ok};
 ghost use Rattle.knx_model.specs.Connection.{IsApdu, frame_in, partner_of, device_took, device_after, device_answered, after_answer, device_expired, after_expiry, device_deadline, Closed};
 
@@ -31,13 +31,15 @@ use std::marker::Model;
 use std::mem;
 use took::{answering_took, closed_took, idle_took, stranger_took};
 
-/// The device's end of a numbered connection (ISO/IEC 14543-3, transport layer). Times are in milliseconds.
+/// The device's end of a numbered connection (ISO/IEC 14543-3-2, transport layer). Times are in milliseconds.
 #[derive(Drop)]
 pub struct DeviceConn {
     state: State,
 }
 
-/// The states of the drawing.
+/// Where the connection is, with what is known there: the session of an open one, and the answer that isn't acknowledged.
+/// The names are the standard's, CLOSED, OPEN_IDLE and OPEN_WAIT: a device without a connection is Closed, and Idle is an open
+/// connection that awaits no T_ACK.
 #[derive(Drop)]
 enum State {
     Closed,
@@ -63,13 +65,6 @@ impl DeviceConn {
         DeviceConn {
             state: State::Closed,
         }
-    }
-
-    /// Whether a connection is open.
-    pub fn is_open(&self) -> bool
-        ensures { result ≡ is_some (partner_of self.now) }
-    {
-        self.partner().is_some()
     }
 
     /// The partner of the open connection; None exactly where none is open.

@@ -1,7 +1,7 @@
-use Rattle.std.proofs.Common.{◌≡◌, Ok, Err, length, take, drop, ◌+◌, ◌++◌, ◌∷◌, [], refl, sym, ap, ◌∙◌, arith}
+use Rattle.std.proofs.Common.{◌≡◌, length, drop, ◌++◌, ◌∷◌, [], refl, sym, ◌∙◌, arith}
 use Rattle.std.proofs.lemmas.List.{take_at}
 use Rattle.std.specs.Vec.Iter.{into_iter_items}
-use Rattle.catalogue.specs.Catalogue.{fields_after, judged}
+use Rattle.catalogue.specs.Catalogue.{fields_after}
 use Rattle.catalogue.specs.Taken.{Takes}
 use Rattle.catalogue.proofs.fields.fields_of.Goals as goal
 

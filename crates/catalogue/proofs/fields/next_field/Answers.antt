@@ -1,6 +1,6 @@
-use Rattle.std.proofs.Common.{◌≡◌, true, false, not, Some, None, Ok, Err, refl, sym, ap, ◌∙◌, ◌++◌, [], ◌∷◌, arith}
+use Rattle.std.proofs.Common.{◌≡◌, true, false, not, sym, ◌∙◌, arith}
 use Rattle.std.specs.List.{list_any}
-use Rattle.catalogue.specs.Catalogue.{judged, shares_bit, field_of}
+use Rattle.catalogue.specs.Catalogue.{judged, shares_bit}
 use Rattle.catalogue.proofs.fields.next_field.Goals as goal
 
 pub returns-then-take_field-clause-gives : goal.returns-then-take_field-clause-gives

@@ -1,4 +1,4 @@
-use Rattle.std.proofs.Common.{◌≡◌, ℕ, List, false, map, take, bytes_eq, nat_cmp, Bor}
+use Rattle.std.proofs.Common.{◌≡◌, ℕ, List, false, map, take, bytes_eq, nat_cmp}
 use Rattle.std.specs.List.{list_any}
 use Rattle.std.specs.BTreeSet.{contains_by}
 use Rattle.std.specs.Cmp.Lexicographic.{slice_cmp}

@@ -1,4 +1,4 @@
-use Rattle.std.proofs.Common.{◌≡◌, ◌∙◌, sym, refl, Some, None, arith}
+use Rattle.std.proofs.Common.{◌≡◌, ◌∙◌, sym, refl, Some, arith}
 use Rattle.std.specs.Prelude.{slice_get}
 use Rattle.knx_model.specs.Acts.{addresses, pairs, names, is_object_number}
 use Rattle.device_tables.proofs.Counting.{any_more, there, all_taken, shared}

@@ -1,4 +1,4 @@
-use Rattle.std.proofs.Common.{◌≡◌, ℕ, ◌<◌, ◌≤◌, ◌⊎◌, inl, inr, ◌∙◌, sym, true, false, arith}
+use Rattle.std.proofs.Common.{◌≡◌, inl, inr, ◌∙◌, sym, false, arith}
 use Rattle.std.proofs.lemmas.Bool.{cases_eq}
 use Rattle.knx_model.specs.Acts.{may_answer, object_in_table}
 use Rattle.device_tables.specs.Objects.{holds}

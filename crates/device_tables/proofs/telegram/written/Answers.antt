@@ -1,4 +1,4 @@
-use Rattle.std.proofs.Common.{◌≡◌, ℕ, Bool, ◌∙◌, sym, ap, true, false}
+use Rattle.std.proofs.Common.{◌≡◌, ◌∙◌, sym, true, false}
 use Rattle.knx_model.specs.Acts.{writes, object_in_table}
 use Rattle.device_tables.specs.Objects.{holds}
 use Rattle.device_tables.proofs.Counting.{with_one, without_one}

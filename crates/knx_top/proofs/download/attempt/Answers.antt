@@ -1,13 +1,17 @@
 use Rattle.std.proofs.Common.{arith}
-use Rattle.knx_top.proofs.Going.{starts, Went_on, going_at, goes_on_at, ends_cut_off_at, agrees, all_given}
+use Rattle.knx_top.proofs.Going.{starts, Went_on, going_at, goes_on_at, ends_cut_off_at, begins_at, on_err, agrees, all_given}
 use Rattle.knx_top.proofs.download.attempt.Goals as goal
 
 pub loop-k-init : goal.loop-k-init
-loop-k-init c = record { going = starts c.args.plan.now c.args.run.now c.requires.power c.requires.room c.keeps.ensures.good c.keeps.ensures.serves; script = c.requires.script }
+loop-k-init c = record { going = starts c.args.plan.now c.args.run.now c.requires.power c.requires.room (c.each_plan_is_good.ensures.good c.args.plan.now c.len-k-end.ensures.fits) (c.each_plan_is_good.ensures.serves c.args.plan.now c.len-k-end.ensures.fits); script = c.requires.script }
 
 pub returns-in_err-operate-clause-moments : goal.returns-in_err-operate-clause-moments
 returns-in_err-operate-clause-moments c =
     Went_on _ _ _ _ _ _ _ _ (going_at _ _ _ _ _ _ _ c.op-op.ensures c.loop-k.invariant.going) c.operate.ensures.moves
+
+pub returns-in_err-operate-clause-wanting : goal.returns-in_err-operate-clause-wanting
+returns-in_err-operate-clause-wanting c =
+    on_err _ _ (begins_at _ _ _ _ _ _ _ _ c.op-op.ensures c.loop-k.invariant.going c.in_err-operate.ensures.wanting)
 
 pub returns-in-CutOff-clause-moments : goal.returns-in-CutOff-clause-moments
 returns-in-CutOff-clause-moments c =

@@ -1,18 +1,16 @@
-use Rattle.std.proofs.Common.{Some, ap, ◌∙◌, subst}
+use Rattle.std.specs.Option.{option_flatten}
 use Rattle.knx_model.specs.Rules.{first_some, model_in, model_of}
-use Rattle.project_check.specs.Knowing.{IsKept}
-use Rattle.project_check.proofs.Named.{kept_model, kept_none, indexed_found, indexed_nothing}
+use Rattle.project_check.proofs.Named.{kept_model, indexed_found, indexed_nothing}
 use Rattle.project_check.proofs.declared.Declared.model.Goals as goal
 
-pub returns-in-Some-clause-some : goal.returns-in-Some-clause-some
-returns-in-Some-clause-some c = let d = c.args.device in
-    indexed_found (λ catalogue ss. model_of catalogue ss d) c.in-Some.model (λ catalogue ss h. kept_model catalogue c.in-Some.model (first_some (model_in d) ss) (h.devices d (Some c.in-Some.model) (c.get.ensures ∙ ap Some c.in-Some.is)))
-
-pub returns-in-Some-clause-none : goal.returns-in-Some-clause-none
-returns-in-Some-clause-none c = let d = c.args.device in
-    indexed_nothing (λ catalogue ss. model_of catalogue ss d) c.in-Some.model (λ catalogue ss h. kept_model catalogue c.in-Some.model (first_some (model_in d) ss) (h.devices d (Some c.in-Some.model) (c.get.ensures ∙ ap Some c.in-Some.is)))
-
-pub returns-in-None-clause-none : goal.returns-in-None-clause-none
-returns-in-None-clause-none c = λ catalogue ss h.
+pub returns-clause-some : goal.returns-clause-some
+returns-clause-some c =
     let d = c.args.device in
-    kept_none catalogue (first_some (model_in d) ss) (subst (λ kept. IsKept catalogue kept (first_some (model_in d) ss)) c.in-None.is (h.devices d c.get.result c.get.ensures))
+    let kept = c.get.result in
+    rw c.flatten.ensures (indexed_found (λ catalogue ss. model_of catalogue ss d) (option_flatten kept) (λ catalogue ss h. kept_model catalogue kept (first_some (model_in d) ss) (h.devices d kept c.get.ensures)))
+
+pub returns-clause-none : goal.returns-clause-none
+returns-clause-none c =
+    let d = c.args.device in
+    let kept = c.get.result in
+    rw c.flatten.ensures (indexed_nothing (λ catalogue ss. model_of catalogue ss d) (option_flatten kept) (λ catalogue ss h. kept_model catalogue kept (first_some (model_in d) ss) (h.devices d kept c.get.ensures)))

@@ -1,7 +1,7 @@
 use Rattle.std.proofs.Common.{◌≡◌, ◌&&◌, refl, ap, ◌∙◌}
 use Rattle.std.specs.Prelude.{is_none}
 use Rattle.knx_model.specs.Rules.{asked_of, model_of, is_no_object}
-use Rattle.project_check.specs.declared.keys.Looked.{Looked}
+use Rattle.project_check.specs.declared.known.KnownObject.{KnownObject}
 use Rattle.project_check.proofs.Asked.{missing}
 use Rattle.project_check.proofs.rules.Whole.flags_broken.Goals as goal
 
@@ -10,5 +10,5 @@ returns c = λ flags catalogue before all h.
     let d = c.args.device.raw in
     let n = c.args.object in
     let lacks : c.is_missing.result ≡ asked_of (model_of catalogue all d) (is_no_object all d n) =
-    c.is_missing.ensures ∙ ap (λ (l : Looked). l.modelled && is_none l.size) (c.look-looked.ensures catalogue all h.declared) ∙ missing catalogue all d n in
+    c.is_missing.ensures ∙ ap (λ (l : KnownObject). l.modelled && is_none l.size) (c.known_object-known.ensures catalogue all h.declared) ∙ missing catalogue all d n in
     rw (c.none.ensures, lacks, c.has_device.ensures catalogue all h.declared) refl

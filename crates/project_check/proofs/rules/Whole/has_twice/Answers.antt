@@ -3,7 +3,7 @@ use Rattle.std.specs.Prelude.{is_some}
 use Rattle.std.proofs.lemmas.Bool.{or_left}
 use Rattle.knx_model.specs.Models.{has_object}
 use Rattle.knx_model.specs.Rules.{some_line, declares_object}
-use Rattle.project_check.specs.declared.keys.Repeated.{Repeated}
+use Rattle.project_check.specs.declared.earlier.Repeated.{Repeated}
 use Rattle.project_check.proofs.Asked.{has_sized}
 use Rattle.project_check.proofs.rules.Whole.has_twice.Goals as goal
 

@@ -1,7 +1,7 @@
 use Rattle.std.proofs.Common.{◌≡◌, ◌&&◌, refl, sym, ap, ◌∙◌}
 use Rattle.std.specs.Prelude.{is_none}
 use Rattle.knx_model.specs.Rules.{asked_of, model_of, size_of, is_no_object}
-use Rattle.project_check.specs.declared.keys.Looked.{Looked}
+use Rattle.project_check.specs.declared.known.KnownObject.{KnownObject}
 use Rattle.project_check.proofs.Asked.{missing}
 use Rattle.project_check.proofs.rules.Whole.link_broken.Goals as goal
 
@@ -9,10 +9,10 @@ pub returns : goal.returns
 returns c = λ catalogue before all h k repeats.
     let d = c.args.device.raw in
     let n = c.args.object in
-    let look = c.look-looked.ensures catalogue all h.declared in
+    let known = c.known_object-known.ensures catalogue all h.declared in
     let lacks : c.is_missing.result ≡ asked_of (model_of catalogue all d) (is_no_object all d n) =
-    c.is_missing.ensures ∙ ap (λ (l : Looked). l.modelled && is_none l.size) look ∙ missing catalogue all d n in
-    let size : c.look-looked.result.size ≡ size_of catalogue all d n = ap (λ (l : Looked). l.size) look in
+    c.is_missing.ensures ∙ ap (λ (l : KnownObject). l.modelled && is_none l.size) known ∙ missing catalogue all d n in
+    let size : c.known_object-known.result.size ≡ size_of catalogue all d n = ap (λ (l : KnownObject). l.size) known in
     rw (
       k,
       c.none.ensures,

@@ -1,0 +1,32 @@
+//! A service without a number, as the octets with transport bits 0 that carry it (ISO/IEC 14543-3-2 and 3-1, transport and
+//! application layer).
+
+ghost use Rattle.std.specs.Prelude.{◌≡◌, IfSome};
+ghost use Rattle.knx_model.specs.Apdu.{IsApduInRange};
+ghost use Rattle.knx_model.specs.ApduReading.{service_in, apdu_octets};
+ghost use Rattle.knx_model.specs.Connection.{IsApdu};
+
+use crate::tpdu::{decode, encode};
+use knx_model::{Apdu, ApduOctets, Tpdu};
+
+/// The service that the octets ask for; None where they are no service, or one with a number.
+#[tactic(auto, unfolding(knx_model::specs::ApduReading::service_in))]
+pub fn service_in(octets: &[u8]) -> Option<Apdu>
+    ensures value { result ≡ service_in octets.now }
+    ensures range { IfSome result (λ apdu. IsApduInRange apdu) }
+{
+    match decode(octets) {
+        Ok(Tpdu::Unnumbered(apdu)) => Some(apdu),
+        _ => None,
+    }
+}
+
+/// A service as octets, at most 16.
+#[tactic(auto, using(crate::proofs::Apdus::written_apdu))]
+pub fn service_octets(apdu: Apdu) -> ApduOctets
+    requires { IsApduInRange apdu }
+    ensures value { result ≡ apdu_octets apdu }
+    ensures apdu { IsApdu result }
+{
+    encode(&Tpdu::Unnumbered(apdu))
+}
