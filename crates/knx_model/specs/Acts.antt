@@ -1,4 +1,4 @@
--- Which objects a group telegram acts on in a running device (ISO/IEC 14543-3-1, application layer; the tables and the group objects
+-- Which objects a group telegram acts on in a running device (ISO/IEC 14543-3-1, application layer; the tables and the group objects:
 -- KNX standard 3/5/1, resources, System B): by a configuration, and by the octets of the segments, whatever they are.
 use Rattle.std.specs.Prelude.{ℕ, zero, suc, ◌+◌, ◌*◌, ◌<◌, Bool, false, not, ◌&&◌, ◌||◌, ◌==◌, nat_lt, nat_le, bit_and, List, [], ◌∷◌, length, take, replicate, slice_get, find, All, Option, None, if◌then◌else◌}
 use Rattle.std.specs.List.{list_any, range_with_len}

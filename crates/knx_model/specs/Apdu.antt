@@ -1,5 +1,5 @@
--- Which octets are which TPDU (ISO/IEC 14543-3-2 and 3-1, transport and application layer): the forms of the first octet, the ten bits that
--- name the service (APCI), and what follows the second octet.
+-- Which octets are which TPDU (ISO/IEC 14543-3-2 and 3-1, transport and application layer): the forms of the first octet, the ten bits
+-- that name the service (APCI), and what follows the second octet.
 use Rattle.std.specs.Prelude.{◌≡◌, ◌≢◌, ℕ, ◌+◌, ◌*◌, ◌/◌, ◌%◌, ◌<◌, ◌≤◌, ◌⊎◌, codes, List, [], ◌∷◌, ◌++◌, length, Option, Some, None}
 use Rattle.knx_model.specs.declared.frames.value.Value.{Value}
 use Rattle.knx_model.specs.declared.frames.value.Value.TheVariants.{Short, Long}

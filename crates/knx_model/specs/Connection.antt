@@ -1,8 +1,9 @@
 -- Both ends of a numbered connection (ISO/IEC 14543-3-2, transport layer): what each end knows, what it answers to a frame, to a
 -- service that is to be sent and to the time, and what it knows then. Sequence numbers have four bits. This project's own is how an
 -- ignored T_NAK, an unacknowledged answer and a T_Connect of another sender are treated; that the T_ACK of the number before is
--- ignored; that unnumbered data to one device is ignored; that a T_Connect of the present partner begins the connection anew and drops the device's unsent frames; that a closed
--- device answers numbered data by T_Disconnect; and that the client's end closes after 6,000 ms only while it awaits an answer.
+-- ignored; that unnumbered data to one device is ignored; that a T_Connect of the present partner begins the connection anew and drops
+-- the device's unsent frames; that a closed device answers numbered data by T_Disconnect; and that the client's end closes after 6,000
+-- ms only while it awaits an answer.
 use Rattle.std.specs.Prelude.{ℕ, ◌<◌, ◌≤◌, ◌+◌, ◌-◌, ◌*◌, ◌/◌, ◌%◌, Bool, true, false, not, ◌&&◌, ◌==◌, nat_lt, nat_le, List, [], ◌∷◌, length, Option, Some, None, if◌then◌else◌}
 use Rattle.knx_model.specs.declared.address.IndAddr.{IndAddr}
 use Rattle.knx_model.specs.declared.frames.tpdu.Tpdu.{Tpdu}

@@ -1,6 +1,6 @@
--- The device (ISO/IEC 14543-3-4, management, and KNX standard 3/5/1, resources, after System B): what it keeps without power, what it runs, and what each service does
--- and is answered. The segments' bases and capacities are this project's own, and so are the number and the content of property 56 (the
--- greatest length of an APDU), and that a start of 0 is refused.
+-- The device (ISO/IEC 14543-3-4, management, and KNX standard 3/5/1, resources, after System B): what it keeps without power, what it
+-- runs, and what each service does and is answered. The segments' bases and capacities are this project's own, and so are the number
+-- and the content of property 56 (the greatest length of an APDU), and that a start of 0 is refused.
 use Rattle.std.specs.Prelude.{ℕ, ◌+◌, ◌-◌, ◌≤◌, Bool, true, false, ◌&&◌, ◌==◌, nat_le, nat_lt, List, [], ◌∷◌, ◌++◌, length, take, drop, replicate, Option, Some, None, if◌then◌else◌}
 use Rattle.knx_model.specs.declared.address.IndAddr.{IndAddr}
 use Rattle.knx_model.specs.declared.config.Image.{Image}

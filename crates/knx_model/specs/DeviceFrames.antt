@@ -1,7 +1,7 @@
--- The device on the line (ISO/IEC 14543-3-2, 3-1 and 3-4, transport and application layer, management): what it has while it has power, what it
--- makes of each frame that comes over the bus, and what it sends. A frame that is taken may be taken whole, or a power cut tears
--- the write that it asks for, or worn memory keeps other octets than were sent. That unnumbered data to one device is ignored is this
--- project's own.
+-- The device on the line (ISO/IEC 14543-3-2, 3-1 and 3-4, transport and application layer, management): what it has while it has power,
+-- what it makes of each frame that comes over the bus, and what it sends. A frame that is taken may be taken whole, or a power cut
+-- tears the write that it asks for, or worn memory keeps other octets than were sent. That unnumbered data to one device is ignored is
+-- this project's own.
 use Rattle.std.specs.Prelude.{ℕ, ◌-◌, Bool, true, false, not, ◌&&◌, ◌==◌, List, [], ◌∷◌, ◌++◌, map, slice_index_or, Option, Some, None, if◌then◌else◌}
 use Rattle.std.specs.List.{range_with_len}
 use Rattle.knx_model.specs.declared.address.IndAddr.{IndAddr}

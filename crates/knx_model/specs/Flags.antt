@@ -1,5 +1,5 @@
--- The flags of an object as a word, and the flag octet that it spells (ISO/IEC 14543-3-3, user process, group objects): 80 update, 40 transmit, 20 read at start, 10 write, 08 read, 04
--- communicate (hexadecimal), and the priority in the lower two bits, always 3.
+-- The flags of an object as a word, and the flag octet that it spells (ISO/IEC 14543-3-3, user process, group objects): 80 update, 40
+-- transmit, 20 read at start, 10 write, 08 read, 04 communicate (hexadecimal), and the priority in the lower two bits, always 3.
 use Rattle.std.specs.Prelude.{ℕ, ◌+◌, ◌*◌, ◌/◌, ◌%◌, Bool, ◌&&◌, ◌||◌, ◌==◌, nat_lt, bytes_eq, codes, List, [], ◌∷◌, ◌++◌, length, count_by, Option, Some, None, if◌then◌else◌}
 
 abbrev pub times : ℕ → List ℕ → ℕ

@@ -1,5 +1,5 @@
--- The load machine of a device (ISO/IEC 14543-3-4, management): what a loadable object keeps without power, and what a load event
--- makes of it. The table, the form of an allocation and its limits are this project's own, written after System B.
+-- The load machine of a device (ISO/IEC 14543-3-4, management): what a loadable object keeps without power, and what a load event makes
+-- of it. The table, the form of an allocation and its limits are this project's own, written after System B.
 use Rattle.std.specs.Prelude.{ℕ, ◌+◌, ◌-◌, ◌*◌, Bool, true, false, ◌&&◌, ◌==◌, nat_le, List, [], ◌∷◌, ◌++◌, length, take, drop, replicate, if◌then◌else◌}
 use Rattle.knx_model.specs.declared.loading.LoadState.{LoadState}
 use Rattle.knx_model.specs.declared.loading.LoadState.TheVariants.{Unloaded, Loaded, Loading, Error}

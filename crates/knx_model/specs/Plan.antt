@@ -1,5 +1,5 @@
--- The load plan of an image, and what makes a plan good: whatever a device held before, any beginning of the plan leaves it as it
--- was, or stopped, or with the image, and all of it leaves the image. The plan follows the standard's order of loading (ISO/IEC 14543-3-4,
+-- The load plan of an image, and what makes a plan good: whatever a device held before, any beginning of the plan leaves it as it was,
+-- or stopped, or with the image, and all of it leaves the image. The plan follows the standard's order of loading (ISO/IEC 14543-3-4,
 -- management procedures); its pieces, and that all is read back, are this project's own.
 use Rattle.std.specs.Prelude.{ℕ, ◌≡◌, ◌+◌, ◌*◌, ◌/◌, ◌%◌, Bool, List, [], ◌∷◌, ◌++◌, length, take, drop, map, Option, Some, None, ◌⊎◌}
 use Rattle.std.specs.List.{range_with_len}

@@ -1,5 +1,5 @@
--- When the tables and the parameter memory of a device stand for a configuration (KNX standard 3/5/1, resources, System B: address table, association table,
--- group objects). A configuration has at most one image. Numbers of two octets have the high octet first.
+-- When the tables and the parameter memory of a device stand for a configuration (KNX standard 3/5/1, resources, System B: address
+-- table, association table, group objects). A configuration has at most one image. Numbers of two octets have the high octet first.
 use Rattle.std.specs.Prelude.{◌≡◌, ℕ, ◌+◌, ◌-◌, ◌*◌, ◌<◌, ◌≤◌, ◌↔◌, ◌==◌, List, [], ◌∷◌, ◌++◌, length, map, Contains, IsPermutation, slice_index, if◌then◌else◌}
 use Rattle.std.specs.Int.{w16, to_be_bytes}
 use Rattle.std.specs.List.{flat_map, position_or_len}

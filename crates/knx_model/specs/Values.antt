@@ -1,5 +1,5 @@
--- Group values as words: `s` and two hexadecimal digits up to 3F for a short one, or 1 to 14 octets of two digits each. The words are this
--- project's own.
+-- Group values as words: `s` and two hexadecimal digits up to 3F for a short one, or 1 to 14 octets of two digits each. The words are
+-- this project's own.
 use Rattle.std.specs.Prelude.{ℕ, ◌+◌, ◌*◌, ◌&&◌, ◌==◌, nat_le, List, [], ◌∷◌, length, Option, Some, None, if◌then◌else◌}
 use Rattle.std.specs.Char.{digit_value}
 use Rattle.knx_model.specs.declared.frames.value.Value.{Value}
