@@ -19,7 +19,7 @@ use Rattle.catalogue.specs.Shapes.{model_of}
 
 -- what a function returned is what the document states, unless memory ran out
 abbrev pub Gives : {Y : Type 0} → Result Y CatRefused → Result Y CatRefused → Type 0
-Gives returned stated = AnswersUnless (λ why. why ≡ NoMemory) (λ x. x) returned stated
+Gives returned stated = AnswersUnless (λ why. why ≡ NoMemory tt) (λ x. x) returned stated
 
 -- ---- parameters
 

@@ -90,21 +90,21 @@ fn field_of(params: u16, stated: StatedField) -> Result<ModelField, Octets>
 
 /// A parameter's numbers aren't in their ranges.
 fn range(alloc: Global, model: &[u8], parameter: Octets) -> CatRefused
-    ensures { result ≢ CatRefused.NoMemory → result ≡ CatRefused.Range model.now parameter }
+    ensures { result ≢ CatRefused.NoMemory tt → result ≡ CatRefused.Range model.now parameter }
 {
     match Octets::from_slice(alloc, model) {
         Ok(model) => CatRefused::Range { model, parameter },
-        Err(_) => CatRefused::NoMemory,
+        Err(error) => CatRefused::NoMemory(error),
     }
 }
 
 /// A parameter shares a bit with an earlier one.
 fn overlap(alloc: Global, model: &[u8], parameter: Octets) -> CatRefused
-    ensures { result ≢ CatRefused.NoMemory → result ≡ CatRefused.Overlap model.now parameter }
+    ensures { result ≢ CatRefused.NoMemory tt → result ≡ CatRefused.Overlap model.now parameter }
 {
     match Octets::from_slice(alloc, model) {
         Ok(model) => CatRefused::Overlap { model, parameter },
-        Err(_) => CatRefused::NoMemory,
+        Err(error) => CatRefused::NoMemory(error),
     }
 }
 

@@ -13,11 +13,11 @@ use toml::{Table, Value};
 
 /// A model isn't as it must be.
 fn shape(alloc: Global, name: &[u8]) -> CatRefused
-    ensures { result ≢ CatRefused.NoMemory → result ≡ CatRefused.Shape name.now }
+    ensures { result ≢ CatRefused.NoMemory tt → result ≡ CatRefused.Shape name.now }
 {
     match Octets::from_slice(alloc, name) {
         Ok(model) => CatRefused::Shape { model },
-        Err(_) => CatRefused::NoMemory,
+        Err(error) => CatRefused::NoMemory(error),
     }
 }
 

@@ -1,33 +1,43 @@
 //! A catalogue is read from octets.
 
-ghost use Rattle.std.specs.Prelude.{◌≡◌, ◌≢◌, Some, None, IfOk, IfErr};
+ghost use Rattle.std.specs.Prelude.{◌≡◌, ◌≢◌, ◌↔◌, Some, None, IfOk, IfErr, IsSome};
+ghost use Rattle.toml.specs.Errors.{IsMemory};
 ghost use Rattle.toml.specs.View.{table_view};
 ghost use Rattle.catalogue.specs.Catalogue.{Gives, document_of, catalogue_of};
 
 use crate::models::models_of;
-use knx_model::{CatRefused, Catalogue, LONGEST_TEXT};
-use std::alloc::Global;
+use knx_model::{CatRefused, Catalogue, LONGEST_TEXT, NoMemory};
+use std::alloc::{AllocError, Global};
 use toml::Table;
+
+/// Want of memory, where that is why the text wasn't read.
+fn memory_of(error: &toml::de::Error) -> Option<NoMemory>
+    ensures { IsSome result ↔ IsMemory error.now }
+{
+    if error.is_memory() {
+        // `toml` tells of the refused growth without handing it over
+        Some(NoMemory::from(AllocError))
+    } else {
+        None
+    }
+}
 
 /// The table of a document.
 #[tactic(auto, using(knx_model::proofs::Text::utf8_true, knx_model::proofs::Text::utf8_false))]
 fn document_in(alloc: Global, octets: &[u8]) -> Result<Table, CatRefused>
     ensures ok { IfOk result (λ table. document_of octets.now ≡ Some (table_view table)) }
-    ensures refused { IfErr result (λ e. e ≢ CatRefused.NoMemory → document_of octets.now ≡ None) }
-    ensures toml { IfErr result (λ e. e ≢ CatRefused.NoMemory → e ≡ CatRefused.Toml) }
+    ensures refused { IfErr result (λ e. e ≢ CatRefused.NoMemory tt → document_of octets.now ≡ None) }
+    ensures toml { IfErr result (λ e. e ≢ CatRefused.NoMemory tt → e ≡ CatRefused.Toml) }
 {
     let Ok(text) = std::str::from_utf8(octets) else {
         return Err(CatRefused::Toml);
     };
     match toml::table_from_str(alloc, text) {
         Ok(table) => Ok(table),
-        Err(e) => {
-            if e.is_memory() {
-                Err(CatRefused::NoMemory)
-            } else {
-                Err(CatRefused::Toml)
-            }
-        }
+        Err(error) => match memory_of(&error) {
+            Some(want) => Err(CatRefused::NoMemory(want)),
+            None => Err(CatRefused::Toml),
+        },
     }
 }
 

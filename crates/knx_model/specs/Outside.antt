@@ -21,11 +21,11 @@ MayRead Untold limit (Err why) = Unit {0}
 MayRead Absent limit (Ok octets) = ⊥
 MayRead Absent limit (Err NotThere) = Unit {0}
 MayRead Absent limit (Err Failed) = ⊥
-MayRead Absent limit (Err NoMemory) = Unit {0}
+MayRead Absent limit (Err (NoMemory want)) = Unit {0}
 MayRead (Holds content) limit (Ok octets) = octets ≡ take limit content
 MayRead (Holds content) limit (Err NotThere) = ⊥
 MayRead (Holds content) limit (Err Failed) = Unit {0}
-MayRead (Holds content) limit (Err NoMemory) = Unit {0}
+MayRead (Holds content) limit (Err (NoMemory want)) = Unit {0}
 
 -- these octets were taken after all that was taken before, where a sink tells it
 abbrev pub Takes : List ℕ → Option (List ℕ) → Option (List ℕ) → Type 0

@@ -9,7 +9,7 @@ use Rattle.knx_model.specs.declared.status.Status.TheVariants as status
 
 -- its number, from 1; want of memory has none
 abbrev pub why_number : Why → Option ℕ
-why_number why.NoMemory = None
+why_number (why.NoMemory want) = None
 why_number why.NotText = Some 1
 why_number why.LongLine = Some 2
 why_number why.UnknownWord = Some 3
@@ -34,7 +34,7 @@ why_number why.NotBuilt = Some 21
 
 -- its word, as it is printed
 abbrev pub why_word : Why → List ℕ
-why_word why.NoMemory = codes "NoMemory"
+why_word (why.NoMemory want) = codes "NoMemory"
 why_word why.NotText = codes "NotText"
 why_word why.LongLine = codes "LongLine"
 why_word why.UnknownWord = codes "UnknownWord"
@@ -59,7 +59,7 @@ why_word why.NotBuilt = codes "NotBuilt"
 
 -- the same of a catalogue's refusal
 abbrev pub catalogue_number : CatRefused → Option ℕ
-catalogue_number cat.NoMemory = None
+catalogue_number (cat.NoMemory want) = None
 catalogue_number cat.Toml = Some 1
 catalogue_number (cat.Shape model) = Some 2
 catalogue_number (cat.Overlap model parameter) = Some 3
@@ -67,7 +67,7 @@ catalogue_number (cat.Range model parameter) = Some 4
 catalogue_number cat.Long = Some 5
 
 abbrev pub catalogue_word : CatRefused → List ℕ
-catalogue_word cat.NoMemory = codes "NoMemory"
+catalogue_word (cat.NoMemory want) = codes "NoMemory"
 catalogue_word cat.Toml = codes "Toml"
 catalogue_word (cat.Shape model) = codes "Shape"
 catalogue_word (cat.Overlap model parameter) = codes "Overlap"

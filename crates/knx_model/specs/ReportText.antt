@@ -140,7 +140,7 @@ refusal_line place refused =
 
 -- the model and the parameter that a catalogue's refusal has
 abbrev pub refused_names : CatRefused → List (List ℕ)
-refused_names cat.NoMemory = []
+refused_names (cat.NoMemory want) = []
 refused_names cat.Toml = []
 refused_names (cat.Shape model) = model ∷ []
 refused_names (cat.Overlap model parameter) = model ∷ parameter ∷ []
@@ -166,7 +166,7 @@ stop_text name (stop.NotThere place) = read_fault_line (name place) (codes "NotT
 stop_text name (stop.ReadFailed place) = read_fault_line (name place) (codes "Failed")
 stop_text name (stop.CatalogueRefused refused) = catalogue_line refused
 stop_text name (stop.Refused place refused) = refusal_line place refused
-stop_text name stop.NoMemory = line (codes "no memory" ∷ [])
+stop_text name (stop.NoMemory want) = line (codes "no memory" ∷ [])
 
 abbrev pub refusal_status : InputFile → Status
 refusal_status file.Catalogue = status.Catalogue
@@ -180,4 +180,4 @@ stop_status (stop.NotThere place) = status.Read
 stop_status (stop.ReadFailed place) = status.Read
 stop_status (stop.CatalogueRefused refused) = status.Catalogue
 stop_status (stop.Refused place refused) = refusal_status place
-stop_status stop.NoMemory = status.NoMemory
+stop_status (stop.NoMemory want) = status.NoMemory

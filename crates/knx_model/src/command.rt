@@ -3,7 +3,7 @@
 ghost use Rattle.std.specs.Prelude.{◌≡◌};
 
 use crate::catalogue::CatRefused;
-use crate::lists::NoMemory;
+use crate::no_memory::NoMemory;
 use crate::refusal::Refused;
 
 /// A file that the program reads, by its place among the words.
@@ -33,15 +33,15 @@ pub enum Stop {
     /// A project or the script is refused.
     Refused(InputFile, Refused),
     /// There was no memory.
-    NoMemory,
+    NoMemory(NoMemory),
 }
 
 impl From<NoMemory> for Stop {
     ghost use Rattle.knx_model.specs.declared.command.Stop.{Stop};
 
-    ghost from_gives = { λ _ stop. stop ≡ Stop.NoMemory };
+    ghost from_gives = { λ _ stop. stop ≡ Stop.NoMemory tt };
 
-    fn from(_error: NoMemory) -> Stop {
-        Stop::NoMemory
+    fn from(error: NoMemory) -> Stop {
+        Stop::NoMemory(error)
     }
 }

@@ -1,25 +1,10 @@
-//! Lists that contracts see as lists, and the answer for want of memory.
+//! Lists that contracts see as lists.
 
 ghost use Rattle.std.specs.Prelude.{◌≡◌, ℕ, List as Seq, [], ◌∷◌, ◌++◌, length, take, OnOk, OnErr, IfOk, IsTrue, ◌↔◌};
 
-use std::alloc::{AllocError, AllocFailed, Global};
+use crate::no_memory::NoMemory;
+use std::alloc::Global;
 use std::marker::Model;
-
-/// There was no memory.
-#[derive(Clone, Copy, Debug)]
-pub struct NoMemory;
-
-impl From<AllocError> for NoMemory {
-    fn from(_error: AllocError) -> NoMemory {
-        NoMemory
-    }
-}
-
-impl<T: Drop> From<AllocFailed<T>> for NoMemory {
-    fn from(_failed: AllocFailed<T>) -> NoMemory {
-        NoMemory
-    }
-}
 
 /// The first `most` octets, or all where there are fewer.
 pub fn front(octets: &[u8], most: usize) -> &[u8]

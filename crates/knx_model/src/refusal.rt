@@ -3,11 +3,13 @@
 ghost use Rattle.std.specs.Prelude.{◌≡◌};
 ghost use Rattle.knx_model.specs.Refusal.{why_number, why_word};
 
+use crate::no_memory::NoMemory;
+
 /// Why a project text or a script is refused, each with its number but for want of memory.
 #[derive(Clone, Copy, Debug, Drop, PartialEq, Eq)]
 pub enum Why {
     /// There was no memory.
-    NoMemory,
+    NoMemory(NoMemory),
     /// The line isn't UTF-8, or has an octet below 20 (hexadecimal) other than tab, or 7F.
     NotText,
     /// The line has more than 512 octets without its end.
@@ -58,7 +60,7 @@ impl Why {
         ensures { result ≡ why_number self }
     {
         match self {
-            Why::NoMemory => None,
+            Why::NoMemory(_) => None,
             Why::NotText => Some(1),
             Why::LongLine => Some(2),
             Why::UnknownWord => Some(3),
@@ -88,7 +90,7 @@ impl Why {
         ensures { result.now ≡ why_word self }
     {
         match self {
-            Why::NoMemory => "NoMemory",
+            Why::NoMemory(_) => "NoMemory",
             Why::NotText => "NotText",
             Why::LongLine => "LongLine",
             Why::UnknownWord => "UnknownWord",
@@ -111,6 +113,16 @@ impl Why {
             Why::NoDevice => "NoDevice",
             Why::NotBuilt => "NotBuilt",
         }
+    }
+}
+
+impl From<NoMemory> for Why {
+    ghost use Rattle.knx_model.specs.declared.refusal.Why.{Why};
+
+    ghost from_gives = { λ _ why. why ≡ Why.NoMemory tt };
+
+    fn from(error: NoMemory) -> Why {
+        Why::NoMemory(error)
     }
 }
 

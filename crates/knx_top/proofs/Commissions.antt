@@ -6,7 +6,7 @@ use Rattle.knx_model.specs.declared.address.IndAddr.{IndAddr}
 use Rattle.knx_model.specs.declared.command.Stop.{Stop}
 use Rattle.knx_model.specs.declared.command.Stop.TheVariants as stop
 use Rattle.knx_model.specs.declared.config.Image.{Image}
-use Rattle.knx_model.specs.declared.lists.NoMemory.{NoMemory}
+use Rattle.knx_model.specs.declared.no_memory.NoMemory.{NoMemory}
 use Rattle.knx_model.specs.declared.script.Cut.{Cut}
 use Rattle.knx_model.specs.Bench.{Trace, now, moment, replay, Went}
 use Rattle.knx_model.specs.Device.{NonVolatile, DeviceState, blank_object, Fits}
@@ -21,7 +21,8 @@ use Rattle.knx_top.specs.declared.download.JobEnd.{JobEnd}
 use Rattle.knx_top.specs.declared.download.JobEnd.TheVariants.{Done, Failed}
 use Rattle.knx_top.specs.Judged.{Commission}
 use Rattle.knx_top.specs.Order.{OrderFor, IsOrder, IsBefore}
-use Rattle.knx_top.specs.Ran.{Commissions, Stops, Reports, Outcome, Began, Ran, IsOver, IsDone, HasFailed, KeptToPlan}
+use Rattle.knx_top.specs.Attempts.{KeptToPlan}
+use Rattle.knx_top.specs.Ran.{Commissions, Stops, Reports, Outcome, Began, Ran, IsOver, IsDone, HasFailed}
 use Rattle.knx_top.specs.Start.{start_with}
 use Rattle.knx_top.specs.Ended.{log_of, run_outcome, HasLoaded, HasEnded, Reported}
 
@@ -33,23 +34,23 @@ err why = Err why
 abbrev ok : Commission → Result Commission Stop
 ok c = Ok c
 
-stops_for : (why told : Stop) → (told ≢ stop.NoMemory → err why ≡ err told) → (told ≡ why) ⊎ (told ≡ stop.NoMemory)
-stops_for why stop.NoMemory h = inr refl
+stops_for : (why told : Stop) → (told ≢ stop.NoMemory tt → err why ≡ err told) → (told ≡ why) ⊎ (told ≡ stop.NoMemory tt)
+stops_for why (stop.NoMemory want) h = inr refl
 stops_for why stop.Usage h = inl (let e : err why ≡ err stop.Usage = h (λ q. cc) in cc)
 stops_for why (stop.NotThere place) h = inl (let e : err why ≡ err (stop.NotThere place) = h (λ q. cc) in cc)
 stops_for why (stop.ReadFailed place) h = inl (let e : err why ≡ err (stop.ReadFailed place) = h (λ q. cc) in cc)
 stops_for why (stop.CatalogueRefused refused) h = inl (let e : err why ≡ err (stop.CatalogueRefused refused) = h (λ q. cc) in cc)
 stops_for why (stop.Refused place refused) h = inl (let e : err why ≡ err (stop.Refused place refused) = h (λ q. cc) in cc)
 
-no_stop : (c : Commission) (told : Stop) → (told ≢ stop.NoMemory → ok c ≡ err told) → told ≡ stop.NoMemory
-no_stop c stop.NoMemory h = refl
+no_stop : (c : Commission) (told : Stop) → (told ≢ stop.NoMemory tt → ok c ≡ err told) → told ≡ stop.NoMemory tt
+no_stop c (stop.NoMemory want) h = refl
 no_stop c stop.Usage h = absurd (let e : ok c ≡ err stop.Usage = h (λ q. cc) in cc)
 no_stop c (stop.NotThere place) h = absurd (let e : ok c ≡ err (stop.NotThere place) = h (λ q. cc) in cc)
 no_stop c (stop.ReadFailed place) h = absurd (let e : ok c ≡ err (stop.ReadFailed place) = h (λ q. cc) in cc)
 no_stop c (stop.CatalogueRefused refused) h = absurd (let e : ok c ≡ err (stop.CatalogueRefused refused) = h (λ q. cc) in cc)
 no_stop c (stop.Refused place refused) h = absurd (let e : ok c ≡ err (stop.Refused place refused) = h (λ q. cc) in cc)
 
-pub decided_stop : (j : Result Commission Stop) (told : Stop) (bench : Option Trace) → (told ≢ stop.NoMemory → j ≡ err told) → Commissions j bench bench (Stops told)
+pub decided_stop : (j : Result Commission Stop) (told : Stop) (bench : Option Trace) → (told ≢ stop.NoMemory tt → j ≡ err told) → Commissions j bench bench (Stops told)
 decided_stop (Err why) told bench h = (stops_for why told h, refl)
 decided_stop (Ok c) told bench h = (no_stop c told h, inl refl)
 
@@ -154,7 +155,7 @@ ran c order t ended o start loaded r = record {
 
 -- ---- the whole run
 
-pub decided_wanting : (c : Commission) (order : Order) (before : Option Trace) (t : Trace) → IsOrder c order → t.start ≡ start_with order.device order.before → HasLoaded order.image order.cuts t → Commissions (Ok c) before (Some t) (Stops stop.NoMemory)
+pub decided_wanting : (c : Commission) (order : Order) (before : Option Trace) (t : Trace) → IsOrder c order → t.start ≡ start_with order.device order.before → HasLoaded order.image order.cuts t → Commissions (Ok c) before (Some t) (Stops (stop.NoMemory tt))
 decided_wanting c order before t o start h = (refl, inr (t, (refl, begun c order t o start h)))
 
 pub decided_ran : (c : Commission) (order : Order) (before : Option Trace) (t : Trace) (ended : Ended) → IsOrder c order → t.start ≡ start_with order.device order.before → HasLoaded order.image order.cuts t → Reported order.image order.device t ended → Commissions (Ok c) before (Some t) (Reports ended.report (ended.job ∷ []) (ended.device ∷ []))

@@ -13,7 +13,7 @@ use Rattle.knx_model.specs.Bench.{Trace, happens, replay, now, after, answered, 
 use Rattle.knx_model.specs.Plan.{Leads, Serves, HasCapacities, OldStoppedOrImage, GoodPlan, load_plan, apdu_of, expected_of, gives, AnswersAll}
 use Rattle.download_plan.proofs.Capacities.{replay_capacities}
 use Rattle.knx_top.specs.Attempt.{Begins, Moves, Passes, CutsOff, EndsCutOff, StopsIn}
-use Rattle.knx_top.specs.Ran.{WereCutOff, NoneYet, OneMore, GotThrough, WasBegun, HasGiven, WasCut, KeptToPlan, InAttempt, AfterThree}
+use Rattle.knx_top.specs.Attempts.{WereCutOff, NoneYet, OneMore, GotThrough, WasBegun, HasGiven, WasCut, KeptToPlan, InAttempt, AfterThree}
 use Rattle.knx_top.proofs.Traces.{replay_last, Went_none, Went_more, Went_join, Went_weaker, Went_now}
 
 -- the bench went from first to here with P at every moment, has power, gave these operations as they were expected, and the rest of

@@ -7,7 +7,7 @@ use Rattle.knx_model.specs.declared.script.Cut.{Cut}
 use Rattle.knx_model.specs.Bench.{Trace, now, after, answered}
 use Rattle.knx_model.specs.Plan.{apdu_of, expected_of}
 use Rattle.knx_model.specs.Script.{Follows, write_count}
-use Rattle.knx_top.specs.Ran.{WasBegun, WasCutOff}
+use Rattle.knx_top.specs.Attempts.{WasBegun, WasCutOff}
 
 -- nothing yet, or it was taken whole, or it was torn, and then power may have come back
 abbrev pub Moves : Op → Trace → Trace → Type 0

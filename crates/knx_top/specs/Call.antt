@@ -45,8 +45,8 @@ octets_or_usage (Some octets) = Ok octets
 
 -- it stops where it must, or for want of memory, and else tells a text of what it has found
 abbrev pub TellsOf : {A : Type 0} → (A → List ℕ → Type 0) → Result A Stop → Outcome → Type 0
-TellsOf IsText (Err why) (Stops told) = (told ≡ why) ⊎ (told ≡ stop.NoMemory)
-TellsOf IsText (Ok found) (Stops told) = told ≡ stop.NoMemory
+TellsOf IsText (Err why) (Stops told) = (told ≡ why) ⊎ (told ≡ stop.NoMemory tt)
+TellsOf IsText (Ok found) (Stops told) = told ≡ stop.NoMemory tt
 TellsOf IsText (Ok found) (Tells text) = IsText found text
 TellsOf IsText _ _ = ⊥
 

@@ -4,7 +4,7 @@ use Rattle.knx_model.specs.declared.address.IndAddr.{IndAddr}
 use Rattle.knx_model.specs.declared.command.Stop.{Stop}
 use Rattle.knx_model.specs.declared.command.Stop.TheVariants as stop
 use Rattle.knx_model.specs.declared.config.Image.{Image}
-use Rattle.knx_model.specs.declared.lists.NoMemory.{NoMemory}
+use Rattle.knx_model.specs.declared.no_memory.NoMemory.{NoMemory}
 use Rattle.knx_model.specs.declared.log.LogEntry.{LogEntry}
 use Rattle.knx_model.specs.declared.log.LogWhat.{LogWhat}
 use Rattle.knx_model.specs.declared.log.LogWhat.TheVariants as told
@@ -14,7 +14,8 @@ use Rattle.knx_model.specs.declared.status.Status.{Status}
 use Rattle.knx_model.specs.Bench.{Trace, now, moment}
 use Rattle.knx_top.specs.Asked.{FileNames}
 use Rattle.knx_top.specs.Call.{WroteOutcome, outcome_status, outcome_text}
-use Rattle.knx_top.specs.Ran.{Outcome, Stops, Tells, Reports, entry, WereCutOff, GotThrough, KeptToPlan}
+use Rattle.knx_top.specs.Attempts.{WereCutOff, GotThrough, KeptToPlan}
+use Rattle.knx_top.specs.Ran.{Outcome, Stops, Tells, Reports, entry}
 use Rattle.knx_model.specs.Device.{runs}
 use Rattle.knx_model.specs.Meaning.{Installation, meaning}
 use Rattle.knx_model.specs.Plan.{OldStoppedOrImage, load_plan}
@@ -66,7 +67,7 @@ outcome_of (Err why) = Stops why
 
 abbrev pub run_outcome : Result Ended NoMemory → Outcome
 run_outcome (Ok ended) = Reports ended.report (ended.job ∷ []) (ended.device ∷ [])
-run_outcome (Err why) = Stops stop.NoMemory
+run_outcome (Err why) = Stops (stop.NoMemory tt)
 
 -- or with a text
 abbrev pub told_outcome : Result (List ℕ) Stop → Outcome
@@ -81,4 +82,4 @@ IsTextOf names outcome text ending = (text ≡ outcome_text names outcome) × (e
 
 -- an outcome was written, or that there was no memory for its text
 abbrev pub WroteOf : FileNames → Outcome → Type 0 → Option (List ℕ) → Option (List ℕ) → Status → Type 0
-WroteOf names outcome rose before after told = WroteOutcome names outcome rose before after told ⊎ WroteOutcome names (Stops stop.NoMemory) rose before after told
+WroteOf names outcome rose before after told = WroteOutcome names outcome rose before after told ⊎ WroteOutcome names (Stops (stop.NoMemory tt)) rose before after told

@@ -69,7 +69,7 @@ pub record SimIsRead (told : List ℕ → Told) (rose : Type 0) (words : SimWord
 abbrev pub fault_of : InputFile → FileFault → Stop
 fault_of place fault.NotThere = stop.NotThere place
 fault_of place fault.Failed = stop.ReadFailed place
-fault_of place fault.NoMemory = stop.NoMemory
+fault_of place (fault.NoMemory want) = stop.NoMemory want
 
 -- what was read, or the fault
 abbrev pub read_of : {A : Type 0} → InputFile → Result A FileFault → Result A Stop
@@ -174,4 +174,4 @@ judged reads = do
 
 -- ---- an answer of the code beside the definition's: the same, unless memory was wanting
 abbrev pub Gives : {A B : Type 0} → (A → B) → Result A Stop → Result B Stop → Type 0
-Gives view answer defined = AnswersUnless (λ why. why ≡ stop.NoMemory) view answer defined
+Gives view answer defined = AnswersUnless (λ why. why ≡ stop.NoMemory tt) view answer defined

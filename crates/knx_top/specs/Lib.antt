@@ -1,5 +1,6 @@
 pub mod Asked
 pub mod Judged
+pub mod Attempts
 pub mod Ran
 pub mod Call
 pub mod Names

@@ -1,7 +1,5 @@
 -- What a run did: from where it began, over what was done to the device, to what was told of it.
-use Rattle.std.specs.Prelude.{ℕ, ◌≡◌, ◌+◌, ◌<◌, ◌⊎◌, Bool, false, List, [], ◌∷◌, ◌++◌, length, Option, Some, Result, Ok, Err}
-use Rattle.knx_model.specs.declared.bench.BenchEvent.{BenchEvent}
-use Rattle.knx_model.specs.declared.bench.BenchEvent.TheVariants.{GiveTorn, On}
+use Rattle.std.specs.Prelude.{ℕ, ◌≡◌, ◌⊎◌, false, List, [], ◌∷◌, length, Option, Some, Result, Ok, Err}
 use Rattle.knx_model.specs.declared.command.Stop.{Stop}
 use Rattle.knx_model.specs.declared.command.Stop.TheVariants as stop
 use Rattle.knx_model.specs.declared.config.Image.{Image}
@@ -13,55 +11,16 @@ use Rattle.knx_model.specs.declared.log.LogWhat.{LogWhat}
 use Rattle.knx_model.specs.declared.log.LogWhat.TheVariants.{Took, Done, Failed}
 use Rattle.knx_model.specs.declared.log.Report.{Report}
 use Rattle.knx_model.specs.declared.log.Sign.TheVariants.{Closed}
-use Rattle.knx_model.specs.declared.plan.Op.{Op}
-use Rattle.knx_model.specs.Bench.{Trace, now, replay}
-use Rattle.knx_model.specs.Device.{DeviceState}
+use Rattle.knx_model.specs.Bench.{Trace, now}
 use Rattle.knx_model.specs.Meaning.{meaning}
-use Rattle.knx_model.specs.Plan.{load_plan, apdu_of, gives, AnswersAll}
+use Rattle.knx_model.specs.Plan.{load_plan}
 use Rattle.knx_model.specs.Promises.{StartOf, AtEveryMoment, ToldTruly, IsCase}
 use Rattle.knx_model.specs.Script.{Follows}
 use Rattle.knx_model.specs.Tables.{StandsFor}
+use Rattle.knx_top.specs.Attempts.{WereCutOff, GotThrough, KeptToPlan}
 use Rattle.knx_top.specs.Judged.{Commission}
 
--- ---- the attempts of a job
-
--- These events, from the device d on, are an attempt that a cut ended: operations of the plan, from its first on, were given whole and
--- each was answered as expected, then power was cut in the next one, and came back.
-pub record WasCutOff (ops : List Op) (d : DeviceState) (events : List BenchEvent) : Type 0 where
-  pub given : List Op
-  pub op : Op
-  pub rest : List Op
-  pub in_order : ops ≡ given ++ op ∷ rest
-  pub answers : AnswersAll d given
-  pub fresh : Bool
-  pub octets : List ℕ
-  pub events_are : events ≡ gives given ++ GiveTorn (apdu_of op) fresh octets ∷ On ∷ []
-
--- these events, from the device d on, are so many such attempts, one after another, and nothing more
-pub data WereCutOff (ops : List Op) (d : DeviceState) : ℕ → List BenchEvent → Type 0 where
-  NoneYet : WereCutOff ops d 0 []
-  OneMore : (n : ℕ) (before last : List BenchEvent) → WereCutOff ops d n before → WasCutOff ops (replay d before) last → WereCutOff ops d (n + 1) (before ++ last)
-
--- all events of a run are fewer than three such attempts, and then the whole plan, each answer the expected one, and nothing more
-pub record GotThrough (ops : List Op) (t : Trace) : Type 0 where
-  pub cuts : ℕ
-  pub fewer : cuts < 3
-  pub front : List BenchEvent
-  pub cut_off : WereCutOff ops t.start cuts front
-  pub whole : t.events ≡ front ++ gives ops
-  pub answers : AnswersAll (replay t.start front) ops
-
--- These events, from the device d on, are a beginning of an attempt: operations of the plan, from its first on, were given whole and
--- each was answered as expected, and then power may have been cut in the next one.
-pub data WasBegun (ops : List Op) (d : DeviceState) : List BenchEvent → Type 0 where
-  HasGiven : (given rest : List Op) → ops ≡ given ++ rest → AnswersAll d given → WasBegun ops d (gives given)
-  WasCut : (given rest : List Op) (op : Op) (fresh : Bool) (octets : List ℕ) → ops ≡ given ++ op ∷ rest → AnswersAll d given → WasBegun ops d (gives given ++ GiveTorn (apdu_of op) fresh octets ∷ [])
-
--- all events of a run so far are fewer than three attempts that a cut ended and then a beginning of one more, or three that a cut ended,
--- and nothing more
-pub data KeptToPlan (ops : List Op) (t : Trace) : Type 0 where
-  InAttempt : (cuts : ℕ) → cuts < 3 → (front last : List BenchEvent) → WereCutOff ops t.start cuts front → WasBegun ops (replay t.start front) last → t.events ≡ front ++ last → KeptToPlan ops t
-  AfterThree : WereCutOff ops t.start 3 t.events → KeptToPlan ops t
+-- ---- a run
 
 -- A run that has begun, whether it ends or memory is wanting on the way: its start is the one that is stated, its events follow the
 -- script and keep to the load plan of the project's image, and each moment is old, stopped or new.
@@ -104,7 +63,7 @@ pub data Outcome : Type 0 where
 -- `sim`, where the bench was `before` and is `after`: it stops where it must, or for want of memory; it begins a run just where nothing
 -- stops it, and a bench on which no run began stays.
 abbrev pub Commissions : Result Commission Stop → Option Trace → Option Trace → Outcome → Type 0
-Commissions (Err why) before after (Stops told) = ((told ≡ why) ⊎ (told ≡ stop.NoMemory)) × (after ≡ before)
-Commissions (Ok c) before after (Stops told) = (told ≡ stop.NoMemory) × ((after ≡ before) ⊎ ((t : Trace) × ((after ≡ Some t) × Began c t)))
+Commissions (Err why) before after (Stops told) = ((told ≡ why) ⊎ (told ≡ stop.NoMemory tt)) × (after ≡ before)
+Commissions (Ok c) before after (Stops told) = (told ≡ stop.NoMemory tt) × ((after ≡ before) ⊎ ((t : Trace) × ((after ≡ Some t) × Began c t)))
 Commissions (Ok c) before after (Reports report jobs devices) = (t : Trace) × ((after ≡ Some t) × Ran c t report jobs devices)
 Commissions _ before after _ = ⊥

@@ -6,7 +6,7 @@ ghost use Rattle.knx_model.specs.Bench.{now, answered, Went};
 ghost use Rattle.knx_model.specs.Plan.{OldStoppedOrImage, HasCapacities, AnswersAll, load_plan, apdu_of, expected_of, gives};
 ghost use Rattle.knx_model.specs.Script.{cut_for, number_with, Follows};
 ghost use Rattle.knx_top.specs.Attempt.{Begins, Moves, Passes, CutsOff, EndsCutOff, IsScripted, StopsIn};
-ghost use Rattle.knx_top.specs.Ran.{WereCutOff, GotThrough, KeptToPlan};
+ghost use Rattle.knx_top.specs.Attempts.{WereCutOff, GotThrough, KeptToPlan};
 
 use crate::bench::Run;
 use download_plan::{LoadPlan, each_plan_is_good};

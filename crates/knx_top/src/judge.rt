@@ -87,7 +87,7 @@ fn cuts_in(alloc: Global, octets: &[u8], device: IndAddr) -> Result<List<Cut>, S
 /// The image of a device of a project.
 fn image_of(alloc: Global, checked: &Checked<'_, '_>, device: IndAddr) -> Result<Image, Stop>
     ensures ok { IfOk result (λ image. IsImage checked.now device image) }
-    ensures err { IfErr result (λ why. why ≡ OutOfMemory) }
+    ensures err { IfErr result (λ why. why ≡ OutOfMemory tt) }
 {
     let image = compile(alloc, checked, device)?;
     Ok(image)
@@ -100,7 +100,7 @@ fn image_before(
     device: IndAddr,
 ) -> Result<Option<Image>, Stop>
     ensures ok { IfOk result (λ image. IsBefore checked.now device image) }
-    ensures err { IfErr result (λ why. why ≡ OutOfMemory) }
+    ensures err { IfErr result (λ why. why ≡ OutOfMemory tt) }
 {
     if checked.has(device) {
         Ok(Some(image_of(alloc, checked, device)?))
@@ -112,7 +112,7 @@ fn image_before(
 /// What a run needs, or why the call stops before one.
 pub fn judge(alloc: Global, texts: &SimTexts) -> Result<Order, Stop>
     ensures ok { IfOk result (λ order. OrderFor (judged (sim_reads_of texts.now)) order) }
-    ensures err { IfErr result (λ why. why ≢ OutOfMemory → judged (sim_reads_of texts.now) ≡ Err why) }
+    ensures err { IfErr result (λ why. why ≢ OutOfMemory tt → judged (sim_reads_of texts.now) ≡ Err why) }
 {
     let catalogue = read_of(InputFile::Catalogue, &texts.catalogue)?;
     let new = read_of(InputFile::New, &texts.new)?;

@@ -27,7 +27,7 @@ pub fn fault_of(place: InputFile, fault: FileFault) -> Stop
     match fault {
         FileFault::NotThere => Stop::NotThere(place),
         FileFault::Failed => Stop::ReadFailed(place),
-        FileFault::NoMemory => Stop::NoMemory,
+        FileFault::NoMemory(want) => Stop::NoMemory(want),
     }
 }
 
@@ -50,18 +50,18 @@ pub fn models_in(alloc: Global, octets: &Option<Octets>) -> Result<Catalogue, St
     };
     match read_catalogue(alloc, octets.as_slice()) {
         Ok(catalogue) => Ok(catalogue),
-        Err(CatRefused::NoMemory) => Err(Stop::NoMemory),
+        Err(CatRefused::NoMemory(want)) => Err(Stop::NoMemory(want)),
         Err(refused) => Err(Stop::CatalogueRefused(refused)),
     }
 }
 
 /// Why the call stops at a refused text.
 pub fn refusal(place: InputFile, refused: Refused) -> Stop
-    ensures memory { refused.why ≡ WithoutMemory → result ≡ NoMemory }
-    ensures other { refused.why ≢ WithoutMemory → result ≡ Refuses place refused }
+    ensures memory { refused.why ≡ WithoutMemory tt → result ≡ NoMemory tt }
+    ensures other { refused.why ≢ WithoutMemory tt → result ≡ Refuses place refused }
 {
     match refused.why {
-        Why::NoMemory => Stop::NoMemory,
+        Why::NoMemory(want) => Stop::NoMemory(want),
         _ => Stop::Refused(place, refused),
     }
 }

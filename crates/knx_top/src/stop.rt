@@ -63,7 +63,7 @@ pub fn stop_status(stop: &Stop) -> Status
         Stop::NotThere(_) | Stop::ReadFailed(_) => Status::Read,
         Stop::CatalogueRefused(_) => Status::Catalogue,
         Stop::Refused(place, _) => refusal_status(*place),
-        Stop::NoMemory => Status::NoMemory,
+        Stop::NoMemory(_) => Status::NoMemory,
     }
 }
 
@@ -132,7 +132,7 @@ fn put_catalogue_words(
             put_word(out, model.as_slice())?;
             put_word(out, parameter.as_slice())
         }
-        CatRefused::NoMemory | CatRefused::Toml | CatRefused::Long => Ok(()),
+        CatRefused::NoMemory(_) | CatRefused::Toml | CatRefused::Long => Ok(()),
     }
 }
 
@@ -156,6 +156,6 @@ pub fn stop_text(alloc: Global, names: FileNames<'_>, stop: &Stop) -> Result<Oct
         Stop::ReadFailed(place) => read_fault(alloc, name_in(names, *place), "Failed"),
         Stop::CatalogueRefused(refused) => catalogue_refusal(alloc, refused),
         Stop::Refused(place, refused) => refusal_text(alloc, *place, *refused),
-        Stop::NoMemory => Octets::from_slice(alloc, NO_MEMORY),
+        Stop::NoMemory(_) => Octets::from_slice(alloc, NO_MEMORY),
     }
 }

@@ -8,7 +8,7 @@ use Rattle.std.proofs.lemmas.Map.Keys.{apart_from_distinct}
 use Rattle.knx_model.specs.declared.catalogue.model.Model.{Model}
 use Rattle.knx_model.specs.declared.catalogue.model.ModelField.{ModelField}
 use Rattle.knx_model.specs.declared.config.ParamValue.{ParamValue}
-use Rattle.knx_model.specs.declared.lists.NoMemory.{NoMemory}
+use Rattle.knx_model.specs.declared.no_memory.NoMemory.{NoMemory}
 use Rattle.knx_model.specs.Models.{AreApart, AllApart, IsField, IsModel}
 use Rattle.knx_model.specs.Parameters.{bits_value, bits_of, field_value, is_of_field, set_value, laid_field, laid, first_bit, IsOutside, HoldsParameters, IsSetting, AreSettings}
 use Rattle.parameter_memory.specs.Bits.{AreOctets, value_bits, overwrite, IsBeside, HoldsFields}

@@ -50,7 +50,7 @@ impl Broken {
     /// The broken rule of the least number.
     pub fn least(self) -> Option<Why>
         ensures rule { result ≡ least self }
-        ensures never { IfSome result (λ why. why ≢ NoMemory) }
+        ensures never { IfSome result (λ why. why ≢ NoMemory tt) }
     {
         if self.duplicate_device {
             Some(Why::DuplicateDevice)

@@ -12,7 +12,7 @@ use crate::devices::{ascending_devices, first_device};
 use crate::earlier::Earlier;
 use crate::named_models::NamedModels;
 use crate::rules::Whole;
-use knx_model::{Catalogue, Counts, IndAddr, Refused, Statement, Why};
+use knx_model::{Catalogue, Counts, IndAddr, NoMemory, Refused, Statement, Why};
 use project_text::Project;
 use std::alloc::{AllocError, Global};
 use std::marker::Model;
@@ -94,7 +94,7 @@ fn first_broken(
     statements: &[Statement<'_>],
 ) -> Result<Option<Refused>, AllocError>
     ensures found { IfOk result (λ found. found ≡ first_broken catalogue.now statements.now) }
-    ensures never { IfOk result (λ found. IfSome found (λ refused. refused.why ≢ NoMemory)) }
+    ensures never { IfOk result (λ found. IfSome found (λ refused. refused.why ≢ NoMemory tt)) }
 {
     let models = NamedModels::of(alloc, catalogue, statements)?;
     let whole = Whole::of(alloc, &models, statements)?;
@@ -120,8 +120,8 @@ pub fn check<'b, 'a>(
 ) -> Result<Checked<'b, 'a>, Refused>
     ensures checked { IfOk result (λ c. c ≡ record { statements = project.now.statements; catalogue = catalogue.now }) }
     ensures sound { OnOk result (first_broken catalogue.now project.now.statements ≡ None) }
-    ensures refused { IfErr result (λ e. e.why ≢ NoMemory → first_broken catalogue.now project.now.statements ≡ Some e) }
-    ensures memory { IfErr result (λ e. e.why ≡ NoMemory → e.line ≡ 0) }
+    ensures refused { IfErr result (λ e. e.why ≢ NoMemory tt → first_broken catalogue.now project.now.statements ≡ Some e) }
+    ensures memory { IfErr result (λ e. e.why ≡ NoMemory tt → e.line ≡ 0) }
 {
     match first_broken(alloc, catalogue, project.statements.as_slice()) {
         Ok(None) => match ascending_devices(alloc, project.statements.as_slice()) {
@@ -130,15 +130,19 @@ pub fn check<'b, 'a>(
                 catalogue,
                 devices,
             }),
-            Err(_) => Err(OUT_OF_MEMORY),
+            Err(error) => Err(out_of_memory(error)),
         },
         Ok(Some(refused)) => Err(refused),
-        Err(_) => Err(OUT_OF_MEMORY),
+        Err(error) => Err(out_of_memory(error)),
     }
 }
 
 /// The refusal for want of memory.
-const OUT_OF_MEMORY: Refused = Refused {
-    line: 0,
-    why: Why::NoMemory,
-};
+fn out_of_memory(error: AllocError) -> Refused
+    ensures { result ≡ record { line = 0; why = NoMemory tt } }
+{
+    Refused {
+        line: 0,
+        why: Why::NoMemory(NoMemory::from(error)),
+    }
+}

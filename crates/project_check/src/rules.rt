@@ -176,7 +176,7 @@ impl<'b, 'a> Whole<'b, 'a> {
     /// The rule of the least number that a statement breaks.
     pub fn first_rule(&self, place: usize, repeated: Repeated, what: &'a What<'a>) -> Option<Why>
         ensures rule { (catalogue : List NamedModel) (before all : List Stated) → DeclaresAll catalogue self.now all → IsNamed all what.now → repeated ≡ repeats before what.now → duplicate_link before what.now ≡ is_at self.now.first_repeat place → result ≡ least (broken_rules catalogue before all what.now) }
-        ensures never { IfSome result (λ why. why ≢ NoMemory) }
+        ensures never { IfSome result (λ why. why ≢ NoMemory tt) }
     {
         match what {
             What::Title(_) => None,

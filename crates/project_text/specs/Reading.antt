@@ -15,4 +15,4 @@ with_line before n (Err why) = Err why
 
 -- the list became what was read, and a refusal is what was read, unless memory ran out
 abbrev pub Added : Result (Unit {0}) Why → List Statement → Result (List Statement) Why → Type 0
-Added result statements read = AnswersUnless (λ why. why ≡ NoMemory) (λ done. statements) result read
+Added result statements read = AnswersUnless (λ why. why ≡ NoMemory tt) (λ done. statements) result read

@@ -16,12 +16,10 @@ use knx_model::{
 fn add<'a>(statements: &mut List<Statement<'a>>, line: u32, what: What<'a>) -> Result<(), Why>
     ensures added { OnOk result (statements.new ≡ statements.old ++ statement line what.entry ∷ []) }
     ensures spelled { IsTrue (is_spellable what.entry) → IsTrue (are_spellable statements.old) → OnOk result (IsTrue (are_spellable statements.new)) }
-    ensures memory { IfErr result (λ why. why ≡ OutOfMemory) }
+    ensures memory { IfErr result (λ why. why ≡ OutOfMemory tt) }
 {
-    match statements.push(Statement { line, what }) {
-        Ok(()) => Ok(()),
-        Err(_) => Err(Why::NoMemory),
-    }
+    statements.push(Statement { line, what })?;
+    Ok(())
 }
 
 /// `project NAME`

@@ -31,8 +31,8 @@ fn fits(octets: &[u8]) -> Result<(), Refused>
 /// rule. Line 0 stands for a text that is too long and for want of memory.
 pub fn read_project(alloc: Global, octets: &[u8]) -> Result<Project<'_>, Refused>
     // What is read is what the text says, and a refusal is the text's, unless memory ran out.
-    ensures read { AnswersUnless (λ e. e.why ≡ OutOfMemory) (λ p. p.statements) result (reading octets.now) }
-    ensures memory { IfErr result (λ e. e.why ≡ OutOfMemory → e.line ≡ 0) }
+    ensures read { AnswersUnless (λ e. e.why ≡ OutOfMemory tt) (λ p. p.statements) result (reading octets.now) }
+    ensures memory { IfErr result (λ e. e.why ≡ OutOfMemory tt → e.line ≡ 0) }
 {
     fits(octets)?;
     let mut statements = List::new(alloc);

@@ -18,14 +18,14 @@ fn add(lines: &mut List<ScriptLine>, line: u32, said: Option<ScriptWhat>) -> Res
     requires spelled { IfSome said (λ what. IsTrue (is_script_what what)) }
     ensures added { OnOk result (lines.new ≡ lines.old ++ option_to_list (said_in_line script_line line (Ok said))) }
     ensures spelled { IsTrue (are_script_lines lines.old) → OnOk result (IsTrue (are_script_lines lines.new)) }
-    ensures memory { IfErr result (λ why. why ≡ OutOfMemory) }
+    ensures memory { IfErr result (λ why. why ≡ OutOfMemory tt) }
 {
     match said {
         None => Ok(()),
-        Some(what) => match lines.push(ScriptLine { line, what }) {
-            Ok(()) => Ok(()),
-            Err(_) => Err(Why::NoMemory),
-        },
+        Some(what) => {
+            lines.push(ScriptLine { line, what })?;
+            Ok(())
+        }
     }
 }
 
@@ -50,8 +50,8 @@ fn fits(octets: &[u8]) -> Result<(), Refused>
 /// and the rule. Line 0 stands for a text that is too long and for want of memory.
 pub fn read_script(alloc: Global, octets: &[u8]) -> Result<Script, Refused>
     // What is read is what the text says, and a refusal is the text's, unless memory ran out.
-    ensures read { AnswersUnless (λ e. e.why ≡ OutOfMemory) (λ s. s.lines) result (script_reading octets.now) }
-    ensures memory { IfErr result (λ e. e.why ≡ OutOfMemory → e.line ≡ 0) }
+    ensures read { AnswersUnless (λ e. e.why ≡ OutOfMemory tt) (λ s. s.lines) result (script_reading octets.now) }
+    ensures memory { IfErr result (λ e. e.why ≡ OutOfMemory tt → e.line ≡ 0) }
 {
     fits(octets)?;
     let mut lines = List::new(alloc);

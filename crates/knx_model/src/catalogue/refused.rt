@@ -3,14 +3,15 @@
 ghost use Rattle.std.specs.Prelude.{◌≡◌};
 ghost use Rattle.knx_model.specs.Refusal.{catalogue_number, catalogue_word};
 
-use crate::lists::{NoMemory, Octets};
+use crate::lists::Octets;
+use crate::no_memory::NoMemory;
 
 /// Why a catalogue is refused, each with its number but for want of memory. Models and parameters are named as they stand in the
 /// document.
 #[derive(Drop)]
 pub enum CatRefused {
     /// There was no memory.
-    NoMemory,
+    NoMemory(NoMemory),
     /// 1: the octets are no TOML document.
     Toml,
     /// 2: a model's name, keys, kinds of values, or one of its numbers, sizes, flags or names isn't as it must be.
@@ -29,7 +30,7 @@ impl CatRefused {
         ensures { result ≡ catalogue_number self.now }
     {
         match self {
-            CatRefused::NoMemory => None,
+            CatRefused::NoMemory(_) => None,
             CatRefused::Toml => Some(1),
             CatRefused::Shape { .. } => Some(2),
             CatRefused::Overlap { .. } => Some(3),
@@ -43,7 +44,7 @@ impl CatRefused {
         ensures { result.now ≡ catalogue_word self.now }
     {
         match self {
-            CatRefused::NoMemory => "NoMemory",
+            CatRefused::NoMemory(_) => "NoMemory",
             CatRefused::Toml => "Toml",
             CatRefused::Shape { .. } => "Shape",
             CatRefused::Overlap { .. } => "Overlap",
@@ -56,9 +57,9 @@ impl CatRefused {
 impl From<NoMemory> for CatRefused {
     ghost use Rattle.knx_model.specs.declared.catalogue.refused.CatRefused.{CatRefused};
 
-    ghost from_gives = { λ _ e. e ≡ CatRefused.NoMemory };
+    ghost from_gives = { λ _ e. e ≡ CatRefused.NoMemory tt };
 
-    fn from(_error: NoMemory) -> CatRefused {
-        CatRefused::NoMemory
+    fn from(error: NoMemory) -> CatRefused {
+        CatRefused::NoMemory(error)
     }
 }

@@ -5,6 +5,7 @@ ghost use Rattle.knx_model.specs.Outside.{Told, MayRead, Rose};
 ghost use Rattle.knx_model.specs.declared.outside.files.FileFault.TheVariants.{Failed};
 
 use crate::lists::Octets;
+use crate::no_memory::NoMemory;
 use std::alloc::Global;
 
 /// Why a file wasn't read.
@@ -15,7 +16,17 @@ pub enum FileFault {
     /// The read failed.
     Failed,
     /// There was no memory.
-    NoMemory,
+    NoMemory(NoMemory),
+}
+
+impl From<NoMemory> for FileFault {
+    ghost use Rattle.knx_model.specs.declared.outside.files.FileFault.{FileFault};
+
+    ghost from_gives = { λ _ fault. fault ≡ FileFault.NoMemory tt };
+
+    fn from(error: NoMemory) -> FileFault {
+        FileFault::NoMemory(error)
+    }
 }
 
 /// Files by name.

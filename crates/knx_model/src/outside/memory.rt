@@ -4,7 +4,8 @@ ghost use Rattle.std.specs.Prelude.{◌≡◌, [], MatchOption, IfOk};
 ghost use Rattle.knx_model.specs.Memory.{told_of};
 ghost use Rattle.knx_model.specs.Outside.{Absent, Holds};
 
-use crate::lists::{NoMemory, Octets, front};
+use crate::lists::{Octets, front};
+use crate::no_memory::NoMemory;
 use crate::outside::files::{FileFault, Files};
 use crate::outside::sink::{Sink, SinkFailed};
 use std::alloc::Global;
@@ -83,10 +84,8 @@ impl Files for MemoryFiles {
             self.faults = self.faults.saturating_add(1);
             return Err(FileFault::Failed);
         }
-        match Octets::from_slice(alloc, front(file.content.as_slice(), limit)) {
-            Ok(octets) => Ok(octets),
-            Err(_) => Err(FileFault::NoMemory),
-        }
+        let octets = Octets::from_slice(alloc, front(file.content.as_slice(), limit))?;
+        Ok(octets)
     }
 }
 

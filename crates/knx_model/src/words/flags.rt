@@ -5,7 +5,8 @@ ghost use Rattle.knx_model.specs.Flags.{times, flags_value, flags_text, letter_i
 ghost use Rattle.knx_model.specs.Spells.{SpellsFlags};
 
 use crate::config::{COMMUNICATE, PRIORITY, READ, READ_AT_START, TRANSMIT, UPDATE, WRITE};
-use crate::lists::{NoMemory, Octets};
+use crate::lists::Octets;
+use crate::no_memory::NoMemory;
 
 fn times(word: &[u8], letter: u8) -> usize
     ensures { result ≡ times letter word.now }

@@ -6,7 +6,8 @@ ghost use Rattle.knx_model.specs.Addresses.{device_text, group_text};
 ghost use Rattle.knx_model.specs.Flags.{flags_text};
 
 use crate::address::{GroupAddr, IndAddr};
-use crate::lists::{NoMemory, Octets};
+use crate::lists::Octets;
+use crate::no_memory::NoMemory;
 use crate::words::flags::put_flags;
 use std::alloc::Global;
 

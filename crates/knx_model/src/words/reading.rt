@@ -82,11 +82,11 @@ pub fn no_more(rest: &[u8]) -> Result<(), Why>
 /// The refusal of a line; of line 0 for want of memory.
 pub fn refused_at(line: u32, why: Why) -> Refused
     ensures why { result.why ≡ why }
-    ensures line { ¬ (why ≡ OutOfMemory) → result ≡ record { line = line; why = why } }
-    ensures memory { why ≡ OutOfMemory → result.line ≡ 0 }
+    ensures line { ¬ (why ≡ OutOfMemory tt) → result ≡ record { line = line; why = why } }
+    ensures memory { why ≡ OutOfMemory tt → result.line ≡ 0 }
 {
     match why {
-        Why::NoMemory => Refused { line: 0, why },
+        Why::NoMemory(_) => Refused { line: 0, why },
         _ => Refused { line, why },
     }
 }

@@ -6,7 +6,7 @@ use Rattle.script_text.proofs.read.read_script.Goals as goal
 
 pub returns-in-Err-clause-read : goal.returns-in-Err-clause-read
 returns-in-Err-clause-read c = λ other.
-    let known : ¬ (c.in-Err.why ≡ NoMemory) = λ q. other (c.refused_at.ensures.why ∙ q) in
+    let known : ¬ (c.in-Err.why ≡ NoMemory tt) = λ q. other (c.refused_at.ensures.why ∙ q) in
     refused c.args.octets.now c.loop-text.rest.now c.in-Some.text.now c.in-Some.after.now _ _ c.in-Err.why c.loop-text.invariant c.in-Some.ensures.first c.in-Err.ensures.read ∙ ap (λ (x : Refused). Err x) (sym (c.refused_at.ensures.line known))
 
 pub loop-text-preserved : goal.loop-text-preserved
