@@ -7,7 +7,7 @@ use Rattle.knx_model.specs.declared.frames.tpdu.Apdu.TheVariants.{GroupRead, Gro
 use Rattle.knx_model.specs.declared.frames.tpdu.Tpdu.{Tpdu}
 use Rattle.knx_model.specs.declared.frames.tpdu.Tpdu.TheVariants.{Unnumbered, Numbered, Connect, Disconnect, Ack, Nak}
 use Rattle.knx_model.specs.declared.frames.tpdu.TpduRefused.{TpduRefused}
-use Rattle.knx_model.specs.Apdu.{IsLeastBroken, Reads, ReadsApdu, ReadsControl, ReadsData, IsWord, IsValue, service, low, Written, IsInRange, IsApduInRange}
+use Rattle.knx_model.specs.Apdu.{IsLeastBroken, Reads, ReadsApdu, ReadsControl, ReadsData, IsWord, IsValue, service, low, Written, IsInRange, IsApduInRange, most_memory_octets, most_property_octets}
 use Rattle.std.specs.Prelude.{IfOk, IfErr, Result, Ok, Err}
 use Rattle.std.specs.Result.{result_ok}
 use Rattle.apdu_frames.proofs.Refusals.{reads_breaks}
@@ -80,13 +80,13 @@ address_read_to code rest apdu p q = grind (arith, common_steps)
 address_response_to : (code : ℕ) (rest : List ℕ) (apdu : Apdu) → service code ≡ 0x140 → bare AddressResponse rest ≡ Some apdu → ReadsApdu code rest apdu
 address_response_to code rest apdu p q = grind (arith, common_steps)
 
-memory_read_to : (code : ℕ) (rest : List ℕ) (apdu : Apdu) → service code ≡ 0x200 → option_map (λ address. MemoryRead (low code) address) (if nat_le 1 (low code) && nat_le (low code) 12 then word_in rest else None) ≡ Some apdu → ReadsApdu code rest apdu
+memory_read_to : (code : ℕ) (rest : List ℕ) (apdu : Apdu) → service code ≡ 0x200 → option_map (λ address. MemoryRead (low code) address) (if nat_le 1 (low code) && nat_le (low code) most_memory_octets then word_in rest else None) ≡ Some apdu → ReadsApdu code rest apdu
 memory_read_to code rest apdu p q = grind (arith, common_steps, word_to)
 
-memory_response_to : (code : ℕ) (rest : List ℕ) (apdu : Apdu) → service code ≡ 0x240 → addressed (λ address octets. where_it ((length octets == low code) && nat_le (length octets) 12) (MemoryResponse address octets)) rest ≡ Some apdu → ReadsApdu code rest apdu
+memory_response_to : (code : ℕ) (rest : List ℕ) (apdu : Apdu) → service code ≡ 0x240 → addressed (λ address octets. where_it ((length octets == low code) && nat_le (length octets) most_memory_octets) (MemoryResponse address octets)) rest ≡ Some apdu → ReadsApdu code rest apdu
 memory_response_to code rest apdu p q = grind (arith, common_steps)
 
-memory_write_to : (code : ℕ) (rest : List ℕ) (apdu : Apdu) → service code ≡ 0x280 → addressed (λ address octets. where_it ((length octets == low code) && nat_le 1 (length octets) && nat_le (length octets) 12) (MemoryWrite address octets)) rest ≡ Some apdu → ReadsApdu code rest apdu
+memory_write_to : (code : ℕ) (rest : List ℕ) (apdu : Apdu) → service code ≡ 0x280 → addressed (λ address octets. where_it ((length octets == low code) && nat_le 1 (length octets) && nat_le (length octets) most_memory_octets) (MemoryWrite address octets)) rest ≡ Some apdu → ReadsApdu code rest apdu
 memory_write_to code rest apdu p q = grind (arith, common_steps)
 
 descriptor_read_to : (code : ℕ) (rest : List ℕ) (apdu : Apdu) → service code ≡ 0x300 → bare (DescriptorRead (low code)) rest ≡ Some apdu → ReadsApdu code rest apdu
@@ -98,10 +98,10 @@ descriptor_response_to code rest apdu p q = grind (arith, common_steps, word_to)
 property_read_to : (code : ℕ) (rest : List ℕ) (apdu : Apdu) → code ≡ 0x3D5 → of_property (λ object property count start octets. bare (PropertyRead object property count start) octets) rest ≡ Some apdu → ReadsApdu code rest apdu
 property_read_to code rest apdu p q = grind (arith, common_steps)
 
-property_response_to : (code : ℕ) (rest : List ℕ) (apdu : Apdu) → code ≡ 0x3D6 → of_property (λ object property count start octets. where_it (nat_le (length octets) 10) (PropertyResponse object property count start octets)) rest ≡ Some apdu → ReadsApdu code rest apdu
+property_response_to : (code : ℕ) (rest : List ℕ) (apdu : Apdu) → code ≡ 0x3D6 → of_property (λ object property count start octets. where_it (nat_le (length octets) most_property_octets) (PropertyResponse object property count start octets)) rest ≡ Some apdu → ReadsApdu code rest apdu
 property_response_to code rest apdu p q = grind (arith, common_steps)
 
-property_write_to : (code : ℕ) (rest : List ℕ) (apdu : Apdu) → code ≡ 0x3D7 → of_property (λ object property count start octets. where_it (nat_le (length octets) 10) (PropertyWrite object property count start octets)) rest ≡ Some apdu → ReadsApdu code rest apdu
+property_write_to : (code : ℕ) (rest : List ℕ) (apdu : Apdu) → code ≡ 0x3D7 → of_property (λ object property count start octets. where_it (nat_le (length octets) most_property_octets) (PropertyWrite object property count start octets)) rest ≡ Some apdu → ReadsApdu code rest apdu
 property_write_to code rest apdu p q = grind (arith, common_steps)
 
 pub apdu_to : (code : ℕ) (rest : List ℕ) (apdu : Apdu) → apdu_in code rest ≡ Some apdu → ReadsApdu code rest apdu

@@ -5,7 +5,7 @@ use Rattle.knx_model.specs.declared.frames.tpdu.Apdu.{Apdu}
 use Rattle.knx_model.specs.declared.frames.tpdu.Tpdu.{Tpdu}
 use Rattle.knx_model.specs.declared.frames.tpdu.TpduRefused.{TpduRefused}
 use Rattle.knx_model.specs.declared.frames.tpdu.TpduRefused.TheVariants.{Empty, Code, Length, Count}
-use Rattle.knx_model.specs.Apdu.{Breaks, Reads, ReadsApdu, ReadsControl, ReadsData, IsControlForm, IsDataForm, IsService, AllowsLength, AllowsCount, IsLeastBroken, IsWord, IsAddressed, IsOfProperty, IsValue, IsDescriptor}
+use Rattle.knx_model.specs.Apdu.{Breaks, Reads, ReadsApdu, ReadsControl, ReadsData, IsControlForm, IsDataForm, IsService, AllowsLength, AllowsCount, IsLeastBroken, IsWord, IsAddressed, IsOfProperty, IsValue, IsDescriptor, most_value_octets}
 use Rattle.knx_model.specs.declared.frames.value.Value.{Value}
 use Rattle.knx_model.specs.declared.frames.value.Value.TheVariants.{Short, Long}
 use Rattle.std.specs.Prelude.{IfOk, IfErr, Result, Ok, Err}
@@ -22,7 +22,7 @@ word_len (a ∷ []) n p = absurd p
 word_len (a ∷ b ∷ []) n p = refl
 word_len (a ∷ b ∷ c ∷ xs) n p = absurd p
 
-value_len : (code : ℕ) (xs : List ℕ) (v : Value) → IsValue code xs v → length xs ≤ 14
+value_len : (code : ℕ) (xs : List ℕ) (v : Value) → IsValue code xs v → length xs ≤ most_value_octets
 value_len code xs (Short a) p = rw p.0 (omega arith)
 value_len code xs (Long a) p = p.2
 

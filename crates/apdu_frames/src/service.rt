@@ -21,7 +21,7 @@ pub fn service_in(octets: &[u8]) -> Option<Apdu>
     }
 }
 
-/// A service as octets, at most 16.
+/// A service as octets, at most 64.
 #[tactic(auto, using(crate::proofs::Apdus::written_apdu))]
 pub fn service_octets(apdu: Apdu) -> ApduOctets
     requires { IsApduInRange apdu }

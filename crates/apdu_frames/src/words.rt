@@ -1,7 +1,7 @@
 //! Numbers of two octets, the high one first, and the low six bits of a code.
 
 ghost use Rattle.std.specs.Prelude.{◌≡◌, ◌+◌, ◌%◌, ◌≤◌, ◌++◌, length};
-ghost use Rattle.knx_model.specs.Apdu.{low, word as written};
+ghost use Rattle.knx_model.specs.Apdu.{low, most_octets, word as written};
 
 use knx_model::ApduOctets;
 
@@ -14,7 +14,7 @@ pub fn low(code: u16) -> u8
 
 /// Appends a number.
 pub fn push_word(out: &mut ApduOctets, n: u16)
-    requires { length out.old + 2 ≤ 16 }
+    requires { length out.old + 2 ≤ most_octets }
     ensures { out.new ≡ out.old ++ written n }
 {
     out.extend(&n.to_be_bytes());

@@ -6,7 +6,7 @@ use Rattle.knx_model.specs.declared.frames.cemi.Ldata.{Ldata}
 use Rattle.knx_model.specs.declared.frames.cemi.LdataCode.{LdataCode}
 use Rattle.knx_model.specs.declared.frames.cemi.LdataCode.TheVariants.{Req, Con, Ind}
 use Rattle.knx_model.specs.declared.frames.cemi.CemiRefused.{CemiRefused}
-use Rattle.knx_model.specs.declared.frames.cemi.CemiRefused.TheVariants.{Short, Code, Extended, Length}
+use Rattle.knx_model.specs.declared.frames.cemi.CemiRefused.TheVariants.{Short, Code, Extended, Length, Long}
 use Rattle.knx_model.specs.Cemi.{Reads, ReadsBody, code_octet, Breaks, IsLeastBroken}
 
 code_once : (a b : LdataCode) → code_octet a ≡ code_octet b → a ≡ b
@@ -34,8 +34,9 @@ reads_once octets a b p q = body_once (slice_index octets 0) (drop (2 + slice_in
 pub reads_breaks : (octets : List ℕ) (why : CemiRefused) (frame : Ldata) → Reads octets frame → Breaks why octets → ⊥
 reads_breaks octets Short frame p h = grind (arith, p.long)
 reads_breaks octets Code frame p h = grind (arith, common_steps, p.body)
-reads_breaks octets Extended frame p h = grind (arith, common_steps, p.body.standard)
-reads_breaks octets Length frame p h = grind (arith, common_steps, p.long, p.body.length_octet, p.body.fits, p.body.tpdu)
+reads_breaks octets Extended frame p h = grind (arith, common_steps, p.body.format)
+reads_breaks octets Length frame p h = grind (arith, common_steps, p.long, p.body.length_octet, p.body.short, p.body.tpdu)
+reads_breaks octets Long frame p h = grind (arith, common_steps, p.body.length_octet, p.body.fits)
 
 pub only_frame : (octets : List ℕ) (r : Result Ldata CemiRefused) → IfOk r (λ f. Reads octets f) → IfErr r (λ why. IsLeastBroken why octets) → (frame : Ldata) → Reads octets frame → r ≡ Ok frame
 only_frame octets (Ok f) ok err frame p = ap Ok (reads_once octets f frame ok p)

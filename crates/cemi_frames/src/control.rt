@@ -1,16 +1,23 @@
 //! The two control octets of a frame (KNX standard 3/6/3, common EMI). The first has bit 7 for a standard frame, the priority in
-//! bits 3 and 2, and bit 0 for the error that a con tells of. The second has bit 7 for a group destination, and the hop count in
-//! bits 6 to 4.
+//! bits 3 and 2, and bit 0 for the error that a con tells of. The second has bit 7 for a group destination, the hop count in
+//! bits 6 to 4, and in its low four bits the format of an extended frame.
 
-ghost use Rattle.std.specs.Prelude.{◌≡◌, ◌/◌, ◌%◌, ◌≤◌, ◌==◌, ◌&&◌, IsTrue, ◌↔◌, if◌then◌else◌};
-ghost use Rattle.knx_model.specs.Cemi.{code_octet};
+ghost use Rattle.std.specs.Prelude.{◌≡◌, ◌/◌, ◌%◌, ◌==◌, ◌&&◌, IsTrue, ◌↔◌};
+ghost use Rattle.knx_model.specs.Cemi.{code_octet, IsStandard, HasNoFormat, is_extended, first_written, second_written};
 
-use knx_model::LdataCode;
+use knx_model::{Ldata, LdataCode};
+
+/// The most octets of a standard frame's TPDU.
+pub const MOST_STANDARD_OCTETS: usize = 16;
 
 /// Standard frame, not repeated, broadcast, low priority, no acknowledgement asked for, no error.
 const LOW_PRIORITY: u8 = 0xBC;
 /// The same with an error.
 const LOW_PRIORITY_ERROR: u8 = 0xBD;
+/// The same two of an extended frame.
+const EXTENDED: u8 = 0x3C;
+
+const EXTENDED_ERROR: u8 = 0x3D;
 /// A group destination and hop count 6.
 const TO_GROUP: u8 = 0xE0;
 /// An individual destination and hop count 6.
@@ -18,9 +25,16 @@ const TO_DEVICE: u8 = 0x60;
 
 /// Whether the first control octet is that of a standard frame.
 pub fn is_standard(first: u8) -> bool
-    ensures { IsTrue result ↔ (0x80 ≤ first) }
+    ensures { IsTrue result ↔ IsStandard first }
 {
     first & 0x80 != 0
+}
+
+/// Whether the format in the second control octet is that of L_Data.
+pub fn has_no_format(second: u8) -> bool
+    ensures { IsTrue result ↔ HasNoFormat second }
+{
+    second & 0x0F == 0
 }
 
 /// Whether a frame of this code and first control octet tells of an error.
@@ -55,19 +69,20 @@ pub fn hops_of(second: u8) -> u8
 }
 
 /// The first control octet that is written.
-pub fn first_of(error: bool) -> u8
-    ensures { result ≡ (if error then 0xBD else 0xBC) }
+pub fn first_of(frame: &Ldata) -> u8
+    ensures { result ≡ first_written (is_extended frame.now) frame.now.error }
 {
-    if error {
-        LOW_PRIORITY_ERROR
-    } else {
-        LOW_PRIORITY
+    match (frame.tpdu.len() > MOST_STANDARD_OCTETS, frame.error) {
+        (true, true) => EXTENDED_ERROR,
+        (true, false) => EXTENDED,
+        (false, true) => LOW_PRIORITY_ERROR,
+        (false, false) => LOW_PRIORITY,
     }
 }
 
 /// The second control octet that is written.
 pub fn second_of(group: bool) -> u8
-    ensures { result ≡ (if group then 0xE0 else 0x60) }
+    ensures { result ≡ second_written group }
 {
     if group { TO_GROUP } else { TO_DEVICE }
 }

@@ -1,4 +1,4 @@
-//! Standard frames of L_Data (KNX standard 3/6/3, common EMI): message code, additional information, control octets, source,
+//! Frames of L_Data, standard and extended (KNX standard 3/6/3, common EMI): message code, additional information, control octets, source,
 //! destination, length and TPDU.
 
 ghost use Rattle.std.specs.Prelude.{◌≡◌, ◌+◌, ◌*◌, ◌<◌, ◌≤◌, length, IfOk, IfErr, Ok};
@@ -15,8 +15,6 @@ const PREFIX: usize = 2;
 const HEAD: usize = 7;
 /// The fewest octets of a frame without additional information: its TPDU has at least one.
 const LEAST: usize = PREFIX + HEAD + 1;
-/// The greatest length of a standard frame. The length counts the octets of the TPDU behind its first.
-const GREATEST_LENGTH: u8 = 15;
 
 /// The frame that the octets are (KNX standard 3/6/3, common EMI), or the least rule that they break. Additional information is skipped.
 #[tactic(auto, using(crate::proofs::Once::only_frame))]
@@ -50,12 +48,18 @@ fn body_of(code: u8, body: &[u8]) -> Result<Ldata, CemiRefused>
 {
     let code = code::read(code).ok_or(CemiRefused::Code)?;
     let (first, second) = (body[0], body[1]);
-    if !control::is_standard(first) {
+    let is_standard = control::is_standard(first);
+    if !is_standard && !control::has_no_format(second) {
         return Err(CemiRefused::Extended);
     }
     let tpdu = &body[HEAD..];
-    if body[6] > GREATEST_LENGTH || tpdu.len() != body[6] as usize + 1 {
+    if tpdu.len() != body[6] as usize + 1
+        || is_standard && tpdu.len() > control::MOST_STANDARD_OCTETS
+    {
         return Err(CemiRefused::Length);
+    }
+    if tpdu.len() > ApduOctets::CAPACITY {
+        return Err(CemiRefused::Long);
     }
     Ok(Ldata {
         code,
@@ -69,7 +73,8 @@ fn body_of(code: u8, body: &[u8]) -> Result<Ldata, CemiRefused>
     })
 }
 
-/// The octets of the frame (KNX standard 3/6/3, common EMI), of low priority and hop count 6, and with source 0 for a request.
+/// The octets of the frame (KNX standard 3/6/3, common EMI), of low priority and hop count 6, and with source 0 for a request. The
+/// frame is extended exactly where its TPDU has more than 16 octets.
 #[tactic(auto, using(crate::proofs::Written::written_reads))]
 pub fn encode(frame: &Ldata) -> Datagram
     requires { IsInRange frame.now }
@@ -86,7 +91,7 @@ fn octets_of(frame: &Ldata) -> Datagram
     let mut out = Datagram::from_slice(&[
         code::octet_of(frame.code),
         0x00,
-        control::first_of(frame.error),
+        control::first_of(frame),
         control::second_of(frame.group),
     ]);
     out.extend(&frame.source.to_be_bytes());

@@ -10,7 +10,7 @@ use crate::step::Step;
 use apdu_frames::service_octets;
 use knx_model::{
     Apdu, ApduOctets, Expect, LOAD_CONTROL, LoadEvent, LoadState, LoadableObject,
-    MOST_MEMORY_OCTETS, Op, TABLE_REFERENCE, front,
+    MOST_STANDARD_MEMORY_OCTETS, Op, TABLE_REFERENCE, front,
 };
 use load_machine::load_octets;
 
@@ -89,8 +89,8 @@ fn piece_at(list: &[u8], k: u32) -> ApduOctets
     ensures some { 1 ≤ length result }
     ensures few { length result ≤ 12 }
 {
-    let rest = &list[MOST_MEMORY_OCTETS * k as usize..];
-    ApduOctets::from_slice(front(rest, MOST_MEMORY_OCTETS))
+    let rest = &list[MOST_STANDARD_MEMORY_OCTETS * k as usize..];
+    ApduOctets::from_slice(front(rest, MOST_STANDARD_MEMORY_OCTETS))
 }
 
 fn write_piece(object: LoadableObject, list: &[u8], k: u32) -> Op
@@ -98,7 +98,7 @@ fn write_piece(object: LoadableObject, list: &[u8], k: u32) -> Op
     requires room { length list.now ≤ capacity object }
     ensures { result ≡ op_of (writes_piece object list.now k) }
 {
-    let address = object.base() + MOST_MEMORY_OCTETS as u16 * k as u16;
+    let address = object.base() + MOST_STANDARD_MEMORY_OCTETS as u16 * k as u16;
     tells(Apdu::MemoryWrite {
         address,
         octets: piece_at(list, k),
@@ -110,7 +110,7 @@ fn read_piece(object: LoadableObject, list: &[u8], k: u32) -> Op
     requires room { length list.now ≤ capacity object }
     ensures { result ≡ op_of (reads_piece object list.now k) }
 {
-    let address = object.base() + MOST_MEMORY_OCTETS as u16 * k as u16;
+    let address = object.base() + MOST_STANDARD_MEMORY_OCTETS as u16 * k as u16;
     let octets = piece_at(list, k);
     asks(
         Apdu::MemoryRead {

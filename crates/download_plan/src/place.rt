@@ -8,7 +8,7 @@ ghost use Rattle.download_plan.specs.Step.{list_of};
 
 use crate::operation::step_operation;
 use crate::step::step_at;
-use knx_model::{Image, LoadableObject, MOST_MEMORY_OCTETS, Op};
+use knx_model::{Image, LoadableObject, MOST_STANDARD_MEMORY_OCTETS, Op};
 
 /// An operation of one object's loading, by its number there.
 #[derive(Clone, Copy)]
@@ -35,7 +35,7 @@ fn piece_count(list: &[u8]) -> u32
     requires { length list.now ≤ 0x2000 }
     ensures { result ≡ piece_count list.now }
 {
-    list.len().div_ceil(MOST_MEMORY_OCTETS) as u32
+    list.len().div_ceil(MOST_STANDARD_MEMORY_OCTETS) as u32
 }
 
 /// How many operations load an object.

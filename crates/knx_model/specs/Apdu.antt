@@ -10,6 +10,30 @@ use Rattle.knx_model.specs.declared.frames.tpdu.Tpdu.TheVariants.{Unnumbered, Nu
 use Rattle.knx_model.specs.declared.frames.tpdu.TpduRefused.{TpduRefused}
 use Rattle.knx_model.specs.declared.frames.tpdu.TpduRefused.TheVariants as refused
 
+-- ---- the limits
+
+-- the most octets of a TPDU, and of one in a standard frame
+abbrev pub most_octets : ℕ
+most_octets = 64
+
+abbrev pub most_standard_octets : ℕ
+most_standard_octets = 16
+
+-- the most octets that a memory service carries, and those of one in a standard frame
+abbrev pub most_memory_octets : ℕ
+most_memory_octets = 60
+
+abbrev pub most_standard_memory_octets : ℕ
+most_standard_memory_octets = 12
+
+-- the most octets of a property's value in one service
+abbrev pub most_property_octets : ℕ
+most_property_octets = 10
+
+-- the most octets of a group value
+abbrev pub most_value_octets : ℕ
+most_value_octets = 14
+
 -- ---- the parts of a service's row
 
 -- the service of a code of ten bits: the code with its low six bits 0
@@ -39,7 +63,7 @@ IsOfProperty _ object property count start octets = ⊥
 -- a short value stands in the low six bits, and a long one is 1 to 14 octets
 abbrev pub IsValue : ℕ → List ℕ → Value → Type 0
 IsValue code rest (Short value) = (rest ≡ []) × (value ≡ low code)
-IsValue code rest (Long octets) = (octets ≡ rest) × (1 ≤ length rest) × (length rest ≤ 14)
+IsValue code rest (Long octets) = (octets ≡ rest) × (1 ≤ length rest) × (length rest ≤ most_value_octets)
 
 -- a descriptor of two octets, and none for type 3F
 abbrev pub IsDescriptor : ℕ → List ℕ → Option ℕ → Type 0
@@ -56,20 +80,20 @@ ReadsApdu code rest (AddressWrite address) = (service code ≡ 0x0C0) × IsWord 
 ReadsApdu code rest AddressRead = (service code ≡ 0x100) × (rest ≡ [])
 ReadsApdu code rest AddressResponse = (service code ≡ 0x140) × (rest ≡ [])
 ReadsApdu code rest (MemoryRead count address) =
-    (service code ≡ 0x200) × IsWord rest address × (count ≡ low code) × (1 ≤ count) × (count ≤ 12)
+    (service code ≡ 0x200) × IsWord rest address × (count ≡ low code) × (1 ≤ count) × (count ≤ most_memory_octets)
 ReadsApdu code rest (MemoryResponse address octets) =
-    (service code ≡ 0x240) × IsAddressed rest address octets × (length octets ≡ low code) × (length octets ≤ 12)
+    (service code ≡ 0x240) × IsAddressed rest address octets × (length octets ≡ low code) × (length octets ≤ most_memory_octets)
 ReadsApdu code rest (MemoryWrite address octets) =
-    (service code ≡ 0x280) × IsAddressed rest address octets × (length octets ≡ low code) × (1 ≤ length octets) × (length octets ≤ 12)
+    (service code ≡ 0x280) × IsAddressed rest address octets × (length octets ≡ low code) × (1 ≤ length octets) × (length octets ≤ most_memory_octets)
 ReadsApdu code rest (DescriptorRead kind) = (service code ≡ 0x300) × (rest ≡ []) × (kind ≡ low code)
 ReadsApdu code rest (DescriptorResponse kind value) =
     (service code ≡ 0x340) × IsDescriptor kind rest value × (kind ≡ low code)
 ReadsApdu code rest (PropertyRead object property count start) =
     (code ≡ 0x3D5) × IsOfProperty rest object property count start []
 ReadsApdu code rest (PropertyResponse object property count start octets) =
-    (code ≡ 0x3D6) × IsOfProperty rest object property count start octets × (length octets ≤ 10)
+    (code ≡ 0x3D6) × IsOfProperty rest object property count start octets × (length octets ≤ most_property_octets)
 ReadsApdu code rest (PropertyWrite object property count start octets) =
-    (code ≡ 0x3D7) × IsOfProperty rest object property count start octets × (length octets ≤ 10)
+    (code ≡ 0x3D7) × IsOfProperty rest object property count start octets × (length octets ≤ most_property_octets)
 
 -- ---- the forms of the first octet
 
@@ -117,8 +141,8 @@ IsService code =
 -- how many octets the table allows after the second one, counted octets aside
 pub record AllowsLength (code n : ℕ) : Type 0 where
   pub group_read : service code ≡ 0x000 → n ≡ 0
-  pub group_response : service code ≡ 0x040 → n ≤ 14
-  pub group_write : service code ≡ 0x080 → n ≤ 14
+  pub group_response : service code ≡ 0x040 → n ≤ most_value_octets
+  pub group_write : service code ≡ 0x080 → n ≤ most_value_octets
   pub address_write : service code ≡ 0x0C0 → n ≡ 2
   pub address_read : service code ≡ 0x100 → n ≡ 0
   pub address_response : service code ≡ 0x140 → n ≡ 0
@@ -129,14 +153,14 @@ pub record AllowsLength (code n : ℕ) : Type 0 where
   pub descriptor_response : service code ≡ 0x340 → code ≢ 0x37F → n ≡ 2
   pub no_descriptor : code ≡ 0x37F → n ≡ 0
   pub property_read : code ≡ 0x3D5 → n ≡ 4
-  pub property_response : code ≡ 0x3D6 → (4 ≤ n) × (n ≤ 14)
-  pub property_write : code ≡ 0x3D7 → (4 ≤ n) × (n ≤ 14)
+  pub property_response : code ≡ 0x3D6 → (4 ≤ n) × (n ≤ 4 + most_property_octets)
+  pub property_write : code ≡ 0x3D7 → (4 ≤ n) × (n ≤ 4 + most_property_octets)
 
 -- the count of a memory service
 pub record AllowsCount (code n : ℕ) : Type 0 where
-  pub memory_read : service code ≡ 0x200 → (1 ≤ low code) × (low code ≤ 12)
-  pub memory_response : service code ≡ 0x240 → (low code ≤ 12) × (n ≡ 2 + low code)
-  pub memory_write : service code ≡ 0x280 → (1 ≤ low code) × (low code ≤ 12) × (n ≡ 2 + low code)
+  pub memory_read : service code ≡ 0x200 → (1 ≤ low code) × (low code ≤ most_memory_octets)
+  pub memory_response : service code ≡ 0x240 → (low code ≤ most_memory_octets) × (n ≡ 2 + low code)
+  pub memory_write : service code ≡ 0x280 → (1 ≤ low code) × (low code ≤ most_memory_octets) × (n ≡ 2 + low code)
 
 abbrev pub HasNoCode : List ℕ → Type 0
 HasNoCode [] = ⊥
@@ -246,7 +270,7 @@ Written (Nak number) = (0xC3 + 4 * number) ∷ []
 
 abbrev pub IsValueInRange : Value → Type 0
 IsValueInRange (Short value) = value < 64
-IsValueInRange (Long octets) = (1 ≤ length octets) × (length octets ≤ 14)
+IsValueInRange (Long octets) = (1 ≤ length octets) × (length octets ≤ most_value_octets)
 
 abbrev pub IsDescriptorInRange : ℕ → Option ℕ → Type 0
 IsDescriptorInRange kind None = kind ≡ 0x3F
@@ -255,14 +279,14 @@ IsDescriptorInRange kind (Some value) = kind < 0x3F
 abbrev pub IsApduInRange : Apdu → Type 0
 IsApduInRange (GroupResponse value) = IsValueInRange value
 IsApduInRange (GroupWrite value) = IsValueInRange value
-IsApduInRange (MemoryRead count address) = (1 ≤ count) × (count ≤ 12)
-IsApduInRange (MemoryResponse address octets) = length octets ≤ 12
-IsApduInRange (MemoryWrite address octets) = (1 ≤ length octets) × (length octets ≤ 12)
+IsApduInRange (MemoryRead count address) = (1 ≤ count) × (count ≤ most_memory_octets)
+IsApduInRange (MemoryResponse address octets) = length octets ≤ most_memory_octets
+IsApduInRange (MemoryWrite address octets) = (1 ≤ length octets) × (length octets ≤ most_memory_octets)
 IsApduInRange (DescriptorRead kind) = kind < 64
 IsApduInRange (DescriptorResponse kind value) = IsDescriptorInRange kind value
 IsApduInRange (PropertyRead object p count start) = (count < 16) × (start < 4096)
-IsApduInRange (PropertyResponse object p count start octets) = (count < 16) × (start < 4096) × (length octets ≤ 10)
-IsApduInRange (PropertyWrite object p count start octets) = (count < 16) × (start < 4096) × (length octets ≤ 10)
+IsApduInRange (PropertyResponse object p count start octets) = (count < 16) × (start < 4096) × (length octets ≤ most_property_octets)
+IsApduInRange (PropertyWrite object p count start octets) = (count < 16) × (start < 4096) × (length octets ≤ most_property_octets)
 IsApduInRange _ = Unit {0}
 
 abbrev pub IsInRange : Tpdu → Type 0

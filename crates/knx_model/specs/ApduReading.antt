@@ -7,7 +7,7 @@ use Rattle.knx_model.specs.declared.frames.tpdu.Apdu.{Apdu}
 use Rattle.knx_model.specs.declared.frames.tpdu.Apdu.TheVariants.{GroupRead, GroupResponse, GroupWrite, AddressWrite, AddressRead, AddressResponse, MemoryRead, MemoryResponse, MemoryWrite, DescriptorRead, DescriptorResponse, PropertyRead, PropertyResponse, PropertyWrite}
 use Rattle.knx_model.specs.declared.frames.tpdu.Tpdu.{Tpdu}
 use Rattle.knx_model.specs.declared.frames.tpdu.Tpdu.TheVariants.{Unnumbered, Numbered, Connect, Disconnect, Ack, Nak}
-use Rattle.knx_model.specs.Apdu.{service, low, code_of, Written}
+use Rattle.knx_model.specs.Apdu.{service, low, code_of, Written, most_memory_octets, most_property_octets, most_value_octets}
 
 abbrev pub where_it : {X : Type 0} → Bool → X → Option X
 where_it test x = if test then Some x else None
@@ -29,7 +29,7 @@ word_in _ = None
 -- a short value, or 1 to 14 octets
 abbrev pub value_in : ℕ → List ℕ → Option Value
 value_in code [] = Some (Short (low code))
-value_in code (x ∷ xs) = where_it (nat_le (length (x ∷ xs)) 14) (Long (x ∷ xs))
+value_in code (x ∷ xs) = where_it (nat_le (length (x ∷ xs)) most_value_octets) (Long (x ∷ xs))
 
 -- an address of two octets, and what a service makes of it and of the octets after it
 abbrev pub addressed : (ℕ → List ℕ → Option Apdu) → List ℕ → Option Apdu
@@ -53,14 +53,14 @@ apdu_in code rest =
     else (if service code == 0x0C0 then option_map (λ raw. AddressWrite (record { raw = raw })) (word_in rest)
     else (if service code == 0x100 then bare AddressRead rest
     else (if service code == 0x140 then bare AddressResponse rest
-    else (if service code == 0x200 then option_map (λ address. MemoryRead (low code) address) (if nat_le 1 (low code) && nat_le (low code) 12 then word_in rest else None)
-    else (if service code == 0x240 then addressed (λ address octets. where_it ((length octets == low code) && nat_le (length octets) 12) (MemoryResponse address octets)) rest
-    else (if service code == 0x280 then addressed (λ address octets. where_it ((length octets == low code) && nat_le 1 (length octets) && nat_le (length octets) 12) (MemoryWrite address octets)) rest
+    else (if service code == 0x200 then option_map (λ address. MemoryRead (low code) address) (if nat_le 1 (low code) && nat_le (low code) most_memory_octets then word_in rest else None)
+    else (if service code == 0x240 then addressed (λ address octets. where_it ((length octets == low code) && nat_le (length octets) most_memory_octets) (MemoryResponse address octets)) rest
+    else (if service code == 0x280 then addressed (λ address octets. where_it ((length octets == low code) && nat_le 1 (length octets) && nat_le (length octets) most_memory_octets) (MemoryWrite address octets)) rest
     else (if service code == 0x300 then bare (DescriptorRead (low code)) rest
     else (if service code == 0x340 then descriptor_in (low code) rest
     else (if code == 0x3D5 then of_property (λ object property count start octets. bare (PropertyRead object property count start) octets) rest
-    else (if code == 0x3D6 then of_property (λ object property count start octets. where_it (nat_le (length octets) 10) (PropertyResponse object property count start octets)) rest
-    else (if code == 0x3D7 then of_property (λ object property count start octets. where_it (nat_le (length octets) 10) (PropertyWrite object property count start octets)) rest
+    else (if code == 0x3D6 then of_property (λ object property count start octets. where_it (nat_le (length octets) most_property_octets) (PropertyResponse object property count start octets)) rest
+    else (if code == 0x3D7 then of_property (λ object property count start octets. where_it (nat_le (length octets) most_property_octets) (PropertyWrite object property count start octets)) rest
     else None)))))))))))))
 
 -- one octet

@@ -22,7 +22,7 @@ use Rattle.knx_model.specs.declared.connection.ClientExpired.{ClientExpired}
 use Rattle.knx_model.specs.declared.connection.ClientExpired.TheVariants as over
 use Rattle.knx_model.specs.declared.frames.tpdu.Apdu.{Apdu}
 use Rattle.knx_model.specs.declared.frames.tpdu.Apdu.TheVariants as apdu
-use Rattle.knx_model.specs.Apdu.{Written}
+use Rattle.knx_model.specs.Apdu.{Written, most_octets}
 use Rattle.knx_model.specs.ApduReading.{control_in, service_in}
 
 -- ---- frames
@@ -34,13 +34,13 @@ control_frame (Some (tpdu.Ack number)) = Ack number
 control_frame (Some (tpdu.Nak number)) = Nak number
 control_frame _ = Other
 
--- which frame octets are: one octet is T_Connect, T_Disconnect, T_ACK or T_NAK; 2 to 16 octets whose first is 01ssssaa are numbered
+-- which frame octets are: one octet is T_Connect, T_Disconnect, T_ACK or T_NAK; 2 to 64 octets whose first is 01ssssaa are numbered
 -- data, whatever their service; all else acts on nothing
 unfoldable pub frame_in : List ℕ → TransportFrame
 frame_in [] = Other
 frame_in (first ∷ []) = control_frame (control_in first)
 frame_in (first ∷ second ∷ rest) =
-    if nat_le 0x40 first && nat_lt first 0x80 && nat_le (length rest) 14
+    if nat_le 0x40 first && nat_lt first 0x80 && nat_le (2 + length rest) most_octets
     then Numbered (first / 4 - 16) (first % 4 ∷ second ∷ rest)
     else Other
 
@@ -49,10 +49,10 @@ abbrev pub numbered : ℕ → List ℕ → List ℕ
 numbered number [] = []
 numbered number (first ∷ rest) = (0x40 + 4 * number + first) ∷ rest
 
--- an APDU that can be sent: 2 to 16 octets, with transport bits 0
+-- an APDU that can be sent: 2 to 64 octets, with transport bits 0
 abbrev pub IsApdu : List ℕ → Type 0
 IsApdu [] = ⊥
-IsApdu (first ∷ rest) = (first < 4) × (1 ≤ length rest) × (length rest ≤ 15)
+IsApdu (first ∷ rest) = (first < 4) × (1 ≤ length rest) × (1 + length rest ≤ most_octets)
 
 -- the number that a frame carries has four bits
 abbrev pub HasNumber : TransportFrame → Type 0

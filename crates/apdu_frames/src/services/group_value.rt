@@ -2,7 +2,7 @@
 //! low six bits of the code, or is 1 to 14 octets.
 
 ghost use Rattle.std.specs.Prelude.{◌≡◌, ◌≤◌, ◌^◌, ◌<◌, length, ◌+◌, ◌++◌, IfOk, IfErr};
-ghost use Rattle.knx_model.specs.Apdu.{ReadsApdu, IsValue, service, short, long};
+ghost use Rattle.knx_model.specs.Apdu.{ReadsApdu, IsValue, service, short, long, most_value_octets};
 ghost use Rattle.apdu_frames.specs.Refusing.{RefusesApdu};
 
 use crate::words::low;
@@ -41,7 +41,7 @@ pub fn read_write(code: u16, rest: &[u8]) -> Result<Apdu, TpduRefused>
 
 fn value_of(code: u16, rest: &[u8]) -> Result<Value, TpduRefused>
     ensures read { IfOk result (λ value. IsValue code rest.now value) }
-    ensures long { IfErr result (λ why. (why ≡ TpduRefused.Length) × (14 < length rest.now)) }
+    ensures long { IfErr result (λ why. (why ≡ TpduRefused.Length) × (most_value_octets < length rest.now)) }
 {
     if rest.is_empty() {
         Ok(Value::Short(low(code)))

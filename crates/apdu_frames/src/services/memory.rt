@@ -2,13 +2,13 @@
 //! count the octets, and an address of two octets goes first.
 
 ghost use Rattle.std.specs.Prelude.{◌≡◌, ◌+◌, ◌≤◌, ◌++◌, length, IfOk, IfErr};
-ghost use Rattle.knx_model.specs.Apdu.{ReadsApdu, service, word as written};
+ghost use Rattle.knx_model.specs.Apdu.{ReadsApdu, service, most_octets, word as written};
 ghost use Rattle.apdu_frames.specs.Refusing.{RefusesApdu};
 
 use crate::words::{low, push_word};
 use knx_model::{Apdu, ApduOctets, MOST_MEMORY_OCTETS, TpduRefused};
 
-/// A_Memory_Read of 1 to 12 octets.
+/// A_Memory_Read of 1 to 60 octets.
 pub fn read_request(code: u16, rest: &[u8]) -> Result<Apdu, TpduRefused>
     requires { service code ≡ 0x200 }
     ensures read { IfOk result (λ apdu. ReadsApdu code rest.now apdu) }
@@ -27,7 +27,7 @@ pub fn read_request(code: u16, rest: &[u8]) -> Result<Apdu, TpduRefused>
     })
 }
 
-/// A_Memory_Response of at most 12 octets; of none where the address can't be read.
+/// A_Memory_Response of at most 60 octets; of none where the address can't be read.
 pub fn read_response(code: u16, rest: &[u8]) -> Result<Apdu, TpduRefused>
     requires { service code ≡ 0x240 }
     ensures read { IfOk result (λ apdu. ReadsApdu code rest.now apdu) }
@@ -46,7 +46,7 @@ pub fn read_response(code: u16, rest: &[u8]) -> Result<Apdu, TpduRefused>
     })
 }
 
-/// A_Memory_Write of 1 to 12 octets.
+/// A_Memory_Write of 1 to 60 octets.
 pub fn read_write(code: u16, rest: &[u8]) -> Result<Apdu, TpduRefused>
     requires { service code ≡ 0x280 }
     ensures read { IfOk result (λ apdu. ReadsApdu code rest.now apdu) }
@@ -67,7 +67,7 @@ pub fn read_write(code: u16, rest: &[u8]) -> Result<Apdu, TpduRefused>
 
 /// Appends address and octets.
 pub fn write(out: &mut ApduOctets, address: u16, octets: &ApduOctets)
-    requires { length out.old + 2 + length octets.now ≤ 16 }
+    requires { length out.old + 2 + length octets.now ≤ most_octets }
     ensures { out.new ≡ out.old ++ (written address ++ octets.now) }
 {
     push_word(out, address);

@@ -2,7 +2,7 @@
 //! property, a count of four bits and a start of twelve, and then the octets.
 
 ghost use Rattle.std.specs.Prelude.{◌≡◌, ◌+◌, ◌*◌, ◌/◌, ◌%◌, ◌<◌, ◌≤◌, ◌++◌, length, IfOk, IfErr};
-ghost use Rattle.knx_model.specs.Apdu.{ReadsApdu, IsApduInRange, apdu_code, rest_of, property_head};
+ghost use Rattle.knx_model.specs.Apdu.{ReadsApdu, IsApduInRange, apdu_code, rest_of, property_head, most_octets};
 ghost use Rattle.apdu_frames.specs.Refusing.{RefusesApdu};
 
 use crate::words::push_word;
@@ -114,7 +114,7 @@ pub fn write(out: &mut ApduOctets, apdu: &Apdu)
 
 /// Appends object, property, count and start.
 fn push_head(out: &mut ApduOctets, object: u8, property: u8, count: u8, start: u16)
-    requires room { length out.old + 4 ≤ 16 }
+    requires room { length out.old + 4 ≤ most_octets }
     requires count { count < 16 }
     requires start { start < 4096 }
     ensures { out.new ≡ out.old ++ property_head object property count start }

@@ -16,7 +16,7 @@ pub enum LdataCode {
     Ind,
 }
 
-/// A standard frame of L_Data.
+/// A frame of L_Data, standard or extended.
 #[derive(Debug, Drop, PartialEq, Eq)]
 pub struct Ldata {
     pub code: LdataCode,
@@ -32,7 +32,7 @@ pub struct Ldata {
     pub source: u16,
     /// A group address or an individual address.
     pub destination: u16,
-    /// 1 to 16 octets.
+    /// 1 to 64 octets; above 16 the frame is an extended one.
     pub tpdu: ApduOctets,
 }
 
@@ -61,10 +61,12 @@ pub enum CemiRefused {
     Short,
     /// 2: the message code isn't one of L_Data.
     Code,
-    /// 3: an extended frame.
+    /// 3: an extended frame of another format.
     Extended,
-    /// 4: the length isn't that of the TPDU, or is above 15.
+    /// 4: the length isn't that of the TPDU, or is above 15 in a standard frame.
     Length,
+    /// 5: the length of an extended frame is above 63.
+    Long,
 }
 
 impl CemiRefused {
@@ -77,6 +79,7 @@ impl CemiRefused {
             CemiRefused::Code => 2,
             CemiRefused::Extended => 3,
             CemiRefused::Length => 4,
+            CemiRefused::Long => 5,
         }
     }
 
@@ -89,6 +92,7 @@ impl CemiRefused {
             CemiRefused::Code => "Code",
             CemiRefused::Extended => "Extended",
             CemiRefused::Length => "Length",
+            CemiRefused::Long => "Long",
         }
     }
 }

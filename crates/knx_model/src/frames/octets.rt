@@ -1,11 +1,12 @@
 //! Octets in buffers of fixed size, which take no memory.
 
 ghost use Rattle.std.specs.Prelude.{◌≡◌, ◌+◌, ◌<◌, ◌≤◌, [], ◌∷◌, ◌++◌, length, IsTrue, ◌↔◌};
+ghost use Rattle.knx_model.specs.Apdu.{most_octets, most_value_octets};
 
 use arrayvec::ArrayVec;
 use std::marker::Model;
 
-/// A TPDU, or an APDU with its transport bits 0: at most 16 octets.
+/// A TPDU, or an APDU with its transport bits 0: at most 64 octets.
 #[derive(Debug, Drop, PartialEq, Eq)]
 pub struct ApduOctets {
     octets: ArrayVec<u8, { ApduOctets::CAPACITY }>,
@@ -23,7 +24,7 @@ impl Model for ApduOctets {
 
 impl ApduOctets {
     /// The most octets.
-    pub const CAPACITY: usize = 16;
+    pub const CAPACITY: usize = 64;
 
     /// No octets.
     pub fn new() -> Self
@@ -37,7 +38,7 @@ impl ApduOctets {
     /// The number of octets.
     pub fn len(&self) -> usize
         ensures value { result ≡ length self.now }
-        ensures fits { result ≤ 16 }
+        ensures fits { result ≤ most_octets }
     {
         self.octets.len()
     }
@@ -52,14 +53,14 @@ impl ApduOctets {
     /// The octets.
     pub fn as_slice(&self) -> &[u8]
         ensures value { result.now ≡ self.now }
-        ensures fits { length self.now ≤ 16 }
+        ensures fits { length self.now ≤ most_octets }
     {
         self.octets.as_slice()
     }
 
     /// Appends an octet.
     pub fn push(&mut self, octet: u8)
-        requires { length self.old < 16 }
+        requires { length self.old < most_octets }
         ensures { self.new ≡ self.old ++ octet ∷ [] }
     {
         self.octets.push(octet);
@@ -67,7 +68,7 @@ impl ApduOctets {
 
     /// Appends octets.
     pub fn extend(&mut self, octets: &[u8])
-        requires { length self.old + length octets.now ≤ 16 }
+        requires { length self.old + length octets.now ≤ most_octets }
         ensures { self.new ≡ self.old ++ octets.now }
     {
         let _ = self.octets.try_extend_from_slice(octets);
@@ -82,7 +83,7 @@ impl ApduOctets {
 
     /// These octets.
     pub fn from_slice(octets: &[u8]) -> Self
-        requires { length octets.now ≤ 16 }
+        requires { length octets.now ≤ most_octets }
         ensures { result ≡ octets.now }
     {
         let mut all = ApduOctets::new();
@@ -114,14 +115,14 @@ impl LongValue {
     /// The octets.
     pub fn as_slice(&self) -> &[u8]
         ensures value { result.now ≡ self.now }
-        ensures fits { length self.now ≤ 14 }
+        ensures fits { length self.now ≤ most_value_octets }
     {
         self.octets.as_slice()
     }
 
     /// These octets.
     pub fn from_slice(octets: &[u8]) -> Self
-        requires { length octets.now ≤ 14 }
+        requires { length octets.now ≤ most_value_octets }
         ensures { result ≡ octets.now }
     {
         let mut all = ArrayVec::new();
