@@ -14,3 +14,4 @@ pub mod SpelledValues
 pub mod Spells
 pub mod Text
 pub mod Values
+pub mod Leads

@@ -30,6 +30,10 @@ pub mod Device
 pub mod Bench
 pub mod DeviceFrames
 pub mod Plan
+pub mod Plans
+pub mod Operations
+pub mod LoadPlan
+pub mod GoodPlan
 pub mod Script
 pub mod Promises
 pub mod ReportText

@@ -13,9 +13,9 @@ use Rattle.knx_model.specs.declared.loading.LoadableObject.TheVariants.{AddressT
 use Rattle.knx_model.specs.declared.frames.tpdu.Apdu.{Apdu}
 use Rattle.knx_model.specs.declared.frames.tpdu.Apdu.TheVariants.{MemoryRead, MemoryResponse, MemoryWrite, DescriptorRead, DescriptorResponse, PropertyRead, PropertyResponse, PropertyWrite}
 use Rattle.knx_model.specs.declared.plan.Expect.{Expect}
-use Rattle.knx_model.specs.declared.plan.Expect.TheVariants.{AckOnly, Is}
+use Rattle.knx_model.specs.declared.plan.Expect.TheVariants.{AckOnly, Is, Note}
 use Rattle.knx_model.specs.declared.plan.Op.{Op}
-use Rattle.knx_model.specs.declared.plan.Op.TheVariants.{Send}
+use Rattle.knx_model.specs.declared.plan.Op.TheVariants.{Send, Skip}
 use Rattle.knx_model.specs.declared.bench.BenchEvent.{BenchEvent}
 use Rattle.knx_model.specs.declared.bench.BenchEvent.TheVariants.{Give}
 use Rattle.knx_model.specs.Bench.{happens, answered}
@@ -101,10 +101,13 @@ load_plan image = map op_of (load_operations image)
 
 abbrev pub apdu_of : Op → List ℕ
 apdu_of (Send apdu expect) = apdu
+apdu_of Skip = []
 
 abbrev pub expected_of : Op → Option (List ℕ)
 expected_of (Send apdu AckOnly) = None
 expected_of (Send apdu (Is octets)) = Some octets
+expected_of (Send apdu Note) = None
+expected_of Skip = None
 
 -- ---- what makes a plan good
 

@@ -98,6 +98,8 @@ pub use outside::Sink;
 pub use outside::SinkFailed;
 pub use plan::Expect;
 pub use plan::Op;
+pub use plan::PieceSize;
+pub use plan::PlanSource;
 pub use project::Statement;
 pub use project::What;
 pub use refusal::Refused;

@@ -70,10 +70,22 @@ fn due(run: &Run, apdu: &[u8], cuts: &[Cut], count: &mut u64) -> Option<Cut>
 fn is_expected(answer: &Option<ApduOctets>, op: &Op) -> bool
     ensures { IsTrue result ↔ (answer.now ≡ expected_of op.now) }
 {
-    let Op::Send { expect, .. } = op;
-    match (answer, expect) {
-        (None, Expect::AckOnly) => true,
-        (Some(octets), Expect::Is(expected)) => octets.as_slice() == expected.as_slice(),
+    match (answer, op) {
+        (
+            Some(octets),
+            Op::Send {
+                expect: Expect::Is(expected),
+                ..
+            },
+        ) => octets.as_slice() == expected.as_slice(),
+        (
+            None,
+            Op::Send {
+                expect: Expect::Is(_),
+                ..
+            },
+        ) => false,
+        (None, _) => true,
         _ => false,
     }
 }
@@ -82,8 +94,10 @@ fn is_expected(answer: &Option<ApduOctets>, op: &Op) -> bool
 fn service_of(op: &Op) -> ApduOctets
     ensures { result ≡ apdu_of op.now }
 {
-    let Op::Send { apdu, .. } = op;
-    apdu.copied()
+    match op {
+        Op::Send { apdu, .. } => apdu.copied(),
+        Op::Skip => ApduOctets::new(),
+    }
 }
 
 /// Gives one operation, or cuts power in it where the script says so.
