@@ -1,4 +1,5 @@
 pub mod Cutting
+pub mod Faults
 pub mod Finite
 pub mod FlagWords
 pub mod Joined

@@ -1,21 +1,31 @@
--- The outside: what files and sinks promise. A count of faults is a number of 64 bits that stands still at its greatest.
-use Rattle.std.specs.Prelude.{◌≡◌, ℕ, ◌-◌, ◌^◌, ◌<◌, ◌⊎◌, List, ◌++◌, length, ◌≤◌, take, Option, Some, None, Result, Ok, Err}
+-- The outside: what files and sinks promise. A count is a number of 64 bits that stands still at its greatest.
+use Rattle.std.specs.Prelude.{◌≡◌, ℕ, ◌+◌, ◌-◌, ◌^◌, ◌<◌, ◌⊎◌, min, List, ◌++◌, length, ◌≤◌, take, Option, Some, None, Result, Ok, Err}
 use Rattle.knx_model.specs.declared.outside.files.FileFault.{FileFault}
 use Rattle.knx_model.specs.declared.outside.files.FileFault.TheVariants.{NotThere, Failed, NoMemory}
 
--- what files tell of a name: nothing, that no file has it, or what its file holds
-pub data Told : Type 0 where
-  Untold : Told
-  Absent : Told
-  Holds : List ℕ → Told
+-- ---- counts
 
--- a count rose in a call
+abbrev pub greatest_count : ℕ
+greatest_count = 2 ^ 64 - 1
+
+abbrev pub one_more : ℕ → ℕ
+one_more count = min (count + 1) greatest_count
+
+-- a count rose in a call, or stands at its greatest
 abbrev pub Rose : ℕ → ℕ → Type 0
-Rose old new = (old < new) ⊎ (new ≡ 2 ^ 64 - 1)
+Rose old new = (old < new) ⊎ (new ≡ greatest_count)
+
+-- ---- files
+
+-- what files tell of a name: nothing, that no file has it, or what its file holds
+pub data FileContent : Type 0 where
+  Untold : FileContent
+  Absent : FileContent
+  Holds : List ℕ → FileContent
 
 -- What a read of at most `limit` octets may answer: the front of the file that is told, or that it isn't there just where it is absent.
 -- Where nothing is told, at most so many octets are read.
-abbrev pub MayRead : Told → ℕ → Result (List ℕ) FileFault → Type 0
+abbrev pub MayRead : FileContent → ℕ → Result (List ℕ) FileFault → Type 0
 MayRead Untold limit (Ok octets) = length octets ≤ limit
 MayRead Untold limit (Err why) = Unit {0}
 MayRead Absent limit (Ok octets) = ⊥
@@ -27,11 +37,20 @@ MayRead (Holds content) limit (Err NotThere) = ⊥
 MayRead (Holds content) limit (Err Failed) = Unit {0}
 MayRead (Holds content) limit (Err (NoMemory want)) = Unit {0}
 
--- these octets were taken after all that was taken before, where a sink tells it
-abbrev pub Takes : List ℕ → Option (List ℕ) → Option (List ℕ) → Type 0
-Takes octets None after = after ≡ None
-Takes octets (Some before) after = after ≡ Some (before ++ octets)
+-- ---- a sink
+
+-- these octets were written behind all that was written before, where a sink tells it
+abbrev pub Wrote : List ℕ → Option (List ℕ) → Option (List ℕ) → Type 0
+Wrote octets None after = after ≡ None
+Wrote octets (Some before) after = after ≡ Some (before ++ octets)
 
 -- the same of some front of these octets
-abbrev pub TakesFront : List ℕ → Option (List ℕ) → Option (List ℕ) → Type 0
-TakesFront octets before after = (n : ℕ) × Takes (take n octets) before after
+abbrev pub WroteFront : List ℕ → Option (List ℕ) → Option (List ℕ) → Type 0
+WroteFront octets before after = (n : ℕ) × Wrote (take n octets) before after
+
+-- ---- a text that grows
+
+-- a text was appended; where memory was wanting, nothing has changed
+abbrev pub Appends : {A E : Type 0} → List ℕ → List ℕ → List ℕ → Result A E → Type 0
+Appends text old new (Ok done) = new ≡ old ++ text
+Appends text old new (Err why) = new ≡ old

@@ -1,6 +1,6 @@
 -- The texts that the program prints: the report of a run, and the line of a call that stops before it. Each line ends with a line
 -- feed; numbers are decimal.
-use Rattle.std.specs.Prelude.{ℕ, ◌+◌, ◌/◌, ◌%◌, Bool, ◌==◌, nat_lt, codes, List, [], ◌∷◌, ◌++◌, map, Option, Some, None, if◌then◌else◌}
+use Rattle.std.specs.Prelude.{ℕ, ◌+◌, ◌/◌, ◌%◌, ◌==◌, nat_lt, codes, List, [], ◌∷◌, ◌++◌, map, Option, Some, None, if◌then◌else◌}
 use Rattle.std.specs.List.{join_with_byte, flat_map, filter_map, enumerate_from}
 use Rattle.std.specs.Fmt.{decimal}
 use Rattle.knx_model.specs.Addresses.{device_text}
@@ -16,6 +16,8 @@ use Rattle.knx_model.specs.declared.config.Image.{Image}
 use Rattle.knx_model.specs.declared.log.Case.{Case}
 use Rattle.knx_model.specs.declared.log.Case.TheVariants as case
 use Rattle.knx_model.specs.declared.log.DeviceCase.{DeviceCase}
+use Rattle.knx_model.specs.declared.log.JobKind.{JobKind}
+use Rattle.knx_model.specs.declared.log.JobKind.TheVariants as job
 use Rattle.knx_model.specs.declared.log.JobWord.{JobWord}
 use Rattle.knx_model.specs.declared.log.LogEntry.{LogEntry}
 use Rattle.knx_model.specs.declared.log.LogWhat.{LogWhat}
@@ -73,11 +75,12 @@ end_words log k = first_or_open (filter_map (λ entry. end_of k entry.what) log)
 unfoldable pub end_text : List LogEntry → ℕ → List ℕ
 end_text log k = join_with_byte 32 (end_words log k)
 
-abbrev pub job_word : Bool → List ℕ
-job_word check = if check then codes "check" else codes "load"
+abbrev pub job_word : JobKind → List ℕ
+job_word job.Load = codes "load"
+job_word job.Check = codes "check"
 
 abbrev pub job_line : List LogEntry → ℕ → JobWord → List ℕ
-job_line log k job = line (codes "job" ∷ decimal k ∷ job_word job.check ∷ device_text job.device ∷ end_text log k ∷ [])
+job_line log k word = line (codes "job" ∷ decimal k ∷ job_word word.kind ∷ device_text word.device ∷ end_text log k ∷ [])
 
 abbrev pub case_word : Case → List ℕ
 case_word case.New = codes "new"
@@ -159,14 +162,14 @@ catalogue_line refused = line (codes "catalogue:" ∷ catalogue_words refused)
 abbrev pub read_fault_line : List ℕ → List ℕ → List ℕ
 read_fault_line name why = line (codes "read" ∷ codes "fault" ∷ name ∷ why ∷ [])
 
--- what is printed at a stop, where each file's name is given
-abbrev pub stop_text : (InputFile → List ℕ) → Stop → List ℕ
-stop_text name stop.Usage = usage_line
-stop_text name (stop.NotThere place) = read_fault_line (name place) (codes "NotThere")
-stop_text name (stop.ReadFailed place) = read_fault_line (name place) (codes "Failed")
-stop_text name (stop.CatalogueRefused refused) = catalogue_line refused
-stop_text name (stop.Refused place refused) = refusal_line place refused
-stop_text name (stop.NoMemory want) = line (codes "no memory" ∷ [])
+-- what is printed at a stop
+abbrev pub stop_text : Stop → List ℕ
+stop_text stop.Usage = usage_line
+stop_text (stop.NotThere name) = read_fault_line name (codes "NotThere")
+stop_text (stop.ReadFailed name) = read_fault_line name (codes "Failed")
+stop_text (stop.CatalogueRefused refused) = catalogue_line refused
+stop_text (stop.Refused place refused) = refusal_line place refused
+stop_text (stop.NoMemory want) = line (codes "no memory" ∷ [])
 
 abbrev pub refusal_status : InputFile → Status
 refusal_status file.Catalogue = status.Catalogue
@@ -176,8 +179,8 @@ refusal_status file.Script = status.Script
 
 abbrev pub stop_status : Stop → Status
 stop_status stop.Usage = status.Usage
-stop_status (stop.NotThere place) = status.Read
-stop_status (stop.ReadFailed place) = status.Read
+stop_status (stop.NotThere name) = status.Read
+stop_status (stop.ReadFailed name) = status.Read
 stop_status (stop.CatalogueRefused refused) = status.Catalogue
 stop_status (stop.Refused place refused) = refusal_status place
 stop_status (stop.NoMemory want) = status.NoMemory

@@ -3,6 +3,7 @@
 ghost use Rattle.std.specs.Prelude.{◌≡◌};
 
 use crate::catalogue::CatRefused;
+use crate::lists::Octets;
 use crate::no_memory::NoMemory;
 use crate::refusal::Refused;
 
@@ -24,10 +25,10 @@ pub enum InputFile {
 pub enum Stop {
     /// The words aren't a command's.
     Usage,
-    /// A file isn't there.
-    NotThere(InputFile),
-    /// A file couldn't be read.
-    ReadFailed(InputFile),
+    /// The file of this name isn't there.
+    NotThere(Octets),
+    /// The file of this name couldn't be read.
+    ReadFailed(Octets),
     /// The catalogue is refused.
     CatalogueRefused(CatRefused),
     /// A project or the script is refused.

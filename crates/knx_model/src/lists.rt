@@ -1,6 +1,7 @@
 //! Lists that contracts see as lists.
 
 ghost use Rattle.std.specs.Prelude.{◌≡◌, ℕ, List as Seq, [], ◌∷◌, ◌++◌, length, take, OnOk, OnErr, IfOk, IsTrue, ◌↔◌};
+ghost use Rattle.knx_model.specs.Outside.{Appends};
 
 use crate::no_memory::NoMemory;
 use std::alloc::Global;
@@ -101,6 +102,28 @@ impl Octets {
     {
         self.octets.extend_from_slice(octets)?;
         Ok(())
+    }
+
+    /// Appends an octet, and octets behind it. At `Err` nothing has changed.
+    pub fn append_behind(&mut self, octet: u8, octets: &[u8]) -> Result<(), NoMemory>
+        ensures { Appends (octet ∷ octets.now) self.old self.new result }
+    {
+        let start = self.octets.len();
+        self.octets.push(octet)?;
+        match self.octets.extend_from_slice(octets) {
+            Ok(()) => Ok(()),
+            Err(refused) => {
+                self.octets.truncate(start);
+                Err(NoMemory::from(refused))
+            }
+        }
+    }
+
+    /// Leaves the first `most` octets, or all where there are fewer.
+    pub fn truncate(&mut self, most: usize)
+        ensures { self.new ≡ take most self.old }
+    {
+        self.octets.truncate(most);
     }
 }
 

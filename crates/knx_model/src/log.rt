@@ -42,11 +42,20 @@ pub struct Report {
     pub missed: u64,
 }
 
+/// What a job does to its device.
+#[derive(Clone, Copy, Debug, Drop, PartialEq, Eq)]
+pub enum JobKind {
+    /// It downloads the project's configuration.
+    Load,
+    /// It compares the device with the project.
+    Check,
+}
+
 /// A job of a run, as its word names it.
 #[derive(Clone, Copy, Drop)]
 pub struct JobWord {
     pub device: IndAddr,
-    pub check: bool,
+    pub kind: JobKind,
 }
 
 /// What the final content of a device is, beside the project's.

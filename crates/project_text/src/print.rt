@@ -55,7 +55,7 @@ fn put_object(
     put_device_word(alloc, out, device)?;
     put_number_word(alloc, out, u64::from(n))?;
     put_number_word(alloc, out, u64::from(bits_of(size)))?;
-    put_flags_word(out, flags)
+    put_flags_word(alloc, out, flags)
 }
 
 fn put_link(
@@ -85,7 +85,7 @@ fn put_flags_line(
     out.append(b"flags")?;
     put_device_word(alloc, out, device)?;
     put_number_word(alloc, out, u64::from(object))?;
-    put_flags_word(out, flags)
+    put_flags_word(alloc, out, flags)
 }
 
 fn put_param(

@@ -1,7 +1,7 @@
 //! Files that are read by their names.
 
-ghost use Rattle.std.specs.Prelude.{◌≡◌, ℕ, List, ◌≤◌, Err};
-ghost use Rattle.knx_model.specs.Outside.{Told, MayRead, Rose};
+ghost use Rattle.std.specs.Prelude.{◌≡◌, ◌≢◌, ℕ, List, Err};
+ghost use Rattle.knx_model.specs.Outside.{FileContent, MayRead, Rose};
 ghost use Rattle.knx_model.specs.declared.outside.files.FileFault.TheVariants.{Failed};
 
 use crate::lists::Octets;
@@ -31,16 +31,17 @@ impl From<NoMemory> for FileFault {
 
 /// Files by name.
 pub trait Files: Drop {
-    /// How many reads failed; it never falls.
-    ghost faults: { Self → ℕ };
+    /// How many reads of the file of a name failed; it never falls.
+    ghost faults: { Self → List ℕ → ℕ };
 
     /// What is told of the file of a name.
-    ghost file: { Self → List ℕ → Told };
+    ghost file: { Self → List ℕ → FileContent };
 
-    /// The first `limit` octets of the named file.
+    /// The first `limit` octets of the named file. A read that failed is counted with that name, and nothing else is counted.
     fn read(&mut self, alloc: Global, name: &str, limit: usize) -> Result<Octets, FileFault>
         ensures answer { MayRead (file self.old name.now) limit result }
-        ensures failed { result ≡ Err Failed → Rose (faults self.old) (faults self.new) }
-        ensures count { faults self.old ≤ faults self.new }
+        ensures failed { result ≡ Err Failed → Rose (faults self.old name.now) (faults self.new name.now) }
+        ensures still { result ≢ Err Failed → (other : List ℕ) → faults self.new other ≡ faults self.old other }
+        ensures others { (other : List ℕ) → other ≢ name.now → faults self.new other ≡ faults self.old other }
         ensures stays { (other : List ℕ) → file self.new other ≡ file self.old other };
 }

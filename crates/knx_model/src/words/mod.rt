@@ -13,7 +13,7 @@ mod value;
 
 pub use address::{group_in, group_of, group_spelled, ind_in, ind_of, ind_spelled};
 pub use cut::{Span, first_line, first_word, next_line, next_word};
-pub use flags::{flags_in, flags_of, flags_spelled, put_flags};
+pub use flags::{flags_in, flags_of, flags_spelled};
 pub use line::{has_plain_lines, is_text, without_comment};
 pub use name::{Name, is_name, is_name_in, name_spelled};
 pub use number::{number_in, number_of, number_spelled};
