@@ -1,8 +1,10 @@
 -- What makes a plan good, said by its runs: whatever a device held before, any beginning of the plan leaves it as it was, or stopped, or
 -- with the image, and all of it leaves the image. A run here is of one device, whose answers are a function of what it keeps.
-use Rattle.std.specs.Prelude.{ℕ, ◌≡◌, List, [], ◌∷◌, Option, Some, None, ◌⊎◌}
+use Rattle.std.specs.Prelude.{ℕ, ◌≡◌, Bool, true, false, List, [], ◌∷◌, Option, Some, None, ◌⊎◌}
 use Rattle.knx_model.specs.declared.config.Image.{Image}
 use Rattle.knx_model.specs.declared.plan.Expect.{Expect}
+use Rattle.knx_model.specs.declared.plan.Expect.TheVariants.{AckOnly, Is, Note}
+use Rattle.knx_model.specs.Connection.{IsApdu, has_answer}
 use Rattle.knx_model.specs.Device.{NonVolatile, runs, whole, effect_in, answer_in}
 use Rattle.knx_model.specs.DeviceFrames.{Outcome, Whole, Torn, Worn, kept_after}
 use Rattle.knx_model.specs.Plans.{Plan, Over, Asks, Suits}
@@ -58,3 +60,15 @@ kept_by_all answers (Asks apdu expect next) nv = kept_by_all answers (next (answ
 abbrev pub services_given : Answering → Plan → NonVolatile → List (List ℕ)
 services_given answers Over nv = []
 services_given answers (Asks apdu expect next) nv = apdu ∷ services_given answers (next (answers nv apdu)) (whole nv (effect_in apdu))
+
+-- ---- what a client can send
+
+abbrev pub awaits_answer : Expect → Bool
+awaits_answer AckOnly = false
+awaits_answer (Is wanted) = true
+awaits_answer Note = true
+
+-- each operation is an APDU with transport bits 0, and awaits an answer exactly where its service has one
+abbrev pub IsSendable : Plan → Type 0
+IsSendable Over = Unit {0}
+IsSendable (Asks apdu expect next) = IsApdu apdu × (awaits_answer expect ≡ has_answer apdu) × ((answer : Option (List ℕ)) → IsSendable (next answer))

@@ -4,6 +4,7 @@ use Rattle.std.specs.Prelude.{ℕ, ◌+◌, ◌*◌, Bool, ◌&&◌, ◌==◌, n
 use Rattle.knx_model.specs.declared.config.Image.{Image}
 use Rattle.knx_model.specs.declared.loading.LoadState.TheVariants.{Unloaded}
 use Rattle.knx_model.specs.declared.loading.LoadEvent.TheVariants.{Unload}
+use Rattle.knx_model.specs.declared.loading.LoadableObject.{LoadableObject}
 use Rattle.knx_model.specs.declared.loading.LoadableObject.TheVariants.{AddressTable, AssociationTable, GroupObjects, Application}
 use Rattle.knx_model.specs.declared.frames.tpdu.Apdu.{Apdu}
 use Rattle.knx_model.specs.declared.frames.tpdu.Apdu.TheVariants.{DescriptorRead, DescriptorResponse, PropertyRead, PropertyResponse}
@@ -35,24 +36,34 @@ size_by (Some got) = size_in (service_in got)
 
 -- ---- the plans
 
--- the descriptor is read, of a System B device, and then property 56 of the device object
-abbrev pub opened : (Option (List ℕ) → Plan) → Plan
-opened next =
-    Asks (apdu_octets (DescriptorRead 0)) (Is (apdu_octets (DescriptorResponse 0 (Some 0x07B0))))
-    (λ _. Asks (apdu_octets (PropertyRead 0 56 1 1)) Note next)
+-- the list of an object
+abbrev pub list_of : Image → LoadableObject → List ℕ
+list_of image AddressTable = image.addr
+list_of image AssociationTable = image.assoc
+list_of image GroupObjects = image.objs
+list_of image Application = image.params
+
+-- the objects 1 to 4 in turn
+abbrev pub each_object : (LoadableObject → List Operation) → List Operation
+each_object operations = operations AddressTable ++ (operations AssociationTable ++ (operations GroupObjects ++ operations Application))
+
+-- property 56 of the device object is read, and what follows is settled by its answer
+abbrev pub noting : (PieceSize → List Operation) → Plan
+noting operations = Asks (apdu_octets (PropertyRead 0 56 1 1)) Note (λ answer. listed (operations (size_by answer)))
+
+-- the descriptor is read, of a System B device, and then property 56
+abbrev pub opened : (PieceSize → List Operation) → Plan
+opened operations = Asks (apdu_octets (DescriptorRead 0)) (Is (apdu_octets (DescriptorResponse 0 (Some 0x07B0)))) (λ _. noting operations)
 
 -- the application is unloaded first and loaded last
-unfoldable pub load_operations : PieceSize → Image → List Operation
-load_operations size image =
-    event_then Application Unload Unloaded
-    ∷ (loading size AddressTable image.addr ++ (loading size AssociationTable image.assoc ++ (loading size GroupObjects image.objs ++ loading size Application image.params)))
+unfoldable pub load_operations : Image → PieceSize → List Operation
+load_operations image size = event_then Application Unload Unloaded ∷ each_object (λ o. loading size o (list_of image o))
 
-unfoldable pub check_operations : PieceSize → Image → List Operation
-check_operations size image =
-    checking size AddressTable image.addr ++ (checking size AssociationTable image.assoc ++ (checking size GroupObjects image.objs ++ checking size Application image.params))
+unfoldable pub check_operations : Image → PieceSize → List Operation
+check_operations image size = each_object (λ o. checking size o (list_of image o))
 
 unfoldable pub load_plan : Image → Plan
-load_plan image = opened (λ answer. listed (load_operations (size_by answer) image))
+load_plan image = opened (load_operations image)
 
 unfoldable pub check_plan : Image → Plan
-check_plan image = opened (λ answer. listed (check_operations (size_by answer) image))
+check_plan image = opened (check_operations image)
