@@ -4,7 +4,7 @@ use Rattle.std.proofs.lemmas.Bool.{false≢true}
 use Rattle.knx_model.specs.declared.frames.tpdu.Apdu.{Apdu}
 use Rattle.knx_model.specs.declared.frames.tpdu.Apdu.TheVariants.{GroupRead, GroupResponse, GroupWrite, AddressWrite, AddressRead, AddressResponse, MemoryRead, MemoryResponse, MemoryWrite, DescriptorRead, DescriptorResponse, PropertyRead, PropertyResponse, PropertyWrite}
 use Rattle.knx_model.specs.ApduReading.{service_in, apdu_octets}
-use Rattle.knx_model.specs.Device.{NonVolatile, Effect, Loads, Stores, Nothing, effect_at, effect_in, answer, answer_at, answer_in, is_load_control, loads, object_of_index}
+use Rattle.knx_model.specs.Device.{NonVolatile, Effect, Loads, Stores, Nothing, effect_at, effect_in, answer, answer_at, answer_in, is_load_control, load_asked, object_of_index}
 use Rattle.knx_model.specs.declared.loading.LoadableObject.{LoadableObject}
 
 abbrev stores : Effect → Bool
@@ -12,11 +12,11 @@ stores (Loads o event) = false
 stores (Stores address octets) = true
 stores Nothing = false
 
-loads_stores_not : (o : Option LoadableObject) (octets : List ℕ) → stores (loads o octets) ≡ false
+loads_stores_not : (o : Option LoadableObject) (octets : List ℕ) → stores (load_asked o octets) ≡ false
 loads_stores_not None octets = refl
 loads_stores_not (Some o) octets = refl
 
-property_stores_not : (b : Bool) (o : Option LoadableObject) (octets : List ℕ) → stores (if b then loads o octets else Nothing) ≡ false
+property_stores_not : (b : Bool) (o : Option LoadableObject) (octets : List ℕ) → stores (if b then load_asked o octets else Nothing) ≡ false
 property_stores_not true o octets = loads_stores_not o octets
 property_stores_not false o octets = refl
 

@@ -3,7 +3,7 @@
 ghost use Rattle.std.specs.Prelude.{◌≡◌, IfSome, Some, None, ◌==◌, if◌then◌else◌};
 ghost use Rattle.knx_model.specs.Apdu.{word, IsApduInRange};
 ghost use Rattle.knx_model.specs.ApduReading.{option_map};
-ghost use Rattle.knx_model.specs.Device.{object_type, object_of_index, load_state, table_reference, property_value, property_response, where_one, whole, taken, effect_of, effect_in, answer, answer_in};
+ghost use Rattle.knx_model.specs.Device.{object_type, object_of_index, load_state, table_reference, property_value, property_response, where_one, whole, taken_over, effect_of, effect_in, answer, answer_in};
 ghost use Rattle.knx_model.specs.Connection.{IsApdu};
 ghost use Rattle.knx_model.specs.DeviceFrames.{worn_octets};
 ghost use Rattle.device_sim.specs.Wear.{served_kept};
@@ -154,7 +154,7 @@ impl Kept {
 
     #[tactic(auto, using(crate::proofs::Answers::stores_unanswered))]
     fn serve_worn(&mut self, octets: &[u8]) -> Option<ApduOctets>
-        ensures next { self.new ≡ taken self.old (effect_in octets.now) (Some (worn_octets (effect_in octets.now))) }
+        ensures next { self.new ≡ taken_over self.old (effect_in octets.now) (Some (worn_octets (effect_in octets.now))) }
         ensures answer { result ≡ answer_in self.old octets.now }
         ensures apdu { IfSome result IsApdu }
     {

@@ -1,8 +1,7 @@
 //! What a service does to a device.
 
 ghost use Rattle.std.specs.Prelude.{◌≡◌, IfOk};
-ghost use Rattle.knx_model.specs.Device.{is_load_control, loads, object_of_index, effect_of};
-ghost use Rattle.knx_model.specs.Bench.{written_front};
+ghost use Rattle.knx_model.specs.Device.{is_load_control, load_asked, object_of_index, effect_of, written_front};
 ghost use Rattle.device_sim.specs.Effects.{meant};
 
 use crate::places::object_of_index;
@@ -28,7 +27,7 @@ pub fn is_load_control(property: u8, count: u8, start: u16, octets: &[u8]) -> bo
 }
 
 fn loads(index: u8, octets: &[u8]) -> Effect
-    ensures { meant result ≡ loads (object_of_index index) octets.now }
+    ensures { meant result ≡ load_asked (object_of_index index) octets.now }
 {
     match object_of_index(index) {
         Some(object) => Effect::Loads(object, load_event(octets)),

@@ -1,8 +1,7 @@
 //! What a device keeps without power.
 
 ghost use Rattle.std.specs.Prelude.{◌≡◌, ◌≤◌, ℕ, true, List, length, nat_lt, take, Some};
-ghost use Rattle.knx_model.specs.Device.{object as content, whole, torn, taken, is_write, all_loaded, Loads, Stores, range_octets};
-ghost use Rattle.knx_model.specs.Bench.{written_front, front_of_load};
+ghost use Rattle.knx_model.specs.Device.{loadable as content, whole, torn, taken_over, is_write, all_loaded, Loads, Stores, range_octets, written_front, front_of_load};
 ghost use Rattle.knx_model.specs.DeviceFrames.{same_state, complements, worn_octets};
 ghost use Rattle.device_sim.specs.Effects.{meant};
 ghost use Rattle.device_sim.specs.States.{states_of, has_states};
@@ -174,7 +173,7 @@ impl Kept {
 
     /// Takes an effect over worn memory, which keeps the complement of each octet of a memory write.
     pub fn take_worn(&mut self, effect: &Effect)
-        ensures { self.new ≡ taken self.old (meant effect.now) (Some (worn_octets (meant effect.now))) }
+        ensures { self.new ≡ taken_over self.old (meant effect.now) (Some (worn_octets (meant effect.now))) }
     {
         match effect {
             Effect::Loads(object, event) => self.load(*object, *event),

@@ -1,9 +1,9 @@
 //! A loadable object: its load machine, and the memory of which its segment is the front.
 
 ghost use Rattle.std.specs.Prelude.{◌≡◌, ◌+◌, ◌-◌, ◌≤◌, length, IfOk, take, drop, [], ◌++◌, replicate, nat_lt, if◌then◌else◌};
-ghost use Rattle.knx_model.specs.Loading.{load_step, load_torn, written, scribbled, takes_write, allocates, has_range, octets_of, overlaid, capacity_of, with_memory, is_loaded};
-ghost use Rattle.knx_model.specs.Device.{blank_object, loaded_object};
-ghost use Rattle.knx_model.specs.Bench.{front_of_load};
+ghost use Rattle.knx_model.specs.Loading.{load_step, load_torn, memory_written, memory_torn, takes_write, allocates, has_range, octets_of, overlaid, capacity_of, with_memory, is_loaded};
+ghost use Rattle.knx_model.specs.DeviceState.{blank_object, loaded_object};
+ghost use Rattle.knx_model.specs.Device.{front_of_load};
 
 use knx_model::{LoadEvent, LoadState, NoMemory, front};
 use load_machine::LoadMachine;
@@ -146,7 +146,7 @@ impl Loadable {
 
     /// Takes a memory write.
     pub fn write(&mut self, at: usize, octets: &[u8])
-        ensures { self.new ≡ written self.old at octets.now }
+        ensures { self.new ≡ memory_written self.old at octets.now }
     {
         if self.takes_write(at, octets.len()) {
             overlay(self.memory.as_mut_slice(), at, octets);
@@ -155,7 +155,7 @@ impl Loadable {
 
     /// Takes a memory write of n octets, in whose range these octets then stand.
     pub fn write_torn(&mut self, at: usize, n: usize, octets: &[u8])
-        ensures { self.new ≡ scribbled self.old at n octets.now }
+        ensures { self.new ≡ memory_torn self.old at n octets.now }
     {
         if self.takes_write(at, n) {
             overlay(self.memory.as_mut_slice(), at, front(octets, n));

@@ -1,7 +1,7 @@
 //! Which loadable object an object index or a memory address names.
 
 ghost use Rattle.std.specs.Prelude.{◌≡◌, ◌≤◌, IfSome};
-ghost use Rattle.knx_model.specs.Device.{base, object_of_index, object_at};
+ghost use Rattle.knx_model.specs.Device.{segment_base, object_of_index, object_at};
 
 use knx_model::LoadableObject;
 
@@ -21,7 +21,7 @@ pub fn object_of_index(index: u8) -> Option<LoadableObject>
 /// The object in whose memory an address lies.
 pub fn object_at(address: u16) -> Option<LoadableObject>
     ensures object { result ≡ object_at address }
-    ensures base { IfSome result (λ o. base o ≤ address) }
+    ensures base { IfSome result (λ o. segment_base o ≤ address) }
 {
     match address {
         0x4000..=0x4FFF => Some(LoadableObject::AddressTable),

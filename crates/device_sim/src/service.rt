@@ -1,8 +1,7 @@
 //! What octets with transport bits 0 ask a device to do.
 
 ghost use Rattle.std.specs.Prelude.{◌≡◌, IfOk};
-ghost use Rattle.knx_model.specs.Device.{effect_in};
-ghost use Rattle.knx_model.specs.Bench.{written_front};
+ghost use Rattle.knx_model.specs.Device.{effect_in, written_front};
 ghost use Rattle.device_sim.specs.Effects.{meant};
 
 use crate::effect::{Effect, effect_of, front_of};

@@ -15,7 +15,7 @@ use Rattle.knx_model.specs.declared.config.ObjSpec.{ObjSpec}
 use Rattle.knx_model.specs.declared.script.GroupService.{GroupService}
 use Rattle.knx_model.specs.declared.script.GroupService.TheVariants.{Read, Write, Response}
 use Rattle.knx_model.specs.Tables.{StandsFor, raw_of, two, place, pair, place_and_object, address_list, association_list, object_octets, object_list}
-use Rattle.knx_model.specs.Acts.{numbers, first_entries, addresses, in_pairs, first_pairs, pairs, in_specs, objects, at_place, names, links_to, is_object_number, numbered, is_linked, is_linked_in, object_in_table, IsInRange, may_answer, lowest_answering, object_numbers}
+use Rattle.knx_model.specs.Acts.{numbers, first_entries, addresses, in_pairs, first_pairs, pairs, in_specs, objects, at_place, is_pair_of, is_link_of, is_object_number, object_of_number, is_linked, is_linked_in, object_in_table, IsInRange, may_answer, lowest_answering, object_numbers}
 use Rattle.device_tables.proofs.Counting.{there}
 use Rattle.device_tables.proofs.ObjectTable.{is_number}
 use Rattle.device_tables.proofs.Pigeonhole.{at_most}
@@ -77,12 +77,12 @@ find_at_index (x ∷ xs) g (suc k) lt e = elim (cases_Bool (eqb x g)) [
 stands_at : (groups : List ℕ) (g : ℕ) → Contains groups g → slice_get groups (position_or_len (λ x. eqb x g) groups) ≡ Some g
 stands_at groups g c = sym (find_at (λ x. eqb x g) groups) ∙ find_at_index groups g c.0 c.1 c.2
 
-names_link : (groups : List ℕ) (g o : ℕ) (l : LinkSpec) → Contains groups (raw_of l) → names groups g o (place_and_object groups l) ≡ links_to g o l
+names_link : (groups : List ℕ) (g o : ℕ) (l : LinkSpec) → Contains groups (raw_of l) → is_pair_of groups g o (place_and_object groups l) ≡ is_link_of g o l
 names_link groups g o l c =
     let at : at_place groups (place groups (raw_of l)) ≡ Some (raw_of l) = rw add-one (stands_at groups (raw_of l) c) in
     ap (λ address. eqb l.object o && option_map_or (λ x. eqb x g) address false) at
 
-any_link : (groups : List ℕ) (g o : ℕ) (order : List LinkSpec) → ((l : LinkSpec) → Contains order l → Contains groups (raw_of l)) → list_any (names groups g o) (map (place_and_object groups) order) ≡ list_any (links_to g o) order
+any_link : (groups : List ℕ) (g o : ℕ) (order : List LinkSpec) → ((l : LinkSpec) → Contains order l → Contains groups (raw_of l)) → list_any (is_pair_of groups g o) (map (place_and_object groups) order) ≡ list_any (is_link_of g o) order
 any_link groups g o [] listed = refl
 any_link groups g o (l ∷ ls) listed = λ i. names_link groups g o l (listed l (0, omega arith, refl)) i || any_link groups g o ls (λ m c. listed m (suc c.0, omega (arith, c.1), c.2)) i
 
@@ -116,12 +116,12 @@ linked_is config image s r g o =
     ) in
     let read : addresses image.addr ≡ s.groups = ap addresses s.addresses ∙ addresses_are s.groups few small in
     let paired : pairs image.assoc ≡ map (place_and_object s.groups) s.order = ap pairs s.associations ∙ pairs_are s.groups s.order few_pairs numbers_small in
-    let same : list_any (names (addresses image.addr) g o) (pairs image.assoc) ≡ list_any (links_to g o) config.links =
-    (λ i. list_any (names (read i) g o) (paired i)) ∙ any_link s.groups g o s.order listed ∙ sym (list_any-IsPermutation (links_to g o) config.links s.order s.each_link) in
+    let same : list_any (is_pair_of (addresses image.addr) g o) (pairs image.assoc) ≡ list_any (is_link_of g o) config.links =
+    (λ i. list_any (is_pair_of (read i) g o) (paired i)) ∙ any_link s.groups g o s.order listed ∙ sym (list_any-IsPermutation (is_link_of g o) config.links s.order s.each_link) in
     ap (λ any. is_object_number o && any) same
 
-pub object_is : (config : Config) (image : Image) → StandsFor image config → IsInRange config → (o : ℕ) → object_in_table image.objs o ≡ numbered config.objects o
-object_is config image s r o = ap (λ os. numbered os o) (ap objects s.objects ∙ objects_are config.objects r.few_objects)
+pub object_is : (config : Config) (image : Image) → StandsFor image config → IsInRange config → (o : ℕ) → object_in_table image.objs o ≡ object_of_number config.objects o
+object_is config image s r o = ap (λ os. object_of_number os o) (ap objects s.objects ∙ objects_are config.objects r.few_objects)
 
 -- ---- what a telegram acts on is the same. A number that no object has needn't be asked for a link
 
@@ -130,7 +130,7 @@ guarded true linked f o = refl
 guarded false true f o = refl
 guarded false false f o = refl
 
-pub acts_alike : (config : Config) (image : Image) → StandsFor image config → IsInRange config → (g o : ℕ) (f : ObjSpec → Bool) → (is_linked_in image.addr image.assoc g o && option_map_or f (object_in_table image.objs o) false) ≡ (is_linked config g o && option_map_or f (numbered config.objects o) false)
+pub acts_alike : (config : Config) (image : Image) → StandsFor image config → IsInRange config → (g o : ℕ) (f : ObjSpec → Bool) → (is_linked_in image.addr image.assoc g o && option_map_or f (object_in_table image.objs o) false) ≡ (is_linked config g o && option_map_or f (object_of_number config.objects o) false)
 acts_alike config image s r g o f =
     (λ i. linked_is config image s r g o i && option_map_or f (object_is config image s r o i) false)
     ∙ guarded (is_object_number o) (is_linked config g o) f (at_place config.objects o)
@@ -142,17 +142,17 @@ same_lowest linked linked' object object' alike (Response value) = refl
 
 -- ---- some link is of the object and the group
 
-pub some_link : (g o : ℕ) (links : List LinkSpec) → list_any (links_to g o) links ≡ true → (l : LinkSpec) × Contains links l × (l.object ≡ o) × (raw_of l ≡ g)
+pub some_link : (g o : ℕ) (links : List LinkSpec) → list_any (is_link_of g o) links ≡ true → (l : LinkSpec) × Contains links l × (l.object ≡ o) × (raw_of l ≡ g)
 some_link g o [] e = absurd (cc)
-some_link g o (l ∷ ls) e = elim (or_cases (links_to g o l) (list_any (links_to g o) ls) e) [
+some_link g o (l ∷ ls) e = elim (or_cases (is_link_of g o l) (list_any (is_link_of g o) ls) e) [
   | inl here ↦ let both = and_parts (eqb l.object o) (eqb (raw_of l) g) here in (l, (0, omega arith, refl), eqb-true l.object o both.0, eqb-true (raw_of l) g both.1)
   | inr later ↦ let h = some_link g o ls later in (h.0, (suc h.1.0, omega (arith, h.1.1), h.1.2), h.2, h.3)
 ]
 
-pub from_link : (g o : ℕ) (links : List LinkSpec) (l : LinkSpec) → Contains links l → l.object ≡ o → raw_of l ≡ g → list_any (links_to g o) links ≡ true
+pub from_link : (g o : ℕ) (links : List LinkSpec) (l : LinkSpec) → Contains links l → l.object ≡ o → raw_of l ≡ g → list_any (is_link_of g o) links ≡ true
 from_link g o links l c object group =
-    let at : links_to g o l ≡ true = and_from (eqb l.object o) (eqb (raw_of l) g) (eq-eqb l.object o object) (eq-eqb (raw_of l) g group) in
-    list_any_at (links_to g o) links c.0 l c.1 (rw c.2 at)
+    let at : is_link_of g o l ≡ true = and_from (eqb l.object o) (eqb (raw_of l) g) (eq-eqb l.object o object) (eq-eqb (raw_of l) g group) in
+    list_any_at (is_link_of g o) links c.0 l c.1 (rw c.2 at)
 
 pub linked_exactly : (config : Config) (image : Image) → StandsFor image config → IsInRange config → (g o : ℕ) → 1 ≤ o → o ≤ 255 → is_linked_in image.addr image.assoc g o ≡ is_linked config g o
 linked_exactly config image s r g o from to = linked_is config image s r g o ∙ ap (λ test. test && is_linked config g o) (is_number o from to)

@@ -1,7 +1,7 @@
 //! The objects that are linked to a group.
 
 ghost use Rattle.std.specs.Prelude.{◌≡◌, ℕ, ◌&&◌, ◌||◌};
-ghost use Rattle.knx_model.specs.Acts.{addresses, names, is_object_number, is_linked_in};
+ghost use Rattle.knx_model.specs.Acts.{addresses, is_pair_of, is_object_number, is_linked_in};
 ghost use Rattle.device_tables.specs.Objects.{holds};
 
 use crate::objects::Objects;
@@ -10,7 +10,7 @@ use knx_model::GroupAddr;
 
 /// Takes the object of a pair into the set where the pair's place is of the group.
 fn note(objects: &mut Objects, addr: &[u8], group: GroupAddr, pair: (u16, u16))
-    ensures { (o : ℕ) → holds objects.new o ≡ (holds objects.old o || (is_object_number o && names (addresses addr.now) group.raw o pair)) }
+    ensures { (o : ℕ) → holds objects.new o ≡ (holds objects.old o || (is_object_number o && is_pair_of (addresses addr.now) group.raw o pair)) }
 {
     let (place, object) = pair;
     if object >= 1 && object <= 255 && address_at(addr, place) == Some(group.raw) {

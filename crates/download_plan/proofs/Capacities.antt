@@ -7,14 +7,14 @@ use Rattle.knx_model.specs.declared.loading.LoadableObject.{LoadableObject}
 use Rattle.knx_model.specs.declared.loading.LoadableObject.TheVariants.{AddressTable, AssociationTable, GroupObjects, Application}
 use Rattle.knx_model.specs.declared.bench.BenchEvent.{BenchEvent}
 use Rattle.knx_model.specs.declared.bench.BenchEvent.TheVariants.{Give, GiveTorn, On}
-use Rattle.knx_model.specs.Loading.{Loadable, capacity_of, with_state, with_memory, allocated, allocates, load_step, load_torn, old_or_new, takes_write, written, scribbled, overlaid}
-use Rattle.knx_model.specs.Device.{NonVolatile, DeviceState, Effect, Loads, Stores, Nothing, object, with_object, base, object_at, at_address, whole, torn, effect_in}
+use Rattle.knx_model.specs.Loading.{Loadable, capacity_of, with_state, with_memory, allocated, allocates, load_step, load_torn, old_or_new, takes_write, memory_written, memory_torn, overlaid}
+use Rattle.knx_model.specs.Device.{NonVolatile, Effect, Loads, Stores, Nothing, loadable, with_loadable, segment_base, object_at, at_address, whole, torn, effect_in, HasCapacities}
+use Rattle.knx_model.specs.DeviceState.{DeviceState}
 use Rattle.knx_model.specs.Bench.{happens, replay, with_kept}
-use Rattle.knx_model.specs.Plan.{HasCapacities}
 use Rattle.download_plan.proofs.Lists.{length-overlaid}
 use Rattle.download_plan.proofs.Filling.{allocates_within}
 
-same_capacities : (nv : NonVolatile) (o : LoadableObject) (p : Loadable) → capacity_of p ≡ capacity_of (object nv o) → HasCapacities nv → HasCapacities (with_object nv o p)
+same_capacities : (nv : NonVolatile) (o : LoadableObject) (p : Loadable) → capacity_of p ≡ capacity_of (loadable nv o) → HasCapacities nv → HasCapacities (with_loadable nv o p)
 same_capacities nv AddressTable p e h = record { addr = e ∙ h.addr; assoc = h.assoc; objs = h.objs; params = h.params }
 same_capacities nv AssociationTable p e h = record { addr = h.addr; assoc = e ∙ h.assoc; objs = h.objs; params = h.params }
 same_capacities nv GroupObjects p e h = record { addr = h.addr; assoc = h.assoc; objs = e ∙ h.objs; params = h.params }
@@ -61,18 +61,18 @@ torn_capacity p (Allocate n fill) fresh octets =
 -- a memory write changes the object in whose memory the address lies, if any
 changed_capacities : (nv : NonVolatile) (a : ℕ) (change : Loadable → ℕ → Loadable) → ((p : Loadable) (at : ℕ) → capacity_of (change p at) ≡ capacity_of p) → HasCapacities nv → HasCapacities (at_address nv a change)
 changed_capacities nv a change k h =
-    elim (object_at a) as (λ found. HasCapacities (elim found as (λ _. NonVolatile) [ None ↦ nv | Some o ↦ with_object nv o (change (object nv o) (a - base o)) ]))
-    [ None ↦ h | Some o ↦ same_capacities nv o (change (object nv o) (a - base o)) (k (object nv o) (a - base o)) h ]
+    elim (object_at a) as (λ found. HasCapacities (elim found as (λ _. NonVolatile) [ None ↦ nv | Some o ↦ with_loadable nv o (change (loadable nv o) (a - segment_base o)) ]))
+    [ None ↦ h | Some o ↦ same_capacities nv o (change (loadable nv o) (a - segment_base o)) (k (loadable nv o) (a - segment_base o)) h ]
 
 whole_capacities : (nv : NonVolatile) (e : Effect) → HasCapacities nv → HasCapacities (whole nv e)
-whole_capacities nv (Loads o e) h = same_capacities nv o (load_step (object nv o) e) (load_capacity (object nv o) e) h
-whole_capacities nv (Stores a octets) h = changed_capacities nv a (λ p at. written p at octets) (λ p at. laid_capacity (takes_write p at (length octets)) p at octets) h
+whole_capacities nv (Loads o e) h = same_capacities nv o (load_step (loadable nv o) e) (load_capacity (loadable nv o) e) h
+whole_capacities nv (Stores a octets) h = changed_capacities nv a (λ p at. memory_written p at octets) (λ p at. laid_capacity (takes_write p at (length octets)) p at octets) h
 whole_capacities nv Nothing h = h
 
 torn_capacities : (nv : NonVolatile) (e : Effect) (fresh : Bool) (octets : List ℕ) → HasCapacities nv → HasCapacities (torn nv e fresh octets)
-torn_capacities nv (Loads o e) fresh octets h = same_capacities nv o (load_torn (object nv o) e fresh octets) (torn_capacity (object nv o) e fresh octets) h
+torn_capacities nv (Loads o e) fresh octets h = same_capacities nv o (load_torn (loadable nv o) e fresh octets) (torn_capacity (loadable nv o) e fresh octets) h
 torn_capacities nv (Stores a asked) fresh octets h =
-    changed_capacities nv a (λ p at. scribbled p at (length asked) octets) (λ p at. laid_capacity (takes_write p at (length asked)) p at (take (length asked) octets)) h
+    changed_capacities nv a (λ p at. memory_torn p at (length asked) octets) (λ p at. laid_capacity (takes_write p at (length asked)) p at (take (length asked) octets)) h
 torn_capacities nv Nothing fresh octets h = h
 
 -- whatever happens, each object's memory keeps its capacity

@@ -11,7 +11,7 @@ use Rattle.knx_model.specs.declared.loading.LoadableObject.{LoadableObject}
 use Rattle.knx_model.specs.declared.frames.tpdu.Apdu.{Apdu}
 use Rattle.knx_model.specs.declared.frames.tpdu.Apdu.TheVariants.{MemoryRead, MemoryResponse, MemoryWrite, PropertyRead, PropertyResponse}
 use Rattle.knx_model.specs.Loading.{Loadable, octets_of, capacity_of, is_loading, is_loaded, with_state, with_memory, allocated, allocates, load_step, state_number, takes_write, overlaid}
-use Rattle.knx_model.specs.Device.{NonVolatile, Loads, Stores, Nothing, object, with_object, object_index, base, capacity, table_reference}
+use Rattle.knx_model.specs.Device.{NonVolatile, Loads, Stores, Nothing, loadable, with_loadable, object_index, segment_base, capacity, table_reference}
 use Rattle.knx_model.specs.Plan.{Operation, loads, reads_base, piece, piece_count, writes_piece, reads_piece, each_piece, filling}
 use Rattle.download_plan.specs.Step.{IsShort}
 use Rattle.download_plan.proofs.Lists.{take_length, length-overlaid, take_piece, piece_room}
@@ -46,9 +46,9 @@ pub same_octets : (a b : ℕ) (xs ys : List ℕ) → Some (MemoryResponse a xs) 
 same_octets a b xs ys e = cc
 
 -- a load event at one object
-pub load_leads : (R : NonVolatile → Type 0) (nv : NonVolatile) (o : LoadableObject) (p : Loadable) (e : LoadEvent) (s : LoadState) (ops : List Operation) → IsShort e → IsStopped (with_object nv o p) → IsStopped (with_object nv o (load_step p e)) → ((load_step p e).state ≡ s → OperationsLead IsStopped R ops (with_object nv o (load_step p e))) → OperationsLead IsStopped R (loads o e s ∷ ops) (with_object nv o p)
+pub load_leads : (R : NonVolatile → Type 0) (nv : NonVolatile) (o : LoadableObject) (p : Loadable) (e : LoadEvent) (s : LoadState) (ops : List Operation) → IsShort e → IsStopped (with_loadable nv o p) → IsStopped (with_loadable nv o (load_step p e)) → ((load_step p e).state ≡ s → OperationsLead IsStopped R ops (with_loadable nv o (load_step p e))) → OperationsLead IsStopped R (loads o e s ∷ ops) (with_loadable nv o p)
 load_leads R nv o p e s ops i h k f =
-    leads_step R (load_service o e) (Some (state_answer o s)) ops (with_object nv o p) (Loads o e) (λ _. with_object nv o (load_step p e)) (Some (state_answer o (load_step p e).state)) (effect_load o e i) (whole_load nv o p e) (λ _. whole_load nv o p e) (answer_load nv o p e i) h (λ _. k) (λ _ q. f (same_state o _ _ q))
+    leads_step R (load_service o e) (Some (state_answer o s)) ops (with_loadable nv o p) (Loads o e) (λ _. with_loadable nv o (load_step p e)) (Some (state_answer o (load_step p e).state)) (effect_load o e i) (whole_load nv o p e) (λ _. whole_load nv o p e) (answer_load nv o p e i) h (λ _. k) (λ _ q. f (same_state o _ _ q))
 
 pub not_loaded : (s : LoadState) → s ≡ Loading → is_loaded s ≡ false
 not_loaded s e = rw e refl
@@ -101,13 +101,13 @@ allocated_is p n fill =
 
 -- the pieces are written: the object stays allocated, whatever octets stand there
 pub writes_lead : (R : NonVolatile → Type 0) (nv : NonVolatile) (o : LoadableObject) (list : List ℕ) (k n : ℕ) (p : Loadable) (ops : List Operation) → IsStopped nv → length list ≤ capacity o → k + n ≡ piece_count list → IsAllocated (length list) p
-    → ((q : Loadable) → IsAllocated (length list) q → OperationsLead IsStopped R ops (with_object nv o q))
-    → OperationsLead IsStopped R (map (writes_piece o list) (range_with_len k n) ++ ops) (with_object nv o p)
+    → ((q : Loadable) → IsAllocated (length list) q → OperationsLead IsStopped R ops (with_loadable nv o q))
+    → OperationsLead IsStopped R (map (writes_piece o list) (range_with_len k n) ++ ops) (with_loadable nv o p)
 writes_lead R nv o list k zero p ops h r b a f = f p a
 writes_lead R nv o list k (suc n) p ops h r b a f =
     let os : List ℕ = piece list k in
     let t : (wear : Option (List ℕ)) → IsAllocated (length list) (kept p (12 * k) os wear) = λ wear. kept_allocated (length list) p (12 * k) os wear a in
-    leads_step R (MemoryWrite (base o + 12 * k) os) None (map (writes_piece o list) (range_with_len (k + 1) n) ++ ops) (with_object nv o p) (Stores (base o + 12 * k) os) (λ wear. with_object nv o (kept p (12 * k) os wear)) None
+    leads_step R (MemoryWrite (segment_base o + 12 * k) os) None (map (writes_piece o list) (range_with_len (k + 1) n) ++ ops) (with_loadable nv o p) (Stores (segment_base o + 12 * k) os) (λ wear. with_loadable nv o (kept p (12 * k) os wear)) None
     refl (whole_write nv o p (12 * k) os (omega arith)) (λ wear. taken_write nv o p (12 * k) os wear (omega arith)) refl
     (stopped_with nv o p h (not_loaded _ a.state)) (λ wear. stopped_with nv o (kept p (12 * k) os wear) h (not_loaded _ (t wear).state))
     (λ wear _. writes_lead R nv o list (k + 1) n (kept p (12 * k) os wear) ops h r (omega arith) (t wear) f)
@@ -115,7 +115,7 @@ writes_lead R nv o list k (suc n) p ops h r b a f =
 -- the object is Loading and holds the list
 pub record IsFilled (nv : NonVolatile) (o : LoadableObject) (list : List ℕ) (new : NonVolatile) : Type 0 where
   pub p : Loadable
-  pub is : new ≡ with_object nv o p
+  pub is : new ≡ with_loadable nv o p
   pub state : p.state ≡ Loading
   pub octets : octets_of p ≡ list
 
@@ -140,23 +140,23 @@ front_is xs list n l h e = sym (take_all n xs (omega arith)) ∙ (e ∙ take_all
 
 -- the pieces are read back
 pub reads_lead : (nv : NonVolatile) (o : LoadableObject) (list : List ℕ) (k n : ℕ) (p : Loadable) → IsStopped nv → length list ≤ capacity o → k + n ≡ piece_count list → IsAllocated (length list) p → take (12 * k) (octets_of p) ≡ take (12 * k) list
-    → OperationsLead IsStopped (IsFilled nv o list) (map (reads_piece o list) (range_with_len k n)) (with_object nv o p)
+    → OperationsLead IsStopped (IsFilled nv o list) (map (reads_piece o list) (range_with_len k n)) (with_loadable nv o p)
 reads_lead nv o list k zero p h r b a e =
     (stopped_with nv o p h (not_loaded _ a.state), record { p = p; is = refl; state = a.state; octets = front_is (octets_of p) list (12 * k) (allocated_octets (length list) p a) (omega arith) e })
 reads_lead nv o list k (suc n) p h r b a e =
     let stop = stopped_with nv o p h (not_loaded _ a.state) in
     let m : ℕ = length (piece list k) in
     let long : length (octets_of p) ≡ length list = allocated_octets (length list) p a in
-    leads_step (IsFilled nv o list) (MemoryRead m (base o + 12 * k)) (Some (MemoryResponse (base o + 12 * k) (piece list k))) (map (reads_piece o list) (range_with_len (k + 1) n)) (with_object nv o p) Nothing (λ _. with_object nv o p) (Some (MemoryResponse (base o + 12 * k) (read_octets p (12 * k) m)))
+    leads_step (IsFilled nv o list) (MemoryRead m (segment_base o + 12 * k)) (Some (MemoryResponse (segment_base o + 12 * k) (piece list k))) (map (reads_piece o list) (range_with_len (k + 1) n)) (with_loadable nv o p) Nothing (λ _. with_loadable nv o p) (Some (MemoryResponse (segment_base o + 12 * k) (read_octets p (12 * k) m)))
     refl refl (λ _. refl) (answer_read nv o p (12 * k) m (omega arith)) stop (λ _. stop)
     (λ _ g. reads_lead nv o list (k + 1) n p h r (omega arith) a
     (next_front (octets_of p) list k (piece_read (octets_of p) list k long
-    (sym (read_is p (12 * k) m (omega (arith, piece_fits list k (omega arith), a.len))) ∙ same_octets (base o + 12 * k) (base o + 12 * k) _ _ g) e)))
+    (sym (read_is p (12 * k) m (omega (arith, piece_fits list k (omega arith), a.len))) ∙ same_octets (segment_base o + 12 * k) (segment_base o + 12 * k) _ _ g) e)))
 
 pub filling_leads : (nv : NonVolatile) (o : LoadableObject) (list : List ℕ) → IsStopped nv → length list ≤ capacity o → length list < 0x10000 → OperationsLead IsStopped (IsFilled nv o list) (filling o list) nv
 unfolding filling
 filling_leads nv o list h r i =
-    let p0 : Loadable = object nv o in
+    let p0 : Loadable = loadable nv o in
     let p1 : Loadable = record { state = Unloaded; len = 0; memory = p0.memory } in
     let p2 : Loadable = with_state p1 Loading in
     let p3 : Loadable = allocated p2 (length list) 0 in
@@ -165,16 +165,16 @@ filling_leads nv o list h r i =
     let ops3 : List Operation = reads_base o ∷ rest in
     let ops2 : List Operation = loads o (Allocate (length list) 0) Loading ∷ ops3 in
     let ops1 : List Operation = loads o StartLoading Loading ∷ ops2 in
-    let s1 : IsStopped (with_object nv o p1) = stopped_with nv o p1 h refl in
-    let s2 : IsStopped (with_object nv o p2) = stopped_with nv o p2 h refl in
-    let s3 : IsStopped (with_object nv o p3) = stopped_with nv o p3 h (allocated_stopped p2 (length list) 0 refl) in
-    let last : p3.state ≡ Loading → OperationsLead IsStopped R rest (with_object nv o p3)
+    let s1 : IsStopped (with_loadable nv o p1) = stopped_with nv o p1 h refl in
+    let s2 : IsStopped (with_loadable nv o p2) = stopped_with nv o p2 h refl in
+    let s3 : IsStopped (with_loadable nv o p3) = stopped_with nv o p3 h (allocated_stopped p2 (length list) 0 refl) in
+    let last : p3.state ≡ Loading → OperationsLead IsStopped R rest (with_loadable nv o p3)
     = λ a. writes_lead R nv o list 0 (piece_count list) p3 (each_piece (reads_piece o list) list) h r (omega arith) (allocated_is p2 (length list) 0 a)
     (λ q t. reads_lead nv o list 0 (piece_count list) q h r (omega arith) t refl) in
     let based : Option Apdu = Some (PropertyResponse (object_index o) 7 1 1 (table_reference o)) in
-    let third : p3.state ≡ Loading → OperationsLead IsStopped R ops3 (with_object nv o p3)
-    = λ a. leads_step R (PropertyRead (object_index o) 7 1 1) based rest (with_object nv o p3) Nothing (λ _. with_object nv o p3) based refl refl (λ _. refl) (answer_base (with_object nv o p3) o) s3 (λ _. s3) (λ _ _. last a) in
-    let start : IsStopped (with_object nv o p0) = subst IsStopped (sym (with_same nv o)) h in
+    let third : p3.state ≡ Loading → OperationsLead IsStopped R ops3 (with_loadable nv o p3)
+    = λ a. leads_step R (PropertyRead (object_index o) 7 1 1) based rest (with_loadable nv o p3) Nothing (λ _. with_loadable nv o p3) based refl refl (λ _. refl) (answer_base (with_loadable nv o p3) o) s3 (λ _. s3) (λ _ _. last a) in
+    let start : IsStopped (with_loadable nv o p0) = subst IsStopped (sym (with_same nv o)) h in
     subst (OperationsLead IsStopped R (filling o list)) (with_same nv o)
     (load_leads R nv o p0 Unload Unloaded ops1 tt start s1
     (λ _. load_leads R nv o p1 StartLoading Loading ops2 tt s1 s2

@@ -5,7 +5,7 @@ use Rattle.knx_model.specs.declared.loading.LoadEvent.TheVariants.{LoadCompleted
 use Rattle.knx_model.specs.declared.loading.LoadableObject.{LoadableObject}
 use Rattle.knx_model.specs.declared.loading.LoadableObject.TheVariants.{AddressTable, AssociationTable, GroupObjects, Application}
 use Rattle.knx_model.specs.Loading.{Loadable, octets_of, load_step, old_or_new}
-use Rattle.knx_model.specs.Device.{NonVolatile, Loads, object, with_object, capacity, runs, whole, Fits}
+use Rattle.knx_model.specs.Device.{NonVolatile, Loads, loadable, with_loadable, capacity, runs, whole, Fits}
 use Rattle.knx_model.specs.Plan.{loads, filling, loading, load_operations, OldStoppedOrImage}
 use Rattle.download_plan.proofs.Steps.{IsStopped, OperationsLead, runs_nothing, with_same, leads-append, leads-weaker}
 use Rattle.download_plan.proofs.Filling.{load_leads, filling_leads, IsFilled, not_loaded}
@@ -13,7 +13,7 @@ use Rattle.download_plan.proofs.Filling.{load_leads, filling_leads, IsFilled, no
 -- the object is Loaded with the list
 pub record IsLoaded (nv : NonVolatile) (o : LoadableObject) (list : List ℕ) (new : NonVolatile) : Type 0 where
   pub p : Loadable
-  pub is : new ≡ with_object nv o p
+  pub is : new ≡ with_loadable nv o p
   pub state : p.state ≡ Loaded
   pub octets : octets_of p ≡ list
 
@@ -25,11 +25,11 @@ capacity_short GroupObjects n h = omega arith
 capacity_short Application n h = omega arith
 
 -- loading an object of a device that stays stopped whatever that object becomes
-pub loading_leads : (nv : NonVolatile) (o : LoadableObject) (list : List ℕ) → ((q : Loadable) → IsStopped (with_object nv o q)) → length list ≤ capacity o → OperationsLead IsStopped (IsLoaded nv o list) (loading o list) nv
+pub loading_leads : (nv : NonVolatile) (o : LoadableObject) (list : List ℕ) → ((q : Loadable) → IsStopped (with_loadable nv o q)) → length list ≤ capacity o → OperationsLead IsStopped (IsLoaded nv o list) (loading o list) nv
 unfolding loading
 loading_leads nv o list h r =
     leads-append IsStopped (IsFilled nv o list) (IsLoaded nv o list) (filling o list) (loads o LoadCompleted Loaded ∷ []) nv
-    (filling_leads nv o list (subst IsStopped (with_same nv o) (h (object nv o))) r (capacity_short o (length list) r))
+    (filling_leads nv o list (subst IsStopped (with_same nv o) (h (loadable nv o))) r (capacity_short o (length list) r))
     (λ u f. subst (OperationsLead IsStopped (IsLoaded nv o list) (loads o LoadCompleted Loaded ∷ [])) (sym f.is)
     (load_leads (IsLoaded nv o list) nv o f.p LoadCompleted Loaded [] tt (h f.p) (h (load_step f.p LoadCompleted))
     (λ s. (h (load_step f.p LoadCompleted), record { p = load_step f.p LoadCompleted; is = refl; state = s; octets = f.octets }))))
@@ -46,18 +46,18 @@ new_case : (start : NonVolatile) (image : Image) (u : NonVolatile) → runs u �
 new_case start image u h = inr (inr h)
 
 -- the completion of the application, torn or not
-pub final_leads : (start nv : NonVolatile) (image : Image) (p : Loadable) → IsStopped (with_object nv Application p) → runs (with_object nv Application (load_step p LoadCompleted)) ≡ Some image
-    → OperationsLead (OldStoppedOrImage start image) (λ u. runs u ≡ Some image) (loads Application LoadCompleted Loaded ∷ []) (with_object nv Application p)
+pub final_leads : (start nv : NonVolatile) (image : Image) (p : Loadable) → IsStopped (with_loadable nv Application p) → runs (with_loadable nv Application (load_step p LoadCompleted)) ≡ Some image
+    → OperationsLead (OldStoppedOrImage start image) (λ u. runs u ≡ Some image) (loads Application LoadCompleted Loaded ∷ []) (with_loadable nv Application p)
 final_leads start nv image p h k = (
   stopped_case start image _ h,
-  λ fresh octets. elim fresh as (λ v. OldStoppedOrImage start image (with_object nv Application (old_or_new v p (load_step p LoadCompleted)))) [ true ↦ new_case start image _ k | false ↦ stopped_case start image _ h ],
+  λ fresh octets. elim fresh as (λ v. OldStoppedOrImage start image (with_loadable nv Application (old_or_new v p (load_step p LoadCompleted)))) [ true ↦ new_case start image _ k | false ↦ stopped_case start image _ h ],
   λ _. new_case start image _ k,
   λ _ _. (new_case start image _ k, k),
 )
 
 -- the last object: before its completion the device is stopped, after it the device runs the image
 pub last_leads : (start nv : NonVolatile) (image : Image) (list : List ℕ) → IsStopped nv → length list ≤ capacity Application
-    → ((q : Loadable) → q.state ≡ Loaded → octets_of q ≡ list → runs (with_object nv Application q) ≡ Some image)
+    → ((q : Loadable) → q.state ≡ Loaded → octets_of q ≡ list → runs (with_loadable nv Application q) ≡ Some image)
     → OperationsLead (OldStoppedOrImage start image) (λ u. runs u ≡ Some image) (loading Application list) nv
 unfolding loading
 last_leads start nv image list h r k =
@@ -95,7 +95,7 @@ operations_good image fits start =
       λ _. inl refl,
       λ _ _. (
         inl refl,
-        λ fresh octets. elim fresh as (λ v. P (with_object start Application (old_or_new v start.application (load_step start.application Unload)))) [ true ↦ c1 | false ↦ inl refl ],
+        λ fresh octets. elim fresh as (λ v. P (with_loadable start Application (old_or_new v start.application (load_step start.application Unload)))) [ true ↦ c1 | false ↦ inl refl ],
         λ _. c1,
         λ _ _. tables,
       ),

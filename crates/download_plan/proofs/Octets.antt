@@ -13,8 +13,8 @@ use Rattle.knx_model.specs.declared.plan.Op.TheVariants.{Send}
 use Rattle.knx_model.specs.Apdu.{IsApduInRange, word}
 use Rattle.knx_model.specs.ApduReading.{service_in, apdu_octets, option_map}
 use Rattle.knx_model.specs.Loading.{octets_of, has_range}
-use Rattle.knx_model.specs.Device.{NonVolatile, Effect, object, base, object_at, object_of_index, object_type, load_state, table_reference, is_load_control, effect_of, effect_in, effect_at, answer, answer_in, answer_at, whole, torn, taken, runs, range_octets, property_value, property_response, where_one, Fits}
-use Rattle.knx_model.specs.Plan.{Operation, op_of, expect_of, expected_of, loads, piece, piece_count, writes_piece, reads_piece, each_piece, filling, loading, load_operations, load_plan, Leads, Serves, GoodPlan, OldStoppedOrImage, HasCapacities}
+use Rattle.knx_model.specs.Device.{NonVolatile, Effect, loadable, segment_base, object_at, object_of_index, object_type, load_state, table_reference, is_load_control, effect_of, effect_in, effect_at, answer, answer_in, answer_at, whole, torn, taken_over, runs, range_octets, property_value, property_response, where_one, Fits, HasCapacities}
+use Rattle.knx_model.specs.Plan.{Operation, op_of, expect_of, expected_of, loads, piece, piece_count, writes_piece, reads_piece, each_piece, filling, loading, load_operations, load_plan, Leads, Serves, GoodPlan, OldStoppedOrImage}
 use Rattle.apdu_frames.proofs.Function.{service_again}
 use Rattle.download_plan.proofs.Steps.{length_load, OperationsLead, OperationsServe}
 use Rattle.download_plan.proofs.Good.{operations_good}
@@ -40,10 +40,10 @@ options_apart (Some s) (Some t) h k e = octets_apart s t h k (some_apart (apdu_o
 -- what a device answers to a service in range is in range
 range_short : (nv : NonVolatile) (a n : ℕ) → length (range_octets nv a n) ≤ n
 range_short nv a n =
-    elim (object_at a) as (λ found. length (elim found as (λ _. List ℕ) [ None ↦ [] | Some o ↦ if has_range (object nv o) (a - base o) n then take n (drop (a - base o) (octets_of (object nv o))) else [] ]) ≤ n) [
+    elim (object_at a) as (λ found. length (elim found as (λ _. List ℕ) [ None ↦ [] | Some o ↦ if has_range (loadable nv o) (a - segment_base o) n then take n (drop (a - segment_base o) (octets_of (loadable nv o))) else [] ]) ≤ n) [
       | None ↦ omega arith
-      | Some o ↦ elim (has_range (object nv o) (a - base o) n) as (λ v. length (if v then take n (drop (a - base o) (octets_of (object nv o))) else []) ≤ n)
-          [ true ↦ omega (arith, length-take n (drop (a - base o) (octets_of (object nv o)))) | false ↦ omega arith ]
+      | Some o ↦ elim (has_range (loadable nv o) (a - segment_base o) n) as (λ v. length (if v then take n (drop (a - segment_base o) (octets_of (loadable nv o))) else []) ≤ n)
+          [ true ↦ omega (arith, length-take n (drop (a - segment_base o) (octets_of (loadable nv o)))) | false ↦ omega arith ]
     ]
 
 -- a value of a property that has room in an answer
@@ -112,13 +112,13 @@ pub octets_lead : (P R : NonVolatile → Type 0) (ops : List Operation) (nv : No
 octets_lead P R [] nv w h = h
 octets_lead P R (x ∷ xs) nv w h =
     let effect : effect_in (apdu_octets x.service) ≡ effect_of x.service = effect_again x.service w.0.0 in
-    let t : (wear : Option (List ℕ)) → taken nv (effect_in (apdu_octets x.service)) wear ≡ taken nv (effect_of x.service) wear = λ wear. ap (λ (e : Effect). taken nv e wear) effect in
+    let t : (wear : Option (List ℕ)) → taken_over nv (effect_in (apdu_octets x.service)) wear ≡ taken_over nv (effect_of x.service) wear = λ wear. ap (λ (e : Effect). taken_over nv e wear) effect in
     let same : answer_in nv (apdu_octets x.service) ≡ expected_of (op_of x) → answer nv x.service ≡ x.expected
     = λ e. options_apart (answer nv x.service) x.expected (answer_in_range nv x.service w.0.0) w.0.1 (sym (answer_again nv x.service w.0.0) ∙ (e ∙ expected_again x.expected (apdu_octets x.service))) in (
       h.0,
       λ fresh octets. subst (λ (e : Effect). P (torn nv e fresh octets)) (sym effect) (h.1 fresh octets),
       λ wear. subst P (sym (t wear)) (h.2 wear),
-      λ wear e. subst (Leads P R (map op_of xs)) (sym (t wear)) (octets_lead P R xs (taken nv (effect_of x.service) wear) w.1 (h.3 wear (same e))),
+      λ wear e. subst (Leads P R (map op_of xs)) (sym (t wear)) (octets_lead P R xs (taken_over nv (effect_of x.service) wear) w.1 (h.3 wear (same e))),
     )
 
 pub octets_serve : (R : NonVolatile → Type 0) (ops : List Operation) (nv : NonVolatile) → AllWritable ops → OperationsServe R ops nv → Serves R (map op_of ops) nv

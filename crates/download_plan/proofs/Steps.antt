@@ -9,8 +9,8 @@ use Rattle.knx_model.specs.declared.loading.LoadableObject.{LoadableObject}
 use Rattle.knx_model.specs.declared.loading.LoadableObject.TheVariants.{AddressTable, AssociationTable, GroupObjects, Application}
 use Rattle.knx_model.specs.declared.frames.tpdu.Apdu.{Apdu}
 use Rattle.knx_model.specs.declared.frames.tpdu.Apdu.TheVariants.{MemoryRead, MemoryResponse, PropertyRead, PropertyResponse, PropertyWrite}
-use Rattle.knx_model.specs.Loading.{Loadable, octets_of, is_loaded, with_state, with_memory, allocates, load_step, load_torn, load_event, four_octets, old_or_new, state_number, has_range, takes_write, written, scribbled, overlaid}
-use Rattle.knx_model.specs.Device.{NonVolatile, Effect, Loads, Stores, Nothing, object, with_object, object_index, base, capacity, object_at, at_address, runs, effect_of, whole, torn, taken, answer, range_octets, table_reference}
+use Rattle.knx_model.specs.Loading.{Loadable, octets_of, is_loaded, with_state, with_memory, allocates, load_step, load_torn, load_event, four_octets, old_or_new, state_number, has_range, takes_write, memory_written, memory_torn, overlaid}
+use Rattle.knx_model.specs.Device.{NonVolatile, Effect, Loads, Stores, Nothing, loadable, with_loadable, object_index, segment_base, capacity, object_at, at_address, runs, effect_of, whole, torn, taken_over, answer, range_octets, table_reference}
 use Rattle.knx_model.specs.Plan.{Operation, load_octets}
 use Rattle.download_plan.specs.Step.{IsShort}
 
@@ -27,8 +27,8 @@ OperationsLead P R [] nv = P nv × R nv
 OperationsLead P R (operation ∷ operations) nv =
     P nv
     × ((fresh : Bool) (octets : List ℕ) → P (torn nv (effect_of operation.service) fresh octets))
-    × ((wear : Option (List ℕ)) → P (taken nv (effect_of operation.service) wear))
-    × ((wear : Option (List ℕ)) → answer nv operation.service ≡ operation.expected → OperationsLead P R operations (taken nv (effect_of operation.service) wear))
+    × ((wear : Option (List ℕ)) → P (taken_over nv (effect_of operation.service) wear))
+    × ((wear : Option (List ℕ)) → answer nv operation.service ≡ operation.expected → OperationsLead P R operations (taken_over nv (effect_of operation.service) wear))
 
 -- `Serves` of operations as services
 abbrev pub OperationsServe : (NonVolatile → Type 0) → List Operation → NonVolatile → Type 0
@@ -36,37 +36,37 @@ OperationsServe R [] nv = R nv
 OperationsServe R (operation ∷ operations) nv = (answer nv operation.service ≡ operation.expected) × OperationsServe R operations (whole nv (effect_of operation.service))
 
 -- one object is replaced
-pub object_with : (nv : NonVolatile) (o : LoadableObject) (p : Loadable) → object (with_object nv o p) o ≡ p
+pub object_with : (nv : NonVolatile) (o : LoadableObject) (p : Loadable) → loadable (with_loadable nv o p) o ≡ p
 object_with nv AddressTable p = refl
 object_with nv AssociationTable p = refl
 object_with nv GroupObjects p = refl
 object_with nv Application p = refl
 
-pub with_with : (nv : NonVolatile) (o : LoadableObject) (p q : Loadable) → with_object (with_object nv o p) o q ≡ with_object nv o q
+pub with_with : (nv : NonVolatile) (o : LoadableObject) (p q : Loadable) → with_loadable (with_loadable nv o p) o q ≡ with_loadable nv o q
 with_with nv AddressTable p q = refl
 with_with nv AssociationTable p q = refl
 with_with nv GroupObjects p q = refl
 with_with nv Application p q = refl
 
-pub with_same : (nv : NonVolatile) (o : LoadableObject) → with_object nv o (object nv o) ≡ nv
+pub with_same : (nv : NonVolatile) (o : LoadableObject) → with_loadable nv o (loadable nv o) ≡ nv
 with_same nv AddressTable = refl
 with_same nv AssociationTable = refl
 with_same nv GroupObjects = refl
 with_same nv Application = refl
 
-pub stopped_with : (nv : NonVolatile) (o : LoadableObject) (p : Loadable) → IsStopped nv → is_loaded p.state ≡ false → IsStopped (with_object nv o p)
+pub stopped_with : (nv : NonVolatile) (o : LoadableObject) (p : Loadable) → IsStopped nv → is_loaded p.state ≡ false → IsStopped (with_loadable nv o p)
 stopped_with nv AddressTable p h k = h
 stopped_with nv AssociationTable p h k = h
 stopped_with nv GroupObjects p h k = h
 stopped_with nv Application p h k = k
 
-pub stopped_same : (nv : NonVolatile) (o : LoadableObject) (p : Loadable) → IsStopped nv → p.state ≡ (object nv o).state → IsStopped (with_object nv o p)
+pub stopped_same : (nv : NonVolatile) (o : LoadableObject) (p : Loadable) → IsStopped nv → p.state ≡ (loadable nv o).state → IsStopped (with_loadable nv o p)
 stopped_same nv AddressTable p h e = h
 stopped_same nv AssociationTable p h e = h
 stopped_same nv GroupObjects p h e = h
 stopped_same nv Application p h e = ap is_loaded e ∙ h
 
-pub scribbled_state : (p : Loadable) (at n : ℕ) (octets : List ℕ) → (scribbled p at n octets).state ≡ p.state
+pub scribbled_state : (p : Loadable) (at n : ℕ) (octets : List ℕ) → (memory_torn p at n octets).state ≡ p.state
 scribbled_state p at n octets =
     elim (takes_write p at n) as (λ v. (if v then with_memory p (overlaid p.memory at (take n octets)) else p).state ≡ p.state) [ true ↦ refl | false ↦ refl ]
 
@@ -93,8 +93,8 @@ torn_stopped nv (Loads AssociationTable e) fresh octets h k = h
 torn_stopped nv (Loads GroupObjects e) fresh octets h k = h
 torn_stopped nv (Loads Application e) fresh octets h k = load_torn_state nv.application e fresh octets h k
 torn_stopped nv (Stores a asked) fresh octets h k =
-    elim (object_at a) as (λ found. IsStopped (elim found as (λ _. NonVolatile) [ None ↦ nv | Some o ↦ with_object nv o (scribbled (object nv o) (a - base o) (length asked) octets) ]))
-    [ None ↦ h | Some o ↦ stopped_same nv o (scribbled (object nv o) (a - base o) (length asked) octets) h (scribbled_state (object nv o) (a - base o) (length asked) octets) ]
+    elim (object_at a) as (λ found. IsStopped (elim found as (λ _. NonVolatile) [ None ↦ nv | Some o ↦ with_loadable nv o (memory_torn (loadable nv o) (a - segment_base o) (length asked) octets) ]))
+    [ None ↦ h | Some o ↦ stopped_same nv o (memory_torn (loadable nv o) (a - segment_base o) (length asked) octets) h (scribbled_state (loadable nv o) (a - segment_base o) (length asked) octets) ]
 
 -- of two lists, one after the other
 pub leads-append : (P Q R : NonVolatile → Type 0) (xs ys : List Operation) (nv : NonVolatile) → OperationsLead P Q xs nv → ((u : NonVolatile) → Q u → OperationsLead P R ys u) → OperationsLead P R (xs ++ ys) nv
@@ -110,10 +110,10 @@ operation service expected = record { service = service; expected = expected }
 
 -- one operation, before and after which the device is stopped
 pub leads_step : (R : NonVolatile → Type 0) (s : Apdu) (a : Option Apdu) (ops : List Operation) (nv : NonVolatile) (effect : Effect) (next : Option (List ℕ) → NonVolatile) (given : Option Apdu)
-    → effect_of s ≡ effect → whole nv effect ≡ next None → ((wear : Option (List ℕ)) → taken nv effect wear ≡ next wear) → answer nv s ≡ given → IsStopped nv → ((wear : Option (List ℕ)) → IsStopped (next wear))
+    → effect_of s ≡ effect → whole nv effect ≡ next None → ((wear : Option (List ℕ)) → taken_over nv effect wear ≡ next wear) → answer nv s ≡ given → IsStopped nv → ((wear : Option (List ℕ)) → IsStopped (next wear))
     → ((wear : Option (List ℕ)) → given ≡ a → OperationsLead IsStopped R ops (next wear)) → OperationsLead IsStopped R (operation s a ∷ ops) nv
 leads_step R s a ops nv effect next given i v w g h k f =
-    let t : (wear : Option (List ℕ)) → taken nv (effect_of s) wear ≡ next wear = λ wear. ap (λ e. taken nv e wear) i ∙ w wear in
+    let t : (wear : Option (List ℕ)) → taken_over nv (effect_of s) wear ≡ next wear = λ wear. ap (λ e. taken_over nv e wear) i ∙ w wear in
     let u : whole nv (effect_of s) ≡ next None = ap (λ e. whole nv e) i ∙ v in (
       h,
       λ fresh octets. torn_stopped nv (effect_of s) fresh octets h (subst IsStopped (sym u) (k None)),
@@ -152,13 +152,13 @@ effect_load GroupObjects e h = rw (length_load e) (ap (Loads GroupObjects) (load
 effect_load Application e h = rw (length_load e) (ap (Loads Application) (load_again e h))
 
 -- an effect on one object, seen at its state
-pub whole_load : (nv : NonVolatile) (o : LoadableObject) (p : Loadable) (e : LoadEvent) → whole (with_object nv o p) (Loads o e) ≡ with_object nv o (load_step p e)
+pub whole_load : (nv : NonVolatile) (o : LoadableObject) (p : Loadable) (e : LoadEvent) → whole (with_loadable nv o p) (Loads o e) ≡ with_loadable nv o (load_step p e)
 whole_load nv AddressTable p e = refl
 whole_load nv AssociationTable p e = refl
 whole_load nv GroupObjects p e = refl
 whole_load nv Application p e = refl
 
-pub answer_load : (nv : NonVolatile) (o : LoadableObject) (p : Loadable) (e : LoadEvent) → IsShort e → answer (with_object nv o p) (load_service o e) ≡ Some (state_answer o (load_step p e).state)
+pub answer_load : (nv : NonVolatile) (o : LoadableObject) (p : Loadable) (e : LoadEvent) → IsShort e → answer (with_loadable nv o p) (load_service o e) ≡ Some (state_answer o (load_step p e).state)
 answer_load nv AddressTable p e h = rw (length_load e, load_again e h) refl
 answer_load nv AssociationTable p e h = rw (length_load e, load_again e h) refl
 answer_load nv GroupObjects p e h = rw (length_load e, load_again e h) refl
@@ -170,42 +170,42 @@ answer_base nv AssociationTable = refl
 answer_base nv GroupObjects = refl
 answer_base nv Application = refl
 
-pub object_is : (o : LoadableObject) (at : ℕ) → at < capacity o → object_at (base o + at) ≡ Some o
+pub object_is : (o : LoadableObject) (at : ℕ) → at < capacity o → object_at (segment_base o + at) ≡ Some o
 object_is AddressTable at h = grind (arith, nat_tests)
 object_is AssociationTable at h = grind (arith, nat_tests)
 object_is GroupObjects at h = grind (arith, nat_tests)
 object_is Application at h = grind (arith, nat_tests)
 
-at_base : (o : LoadableObject) (at : ℕ) → base o + at - base o ≡ at
+at_base : (o : LoadableObject) (at : ℕ) → segment_base o + at - segment_base o ≡ at
 at_base o at = omega arith
 
 -- what becomes of one object at an address of its memory
-pub at_place : (nv : NonVolatile) (o : LoadableObject) (p : Loadable) (at : ℕ) (change : Loadable → ℕ → Loadable) → at < capacity o → at_address (with_object nv o p) (base o + at) change ≡ with_object nv o (change p at)
+pub at_place : (nv : NonVolatile) (o : LoadableObject) (p : Loadable) (at : ℕ) (change : Loadable → ℕ → Loadable) → at < capacity o → at_address (with_loadable nv o p) (segment_base o + at) change ≡ with_loadable nv o (change p at)
 at_place nv o p at change h =
-    ap (λ (found : Option LoadableObject). elim found as (λ _. NonVolatile) [ None ↦ with_object nv o p | Some q ↦ with_object (with_object nv o p) q (change (object (with_object nv o p) q) (base o + at - base q)) ]) (object_is o at h)
-    ∙ (ap (λ (k : ℕ). with_object (with_object nv o p) o (change (object (with_object nv o p) o) k)) (at_base o at)
-    ∙ (ap (λ (q : Loadable). with_object (with_object nv o p) o (change q at)) (object_with nv o p) ∙ with_with nv o p (change p at)))
+    ap (λ (found : Option LoadableObject). elim found as (λ _. NonVolatile) [ None ↦ with_loadable nv o p | Some q ↦ with_loadable (with_loadable nv o p) q (change (loadable (with_loadable nv o p) q) (segment_base o + at - segment_base q)) ]) (object_is o at h)
+    ∙ (ap (λ (k : ℕ). with_loadable (with_loadable nv o p) o (change (loadable (with_loadable nv o p) o) k)) (at_base o at)
+    ∙ (ap (λ (q : Loadable). with_loadable (with_loadable nv o p) o (change q at)) (object_with nv o p) ∙ with_with nv o p (change p at)))
 
-pub whole_write : (nv : NonVolatile) (o : LoadableObject) (p : Loadable) (at : ℕ) (octets : List ℕ) → at < capacity o → whole (with_object nv o p) (Stores (base o + at) octets) ≡ with_object nv o (written p at octets)
-whole_write nv o p at octets h = at_place nv o p at (λ q k. written q k octets) h
+pub whole_write : (nv : NonVolatile) (o : LoadableObject) (p : Loadable) (at : ℕ) (octets : List ℕ) → at < capacity o → whole (with_loadable nv o p) (Stores (segment_base o + at) octets) ≡ with_loadable nv o (memory_written p at octets)
+whole_write nv o p at octets h = at_place nv o p at (λ q k. memory_written q k octets) h
 
 -- the object after a memory write, worn or not
 abbrev pub kept : Loadable → ℕ → List ℕ → Option (List ℕ) → Loadable
-kept p at octets None = written p at octets
-kept p at octets (Some any) = scribbled p at (length octets) any
+kept p at octets None = memory_written p at octets
+kept p at octets (Some any) = memory_torn p at (length octets) any
 
-pub taken_write : (nv : NonVolatile) (o : LoadableObject) (p : Loadable) (at : ℕ) (octets : List ℕ) (wear : Option (List ℕ)) → at < capacity o → taken (with_object nv o p) (Stores (base o + at) octets) wear ≡ with_object nv o (kept p at octets wear)
+pub taken_write : (nv : NonVolatile) (o : LoadableObject) (p : Loadable) (at : ℕ) (octets : List ℕ) (wear : Option (List ℕ)) → at < capacity o → taken_over (with_loadable nv o p) (Stores (segment_base o + at) octets) wear ≡ with_loadable nv o (kept p at octets wear)
 taken_write nv o p at octets None h = whole_write nv o p at octets h
-taken_write nv o p at octets (Some any) h = at_place nv o p at (λ q k. scribbled q k (length octets) any) h
+taken_write nv o p at octets (Some any) h = at_place nv o p at (λ q k. memory_torn q k (length octets) any) h
 
 -- the octets of a range of one object
 abbrev pub read_octets : Loadable → ℕ → ℕ → List ℕ
 read_octets p at n = if has_range p at n then take n (drop at (octets_of p)) else []
 
-pub range_is : (nv : NonVolatile) (o : LoadableObject) (p : Loadable) (at n : ℕ) → at < capacity o → range_octets (with_object nv o p) (base o + at) n ≡ read_octets p at n
+pub range_is : (nv : NonVolatile) (o : LoadableObject) (p : Loadable) (at n : ℕ) → at < capacity o → range_octets (with_loadable nv o p) (segment_base o + at) n ≡ read_octets p at n
 range_is nv o p at n h =
-    ap (λ (found : Option LoadableObject). elim found as (λ _. List ℕ) [ None ↦ [] | Some q ↦ read_octets (object (with_object nv o p) q) (base o + at - base q) n ]) (object_is o at h)
-    ∙ (ap (λ (k : ℕ). read_octets (object (with_object nv o p) o) k n) (at_base o at) ∙ ap (λ (q : Loadable). read_octets q at n) (object_with nv o p))
+    ap (λ (found : Option LoadableObject). elim found as (λ _. List ℕ) [ None ↦ [] | Some q ↦ read_octets (loadable (with_loadable nv o p) q) (segment_base o + at - segment_base q) n ]) (object_is o at h)
+    ∙ (ap (λ (k : ℕ). read_octets (loadable (with_loadable nv o p) o) k n) (at_base o at) ∙ ap (λ (q : Loadable). read_octets q at n) (object_with nv o p))
 
-pub answer_read : (nv : NonVolatile) (o : LoadableObject) (p : Loadable) (at n : ℕ) → at < capacity o → answer (with_object nv o p) (MemoryRead n (base o + at)) ≡ Some (MemoryResponse (base o + at) (read_octets p at n))
-answer_read nv o p at n h = ap (λ octets. Some (MemoryResponse (base o + at) octets)) (range_is nv o p at n h)
+pub answer_read : (nv : NonVolatile) (o : LoadableObject) (p : Loadable) (at n : ℕ) → at < capacity o → answer (with_loadable nv o p) (MemoryRead n (segment_base o + at)) ≡ Some (MemoryResponse (segment_base o + at) (read_octets p at n))
+answer_read nv o p at n h = ap (λ octets. Some (MemoryResponse (segment_base o + at) octets)) (range_is nv o p at n h)

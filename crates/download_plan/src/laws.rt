@@ -2,8 +2,8 @@
 
 ghost use Rattle.std.specs.Prelude.{◌≡◌, Some};
 ghost use Rattle.knx_model.specs.declared.config.Image.{Image};
-ghost use Rattle.knx_model.specs.Device.{NonVolatile, Fits, runs};
-ghost use Rattle.knx_model.specs.Plan.{load_plan, GoodPlan, Serves, HasCapacities};
+ghost use Rattle.knx_model.specs.Device.{NonVolatile, Fits, runs, HasCapacities};
+ghost use Rattle.knx_model.specs.Plan.{load_plan, GoodPlan, Serves};
 
 /// The plan of each image that fits is good, and a device that nothing disturbs gives every expected answer.
 #[tactic(auto, using(crate::proofs::Octets::plan_good, crate::proofs::Octets::plan_serves))]

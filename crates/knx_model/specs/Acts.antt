@@ -82,25 +82,25 @@ at_place xs zero = None
 at_place xs (suc i) = slice_get xs i
 
 -- the object of a number of 1 to 255
-abbrev pub numbered : List ObjSpec → ℕ → Option ObjSpec
-numbered objects o = if is_object_number o then at_place objects o else None
+abbrev pub object_of_number : List ObjSpec → ℕ → Option ObjSpec
+object_of_number objects o = if is_object_number o then at_place objects o else None
 
 -- ---- by a configuration
 
-abbrev pub links_to : ℕ → ℕ → LinkSpec → Bool
-links_to g o link = (link.object == o) && (raw_of link == g)
+abbrev pub is_link_of : ℕ → ℕ → LinkSpec → Bool
+is_link_of g o link = (link.object == o) && (raw_of link == g)
 
 -- some link has the object and the group
 abbrev pub is_linked : Config → ℕ → ℕ → Bool
-is_linked config g o = list_any (links_to g o) config.links
+is_linked config g o = list_any (is_link_of g o) config.links
 
 -- the telegram's value is written to the object
 abbrev pub acts_written : Config → ℕ → GroupService → ℕ → Bool
-acts_written config g service o = writes (is_linked config g) (numbered config.objects) service o
+acts_written config g service o = writes (is_linked config g) (object_of_number config.objects) service o
 
 -- the object whose value answers the telegram
 abbrev pub acts_answerer : Config → ℕ → GroupService → Option ℕ
-acts_answerer config g service = lowest_answering (is_linked config g) (numbered config.objects) service
+acts_answerer config g service = lowest_answering (is_linked config g) (object_of_number config.objects) service
 
 -- ---- by octets. A table is a count of two octets and entries. An entry counts where it lies whole in the list and within the count
 
@@ -140,15 +140,15 @@ objects _ = []
 
 -- the object of a number that the table has
 abbrev pub object_in_table : List ℕ → ℕ → Option ObjSpec
-object_in_table octets o = numbered (objects octets) o
+object_in_table octets o = object_of_number (objects octets) o
 
 -- the pair names the object, by a place that names the group
-abbrev pub names : List ℕ → ℕ → ℕ → ℕ × ℕ → Bool
-names groups g o pair = (pair.1 == o) && option_map_or (λ address. address == g) (at_place groups pair.0) false
+abbrev pub is_pair_of : List ℕ → ℕ → ℕ → ℕ × ℕ → Bool
+is_pair_of groups g o pair = (pair.1 == o) && option_map_or (λ address. address == g) (at_place groups pair.0) false
 
 -- some pair names the object, of a number of 1 to 255, by a place that names the group
 abbrev pub is_linked_in : List ℕ → List ℕ → ℕ → ℕ → Bool
-is_linked_in addr assoc g o = is_object_number o && list_any (names (addresses addr) g o) (pairs assoc)
+is_linked_in addr assoc g o = is_object_number o && list_any (is_pair_of (addresses addr) g o) (pairs assoc)
 
 -- the telegram's value is written to the object
 abbrev pub is_written : Image → ℕ → GroupService → ℕ → Bool

@@ -1,20 +1,19 @@
--- The device on the line (ISO/IEC 14543-3-2, 3-1 and 3-4, transport and application layer, management): what it has while it has power,
--- what it makes of each frame that comes over the bus, and what it sends. A frame that is taken may be taken whole, or a power cut
--- tears the write that it asks for, or worn memory keeps other octets than were sent. That unnumbered data to one device is ignored is
--- this project's own.
-use Rattle.std.specs.Prelude.{ℕ, ◌-◌, Bool, true, false, not, ◌&&◌, ◌==◌, List, [], ◌∷◌, ◌++◌, map, slice_index_or, Option, Some, None, if◌then◌else◌}
-use Rattle.std.specs.List.{range_with_len}
+-- The device on the line (ISO/IEC 14543-3-2, 3-1 and 3-4, transport and application layer, management): what it makes of each frame that
+-- comes over the bus, and what it sends. A frame that is taken may be taken whole, or a power cut tears the write that it asks for, or
+-- worn memory keeps other octets than were sent. That unnumbered data to one device is ignored is this project's own.
+use Rattle.std.specs.Prelude.{ℕ, ◌≡◌, ◌-◌, Bool, true, false, not, ◌&&◌, ◌==◌, is_some, List, [], ◌∷◌, ◌++◌, map, drop, Option, Some, None, if◌then◌else◌}
 use Rattle.knx_model.specs.declared.address.IndAddr.{IndAddr}
-use Rattle.knx_model.specs.declared.bench.BenchEvent.{BenchEvent}
-use Rattle.knx_model.specs.declared.bench.BenchEvent.TheVariants.{On}
 use Rattle.knx_model.specs.declared.config.Image.{Image}
-use Rattle.knx_model.specs.declared.config.ObjSpec.{ObjSpec}
 use Rattle.knx_model.specs.declared.connection.DeviceTook.{DeviceTook}
 use Rattle.knx_model.specs.declared.connection.DeviceTook.TheVariants as took
 use Rattle.knx_model.specs.declared.connection.DeviceExpired.{DeviceExpired}
 use Rattle.knx_model.specs.declared.connection.DeviceExpired.TheVariants as expired
+use Rattle.knx_model.specs.declared.device.FrameSupport.{FrameSupport}
+use Rattle.knx_model.specs.declared.device.FrameSupport.TheVariants.{Standard, Extended}
+use Rattle.knx_model.specs.declared.device.Sending.{Sending}
+use Rattle.knx_model.specs.declared.device.Sending.TheVariants.{Waiting, Repeat, Closing}
 use Rattle.knx_model.specs.declared.device.Took.{Took}
-use Rattle.knx_model.specs.declared.device.Took.TheVariants.{NotMine, Taken, Off}
+use Rattle.knx_model.specs.declared.device.Took.TheVariants.{NotMine, TooLong, Taken, Off}
 use Rattle.knx_model.specs.declared.device.WriteKind.{WriteKind}
 use Rattle.knx_model.specs.declared.device.WriteKind.TheVariants as kind
 use Rattle.knx_model.specs.declared.frames.cemi.Ldata.{Ldata}
@@ -22,122 +21,45 @@ use Rattle.knx_model.specs.declared.frames.cemi.LdataCode.TheVariants.{Ind}
 use Rattle.knx_model.specs.declared.frames.tpdu.Apdu.{Apdu}
 use Rattle.knx_model.specs.declared.frames.tpdu.Apdu.TheVariants.{GroupRead, GroupResponse, GroupWrite}
 use Rattle.knx_model.specs.declared.frames.value.Value.{Value}
-use Rattle.knx_model.specs.declared.loading.LoadState.{LoadState}
 use Rattle.knx_model.specs.declared.script.GroupService.{GroupService}
 use Rattle.knx_model.specs.declared.script.GroupService.TheVariants.{Read, Write, Response}
-use Rattle.knx_model.specs.Acts.{is_written, answerer, object_in_table, zero_value}
+use Rattle.knx_model.specs.Acts.{is_written, answerer}
 use Rattle.knx_model.specs.ApduReading.{service_in, apdu_octets}
-use Rattle.knx_model.specs.Bench.{with_kept, happens}
-use Rattle.knx_model.specs.Connection.{DeviceEnd, Closed, frame_in, partner_of, disconnect, device_took, device_after, device_answered, after_answer, device_expired, after_expiry}
-use Rattle.knx_model.specs.Device.{NonVolatile, DeviceState, Effect, Loads, Stores, Nothing, runs, whole, torn, taken, is_write, effect_in, answer_in}
-use Rattle.knx_model.specs.Loading.{state_number}
+use Rattle.knx_model.specs.Cemi.{is_extended}
+use Rattle.knx_model.specs.Connection.{DeviceEnd, Closed, Idle, Answering, frame_in, partner_of, disconnect, device_took, device_after, device_answered, after_answer, device_expired, repeated}
+use Rattle.knx_model.specs.Device.{NonVolatile, Effect, Loads, Stores, Nothing, runs, whole, torn, taken_over, is_write, effect_in, answer_in}
+use Rattle.knx_model.specs.DeviceState.{DeviceState, cut, moved, value_of, written_values}
 
--- ---- the whole device
-
-pub record LineDevice : Type 0 where
-  pub state : DeviceState
-  pub connection : DeviceEnd
-  pub values : List (Option Value)  -- what was written to each object number from 0; [] where nothing was
-  pub unsent : List Ldata  -- the frames that it has to send, the oldest first
-  pub last : Option Ldata  -- the frame that it got last
-
--- a device without connection, values and frames
-abbrev pub at_rest : DeviceState → LineDevice
-at_rest state = record { state = state; connection = Closed; values = []; unsent = []; last = None }
-
--- power is gone, and with it all that isn't kept without power
-abbrev pub powerless : DeviceState → LineDevice
-powerless state = at_rest (with_kept state state.kept false)
-
-abbrev pub cut : LineDevice → LineDevice
-cut d = powerless d.state
-
--- power comes back
-abbrev pub switched_on : LineDevice → LineDevice
-switched_on d = if d.state.power then d else at_rest (happens d.state On)
-
--- ---- values
-
-abbrev pub same_state : LoadState → LoadState → Bool
-same_state one other = state_number one == state_number other
-
-abbrev pub same_states : NonVolatile → NonVolatile → Bool
-same_states old new =
-    same_state old.address_table.state new.address_table.state
-    && same_state old.association_table.state new.association_table.state
-    && same_state old.group_objects.state new.group_objects.state
-    && same_state old.application.state new.application.state
-
--- with another content of what it keeps: a change of a load state makes all values zero
-abbrev pub moved : LineDevice → NonVolatile → LineDevice
-moved d kept = record {
-  state = with_kept d.state kept d.state.power;
-  connection = d.connection;
-  values = if same_states d.state.kept kept then d.values else [];
-  unsent = d.unsent;
-  last = d.last;
-}
-
--- what was written to an object
-abbrev pub slot : List (Option Value) → ℕ → Option Value
-slot values o = slice_index_or values o None
-
-abbrev pub value_or_zero : Option Value → ℕ → Value
-value_or_zero None size = zero_value size
-value_or_zero (Some value) size = value
-
-abbrev pub value_at : List (Option Value) → ℕ → Option ObjSpec → Option Value
-value_at values o None = None
-value_at values o (Some object) = Some (value_or_zero (slot values o) object.size)
-
-abbrev pub value_in_image : List (Option Value) → ℕ → Option Image → Option Value
-value_in_image values o None = None
-value_in_image values o (Some image) = value_at values o (object_in_table image.objs o)
-
--- the value of an object: none where the device doesn't run or lacks the object
-abbrev pub value_of : LineDevice → ℕ → Option Value
-value_of d o = value_in_image d.values o (runs d.state.kept)
-
--- each object that takes the value has it, and all others keep theirs
-unfoldable pub written_values : (ℕ → Bool) → Value → List (Option Value) → List (Option Value)
-written_values writes value values = map (λ o. if writes o then Some value else slot values o) (range_with_len 0 256)
-
-abbrev pub with_values : LineDevice → List (Option Value) → LineDevice
-with_values d values = record { state = d.state; connection = d.connection; values = values; unsent = d.unsent; last = d.last }
-
--- ---- frames that it sends
+-- ---- frames that wait to be sent
 
 -- a frame of the device as the bus carries it: its own address is the source, low priority, hop count 6
 abbrev pub own_frame : IndAddr → Bool → ℕ → List ℕ → Ldata
 own_frame address group destination tpdu = record { code = Ind; error = false; group = group; priority = 3; hops = 6; source = address.raw; destination = destination; tpdu = tpdu }
 
 -- with one more unsent frame; none is dropped
-abbrev pub queued : LineDevice → Ldata → LineDevice
-queued d frame = record { state = d.state; connection = d.connection; values = d.values; unsent = d.unsent ++ frame ∷ []; last = d.last }
+abbrev pub queued : DeviceState → Ldata → DeviceState
+queued d frame = record d { unsent = d.unsent ++ frame ∷ [] }
 
-abbrev pub queued_to : LineDevice → IndAddr → List ℕ → LineDevice
-queued_to d to tpdu = queued d (own_frame d.state.address false to.raw tpdu)
+abbrev pub queued_to : DeviceState → IndAddr → List ℕ → DeviceState
+queued_to d to tpdu = queued d (own_frame d.address false to.raw tpdu)
 
-abbrev pub queued_if : LineDevice → IndAddr → Option (List ℕ) → LineDevice
+abbrev pub queued_if : DeviceState → IndAddr → Option (List ℕ) → DeviceState
 queued_if d to None = d
 queued_if d to (Some tpdu) = queued_to d to tpdu
 
-abbrev pub with_unsent : LineDevice → List Ldata → LineDevice
-with_unsent d frames = record { state = d.state; connection = d.connection; values = d.values; unsent = frames; last = d.last }
+-- ---- whether it takes a frame
 
-abbrev pub with_connection : LineDevice → DeviceEnd → LineDevice
-with_connection d connection = record { state = d.state; connection = connection; values = d.values; unsent = d.unsent; last = d.last }
+-- a standard device takes no extended frame
+abbrev pub is_too_long : FrameSupport → Ldata → Bool
+is_too_long Standard frame = is_extended frame
+is_too_long Extended frame = false
 
-abbrev pub with_last : LineDevice → Ldata → LineDevice
-with_last d frame = record { state = d.state; connection = d.connection; values = d.values; unsent = d.unsent; last = Some frame }
-
--- ---- frames that it takes
-
--- without power it takes nothing; it takes each frame to a group, and of those to one device its own
-abbrev pub took_of : LineDevice → Ldata → Took
+-- without power it takes nothing; of the frames to one device it takes its own alone
+abbrev pub took_of : DeviceState → Ldata → Took
 took_of d frame =
-    if not d.state.power then Off
-    else (if not frame.group && not (frame.destination == d.state.address.raw) then NotMine else Taken)
+    if not d.power then Off
+    else (if not frame.group && not (frame.destination == d.address.raw) then NotMine
+    else (if is_too_long d.frames frame then TooLong else Taken))
 
 -- how a frame is taken. Torn: power is cut in the write that the frame asks for; load state and segment length are both new or both
 -- old, and the octets stand in the written range. Worn: the octets stand in the range of the memory write
@@ -149,23 +71,25 @@ pub data Outcome : Type 0 where
 abbrev pub kept_after : NonVolatile → Effect → Outcome → NonVolatile
 kept_after kept effect Whole = whole kept effect
 kept_after kept effect (Torn fresh octets) = torn kept effect fresh octets
-kept_after kept effect (Worn octets) = taken kept effect (Some octets)
+kept_after kept effect (Worn octets) = taken_over kept effect (Some octets)
+
+-- ---- frames for it alone
 
 -- an answer of the device goes to its partner as numbered data
-abbrev pub with_answer : LineDevice → IndAddr → ℕ → Option (List ℕ) → LineDevice
+abbrev pub with_answer : DeviceState → IndAddr → ℕ → Option (List ℕ) → DeviceState
 with_answer d to now None = d
-with_answer d to now (Some octets) = queued_if (with_connection d (after_answer d.connection octets now)) to (device_answered d.connection octets)
+with_answer d to now (Some octets) = queued_if (record d { connection = after_answer d.connection octets now }) to (device_answered d.connection octets)
 
 -- a service that its partner asks for
-abbrev pub served : LineDevice → IndAddr → List ℕ → ℕ → Outcome → LineDevice
+abbrev pub served : DeviceState → IndAddr → List ℕ → ℕ → Outcome → DeviceState
 served d from apdu now outcome =
-    with_answer (moved d (kept_after d.state.kept (effect_in apdu) outcome)) from now (answer_in d.state.kept apdu)
+    with_answer (moved d (kept_after d.kept (effect_in apdu) outcome)) from now (answer_in d.frames d.kept apdu)
 
 -- what the connection's answer to a frame does besides: T_ACK, T_NAK and T_Disconnect join the unsent frames, T_Connect drops these, and
 -- a delivered service acts
-abbrev pub acted : LineDevice → IndAddr → ℕ → Outcome → DeviceTook → LineDevice
+abbrev pub acted : DeviceState → IndAddr → ℕ → Outcome → DeviceTook → DeviceState
 acted d from now outcome took.Dropped = d
-acted d from now outcome took.Connected = with_unsent d []
+acted d from now outcome took.Connected = record d { unsent = [] }
 acted d from now outcome (took.Apdu apdu ack) = served (queued_to d from ack) from apdu now outcome
 acted d from now outcome (took.Again ack) = queued_to d from ack
 acted d from now outcome (took.Nak nak) = queued_to d from nak
@@ -176,12 +100,14 @@ abbrev pub sender : Ldata → IndAddr
 sender frame = record { raw = frame.source }
 
 -- what the connection answers to a frame for this device alone
-abbrev pub connection_took : LineDevice → Ldata → DeviceTook
+abbrev pub connection_took : DeviceState → Ldata → DeviceTook
 connection_took d frame = device_took d.connection (sender frame) (frame_in frame.tpdu)
 
-abbrev pub taken_alone : LineDevice → Ldata → ℕ → Outcome → LineDevice
+abbrev pub taken_alone : DeviceState → Ldata → ℕ → Outcome → DeviceState
 taken_alone d frame now outcome =
-    acted (with_connection d (device_after d.connection (sender frame) now (connection_took d frame))) (sender frame) now outcome (connection_took d frame)
+    acted (record d { connection = device_after d.connection (sender frame) now (connection_took d frame) }) (sender frame) now outcome (connection_took d frame)
+
+-- ---- group telegrams
 
 -- a group telegram's service
 abbrev pub group_service : Option Apdu → Option GroupService
@@ -193,45 +119,56 @@ group_service _ = None
 abbrev pub response_octets : Value → List ℕ
 response_octets value = apdu_octets (GroupResponse value)
 
-abbrev pub with_response : LineDevice → ℕ → Option Value → LineDevice
+abbrev pub with_response : DeviceState → ℕ → Option Value → DeviceState
 with_response d group None = d
-with_response d group (Some value) = queued d (own_frame d.state.address true group (response_octets value))
+with_response d group (Some value) = queued d (own_frame d.address true group (response_octets value))
 
-abbrev pub answered_by : LineDevice → ℕ → Option ℕ → LineDevice
+abbrev pub answered_by : DeviceState → ℕ → Option ℕ → DeviceState
 answered_by d group None = d
 answered_by d group (Some o) = with_response d group (value_of d o)
 
 -- a running device writes the value of a write or a response to its objects, and answers a read with its object's value
-abbrev pub told : LineDevice → Image → ℕ → GroupService → LineDevice
-told d image group Read = answered_by d group (answerer image group Read)
-told d image group (Write value) = with_values d (written_values (is_written image group (Write value)) value d.values)
-told d image group (Response value) = with_values d (written_values (is_written image group (Response value)) value d.values)
+abbrev pub telegram_acted : DeviceState → Image → ℕ → GroupService → DeviceState
+telegram_acted d image group Read = answered_by d group (answerer image group Read)
+telegram_acted d image group (Write value) = record d { values = written_values (is_written image group (Write value)) value d.values }
+telegram_acted d image group (Response value) = record d { values = written_values (is_written image group (Response value)) value d.values }
 
 -- a device that doesn't run does nothing at a telegram, nor does any at another service
-abbrev pub told_if : LineDevice → ℕ → Option Image → Option GroupService → LineDevice
-told_if d group None service = d
-told_if d group (Some image) None = d
-told_if d group (Some image) (Some service) = told d image group service
+abbrev pub telegram_taken : DeviceState → ℕ → Option Image → Option GroupService → DeviceState
+telegram_taken d group None service = d
+telegram_taken d group (Some image) None = d
+telegram_taken d group (Some image) (Some service) = telegram_acted d image group service
 
-abbrev pub taken_group : LineDevice → Ldata → LineDevice
-taken_group d frame = told_if d frame.destination (runs d.state.kept) (group_service (service_in frame.tpdu))
+abbrev pub taken_group : DeviceState → Ldata → DeviceState
+taken_group d frame = telegram_taken d frame.destination (runs d.kept) (group_service (service_in frame.tpdu))
 
-abbrev pub got : LineDevice → Ldata → ℕ → Outcome → LineDevice
-got d frame now outcome = with_last (if frame.group then taken_group d frame else taken_alone d frame now outcome) frame
+-- ---- a frame comes over the bus
 
-abbrev pub ended : LineDevice → Outcome → LineDevice
-ended d Whole = d
-ended d (Torn fresh octets) = cut d
-ended d (Worn octets) = d
+abbrev pub after_frame : DeviceState → Ldata → ℕ → Outcome → DeviceState
+after_frame d frame now outcome = record (if frame.group then taken_group d frame else taken_alone d frame now outcome) { last = Some frame }
 
-abbrev pub takes_so : LineDevice → Ldata → ℕ → Outcome → Took → LineDevice
-takes_so d frame now outcome Taken = ended (got d frame now outcome) outcome
+-- a torn write ends with the cut
+abbrev pub after_outcome : DeviceState → Outcome → DeviceState
+after_outcome d Whole = d
+after_outcome d (Torn fresh octets) = cut d
+after_outcome d (Worn octets) = d
+
+abbrev pub takes_so : DeviceState → Ldata → ℕ → Outcome → Took → DeviceState
+takes_so d frame now outcome Taken = after_outcome (after_frame d frame now outcome) outcome
 takes_so d frame now outcome NotMine = d
+takes_so d frame now outcome TooLong = d
 takes_so d frame now outcome Off = d
 
--- a frame comes over the bus
-abbrev pub takes : LineDevice → Ldata → ℕ → Outcome → LineDevice
+abbrev pub takes : DeviceState → Ldata → ℕ → Outcome → DeviceState
 takes d frame now outcome = takes_so d frame now outcome (took_of d frame)
+
+-- the bus brings the frame that it got last once more
+abbrev pub taken_last : DeviceState → ℕ → Option Ldata → DeviceState
+taken_last d now None = d
+taken_last d now (Some frame) = takes d frame now Whole
+
+abbrev pub taken_again : DeviceState → ℕ → DeviceState
+taken_again d now = taken_last d now d.last
 
 -- ---- the write that a frame asks for
 
@@ -242,10 +179,11 @@ effect_delivered _ = Nothing
 abbrev pub is_taken : Took → Bool
 is_taken Taken = true
 is_taken NotMine = false
+is_taken TooLong = false
 is_taken Off = false
 
 -- what the service does that this frame would deliver now
-abbrev pub effect_of_frame : LineDevice → Ldata → Effect
+abbrev pub effect_of_frame : DeviceState → Ldata → Effect
 effect_of_frame d frame = if is_taken (took_of d frame) && not frame.group then effect_delivered (connection_took d frame) else Nothing
 
 abbrev pub write_kind : Effect → Option WriteKind
@@ -254,8 +192,14 @@ write_kind (Stores address octets) = Some kind.Memory
 write_kind Nothing = None
 
 -- the write of the device that this frame would be now
-abbrev pub would_write : LineDevice → Ldata → Option WriteKind
-would_write d frame = if is_write d.state.kept (effect_of_frame d frame) then write_kind (effect_of_frame d frame) else None
+abbrev pub would_write : DeviceState → Ldata → Option WriteKind
+would_write d frame = if is_write d.kept (effect_of_frame d frame) then write_kind (effect_of_frame d frame) else None
+
+-- how a frame may be taken: torn where it would be a write, and over worn memory where this would be a memory write
+abbrev pub MayTake : DeviceState → Ldata → Outcome → Type 0
+MayTake d frame Whole = Unit {0}
+MayTake d frame (Torn fresh octets) = is_some (would_write d frame) ≡ true
+MayTake d frame (Worn octets) = would_write d frame ≡ Some kind.Memory
 
 -- the octets of a memory write, each the complement of the one that was sent
 abbrev pub complements : List ℕ → List ℕ
@@ -266,48 +210,74 @@ worn_octets (Stores address octets) = complements octets
 worn_octets (Loads o event) = []
 worn_octets Nothing = []
 
--- ---- what it sends
+-- ---- what it sends: a frame that waits, its outstanding answer again, or the T_Disconnect of its closing
 
--- the frame of a connection's end that has become due
-abbrev pub due_frame : DeviceExpired → Option (List ℕ)
-due_frame expired.Nothing = None
-due_frame (expired.Repeat tpdu) = Some tpdu
-due_frame (expired.Closed tpdu) = Some tpdu
+abbrev pub first_frame : List Ldata → Option Ldata
+first_frame [] = None
+first_frame (frame ∷ frames) = Some frame
 
-abbrev pub frame_to_partner : LineDevice → Option IndAddr → Option (List ℕ) → Option Ldata
-frame_to_partner d (Some to) (Some tpdu) = Some (own_frame d.state.address false to.raw tpdu)
-frame_to_partner d _ _ = None
+-- the frame that waits longest, and the device after it was sent
+abbrev pub waiting_frame : DeviceState → Option Ldata
+waiting_frame d = first_frame d.unsent
 
--- the oldest unsent frame, else the outstanding answer where it is due again, else the T_Disconnect of a connection that was idle too long
-abbrev pub sends_first : LineDevice → ℕ → List Ldata → Option Ldata
-sends_first d now (frame ∷ frames) = Some frame
-sends_first d now [] = frame_to_partner d (partner_of d.connection) (due_frame (device_expired d.connection now))
+abbrev pub pops : DeviceState → DeviceState
+pops d = record d { unsent = drop 1 d.unsent }
 
-abbrev pub sends : LineDevice → ℕ → Option Ldata
-sends d now = sends_first d now d.unsent
+-- the answer that isn't acknowledged, and the device after it was sent again
+abbrev pub outstanding_frame : IndAddr → DeviceEnd → Option Ldata
+outstanding_frame address Closed = None
+outstanding_frame address (Idle s) = None
+outstanding_frame address (Answering s a) = Some (own_frame address false s.partner.raw a.frame)
 
-abbrev pub sent_first : LineDevice → ℕ → List Ldata → LineDevice
-sent_first d now (frame ∷ frames) = with_unsent d frames
-sent_first d now [] = with_connection d (after_expiry d.connection now (device_expired d.connection now))
+abbrev pub repeat_frame : DeviceState → Option Ldata
+repeat_frame d = outstanding_frame d.address d.connection
 
--- the device after that was sent
-abbrev pub sent : LineDevice → ℕ → LineDevice
-sent d now = sent_first d now d.unsent
+abbrev pub repeats : DeviceState → ℕ → DeviceState
+repeats d now = record d { connection = repeated d.connection now }
 
--- it closes its connection by T_Disconnect
-abbrev pub shut_from : LineDevice → Option IndAddr → LineDevice
+-- it closes its connection, where one is open: the T_Disconnect to its partner joins the unsent frames
+abbrev pub shut_from : DeviceState → Option IndAddr → DeviceState
 shut_from d None = d
-shut_from d (Some partner) = queued_to (with_connection d Closed) partner disconnect
+shut_from d (Some partner) = queued_to (record d { connection = Closed }) partner disconnect
 
-abbrev pub shut : LineDevice → LineDevice
+abbrev pub shut : DeviceState → DeviceState
 shut d = shut_from d (partner_of d.connection)
 
--- ---- the same on a bench, where the service is given to the device by itself
+-- which it sends next: what waits goes first, and of a connection that was idle for too long, or whose answer is due again, the wait decides
+abbrev pub due_sending : DeviceExpired → Option Sending
+due_sending expired.Nothing = None
+due_sending (expired.Repeat tpdu) = Some Repeat
+due_sending (expired.Closed tpdu) = Some Closing
 
--- a service is given to it
-abbrev pub given : LineDevice → List ℕ → LineDevice
-given d apdu = if d.state.power then moved d (whole d.state.kept (effect_in apdu)) else d
+abbrev pub sending_of : List Ldata → DeviceExpired → Option Sending
+sending_of [] due = due_sending due
+sending_of (frame ∷ frames) due = Some Waiting
+
+abbrev pub next_sending : DeviceState → ℕ → Option Sending
+next_sending d now = sending_of d.unsent (device_expired d.connection now)
+
+-- the frame of such a sending, and the device after it
+abbrev pub sending_frame : DeviceState → Option Sending → Option Ldata
+sending_frame d None = None
+sending_frame d (Some Waiting) = waiting_frame d
+sending_frame d (Some Repeat) = repeat_frame d
+sending_frame d (Some Closing) = waiting_frame (shut d)
+
+abbrev pub after_sending : DeviceState → ℕ → Option Sending → DeviceState
+after_sending d now None = d
+after_sending d now (Some Waiting) = pops d
+after_sending d now (Some Repeat) = repeats d now
+after_sending d now (Some Closing) = pops (shut d)
+
+-- ---- on a bench, where services are given to the device by themselves
+
+-- a service is given to it, and what it answers
+abbrev pub given : DeviceState → List ℕ → DeviceState
+given d apdu = if d.power then moved d (whole d.kept (effect_in apdu)) else d
+
+abbrev pub answer_given : DeviceState → List ℕ → Option (List ℕ)
+answer_given d apdu = if d.power then answer_in d.frames d.kept apdu else None
 
 -- power is cut while it writes
-abbrev pub given_torn : LineDevice → BenchEvent → LineDevice
-given_torn d event = if d.state.power then at_rest (happens d.state event) else d
+abbrev pub given_torn : DeviceState → List ℕ → Bool → List ℕ → DeviceState
+given_torn d apdu fresh octets = if d.power then cut (record d { kept = torn d.kept (effect_in apdu) fresh octets }) else d

@@ -2,6 +2,7 @@
 -- with the image, and all of it leaves the image. A run here is of one device, whose answers are a function of what it keeps.
 use Rattle.std.specs.Prelude.{ℕ, ◌≡◌, Bool, true, false, List, [], ◌∷◌, Option, Some, None, ◌⊎◌}
 use Rattle.knx_model.specs.declared.config.Image.{Image}
+use Rattle.knx_model.specs.declared.device.FrameSupport.{FrameSupport}
 use Rattle.knx_model.specs.declared.plan.Expect.{Expect}
 use Rattle.knx_model.specs.declared.plan.Expect.TheVariants.{AckOnly, Is, Note}
 use Rattle.knx_model.specs.Connection.{IsApdu, has_answer}
@@ -41,8 +42,8 @@ abbrev pub OldStoppedOrImage : NonVolatile → Image → NonVolatile → Type 0
 OldStoppedOrImage start image nv = (nv ≡ start) ⊎ ((runs nv ≡ None) ⊎ (runs nv ≡ Some image))
 
 pub record GoodPlan (plan : Plan) (image : Image) : Type 0 where
-  pub beginnings : (start end : NonVolatile) → Beginning answer_in plan start end → OldStoppedOrImage start image end
-  pub whole_runs : (start end : NonVolatile) → WholeRun answer_in plan start end → runs end ≡ Some image
+  pub beginnings : (frames : FrameSupport) (start end : NonVolatile) → Beginning (answer_in frames) plan start end → OldStoppedOrImage start image end
+  pub whole_runs : (frames : FrameSupport) (start end : NonVolatile) → WholeRun (answer_in frames) plan start end → runs end ≡ Some image
 
 -- ---- a plan that is given to a device that nothing disturbs: each operation is taken whole
 

@@ -27,8 +27,9 @@ pub mod Tables
 pub mod Acts
 pub mod Loading
 pub mod Device
-pub mod Bench
+pub mod DeviceState
 pub mod DeviceFrames
+pub mod Bench
 pub mod Plan
 pub mod Plans
 pub mod Operations

@@ -29,10 +29,10 @@ abbrev pub machine_of : Loadable → Machine
 machine_of p = record { state = p.state; len = p.len }
 
 abbrev pub with_state : Loadable → LoadState → Loadable
-with_state p state = record { state = state; len = p.len; memory = p.memory }
+with_state p state = record p { state = state }
 
 abbrev pub with_memory : Loadable → List ℕ → Loadable
-with_memory p memory = record { state = p.state; len = p.len; memory = memory }
+with_memory p memory = record p { memory = memory }
 
 abbrev pub is_loading : LoadState → Bool
 is_loading Unloaded = false
@@ -77,7 +77,7 @@ load_step p NoOperation = p
 load_step p StartLoading = with_state p (started p.state)
 load_step p LoadCompleted = with_state p (completed p.state)
 load_step p (Allocate size fill) = allocated p size fill
-load_step p Unload = record { state = Unloaded; len = 0; memory = p.memory }
+load_step p Unload = record p { state = Unloaded; len = 0 }
 load_step p Undefined = with_state p Error
 
 -- a number of four octets, the highest first
@@ -121,12 +121,12 @@ has_range p at n = nat_le (at + n) p.len
 abbrev pub takes_write : Loadable → ℕ → ℕ → Bool
 takes_write p at n = is_loading p.state && has_range p at n
 
-abbrev pub written : Loadable → ℕ → List ℕ → Loadable
-written p at octets = if takes_write p at (length octets) then with_memory p (overlaid p.memory at octets) else p
+abbrev pub memory_written : Loadable → ℕ → List ℕ → Loadable
+memory_written p at octets = if takes_write p at (length octets) then with_memory p (overlaid p.memory at octets) else p
 
 -- what stands there where any octets may stand in the range of a taken memory write of n octets
-abbrev pub scribbled : Loadable → ℕ → ℕ → List ℕ → Loadable
-scribbled p at n octets = if takes_write p at n then with_memory p (overlaid p.memory at (take n octets)) else p
+abbrev pub memory_torn : Loadable → ℕ → ℕ → List ℕ → Loadable
+memory_torn p at n octets = if takes_write p at n then with_memory p (overlaid p.memory at (take n octets)) else p
 
 abbrev pub old_or_new : Bool → Loadable → Loadable → Loadable
 old_or_new fresh old new = if fresh then new else old

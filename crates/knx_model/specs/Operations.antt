@@ -16,7 +16,7 @@ use Rattle.knx_model.specs.declared.plan.Expect.TheVariants.{AckOnly, Is}
 use Rattle.knx_model.specs.Apdu.{word}
 use Rattle.knx_model.specs.ApduReading.{apdu_octets}
 use Rattle.knx_model.specs.Loading.{state_number}
-use Rattle.knx_model.specs.Device.{object_index, base, capacity, table_reference}
+use Rattle.knx_model.specs.Device.{object_index, segment_base, capacity, table_reference}
 use Rattle.knx_model.specs.Plans.{Plan, Over, Asks}
 
 -- ---- operations, and lists of them as plans
@@ -84,11 +84,11 @@ unfoldable pub piece_count : PieceSize → List ℕ → ℕ
 piece_count size list = (length list + (piece_octets size - 1)) / piece_octets size
 
 abbrev pub writes_piece : PieceSize → LoadableObject → List ℕ → ℕ → Operation
-writes_piece size o list k = acknowledged (MemoryWrite (base o + piece_start size k) (piece size list k))
+writes_piece size o list k = acknowledged (MemoryWrite (segment_base o + piece_start size k) (piece size list k))
 
 abbrev pub reads_piece : PieceSize → LoadableObject → List ℕ → ℕ → Operation
 reads_piece size o list k =
-    expecting (MemoryRead (length (piece size list k)) (base o + piece_start size k)) (MemoryResponse (base o + piece_start size k) (piece size list k))
+    expecting (MemoryRead (length (piece size list k)) (segment_base o + piece_start size k)) (MemoryResponse (segment_base o + piece_start size k) (piece size list k))
 
 -- one operation for each of n pieces, in order
 abbrev pub each_piece : (ℕ → Operation) → ℕ → List Operation
@@ -109,7 +109,7 @@ loading size o list = filling size o list ++ event_then o LoadCompleted Loaded �
 abbrev pub reads_end : LoadableObject → List ℕ → List Operation
 reads_end o list =
     if nat_lt (length list) (capacity o)
-    then expecting (MemoryRead 1 (base o + length list)) (MemoryResponse (base o + length list) []) ∷ []
+    then expecting (MemoryRead 1 (segment_base o + length list)) (MemoryResponse (segment_base o + length list) []) ∷ []
     else []
 
 -- the operations that check an object: it is Loaded, its base, its pieces, and that nothing comes after them

@@ -4,6 +4,7 @@
 use Rattle.std.specs.Prelude.{ℕ, ◌≡◌, ◌+◌, ◌*◌, ◌/◌, ◌%◌, Bool, List, [], ◌∷◌, ◌++◌, length, take, drop, map, Option, Some, None, ◌⊎◌}
 use Rattle.std.specs.List.{range_with_len}
 use Rattle.knx_model.specs.declared.config.Image.{Image}
+use Rattle.knx_model.specs.declared.device.FrameSupport.{FrameSupport}
 use Rattle.knx_model.specs.declared.loading.LoadState.{LoadState}
 use Rattle.knx_model.specs.declared.loading.LoadState.TheVariants.{Unloaded, Loaded, Loading}
 use Rattle.knx_model.specs.declared.loading.LoadEvent.{LoadEvent}
@@ -19,10 +20,11 @@ use Rattle.knx_model.specs.declared.plan.Op.TheVariants.{Send, Skip}
 use Rattle.knx_model.specs.declared.bench.BenchEvent.{BenchEvent}
 use Rattle.knx_model.specs.declared.bench.BenchEvent.TheVariants.{Give}
 use Rattle.knx_model.specs.Bench.{happens, answered}
+use Rattle.knx_model.specs.DeviceState.{DeviceState}
 use Rattle.knx_model.specs.Apdu.{word}
 use Rattle.knx_model.specs.ApduReading.{apdu_octets}
-use Rattle.knx_model.specs.Loading.{capacity_of, state_number}
-use Rattle.knx_model.specs.Device.{NonVolatile, DeviceState, object_index, base, capacity, runs, effect_in, answer_in, whole, torn, taken, table_reference}
+use Rattle.knx_model.specs.Loading.{state_number}
+use Rattle.knx_model.specs.Device.{NonVolatile, object_index, segment_base, runs, effect_in, answer_in, whole, torn, taken_over, table_reference}
 
 -- ---- the load plan
 
@@ -63,10 +65,10 @@ abbrev pub piece_count : List ℕ → ℕ
 piece_count list = (length list + 11) / 12
 
 abbrev pub writes_piece : LoadableObject → List ℕ → ℕ → Operation
-writes_piece o list k = tells (MemoryWrite (base o + 12 * k) (piece list k))
+writes_piece o list k = tells (MemoryWrite (segment_base o + 12 * k) (piece list k))
 
 abbrev pub reads_piece : LoadableObject → List ℕ → ℕ → Operation
-reads_piece o list k = asks (MemoryRead (length (piece list k)) (base o + 12 * k)) (MemoryResponse (base o + 12 * k) (piece list k))
+reads_piece o list k = asks (MemoryRead (length (piece list k)) (segment_base o + 12 * k)) (MemoryResponse (segment_base o + 12 * k) (piece list k))
 
 -- one operation for each piece, in order
 abbrev pub each_piece : (ℕ → Operation) → List ℕ → List Operation
@@ -113,13 +115,13 @@ expected_of Skip = None
 
 -- From nv, P holds at every moment of these operations, each taken, whole or worn, and answered as expected, up to one that is torn
 -- or not taken at all, or answered otherwise; and after all of them R holds.
-abbrev pub Leads : (NonVolatile → Type 0) → (NonVolatile → Type 0) → List Op → NonVolatile → Type 0
-Leads P R [] nv = P nv × R nv
-Leads P R (op ∷ ops) nv =
+abbrev pub Leads : FrameSupport → (NonVolatile → Type 0) → (NonVolatile → Type 0) → List Op → NonVolatile → Type 0
+Leads frames P R [] nv = P nv × R nv
+Leads frames P R (op ∷ ops) nv =
     P nv
     × ((fresh : Bool) (octets : List ℕ) → P (torn nv (effect_in (apdu_of op)) fresh octets))
-    × ((wear : Option (List ℕ)) → P (taken nv (effect_in (apdu_of op)) wear))
-    × ((wear : Option (List ℕ)) → answer_in nv (apdu_of op) ≡ expected_of op → Leads P R ops (taken nv (effect_in (apdu_of op)) wear))
+    × ((wear : Option (List ℕ)) → P (taken_over nv (effect_in (apdu_of op)) wear))
+    × ((wear : Option (List ℕ)) → answer_in frames nv (apdu_of op) ≡ expected_of op → Leads frames P R ops (taken_over nv (effect_in (apdu_of op)) wear))
 
 -- the content is as it was at the start, or the device doesn't run, or it runs the image
 abbrev pub OldStoppedOrImage : NonVolatile → Image → NonVolatile → Type 0
@@ -127,19 +129,12 @@ OldStoppedOrImage start image nv = (nv ≡ start) ⊎ ((runs nv ≡ None) ⊎ (r
 
 -- whatever the device holds, any beginning of the plan leaves it as before, or stopped, or with the image, and all of it the image
 abbrev pub GoodPlan : List Op → Image → Type 0
-GoodPlan ops image = (start : NonVolatile) → Leads (OldStoppedOrImage start image) (λ nv. runs nv ≡ Some image) ops start
+GoodPlan ops image = (frames : FrameSupport) (start : NonVolatile) → Leads frames (OldStoppedOrImage start image) (λ nv. runs nv ≡ Some image) ops start
 
 -- From nv, each of these operations taken whole is answered as expected, and after all of them R holds.
-abbrev pub Serves : (NonVolatile → Type 0) → List Op → NonVolatile → Type 0
-Serves R [] nv = R nv
-Serves R (op ∷ ops) nv = (answer_in nv (apdu_of op) ≡ expected_of op) × Serves R ops (whole nv (effect_in (apdu_of op)))
-
--- each object's memory has the capacity of its segment
-pub record HasCapacities (nv : NonVolatile) : Type 0 where
-  pub addr : capacity_of nv.address_table ≡ capacity AddressTable
-  pub assoc : capacity_of nv.association_table ≡ capacity AssociationTable
-  pub objs : capacity_of nv.group_objects ≡ capacity GroupObjects
-  pub params : capacity_of nv.application ≡ capacity Application
+abbrev pub Serves : FrameSupport → (NonVolatile → Type 0) → List Op → NonVolatile → Type 0
+Serves frames R [] nv = R nv
+Serves frames R (op ∷ ops) nv = (answer_in frames nv (apdu_of op) ≡ expected_of op) × Serves frames R ops (whole nv (effect_in (apdu_of op)))
 
 -- ---- a plan that was given whole
 

@@ -10,7 +10,8 @@ use Rattle.knx_model.specs.declared.log.LogEntry.{LogEntry}
 use Rattle.knx_model.specs.declared.log.LogWhat.TheVariants.{Done}
 use Rattle.knx_model.specs.Meaning.{Installation, meaning}
 use Rattle.knx_model.specs.Tables.{StandsFor}
-use Rattle.knx_model.specs.Device.{NonVolatile, DeviceState, runs, all_loaded, blank, loaded_with}
+use Rattle.knx_model.specs.Device.{NonVolatile, runs, all_loaded}
+use Rattle.knx_model.specs.DeviceState.{DeviceState, blank, loaded_with}
 use Rattle.knx_model.specs.Rules.{has_device}
 use Rattle.knx_model.specs.Bench.{Trace, moment}
 

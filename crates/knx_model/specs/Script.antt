@@ -6,7 +6,8 @@ use Rattle.knx_model.specs.declared.bench.BenchEvent.{BenchEvent}
 use Rattle.knx_model.specs.declared.bench.BenchEvent.TheVariants.{Give, GiveTorn, On}
 use Rattle.knx_model.specs.declared.script.Cut.{Cut}
 use Rattle.knx_model.specs.declared.script.ScriptLine.{ScriptLine}
-use Rattle.knx_model.specs.Device.{DeviceState, is_write, effect_in}
+use Rattle.knx_model.specs.Device.{is_write, effect_in}
+use Rattle.knx_model.specs.DeviceState.{DeviceState}
 use Rattle.knx_model.specs.Bench.{happens, cut_after}
 use Rattle.knx_model.specs.ScriptText.{cut_of}
 

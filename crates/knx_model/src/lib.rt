@@ -55,6 +55,8 @@ pub use connection::DeviceExpired;
 pub use connection::DeviceTook;
 pub use connection::TransportFrame;
 pub use counts::Counts;
+pub use device::FrameSupport;
+pub use device::Sending;
 pub use device::Took;
 pub use device::WriteKind;
 pub use frames::Apdu;

@@ -1,7 +1,7 @@
 //! The load machine of a device: its loadable objects, load states and load events (ISO/IEC 14543-3-4, management).
 
 ghost use Rattle.std.specs.Prelude.{◌≡◌};
-ghost use Rattle.knx_model.specs.Device.{object_index, base, capacity};
+ghost use Rattle.knx_model.specs.Device.{object_index, segment_base, capacity};
 ghost use Rattle.knx_model.specs.Loading.{state_number};
 
 /// The property of a loadable object that takes load events, and answers its load state.
@@ -40,7 +40,7 @@ impl LoadableObject {
 
     /// The memory address of the first octet of its segment.
     pub fn base(self) -> u16
-        ensures { result ≡ base self }
+        ensures { result ≡ segment_base self }
     {
         match self {
             LoadableObject::AddressTable => 0x4000,

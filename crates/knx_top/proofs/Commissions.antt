@@ -9,9 +9,10 @@ use Rattle.knx_model.specs.declared.config.Image.{Image}
 use Rattle.knx_model.specs.declared.no_memory.NoMemory.{NoMemory}
 use Rattle.knx_model.specs.declared.script.Cut.{Cut}
 use Rattle.knx_model.specs.Bench.{Trace, now, moment, replay, Went}
-use Rattle.knx_model.specs.Device.{NonVolatile, DeviceState, blank_object, Fits}
+use Rattle.knx_model.specs.Device.{NonVolatile, Fits, HasCapacities}
+use Rattle.knx_model.specs.DeviceState.{DeviceState, blank_object}
 use Rattle.knx_model.specs.Meaning.{Installation, meaning}
-use Rattle.knx_model.specs.Plan.{HasCapacities, OldStoppedOrImage, load_plan}
+use Rattle.knx_model.specs.Plan.{OldStoppedOrImage, load_plan}
 use Rattle.knx_model.specs.Promises.{StartOf, BeginsLoaded, BeginsBlank, OldStoppedOrNew, RunsProject, ToldTruly}
 use Rattle.knx_model.specs.Script.{Follows}
 use Rattle.knx_model.specs.Tables.{StandsFor}

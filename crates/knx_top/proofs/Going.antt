@@ -8,9 +8,10 @@ use Rattle.knx_model.specs.declared.bench.BenchEvent.{BenchEvent}
 use Rattle.knx_model.specs.declared.bench.BenchEvent.TheVariants.{Give, GiveTorn, On}
 use Rattle.knx_model.specs.declared.config.Image.{Image}
 use Rattle.knx_model.specs.declared.plan.Op.{Op}
-use Rattle.knx_model.specs.Device.{NonVolatile, DeviceState, Effect, Loads, Stores, Nothing, runs, whole, torn, taken, effect_in, answer_in}
-use Rattle.knx_model.specs.Bench.{Trace, happens, replay, now, after, answered, cut_after, written_front, Went}
-use Rattle.knx_model.specs.Plan.{Leads, Serves, HasCapacities, OldStoppedOrImage, GoodPlan, load_plan, apdu_of, expected_of, gives, AnswersAll}
+use Rattle.knx_model.specs.Device.{NonVolatile, Effect, Loads, Stores, Nothing, runs, whole, torn, taken_over, effect_in, answer_in, written_front, HasCapacities}
+use Rattle.knx_model.specs.DeviceState.{DeviceState}
+use Rattle.knx_model.specs.Bench.{Trace, happens, replay, now, after, answered, cut_after, Went}
+use Rattle.knx_model.specs.Plan.{Leads, Serves, OldStoppedOrImage, GoodPlan, load_plan, apdu_of, expected_of, gives, AnswersAll}
 use Rattle.download_plan.proofs.Capacities.{replay_capacities}
 use Rattle.knx_top.specs.Attempt.{Begins, Moves, Passes, CutsOff, EndsCutOff, StopsIn}
 use Rattle.knx_top.specs.Attempts.{WereCutOff, NoneYet, OneMore, GotThrough, WasBegun, HasGiven, WasCut, KeptToPlan, InAttempt, AfterThree}
@@ -47,7 +48,7 @@ power_whole t apdu e = rw (now_after t (Give apdu)) (rw e refl)
 pub power_on : (t : Trace) → (now (after t On)).power ≡ true
 power_on t = rw (now_after t On) refl
 
-taken_whole : (P : NonVolatile → Type 0) (nv : NonVolatile) (effect : Effect) → P (taken nv effect None) → P (whole nv effect)
+taken_whole : (P : NonVolatile → Type 0) (nv : NonVolatile) (effect : Effect) → P (taken_over nv effect None) → P (whole nv effect)
 taken_whole P nv Nothing h = h
 taken_whole P nv (Loads o event) h = h
 taken_whole P nv (Stores address octets) h = h

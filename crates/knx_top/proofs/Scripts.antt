@@ -3,7 +3,8 @@ use Rattle.std.proofs.Common.{ℕ, ◌≡◌, true, false, List, [], ◌∷◌, 
 use Rattle.knx_model.specs.declared.bench.BenchEvent.{BenchEvent}
 use Rattle.knx_model.specs.declared.bench.BenchEvent.TheVariants.{Give, On}
 use Rattle.knx_model.specs.declared.script.Cut.{Cut}
-use Rattle.knx_model.specs.Device.{DeviceState, is_write, effect_in}
+use Rattle.knx_model.specs.Device.{is_write, effect_in}
+use Rattle.knx_model.specs.DeviceState.{DeviceState}
 use Rattle.knx_model.specs.Bench.{Trace, happens, replay, now, after, cut_after}
 use Rattle.knx_model.specs.Script.{cut_for, number_with, IsAllowed, counted, write_count, Follows}
 use Rattle.knx_top.specs.Attempt.{IsScripted}

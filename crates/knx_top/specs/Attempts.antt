@@ -5,7 +5,7 @@ use Rattle.knx_model.specs.declared.bench.BenchEvent.{BenchEvent}
 use Rattle.knx_model.specs.declared.bench.BenchEvent.TheVariants.{GiveTorn, On}
 use Rattle.knx_model.specs.declared.plan.Op.{Op}
 use Rattle.knx_model.specs.Bench.{Trace, replay}
-use Rattle.knx_model.specs.Device.{DeviceState}
+use Rattle.knx_model.specs.DeviceState.{DeviceState}
 use Rattle.knx_model.specs.Plan.{apdu_of, gives, AnswersAll}
 
 -- ---- the attempts of a job

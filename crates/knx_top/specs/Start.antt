@@ -2,7 +2,7 @@
 use Rattle.std.specs.Prelude.{Option, Some, None}
 use Rattle.knx_model.specs.declared.address.IndAddr.{IndAddr}
 use Rattle.knx_model.specs.declared.config.Image.{Image}
-use Rattle.knx_model.specs.Device.{DeviceState, blank, loaded_with}
+use Rattle.knx_model.specs.DeviceState.{DeviceState, blank, loaded_with}
 
 -- the device as a run begins
 abbrev pub start_with : IndAddr → Option Image → DeviceState

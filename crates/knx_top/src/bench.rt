@@ -4,7 +4,8 @@ ghost use Rattle.std.specs.Prelude.{◌≡◌, [], None, Some, true, length, IfO
 ghost use Rattle.std.specs.Borrow.{sem};
 ghost use Rattle.std.specs.Option.{option_map};
 ghost use Rattle.knx_model.specs.declared.bench.BenchEvent.TheVariants.{Give, On};
-ghost use Rattle.knx_model.specs.Device.{blank, loaded_with, effect_in, is_write, runs, Fits};
+ghost use Rattle.knx_model.specs.Device.{effect_in, is_write, runs, Fits};
+ghost use Rattle.knx_model.specs.DeviceState.{blank, loaded_with};
 ghost use Rattle.knx_model.specs.Bench.{now, after, answered, cut_after};
 ghost use Rattle.knx_top.specs.Start.{start_with};
 ghost use Rattle.knx_top.specs.Lending.{LendsRun};
@@ -28,9 +29,9 @@ impl Model for Run {
 
     ghost Value = { Trace };
 
-    ghost view = { λ r. record { start = r.start.state; events = r.events.items } };
+    ghost view = { λ r. record { start = r.start; events = r.events.items } };
 
-    ghost invariant = { λ r. r.device.state ≡ replay r.start.state r.events.items };
+    ghost invariant = { λ r. r.device ≡ replay r.start r.events.items };
 }
 
 impl Run {

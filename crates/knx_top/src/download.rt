@@ -1,9 +1,9 @@
 //! A job: three attempts, each of which gives the operations of the plan in order until a cut.
 
 ghost use Rattle.std.specs.Prelude.{◌≡◌, ◌≢◌, ◌++◌, [], IfSome, IfOk, OnOk, OnErr, IsTrue, ◌↔◌, Some, None, true};
-ghost use Rattle.knx_model.specs.Device.{runs, effect_in, is_write};
+ghost use Rattle.knx_model.specs.Device.{runs, effect_in, is_write, HasCapacities};
 ghost use Rattle.knx_model.specs.Bench.{now, answered, Went};
-ghost use Rattle.knx_model.specs.Plan.{OldStoppedOrImage, HasCapacities, AnswersAll, load_plan, apdu_of, expected_of, gives};
+ghost use Rattle.knx_model.specs.Plan.{OldStoppedOrImage, AnswersAll, load_plan, apdu_of, expected_of, gives};
 ghost use Rattle.knx_model.specs.Script.{cut_for, number_with, Follows};
 ghost use Rattle.knx_top.specs.Attempt.{Begins, Moves, Passes, CutsOff, EndsCutOff, IsScripted, StopsIn};
 ghost use Rattle.knx_top.specs.Attempts.{WereCutOff, GotThrough, KeptToPlan};

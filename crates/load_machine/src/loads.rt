@@ -2,7 +2,8 @@
 
 ghost use Rattle.std.specs.Prelude.{◌≡◌};
 ghost use Rattle.knx_model.specs.Loading.{Loadable, machine_of, capacity_of, load_step, load_event};
-ghost use Rattle.knx_model.specs.Device.{base, capacity, machine, with_machine, all_unloaded};
+ghost use Rattle.knx_model.specs.Device.{segment_base, capacity};
+ghost use Rattle.load_machine.specs.Machines.{machine, with_machine, all_unloaded};
 
 use crate::machine::LoadMachine;
 use crate::octets::load_event;
@@ -19,7 +20,7 @@ pub struct Loads {
 }
 
 impl Model for Loads {
-    ghost use Rattle.knx_model.specs.Device.{Machines};
+    ghost use Rattle.load_machine.specs.Machines.{Machines};
 
     ghost Value = { Machines };
 
@@ -86,7 +87,7 @@ impl Loads {
 
     /// The segment of an object.
     pub fn segment(&self, object: LoadableObject) -> Segment
-        ensures base { result.base ≡ base object }
+        ensures base { result.base ≡ segment_base object }
         ensures len { result.len ≡ (machine self.now object).len }
     {
         Segment {

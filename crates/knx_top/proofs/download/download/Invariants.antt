@@ -1,6 +1,7 @@
 use Rattle.std.proofs.Common.{◌≡◌, true}
 use Rattle.knx_model.specs.Bench.{now, Went}
-use Rattle.knx_model.specs.Plan.{OldStoppedOrImage, HasCapacities, load_plan}
+use Rattle.knx_model.specs.Plan.{OldStoppedOrImage, load_plan}
+use Rattle.knx_model.specs.Device.{HasCapacities}
 use Rattle.knx_top.specs.Attempt.{IsScripted}
 use Rattle.knx_top.specs.Attempts.{WereCutOff}
 use Rattle.knx_top.proofs.download.download.Given as goal
