@@ -1,7 +1,7 @@
 //! Frames of L_Data, standard and extended (KNX standard 3/6/3, common EMI): message code, additional information, control octets, source,
 //! destination, length and TPDU.
 
-ghost use Rattle.std.specs.Prelude.{◌≡◌, ◌+◌, ◌*◌, ◌<◌, ◌≤◌, length, IfOk, IfErr, Ok};
+ghost use Rattle.std.specs.Prelude.{◌≡◌, ◌+◌, ◌*◌, ◌<◌, ◌≤◌, length, drop, IfOk, IfErr, Ok};
 ghost use Rattle.knx_model.specs.declared.frames.cemi.Ldata.{Ldata as Frame};
 ghost use Rattle.knx_model.specs.Cemi.{Reads, ReadsBody, Written, IsInRange, IsLeastBroken};
 ghost use Rattle.cemi_frames.specs.Refusing.{RefusesBody};
@@ -26,6 +26,7 @@ pub fn decode(octets: &[u8]) -> Result<Ldata, CemiRefused>
     frame_of(octets)
 }
 
+#[tactic(auto, using(crate::proofs::Least::least_refused))]
 fn frame_of(octets: &[u8]) -> Result<Ldata, CemiRefused>
     ensures read { IfOk result (λ frame. Reads octets.now frame) }
     ensures refused { IfErr result (λ why. IsLeastBroken why octets.now) }
@@ -37,7 +38,15 @@ fn frame_of(octets: &[u8]) -> Result<Ldata, CemiRefused>
     if octets.len() < LEAST + skip {
         return Err(CemiRefused::Short);
     }
-    body_of(octets[0], &octets[PREFIX + skip..])
+    body_of(octets[0], behind(octets, skip))
+}
+
+/// What follows additional information of so many octets.
+fn behind(octets: &[u8], skip: usize) -> &[u8]
+    requires { 2 + skip ≤ length octets.now }
+    ensures { result.now ≡ drop (2 + skip) octets.now }
+{
+    &octets[PREFIX + skip..]
 }
 
 /// What follows the additional information.

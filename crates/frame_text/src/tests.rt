@@ -6,7 +6,7 @@ use std::process::Abort;
 use std::test::Fail;
 
 /// Words of `decode`, and what each prints.
-const LINES: [(&str, &str); 39] = [
+const LINES: [(&str, &str); 40] = [
     ("061004", "ip refused 1 Header\n"),
     ("0610020100080100", "ip refused 2 Service\n"),
     (
@@ -56,6 +56,10 @@ const LINES: [(&str, &str); 39] = [
     ),
     (
         "0610042000150401000011003CE000000A03010081",
+        "ip tunnelling-request channel 1 number 0\ncemi req group 0.0.0 1/2/3 priority 3 hops 6\ntpdu unnumbered group-write s01\n",
+    ),
+    (
+        "0610042000150401000011003CE100000A03010081",
         "ip tunnelling-request channel 1 number 0\ncemi refused 3 Extended\n",
     ),
     (
@@ -204,8 +208,17 @@ fn numbered_services_to_a_device_are_encoded(rt: HostRuntime) {
         number: 0,
         apdu: Apdu::DescriptorRead(0),
     };
-    let unloads = Tpdu::Numbered {
+    let asks_length = Tpdu::Numbered {
         number: 1,
+        apdu: Apdu::PropertyRead {
+            object: 0,
+            property: 56,
+            count: 1,
+            start: 1,
+        },
+    };
+    let unloads = Tpdu::Numbered {
+        number: 2,
         apdu: Apdu::PropertyWrite {
             object: 4,
             property: 5,
@@ -219,7 +232,11 @@ fn numbered_services_to_a_device_are_encoded(rt: HostRuntime) {
         b"\x11\x00\xBC\x60\x00\x00\x11\x05\x01\x43\x00".as_slice()
     );
     assert_eq!(rt;
+        request_of(&rt, &asks_length).as_slice(),
+        b"\x11\x00\xBC\x60\x00\x00\x11\x05\x05\x47\xD5\x00\x38\x10\x01".as_slice()
+    );
+    assert_eq!(rt;
         request_of(&rt, &unloads).as_slice(),
-        b"\x11\x00\xBC\x60\x00\x00\x11\x05\x0F\x47\xD7\x04\x05\x10\x01\x04\0\0\0\0\0\0\0\0\0".as_slice()
+        b"\x11\x00\xBC\x60\x00\x00\x11\x05\x0F\x4B\xD7\x04\x05\x10\x01\x04\0\0\0\0\0\0\0\0\0".as_slice()
     );
 }
