@@ -29,12 +29,10 @@ pub mod Loading
 pub mod Device
 pub mod DeviceState
 pub mod DeviceFrames
-pub mod Bench
 pub mod Plan
 pub mod Plans
 pub mod Operations
 pub mod LoadPlan
 pub mod GoodPlan
-pub mod Script
 pub mod Promises
 pub mod ReportText

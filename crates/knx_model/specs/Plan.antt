@@ -17,10 +17,6 @@ use Rattle.knx_model.specs.declared.plan.Expect.{Expect}
 use Rattle.knx_model.specs.declared.plan.Expect.TheVariants.{AckOnly, Is, Note}
 use Rattle.knx_model.specs.declared.plan.Op.{Op}
 use Rattle.knx_model.specs.declared.plan.Op.TheVariants.{Send, Skip}
-use Rattle.knx_model.specs.declared.bench.BenchEvent.{BenchEvent}
-use Rattle.knx_model.specs.declared.bench.BenchEvent.TheVariants.{Give}
-use Rattle.knx_model.specs.Bench.{happens, answered}
-use Rattle.knx_model.specs.DeviceState.{DeviceState}
 use Rattle.knx_model.specs.Apdu.{word}
 use Rattle.knx_model.specs.ApduReading.{apdu_octets}
 use Rattle.knx_model.specs.Loading.{state_number}
@@ -135,15 +131,3 @@ GoodPlan ops image = (frames : FrameSupport) (start : NonVolatile) → Leads fra
 abbrev pub Serves : FrameSupport → (NonVolatile → Type 0) → List Op → NonVolatile → Type 0
 Serves frames R [] nv = R nv
 Serves frames R (op ∷ ops) nv = (answer_in frames nv (apdu_of op) ≡ expected_of op) × Serves frames R ops (whole nv (effect_in (apdu_of op)))
-
--- ---- a plan that was given whole
-
--- the events that give these operations whole, in order
-abbrev pub gives : List Op → List BenchEvent
-gives [] = []
-gives (op ∷ ops) = Give (apdu_of op) ∷ gives ops
-
--- from d on each of these operations is answered as expected
-abbrev pub AnswersAll : DeviceState → List Op → Type 0
-AnswersAll d [] = Unit {0}
-AnswersAll d (op ∷ ops) = (answered d (apdu_of op) ≡ expected_of op) × AnswersAll (happens d (Give (apdu_of op))) ops

@@ -1,19 +1,14 @@
--- What a run promises: at every moment a device keeps its starting content, or is stopped, or runs what the project says; and what is
--- told is true where it is told.
-use Rattle.std.specs.Prelude.{ℕ, ◌≡◌, ◌≤◌, true, false, List, length, Some, None, ◌⊎◌}
-use Rattle.std.specs.List.{AllByRecursion}
+-- What a run promises of what a device keeps: its starting content, or it is stopped, or it runs what the project says.
+use Rattle.std.specs.Prelude.{◌≡◌, true, false, Some, None, ◌⊎◌}
 use Rattle.knx_model.specs.declared.address.IndAddr.{IndAddr}
 use Rattle.knx_model.specs.declared.config.Image.{Image}
 use Rattle.knx_model.specs.declared.log.Case.{Case}
 use Rattle.knx_model.specs.declared.log.Case.TheVariants.{New, Old, Stopped}
-use Rattle.knx_model.specs.declared.log.LogEntry.{LogEntry}
-use Rattle.knx_model.specs.declared.log.LogWhat.TheVariants.{Done}
 use Rattle.knx_model.specs.Meaning.{Installation, meaning}
 use Rattle.knx_model.specs.Tables.{StandsFor}
 use Rattle.knx_model.specs.Device.{NonVolatile, runs, all_loaded}
 use Rattle.knx_model.specs.DeviceState.{DeviceState, blank, loaded_with}
 use Rattle.knx_model.specs.Rules.{has_device}
-use Rattle.knx_model.specs.Bench.{Trace, moment}
 
 -- a device that keeps nv runs exactly what the project says of it
 pub record RunsProject (project : Installation) (device : IndAddr) (nv : NonVolatile) : Type 0 where
@@ -29,14 +24,6 @@ pub data StartOf (before : Installation) (device : IndAddr) (start : DeviceState
 -- it keeps the starting content, or doesn't run, or runs exactly what the project says
 abbrev pub OldStoppedOrNew : Installation → IndAddr → NonVolatile → NonVolatile → Type 0
 OldStoppedOrNew project device start nv = (nv ≡ start) ⊎ ((runs nv ≡ None) ⊎ RunsProject project device nv)
-
--- the same at each moment of a trace
-abbrev pub AtEveryMoment : Installation → IndAddr → Trace → Type 0
-AtEveryMoment project device t = (k : ℕ) → k ≤ length t.events → OldStoppedOrNew project device t.start.kept (moment t k).kept
-
--- `done` is told only where the project's configuration runs: at the moment of the log's entry
-abbrev pub ToldTruly : Installation → IndAddr → Trace → List LogEntry → Type 0
-ToldTruly project device t log = AllByRecursion (λ (entry : LogEntry). (job : ℕ) → entry.what ≡ Done job → RunsProject project device (moment t entry.at).kept) log
 
 -- what a device is in the end: new where it runs what the project says, else old where its four objects are Loaded, else stopped
 pub data IsCase (project : Installation) (device : IndAddr) (nv : NonVolatile) : Case → Type 0 where

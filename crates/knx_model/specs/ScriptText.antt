@@ -251,6 +251,10 @@ cut_in _ = None
 abbrev pub cut_of : ScriptLine → Option Cut
 cut_of l = cut_in l.what
 
+-- the cuts that lines say, in order
+abbrev pub cuts_of : List ScriptLine → List Cut
+cuts_of ls = filter_map cut_of ls
+
 abbrev pub is_cut : ScriptLine → Bool
 is_cut l = is_some (cut_of l)
 

@@ -3,7 +3,6 @@
 #![tactic(auto)]
 
 mod address;
-mod bench;
 mod catalogue;
 mod command;
 mod config;
@@ -25,7 +24,6 @@ mod words;
 
 pub use address::GroupAddr;
 pub use address::IndAddr;
-pub use bench::BenchEvent;
 pub use catalogue::CatRefused;
 pub use catalogue::Catalogue;
 pub use catalogue::INLINE;

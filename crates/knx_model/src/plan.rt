@@ -36,7 +36,7 @@ pub trait PlanSource: Drop {
     /// How many operations there are.
     fn len(&self) -> u32
         ensures count { result ≡ count self.now }
-        ensures over { left self.now (count self.now) ≡ Over };
+        ensures over { (k : ℕ) → count self.now ≤ k → left self.now k ≡ Over };
 
     /// The k-th operation, from 0 on. It takes no memory.
     fn op(&self, k: u32) -> Op

@@ -3,7 +3,7 @@ use Rattle.std.proofs.Common.{ℕ, List, Option, Some, None, Result, Ok, Err, re
 use Rattle.knx_model.specs.declared.command.Stop.{Stop}
 use Rattle.knx_model.specs.declared.command.Stop.TheVariants as stop
 use Rattle.knx_model.specs.declared.status.Status.{Status}
-use Rattle.knx_model.specs.Bench.{Trace}
+use Rattle.knx_top.specs.Bench.{Trace}
 use Rattle.knx_model.specs.Outside.{Told}
 use Rattle.knx_top.specs.Asked.{Command, Check, Tables, Sim, Decode, files_of, no_files}
 use Rattle.knx_top.specs.Call.{AnswersTo, ComesTo, TellsOf, WroteOutcome}

@@ -1,20 +1,22 @@
 -- A run keeps the promises of the commission that it was begun with.
-use Rattle.std.proofs.Common.{ℕ, ◌≡◌, ◌≢◌, ◌-◌, ◌≤◌, true, List, [], ◌∷◌, ◌++◌, length, replicate, Option, Some, None, Result, Ok, Err, refl, sym, ap, ◌∙◌, subst, arith, inl, inr, ◌⊎◌, length-append}
+use Rattle.std.proofs.Common.{ℕ, ◌≡◌, ◌≢◌, ◌≤◌, true, List, [], ◌∷◌, length, Option, Some, None, Result, Ok, Err, refl, sym, ap, ◌∙◌, subst, arith, inl, inr, ◌⊎◌}
 use Rattle.std.specs.Prelude.{IfSome, IfOk}
-use Rattle.std.proofs.lemmas.List.{take_all, length-replicate}
+use Rattle.std.proofs.lemmas.List.{take_all}
 use Rattle.knx_model.specs.declared.address.IndAddr.{IndAddr}
 use Rattle.knx_model.specs.declared.command.Stop.{Stop}
 use Rattle.knx_model.specs.declared.command.Stop.TheVariants as stop
 use Rattle.knx_model.specs.declared.config.Image.{Image}
 use Rattle.knx_model.specs.declared.no_memory.NoMemory.{NoMemory}
 use Rattle.knx_model.specs.declared.script.Cut.{Cut}
-use Rattle.knx_model.specs.Bench.{Trace, now, moment, replay, Went}
-use Rattle.knx_model.specs.Device.{NonVolatile, Fits, HasCapacities}
-use Rattle.knx_model.specs.DeviceState.{DeviceState, blank_object}
+use Rattle.knx_top.specs.Bench.{Trace, now, moment, replay, Went}
+use Rattle.knx_model.specs.Device.{NonVolatile, Fits}
+use Rattle.knx_model.specs.DeviceState.{DeviceState}
 use Rattle.knx_model.specs.Meaning.{Installation, meaning}
-use Rattle.knx_model.specs.Plan.{OldStoppedOrImage, load_plan}
-use Rattle.knx_model.specs.Promises.{StartOf, BeginsLoaded, BeginsBlank, OldStoppedOrNew, RunsProject, ToldTruly}
-use Rattle.knx_model.specs.Script.{Follows}
+use Rattle.knx_model.specs.GoodPlan.{OldStoppedOrImage}
+use Rattle.knx_model.specs.LoadPlan.{load_plan}
+use Rattle.knx_model.specs.Promises.{StartOf, BeginsLoaded, BeginsBlank, OldStoppedOrNew, RunsProject}
+use Rattle.knx_top.specs.Moments.{ToldTruly}
+use Rattle.knx_top.specs.Script.{Follows}
 use Rattle.knx_model.specs.Tables.{StandsFor}
 use Rattle.knx_top.specs.declared.judge.Order.{Order}
 use Rattle.knx_top.specs.declared.commission.Ended.{Ended}
@@ -83,19 +85,6 @@ begun_run t bench start lent begun = some_trace t (record { start = start; event
 pub start_power : (device : IndAddr) (before : Option Image) → (start_with device before).power ≡ true
 start_power device None = refl
 start_power device (Some image) = refl
-
-room_for : (list : List ℕ) (size : ℕ) → length list ≤ size → length (list ++ replicate (size - length list) 0) ≡ size
-room_for list size h = grind (arith, length-append, length-replicate)
-
-pub start_room : (device : IndAddr) (before : Option Image) → IfSome before Fits → HasCapacities (start_with device before).kept
-unfolding blank_object
-start_room device None h = record { addr = length-replicate {A = ℕ} 0x1000 0; assoc = length-replicate {A = ℕ} 0x2000 0; objs = length-replicate {A = ℕ} 0x0400 0; params = length-replicate {A = ℕ} 0x2000 0 }
-start_room device (Some image) h = record {
-  addr = room_for image.addr 0x1000 h.addr;
-  assoc = room_for image.assoc 0x2000 h.assoc;
-  objs = room_for image.objs 0x0400 h.objs;
-  params = room_for image.params 0x2000 h.params;
-}
 
 start_for : (project : Installation) (device : IndAddr) (before : Option Image) → IsBefore project device before → StartOf project device (start_with device before)
 start_for project device None b = BeginsBlank b refl

@@ -4,13 +4,13 @@ use Rattle.std.specs.List.{slice_get}
 use Rattle.std.specs.Result.{OnErr}
 use Rattle.std.proofs.lemmas.List.{take_more, drop_all, take_all}
 use Rattle.std.proofs.lemmas.Option.{slice_get_within, get_or_from_slice_get}
-use Rattle.knx_model.specs.declared.bench.BenchEvent.{BenchEvent}
-use Rattle.knx_model.specs.declared.bench.BenchEvent.TheVariants.{Give, GiveTorn, On}
+use Rattle.knx_top.specs.declared.event.BenchEvent.{BenchEvent}
+use Rattle.knx_top.specs.declared.event.BenchEvent.TheVariants.{Give, GiveTorn, On}
 use Rattle.knx_model.specs.declared.config.Image.{Image}
 use Rattle.knx_model.specs.declared.plan.Op.{Op}
 use Rattle.knx_model.specs.Device.{NonVolatile, Effect, Loads, Stores, Nothing, runs, whole, torn, taken_over, effect_in, answer_in, written_front, HasCapacities}
 use Rattle.knx_model.specs.DeviceState.{DeviceState}
-use Rattle.knx_model.specs.Bench.{Trace, happens, replay, now, after, answered, cut_after, Went}
+use Rattle.knx_top.specs.Bench.{Trace, happens, replay, now, after, answered, cut_after, Went}
 use Rattle.knx_model.specs.Plan.{Leads, Serves, OldStoppedOrImage, GoodPlan, load_plan, apdu_of, expected_of, gives, AnswersAll}
 use Rattle.download_plan.proofs.Capacities.{replay_capacities}
 use Rattle.knx_top.specs.Attempt.{Begins, Moves, Passes, CutsOff, EndsCutOff, StopsIn}

@@ -1,12 +1,12 @@
 -- The events of a bench follow its script.
 use Rattle.std.proofs.Common.{ℕ, ◌≡◌, true, false, List, [], ◌∷◌, ◌++◌, Some, None, refl, sym, ◌∙◌, ap, subst}
-use Rattle.knx_model.specs.declared.bench.BenchEvent.{BenchEvent}
-use Rattle.knx_model.specs.declared.bench.BenchEvent.TheVariants.{Give, On}
+use Rattle.knx_top.specs.declared.event.BenchEvent.{BenchEvent}
+use Rattle.knx_top.specs.declared.event.BenchEvent.TheVariants.{Give, On}
 use Rattle.knx_model.specs.declared.script.Cut.{Cut}
 use Rattle.knx_model.specs.Device.{is_write, effect_in}
 use Rattle.knx_model.specs.DeviceState.{DeviceState}
-use Rattle.knx_model.specs.Bench.{Trace, happens, replay, now, after, cut_after}
-use Rattle.knx_model.specs.Script.{cut_for, number_with, IsAllowed, counted, write_count, Follows}
+use Rattle.knx_top.specs.Bench.{Trace, happens, replay, now, after, cut_after}
+use Rattle.knx_top.specs.Script.{cut_for, number_with, IsAllowed, counted, write_count, Follows}
 use Rattle.knx_top.specs.Attempt.{IsScripted}
 use Rattle.knx_top.proofs.Going.{now_after}
 

@@ -1,9 +1,9 @@
 -- A bench goes on, and a property of what its device keeps holds at every moment.
 use Rattle.std.proofs.Common.{ℕ, ◌≡◌, ◌+◌, ◌≤◌, List, [], ◌∷◌, ◌++◌, length, take, length-append, refl, sym, ◌∙◌, ap, subst, arith, inl, inr}
-use Rattle.knx_model.specs.declared.bench.BenchEvent.{BenchEvent}
+use Rattle.knx_top.specs.declared.event.BenchEvent.{BenchEvent}
 use Rattle.knx_model.specs.Device.{NonVolatile}
 use Rattle.knx_model.specs.DeviceState.{DeviceState}
-use Rattle.knx_model.specs.Bench.{Trace, happens, replay, now, after, Went}
+use Rattle.knx_top.specs.Bench.{Trace, happens, replay, now, after, Went}
 use Rattle.std.proofs.lemmas.List.{take_all, take-append-le, take-take}
 use Rattle.std.proofs.lemmas.Bool.{cases_lt}
 

@@ -12,7 +12,7 @@ use Rattle.knx_model.specs.declared.log.LogWhat.{LogWhat}
 use Rattle.knx_model.specs.declared.log.LogWhat.TheVariants.{Failed}
 use Rattle.knx_model.specs.declared.status.Status.{Status}
 use Rattle.knx_model.specs.declared.status.Status.TheVariants as status
-use Rattle.knx_model.specs.Bench.{Trace}
+use Rattle.knx_top.specs.Bench.{Trace}
 use Rattle.knx_model.specs.Meaning.{Installation, meaning}
 use Rattle.knx_model.specs.Outside.{Told, Takes, TakesFront}
 use Rattle.knx_model.specs.ReportText.{counts_line, tables_lines, report_text, stop_text, stop_status}

@@ -11,16 +11,17 @@ use Rattle.knx_model.specs.declared.log.LogWhat.TheVariants as told
 use Rattle.knx_model.specs.declared.log.Sign.TheVariants.{Closed}
 use Rattle.knx_model.specs.declared.script.Cut.{Cut}
 use Rattle.knx_model.specs.declared.status.Status.{Status}
-use Rattle.knx_model.specs.Bench.{Trace, now, moment}
+use Rattle.knx_top.specs.Bench.{Trace, now, moment}
 use Rattle.knx_top.specs.Asked.{FileNames}
 use Rattle.knx_top.specs.Call.{WroteOutcome, outcome_status, outcome_text}
 use Rattle.knx_top.specs.Attempts.{WereCutOff, GotThrough, KeptToPlan}
 use Rattle.knx_top.specs.Ran.{Outcome, Stops, Tells, Reports, entry}
 use Rattle.knx_model.specs.Device.{runs}
 use Rattle.knx_model.specs.Meaning.{Installation, meaning}
-use Rattle.knx_model.specs.Plan.{OldStoppedOrImage, load_plan}
+use Rattle.knx_model.specs.GoodPlan.{OldStoppedOrImage}
+use Rattle.knx_model.specs.LoadPlan.{load_plan}
 use Rattle.knx_model.specs.Promises.{IsCase}
-use Rattle.knx_model.specs.Script.{Follows}
+use Rattle.knx_top.specs.Script.{Follows}
 use Rattle.knx_model.specs.Tables.{StandsFor}
 use Rattle.knx_top.specs.declared.commission.Ended.{Ended}
 use Rattle.knx_top.specs.declared.download.JobEnd.{JobEnd}

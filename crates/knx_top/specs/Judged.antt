@@ -20,8 +20,7 @@ use Rattle.knx_model.specs.Answers.{◌>>=◌, AnswersUnless}
 use Rattle.knx_model.specs.Meaning.{Installation}
 use Rattle.knx_model.specs.Outside.{Told, MayRead}
 use Rattle.knx_model.specs.Rules.{first_broken, devices_of}
-use Rattle.knx_model.specs.Script.{cuts_of}
-use Rattle.knx_model.specs.ScriptText.{script_reading, is_cut, first_stranger}
+use Rattle.knx_model.specs.ScriptText.{cuts_of, script_reading, is_cut, first_stranger}
 use Rattle.knx_model.specs.Statements.{reading}
 use Rattle.knx_top.specs.Asked.{ProjectWords, SimWords}
 

@@ -1,7 +1,7 @@
 -- What the bench is after the run on it was lent.
 use Rattle.std.specs.Prelude.{Option, Some}
 use Rattle.std.specs.Borrow.{LendsIf, MutBor, Fml}
-use Rattle.knx_model.specs.Bench.{Trace}
+use Rattle.knx_top.specs.Bench.{Trace}
 use Rattle.knx_top.specs.declared.bench.Bench.{Bench}
 use Rattle.knx_top.specs.contracts.bench.Bench.{the_row}
 use Rattle.knx_top.specs.contracts.bench.Run as run

@@ -9,3 +9,6 @@ pub mod Attempt
 pub mod Order
 pub mod Ended
 pub mod Lending
+pub mod Bench
+pub mod Script
+pub mod Moments

@@ -11,11 +11,12 @@ use Rattle.knx_model.specs.declared.log.LogWhat.{LogWhat}
 use Rattle.knx_model.specs.declared.log.LogWhat.TheVariants.{Took, Done, Failed}
 use Rattle.knx_model.specs.declared.log.Report.{Report}
 use Rattle.knx_model.specs.declared.log.Sign.TheVariants.{Closed}
-use Rattle.knx_model.specs.Bench.{Trace, now}
+use Rattle.knx_top.specs.Bench.{Trace, now}
 use Rattle.knx_model.specs.Meaning.{meaning}
-use Rattle.knx_model.specs.Plan.{load_plan}
-use Rattle.knx_model.specs.Promises.{StartOf, AtEveryMoment, ToldTruly, IsCase}
-use Rattle.knx_model.specs.Script.{Follows}
+use Rattle.knx_model.specs.LoadPlan.{load_plan}
+use Rattle.knx_model.specs.Promises.{StartOf, IsCase}
+use Rattle.knx_top.specs.Moments.{AtEveryMoment, ToldTruly}
+use Rattle.knx_top.specs.Script.{Follows}
 use Rattle.knx_model.specs.Tables.{StandsFor}
 use Rattle.knx_top.specs.Attempts.{WereCutOff, GotThrough, KeptToPlan}
 use Rattle.knx_top.specs.Judged.{Commission}

@@ -3,15 +3,16 @@
 ghost use Rattle.std.specs.Prelude.{◌≡◌, [], None, Some, true, length, IfOk, IfSome, OnOk, OnErr};
 ghost use Rattle.std.specs.Borrow.{sem};
 ghost use Rattle.std.specs.Option.{option_map};
-ghost use Rattle.knx_model.specs.declared.bench.BenchEvent.TheVariants.{Give, On};
 ghost use Rattle.knx_model.specs.Device.{effect_in, is_write, runs, Fits};
-ghost use Rattle.knx_model.specs.DeviceState.{blank, loaded_with};
-ghost use Rattle.knx_model.specs.Bench.{now, after, answered, cut_after};
+ghost use Rattle.knx_model.specs.DeviceState.{IsDevice, blank, loaded_with};
+ghost use Rattle.knx_top.specs.declared.event.BenchEvent.TheVariants.{Give, On};
+ghost use Rattle.knx_top.specs.Bench.{now, after, answered, cut_after};
 ghost use Rattle.knx_top.specs.Start.{start_with};
 ghost use Rattle.knx_top.specs.Lending.{LendsRun};
 
+use crate::event::BenchEvent;
 use device_sim::{Device, written_front};
-use knx_model::{ApduOctets, BenchEvent, Image, IndAddr, NoMemory};
+use knx_model::{ApduOctets, Image, IndAddr, NoMemory};
 use std::alloc::Global;
 use std::marker::Model;
 
@@ -25,7 +26,7 @@ pub struct Run {
 
 impl Model for Run {
     ghost use Rattle.std.specs.Prelude.{◌≡◌};
-    ghost use Rattle.knx_model.specs.Bench.{Trace, replay};
+    ghost use Rattle.knx_top.specs.Bench.{Trace, replay};
 
     ghost Value = { Trace };
 
@@ -74,6 +75,20 @@ impl Run {
         ensures { IfOk result (λ image. image ≡ runs (now self.now).kept) }
     {
         self.device.image(alloc)
+    }
+
+    /// What is so of each device, for a caller to know. It does nothing.
+    pub fn facts(&self)
+        ensures { IsDevice (now self.now) }
+    {
+        self.device.facts();
+    }
+
+    /// The device's individual address.
+    pub fn address(&self) -> IndAddr
+        ensures { result ≡ (now self.now).address }
+    {
+        self.device.address()
     }
 
     /// The number of events.
@@ -141,7 +156,7 @@ pub struct Bench {
 
 impl Model for Bench {
     ghost use Rattle.std.specs.Prelude.{Option};
-    ghost use Rattle.knx_model.specs.Bench.{Trace};
+    ghost use Rattle.knx_top.specs.Bench.{Trace};
 
     ghost Value = { Option Trace };
 

@@ -2,7 +2,7 @@
 
 ghost use Rattle.std.specs.Prelude.{◌≡◌, IfOk, IsTrue, ◌↔◌, Some};
 ghost use Rattle.knx_model.specs.declared.address.IndAddr.{IndAddr as Address};
-ghost use Rattle.knx_model.specs.Bench.{now};
+ghost use Rattle.knx_top.specs.Bench.{now};
 ghost use Rattle.knx_model.specs.Meaning.{Installation, meaning};
 ghost use Rattle.knx_model.specs.Promises.{IsCase};
 ghost use Rattle.knx_model.specs.Tables.{StandsFor};

@@ -1,10 +1,10 @@
 //! A run: the device begins as it is stated, the job is downloaded, and what was done is reported.
 
 ghost use Rattle.std.specs.Prelude.{◌≡◌, [], true, Ok, IfOk, IfSome};
-ghost use Rattle.knx_model.specs.Bench.{now};
+ghost use Rattle.knx_top.specs.Bench.{now};
 ghost use Rattle.knx_top.specs.Judged.{Commission, judged};
 ghost use Rattle.knx_top.specs.Ran.{Commissions};
-ghost use Rattle.knx_model.specs.Device.{Fits, HasCapacities};
+ghost use Rattle.knx_model.specs.Device.{Fits};
 ghost use Rattle.knx_top.specs.Names.{sim_reads_of};
 ghost use Rattle.knx_top.specs.Order.{IsOrder};
 ghost use Rattle.knx_top.specs.Ended.{end_of, log_of, HasLoaded, HasEnded, HasReported, Reported, outcome_of, run_outcome};
@@ -92,7 +92,6 @@ fn load(
     cuts: &[Cut],
 ) -> Result<Ended, NoMemory>
     requires power { (now run.old).power ≡ true }
-    requires room { HasCapacities run.old.start.kept }
     requires fresh { run.old.events ≡ [] }
     ensures start { run.new.start ≡ run.old.start }
     ensures loaded { HasLoaded plan.now cuts.now run.new }

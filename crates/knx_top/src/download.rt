@@ -1,16 +1,19 @@
 //! A job: three attempts, each of which gives the operations of the plan in order until a cut.
 
-ghost use Rattle.std.specs.Prelude.{◌≡◌, ◌≢◌, ◌++◌, [], IfSome, IfOk, OnOk, OnErr, IsTrue, ◌↔◌, Some, None, true};
-ghost use Rattle.knx_model.specs.Device.{runs, effect_in, is_write, HasCapacities};
-ghost use Rattle.knx_model.specs.Bench.{now, answered, Went};
-ghost use Rattle.knx_model.specs.Plan.{OldStoppedOrImage, AnswersAll, load_plan, apdu_of, expected_of, gives};
-ghost use Rattle.knx_model.specs.Script.{cut_for, number_with, Follows};
-ghost use Rattle.knx_top.specs.Attempt.{Begins, Moves, Passes, CutsOff, EndsCutOff, IsScripted, StopsIn};
+ghost use Rattle.std.specs.Prelude.{◌≡◌, ◌+◌, ◌≤◌, ℕ, [], IfSome, IfOk, OnOk, OnErr, Some, None, true};
+ghost use Rattle.knx_model.specs.declared.config.Image.{Image};
+ghost use Rattle.knx_model.specs.declared.device.FrameSupport.{FrameSupport};
+ghost use Rattle.knx_model.specs.declared.plan.Op.TheVariants.{Send};
+ghost use Rattle.knx_model.specs.Device.{NonVolatile, runs, effect_in, is_write, answer_in, HasCapacities};
+ghost use Rattle.knx_model.specs.GoodPlan.{OldStoppedOrImage, GoodPlan, AnswersAll};
+ghost use Rattle.knx_model.specs.Plans.{IsHead, Suits};
+ghost use Rattle.knx_top.specs.Bench.{now, Went};
+ghost use Rattle.knx_top.specs.Script.{cut_for, number_with, Follows};
+ghost use Rattle.knx_top.specs.Attempt.{Finds, plan_after, Moves, Came, StopsIn, GivesAll, EndsCutOff, Begins, IsScripted};
 ghost use Rattle.knx_top.specs.Attempts.{WereCutOff, GotThrough, KeptToPlan};
 
 use crate::bench::Run;
-use download_plan::{LoadPlan, each_plan_is_good};
-use knx_model::{ApduOctets, Cut, Expect, NoMemory, Op};
+use knx_model::{ApduOctets, Cut, Expect, IndAddr, NoMemory, Op, PlanSource};
 use std::alloc::Global;
 
 /// How often a job is tried.
@@ -32,141 +35,133 @@ enum AttemptEnd {
     Closed,
 }
 
-/// How one operation went.
-#[derive(Clone, Copy, Drop)]
-enum Progress {
-    Passed,
-    CutOff,
-    Differs,
+/// An operation of a plan that is given, and its number there.
+#[derive(Drop)]
+struct Asked {
+    number: u32,
+    apdu: ApduOctets,
+    expect: Expect,
 }
 
-/// The first cut at a write.
-fn cut_at(cuts: &[Cut], write: u64) -> Option<Cut>
-    ensures { result ≡ cut_for cuts.now write }
+/// What came of a service.
+#[derive(Drop)]
+enum Reply {
+    /// It was taken whole, and this was the answer; none but the acknowledgement at `None`.
+    Answer(Option<ApduOctets>),
+    /// Power was cut in it, and came back.
+    CutOff,
+}
+
+/// The first cut at a write of a device.
+fn cut_at(cuts: &[Cut], device: IndAddr, write: u64) -> Option<Cut>
+    ensures { result ≡ cut_for cuts.now device write }
 {
-    for cut in cuts {
-        if u64::from(cut.n) == write {
-            return Some(*cut);
-        }
-    }
-    None
+    cuts.iter().copied().find(|cut| cut.device.raw == device.raw && u64::from(cut.n) == write)
 }
 
 /// Counts the service, if it is a write, and finds the cut that falls at it.
 fn due(run: &Run, apdu: &[u8], cuts: &[Cut], count: &mut u64) -> Option<Cut>
     ensures count { count.new ≡ number_with (now run.now) count.old apdu.now }
-    ensures none { result ≡ None → is_write (now run.now).kept (effect_in apdu.now) ≡ true → cut_for cuts.now count.new ≡ None }
-    ensures some { IfSome result (λ cut. (is_write (now run.now).kept (effect_in apdu.now) ≡ true) × (cut_for cuts.now count.new ≡ Some cut)) }
+    ensures none { result ≡ None → is_write (now run.now).kept (effect_in apdu.now) ≡ true → cut_for cuts.now (now run.now).address count.new ≡ None }
+    ensures some { IfSome result (λ cut. (is_write (now run.now).kept (effect_in apdu.now) ≡ true) × (cut_for cuts.now (now run.now).address count.new ≡ Some cut)) }
 {
     if run.would_write(apdu) {
         *count = count.saturating_add(1);
-        cut_at(cuts, *count)
+        cut_at(cuts, run.address(), *count)
     } else {
         None
     }
 }
 
-/// Whether an answer is the one that an operation expects.
-fn is_expected(answer: &Option<ApduOctets>, op: &Op) -> bool
-    ensures { IsTrue result ↔ (answer.now ≡ expected_of op.now) }
-{
-    match (answer, op) {
-        (
-            Some(octets),
-            Op::Send {
-                expect: Expect::Is(expected),
-                ..
-            },
-        ) => octets.as_slice() == expected.as_slice(),
-        (
-            None,
-            Op::Send {
-                expect: Expect::Is(_),
-                ..
-            },
-        ) => false,
-        (None, _) => true,
-        _ => false,
-    }
-}
-
-/// The service of an operation, as octets.
-fn service_of(op: &Op) -> ApduOctets
-    ensures { result ≡ apdu_of op.now }
-{
-    match op {
-        Op::Send { apdu, .. } => apdu.copied(),
-        Op::Skip => ApduOctets::new(),
-    }
-}
-
-/// Gives one operation, or cuts power in it where the script says so.
+/// Gives one service, or cuts power in it where the script says so.
 #[tactic(auto, using(crate::proofs::Going::power_whole, crate::proofs::Going::power_on))]
-fn operate(
+fn give(
     alloc: Global,
     run: &mut Run,
-    op: &Op,
+    apdu: ApduOctets,
     cuts: &[Cut],
     count: &mut u64,
-) -> Result<Progress, NoMemory>
+) -> Result<Reply, NoMemory>
     requires power { (now run.old).power ≡ true }
     requires script { IsScripted cuts.now count.old run.old }
     ensures follows { Follows cuts.now run.new.start 0 run.new.events }
     ensures script { OnOk result (IsScripted cuts.now count.new run.new) }
-    ensures moves { Moves op.now run.old run.new }
+    ensures moves { Moves apdu run.old run.new }
     ensures power { OnOk result ((now run.new).power ≡ true) }
-    ensures wanting { OnErr result (StopsIn op.now run.old run.new) }
-    ensures passed { IfOk result (λ progress. progress ≡ Progress.Passed → Passes op.now run.old run.new) }
-    ensures cut_off { IfOk result (λ progress. progress ≡ Progress.CutOff → CutsOff op.now run.old run.new) }
-    ensures differs { IfOk result (λ progress. progress ≡ Progress.Differs → answered (now run.old) (apdu_of op.now) ≢ expected_of op.now) }
+    ensures wanting { OnErr result (StopsIn apdu run.old run.new) }
+    ensures came { IfOk result (Came apdu run.old run.new) }
 {
-    let apdu = service_of(op);
     match due(run, apdu.as_slice(), cuts, count) {
         Some(cut) => {
             run.give_torn(alloc, apdu, cut.k)?;
             run.on()?;
-            Ok(Progress::CutOff)
+            Ok(Reply::CutOff)
         }
         None => {
             let answer = run.give(apdu)?;
-            if is_expected(&answer, op) {
-                Ok(Progress::Passed)
-            } else {
-                Ok(Progress::Differs)
-            }
+            Ok(Reply::Answer(answer))
         }
     }
 }
 
-/// Gives the operations of the plan in order, until a cut.
-fn attempt(
+/// The operation that is given next, from the k-th on: one that is passed over isn't given.
+fn next_asked<P: PlanSource>(plan: &P, k: u32) -> Option<Asked>
+    ensures { Finds (P.left plan.now) (P.count plan.now) k result }
+{
+    for number in k..plan.len() {
+        if let Op::Send { apdu, expect } = plan.op(number) {
+            return Some(Asked {
+                number,
+                apdu,
+                expect,
+            });
+        }
+    }
+    None
+}
+
+/// Tells the plan the answer to an operation, if it notes it.
+fn tell_answer<P: PlanSource>(plan: &mut P, asked: &Asked, answer: &Option<ApduOctets>)
+    requires head { IsHead (Send asked.now.apdu asked.now.expect) (P.left plan.old asked.now.number) (P.left plan.old (asked.now.number + 1)) }
+    requires suits { Suits asked.now.apdu asked.now.expect answer.now }
+    ensures follows { P.left plan.new (asked.now.number + 1) ≡ plan_after (P.left plan.old asked.now.number) answer.now }
+    ensures before { (j : ℕ) → j ≤ asked.now.number → P.left plan.new j ≡ P.left plan.old j }
+{
+    if let (Expect::Note, Some(got)) = (&asked.expect, answer) {
+        plan.note(asked.number, got.as_slice());
+    }
+}
+
+/// Gives the operations of the plan in order, until a cut. The answers aren't compared here: it is proved that each is the wanted one.
+fn attempt<P: PlanSource>(
     alloc: Global,
     run: &mut Run,
-    plan: &LoadPlan,
+    plan: &mut P,
     cuts: &[Cut],
     count: &mut u64,
 ) -> Result<AttemptEnd, NoMemory>
     requires power { (now run.old).power ≡ true }
-    requires room { HasCapacities run.old.start.kept }
     requires script { IsScripted cuts.now count.old run.old }
+    requires serves { (frames : FrameSupport) (nv : NonVolatile) → HasCapacities nv → AnswersAll (answer_in frames) (P.left plan.old 0) nv }
+    ensures same_plan { P.left plan.new 0 ≡ P.left plan.old 0 }
+    ensures start { run.new.start ≡ run.old.start }
     ensures follows { Follows cuts.now run.new.start 0 run.new.events }
     ensures script { OnOk result (IsScripted cuts.now count.new run.new) }
-    ensures moments { Went (OldStoppedOrImage (now run.old).kept plan.now) run.old run.new }
+    ensures moments { (image : Image) → GoodPlan (P.left plan.old 0) image → Went (OldStoppedOrImage (now run.old).kept image) run.old run.new }
     ensures power { OnOk result ((now run.new).power ≡ true) }
-    ensures wanting { OnErr result (Begins (load_plan plan.now) run.old run.new) }
-    ensures closed { IfOk result (λ ending. ending ≡ AttemptEnd.Closed → EndsCutOff (load_plan plan.now) run.old run.new) }
-    ensures whole { IfOk result (λ ending. ending ≡ AttemptEnd.Done → run.new.events ≡ run.old.events ++ gives (load_plan plan.now)) }
-    ensures answers { IfOk result (λ ending. ending ≡ AttemptEnd.Done → AnswersAll (now run.old) (load_plan plan.now)) }
-    ensures done { IfOk result (λ ending. ending ≡ AttemptEnd.Done → runs (now run.new).kept ≡ Some plan.now) }
+    ensures wanting { OnErr result (Begins (P.left plan.old 0) run.old run.new) }
+    ensures closed { IfOk result (λ ending. ending ≡ AttemptEnd.Closed → EndsCutOff (P.left plan.old 0) run.old run.new) }
+    ensures whole { IfOk result (λ ending. ending ≡ AttemptEnd.Done → GivesAll (P.left plan.old 0) run.old run.new) }
+    ensures done { IfOk result (λ ending. ending ≡ AttemptEnd.Done → (image : Image) → GoodPlan (P.left plan.old 0) image → runs (now run.new).kept ≡ Some image) }
 {
-    each_plan_is_good();
-    for k in 0..plan.len() {
-        let op = plan.op(k);
-        match operate(alloc, run, &op, cuts, count)? {
-            Progress::Passed => {}
-            Progress::CutOff => return Ok(AttemptEnd::Closed),
-            Progress::Differs => unreachable!(),
+    run.facts();
+    let mut k = 0;
+    while let Some(asked) = next_asked(plan, k) {
+        match give(alloc, run, asked.apdu.copied(), cuts, count)? {
+            Reply::Answer(answer) => tell_answer(plan, &asked, &answer),
+            Reply::CutOff => return Ok(AttemptEnd::Closed),
         }
+        k = asked.number + 1;
     }
     Ok(AttemptEnd::Done)
 }
@@ -174,21 +169,23 @@ fn attempt(
 /// Loads the plan's image, in three attempts. Whatever is cut, at every moment of the call the device's content is what it was
 /// before, or the device is stopped, or it runs the image; and where `Done` is answered, it runs the image. `Failed` is answered after three
 /// attempts that a cut ended, `Done` after fewer and then the whole plan; and where memory is wanting, what was done is a beginning of these.
-pub fn download(
+/// The plan is one that each device answers as it wants.
+pub fn download<P: PlanSource>(
     alloc: Global,
     run: &mut Run,
-    plan: &LoadPlan,
+    plan: &mut P,
     cuts: &[Cut],
 ) -> Result<JobEnd, NoMemory>
     requires power { (now run.old).power ≡ true }
-    requires room { HasCapacities run.old.start.kept }
     requires fresh { run.old.events ≡ [] }
+    requires serves { (frames : FrameSupport) (nv : NonVolatile) → HasCapacities nv → AnswersAll (answer_in frames) (P.left plan.old 0) nv }
+    ensures start { run.new.start ≡ run.old.start }
     ensures follows { Follows cuts.now run.new.start 0 run.new.events }
-    ensures moments { Went (OldStoppedOrImage (now run.old).kept plan.now) run.old run.new }
-    ensures kept_to { KeptToPlan (load_plan plan.now) run.new }
-    ensures failed { IfOk result (λ ending. ending ≡ JobEnd.Failed → WereCutOff (load_plan plan.now) run.new.start 3 run.new.events) }
-    ensures got_through { IfOk result (λ ending. ending ≡ JobEnd.Done → GotThrough (load_plan plan.now) run.new) }
-    ensures done { IfOk result (λ ending. ending ≡ JobEnd.Done → runs (now run.new).kept ≡ Some plan.now) }
+    ensures moments { (image : Image) → GoodPlan (P.left plan.old 0) image → Went (OldStoppedOrImage (now run.old).kept image) run.old run.new }
+    ensures kept_to { KeptToPlan (P.left plan.old 0) run.new }
+    ensures failed { IfOk result (λ ending. ending ≡ JobEnd.Failed → WereCutOff (P.left plan.old 0) run.new.start 3 run.new.events) }
+    ensures got_through { IfOk result (λ ending. ending ≡ JobEnd.Done → GotThrough (P.left plan.old 0) run.new) }
+    ensures done { IfOk result (λ ending. ending ≡ JobEnd.Done → (image : Image) → GoodPlan (P.left plan.old 0) image → runs (now run.new).kept ≡ Some image) }
 {
     let mut count = 0;
     for attempts in 0..ATTEMPTS {

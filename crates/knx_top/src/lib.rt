@@ -7,6 +7,7 @@ mod call;
 mod case;
 mod commission;
 mod download;
+mod event;
 mod judge;
 mod project;
 mod stop;
@@ -15,7 +16,8 @@ mod told;
 
 pub use bench::{Bench, Run};
 pub use call::knx;
-pub use knx_model::{BenchEvent, Status};
+pub use event::BenchEvent;
+pub use knx_model::Status;
 pub use stop::NO_MEMORY;
 
 #[cfg(test)]

@@ -1,8 +1,7 @@
 //! The devices that lines name, and the cuts among the lines.
 
 ghost use Rattle.std.specs.Prelude.{◌≡◌, IfOk};
-ghost use Rattle.knx_model.specs.Script.{cuts_of};
-ghost use Rattle.knx_model.specs.ScriptText.{cut_of, is_cut, device_named, refused_unless_listed, first_stranger, strangers};
+ghost use Rattle.knx_model.specs.ScriptText.{cut_of, cuts_of, is_cut, device_named, refused_unless_listed, first_stranger, strangers};
 
 use knx_model::{Cut, IndAddr, List, NoMemory, Refused, ScriptLine, ScriptWhat, Why};
 use std::alloc::Global;

@@ -1,11 +1,7 @@
 use Rattle.std.proofs.Common.{ap, refl, ◌∙◌}
-use Rattle.knx_model.specs.Bench.{Trace}
-use Rattle.knx_top.proofs.Commissions.{begun_run, start_room, decided_all}
+use Rattle.knx_top.specs.Bench.{Trace}
+use Rattle.knx_top.proofs.Commissions.{begun_run, decided_all}
 use Rattle.knx_top.proofs.commission.commission_order.Goals as goal
-
-pub load-requires-clause-room : goal.load-requires-clause-room
-load-requires-clause-room c =
-    rw (begun_run _ _ _ c.in-Some.ensures.value c.in_ok-begin.ensures.begun) (start_room c.args.order.device c.args.order.before c.requires.before)
 
 pub returns : goal.returns
 returns c = λ commission is.

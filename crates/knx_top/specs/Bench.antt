@@ -1,10 +1,10 @@
 -- A bench: a device with all that was done to it. The device at each moment is what the start and the events up to it give.
 use Rattle.std.specs.Prelude.{ℕ, ◌≡◌, ◌≤◌, nat_lt, List, [], ◌∷◌, ◌++◌, length, take, Option}
-use Rattle.knx_model.specs.declared.bench.BenchEvent.{BenchEvent}
-use Rattle.knx_model.specs.declared.bench.BenchEvent.TheVariants.{Give, GiveTorn, On}
 use Rattle.knx_model.specs.Device.{NonVolatile, written_front, effect_in}
 use Rattle.knx_model.specs.DeviceState.{DeviceState, switched_on}
 use Rattle.knx_model.specs.DeviceFrames.{given, given_torn, answer_given}
+use Rattle.knx_top.specs.declared.event.BenchEvent.{BenchEvent}
+use Rattle.knx_top.specs.declared.event.BenchEvent.TheVariants.{Give, GiveTorn, On}
 
 -- one event; without power nothing is taken
 abbrev pub happens : DeviceState → BenchEvent → DeviceState

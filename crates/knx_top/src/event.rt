@@ -1,7 +1,6 @@
 //! What a bench does to its one device.
 
-use crate::frames::ApduOctets;
-use crate::lists::Octets;
+use knx_model::{ApduOctets, Octets};
 
 /// One event on a bench.
 #[derive(Drop)]
