@@ -3,19 +3,22 @@ use Rattle.std.proofs.Common.{◌≡◌, ℕ, zero, suc, ◌+◌, ◌*◌, ◌/�
 use Rattle.std.specs.Prelude.{slice_get, find, Contains}
 use Rattle.std.specs.List.{list_any, flat_map, position_or_len}
 use Rattle.std.specs.Option.{option_map_or}
-use Rattle.std.proofs.lemmas.Bool.{eqb-true, eq-eqb, cases_Bool, cond-true, cond-false, and_from, and_parts, or_cases}
+use Rattle.std.specs.List.Sorted.{IsStrictlyIncreasing}
+use Rattle.std.proofs.lemmas.Bool.{eqb-true, eq-eqb, ne_eqb, and_from, and_parts, or_cases}
 use Rattle.std.proofs.lemmas.List.{take_all, length-map, get_or-map}
 use Rattle.std.proofs.lemmas.List.Elements.{Contains-get_or}
-use Rattle.std.proofs.lemmas.List.Folds.{find_at, list_any_at}
-use Rattle.std.proofs.lemmas.List.Sorted.{list_any-IsPermutation, Contains-permutation, IsPermutation-sym, length_permutation}
+use Rattle.std.proofs.lemmas.List.Folds.{list_any_at}
+use Rattle.std.proofs.lemmas.List.Kept.{AllPairs-from_increasing}
+use Rattle.std.proofs.lemmas.List.Sums.{position_or_len_is}
+use Rattle.std.proofs.lemmas.Option.{same_Some, slice_get-get_or, get_or_from_slice_get}
 use Rattle.knx_model.specs.declared.config.Config.{Config}
 use Rattle.knx_model.specs.declared.config.Image.{Image}
 use Rattle.knx_model.specs.declared.config.LinkSpec.{LinkSpec}
 use Rattle.knx_model.specs.declared.config.ObjSpec.{ObjSpec}
 use Rattle.knx_model.specs.declared.script.GroupService.{GroupService}
 use Rattle.knx_model.specs.declared.script.GroupService.TheVariants.{Read, Write, Response}
-use Rattle.knx_model.specs.Tables.{StandsFor, raw_of, two, place, pair, place_and_object, address_list, association_list, object_octets, object_list}
-use Rattle.knx_model.specs.Acts.{numbers, first_entries, addresses, in_pairs, first_pairs, pairs, in_specs, objects, at_place, is_pair_of, is_link_of, is_object_number, object_of_number, is_linked, is_linked_in, object_in_table, IsInRange, may_answer, lowest_answering, object_numbers}
+use Rattle.knx_model.specs.Tables.{StandsFor, IsBefore, raw_of, at_place, two, pair, address_list, association_list, object_octets, object_list}
+use Rattle.knx_model.specs.Acts.{numbers, first_entries, addresses, in_pairs, first_pairs, pairs, in_specs, objects, is_pair_of, is_link_of, is_object_number, object_of_number, is_linked, is_linked_in, object_in_table, IsInRange, may_answer, lowest_answering, object_numbers}
 use Rattle.device_tables.proofs.Counting.{there}
 use Rattle.device_tables.proofs.ObjectTable.{is_number}
 use Rattle.device_tables.proofs.Pigeonhole.{at_most}
@@ -38,15 +41,15 @@ addresses_are groups few small =
     ∙ ap (λ ns. take (length groups) ns) (numbers_are groups small)
     ∙ take_all (length groups) groups (omega arith)
 
-pairs_in : (groups : List ℕ) (order : List LinkSpec) → ((l : LinkSpec) → Contains order l → (place groups (raw_of l) < 65536) × (l.object < 65536)) → in_pairs (numbers (flat_map (pair groups) order)) ≡ map (place_and_object groups) order
-pairs_in groups [] small = refl
-pairs_in groups (l ∷ ls) small =
-    let h = small l (0, omega arith, refl) in
-    let rest : List ℕ = flat_map (pair groups) ls in
-    ap (λ xs. in_pairs (numbers xs)) (append_assoc (two (place groups (raw_of l))) (two l.object) rest)
-    ∙ ap in_pairs (number_two (place groups (raw_of l)) (two l.object ++ rest) h.0)
-    ∙ ap (λ ns. in_pairs (place groups (raw_of l) ∷ ns)) (number_two l.object rest h.1)
-    ∙ ap (λ ps. (place groups (raw_of l), l.object) ∷ ps) (pairs_in groups ls (λ m c. small m (suc c.0, omega (arith, c.1), c.2)))
+pairs_in : (ps : List (ℕ × ℕ)) → ((x : ℕ × ℕ) → Contains ps x → (x.0 < 65536) × (x.1 < 65536)) → in_pairs (numbers (flat_map pair ps)) ≡ ps
+pairs_in [] small = refl
+pairs_in (x ∷ xs) small =
+    let h = small x (0, omega arith, refl) in
+    let rest : List ℕ = flat_map pair xs in
+    ap (λ ys. in_pairs (numbers ys)) (append_assoc (two x.0) (two x.1) rest)
+    ∙ ap in_pairs (number_two x.0 (two x.1 ++ rest) h.0)
+    ∙ ap (λ ns. in_pairs (x.0 ∷ ns)) (number_two x.1 rest h.1)
+    ∙ ap (λ ps. (x.0, x.1) ∷ ps) (pairs_in xs (λ y c. small y (suc c.0, omega (arith, c.1), c.2)))
 
 specs_are : (os : List ObjSpec) → in_specs (flat_map object_octets os) ≡ os
 specs_are [] = refl
@@ -58,33 +61,25 @@ objects_are os few =
     ∙ ap (λ xs. take (length os) xs) (specs_are os)
     ∙ take_all (length os) os (omega arith)
 
-pairs_are : (groups : List ℕ) (order : List LinkSpec) → length order < 65536 → ((l : LinkSpec) → Contains order l → (place groups (raw_of l) < 65536) × (l.object < 65536)) → pairs (association_list groups order) ≡ map (place_and_object groups) order
-pairs_are groups order few small =
-    ap first_pairs (number_two (length order) (flat_map (pair groups) order) few)
-    ∙ ap (λ ps. take (length order) ps) (pairs_in groups order small)
-    ∙ take_all (length order) (map (place_and_object groups) order) (omega (arith, length-map order (place_and_object groups)))
+pairs_are : (ps : List (ℕ × ℕ)) → length ps < 65536 → ((x : ℕ × ℕ) → Contains ps x → (x.0 < 65536) × (x.1 < 65536)) → pairs (association_list ps) ≡ ps
+pairs_are ps few small =
+    ap first_pairs (number_two (length ps) (flat_map pair ps) few)
+    ∙ ap (λ qs. take (length ps) qs) (pairs_in ps small)
+    ∙ take_all (length ps) ps (omega arith)
 
--- ---- a link's pair names its group
+-- ---- some link is of the object and the group
 
-find_at_index : (xs : List ℕ) (g k : ℕ) → k < length xs → get_or xs k g ≡ g → find (λ x. eqb x g) xs ≡ Some g
-find_at_index [] g k lt e = absurd (omega arith)
-find_at_index (x ∷ xs) g zero lt e = cond-true (eqb x g) (Some x) (find (λ x. eqb x g) xs) (eq-eqb x g e) ∙ ap Some e
-find_at_index (x ∷ xs) g (suc k) lt e = elim (cases_Bool (eqb x g)) [
-  | inl here ↦ cond-true (eqb x g) (Some x) (find (λ x. eqb x g) xs) here ∙ ap Some (eqb-true x g here)
-  | inr later ↦ cond-false (eqb x g) (Some x) (find (λ x. eqb x g) xs) later ∙ find_at_index xs g k (omega arith) e
+pub some_link : (g o : ℕ) (links : List LinkSpec) → list_any (is_link_of g o) links ≡ true → (l : LinkSpec) × Contains links l × (l.object ≡ o) × (raw_of l ≡ g)
+some_link g o [] e = absurd (cc)
+some_link g o (l ∷ ls) e = elim (or_cases (is_link_of g o l) (list_any (is_link_of g o) ls) e) [
+  | inl here ↦ let both = and_parts (eqb l.object o) (eqb (raw_of l) g) here in (l, (0, omega arith, refl), eqb-true l.object o both.0, eqb-true (raw_of l) g both.1)
+  | inr later ↦ let h = some_link g o ls later in (h.0, (suc h.1.0, omega (arith, h.1.1), h.1.2), h.2, h.3)
 ]
 
-stands_at : (groups : List ℕ) (g : ℕ) → Contains groups g → slice_get groups (position_or_len (λ x. eqb x g) groups) ≡ Some g
-stands_at groups g c = sym (find_at (λ x. eqb x g) groups) ∙ find_at_index groups g c.0 c.1 c.2
-
-names_link : (groups : List ℕ) (g o : ℕ) (l : LinkSpec) → Contains groups (raw_of l) → is_pair_of groups g o (place_and_object groups l) ≡ is_link_of g o l
-names_link groups g o l c =
-    let at : at_place groups (place groups (raw_of l)) ≡ Some (raw_of l) = rw add-one (stands_at groups (raw_of l) c) in
-    ap (λ address. eqb l.object o && option_map_or (λ x. eqb x g) address false) at
-
-any_link : (groups : List ℕ) (g o : ℕ) (order : List LinkSpec) → ((l : LinkSpec) → Contains order l → Contains groups (raw_of l)) → list_any (is_pair_of groups g o) (map (place_and_object groups) order) ≡ list_any (is_link_of g o) order
-any_link groups g o [] listed = refl
-any_link groups g o (l ∷ ls) listed = λ i. names_link groups g o l (listed l (0, omega arith, refl)) i || any_link groups g o ls (λ m c. listed m (suc c.0, omega (arith, c.1), c.2)) i
+pub from_link : (g o : ℕ) (links : List LinkSpec) (l : LinkSpec) → Contains links l → l.object ≡ o → raw_of l ≡ g → list_any (is_link_of g o) links ≡ true
+from_link g o links l c object group =
+    let at : is_link_of g o l ≡ true = and_from (eqb l.object o) (eqb (raw_of l) g) (eq-eqb l.object o object) (eq-eqb (raw_of l) g group) in
+    list_any_at (is_link_of g o) links c.0 l c.1 (rw c.2 at)
 
 -- ---- where tables stand for a configuration
 
@@ -103,22 +98,94 @@ small_group links each g c =
 small_object : (links : List LinkSpec) → All (λ l. l.object < 65536) links → (l : LinkSpec) → Contains links l → l.object < 65536
 small_object links each l c = subst (λ (m : LinkSpec). m.object < 65536) c.2 (each c.0 l c.1)
 
+-- a place of the address table is one of it
+within_table : (groups : List ℕ) (p g : ℕ) → at_place groups p ≡ Some g → p ≤ length groups
+within_table groups zero g e = omega arith
+within_table groups (suc i) g e = omega (arith, there groups i g e)
+
+-- the place of a group, from 1
+place : List ℕ → ℕ → ℕ
+place groups g = suc (position_or_len (λ x. eqb x g) groups)
+
+place_is : (groups : List ℕ) (p g : ℕ) → IsStrictlyIncreasing groups → at_place groups p ≡ Some g → place groups g ≡ p
+unfolding place
+place_is groups zero g up e = absurd (cc)
+place_is groups (suc i) g up e =
+    let lt : i < length groups = there groups i g e in
+    let here : get_or groups i 0 ≡ g = get_or_from_slice_get groups i g 0 e in
+    ap suc (position_or_len_is (λ y. eqb y g) groups i 0 (omega arith) (λ k below. ne_eqb (get_or groups k 0) g (λ q. let h = AllPairs-from_increasing groups up k i 0 below lt in omega arith)) (λ _. eq-eqb _ _ here))
+
+pair_of : List ℕ → LinkSpec → ℕ × ℕ
+pair_of groups l = (place groups (raw_of l), l.object)
+
+-- no pair stands before itself
+not_before : (groups : List ℕ) (links : List LinkSpec) (x : ℕ × ℕ) → IsBefore groups links x x → ⊥
+not_before groups links x (inl h) = omega arith
+not_before groups links x (inr (same, inl (does, doesnt))) = doesnt does
+not_before groups links x (inr (same, inr (alike, h))) = omega arith
+
+-- there are no more pairs than links
+few_pairs : (config : Config) (image : Image) (s : StandsFor image config) → length s.pairs ≤ length config.links
+unfolding pair_of
+few_pairs config image s =
+    let to : (x : ℕ × ℕ) → Contains s.pairs x → Contains (map (pair_of s.groups) config.links) x = λ x c.
+    let h = (s.each_pair x.0 x.1).0 c in
+    let is : pair_of s.groups h.link ≡ x = λ i. (place_is s.groups x.0 (raw_of h.link) s.groups_ascend h.group i, h.object i) in
+    subst (λ (y : ℕ × ℕ). Contains (map (pair_of s.groups) config.links) y) is (contains_map (pair_of s.groups) config.links h.link h.member) in
+    omega (arith, at_most (IsBefore s.groups config.links) (not_before s.groups config.links) s.pairs (map (pair_of s.groups) config.links) s.pairs_ascend to, length-map config.links (pair_of s.groups))
+
+alike : (a b : Bool) → (a ≡ true → b ≡ true) → (b ≡ true → a ≡ true) → a ≡ b
+alike true true to from = refl
+alike true false to from = sym (to refl)
+alike false true to from = from refl
+alike false false to from = refl
+
+-- what a test finds
+found : {X : Type 0} (p : X → Bool) (xs : List X) → list_any p xs ≡ true → (x : X) × Contains xs x × (p x ≡ true)
+found p [] e = absurd (cc)
+found p (x ∷ xs) e = elim (or_cases (p x) (list_any p xs) e) [
+  | inl here ↦ (x, (0, omega arith, refl), here)
+  | inr later ↦ let h = found p xs later in (h.0, (suc h.1.0, omega (arith, h.1.1), h.1.2), h.2)
+]
+
+finds : {X : Type 0} (p : X → Bool) (xs : List X) (x : X) → Contains xs x → p x ≡ true → list_any p xs ≡ true
+finds p xs x c e = list_any_at p xs c.0 x c.1 (ap p c.2 ∙ e)
+
+-- the address that a pair's place names
+address_is : (o : Option ℕ) (g : ℕ) → option_map_or (λ address. eqb address g) o false ≡ true → o ≡ Some g
+address_is None g e = absurd (cc)
+address_is (Some a) g e = ap Some (eqb-true a g e)
+
+-- some pair names the object and the group exactly where some link has both
+pair_or_link : (config : Config) (image : Image) (s : StandsFor image config) (g o : ℕ) → list_any (is_pair_of s.groups g o) s.pairs ≡ list_any (is_link_of g o) config.links
+pair_or_link config image s g o = alike (list_any (is_pair_of s.groups g o) s.pairs) (list_any (is_link_of g o) config.links)
+    (λ e.
+    let h = found (is_pair_of s.groups g o) s.pairs e in
+    let both = and_parts (eqb h.0.1 o) (option_map_or (λ address. eqb address g) (at_place s.groups h.0.0) false) h.2 in
+    let linked = (s.each_pair h.0.0 h.0.1).0 h.1 in
+    from_link g o config.links linked.link linked.member (linked.object ∙ eqb-true h.0.1 o both.0) (same_Some (raw_of linked.link) g (sym linked.group ∙ address_is (at_place s.groups h.0.0) g both.1)))
+    (λ e.
+    let h = some_link g o config.links e in
+    let at = (s.exactly (raw_of h.0)).1 (contains_map raw_of config.links h.0 h.1) in
+    let here : slice_get s.groups at.0 ≡ Some (raw_of h.0) = slice_get-get_or s.groups at.0 (raw_of h.0) at.1 ∙ ap Some at.2 in
+    let listed : Contains s.pairs (suc at.0, o) = (s.each_pair (suc at.0) o).1 (record { link = h.0; member = h.1; object = h.2; group = here }) in
+    finds (is_pair_of s.groups g o) s.pairs (suc at.0, o) listed (and_from (eqb o o) (option_map_or (λ address. eqb address g) (slice_get s.groups at.0) false) (eq-eqb o o refl) (ap (λ (x : Option ℕ). option_map_or (λ address. eqb address g) x false) here ∙ eq-eqb _ _ h.3)))
+
 pub linked_is : (config : Config) (image : Image) → StandsFor image config → IsInRange config → (g o : ℕ) → is_linked_in image.addr image.assoc g o ≡ (is_object_number o && is_linked config g o)
 linked_is config image s r g o =
-    let member : (l : LinkSpec) → Contains s.order l → Contains config.links l = λ l c. Contains-permutation s.order config.links l (IsPermutation-sym config.links s.order s.each_link) c in
-    let listed : (l : LinkSpec) → Contains s.order l → Contains s.groups (raw_of l) = λ l c. (s.exactly (raw_of l)).1 (contains_map raw_of config.links l (member l c)) in
-    let few : length s.groups < 65536 = omega (arith, at_most s.groups (map raw_of config.links) s.groups_ascend (λ z c. (s.exactly z).0 c), length-map config.links raw_of, r.few_links) in
-    let few_pairs : length s.order < 65536 = omega (arith, length_permutation config.links s.order s.each_link, r.few_links) in
+    let few : length s.groups < 65536 = omega (arith, at_most (λ x y. x < y) (λ x h. not_below x h) s.groups (map raw_of config.links) (AllPairs-from_increasing s.groups s.groups_ascend) (λ z c. (s.exactly z).0 c), length-map config.links raw_of, r.few_links) in
+    let some : length s.pairs < 65536 = omega (arith, few_pairs config image s, r.few_links) in
     let small : (i : ℕ) → i < length s.groups → get_or s.groups i 0 < 65536 = λ i lt. small_group config.links r.each_group (get_or s.groups i 0) ((s.exactly (get_or s.groups i 0)).0 (Contains-get_or s.groups i 0 lt)) in
-    let numbers_small : (l : LinkSpec) → Contains s.order l → (place s.groups (raw_of l) < 65536) × (l.object < 65536) = λ l c. (
-      omega (arith, there s.groups (position_or_len (λ x. eqb x (raw_of l)) s.groups) (raw_of l) (stands_at s.groups (raw_of l) (listed l c)), few),
-      small_object config.links r.each_object l (member l c),
-    ) in
+    let numbers_small : (x : ℕ × ℕ) → Contains s.pairs x → (x.0 < 65536) × (x.1 < 65536) = λ x c.
+    let h = (s.each_pair x.0 x.1).0 c in
+    (omega (arith, within_table s.groups x.0 (raw_of h.link) h.group, few), omega (arith, small_object config.links r.each_object h.link h.member, h.object)) in
     let read : addresses image.addr ≡ s.groups = ap addresses s.addresses ∙ addresses_are s.groups few small in
-    let paired : pairs image.assoc ≡ map (place_and_object s.groups) s.order = ap pairs s.associations ∙ pairs_are s.groups s.order few_pairs numbers_small in
-    let same : list_any (is_pair_of (addresses image.addr) g o) (pairs image.assoc) ≡ list_any (is_link_of g o) config.links =
-    (λ i. list_any (is_pair_of (read i) g o) (paired i)) ∙ any_link s.groups g o s.order listed ∙ sym (list_any-IsPermutation (is_link_of g o) config.links s.order s.each_link) in
+    let paired : pairs image.assoc ≡ s.pairs = ap pairs s.associations ∙ pairs_are s.pairs some numbers_small in
+    let same : list_any (is_pair_of (addresses image.addr) g o) (pairs image.assoc) ≡ list_any (is_link_of g o) config.links = (λ i. list_any (is_pair_of (read i) g o) (paired i)) ∙ pair_or_link config image s g o in
     ap (λ any. is_object_number o && any) same
+  where
+    not_below : (x : ℕ) → x < x → ⊥
+    not_below x h = omega arith
 
 pub object_is : (config : Config) (image : Image) → StandsFor image config → IsInRange config → (o : ℕ) → object_in_table image.objs o ≡ object_of_number config.objects o
 object_is config image s r o = ap (λ os. object_of_number os o) (ap objects s.objects ∙ objects_are config.objects r.few_objects)
@@ -139,20 +206,6 @@ pub same_lowest : (linked linked' : ℕ → Bool) (object object' : ℕ → Opti
 same_lowest linked linked' object object' alike Read = λ i. find (λ o. alike o i) object_numbers
 same_lowest linked linked' object object' alike (Write value) = refl
 same_lowest linked linked' object object' alike (Response value) = refl
-
--- ---- some link is of the object and the group
-
-pub some_link : (g o : ℕ) (links : List LinkSpec) → list_any (is_link_of g o) links ≡ true → (l : LinkSpec) × Contains links l × (l.object ≡ o) × (raw_of l ≡ g)
-some_link g o [] e = absurd (cc)
-some_link g o (l ∷ ls) e = elim (or_cases (is_link_of g o l) (list_any (is_link_of g o) ls) e) [
-  | inl here ↦ let both = and_parts (eqb l.object o) (eqb (raw_of l) g) here in (l, (0, omega arith, refl), eqb-true l.object o both.0, eqb-true (raw_of l) g both.1)
-  | inr later ↦ let h = some_link g o ls later in (h.0, (suc h.1.0, omega (arith, h.1.1), h.1.2), h.2, h.3)
-]
-
-pub from_link : (g o : ℕ) (links : List LinkSpec) (l : LinkSpec) → Contains links l → l.object ≡ o → raw_of l ≡ g → list_any (is_link_of g o) links ≡ true
-from_link g o links l c object group =
-    let at : is_link_of g o l ≡ true = and_from (eqb l.object o) (eqb (raw_of l) g) (eq-eqb l.object o object) (eq-eqb (raw_of l) g group) in
-    list_any_at (is_link_of g o) links c.0 l c.1 (rw c.2 at)
 
 pub linked_exactly : (config : Config) (image : Image) → StandsFor image config → IsInRange config → (g o : ℕ) → 1 ≤ o → o ≤ 255 → is_linked_in image.addr image.assoc g o ≡ is_linked config g o
 linked_exactly config image s r g o from to = linked_is config image s r g o ∙ ap (λ test. test && is_linked config g o) (is_number o from to)

@@ -3,7 +3,8 @@ use Rattle.std.proofs.Common.{◌≡◌, ℕ, zero, suc, ◌+◌, ◌*◌, ◌<�
 use Rattle.std.specs.Prelude.{slice_get}
 use Rattle.std.proofs.lemmas.Bool.{le-leb, cond-true}
 use Rattle.knx_model.specs.declared.config.ObjSpec.{ObjSpec}
-use Rattle.knx_model.specs.Acts.{numbers, in_specs, objects, object_in_table, at_place, is_object_number}
+use Rattle.knx_model.specs.Acts.{numbers, in_specs, objects, object_in_table, is_object_number}
+use Rattle.knx_model.specs.Tables.{at_place}
 use Rattle.device_tables.proofs.Numbers.{twice, twice_one, spec_is, no_spec, within, beyond, cut}
 
 pub is_number : (o : ℕ) → 1 ≤ o → o ≤ 255 → is_object_number o ≡ true

@@ -2,7 +2,8 @@
 //! within the count.
 
 ghost use Rattle.std.specs.Prelude.{◌≡◌, ◌<◌, slice_get, IfSome};
-ghost use Rattle.knx_model.specs.Acts.{numbers, addresses, pairs, at_place, object_in_table};
+ghost use Rattle.knx_model.specs.Acts.{numbers, addresses, pairs, object_in_table};
+ghost use Rattle.knx_model.specs.Tables.{at_place};
 
 use knx_model::ObjSpec;
 

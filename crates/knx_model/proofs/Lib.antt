@@ -16,3 +16,4 @@ pub mod Spells
 pub mod Text
 pub mod Values
 pub mod Leads
+pub mod Misfit

@@ -1,6 +1,6 @@
 -- Which objects a group telegram acts on in a running device (ISO/IEC 14543-3-1, application layer; the tables and the group objects:
 -- KNX standard 3/5/1, resources, System B): by a configuration, and by the octets of the segments, whatever they are.
-use Rattle.std.specs.Prelude.{ℕ, zero, suc, ◌+◌, ◌*◌, ◌<◌, Bool, false, not, ◌&&◌, ◌||◌, ◌==◌, nat_lt, nat_le, bit_and, List, [], ◌∷◌, length, take, replicate, slice_get, find, All, Option, None, if◌then◌else◌}
+use Rattle.std.specs.Prelude.{ℕ, ◌+◌, ◌*◌, ◌<◌, Bool, false, not, ◌&&◌, ◌||◌, ◌==◌, nat_lt, nat_le, bit_and, List, [], ◌∷◌, length, take, replicate, find, All, Option, None, if◌then◌else◌}
 use Rattle.std.specs.List.{list_any, range_with_len}
 use Rattle.std.specs.Option.{option_map_or}
 use Rattle.knx_model.specs.declared.config.Config.{Config}
@@ -11,7 +11,7 @@ use Rattle.knx_model.specs.declared.frames.value.Value.{Value}
 use Rattle.knx_model.specs.declared.frames.value.Value.TheVariants.{Short, Long}
 use Rattle.knx_model.specs.declared.script.GroupService.{GroupService}
 use Rattle.knx_model.specs.declared.script.GroupService.TheVariants.{Read, Write, Response}
-use Rattle.knx_model.specs.Tables.{raw_of}
+use Rattle.knx_model.specs.Tables.{raw_of, at_place}
 
 -- ---- the form of a value
 
@@ -75,11 +75,6 @@ may_answer linked object o = linked o && option_map_or can_answer (object o) fal
 abbrev pub lowest_answering : (ℕ → Bool) → (ℕ → Option ObjSpec) → GroupService → Option ℕ
 lowest_answering linked object Read = find (may_answer linked object) object_numbers
 lowest_answering linked object _ = None
-
--- the entry at a place of a table, from 1
-abbrev pub at_place : {X : Type 0} → List X → ℕ → Option X
-at_place xs zero = None
-at_place xs (suc i) = slice_get xs i
 
 -- the object of a number of 1 to 255
 abbrev pub object_of_number : List ObjSpec → ℕ → Option ObjSpec

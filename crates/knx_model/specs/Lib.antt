@@ -18,6 +18,7 @@ pub mod Answers
 pub mod LeastLine
 pub mod Statements
 pub mod ScriptText
+pub mod Places
 pub mod Models
 pub mod Rules
 pub mod Meaning

@@ -1,6 +1,6 @@
 -- What a project means for one device: its links, its objects and its parameters, taken from the statements and the device's model
 -- alone. No group is numbered here. The project language is this project's own.
-use Rattle.std.specs.Prelude.{ℕ, Bool, not, ◌&&◌, ◌==◌, bytes_eq, List, [], ◌∷◌, ◌++◌, take, map, fold, max, Option, Some, None, unwrap_or, if◌then◌else◌}
+use Rattle.std.specs.Prelude.{◌≡◌, ◌≢◌, ℕ, ◌<◌, ◌↔◌, Bool, IsTrue, not, slice_get, ◌&&◌, ◌==◌, bytes_eq, List, [], ◌∷◌, ◌++◌, take, map, fold, max, Option, Some, None, unwrap_or, if◌then◌else◌}
 use Rattle.std.specs.List.{list_any, filter_map, enumerate_from, range_with_len, last_or}
 use Rattle.knx_model.specs.declared.address.GroupAddr.{GroupAddr}
 use Rattle.knx_model.specs.declared.address.IndAddr.{IndAddr}
@@ -43,6 +43,12 @@ link_at lines place line = record { object = line.0; group = line.1; sending = n
 -- one link for each `link` line, in order
 unfoldable pub links_of : List (ℕ × GroupAddr) → List LinkSpec
 links_of lines = map (λ p. link_at lines p.0 p.1) (enumerate_from 0 lines)
+
+-- the same in the language's own words: a line says the link, which is the object's sending one exactly where that line is its first
+pub record IsLinkOf (lines : List (ℕ × GroupAddr)) (link : LinkSpec) : Type 0 where
+  pub at : ℕ
+  pub said : slice_get lines at ≡ Some (link.object, link.group)
+  pub first : IsTrue link.sending ↔ ((k : ℕ) (earlier : ℕ × GroupAddr) → k < at → slice_get lines k ≡ Some earlier → earlier.0 ≢ link.object)
 
 -- ---- objects
 

@@ -12,7 +12,7 @@ use Rattle.knx_model.specs.declared.script.GroupService.{GroupService}
 use Rattle.knx_model.specs.declared.script.GroupService.TheVariants.{Read, Write, Response}
 use Rattle.knx_model.specs.declared.script.ScriptLine.{ScriptLine}
 use Rattle.knx_model.specs.declared.script.ScriptWhat.{ScriptWhat}
-use Rattle.knx_model.specs.declared.script.ScriptWhat.TheVariants.{LoseUp, LoseDown, RepeatUp, RepeatDown, LoseTo, LoseFrom, RepeatTo, Cut as CutLine, Worn, CloseAfter, Refuse, DropChannel, Off, Group}
+use Rattle.knx_model.specs.declared.script.ScriptWhat.TheVariants.{LoseUp, LoseDown, RepeatUp, RepeatDown, LoseTo, LoseFrom, RepeatTo, Cut as CutLine, Worn, CloseAfter, Refuse, DropChannel, Off, Standard, Group}
 use Rattle.knx_model.specs.declared.refusal.Refused.{Refused}
 use Rattle.knx_model.specs.declared.refusal.Why.{Why}
 use Rattle.knx_model.specs.declared.refusal.Why.TheVariants.{UnknownWord, BadAddress, BadNumber, MissingWord, TooMany, NoDevice}
@@ -132,6 +132,12 @@ off_says ws = do
   device ← field ind_value BadAddress ws
   ended (Off device.0) device.1
 
+-- standard D
+unfoldable pub standard_says : List (List ℕ) → Result ScriptWhat Why
+standard_says ws = do
+  device ← field ind_value BadAddress ws
+  ended (Standard device.0) device.1
+
 -- group GA V
 abbrev pub group_says : List (List ℕ) → Result ScriptWhat Why
 group_says ws = telegram_says false ws
@@ -179,9 +185,10 @@ after_word_says w ws =
     else (if bytes_eq w (codes "refuse") then refuse_says ws
     else (if bytes_eq w (codes "drop") then drop_says ws
     else (if bytes_eq w (codes "off") then off_says ws
+    else (if bytes_eq w (codes "standard") then standard_says ws
     else (if bytes_eq w (codes "group") then group_says ws
     else (if bytes_eq w (codes "then") then then_says ws
-    else Err UnknownWord)))))))))
+    else Err UnknownWord))))))))))
 
 -- a line without words says nothing
 unfoldable pub script_words_say : List (List ℕ) → Result (Option ScriptWhat) Why
@@ -229,6 +236,7 @@ is_script_what (CloseAfter device n) = is_device device && is_count n
 is_script_what (Refuse n status) = is_count n && nat_lt 0 status && nat_lt status 256
 is_script_what (DropChannel n) = is_count n
 is_script_what (Off device) = is_device device
+is_script_what (Standard device) = is_device device
 is_script_what (Group after group service) = is_group group && is_service service
 
 -- a line of a script that has at most 65,536
@@ -269,6 +277,7 @@ device_named (CutLine device n k) = Some device
 device_named (Worn device n) = Some device
 device_named (CloseAfter device n) = Some device
 device_named (Off device) = Some device
+device_named (Standard device) = Some device
 device_named _ = None
 
 abbrev pub is_listed : List IndAddr → IndAddr → Bool
@@ -303,6 +312,7 @@ pub data SpellsLine : List (List ℕ) → ScriptWhat → Type 0 where
   SpellsRefuse : (number digits : List ℕ) (n status : ℕ) → count_value number ≡ Some n → status_value digits ≡ Some status → SpellsLine (codes "refuse" ∷ number ∷ digits ∷ []) (Refuse n status)
   SpellsDrop : (number : List ℕ) (n : ℕ) → count_value number ≡ Some n → SpellsLine (codes "drop" ∷ codes "channel" ∷ number ∷ []) (DropChannel n)
   SpellsOff : (address : List ℕ) (d : IndAddr) → ind_value address ≡ Some d → SpellsLine (codes "off" ∷ address ∷ []) (Off d)
+  SpellsStandard : (address : List ℕ) (d : IndAddr) → ind_value address ≡ Some d → SpellsLine (codes "standard" ∷ address ∷ []) (Standard d)
   SpellsGroup : (address value : List ℕ) (g : GroupAddr) (service : GroupService) → group_value address ≡ Some g → service_value value ≡ Some service → SpellsLine (codes "group" ∷ address ∷ value ∷ []) (Group false g service)
   SpellsThenGroup : (address value : List ℕ) (g : GroupAddr) (service : GroupService) → group_value address ≡ Some g → service_value value ≡ Some service → SpellsLine (codes "then" ∷ codes "group" ∷ address ∷ value ∷ []) (Group true g service)
 

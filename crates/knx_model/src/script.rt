@@ -57,6 +57,8 @@ pub enum ScriptWhat {
     DropChannel(u32),
     /// `off D`: the device is without power for the whole run.
     Off(IndAddr),
+    /// `standard D`: the device is a standard one, which takes no extended frame.
+    Standard(IndAddr),
     /// `group GA V` or, after all jobs have ended, `then group GA V`: the group telegram is sent.
     Group {
         after: bool,

@@ -2,7 +2,7 @@
 
 ghost use Rattle.std.specs.Prelude.{◌≡◌, ◌≢◌, None, Some, IfOk, IfErr, OnOk, IfSome, map, slice_get, IsPermutation};
 ghost use Rattle.std.specs.List.Sorted.{IsStrictlyIncreasing};
-ghost use Rattle.knx_model.specs.declared.refusal.Why.TheVariants.{NoMemory};
+ghost use Rattle.knx_model.specs.declared.refusal.Why.TheVariants.{NoMemory as OutOfMemory};
 ghost use Rattle.knx_model.specs.Counts.{counts_of};
 ghost use Rattle.knx_model.specs.Rules.{first_broken, devices_of, has_device};
 ghost use Rattle.project_check.specs.Devices.{raw_of};
@@ -94,7 +94,7 @@ fn first_broken(
     statements: &[Statement<'_>],
 ) -> Result<Option<Refused>, AllocError>
     ensures found { IfOk result (λ found. found ≡ first_broken catalogue.now statements.now) }
-    ensures never { IfOk result (λ found. IfSome found (λ refused. refused.why ≢ NoMemory tt)) }
+    ensures never { IfOk result (λ found. IfSome found (λ refused. refused.why ≢ OutOfMemory tt)) }
 {
     let models = NamedModels::of(alloc, catalogue, statements)?;
     let whole = Whole::of(alloc, &models, statements)?;
@@ -120,8 +120,8 @@ pub fn check<'b, 'a>(
 ) -> Result<Checked<'b, 'a>, Refused>
     ensures checked { IfOk result (λ c. c ≡ record { statements = project.now.statements; catalogue = catalogue.now }) }
     ensures sound { OnOk result (first_broken catalogue.now project.now.statements ≡ None) }
-    ensures refused { IfErr result (λ e. e.why ≢ NoMemory tt → first_broken catalogue.now project.now.statements ≡ Some e) }
-    ensures memory { IfErr result (λ e. e.why ≡ NoMemory tt → e.line ≡ 0) }
+    ensures refused { IfErr result (λ e. e.why ≢ OutOfMemory tt → first_broken catalogue.now project.now.statements ≡ Some e) }
+    ensures memory { IfErr result (λ e. e.why ≡ OutOfMemory tt → e.line ≡ 0) }
 {
     match first_broken(alloc, catalogue, project.statements.as_slice()) {
         Ok(None) => match ascending_devices(alloc, project.statements.as_slice()) {
@@ -139,7 +139,7 @@ pub fn check<'b, 'a>(
 
 /// The refusal for want of memory.
 fn out_of_memory(error: AllocError) -> Refused
-    ensures { result ≡ record { line = 0; why = NoMemory tt } }
+    ensures { result ≡ record { line = 0; why = OutOfMemory tt } }
 {
     Refused {
         line: 0,

@@ -4,3 +4,4 @@ pub mod Lengths
 pub mod Plain
 pub mod Spelling
 pub mod Steps
+pub mod Misfits

@@ -7,9 +7,12 @@ ghost use Rattle.knx_model.specs.Statements.{are_spellable, project_says, readin
 ghost use Rattle.knx_model.specs.declared.project.Statement.{Statement};
 ghost use Rattle.knx_model.specs.declared.project.What.{What};
 ghost use Rattle.knx_model.specs.declared.refusal.Refused.{Refused};
+ghost use Rattle.knx_model.specs.declared.refusal.Why.{Why};
 ghost use Rattle.knx_model.specs.declared.refusal.Why.TheVariants.{MissingWord, ExtraWord};
+ghost use Rattle.knx_model.specs.Places.{Place, FirstMisfit};
 ghost use Rattle.project_text.specs.Printing.{printed, renumbered_from};
 ghost use Rattle.project_text.specs.Spelling.{SpellsStatement};
+ghost use Rattle.project_text.specs.Wants.{Wants};
 
 /// The words of a line are read as a statement exactly where they spell it.
 pub fn statement_spelled()
@@ -20,6 +23,11 @@ pub fn statement_spelled()
 pub fn words_too_many_or_few()
     ensures longer { (ws more : Seq (Seq ℕ)) (word : Seq ℕ) (what : What) → SpellsStatement ws what → words_say (ws ++ word ∷ more) ≡ Err ExtraWord }
     ensures shorter { (ws : Seq (Seq ℕ)) (what : What) (k : ℕ) → SpellsStatement ws what → 0 < k → k < length ws → words_say (take k ws) ≡ Err MissingWord }
+{}
+
+/// The first word that isn't what its place wants is refused as its place says: an address, a number, or a name.
+pub fn first_misfit()
+    ensures { (word : Seq ℕ) (places : Seq Place) (ws : Seq (Seq ℕ)) (why : Why) → Wants word places → FirstMisfit places ws why → words_say (word ∷ ws) ≡ Err why }
 {}
 
 /// The refusal is of the least line that breaks a rule, and where no line does there is none.

@@ -7,17 +7,17 @@ use Rattle.knx_model.specs.declared.refusal.Why.{Why}
 use Rattle.knx_model.specs.declared.refusal.Why.TheVariants.{BadAddress, BadNumber}
 use Rattle.knx_model.specs.declared.script.GroupService.{GroupService}
 use Rattle.knx_model.specs.declared.script.ScriptWhat.{ScriptWhat}
-use Rattle.knx_model.specs.declared.script.ScriptWhat.TheVariants.{LoseUp, LoseDown, RepeatUp, RepeatDown, LoseTo, LoseFrom, RepeatTo, Cut, Worn, CloseAfter, Refuse, DropChannel, Off, Group}
+use Rattle.knx_model.specs.declared.script.ScriptWhat.TheVariants.{LoseUp, LoseDown, RepeatUp, RepeatDown, LoseTo, LoseFrom, RepeatTo, Cut, Worn, CloseAfter, Refuse, DropChannel, Off, Standard, Group}
 use Rattle.knx_model.specs.Numbers.{number_value}
 use Rattle.knx_model.specs.Addresses.{group_value, ind_value}
 use Rattle.knx_model.specs.Answers.{◌>>=◌}
 use Rattle.knx_model.specs.Statements.{placed, field, ended}
-use Rattle.knx_model.specs.ScriptText.{count_value, status_value, service_value, n_says, device_n_says, telegram_says, cut_says, refuse_says, off_says, lose_says, repeat_says, drop_says, then_says, after_word_says, script_words_say, SpellsLine, SpellsLoseUp, SpellsLoseDown, SpellsLoseTo, SpellsLoseFrom, SpellsRepeatUp, SpellsRepeatDown, SpellsRepeatTo, SpellsCut, SpellsWorn, SpellsClose, SpellsRefuse, SpellsDrop, SpellsOff, SpellsGroup, SpellsThenGroup}
+use Rattle.knx_model.specs.ScriptText.{count_value, status_value, service_value, n_says, device_n_says, telegram_says, cut_says, refuse_says, off_says, standard_says, lose_says, repeat_says, drop_says, then_says, after_word_says, script_words_say, SpellsLine, SpellsLoseUp, SpellsLoseDown, SpellsLoseTo, SpellsLoseFrom, SpellsRepeatUp, SpellsRepeatDown, SpellsRepeatTo, SpellsCut, SpellsWorn, SpellsClose, SpellsRefuse, SpellsDrop, SpellsOff, SpellsStandard, SpellsGroup, SpellsThenGroup}
 
 -- ---- what is spelled is read
 
 pub spelled_is_read : (ws : List (List ℕ)) (what : ScriptWhat) → SpellsLine ws what → script_words_say ws ≡ Ok (Some what)
-unfolding script_words_say after_word_says lose_says repeat_says drop_says then_says n_says device_n_says telegram_says cut_says refuse_says off_says
+unfolding script_words_say after_word_says lose_says repeat_says drop_says then_says n_says device_n_says telegram_says cut_says refuse_says off_says standard_says
 spelled_is_read _ _ (SpellsLoseUp number n e) = rw e refl
 spelled_is_read _ _ (SpellsLoseDown number n e) = rw e refl
 spelled_is_read _ _ (SpellsRepeatUp number n e) = rw e refl
@@ -31,6 +31,7 @@ spelled_is_read _ _ (SpellsClose address number d n a e) = rw (a, e) refl
 spelled_is_read _ _ (SpellsCut address number kept d n k a e f) = rw (a, e, f) refl
 spelled_is_read _ _ (SpellsRefuse number digits n status e f) = rw (e, f) refl
 spelled_is_read _ _ (SpellsOff address d a) = rw a refl
+spelled_is_read _ _ (SpellsStandard address d a) = rw a refl
 spelled_is_read _ _ (SpellsGroup address value g service a e) = rw (a, e) refl
 spelled_is_read _ _ (SpellsThenGroup address value g service a e) = rw (a, e) refl
 
@@ -153,6 +154,13 @@ of_off ws v e = bound (field ind_value BadAddress ws) _ v e (λ d at last.
     let end = at_end (Off d.0) d.1 v last in
     spelled_as (codes "off" ∷ ws) (codes "off" ∷ a.word ∷ []) v (Off d.0) (ap (λ (l : List (List ℕ)). codes "off" ∷ l) (a.first ∙ ap (λ (l : List (List ℕ)). a.word ∷ l) end.0)) end.1 (SpellsOff a.word d.0 a.value))
 
+of_standard : (ws : List (List ℕ)) (v : ScriptWhat) → standard_says ws ≡ Ok v → SpellsLine (codes "standard" ∷ ws) v
+unfolding standard_says
+of_standard ws v e = bound (field ind_value BadAddress ws) _ v e (λ d at last.
+    let a = word_of ind_value BadAddress ws d at in
+    let end = at_end (Standard d.0) d.1 v last in
+    spelled_as (codes "standard" ∷ ws) (codes "standard" ∷ a.word ∷ []) v (Standard d.0) (ap (λ (l : List (List ℕ)). codes "standard" ∷ l) (a.first ∙ ap (λ (l : List (List ℕ)). a.word ∷ l) end.0)) end.1 (SpellsStandard a.word d.0 a.value))
+
 -- the first word put back
 headed : (w k : List ℕ) (ws : List (List ℕ)) (v : ScriptWhat) → w ≡ k → SpellsLine (k ∷ ws) v → SpellsLine (w ∷ ws) v
 headed w k ws v e s = subst (λ (x : List ℕ). SpellsLine (x ∷ ws) v) (sym e) s
@@ -199,8 +207,9 @@ of_line w ws v e =
     choose w (codes "refuse") _ _ v e (λ is here. headed w _ ws v is (of_refuse ws v here)) (λ e.
     choose w (codes "drop") _ _ v e (λ is here. headed w _ ws v is (of_drop ws v here)) (λ e.
     choose w (codes "off") _ _ v e (λ is here. headed w _ ws v is (of_off ws v here)) (λ e.
+    choose w (codes "standard") _ _ v e (λ is here. headed w _ ws v is (of_standard ws v here)) (λ e.
     choose w (codes "group") _ _ v e (λ is here. headed w _ ws v is (of_telegram false (codes "group" ∷ []) ws v here SpellsGroup)) (λ e.
-    choose w (codes "then") _ _ v e (λ is here. headed w _ ws v is (of_then ws v here)) (λ e. absurd cc))))))))))
+    choose w (codes "then") _ _ v e (λ is here. headed w _ ws v is (of_then ws v here)) (λ e. absurd cc)))))))))))
 
 pub read_is_spelled : (ws : List (List ℕ)) (what : ScriptWhat) → script_words_say ws ≡ Ok (Some what) → SpellsLine ws what
 unfolding script_words_say

@@ -47,7 +47,8 @@ pub fn device_named(what: &ScriptWhat) -> Option<IndAddr>
         | ScriptWhat::Cut { device, .. }
         | ScriptWhat::Worn(device, _)
         | ScriptWhat::CloseAfter(device, _)
-        | ScriptWhat::Off(device) => Some(device),
+        | ScriptWhat::Off(device)
+        | ScriptWhat::Standard(device) => Some(device),
         ScriptWhat::LoseUp(_)
         | ScriptWhat::LoseDown(_)
         | ScriptWhat::RepeatUp(_)

@@ -59,6 +59,7 @@ fn the_lines_of_a_device_are_read(rt: HostRuntime) {
         (b"worn 1.1.5 9", ScriptWhat::Worn(DEVICE, 9)),
         (b"close 1.1.5 10", ScriptWhat::CloseAfter(DEVICE, 10)),
         (b"off 1.1.5", ScriptWhat::Off(DEVICE)),
+        (b"standard 1.1.5", ScriptWhat::Standard(DEVICE)),
     ];
     for (text, what) in table {
         assert!(rt; says(rt.alloc(), text, &what));
@@ -123,6 +124,8 @@ fn each_broken_rule_is_told(rt: HostRuntime) -> Result<(), Fail> {
             Why::BadNumber,
         ),
         (b"group 1/2/3 read 01", 1, Why::ExtraWord),
+        (b"standard 1.1", 1, Why::BadAddress),
+        (b"standard 1.1.5 1", 1, Why::ExtraWord),
         (b"off 1.1.5\n\x07", 2, Why::NotText),
         (long.as_slice(), 1, Why::LongLine),
     ];
@@ -163,7 +166,7 @@ fn a_script_has_at_most_65536_lines(rt: HostRuntime) -> Result<(), Fail> {
 
 #[test]
 fn lines_name_devices_and_cuts(rt: HostRuntime) -> Result<(), Fail> {
-    let text = b"lose up 1\ncut 1.1.5 2 3\noff 1.1.9\noff 1.1.8";
+    let text = b"lose up 1\ncut 1.1.5 2 3\nstandard 1.1.9\noff 1.1.8";
     let script = read_script(rt.alloc(), text).ok().ok_or("a script")?;
     let lines = script.lines.as_slice();
     let [lose, at_write, _, last] = lines else {

@@ -1,7 +1,7 @@
 -- What the parts of a device's image need of a text that breaks no rule.
-use Rattle.std.proofs.Common.{◌≡◌, ℕ, ◌≤◌, false, List, length, map, eqb, All, Option, None, Some, Result, Ok, Err, refl, sym, ap, ◌∙◌, subst, arith}
+use Rattle.std.proofs.Common.{◌≡◌, ℕ, ◌≤◌, false, List, length, Option, None, Some, Result, Ok, Err, refl, sym, ap, ◌∙◌, subst, arith}
 use Rattle.std.specs.Prelude.{IfOk}
-use Rattle.std.specs.List.{IsDistinct}
+use Rattle.std.specs.List.{AllPairs, IsDistinct}
 use Rattle.knx_model.specs.declared.address.IndAddr.{IndAddr}
 use Rattle.knx_model.specs.declared.catalogue.model.Model.{Model}
 use Rattle.knx_model.specs.declared.catalogue.model.NamedModel.{NamedModel}
@@ -12,9 +12,8 @@ use Rattle.knx_model.specs.Meaning.{link_lines, links_of, last_value, params_of,
 use Rattle.knx_model.specs.Models.{inline, field_in, IsModel}
 use Rattle.knx_model.specs.Parameters.{HoldsParameters, laid, AreSettings}
 use Rattle.knx_model.specs.Rules.{model_of, is_out_of}
-use Rattle.knx_model.specs.Tables.{precedence}
 use Rattle.table_compiler.specs.Lines.{AreLinesOf}
-use Rattle.table_compiler.specs.Order.{IsLink}
+use Rattle.table_compiler.specs.Order.{AreApart}
 use Rattle.table_compiler.specs.Settings.{settings}
 use Rattle.table_compiler.proofs.LinkLists as links
 use Rattle.table_compiler.proofs.OwnLines.{link_lines_are, last_value_is, model_is}
@@ -46,10 +45,8 @@ links_are catalogue device lines are = ap links_of (ap (link_lines device) are.a
 pub few_links : (catalogue : List NamedModel) (device : IndAddr) (lines : List Statement) → AreLinesOf catalogue device lines → length (links_of (link_lines device lines)) ≤ 2047
 few_links catalogue device lines are = subst (λ (ls : List LinkSpec). length ls ≤ 2047) (sym (links_are catalogue device lines are)) (links.few_links catalogue device are.whole are.sound)
 
-pub once : (catalogue : List NamedModel) (device : IndAddr) (lines : List Statement) → AreLinesOf catalogue device lines → All IsLink (links_of (link_lines device lines)) → IsDistinct eqb (map precedence (links_of (link_lines device lines)))
-once catalogue device lines are small =
-    let same = links_are catalogue device lines are in
-    subst (λ (ls : List LinkSpec). IsDistinct eqb (map precedence ls)) (sym same) (links.once catalogue device are.whole are.sound (subst (λ (ls : List LinkSpec). All IsLink ls) same small))
+pub once : (catalogue : List NamedModel) (device : IndAddr) (lines : List Statement) → AreLinesOf catalogue device lines → AllPairs AreApart (links_of (link_lines device lines))
+once catalogue device lines are = subst (λ (ls : List LinkSpec). AllPairs AreApart ls) (sym (links_are catalogue device lines are)) (links.once catalogue device are.whole are.sound)
 
 -- ---- the settings of the lines
 

@@ -1,14 +1,13 @@
 -- The links that lines give a device.
 use Rattle.std.proofs.Common.{◌≡◌, ℕ, ◌+◌, ◌*◌, ◌<◌, ◌≤◌, Bool, true, false, cond, ◌||◌, not, List, [], ◌∷◌, ◌++◌, length, get_or, set, take, map, eqb, All, None, refl, sym, ap, ◌∙◌, subst, arith, inl, inr, zero-add, replicate}
-use Rattle.std.specs.List.{AllPairs, IsDistinct, enumerate_from, list_any}
-use Rattle.std.proofs.lemmas.Bool.Decides.{Decides-eqb, eqb_tells}
+use Rattle.std.specs.List.{AllPairs, enumerate_from, list_any}
+use Rattle.std.proofs.lemmas.Bool.Decides.{eqb_tells}
 use Rattle.std.proofs.lemmas.List.{get_or_default, get_or-map, length-map, take_more, take_all, get_or-replicate, length-replicate, get_or-set_same, get_or-set_other, length-set}
 use Rattle.std.proofs.lemmas.List.Elements.{All-push}
 use Rattle.std.proofs.lemmas.List.Folds.{list_any_more}
 use Rattle.std.proofs.lemmas.Bool.{or_right}
 use Rattle.std.proofs.Math.Bool.{or-false}
 use Rattle.std.proofs.lemmas.List.FromFn.{length-enumerate_from, get_or-enumerate_from}
-use Rattle.std.proofs.lemmas.Map.Made.{IsDistinct-from_AllPairs}
 use Rattle.knx_model.specs.declared.address.GroupAddr.{GroupAddr}
 use Rattle.knx_model.specs.declared.address.IndAddr.{IndAddr}
 use Rattle.knx_model.specs.declared.catalogue.model.NamedModel.{NamedModel}
@@ -16,8 +15,8 @@ use Rattle.knx_model.specs.declared.config.LinkSpec.{LinkSpec}
 use Rattle.knx_model.specs.declared.project.Statement.{Statement}
 use Rattle.knx_model.specs.Meaning.{is_of_object, link_at, links_of, link_lines}
 use Rattle.knx_model.specs.Rules.{first_broken}
-use Rattle.knx_model.specs.Tables.{raw_of, precedence}
-use Rattle.table_compiler.specs.Order.{IsLink}
+use Rattle.knx_model.specs.Tables.{raw_of}
+use Rattle.table_compiler.specs.Order.{IsLink, AreApart}
 use Rattle.table_compiler.proofs.GroupPlaces.{no_link}
 use Rattle.table_compiler.proofs.Sound.{Apart, few_lines, lines_apart}
 
@@ -33,24 +32,17 @@ get_or-links_of lines i d e lt =
     ∙ ap (λ (p : ℕ × (ℕ × GroupAddr)). link_at lines p.0 p.1) (get_or-enumerate_from 0 lines i (0, d) lt)
     ∙ ap (λ (n : ℕ). link_at lines n (get_or lines i d)) (zero-add i)
 
--- the precedence tells the object and the group
-ranks : (o r p s : ℕ) (a b : Bool) → r < 65536 → s < 65536 → o * 131072 + cond a 0 65536 + r ≡ p * 131072 + cond b 0 65536 + s → (o ≡ p) × (r ≡ s)
-ranks o r p s true true lt lt' e = (omega arith, omega arith)
-ranks o r p s true false lt lt' e = (omega arith, omega arith)
-ranks o r p s false true lt lt' e = (omega arith, omega arith)
-ranks o r p s false false lt lt' e = (omega arith, omega arith)
-
-pub distinct : (lines : List (ℕ × GroupAddr)) → AllPairs Apart lines → All IsLink (links_of lines) → IsDistinct eqb (map precedence (links_of lines))
-distinct lines apart small = IsDistinct-from_AllPairs Decides-eqb (map precedence (links_of lines)) (λ i j d below lt same.
-    let lt' : j < length (links_of lines) = omega (arith, lt, length-map (links_of lines) precedence) in
-    let within : j < length lines = omega (arith, length-links_of lines) in
-    let none : ℕ × GroupAddr = (0, record { raw = 0 }) in
-    let at : (k : ℕ) → k < length lines → get_or (map precedence (links_of lines)) k d ≡ precedence (link_at lines k (get_or lines k none)) = λ k less. get_or-map precedence (links_of lines) k no_link d (let h : k < length (links_of lines) = omega (arith, less, length-links_of lines) in h) ∙ ap precedence (get_or-links_of lines k none no_link less) in
-    let is_small : (k : ℕ) → k < length lines → (get_or lines k none).1.raw < 65536 = λ k less. subst (λ (l : LinkSpec). raw_of l < 65536) (get_or-links_of lines k none no_link less) (small k no_link (omega (arith, less, length-links_of lines))).1 in
+-- lines that are apart make links that are
+apart : (lines : List (ℕ × GroupAddr)) → AllPairs Apart lines → AllPairs AreApart (links_of lines)
+apart lines are i j d below lt =
+    let within : j < length lines = omega (arith, lt, length-links_of lines) in
     let less : i < length lines = omega (arith, below, within) in
-    let e = sym (at i less) ∙ same ∙ at j within in
-    let both = ranks (get_or lines i none).0 (get_or lines i none).1.raw (get_or lines j none).0 (get_or lines j none).1.raw (link_at lines i (get_or lines i none)).sending (link_at lines j (get_or lines j none)).sending (is_small i less) (is_small j within) e in
-    apart i j none below within both.0 both.1)
+    let none : ℕ × GroupAddr = (0, record { raw = 0 }) in
+    let one : get_or (links_of lines) i d ≡ link_at lines i (get_or lines i none) = get_or-links_of lines i none d less in
+    let other : get_or (links_of lines) j d ≡ link_at lines j (get_or lines j none) = get_or-links_of lines j none d within in
+    λ object group. are i j none below within
+    (sym (ap (λ (l : LinkSpec). l.object) one) ∙ object ∙ ap (λ (l : LinkSpec). l.object) other)
+    (sym (ap raw_of one) ∙ group ∙ ap raw_of other)
 
 -- ---- the links of the first i lines, and the objects that they have
 
@@ -103,5 +95,5 @@ all_links lines seen links i le linked = linked.made ∙ take_all i (links_of li
 pub few_links : (catalogue : List NamedModel) (device : IndAddr) (ss : List Statement) → first_broken catalogue ss ≡ None → length (links_of (link_lines device ss)) ≤ 2047
 few_links catalogue device ss sound = rw (length-links_of (link_lines device ss)) (few_lines catalogue device ss sound)
 
-pub once : (catalogue : List NamedModel) (device : IndAddr) (ss : List Statement) → first_broken catalogue ss ≡ None → All IsLink (links_of (link_lines device ss)) → IsDistinct eqb (map precedence (links_of (link_lines device ss)))
-once catalogue device ss sound small = distinct (link_lines device ss) (lines_apart catalogue device ss sound) small
+pub once : (catalogue : List NamedModel) (device : IndAddr) (ss : List Statement) → first_broken catalogue ss ≡ None → AllPairs AreApart (links_of (link_lines device ss))
+once catalogue device ss sound = apart (link_lines device ss) (lines_apart catalogue device ss sound)

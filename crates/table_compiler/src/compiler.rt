@@ -37,6 +37,7 @@ pub fn compile(alloc: Global, checked: &Checked<'_, '_>, device: IndAddr) -> Res
 pub fn compile_all(alloc: Global, checked: &Checked<'_, '_>) -> Result<List<Image>, NoMemory>
     ensures stands { IfOk result (λ images. (devices : Seq Device) → IsPermutation (devices_of checked.now.statements) devices → IsStrictlyIncreasing (map raw_of devices) → AllZip (λ image device. StandsFor image (meaning checked.now device)) images devices) }
     ensures fits { IfOk result (λ images. All Fits images) }
+    ensures in_range { IfOk result (λ _. All (λ device. IsInRange (meaning checked.now device)) (devices_of checked.now.statements)) }
 {
     compile_devices(
         alloc,
@@ -103,6 +104,7 @@ fn compile_devices(
     requires ascending { IsStrictlyIncreasing (map raw_of devices.now) }
     ensures stands { IfOk result (λ images. AllZip (λ image device. StandsFor image (meaning (record { statements = statements.now; catalogue = catalogue.now }) device)) images devices.now) }
     ensures fits { IfOk result (λ images. All Fits images) }
+    ensures in_range { IfOk result (λ _. All (λ device. IsInRange (meaning (record { statements = statements.now; catalogue = catalogue.now }) device)) devices.now) }
 {
     let numbers = numbers_of(alloc, devices)?;
     let groups = lines_by_device(alloc, numbers.as_slice(), statements)?;

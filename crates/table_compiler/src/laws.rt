@@ -1,16 +1,19 @@
-//! What the tables of a configuration tell, whoever made them.
+//! What the tables of a configuration tell, whoever made them, and what its links are.
 
-ghost use Rattle.std.specs.Prelude.{◌≡◌, ℕ, ◌↔◌, map, Contains};
+ghost use Rattle.std.specs.Prelude.{◌≡◌, ℕ, ◌↔◌, List as Seq, Contains};
+ghost use Rattle.knx_model.specs.declared.address.GroupAddr.{GroupAddr};
 ghost use Rattle.knx_model.specs.declared.config.Config.{Config};
 ghost use Rattle.knx_model.specs.declared.config.Image.{Image};
-ghost use Rattle.knx_model.specs.Tables.{StandsFor, place_and_object, IsLinked};
+ghost use Rattle.knx_model.specs.declared.config.LinkSpec.{LinkSpec};
+ghost use Rattle.knx_model.specs.Meaning.{links_of, IsLinkOf};
+ghost use Rattle.knx_model.specs.Tables.{StandsFor};
 
 /// A configuration has just one image.
 pub fn one_image()
     ensures { (config : Config) (one other : Image) → StandsFor one config → StandsFor other config → one ≡ other }
 {}
 
-/// A pair is listed exactly where its group is linked to its object.
-pub fn linked_exactly()
-    ensures { (config : Config) (image : Image) (s : StandsFor image config) (p o : ℕ) → Contains (map (place_and_object s.groups) s.order) (p, o) ↔ IsLinked s.groups config.links p o }
+/// A link is one of a device's exactly where a line says it, and it sends exactly where that line is the first of its object.
+pub fn links_said()
+    ensures { (lines : Seq (ℕ × GroupAddr)) (link : LinkSpec) → Contains (links_of lines) link ↔ IsLinkOf lines link }
 {}

@@ -1,13 +1,13 @@
 //! The address table, the association table and the group objects' table, from links and objects.
 
-ghost use Rattle.std.specs.Prelude.{◌≡◌, ℕ, ◌<◌, ◌≤◌, ◌↔◌, ◌++◌, length, map, not, IfOk, Contains, IsPermutation, nat_eq, All};
-ghost use Rattle.std.specs.List.{IsDistinct};
-ghost use Rattle.std.specs.List.Sorted.{IsStrictlyIncreasing, IsNonDecreasingBy};
+ghost use Rattle.std.specs.Prelude.{◌≡◌, ℕ, ◌<◌, ◌≤◌, ◌↔◌, ◌++◌, length, map, not, IfOk, Contains, IsPermutation, All};
+ghost use Rattle.std.specs.List.{AllPairs};
+ghost use Rattle.std.specs.List.Sorted.{IsStrictlyIncreasing};
 ghost use Rattle.knx_model.specs.declared.config.Config.{Config};
 ghost use Rattle.knx_model.specs.Device.{Fits};
 ghost use Rattle.knx_model.specs.Parameters.{HoldsParameters};
-ghost use Rattle.knx_model.specs.Tables.{raw_of, precedence, place, two, address_list, association_list, object_list, StandsFor};
-ghost use Rattle.table_compiler.specs.Order.{IsLink};
+ghost use Rattle.knx_model.specs.Tables.{raw_of, two, address_list, association_list, object_list, StandsFor};
+ghost use Rattle.table_compiler.specs.Order.{IsLink, AreApart, StandsBefore, place, pair_of};
 ghost use Rattle.table_compiler.specs.Places.{ArePlaces};
 
 use crate::places::Places;
@@ -54,9 +54,10 @@ impl Precedence {
 
 /// The links in the order of their pairs.
 fn in_order(alloc: Global, links: &[LinkSpec]) -> Result<Vec<LinkSpec>, AllocError>
-    requires { All IsLink links.now }
+    requires links { All IsLink links.now }
+    requires once { AllPairs AreApart links.now }
     ensures same { IfOk result (λ order. IsPermutation links.now order.items) }
-    ensures ascending { IfOk result (λ order. IsNonDecreasingBy precedence order.items) }
+    ensures ascending { IfOk result (λ order. AllPairs StandsBefore order.items) }
 {
     let mut order = links.to_vec(alloc)?;
     order.sort_unstable_by_key(|link| Precedence::of(*link));
@@ -107,7 +108,7 @@ fn association_table(
     requires listed { All (λ l. Contains groups.now (raw_of l)) order.now }
     requires few { length groups.now < 65536 }
     requires few_links { length order.now < 65536 }
-    ensures { IfOk result (λ octets. octets ≡ association_list groups.now order.now) }
+    ensures { IfOk result (λ octets. octets ≡ association_list (map (pair_of groups.now) order.now)) }
 {
     let mut out = Vec::with_capacity(alloc, 2 + 4 * order.len())?;
     out.extend_from_slice(&(order.len() as u16).to_be_bytes())?;
@@ -142,7 +143,7 @@ pub fn image_of(
     requires few_links { length links.now ≤ 2047 }
     requires links { All IsLink links.now }
     // No object is linked to a group twice.
-    requires once { IsDistinct nat_eq (map precedence links.now) }
+    requires once { AllPairs AreApart links.now }
     requires few_objects { length objects.now ≤ 255 }
     requires few_params { length params ≤ 8192 }
     ensures stands { IfOk result (λ image. (config : Config) → config.links ≡ links.now → config.objects ≡ objects.now → HoldsParameters params config.param_len config.params → StandsFor image config) }

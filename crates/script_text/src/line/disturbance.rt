@@ -1,10 +1,10 @@
 //! The lines that disturb a run: telegrams lost and repeated, writes that are cut or worn, connections closed and refused, the channel
-//! dropped, a device off.
+//! dropped, a device off; and which devices are standard ones.
 
 ghost use Rattle.std.specs.Prelude.{◌<◌, ◌%◌, IfOk, IsTrue};
 ghost use Rattle.knx_model.specs.Answers.{Answers};
 ghost use Rattle.knx_model.specs.Words.{words};
-ghost use Rattle.knx_model.specs.ScriptText.{n_says, device_n_says, lose_up_says, lose_down_says, lose_to_says, lose_from_says, repeat_up_says, repeat_down_says, repeat_to_says, cut_says, worn_says, close_says, refuse_says, drop_channel_says, off_says, lose_says, repeat_says, drop_says, is_script_what};
+ghost use Rattle.knx_model.specs.ScriptText.{n_says, device_n_says, cut_says, worn_says, close_says, refuse_says, off_says, standard_says, lose_says, repeat_says, drop_says, is_script_what};
 
 use crate::fields::{count_field, number_field, status_field};
 use knx_model::{IndAddr, ScriptWhat, Why, device_field, next_field, no_more};
@@ -32,104 +32,55 @@ fn device_n_in(rest: &[u8]) -> Result<(IndAddr, u32), Why>
     Ok((device, n))
 }
 
-/// `lose up N`
-fn lose_up_line_in(rest: &[u8]) -> Result<ScriptWhat, Why>
-    ensures read { Answers (λ x. x) result (lose_up_says (words rest.now)) }
-    ensures spelled { IfOk result (λ what. IsTrue (is_script_what what)) }
-{
-    let n = n_in(rest)?;
-    Ok(ScriptWhat::LoseUp(n))
-}
-
-/// `lose down N`
-fn lose_down_line_in(rest: &[u8]) -> Result<ScriptWhat, Why>
-    ensures read { Answers (λ x. x) result (lose_down_says (words rest.now)) }
-    ensures spelled { IfOk result (λ what. IsTrue (is_script_what what)) }
-{
-    let n = n_in(rest)?;
-    Ok(ScriptWhat::LoseDown(n))
-}
-
-/// `lose to D N`
-fn lose_to_line_in(rest: &[u8]) -> Result<ScriptWhat, Why>
-    ensures read { Answers (λ x. x) result (lose_to_says (words rest.now)) }
-    ensures spelled { IfOk result (λ what. IsTrue (is_script_what what)) }
-{
-    let (device, n) = device_n_in(rest)?;
-    Ok(ScriptWhat::LoseTo(device, n))
-}
-
-/// `lose from D N`
-fn lose_from_line_in(rest: &[u8]) -> Result<ScriptWhat, Why>
-    ensures read { Answers (λ x. x) result (lose_from_says (words rest.now)) }
-    ensures spelled { IfOk result (λ what. IsTrue (is_script_what what)) }
-{
-    let (device, n) = device_n_in(rest)?;
-    Ok(ScriptWhat::LoseFrom(device, n))
-}
-
-/// `lose ..`
+/// `lose up N`, `lose down N`, `lose to D N`, `lose from D N`
 #[tactic(auto, unfolding(knx_model::specs::ScriptText::lose_says))]
 pub fn lose_line_in(rest: &[u8]) -> Result<ScriptWhat, Why>
     ensures read { Answers (λ x. x) result (lose_says (words rest.now)) }
     ensures spelled { IfOk result (λ what. IsTrue (is_script_what what)) }
 {
     let (word, rest) = next_field(rest)?;
-    if word == b"up".as_slice() {
-        lose_up_line_in(rest)
-    } else if word == b"down".as_slice() {
-        lose_down_line_in(rest)
-    } else if word == b"to".as_slice() {
-        lose_to_line_in(rest)
-    } else if word == b"from".as_slice() {
-        lose_from_line_in(rest)
-    } else {
-        Err(Why::UnknownWord)
+    match word {
+        b"up" => {
+            let n = n_in(rest)?;
+            Ok(ScriptWhat::LoseUp(n))
+        }
+        b"down" => {
+            let n = n_in(rest)?;
+            Ok(ScriptWhat::LoseDown(n))
+        }
+        b"to" => {
+            let (device, n) = device_n_in(rest)?;
+            Ok(ScriptWhat::LoseTo(device, n))
+        }
+        b"from" => {
+            let (device, n) = device_n_in(rest)?;
+            Ok(ScriptWhat::LoseFrom(device, n))
+        }
+        _ => Err(Why::UnknownWord),
     }
 }
 
-/// `repeat up N`
-fn repeat_up_line_in(rest: &[u8]) -> Result<ScriptWhat, Why>
-    ensures read { Answers (λ x. x) result (repeat_up_says (words rest.now)) }
-    ensures spelled { IfOk result (λ what. IsTrue (is_script_what what)) }
-{
-    let n = n_in(rest)?;
-    Ok(ScriptWhat::RepeatUp(n))
-}
-
-/// `repeat down N`
-fn repeat_down_line_in(rest: &[u8]) -> Result<ScriptWhat, Why>
-    ensures read { Answers (λ x. x) result (repeat_down_says (words rest.now)) }
-    ensures spelled { IfOk result (λ what. IsTrue (is_script_what what)) }
-{
-    let n = n_in(rest)?;
-    Ok(ScriptWhat::RepeatDown(n))
-}
-
-/// `repeat to D N`
-fn repeat_to_line_in(rest: &[u8]) -> Result<ScriptWhat, Why>
-    ensures read { Answers (λ x. x) result (repeat_to_says (words rest.now)) }
-    ensures spelled { IfOk result (λ what. IsTrue (is_script_what what)) }
-{
-    let (device, n) = device_n_in(rest)?;
-    Ok(ScriptWhat::RepeatTo(device, n))
-}
-
-/// `repeat ..`
+/// `repeat up N`, `repeat down N`, `repeat to D N`
 #[tactic(auto, unfolding(knx_model::specs::ScriptText::repeat_says))]
 pub fn repeat_line_in(rest: &[u8]) -> Result<ScriptWhat, Why>
     ensures read { Answers (λ x. x) result (repeat_says (words rest.now)) }
     ensures spelled { IfOk result (λ what. IsTrue (is_script_what what)) }
 {
     let (word, rest) = next_field(rest)?;
-    if word == b"up".as_slice() {
-        repeat_up_line_in(rest)
-    } else if word == b"down".as_slice() {
-        repeat_down_line_in(rest)
-    } else if word == b"to".as_slice() {
-        repeat_to_line_in(rest)
-    } else {
-        Err(Why::UnknownWord)
+    match word {
+        b"up" => {
+            let n = n_in(rest)?;
+            Ok(ScriptWhat::RepeatUp(n))
+        }
+        b"down" => {
+            let n = n_in(rest)?;
+            Ok(ScriptWhat::RepeatDown(n))
+        }
+        b"to" => {
+            let (device, n) = device_n_in(rest)?;
+            Ok(ScriptWhat::RepeatTo(device, n))
+        }
+        _ => Err(Why::UnknownWord),
     }
 }
 
@@ -177,25 +128,18 @@ pub fn refuse_line_in(rest: &[u8]) -> Result<ScriptWhat, Why>
 }
 
 /// `drop channel N`
-fn drop_channel_line_in(rest: &[u8]) -> Result<ScriptWhat, Why>
-    ensures read { Answers (λ x. x) result (drop_channel_says (words rest.now)) }
-    ensures spelled { IfOk result (λ what. IsTrue (is_script_what what)) }
-{
-    let n = n_in(rest)?;
-    Ok(ScriptWhat::DropChannel(n))
-}
-
-/// `drop ..`
 #[tactic(auto, unfolding(knx_model::specs::ScriptText::drop_says))]
 pub fn drop_line_in(rest: &[u8]) -> Result<ScriptWhat, Why>
     ensures read { Answers (λ x. x) result (drop_says (words rest.now)) }
     ensures spelled { IfOk result (λ what. IsTrue (is_script_what what)) }
 {
     let (word, rest) = next_field(rest)?;
-    if word == b"channel".as_slice() {
-        drop_channel_line_in(rest)
-    } else {
-        Err(Why::UnknownWord)
+    match word {
+        b"channel" => {
+            let n = n_in(rest)?;
+            Ok(ScriptWhat::DropChannel(n))
+        }
+        _ => Err(Why::UnknownWord),
     }
 }
 
@@ -208,4 +152,15 @@ pub fn off_line_in(rest: &[u8]) -> Result<ScriptWhat, Why>
     let (device, rest) = device_field(rest)?;
     no_more(rest)?;
     Ok(ScriptWhat::Off(device))
+}
+
+/// `standard D`
+#[tactic(auto, unfolding(knx_model::specs::ScriptText::standard_says))]
+pub fn standard_line_in(rest: &[u8]) -> Result<ScriptWhat, Why>
+    ensures read { Answers (λ x. x) result (standard_says (words rest.now)) }
+    ensures spelled { IfOk result (λ what. IsTrue (is_script_what what)) }
+{
+    let (device, rest) = device_field(rest)?;
+    no_more(rest)?;
+    Ok(ScriptWhat::Standard(device))
 }

@@ -10,7 +10,7 @@ mod telegram;
 
 use disturbance::{
     close_line_in, cut_line_in, drop_line_in, lose_line_in, off_line_in, refuse_line_in,
-    repeat_line_in, worn_line_in,
+    repeat_line_in, standard_line_in, worn_line_in,
 };
 use knx_model::{ScriptWhat, Why, first_word, line_text};
 use telegram::{group_line_in, then_line_in};
@@ -40,6 +40,8 @@ fn after_word_in(word: &[u8], rest: &[u8]) -> Result<ScriptWhat, Why>
         drop_line_in(rest)
     } else if word == b"off".as_slice() {
         off_line_in(rest)
+    } else if word == b"standard".as_slice() {
+        standard_line_in(rest)
     } else if word == b"group".as_slice() {
         group_line_in(rest)
     } else if word == b"then".as_slice() {

@@ -3,7 +3,7 @@
 ghost use Rattle.std.specs.Prelude.{IfOk, IsTrue};
 ghost use Rattle.knx_model.specs.Answers.{Answers};
 ghost use Rattle.knx_model.specs.Words.{words};
-ghost use Rattle.knx_model.specs.ScriptText.{telegram_says, group_says, then_group_says, then_says, is_script_what};
+ghost use Rattle.knx_model.specs.ScriptText.{telegram_says, group_says, then_says, is_script_what};
 
 use crate::fields::service_field;
 use knx_model::{ScriptWhat, Why, group_field, next_field, no_more};
@@ -33,23 +33,14 @@ pub fn group_line_in(rest: &[u8]) -> Result<ScriptWhat, Why>
 }
 
 /// `then group GA V`
-fn then_group_line_in(rest: &[u8]) -> Result<ScriptWhat, Why>
-    ensures read { Answers (λ x. x) result (then_group_says (words rest.now)) }
-    ensures spelled { IfOk result (λ what. IsTrue (is_script_what what)) }
-{
-    telegram_in(true, rest)
-}
-
-/// `then ..`
 #[tactic(auto, unfolding(knx_model::specs::ScriptText::then_says))]
 pub fn then_line_in(rest: &[u8]) -> Result<ScriptWhat, Why>
     ensures read { Answers (λ x. x) result (then_says (words rest.now)) }
     ensures spelled { IfOk result (λ what. IsTrue (is_script_what what)) }
 {
     let (word, rest) = next_field(rest)?;
-    if word == b"group".as_slice() {
-        then_group_line_in(rest)
-    } else {
-        Err(Why::UnknownWord)
+    match word {
+        b"group" => telegram_in(true, rest),
+        _ => Err(Why::UnknownWord),
     }
 }

@@ -1,12 +1,12 @@
-use Rattle.std.proofs.Common.{◌≡◌, ◌∙◌, ◌≤◌, ap, sym, subst, length, map, eqb, All, List, arith}
-use Rattle.std.specs.List.{IsDistinct}
+use Rattle.std.proofs.Common.{◌≡◌, ◌∙◌, ◌≤◌, ap, sym, subst, length, All, List, arith}
+use Rattle.std.specs.List.{AllPairs}
 use Rattle.knx_model.specs.declared.config.LinkSpec.{LinkSpec}
 use Rattle.knx_model.specs.declared.config.Config.{Config}
 use Rattle.knx_model.specs.Meaning.{link_lines, links_of, flagged_objects, objects_of, meaning}
 use Rattle.knx_model.specs.Device.{Fits}
 use Rattle.knx_model.specs.Parameters.{HoldsParameters}
-use Rattle.knx_model.specs.Tables.{precedence, StandsFor}
-use Rattle.table_compiler.specs.Order.{IsLink}
+use Rattle.knx_model.specs.Tables.{StandsFor}
+use Rattle.table_compiler.specs.Order.{IsLink, AreApart}
 use Rattle.table_compiler.proofs.Compiled.{if_ok, few_links, once, settings_are, memory_holds}
 use Rattle.table_compiler.proofs.compiler.compile_lines.Goals as goal
 
@@ -28,7 +28,7 @@ pub image_of-requires-clause-links : goal.image_of-requires-clause-links
 image_of-requires-clause-links c = small c
 
 pub image_of-requires-clause-once : goal.image_of-requires-clause-once
-image_of-requires-clause-once c = subst (λ (ls : List LinkSpec). IsDistinct eqb (map precedence ls)) (sym (are c)) (once c.args.catalogue.now c.args.device c.args.lines.now c.requires (subst (λ (ls : List LinkSpec). All IsLink ls) (are c) (small c)))
+image_of-requires-clause-once c = subst (λ (ls : List LinkSpec). AllPairs AreApart ls) (sym (are c)) (once c.args.catalogue.now c.args.device c.args.lines.now c.requires)
 
 pub returns-clause-in_range : goal.returns-clause-in_range
 returns-clause-in_range c =
