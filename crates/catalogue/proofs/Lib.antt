@@ -1,4 +1,5 @@
 pub mod Numbers
+pub mod Ascending
 pub mod Twice
 pub mod Apart
 pub mod Cases

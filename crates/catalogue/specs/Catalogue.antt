@@ -82,7 +82,7 @@ judged_model name (Some s) = fields_after name s.params [] s.parameters >>= (λ 
 unfoldable pub named_model : List ℕ → Data → Result NamedModel CatRefused
 named_model name d = if is_name name && not (bytes_eq name (codes "inline")) then judged_model name (model_of d) else Err (Shape name)
 
--- a document lists the members of its table ascending by their keys' octets
+-- the models of a document, in the order in which it lists its members
 abbrev pub models_after : List NamedModel → Members → Result (List NamedModel) CatRefused
 models_after earlier no_members = Ok earlier
 models_after earlier (member name d ms) = named_model name d >>= (λ m. models_after (earlier ++ m ∷ []) ms)

@@ -1,8 +1,11 @@
--- What it means that a document is refused for its first fault, and that it has none. A document lists its models ascending by the octets
--- of their names, and a model lists its parameters. A document is refused for the first of its models that isn't as it must be; that
+-- What it means that a document is refused for its first fault, and that it has none. A document lists its models, those of a catalogue
+-- ascending by the octets of their names, and a model lists its parameters. A document is refused for the first of its models that isn't as it must be; that
 -- model for its shape, or else for its first parameter that is out of its ranges or shares a bit with one before it.
 use Rattle.std.specs.Prelude.{◌≡◌, ◌≢◌, ◌⊎◌, ℕ, true, false, List, [], ◌∷◌, ◌++◌, map, codes, Some, None}
+use Rattle.std.specs.Cmp.Lexicographic.{slice_cmp}
 use Rattle.std.specs.List.{Any}
+use Rattle.std.specs.List.Sorted.{IsStrictlySortedBy}
+use Rattle.std.specs.Ordering.{nat_cmp}
 use Rattle.knx_model.specs.declared.catalogue.model.ModelField.{ModelField}
 use Rattle.knx_model.specs.declared.catalogue.model.NamedModel.{NamedModel}
 use Rattle.knx_model.specs.declared.catalogue.refused.CatRefused.{CatRefused}
@@ -12,7 +15,7 @@ use Rattle.knx_model.specs.Numbers.{is_name}
 use Rattle.toml.specs.Data.{Data, Members, no_members, member}
 use Rattle.catalogue.specs.declared.stated.StatedField.{StatedField}
 use Rattle.catalogue.specs.declared.stated.StatedModel.{StatedModel}
-use Rattle.catalogue.specs.Catalogue.{field_of}
+use Rattle.catalogue.specs.Catalogue.{field_of, document_of}
 use Rattle.catalogue.specs.Shapes.{model_of}
 use Rattle.catalogue.specs.Taken.{has_bit}
 
@@ -83,6 +86,14 @@ pub record HasFault (name : List ℕ) (value : Data) (why : CatRefused) : Type 0
 abbrev pub entries : Members → List (List ℕ × Data)
 entries no_members = []
 entries (member name value more) = (name, value) ∷ entries more
+
+-- the names ascend by their octets, each above the one before
+abbrev pub NamesAscend : Members → Type 0
+NamesAscend ms = IsStrictlySortedBy (slice_cmp nat_cmp) (map (λ e. e.0) (entries ms))
+
+-- so do those of the document that octets are, where they are one
+abbrev pub ListsAscending : List ℕ → Type 0
+ListsAscending octets = (ms : Members) → document_of octets ≡ Some ms → NamesAscend ms
 
 -- what stands under each name is a model that breaks no rule, and these are the models in the same order
 abbrev pub AreModelsOf : List (List ℕ × Data) → List NamedModel → Type 0

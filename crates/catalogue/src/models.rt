@@ -4,6 +4,7 @@ ghost use Rattle.std.specs.Prelude.{◌≡◌, ◌≢◌, string_bytes, IfOk, Al
 ghost use Rattle.toml.specs.View.{view, table_view};
 ghost use Rattle.knx_model.specs.Models.{IsNamedModel};
 ghost use Rattle.catalogue.specs.Catalogue.{Gives, named_model, models_of};
+ghost use Rattle.catalogue.specs.FirstRefusal.{NamesAscend};
 
 use crate::fields::fields_of;
 use crate::tables::model_in;
@@ -44,8 +45,10 @@ fn named_model(alloc: Global, name: &[u8], table: &Value) -> Result<NamedModel, 
 }
 
 /// The models of a document's table.
+#[tactic(auto, using(crate::proofs::Ascending::names_ascend))]
 pub fn models_of(alloc: Global, table: &Table) -> Result<List<NamedModel>, CatRefused>
-    ensures { Gives result (models_of (table_view table.now)) }
+    ensures stated { Gives result (models_of (table_view table.now)) }
+    ensures ascending { NamesAscend (table_view table.now) }
 {
     let mut models = List::new(alloc);
     for (name, value) in table {

@@ -1,9 +1,10 @@
 //! A catalogue is read from octets.
 
-ghost use Rattle.std.specs.Prelude.{◌≡◌, ◌≢◌, ◌↔◌, Some, None, IfOk, IfErr, IsSome};
+ghost use Rattle.std.specs.Prelude.{◌≡◌, ◌≢◌, ◌↔◌, Some, None, IfOk, IfErr, IsSome, MatchResult};
 ghost use Rattle.toml.specs.Errors.{IsMemory};
 ghost use Rattle.toml.specs.View.{table_view};
 ghost use Rattle.catalogue.specs.Catalogue.{Gives, document_of, catalogue_of};
+ghost use Rattle.catalogue.specs.FirstRefusal.{ListsAscending};
 
 use crate::models::models_of;
 use knx_model::{CatRefused, Catalogue, LONGEST_TEXT, NoMemory};
@@ -46,7 +47,9 @@ fn document_in(alloc: Global, octets: &[u8]) -> Result<Table, CatRefused>
 /// as it must be; in a model its shape comes first, then its parameters in order, each one's ranges before its overlap.
 #[tactic(auto, unfolding(crate::specs::Catalogue::catalogue_of))]
 pub fn read_catalogue(alloc: Global, octets: &[u8]) -> Result<Catalogue, CatRefused>
-    ensures { Gives result (catalogue_of octets.now) }
+    ensures stated { Gives result (catalogue_of octets.now) }
+    // So the first model that isn't as it must be is the least by its name.
+    ensures ascending { MatchResult result (λ _. ListsAscending octets.now) (λ why. why ≢ CatRefused.NoMemory tt → why ≢ CatRefused.Long → ListsAscending octets.now) }
 {
     if octets.len() > LONGEST_TEXT as usize {
         return Err(CatRefused::Long);

@@ -8,4 +8,4 @@ pub of-requires : goal.of-requires
 of-requires c =
     let document = table_view c.in_ok-table.table in
     let models = c.in_ok-models.models in
-    models_good (entries document) models (taken document models c.in_ok-models.ensures)
+    models_good (entries document) models (taken document models c.in_ok-models.ensures.stated)
