@@ -26,15 +26,15 @@ scripted_more cuts count next t event h a e =
       count = e ∙ (ap (λ (n : ℕ). counted (now t) n event) h.count ∙ sym (write_count-last t.start 0 t.events event));
     }
 
-pub scripted_gave : (cuts : List Cut) (n next : ℕ) (t new : Trace) (apdu : List ℕ) → (now t).power ≡ true → IsScripted cuts n t → next ≡ number_with (now t) n apdu → (is_write (now t).kept (effect_in apdu) ≡ true → cut_for cuts next ≡ None) → new ≡ after t (Give apdu) → IsScripted cuts next new
+pub scripted_gave : (cuts : List Cut) (n next : ℕ) (t new : Trace) (apdu : List ℕ) → (now t).power ≡ true → IsScripted cuts n t → next ≡ number_with (now t) n apdu → (is_write (now t).kept (effect_in apdu) ≡ true → cut_for cuts (now t).address next ≡ None) → new ≡ after t (Give apdu) → IsScripted cuts next new
 scripted_gave cuts n next t new apdu w h c none e =
     subst (IsScripted cuts next) (sym e)
-    (scripted_more cuts n next t (Give apdu) h (w, λ q. subst (λ (k : ℕ). cut_for cuts k ≡ None) c (none q)) c)
+    (scripted_more cuts n next t (Give apdu) h (w, λ q. subst (λ (k : ℕ). cut_for cuts (now t).address k ≡ None) c (none q)) c)
 
-pub scripted_tore : (cuts : List Cut) (n next : ℕ) (t new : Trace) (apdu : List ℕ) (cut : Cut) → (now t).power ≡ true → IsScripted cuts n t → next ≡ number_with (now t) n apdu → (is_write (now t).kept (effect_in apdu) ≡ true) × (cut_for cuts next ≡ Some cut) → new ≡ after t (cut_after apdu cut.k) → IsScripted cuts next new
+pub scripted_tore : (cuts : List Cut) (n next : ℕ) (t new : Trace) (apdu : List ℕ) (cut : Cut) → (now t).power ≡ true → IsScripted cuts n t → next ≡ number_with (now t) n apdu → (is_write (now t).kept (effect_in apdu) ≡ true) × (cut_for cuts (now t).address next ≡ Some cut) → new ≡ after t (cut_after apdu cut.k) → IsScripted cuts next new
 scripted_tore cuts n next t new apdu cut w h c some e =
     subst (IsScripted cuts next) (sym e)
-    (scripted_more cuts n next t (cut_after apdu cut.k) h (w, (some.0, (cut, (subst (λ (k : ℕ). cut_for cuts k ≡ Some cut) c some.1, refl)))) c)
+    (scripted_more cuts n next t (cut_after apdu cut.k) h (w, (some.0, (cut, (subst (λ (k : ℕ). cut_for cuts (now t).address k ≡ Some cut) c some.1, refl)))) c)
 
 off_after : (t new : Trace) (apdu : List ℕ) (k : ℕ) → (now t).power ≡ true → new ≡ after t (cut_after apdu k) → (now new).power ≡ false
 off_after t new apdu k w e = rw (e, now_after t (cut_after apdu k)) (rw w refl)

@@ -1,5 +1,5 @@
 -- When the events of a bench follow a script: power goes just where a line says so, and comes back before the next event.
-use Rattle.std.specs.Prelude.{ℕ, ◌≡◌, ◌+◌, ◌-◌, ◌^◌, min, true, ◌&&◌, ◌==◌, find, List, [], ◌∷◌, Option, Some, None, if◌then◌else◌}
+use Rattle.std.specs.Prelude.{ℕ, ◌≡◌, ◌+◌, ◌-◌, ◌^◌, min, true, false, ◌&&◌, ◌==◌, find, List, [], ◌∷◌, Option, Some, None, if◌then◌else◌}
 use Rattle.knx_model.specs.declared.address.IndAddr.{IndAddr}
 use Rattle.knx_model.specs.declared.script.Cut.{Cut}
 use Rattle.knx_model.specs.Device.{is_write, effect_in}

@@ -14,7 +14,7 @@ use crate::case::case_of;
 use crate::download::{JobEnd, download};
 use crate::judge::{Order, judge};
 use crate::texts::SimTexts;
-use download_plan::LoadPlan;
+use download_plan::{LoadPlan, each_load_gets_through, each_plan_is_good};
 use knx_model::{
     Cut, DeviceCase, Image, IndAddr, JobWord, List, LogEntry, LogWhat, NoMemory, Report, Sign, Stop,
 };
@@ -69,7 +69,7 @@ fn reported(
     device: IndAddr,
     end: JobEnd,
 ) -> Result<Ended, NoMemory>
-    ensures { IfOk result (λ ended. HasReported plan.now device run.now end ended) }
+    ensures { IfOk result (λ ended. HasReported plan.now.image device run.now end ended) }
 {
     let log = log_of(alloc, end, run.len())?;
     let case = case_of(alloc, run, plan.image())?;
@@ -87,16 +87,20 @@ fn reported(
 fn load(
     alloc: Global,
     run: &mut Run,
-    plan: &LoadPlan,
+    plan: &mut LoadPlan,
     device: IndAddr,
     cuts: &[Cut],
 ) -> Result<Ended, NoMemory>
     requires power { (now run.old).power ≡ true }
     requires fresh { run.old.events ≡ [] }
     ensures start { run.new.start ≡ run.old.start }
-    ensures loaded { HasLoaded plan.now cuts.now run.new }
-    ensures reported { IfOk result (λ ended. Reported plan.now device run.new ended) }
+    ensures loaded { HasLoaded plan.old.image cuts.now run.new }
+    ensures reported { IfOk result (λ ended. Reported plan.old.image device run.new ended) }
 {
+    each_plan_is_good();
+    each_load_gets_through();
+    run.facts();
+    let _ = plan.image();
     let end = download(alloc, run, plan, cuts)?;
     reported(alloc, run, plan, device, end)
 }
@@ -114,9 +118,9 @@ fn commission_order(alloc: Global, order: Order, sim: &mut Bench) -> Result<Ende
         cuts,
     } = order;
     sim.begin(alloc, device, &before)?;
-    let plan = LoadPlan::of(image);
+    let mut plan = LoadPlan::of(image);
     match sim.run() {
-        Some(run) => load(alloc, run, &plan, device, cuts.as_slice()),
+        Some(run) => load(alloc, run, &mut plan, device, cuts.as_slice()),
         None => unreachable!(),
     }
 }

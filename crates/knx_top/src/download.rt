@@ -1,6 +1,6 @@
 //! A job: three attempts, each of which gives the operations of the plan in order until a cut.
 
-ghost use Rattle.std.specs.Prelude.{◌≡◌, ◌+◌, ◌≤◌, ℕ, [], IfSome, IfOk, OnOk, OnErr, Some, None, true};
+ghost use Rattle.std.specs.Prelude.{◌≡◌, ◌+◌, ◌^◌, ◌<◌, ◌≤◌, ℕ, [], IfSome, IfOk, OnOk, OnErr, Some, None, true};
 ghost use Rattle.knx_model.specs.declared.config.Image.{Image};
 ghost use Rattle.knx_model.specs.declared.device.FrameSupport.{FrameSupport};
 ghost use Rattle.knx_model.specs.declared.plan.Op.TheVariants.{Send};
@@ -106,7 +106,8 @@ fn give(
 
 /// The operation that is given next, from the k-th on: one that is passed over isn't given.
 fn next_asked<P: PlanSource>(plan: &P, k: u32) -> Option<Asked>
-    ensures { Finds (P.left plan.now) (P.count plan.now) k result }
+    ensures found { Finds (P.left plan.now) (P.count plan.now) k result }
+    ensures few { P.count plan.now < 2 ^ 32 }
 {
     for number in k..plan.len() {
         if let Op::Send { apdu, expect } = plan.op(number) {
@@ -179,6 +180,7 @@ pub fn download<P: PlanSource>(
     requires power { (now run.old).power ≡ true }
     requires fresh { run.old.events ≡ [] }
     requires serves { (frames : FrameSupport) (nv : NonVolatile) → HasCapacities nv → AnswersAll (answer_in frames) (P.left plan.old 0) nv }
+    ensures same_plan { P.left plan.new 0 ≡ P.left plan.old 0 }
     ensures start { run.new.start ≡ run.old.start }
     ensures follows { Follows cuts.now run.new.start 0 run.new.events }
     ensures moments { (image : Image) → GoodPlan (P.left plan.old 0) image → Went (OldStoppedOrImage (now run.old).kept image) run.old run.new }

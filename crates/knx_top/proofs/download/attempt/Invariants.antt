@@ -1,13 +1,14 @@
-use Rattle.std.proofs.Common.{◌≡◌, Some, drop, take}
-use Rattle.knx_model.specs.Device.{runs}
-use Rattle.knx_model.specs.Bench.{now}
-use Rattle.knx_model.specs.Plan.{OldStoppedOrImage, load_plan}
+use Rattle.std.proofs.Common.{◌≡◌, ◌-◌, ◌^◌}
 use Rattle.knx_top.specs.Attempt.{IsScripted}
 use Rattle.knx_top.proofs.Going.{IsGoing}
 use Rattle.knx_top.proofs.download.attempt.Given as goal
 
-abbrev pub invariant-loop-k : goal.invariant-loop-k
-invariant-loop-k l = record {
-  going : IsGoing (OldStoppedOrImage (now l.fn.run).kept l.fn.plan) (λ nv. runs nv ≡ Some l.fn.plan) l.fn.run l.run (take l.k (load_plan l.fn.plan)) (drop l.k (load_plan l.fn.plan));
+abbrev pub invariant-loop-asked : goal.invariant-loop-asked
+invariant-loop-asked g l = record {
+  same_plan : g.P.PlanSource.left l.plan 0 ≡ g.P.PlanSource.left l.fn.plan 0;
+  going : IsGoing (g.P.PlanSource.left l.fn.plan 0) l.fn.run l.run (g.P.PlanSource.left l.plan l.k);
   script : IsScripted l.cuts l.count l.run;
 }
+
+abbrev pub decreases-loop-asked : goal.decreases-loop-asked
+decreases-loop-asked g l = 2 ^ 32 - l.k
