@@ -65,14 +65,14 @@ fn log_of(alloc: Global, end: JobEnd, at: u64) -> Result<List<LogEntry>, NoMemor
 fn reported(
     alloc: Global,
     run: &Run,
-    plan: &LoadPlan,
+    image: &Image,
     device: IndAddr,
     end: JobEnd,
 ) -> Result<Ended, NoMemory>
-    ensures { IfOk result (λ ended. HasReported plan.now.image device run.now end ended) }
+    ensures { IfOk result (λ ended. HasReported image.now device run.now end ended) }
 {
     let log = log_of(alloc, end, run.len())?;
-    let case = case_of(alloc, run, plan.image())?;
+    let case = case_of(alloc, run, image)?;
     Ok(Ended {
         report: Report { log, missed: 0 },
         job: JobWord {
@@ -102,7 +102,7 @@ fn load(
     run.facts();
     let _ = plan.image();
     let end = download(alloc, run, plan, cuts)?;
-    reported(alloc, run, plan, device, end)
+    reported(alloc, run, plan.image(), device, end)
 }
 
 /// Runs on the bench what was judged. It has the run from its beginning on, whether it ends or memory is wanting on the way.
