@@ -1,12 +1,11 @@
 -- An attempt goes on: operation after operation, with the plan that is left.
-use Rattle.std.proofs.Common.{ℕ, ◌≡◌, ◌+◌, ◌<◌, ◌≤◌, Bool, true, false, List, [], ◌∷◌, ◌++◌, append_assoc, append-nil, Option, Some, None, Result, Ok, Err, refl, sym, ◌∙◌, ap, subst, arith, inl, inr, ltb, if◌then◌else◌}
+use Rattle.std.proofs.Common.{ℕ, ◌≡◌, ◌+◌, ◌<◌, Bool, true, false, List, [], ◌∷◌, ◌++◌, append_assoc, append-nil, Option, Some, None, Result, Ok, Err, refl, sym, ◌∙◌, ap, subst, inl, inr, ltb, if◌then◌else◌}
 use Rattle.std.specs.Result.{OnErr}
 use Rattle.knx_model.specs.declared.config.Image.{Image}
-use Rattle.knx_model.specs.declared.device.FrameSupport.{FrameSupport}
 use Rattle.knx_model.specs.declared.plan.Expect.{Expect}
 use Rattle.knx_model.specs.declared.plan.Expect.TheVariants.{AckOnly, Is, Note}
 use Rattle.knx_model.specs.declared.plan.Op.TheVariants.{Send}
-use Rattle.knx_model.specs.Device.{NonVolatile, runs, whole, torn, effect_in, answer_in, written_front, HasCapacities}
+use Rattle.knx_model.specs.Device.{NonVolatile, runs, whole, torn, effect_in, answer_in, written_front}
 use Rattle.knx_model.specs.DeviceFrames.{Whole, Torn}
 use Rattle.knx_model.specs.DeviceState.{DeviceState, at_rest}
 use Rattle.knx_model.specs.GoodPlan.{OldStoppedOrImage, GoodPlan, AnswersAll}

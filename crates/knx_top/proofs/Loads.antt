@@ -23,7 +23,7 @@ use Rattle.knx_top.proofs.Commissions.{loaded_since}
 
 -- at its beginning a load plan is the whole plan of its image, whatever was noted
 left_whole : (p : Listening) → load_left p 0 ≡ load_plan p.image
-unfolding load_left, load_plan
+unfolding load_left load_plan
 left_whole p = refl
 
 pub serves_left : (p : Listening) → ((frames : FrameSupport) (nv : NonVolatile) → HasCapacities nv → AnswersAll (answer_in frames) (load_plan p.image) nv)

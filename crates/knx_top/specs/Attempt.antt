@@ -1,6 +1,5 @@
 -- What may come of one service of an attempt, of the answer to it, and of an attempt.
 use Rattle.std.specs.Prelude.{ℕ, ◌≡◌, ◌≤◌, ◌<◌, ◌+◌, Bool, List, ◌++◌, ◌⊎◌, Option, Some, None}
-use Rattle.knx_model.specs.declared.plan.Expect.{Expect}
 use Rattle.knx_model.specs.declared.plan.Op.TheVariants.{Send}
 use Rattle.knx_model.specs.declared.script.Cut.{Cut}
 use Rattle.knx_model.specs.Plans.{Plan, Over, Asks, IsHead}

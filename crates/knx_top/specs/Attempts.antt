@@ -10,8 +10,8 @@ use Rattle.knx_top.specs.Bench.{Trace, happens, answered, replay}
 
 -- ---- a plan that is given
 
--- These events, from the device d on, gave a plan as far as the plan that is left: its first operation was given whole and answered as
--- wanted, and then the plan that follows this answer, as far as that. Where no event came, all of it is left.
+-- From the device d on, these events gave a plan up to the plan that is left. No event came, and all of it is left; or its first operation
+-- was given whole and answered as wanted, and then the plan that follows this answer was given up to what is left.
 pub data GaveUpTo : Plan → Plan → DeviceState → List BenchEvent → Type 0 where
   NothingYet : (plan : Plan) (d : DeviceState) → GaveUpTo plan plan d []
   Next : (apdu : List ℕ) (expect : Expect) (next : Option (List ℕ) → Plan) (left : Plan) (d : DeviceState) (events : List BenchEvent)
