@@ -1,7 +1,7 @@
 -- A device with the frame of an answer behind those that wait.
 use Rattle.std.proofs.Common.{◌≡◌, ℕ, List, Option, Some, None, refl}
 use Rattle.knx_model.specs.declared.address.IndAddr.{IndAddr}
-use Rattle.knx_model.specs.Connection.{device_answered, after_answer}
+use Rattle.knx_model.specs.DeviceConnection.{device_answered, after_answer}
 use Rattle.knx_model.specs.DeviceFrames.{LineDevice, queued_if, with_answer, with_connection}
 use Rattle.device_sim.specs.Sending.{and_frame, answered_end, answered_frame}
 

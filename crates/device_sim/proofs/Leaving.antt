@@ -15,7 +15,7 @@ use Rattle.knx_model.specs.declared.script.GroupService.{GroupService}
 use Rattle.knx_model.specs.declared.script.GroupService.TheVariants.{Read, Write, Response}
 use Rattle.knx_model.specs.Acts.{is_written, is_linked_in, object_in_table, accepts, answerer}
 use Rattle.knx_model.specs.ApduReading.{service_in}
-use Rattle.knx_model.specs.Connection.{DeviceEnd, device_after}
+use Rattle.knx_model.specs.DeviceConnection.{DeviceEnd, device_after}
 use Rattle.knx_model.specs.Device.{NonVolatile, Effect, Nothing, runs, effect_in, answer_in}
 use Rattle.knx_model.specs.DeviceState.{DeviceState}
 use Rattle.knx_model.specs.DeviceFrames.{LineDevice, Outcome, Whole, Torn, Worn, took_of, takes, takes_so, ended, got, with_last, taken_alone, taken_group, acted, moved, queued_to, with_connection, connection_took, sender, is_taken, effect_delivered, effect_of_frame, kept_after, group_service, told, told_if, answered_by, with_response, value_of, value_at, value_in_image, value_or_zero, slot, written_values}

@@ -10,7 +10,7 @@ use Rattle.knx_model.specs.declared.device.Took.TheVariants.{NotMine, Taken, Off
 use Rattle.knx_model.specs.declared.device.WriteKind.{WriteKind}
 use Rattle.knx_model.specs.declared.frames.cemi.Ldata.{Ldata}
 use Rattle.knx_model.specs.Bench.{with_kept}
-use Rattle.knx_model.specs.Connection.{device_after}
+use Rattle.knx_model.specs.DeviceConnection.{device_after}
 use Rattle.knx_model.specs.Device.{NonVolatile, Effect, Nothing, torn, is_write, effect_in, answer_in}
 use Rattle.knx_model.specs.DeviceState.{DeviceState}
 use Rattle.knx_model.specs.DeviceFrames.{LineDevice, Outcome, Torn, Worn, at_rest, powerless, took_of, takes, takes_so, ended, got, with_last, taken_alone, taken_group, acted, moved, queued_to, with_connection, connection_took, sender, is_taken, effect_delivered, effect_of_frame, write_kind, would_write, worn_octets}

@@ -2,7 +2,7 @@
 use Rattle.std.specs.Prelude.{ℕ, false, List, [], ◌∷◌, ◌++◌, Option, Some, None}
 use Rattle.knx_model.specs.declared.address.IndAddr.{IndAddr}
 use Rattle.knx_model.specs.declared.frames.cemi.Ldata.{Ldata}
-use Rattle.knx_model.specs.Connection.{DeviceEnd, after_answer, device_answered}
+use Rattle.knx_model.specs.DeviceConnection.{DeviceEnd, after_answer, device_answered}
 use Rattle.knx_model.specs.DeviceFrames.{own_frame}
 
 -- with the frame of these octets behind, where there are any

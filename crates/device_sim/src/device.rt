@@ -3,7 +3,7 @@
 ghost use Rattle.std.specs.Prelude.{◌≡◌, true, IfOk};
 ghost use Rattle.knx_model.specs.Device.{Fits, all_loaded, runs};
 ghost use Rattle.knx_model.specs.DeviceState.{blank, loaded_with};
-ghost use Rattle.knx_model.specs.Connection.{device_deadline};
+ghost use Rattle.knx_model.specs.DeviceConnection.{device_deadline};
 ghost use Rattle.knx_model.specs.DeviceFrames.{at_rest, cut, switched_on};
 
 use crate::kept::Kept;

@@ -3,7 +3,8 @@
 ghost use Rattle.std.specs.Prelude.{◌≡◌, nat_lt, true, is_some, Some, IfOk, IfSome, OnOk, OnErr, if◌then◌else◌};
 ghost use Rattle.knx_model.specs.declared.device.WriteKind.{WriteKind as Kind};
 ghost use Rattle.knx_model.specs.Device.{written_front};
-ghost use Rattle.knx_model.specs.Connection.{IsApdu, partner_of, after_expiry, device_expired};
+ghost use Rattle.knx_model.specs.Connection.{IsApdu};
+ghost use Rattle.knx_model.specs.DeviceConnection.{partner_of, after_expiry, device_expired};
 ghost use Rattle.knx_model.specs.DeviceFrames.{Whole, Torn, Worn, took_of, takes, got, taken_alone, effect_of_frame, would_write, write_kind, worn_octets, sends, sent, frame_to_partner, due_frame, shut, with_connection, taken_group, sender, connection_took, effect_delivered};
 ghost use Rattle.device_sim.specs.Sending.{answered_end, answered_frame};
 ghost use Rattle.device_sim.specs.Wear.{outcome};

@@ -1,6 +1,4 @@
 -- What a plan leads to, as a condition on what is kept: the form in which a plan is proved to be good.
-use Rattle.std.proofs.Common.{List, ℕ, ◌≡◌, Option}
-use Rattle.knx_model.specs.declared.plan.Expect.{Expect}
 use Rattle.knx_model.specs.Device.{NonVolatile}
 use Rattle.knx_model.specs.DeviceFrames.{Outcome}
 use Rattle.knx_model.specs.Plans.{Plan, Over, Asks, Suits}

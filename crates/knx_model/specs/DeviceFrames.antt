@@ -26,7 +26,8 @@ use Rattle.knx_model.specs.declared.script.GroupService.TheVariants.{Read, Write
 use Rattle.knx_model.specs.Acts.{is_written, answerer}
 use Rattle.knx_model.specs.ApduReading.{service_in, apdu_octets}
 use Rattle.knx_model.specs.Cemi.{is_extended}
-use Rattle.knx_model.specs.Connection.{DeviceEnd, Closed, Idle, Answering, frame_in, partner_of, disconnect, device_took, device_after, device_answered, after_answer, device_expired, repeated}
+use Rattle.knx_model.specs.Connection.{frame_in, disconnect}
+use Rattle.knx_model.specs.DeviceConnection.{DeviceEnd, Closed, Idle, Answering, partner_of, device_took, device_after, device_answered, after_answer, device_expired, device_repeated}
 use Rattle.knx_model.specs.Device.{NonVolatile, Effect, Loads, Stores, Nothing, runs, whole, torn, taken_over, is_write, effect_in, answer_in}
 use Rattle.knx_model.specs.DeviceState.{DeviceState, cut, moved, value_of, written_values}
 
@@ -233,7 +234,7 @@ abbrev pub repeat_frame : DeviceState → Option Ldata
 repeat_frame d = outstanding_frame d.address d.connection
 
 abbrev pub repeats : DeviceState → ℕ → DeviceState
-repeats d now = record d { connection = repeated d.connection now }
+repeats d now = record d { connection = device_repeated d.connection now }
 
 -- it closes its connection, where one is open: the T_Disconnect to its partner joins the unsent frames
 abbrev pub shut_from : DeviceState → Option IndAddr → DeviceState

@@ -13,7 +13,7 @@ use Rattle.knx_model.specs.declared.loading.LoadState.{LoadState}
 use Rattle.knx_model.specs.declared.loading.LoadState.TheVariants.{Unloaded, Loaded}
 use Rattle.knx_model.specs.declared.loading.LoadableObject.TheVariants.{AddressTable, AssociationTable, GroupObjects, Application}
 use Rattle.knx_model.specs.Acts.{object_in_table, zero_value}
-use Rattle.knx_model.specs.Connection.{DeviceEnd, Closed}
+use Rattle.knx_model.specs.DeviceConnection.{DeviceEnd, Closed}
 use Rattle.knx_model.specs.Device.{NonVolatile, HasCapacities, capacity, runs}
 use Rattle.knx_model.specs.Loading.{Loadable, state_number}
 

@@ -5,7 +5,8 @@ use Rattle.knx_model.specs.declared.config.Image.{Image}
 use Rattle.knx_model.specs.declared.device.FrameSupport.{FrameSupport}
 use Rattle.knx_model.specs.declared.plan.Expect.{Expect}
 use Rattle.knx_model.specs.declared.plan.Expect.TheVariants.{AckOnly, Is, Note}
-use Rattle.knx_model.specs.Connection.{IsApdu, has_answer}
+use Rattle.knx_model.specs.Connection.{IsApdu}
+use Rattle.knx_model.specs.ClientConnection.{has_answer}
 use Rattle.knx_model.specs.Device.{NonVolatile, runs, whole, effect_in, answer_in}
 use Rattle.knx_model.specs.DeviceFrames.{Outcome, Whole, Torn, Worn, kept_after}
 use Rattle.knx_model.specs.Plans.{Plan, Over, Asks, Suits}

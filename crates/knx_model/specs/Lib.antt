@@ -11,6 +11,9 @@ pub mod Spells
 pub mod Apdu
 pub mod ApduReading
 pub mod Connection
+pub mod DeviceConnection
+pub mod ClientConnection
+pub mod ConnectionLaws
 pub mod Octets
 pub mod Cemi
 pub mod KnxNetIp

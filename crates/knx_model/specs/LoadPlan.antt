@@ -1,6 +1,6 @@
 -- The plan that loads an image, and the plan that checks whether a device runs it. Each begins with two reads: the descriptor, which is
 -- expected, and the greatest length of an APDU, which is noted, since it settles how long the pieces are.
-use Rattle.std.specs.Prelude.{ℕ, ◌+◌, ◌*◌, Bool, ◌&&◌, ◌==◌, nat_le, List, [], ◌∷◌, ◌++◌, Option, Some, None, if◌then◌else◌}
+use Rattle.std.specs.Prelude.{ℕ, ◌+◌, ◌*◌, ◌&&◌, ◌==◌, nat_le, List, [], ◌∷◌, ◌++◌, Option, Some, None, if◌then◌else◌}
 use Rattle.knx_model.specs.declared.config.Image.{Image}
 use Rattle.knx_model.specs.declared.loading.LoadState.TheVariants.{Unloaded}
 use Rattle.knx_model.specs.declared.loading.LoadEvent.TheVariants.{Unload}

@@ -55,7 +55,7 @@ pub enum ClientConfirmed {
     Up,
     /// The T_Connect was confirmed with error: the attempt has ended.
     NoCon,
-    /// That of a numbered frame, whose wait for its T_ACK begins.
+    /// That of a later frame; the wait for a T_ACK begins at the first one after its service was sent.
     Timed,
 }
 

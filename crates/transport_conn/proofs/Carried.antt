@@ -8,20 +8,20 @@ use Rattle.knx_model.specs.declared.connection.TransportFrame.{TransportFrame}
 use Rattle.knx_model.specs.declared.connection.TransportFrame.TheVariants.{Connect, Disconnect, Ack, Nak, Numbered, Other}
 use Rattle.knx_model.specs.Apdu.{ReadsControl, Written, apdu_code}
 use Rattle.knx_model.specs.ApduReading.{apdu_octets}
-use Rattle.knx_model.specs.Connection.{frame_in, control_frame, numbered, IsApdu}
-use Rattle.transport_conn.specs.Laws.{Carries}
+use Rattle.knx_model.specs.Connection.{frame_in, control_frame, numbered_data, IsApdu}
+use Rattle.knx_model.specs.ConnectionLaws.{Carries}
 use Rattle.apdu_frames.proofs.Function.{control_from}
 
 one_read : (first : ℕ) (frame : Tpdu) → ReadsControl first frame → frame_in (first ∷ []) ≡ control_frame (Some frame)
 unfolding frame_in
 one_read first frame h = ap control_frame (control_from first frame h)
 
-data_read : (number first : ℕ) (rest : List ℕ) → number < 16 → first < 4 → 1 ≤ length rest → length rest ≤ 15 → frame_in (numbered number (first ∷ rest)) ≡ Numbered number (first ∷ rest)
+data_read : (number first : ℕ) (rest : List ℕ) → number < 16 → first < 4 → 1 ≤ length rest → 1 + length rest ≤ 64 → frame_in (numbered_data number (first ∷ rest)) ≡ Numbered number (first ∷ rest)
 unfolding frame_in
 data_read number first [] n f l m = absurd (omega arith)
 data_read number first (second ∷ rest) n f l m = grind (arith, common_steps)
 
-numbered_read : (number : ℕ) (apdu : List ℕ) → number < 16 → IsApdu apdu → frame_in (numbered number apdu) ≡ Numbered number apdu
+numbered_read : (number : ℕ) (apdu : List ℕ) → number < 16 → IsApdu apdu → frame_in (numbered_data number apdu) ≡ Numbered number apdu
 numbered_read number [] n h = absurd h
 numbered_read number (first ∷ rest) n h = data_read number first rest n h.0 h.1 h.2
 
@@ -58,5 +58,5 @@ carried [] = inl nothing_read
 carried (first ∷ []) = control_carries first
 carried (first ∷ second ∷ rest) = data_carries first second rest
 
-pub grammatical : (number : ℕ) (apdu : Apdu) → numbered number (apdu_octets apdu) ≡ Written (tpdu.Numbered number apdu)
+pub grammatical : (number : ℕ) (apdu : Apdu) → numbered_data number (apdu_octets apdu) ≡ Written (tpdu.Numbered number apdu)
 grammatical number apdu = let e : 0x40 + 4 * number + (4 * 0 + apdu_code apdu / 256) ≡ 4 * (0x10 + number) + apdu_code apdu / 256 = omega arith in grind (arith, common_steps)

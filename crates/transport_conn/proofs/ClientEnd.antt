@@ -7,8 +7,9 @@ use Rattle.knx_model.specs.declared.connection.TransportFrame.TheVariants.{Conne
 use Rattle.knx_model.specs.declared.connection.ClientTook.TheVariants as heard
 use Rattle.knx_model.specs.declared.connection.ClientExpired.TheVariants as over
 use Rattle.knx_model.specs.Apdu.{Written}
-use Rattle.knx_model.specs.Connection.{ClientEnd, Asked, Up, Asking, Awaiting, Ended, Session, Question, client_took, client_after, client_expired, client_deadline, up_took, asking_took, answer_heard, advanced, end_where, question_expired}
-use Rattle.transport_conn.specs.Laws.{Hears, HasSession, IsUnacknowledged, IsUnanswered, Reached}
+use Rattle.knx_model.specs.Connection.{Session, advanced}
+use Rattle.knx_model.specs.ClientConnection.{ClientEnd, Asked, Up, Asking, Awaiting, Ended, Question, client_took, client_after, client_expired, client_deadline, up_took, asking_took, answer_heard, wait_end_if, question_expired}
+use Rattle.knx_model.specs.ConnectionLaws.{Hears, HasSession, IsUnacknowledged, IsUnanswered, Reached}
 
 pub nak_ignored : (e : ClientEnd) (number : ℕ) → client_took e (Nak number) ≡ heard.Dropped
 unfolding client_took
@@ -119,7 +120,7 @@ unanswered_so s now w = grind (arith, common_steps)
 pub unanswered : (e : ClientEnd) (now : ℕ) → IsUnanswered e now → client_expired e now ≡ over.Silent 6000
 unanswered e now h = rw h.awaiting (unanswered_so h.session now h.idle)
 
-question_due : (q : Question) (o : Option ℕ) (now : ℕ) → now < 0xFFFFFFFFFFFFFFFF → Reached (end_where 3000 o) now → question_expired q o now ≢ over.Nothing
+question_due : (q : Question) (o : Option ℕ) (now : ℕ) → now < 0xFFFFFFFFFFFFFFFF → Reached (wait_end_if 3000 o) now → question_expired q o now ≢ over.Nothing
 question_due q None now l h = absurd h
 question_due q (Some since) now l h = λ e. grind (arith, common_steps)
 
@@ -131,7 +132,7 @@ due (Asking s q) now l h = question_due q q.confirmed now l h
 due (Awaiting s) now l h = λ e. grind (arith, common_steps)
 due Ended now l h = absurd h
 
-question_reached : (q : Question) (o : Option ℕ) (now : ℕ) → now < 0xFFFFFFFFFFFFFFFF → question_expired q o now ≢ over.Nothing → Reached (end_where 3000 o) now
+question_reached : (q : Question) (o : Option ℕ) (now : ℕ) → now < 0xFFFFFFFFFFFFFFFF → question_expired q o now ≢ over.Nothing → Reached (wait_end_if 3000 o) now
 question_reached q None now l h = absurd (h refl)
 question_reached q (Some since) now l h = grind (arith, common_steps)
 

@@ -10,8 +10,10 @@ use Rattle.knx_model.specs.declared.connection.DeviceExpired.TheVariants as expi
 use Rattle.knx_model.specs.declared.connection.ClientTook.TheVariants as heard
 use Rattle.knx_model.specs.declared.connection.ClientExpired.TheVariants as over
 use Rattle.knx_model.specs.Apdu.{Written}
-use Rattle.knx_model.specs.Connection.{DeviceEnd, Closed, Idle, Answering, ClientEnd, Asked, Up, Asking, Awaiting, Ended, Session, Outstanding, Question, device_took, device_expired, client_took, client_expired, ack_heard, up_took, asking_took, answer_heard, question_expired}
-use Rattle.transport_conn.specs.Laws.{IsOpen, IsAnswering, ClosesDevice, ByDisconnect, ByAck, ByStranger, ByService, IsIdle, HasSession, IsAsking, ClosesClient, HeardDisconnect, HeardAck, AsksAgain}
+use Rattle.knx_model.specs.Connection.{Session}
+use Rattle.knx_model.specs.DeviceConnection.{DeviceEnd, Closed, Idle, Answering, Outstanding, device_took, device_expired}
+use Rattle.knx_model.specs.ClientConnection.{ClientEnd, Asked, Up, Asking, Awaiting, Ended, Question, client_took, client_expired, ack_heard, up_took, asking_took, answer_heard, question_expired}
+use Rattle.knx_model.specs.ConnectionLaws.{IsOpen, IsAnswering, ClosesDevice, ByDisconnect, ByAck, ByStranger, ByService, IsIdle, HasSession, IsAsking, ClosesClient, HeardDisconnect, HeardAck, AsksAgain}
 
 -- ---- the client's end: frames
 

@@ -8,8 +8,9 @@ use Rattle.knx_model.specs.declared.connection.TransportFrame.TheVariants.{Conne
 use Rattle.knx_model.specs.declared.connection.DeviceTook.TheVariants as took
 use Rattle.knx_model.specs.declared.connection.DeviceExpired.TheVariants as expired
 use Rattle.knx_model.specs.Apdu.{Written}
-use Rattle.knx_model.specs.Connection.{DeviceEnd, Closed, Idle, Answering, Session, Outstanding, device_took, device_after, device_expired, device_deadline, advanced}
-use Rattle.transport_conn.specs.Laws.{Delivers, Repeats, Reached}
+use Rattle.knx_model.specs.Connection.{Session, advanced}
+use Rattle.knx_model.specs.DeviceConnection.{DeviceEnd, Closed, Idle, Answering, Outstanding, device_took, device_after, device_expired, device_deadline}
+use Rattle.knx_model.specs.ConnectionLaws.{Delivers, Repeats, Reached}
 
 pub delivered : (e : DeviceEnd) (from : IndAddr) (frame : TransportFrame) (apdu ack : List ℕ) → device_took e from frame ≡ took.Apdu apdu ack → Delivers e from frame apdu ack
 unfolding device_took

@@ -6,10 +6,12 @@ use Rattle.knx_model.specs.declared.connection.DeviceTook.{DeviceTook}
 use Rattle.knx_model.specs.declared.connection.DeviceTook.TheVariants as took
 use Rattle.knx_model.specs.declared.connection.ClientTook.{ClientTook}
 use Rattle.knx_model.specs.declared.connection.ClientTook.TheVariants as heard
-use Rattle.knx_model.specs.Connection.{DeviceEnd, Closed, Idle, Answering, ClientEnd, Asked, Up, Asking, Awaiting, Ended, Session, Outstanding, Question, left, told_ack, device_took, device_after, after_answer, device_expired, after_expiry, after_confirmed, after_send, client_took, client_after, client_expired, after_overdue}
-use Rattle.transport_conn.specs.Laws.{DeviceCall, Takes, Answers, Expires, after_device_call, device_after_calls, IsSentAtMostFourTimes, ClientCall, Confirms, Sends, Hearing, Waits, after_client_call, client_after_calls, IsAskedAtMostFourTimes}
+use Rattle.knx_model.specs.Connection.{Session}
+use Rattle.knx_model.specs.DeviceConnection.{DeviceEnd, Closed, Idle, Answering, Outstanding, device_left, device_took, device_after, after_answer, device_expired, after_expiry}
+use Rattle.knx_model.specs.ClientConnection.{ClientEnd, Asked, Up, Asking, Awaiting, Ended, Question, client_acknowledged, after_confirmed, after_send, client_took, client_after, client_expired, after_overdue}
+use Rattle.knx_model.specs.ConnectionLaws.{DeviceCall, Takes, Answers, Expires, after_device_call, device_after_calls, IsSentAtMostFourTimes, ClientCall, Confirms, Sends, Hearing, Waits, after_client_call, client_after_calls, IsAskedAtMostFourTimes}
 
-left_kept : (e : DeviceEnd) (from : IndAddr) → IsSentAtMostFourTimes e → IsSentAtMostFourTimes (left e from)
+left_kept : (e : DeviceEnd) (from : IndAddr) → IsSentAtMostFourTimes e → IsSentAtMostFourTimes (device_left e from)
 left_kept Closed from h = h
 left_kept (Idle s) from h = grind (arith, common_steps)
 left_kept (Answering s a) from h = grind (arith, common_steps)
@@ -61,7 +63,7 @@ pub device_always : (calls : List DeviceCall) → IsSentAtMostFourTimes (device_
 device_always [] = tt
 device_always (call ∷ calls) = device_call_kept (device_after_calls calls) call (device_always calls)
 
-ack_kept : (s : Session) (q : Question) (now : ℕ) → IsAskedAtMostFourTimes (told_ack (Asking s q) now)
+ack_kept : (s : Session) (q : Question) (now : ℕ) → IsAskedAtMostFourTimes (client_acknowledged (Asking s q) now)
 ack_kept s q now = grind (arith, common_steps)
 
 heard_kept : (e : ClientEnd) (now : ℕ) (answer : ClientTook) → IsAskedAtMostFourTimes e → IsAskedAtMostFourTimes (client_after e now answer)

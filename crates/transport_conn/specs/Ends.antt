@@ -4,7 +4,9 @@ use Rattle.transport_conn.specs.declared.device.State.TheVariants as device
 use Rattle.transport_conn.specs.declared.client.State.{State as ClientState}
 use Rattle.transport_conn.specs.declared.client.State.TheVariants as client
 use Rattle.std.specs.Prelude.{◌<◌}
-use Rattle.knx_model.specs.Connection.{DeviceEnd, Closed, Idle, Answering, ClientEnd, Asked, Up, Asking, Awaiting, Ended, most_repeats}
+use Rattle.knx_model.specs.Connection.{most_repeats}
+use Rattle.knx_model.specs.DeviceConnection.{DeviceEnd, Closed, Idle, Answering}
+use Rattle.knx_model.specs.ClientConnection.{ClientEnd, Asked, Up, Asking, Awaiting, Ended}
 
 abbrev pub device_end : DeviceState → DeviceEnd
 device_end device.Closed = Closed

@@ -4,12 +4,12 @@
 ghost use Rattle.std.specs.Prelude.{◌≡◌, ◌≤◌, ◌<◌, length};
 ghost use Rattle.knx_model.specs.declared.frames.tpdu.Tpdu.TheVariants as tpdu;
 ghost use Rattle.knx_model.specs.Apdu.{Written};
-ghost use Rattle.knx_model.specs.Connection.{frame_in, numbered, next, is_before, HasNumber, IsApdu};
+ghost use Rattle.knx_model.specs.Connection.{frame_in, numbered_data, next_number, is_before, HasNumber, IsApdu};
 
 use apdu_frames::{NUMBERED, decode, encode, is_numbered, sequence_number};
 use knx_model::{ApduOctets, Tpdu, TransportFrame};
 
-/// The frame that octets are. One of more than 16 octets is no frame of a device: it is `Other`.
+/// The frame that octets are. One of more than 64 octets is no frame of a device: it is `Other`.
 #[tactic(auto, unfolding(knx_model::specs::Connection::frame_in))]
 pub fn read(octets: &[u8]) -> TransportFrame
     ensures frame { result ≡ frame_in octets.now }
@@ -51,7 +51,7 @@ fn control(octet: &[u8]) -> TransportFrame
 pub fn numbered(number: u8, apdu: &[u8]) -> ApduOctets
     requires number { number < 16 }
     requires apdu { IsApdu apdu.now }
-    ensures { result ≡ numbered number apdu.now }
+    ensures { result ≡ numbered_data number apdu.now }
 {
     match apdu {
         [] => ApduOctets::new(),
@@ -89,7 +89,7 @@ pub fn disconnect() -> ApduOctets
 /// The number that follows.
 pub fn next(number: u8) -> u8
     requires { number < 16 }
-    ensures value { result ≡ next number }
+    ensures value { result ≡ next_number number }
     ensures fits { result < 16 }
 {
     (number + 1) % 16

@@ -5,15 +5,17 @@ ghost use Rattle.knx_model.specs.declared.address.IndAddr.{IndAddr as Address};
 ghost use Rattle.knx_model.specs.declared.frames.tpdu.Apdu.{Apdu as Service};
 ghost use Rattle.knx_model.specs.declared.frames.tpdu.Tpdu.TheVariants as tpdu;
 ghost use Rattle.knx_model.specs.declared.connection.TransportFrame.{TransportFrame};
-ghost use Rattle.knx_model.specs.declared.connection.TransportFrame.TheVariants.{Nak, Numbered, Other};
+ghost use Rattle.knx_model.specs.declared.connection.TransportFrame.TheVariants.{Connect, Nak, Numbered, Other};
 ghost use Rattle.knx_model.specs.declared.connection.DeviceTook.TheVariants as took;
 ghost use Rattle.knx_model.specs.declared.connection.DeviceExpired.TheVariants as expired;
 ghost use Rattle.knx_model.specs.declared.connection.ClientTook.TheVariants as heard;
 ghost use Rattle.knx_model.specs.declared.connection.ClientExpired.TheVariants as over;
 ghost use Rattle.knx_model.specs.Apdu.{Written};
 ghost use Rattle.knx_model.specs.ApduReading.{apdu_octets};
-ghost use Rattle.knx_model.specs.Connection.{DeviceEnd as Device, ClientEnd as Client, Session, Question, Asking, Up, Awaiting, frame_in, numbered, has_passed, device_took, device_after, device_expired, device_deadline, client_took, client_after, client_expired, client_deadline};
-ghost use Rattle.transport_conn.specs.Laws.{Carries, Reached, Delivers, Repeats, ClosesDevice, IsIdle, Hears, ClosesClient, AsksAgain, IsUnacknowledged, IsUnanswered, DeviceCall, ClientCall, device_after_calls, client_after_calls, IsSentAtMostFourTimes, IsAskedAtMostFourTimes};
+ghost use Rattle.knx_model.specs.Connection.{Session, frame_in, numbered_data};
+ghost use Rattle.knx_model.specs.DeviceConnection.{DeviceEnd as Device, Idle, IsDeviceEnd, device_took, device_after, device_answered, after_answer, device_expired, after_expiry, device_deadline};
+ghost use Rattle.knx_model.specs.ClientConnection.{ClientEnd as Client, Asked, Up, IsClientEnd, after_confirmed, client_sent, after_send, client_took, client_after, client_expired, after_overdue, client_deadline};
+ghost use Rattle.knx_model.specs.ConnectionLaws.{Carries, Reached, Delivers, Repeats, ClosesDevice, IsIdle, Hears, ClosesClient, AsksAgain, IsUnacknowledged, IsUnanswered, DeviceCall, ClientCall, IsOpen, HasSession, HasSameNumbers, HasDeviceCounted, HasClientCounted, DeviceCarries, ClientCarries, after_device_call, after_client_call, device_after_calls, client_after_calls, IsSentAtMostFourTimes, IsAskedAtMostFourTimes};
 
 /// Octets that carry a frame are read as this frame, and octets that carry none as no frame.
 pub fn frames_are_read()
@@ -23,7 +25,7 @@ pub fn frames_are_read()
 
 /// A service that is numbered here is the grammar's numbered data.
 pub fn numbered_is_grammatical()
-    ensures { (number : ℕ) (apdu : Service) → numbered number (apdu_octets apdu) ≡ Written (tpdu.Numbered number apdu) }
+    ensures { (number : ℕ) (apdu : Service) → numbered_data number (apdu_octets apdu) ≡ Written (tpdu.Numbered number apdu) }
 {}
 
 /// A device's end delivers a service exactly where it comes from the partner with the expected number and no answer is outstanding.
@@ -106,4 +108,41 @@ pub fn silent_exactly()
 pub fn sent_at_most_four_times()
     ensures device { (calls : List DeviceCall) → IsSentAtMostFourTimes (device_after_calls calls) }
     ensures client { (device : Address) (calls : List ClientCall) → IsAskedAtMostFourTimes (client_after_calls device calls) }
+{}
+
+/// A T_Connect that is taken begins both numbers at 0, at either end; nothing else connects a device.
+pub fn connects_anew()
+    ensures device { (e : Device) (from : Address) (frame : TransportFrame) (now : ℕ) → device_took e from frame ≡ took.Connected
+        → (frame ≡ Connect) × (device_after e from now took.Connected ≡ Idle (record { partner = from; expected = 0; number = 0; last = now })) }
+    ensures client { (device : Address) (now : ℕ) → after_confirmed (Asked device) false now ≡ Up (record { partner = device; expected = 0; number = 0; last = now }) }
+{}
+
+/// While a connection stays open, each service that is delivered raises the expected number by one of four bits, each T_ACK of what is
+/// outstanding raises the own number so, and no other frame changes either.
+pub fn frames_count()
+    ensures device { (e : Device) (from : Address) (frame : TransportFrame) (now : ℕ) (s t : Session) → IsOpen e s → IsOpen (device_after e from now (device_took e from frame)) t → HasDeviceCounted (device_took e from frame) s t }
+    ensures client { (e : Client) (frame : TransportFrame) (now : ℕ) (s t : Session) → HasSession e s → HasSession (client_after e now (client_took e frame)) t → HasClientCounted (client_took e frame) s t }
+{}
+
+/// Nothing else changes the numbers of a connection that stays open: no service that is sent, no confirmation, no time.
+pub fn other_calls_keep_numbers()
+    ensures device_answers { (e : Device) (apdu : List ℕ) (now : ℕ) (s t : Session) → IsOpen e s → IsOpen (after_answer e apdu now) t → HasSameNumbers s t }
+    ensures device_waits { (e : Device) (now : ℕ) (s t : Session) → IsOpen e s → IsOpen (after_expiry e now (device_expired e now)) t → HasSameNumbers s t }
+    ensures client_confirms { (e : Client) (error : Bool) (now : ℕ) (s t : Session) → HasSession e s → HasSession (after_confirmed e error now) t → HasSameNumbers s t }
+    ensures client_sends { (e : Client) (apdu : List ℕ) (now : ℕ) (s t : Session) → HasSession e s → HasSession (after_send e apdu now) t → HasSameNumbers s t }
+    ensures client_waits { (e : Client) (now : ℕ) (s t : Session) → HasSession e s → HasSession (after_overdue e now (client_expired e now)) t → HasSameNumbers s t }
+{}
+
+/// Every call keeps the numbers of an end within four bits.
+pub fn numbers_have_four_bits()
+    ensures device { (e : Device) (call : DeviceCall) → IsDeviceEnd e → IsDeviceEnd (after_device_call e call) }
+    ensures client { (e : Client) (call : ClientCall) → IsClientEnd e → IsClientEnd (after_client_call e call) }
+{}
+
+/// A service that is sent carries the own number, and so does what is outstanding after any call.
+pub fn sent_carries_number()
+    ensures device { (e : Device) (s : Session) (apdu frame : List ℕ) → IsOpen e s → device_answered e apdu ≡ Some frame → frame ≡ numbered_data s.number apdu }
+    ensures client { (e : Client) (s : Session) (apdu frame : List ℕ) → HasSession e s → client_sent e apdu ≡ Some frame → frame ≡ numbered_data s.number apdu }
+    ensures device_keeps { (e : Device) (call : DeviceCall) → DeviceCarries e → DeviceCarries (after_device_call e call) }
+    ensures client_keeps { (e : Client) (call : ClientCall) → ClientCarries e → ClientCarries (after_client_call e call) }
 {}

@@ -16,10 +16,11 @@ pub use knx_model::{
     IndAddr,
 };
 pub use laws::{
-    asks_again_exactly, client_closes_exactly, deadline_is_nearest, delivers_exactly,
-    delivers_once, device_closes_exactly, device_expires_exactly, frames_are_read, hears_exactly,
-    hears_once, nak_is_ignored, numbered_is_grammatical, repeats_exactly, sent_at_most_four_times,
-    silent_exactly,
+    asks_again_exactly, client_closes_exactly, connects_anew, deadline_is_nearest,
+    delivers_exactly, delivers_once, device_closes_exactly, device_expires_exactly,
+    frames_are_read, frames_count, hears_exactly, hears_once, nak_is_ignored,
+    numbered_is_grammatical, numbers_have_four_bits, other_calls_keep_numbers, repeats_exactly,
+    sent_at_most_four_times, sent_carries_number, silent_exactly,
 };
 
 #[cfg(test)]

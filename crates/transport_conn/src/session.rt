@@ -1,9 +1,9 @@
 //! What an end of an open connection knows.
 
-ghost use Rattle.std.specs.Prelude.{◌≡◌};
-ghost use Rattle.knx_model.specs.Connection.{IsApdu, is_partner, at_time, advanced, acknowledged, new_session, has_passed, end_of, idle_wait, numbered};
+ghost use Rattle.std.specs.Prelude.{◌≡◌, ◌<◌};
+ghost use Rattle.knx_model.specs.Connection.{IsApdu, by_number, is_with, at_time, advanced, acknowledged, new_session, has_passed, wait_end, idle_wait, numbered_data};
 
-use crate::frame::{next, numbered};
+use crate::frame::{is_before, next, numbered};
 use crate::wait::{IDLE_WAIT_MS, end_of, has_passed};
 use knx_model::{ApduOctets, IndAddr};
 use std::marker::Model;
@@ -29,6 +29,16 @@ impl Model for Session {
     ghost invariant = { λ s. (s.expected < 16) × (s.number < 16) };
 }
 
+/// What the number of a partner's service means.
+#[derive(Clone, Copy)]
+pub enum NumberIs {
+    /// That of its next service.
+    Expected,
+    /// That of its service before.
+    Before,
+    Another,
+}
+
 impl Session {
     /// A new connection.
     pub fn new(partner: IndAddr, now: u64) -> Session
@@ -44,9 +54,23 @@ impl Session {
 
     /// Whether frames of this sender are the partner's.
     pub fn is_partner(&self, from: IndAddr) -> bool
-        ensures { result ≡ is_partner self.now from }
+        ensures { result ≡ is_with self.now from }
     {
         self.partner.raw == from.raw
+    }
+
+    /// What the number of a service of the partner means.
+    pub fn number_is(&self, number: u8) -> NumberIs
+        requires { number < 16 }
+        ensures { result ≡ by_number self.now number NumberIs.Expected NumberIs.Before NumberIs.Another }
+    {
+        if number == self.expected {
+            NumberIs::Expected
+        } else if is_before(number, self.expected) {
+            NumberIs::Before
+        } else {
+            NumberIs::Another
+        }
     }
 
     /// After a frame was sent or taken.
@@ -81,7 +105,7 @@ impl Session {
     /// The octets of the next own service.
     pub fn numbered(&self, apdu: &[u8]) -> ApduOctets
         requires { IsApdu apdu.now }
-        ensures { result ≡ numbered self.now.number apdu.now }
+        ensures { result ≡ numbered_data self.now.number apdu.now }
     {
         numbered(self.number, apdu)
     }
@@ -95,7 +119,7 @@ impl Session {
 
     /// When it will have been idle for too long.
     pub fn end(&self) -> u64
-        ensures { result ≡ end_of idle_wait self.now.last }
+        ensures { result ≡ wait_end idle_wait self.now.last }
     {
         end_of(IDLE_WAIT_MS, self.last)
     }

@@ -21,7 +21,7 @@ const RESPONSE: [u8; 4] = [0x03, 0x40, 0x07, 0xB0];
 const WRITE: [u8; 5] = [0x02, 0x81, 0x40, 0x00, 0xAB];
 
 fn octets<const N: usize>(octets: [u8; N]) -> ApduOctets
-    requires { N ≤ 16 }
+    requires { N ≤ 64 }
 {
     ApduOctets::from_slice(&octets)
 }

@@ -1,7 +1,7 @@
 //! The waits of a connection (ISO/IEC 14543-3-2, transport layer).
 
 ghost use Rattle.std.specs.Prelude.{◌≡◌};
-ghost use Rattle.knx_model.specs.Connection.{has_passed, end_of, earlier};
+ghost use Rattle.knx_model.specs.Connection.{has_passed, wait_end, earlier_time};
 
 /// How long a T_ACK is awaited, in milliseconds.
 pub const ACK_WAIT_MS: u64 = 3_000;
@@ -19,14 +19,14 @@ pub fn has_passed(wait: u64, since: u64, now: u64) -> bool
 
 /// The time at which a wait has passed that began at `since`.
 pub fn end_of(wait: u64, since: u64) -> u64
-    ensures { result ≡ end_of wait since }
+    ensures { result ≡ wait_end wait since }
 {
     since.saturating_add(wait)
 }
 
 /// The nearer of two times.
 pub fn earlier(one: u64, other: u64) -> u64
-    ensures { result ≡ earlier one other }
+    ensures { result ≡ earlier_time one other }
 {
     one.min(other)
 }

@@ -20,7 +20,8 @@
 
 ghost use Rattle.std.specs.Prelude.{◌≡◌};
 ghost use Rattle.std.specs.Result.{result_ok};
-ghost use Rattle.knx_model.specs.Connection.{IsApdu, frame_in, device_of, client_confirmed, after_confirmed, client_sent, after_send, client_took, client_after, client_expired, after_overdue, client_deadline, Asked};
+ghost use Rattle.knx_model.specs.Connection.{IsApdu, frame_in};
+ghost use Rattle.knx_model.specs.ClientConnection.{awaits_nothing, device_of, client_confirmed, after_confirmed, client_sent, after_send, client_took, client_after, client_expired, after_overdue, client_deadline, Asked};
 
 mod question;
 mod steps;
@@ -53,7 +54,7 @@ enum State {
 }
 
 impl Model for ClientConn {
-    ghost use Rattle.knx_model.specs.Connection.{ClientEnd};
+    ghost use Rattle.knx_model.specs.ClientConnection.{ClientEnd};
 
     ghost Value = { ClientEnd };
 
@@ -85,9 +86,16 @@ impl ClientConn {
         }
     }
 
-    /// Takes the confirmation of the T_Connect or of the frame that was sent last by `send` or `Repeat`. Those of T_ACK, T_NAK and
-    /// T_Disconnect aren't told here.
-    #[tactic(auto, unfolding(knx_model::specs::Connection::client_confirmed, knx_model::specs::Connection::after_confirmed))]
+    /// Whether the connection is up and neither a T_ACK nor an answer is awaited.
+    pub fn awaits_nothing(&self) -> bool
+        ensures { result ≡ awaits_nothing self.now }
+    {
+        matches!(&self.state, State::Up(_))
+    }
+
+    /// Takes the confirmation of a frame of this end, of the T_Connect first. The wait for the T_ACK of a service begins at the first
+    /// one after its sending, and others change nothing.
+    #[tactic(auto, unfolding(knx_model::specs::ClientConnection::client_confirmed, knx_model::specs::ClientConnection::after_confirmed))]
     pub fn confirmed(&mut self, error: bool, now: u64) -> ClientConfirmed
         ensures answer { result ≡ client_confirmed self.old error }
         ensures next { self.new ≡ after_confirmed self.old error now }
@@ -107,7 +115,7 @@ impl ClientConn {
 
     /// The octets that bring a service, an APDU with transport bits 0, to the device. Busy exactly where the connection isn't up or
     /// a service is outstanding; then nothing changes.
-    #[tactic(auto, unfolding(knx_model::specs::Connection::client_sent, knx_model::specs::Connection::after_send))]
+    #[tactic(auto, unfolding(knx_model::specs::ClientConnection::client_sent, knx_model::specs::ClientConnection::after_send))]
     pub fn send(&mut self, apdu: &[u8], now: u64) -> Result<ApduOctets, Busy>
         requires { IsApdu apdu.now }
         ensures answer { result_ok result ≡ client_sent self.old apdu.now }
@@ -139,7 +147,7 @@ impl ClientConn {
     }
 
     /// What `take` of this frame would answer; nothing changes.
-    #[tactic(auto, unfolding(knx_model::specs::Connection::client_took))]
+    #[tactic(auto, unfolding(knx_model::specs::ClientConnection::client_took))]
     pub fn would_take(&self, tpdu: &[u8]) -> ClientTook
         ensures { result ≡ client_took self.now (frame_in tpdu.now) }
     {
@@ -163,7 +171,7 @@ impl ClientConn {
     }
 
     /// What `expire` would answer at this time; nothing changes.
-    #[tactic(auto, unfolding(knx_model::specs::Connection::client_expired))]
+    #[tactic(auto, unfolding(knx_model::specs::ClientConnection::client_expired))]
     pub fn would_expire(&self, now: u64) -> ClientExpired
         ensures { result ≡ client_expired self.now now }
     {
@@ -177,7 +185,7 @@ impl ClientConn {
     }
 
     /// The nearest time at which a wait has passed; None exactly where no wait runs.
-    #[tactic(auto, unfolding(knx_model::specs::Connection::client_deadline))]
+    #[tactic(auto, unfolding(knx_model::specs::ClientConnection::client_deadline))]
     pub fn deadline(&self) -> Option<u64>
         ensures { result ≡ client_deadline self.now }
     {

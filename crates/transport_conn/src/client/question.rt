@@ -1,7 +1,8 @@
 //! The service of a client that isn't acknowledged.
 
 ghost use Rattle.std.specs.Prelude.{◌≡◌, ◌<◌};
-ghost use Rattle.knx_model.specs.Connection.{most_repeats, has_answer, first_question, confirmed_at, has_come, asked_again, question_expired, overdue, end_where, ack_wait};
+ghost use Rattle.knx_model.specs.Connection.{most_repeats, ack_wait};
+ghost use Rattle.knx_model.specs.ClientConnection.{has_answer, first_question, question_confirmed, question_answered, question_again, question_expired, question_overdue, wait_end_if};
 
 use crate::wait::{ACK_WAIT_MS, MOST_REPEATS, end_of, has_passed};
 use apdu_frames::decode;
@@ -19,7 +20,7 @@ pub struct Question {
 }
 
 impl Model for Question {
-    ghost use Rattle.knx_model.specs.Connection.{Question as Known};
+    ghost use Rattle.knx_model.specs.ClientConnection.{Question as Known};
 
     ghost Value = { Known };
 
@@ -46,19 +47,19 @@ impl Question {
         self.awaits
     }
 
-    /// After its last sending was confirmed.
+    /// After a confirmation, of which the first after its last sending begins the wait for its T_ACK.
     pub fn confirmed(self, now: u64) -> Question
-        ensures { result ≡ confirmed_at self now }
+        ensures { result ≡ question_confirmed self now }
     {
         Question {
-            confirmed: Some(now),
+            confirmed: self.confirmed.or(Some(now)),
             ..self
         }
     }
 
     /// After its answer came.
     pub fn has_come(self) -> Question
-        ensures { result ≡ has_come self }
+        ensures { result ≡ question_answered self }
     {
         Question {
             awaits: false,
@@ -69,7 +70,7 @@ impl Question {
     /// After it was sent again.
     pub fn again(self) -> Question
         requires { self.repeats < most_repeats }
-        ensures { result ≡ asked_again self }
+        ensures { result ≡ question_again self }
     {
         Question {
             repeats: self.repeats + 1,
@@ -89,7 +90,7 @@ impl Question {
     }
 
     fn overdue(&self) -> ClientExpired
-        ensures { result ≡ overdue self.now }
+        ensures { result ≡ question_overdue self.now }
     {
         if self.repeats < MOST_REPEATS {
             ClientExpired::Repeat(self.frame.copied())
@@ -102,7 +103,7 @@ impl Question {
 
     /// When the wait for its T_ACK has passed.
     pub fn deadline(&self) -> Option<u64>
-        ensures { result ≡ end_where ack_wait self.now.confirmed }
+        ensures { result ≡ wait_end_if ack_wait self.now.confirmed }
     {
         match self.confirmed {
             Some(since) => Some(end_of(ACK_WAIT_MS, since)),

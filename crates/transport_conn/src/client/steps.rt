@@ -1,15 +1,15 @@
 //! What a client's end knows after each of its answers.
 
 ghost use Rattle.std.specs.Prelude.{◌≡◌, Bool};
-ghost use Rattle.knx_model.specs.Connection.{after_confirmed, client_after, stayed, told_answer, told_ack, client_expired, after_overdue, sent_again};
+ghost use Rattle.knx_model.specs.ClientConnection.{after_confirmed, client_after, client_stayed, client_answered, client_acknowledged, client_expired, after_overdue, client_repeated};
 ghost use Rattle.transport_conn.specs.Ends.{client_end, IsntAsked, MayAskAgain};
 
 use super::State;
 use knx_model::{ClientExpired, ClientTook};
 
 impl State {
-    /// After the frame that was sent last was confirmed.
-    #[tactic(auto, unfolding(knx_model::specs::Connection::after_confirmed))]
+    /// After a frame was confirmed.
+    #[tactic(auto, unfolding(knx_model::specs::ClientConnection::after_confirmed))]
     pub fn confirmed(self, now: u64) -> State
         requires { IsntAsked (client_end self) }
         ensures { (error : Bool) → client_end result ≡ after_confirmed (client_end self) error now }
@@ -21,7 +21,7 @@ impl State {
     }
 
     /// After this answer to a frame.
-    #[tactic(auto, unfolding(knx_model::specs::Connection::client_after))]
+    #[tactic(auto, unfolding(knx_model::specs::ClientConnection::client_after))]
     pub fn after(self, now: u64, took: &ClientTook) -> State
         ensures { client_end result ≡ client_after (client_end self) now took.now }
     {
@@ -36,7 +36,7 @@ impl State {
 
     /// After a frame was taken that brought nothing new.
     fn at_time(self, now: u64) -> State
-        ensures { client_end result ≡ stayed (client_end self) now }
+        ensures { client_end result ≡ client_stayed (client_end self) now }
     {
         match self {
             State::Up(session) => State::Up(session.at_time(now)),
@@ -48,7 +48,7 @@ impl State {
 
     /// After the device's next service came.
     fn advanced(self, now: u64) -> State
-        ensures { client_end result ≡ told_answer (client_end self) now }
+        ensures { client_end result ≡ client_answered (client_end self) now }
     {
         match self {
             State::Up(session) | State::Awaiting(session) => State::Up(session.advanced(now)),
@@ -61,7 +61,7 @@ impl State {
 
     /// After the outstanding service was acknowledged.
     fn settled(self, now: u64) -> State
-        ensures { client_end result ≡ told_ack (client_end self) now }
+        ensures { client_end result ≡ client_acknowledged (client_end self) now }
     {
         match self {
             State::Asking(session, question) if question.awaits() => {
@@ -73,7 +73,7 @@ impl State {
     }
 
     /// After this became due.
-    #[tactic(auto, unfolding(knx_model::specs::Connection::client_expired, knx_model::specs::Connection::after_overdue))]
+    #[tactic(auto, unfolding(knx_model::specs::ClientConnection::client_expired, knx_model::specs::ClientConnection::after_overdue))]
     pub fn after_expiry(self, now: u64, expired: &ClientExpired) -> State
         requires { expired.now ≡ client_expired (client_end self) now }
         ensures { client_end result ≡ after_overdue (client_end self) now expired.now }
@@ -87,7 +87,7 @@ impl State {
 
     fn repeated(self, now: u64) -> State
         requires { MayAskAgain (client_end self) }
-        ensures { client_end result ≡ sent_again (client_end self) now }
+        ensures { client_end result ≡ client_repeated (client_end self) now }
     {
         match self {
             State::Asking(session, question) => {

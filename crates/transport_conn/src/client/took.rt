@@ -1,10 +1,11 @@
 //! What a client's end that is up answers its device.
 
 ghost use Rattle.std.specs.Prelude.{◌≡◌, ◌<◌};
-ghost use Rattle.knx_model.specs.Connection.{HasNumber, up_took, asking_took, answer_heard, ack_heard};
+ghost use Rattle.knx_model.specs.Connection.{HasNumber};
+ghost use Rattle.knx_model.specs.ClientConnection.{up_took, asking_took, answer_heard, ack_heard};
 
 use crate::frame::{ack, disconnect, is_before, nak};
-use crate::session::Session;
+use crate::session::{NumberIs, Session};
 use knx_model::{ApduOctets, ClientTook, TransportFrame};
 
 /// The answer to a frame of the device while no service is outstanding.
@@ -39,15 +40,13 @@ fn service_took(session: &Session, number: u8, apdu: ApduOctets) -> ClientTook
     requires { number < 16 }
     ensures { result ≡ answer_heard session.now number apdu }
 {
-    if number == session.expected {
-        ClientTook::Answer {
+    match session.number_is(number) {
+        NumberIs::Expected => ClientTook::Answer {
             apdu,
             ack: ack(number),
-        }
-    } else if is_before(number, session.expected) {
-        ClientTook::Again { ack: ack(number) }
-    } else {
-        ClientTook::Nak(nak(number))
+        },
+        NumberIs::Before => ClientTook::Again { ack: ack(number) },
+        NumberIs::Another => ClientTook::Nak(nak(number)),
     }
 }
 

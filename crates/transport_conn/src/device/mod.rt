@@ -17,7 +17,8 @@
 
 ghost use Rattle.std.specs.Prelude.{◌≡◌};
 ghost use Rattle.std.specs.Result.{result_ok};
-ghost use Rattle.knx_model.specs.Connection.{IsApdu, frame_in, partner_of, device_took, device_after, device_answered, after_answer, device_expired, after_expiry, device_deadline, Closed};
+ghost use Rattle.knx_model.specs.Connection.{IsApdu, frame_in};
+ghost use Rattle.knx_model.specs.DeviceConnection.{partner_of, device_took, device_after, device_answered, after_answer, device_expired, after_expiry, device_deadline, Closed};
 
 mod outstanding;
 mod steps;
@@ -48,7 +49,7 @@ enum State {
 }
 
 impl Model for DeviceConn {
-    ghost use Rattle.knx_model.specs.Connection.{DeviceEnd};
+    ghost use Rattle.knx_model.specs.DeviceConnection.{DeviceEnd};
 
     ghost Value = { DeviceEnd };
 
@@ -89,7 +90,7 @@ impl DeviceConn {
     }
 
     /// What `take` of this frame would answer; nothing changes.
-    #[tactic(auto, unfolding(knx_model::specs::Connection::device_took))]
+    #[tactic(auto, unfolding(knx_model::specs::DeviceConnection::device_took))]
     pub fn would_take(&self, from: IndAddr, tpdu: &[u8]) -> DeviceTook
         ensures { result ≡ device_took self.now from (frame_in tpdu.now) }
     {
@@ -106,7 +107,7 @@ impl DeviceConn {
 
     /// The octets that bring an answer, an APDU with transport bits 0, to the partner. Busy exactly where an answer is
     /// outstanding or the connection is closed; then nothing changes.
-    #[tactic(auto, unfolding(knx_model::specs::Connection::device_answered, knx_model::specs::Connection::after_answer))]
+    #[tactic(auto, unfolding(knx_model::specs::DeviceConnection::device_answered, knx_model::specs::DeviceConnection::after_answer))]
     pub fn answer(&mut self, apdu: &[u8], now: u64) -> Result<ApduOctets, Busy>
         requires { IsApdu apdu.now }
         ensures answer { result_ok result ≡ device_answered self.old apdu.now }
@@ -138,7 +139,7 @@ impl DeviceConn {
     }
 
     /// What `expire` would answer at this time; nothing changes.
-    #[tactic(auto, unfolding(knx_model::specs::Connection::device_expired))]
+    #[tactic(auto, unfolding(knx_model::specs::DeviceConnection::device_expired))]
     pub fn would_expire(&self, now: u64) -> DeviceExpired
         ensures { result ≡ device_expired self.now now }
     {
@@ -154,7 +155,7 @@ impl DeviceConn {
     }
 
     /// The nearest time at which a wait has passed; None exactly where no connection is open.
-    #[tactic(auto, unfolding(knx_model::specs::Connection::device_deadline))]
+    #[tactic(auto, unfolding(knx_model::specs::DeviceConnection::device_deadline))]
     pub fn deadline(&self) -> Option<u64>
         ensures { result ≡ device_deadline self.now }
     {

@@ -1,7 +1,8 @@
 //! The answer of a device that isn't acknowledged.
 
 ghost use Rattle.std.specs.Prelude.{◌≡◌, ◌<◌};
-ghost use Rattle.knx_model.specs.Connection.{most_repeats, sent_first, is_due, again, outstanding_deadline};
+ghost use Rattle.knx_model.specs.Connection.{most_repeats};
+ghost use Rattle.knx_model.specs.DeviceConnection.{first_answer, is_due, answer_again, outstanding_deadline};
 
 use crate::wait::{ACK_WAIT_MS, MOST_REPEATS, earlier, end_of, has_passed};
 use knx_model::ApduOctets;
@@ -16,7 +17,7 @@ pub struct Outstanding {
 }
 
 impl Model for Outstanding {
-    ghost use Rattle.knx_model.specs.Connection.{Outstanding as Known};
+    ghost use Rattle.knx_model.specs.DeviceConnection.{Outstanding as Known};
 
     ghost Value = { Known };
 
@@ -26,7 +27,7 @@ impl Model for Outstanding {
 impl Outstanding {
     /// An answer that is sent for the first time.
     pub fn new(frame: ApduOctets, now: u64) -> Outstanding
-        ensures { result ≡ sent_first frame now }
+        ensures { result ≡ first_answer frame now }
     {
         Outstanding {
             frame,
@@ -52,7 +53,7 @@ impl Outstanding {
     /// After it was sent again.
     pub fn again(self, now: u64) -> Outstanding
         requires { self.repeats < most_repeats }
-        ensures { result ≡ again self now }
+        ensures { result ≡ answer_again self now }
     {
         Outstanding {
             frame: self.frame,

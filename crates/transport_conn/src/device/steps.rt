@@ -1,7 +1,8 @@
 //! What a device's end knows after each of its answers.
 
 ghost use Rattle.std.specs.Prelude.{◌≡◌};
-ghost use Rattle.knx_model.specs.Connection.{device_after, device_expired, after_expiry, went_on, advanced, at_time, settled, left, repeated};
+ghost use Rattle.knx_model.specs.Connection.{advanced, at_time};
+ghost use Rattle.knx_model.specs.DeviceConnection.{device_after, device_expired, after_expiry, device_went_on, device_acknowledged, device_left, device_repeated};
 ghost use Rattle.transport_conn.specs.Ends.{device_end, MayRepeat};
 
 use super::State;
@@ -10,7 +11,7 @@ use knx_model::{DeviceExpired, DeviceTook, IndAddr};
 
 impl State {
     /// After this answer to a frame.
-    #[tactic(auto, unfolding(knx_model::specs::Connection::device_after))]
+    #[tactic(auto, unfolding(knx_model::specs::DeviceConnection::device_after))]
     pub fn after(self, from: IndAddr, now: u64, took: &DeviceTook) -> State
         ensures { device_end result ≡ device_after (device_end self) from now took.now }
     {
@@ -25,7 +26,7 @@ impl State {
     }
 
     fn advanced(self, now: u64) -> State
-        ensures { device_end result ≡ went_on (λ s. advanced s now) (device_end self) }
+        ensures { device_end result ≡ device_went_on (λ s. advanced s now) (device_end self) }
     {
         match self {
             State::Closed => State::Closed,
@@ -37,7 +38,7 @@ impl State {
     }
 
     fn at_time(self, now: u64) -> State
-        ensures { device_end result ≡ went_on (λ s. at_time s now) (device_end self) }
+        ensures { device_end result ≡ device_went_on (λ s. at_time s now) (device_end self) }
     {
         match self {
             State::Closed => State::Closed,
@@ -50,7 +51,7 @@ impl State {
 
     /// After its answer was acknowledged.
     fn settled(self, now: u64) -> State
-        ensures { device_end result ≡ settled (device_end self) now }
+        ensures { device_end result ≡ device_acknowledged (device_end self) now }
     {
         match self {
             State::Answering(session, _) => State::Idle(session.acknowledged(now)),
@@ -60,7 +61,7 @@ impl State {
 
     /// After a connection with this sender was closed.
     fn left(self, from: IndAddr) -> State
-        ensures { device_end result ≡ left (device_end self) from }
+        ensures { device_end result ≡ device_left (device_end self) from }
     {
         match &self {
             State::Idle(session) | State::Answering(session, _) if session.is_partner(from) => {
@@ -71,7 +72,7 @@ impl State {
     }
 
     /// After this became due.
-    #[tactic(auto, unfolding(knx_model::specs::Connection::device_expired, knx_model::specs::Connection::after_expiry))]
+    #[tactic(auto, unfolding(knx_model::specs::DeviceConnection::device_expired, knx_model::specs::DeviceConnection::after_expiry))]
     pub fn after_expiry(self, now: u64, expired: &DeviceExpired) -> State
         requires { expired.now ≡ device_expired (device_end self) now }
         ensures { device_end result ≡ after_expiry (device_end self) now expired.now }
@@ -85,7 +86,7 @@ impl State {
 
     fn repeated(self, now: u64) -> State
         requires { MayRepeat (device_end self) }
-        ensures { device_end result ≡ repeated (device_end self) now }
+        ensures { device_end result ≡ device_repeated (device_end self) now }
     {
         match self {
             State::Answering(session, outstanding) => {

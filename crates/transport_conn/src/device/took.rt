@@ -1,10 +1,11 @@
 //! What an open end of a device answers its partner.
 
 ghost use Rattle.std.specs.Prelude.{◌≡◌, ◌<◌};
-ghost use Rattle.knx_model.specs.Connection.{HasNumber, idle_took, answering_took, service_took, ack_took, closed_took, stranger_took};
+ghost use Rattle.knx_model.specs.Connection.{HasNumber};
+ghost use Rattle.knx_model.specs.DeviceConnection.{idle_took, answering_took, service_took, ack_took, closed_took, stranger_took};
 
 use crate::frame::{ack, disconnect, is_before, nak};
-use crate::session::Session;
+use crate::session::{NumberIs, Session};
 use knx_model::{ApduOctets, DeviceTook, TransportFrame};
 
 /// The answer to a frame of the partner while no answer is outstanding.
@@ -38,15 +39,13 @@ fn service_took(session: &Session, number: u8, apdu: ApduOctets) -> DeviceTook
     requires { number < 16 }
     ensures { result ≡ service_took session.now number apdu }
 {
-    if number == session.expected {
-        DeviceTook::Apdu {
+    match session.number_is(number) {
+        NumberIs::Expected => DeviceTook::Apdu {
             apdu,
             ack: ack(number),
-        }
-    } else if is_before(number, session.expected) {
-        DeviceTook::Again { ack: ack(number) }
-    } else {
-        DeviceTook::Nak(nak(number))
+        },
+        NumberIs::Before => DeviceTook::Again { ack: ack(number) },
+        NumberIs::Another => DeviceTook::Nak(nak(number)),
     }
 }
 

@@ -1,11 +1,17 @@
--- The words of this crate's laws on numbered connections.
+-- The words in which the laws of numbered connections are said (ISO/IEC 14543-3-2, transport layer).
 use Rattle.std.specs.Prelude.{◌≡◌, ◌≢◌, ℕ, ◌+◌, ◌-◌, ◌%◌, ◌<◌, ◌≤◌, List, [], ◌∷◌, Bool, Option, Some, None}
 use Rattle.knx_model.specs.declared.address.IndAddr.{IndAddr}
 use Rattle.knx_model.specs.declared.frames.tpdu.Tpdu.TheVariants as tpdu
 use Rattle.knx_model.specs.declared.connection.TransportFrame.{TransportFrame}
 use Rattle.knx_model.specs.declared.connection.TransportFrame.TheVariants.{Connect, Disconnect, Ack, Nak, Numbered, Other}
+use Rattle.knx_model.specs.declared.connection.DeviceTook.{DeviceTook}
+use Rattle.knx_model.specs.declared.connection.DeviceTook.TheVariants as took
+use Rattle.knx_model.specs.declared.connection.ClientTook.{ClientTook}
+use Rattle.knx_model.specs.declared.connection.ClientTook.TheVariants as heard
 use Rattle.knx_model.specs.Apdu.{Reads, Written}
-use Rattle.knx_model.specs.Connection.{IsApdu, numbered, Session, Outstanding, Question, DeviceEnd, Closed, Idle, Answering, ClientEnd, Asked, Up, Asking, Awaiting, Ended, device_took, device_after, after_answer, device_expired, after_expiry, after_confirmed, after_send, client_took, client_after, client_expired, after_overdue}
+use Rattle.knx_model.specs.Connection.{IsApdu, IsNumber, next_number, numbered_data, Session}
+use Rattle.knx_model.specs.DeviceConnection.{Outstanding, DeviceEnd, Closed, Idle, Answering, device_took, device_after, after_answer, device_expired, after_expiry}
+use Rattle.knx_model.specs.ClientConnection.{Question, ClientEnd, Asked, Up, Asking, Awaiting, Ended, after_confirmed, after_send, client_took, client_after, client_expired, after_overdue}
 
 -- which octets carry which frame
 abbrev pub Carries : List ℕ → TransportFrame → Type 0
@@ -13,7 +19,7 @@ Carries octets Connect = Reads octets tpdu.Connect
 Carries octets Disconnect = Reads octets tpdu.Disconnect
 Carries octets (Ack number) = Reads octets (tpdu.Ack number)
 Carries octets (Nak number) = Reads octets (tpdu.Nak number)
-Carries octets (Numbered number apdu) = (number < 16) × IsApdu apdu × (octets ≡ numbered number apdu)
+Carries octets (Numbered number apdu) = IsNumber number × IsApdu apdu × (octets ≡ numbered_data number apdu)
 Carries octets Other = ⊥
 
 -- a time was reached
@@ -168,3 +174,55 @@ IsAskedAtMostFourTimes (Up s) = Unit {0}
 IsAskedAtMostFourTimes (Asking s q) = 1 + q.repeats ≤ 4
 IsAskedAtMostFourTimes (Awaiting s) = Unit {0}
 IsAskedAtMostFourTimes Ended = Unit {0}
+
+-- ---- the numbers
+
+-- both numbers are as they were
+pub record HasSameNumbers (s t : Session) : Type 0 where
+  pub expected : t.expected ≡ s.expected
+  pub number : t.number ≡ s.number
+
+-- how the number of the partner's next service goes on: each service that is delivered raises it, a T_Connect begins at 0
+abbrev pub device_expected : DeviceTook → ℕ → ℕ
+device_expected took.Connected expected = 0
+device_expected (took.Apdu apdu ack) expected = next_number expected
+device_expected _ expected = expected
+
+-- how the own number goes on: each T_ACK of the outstanding answer raises it, a T_Connect begins at 0
+abbrev pub device_number : DeviceTook → ℕ → ℕ
+device_number took.Connected number = 0
+device_number took.Acked number = next_number number
+device_number _ number = number
+
+pub record HasDeviceCounted (answer : DeviceTook) (s t : Session) : Type 0 where
+  pub expected : t.expected ≡ device_expected answer s.expected
+  pub number : t.number ≡ device_number answer s.number
+
+abbrev pub client_expected : ClientTook → ℕ → ℕ
+client_expected (heard.Answer apdu ack) expected = next_number expected
+client_expected _ expected = expected
+
+abbrev pub client_number : ClientTook → ℕ → ℕ
+client_number heard.Acked number = next_number number
+client_number _ number = number
+
+pub record HasClientCounted (answer : ClientTook) (s t : Session) : Type 0 where
+  pub expected : t.expected ≡ client_expected answer s.expected
+  pub number : t.number ≡ client_number answer s.number
+
+-- a frame is numbered data of this number
+abbrev pub CarriesNumber : ℕ → List ℕ → Type 0
+CarriesNumber number frame = (apdu : List ℕ) × (frame ≡ numbered_data number apdu)
+
+-- what is outstanding, and so what is sent again, carries the own number
+abbrev pub DeviceCarries : DeviceEnd → Type 0
+DeviceCarries Closed = Unit {0}
+DeviceCarries (Idle s) = Unit {0}
+DeviceCarries (Answering s a) = CarriesNumber s.number a.frame
+
+abbrev pub ClientCarries : ClientEnd → Type 0
+ClientCarries (Asked device) = Unit {0}
+ClientCarries (Up s) = Unit {0}
+ClientCarries (Asking s q) = CarriesNumber s.number q.frame
+ClientCarries (Awaiting s) = Unit {0}
+ClientCarries Ended = Unit {0}
