@@ -5,12 +5,8 @@ use Rattle.knx_model.specs.declared.loading.LoadEvent.{LoadEvent}
 use Rattle.knx_model.specs.declared.loading.LoadEvent.TheVariants.{NoOperation, StartLoading, LoadCompleted, Allocate, Unload, Undefined}
 use Rattle.knx_model.specs.declared.loading.LoadableObject.{LoadableObject}
 use Rattle.knx_model.specs.declared.loading.LoadableObject.TheVariants.{AddressTable, AssociationTable, GroupObjects, Application}
-use Rattle.knx_model.specs.declared.bench.BenchEvent.{BenchEvent}
-use Rattle.knx_model.specs.declared.bench.BenchEvent.TheVariants.{Give, GiveTorn, On}
 use Rattle.knx_model.specs.Loading.{Loadable, capacity_of, with_state, with_memory, allocated, allocates, load_step, load_torn, old_or_new, takes_write, memory_written, memory_torn, overlaid}
-use Rattle.knx_model.specs.Device.{NonVolatile, Effect, Loads, Stores, Nothing, loadable, with_loadable, segment_base, object_at, at_address, whole, torn, effect_in, HasCapacities}
-use Rattle.knx_model.specs.DeviceState.{DeviceState}
-use Rattle.knx_model.specs.Bench.{happens, replay, with_kept}
+use Rattle.knx_model.specs.Device.{NonVolatile, Effect, Loads, Stores, Nothing, loadable, with_loadable, segment_base, object_at, at_address, whole, torn, HasCapacities}
 use Rattle.download_plan.proofs.Lists.{length-overlaid}
 use Rattle.download_plan.proofs.Filling.{allocates_within}
 
@@ -64,24 +60,13 @@ changed_capacities nv a change k h =
     elim (object_at a) as (λ found. HasCapacities (elim found as (λ _. NonVolatile) [ None ↦ nv | Some o ↦ with_loadable nv o (change (loadable nv o) (a - segment_base o)) ]))
     [ None ↦ h | Some o ↦ same_capacities nv o (change (loadable nv o) (a - segment_base o)) (k (loadable nv o) (a - segment_base o)) h ]
 
-whole_capacities : (nv : NonVolatile) (e : Effect) → HasCapacities nv → HasCapacities (whole nv e)
+pub whole_capacities : (nv : NonVolatile) (e : Effect) → HasCapacities nv → HasCapacities (whole nv e)
 whole_capacities nv (Loads o e) h = same_capacities nv o (load_step (loadable nv o) e) (load_capacity (loadable nv o) e) h
 whole_capacities nv (Stores a octets) h = changed_capacities nv a (λ p at. memory_written p at octets) (λ p at. laid_capacity (takes_write p at (length octets)) p at octets) h
 whole_capacities nv Nothing h = h
 
-torn_capacities : (nv : NonVolatile) (e : Effect) (fresh : Bool) (octets : List ℕ) → HasCapacities nv → HasCapacities (torn nv e fresh octets)
+pub torn_capacities : (nv : NonVolatile) (e : Effect) (fresh : Bool) (octets : List ℕ) → HasCapacities nv → HasCapacities (torn nv e fresh octets)
 torn_capacities nv (Loads o e) fresh octets h = same_capacities nv o (load_torn (loadable nv o) e fresh octets) (torn_capacity (loadable nv o) e fresh octets) h
 torn_capacities nv (Stores a asked) fresh octets h =
     changed_capacities nv a (λ p at. memory_torn p at (length asked) octets) (λ p at. laid_capacity (takes_write p at (length asked)) p at (take (length asked) octets)) h
 torn_capacities nv Nothing fresh octets h = h
-
--- whatever happens, each object's memory keeps its capacity
-pub happens_capacities : (d : DeviceState) (event : BenchEvent) → HasCapacities d.kept → HasCapacities (happens d event).kept
-happens_capacities d (Give apdu) h = elim d.power as (λ v. HasCapacities (if v then with_kept d (whole d.kept (effect_in apdu)) true else d).kept) [ true ↦ whole_capacities d.kept (effect_in apdu) h | false ↦ h ]
-happens_capacities d (GiveTorn apdu fresh octets) h =
-    elim d.power as (λ v. HasCapacities (if v then with_kept d (torn d.kept (effect_in apdu) fresh octets) false else d).kept) [ true ↦ torn_capacities d.kept (effect_in apdu) fresh octets h | false ↦ h ]
-happens_capacities d On h = h
-
-pub replay_capacities : (d : DeviceState) (events : List BenchEvent) → HasCapacities d.kept → HasCapacities (replay d events).kept
-replay_capacities d [] h = h
-replay_capacities d (event ∷ events) h = replay_capacities (happens d event) events (happens_capacities d event h)

@@ -12,10 +12,13 @@ use Rattle.knx_model.specs.declared.frames.tpdu.Apdu.{Apdu}
 use Rattle.knx_model.specs.declared.frames.tpdu.Apdu.TheVariants.{MemoryRead, MemoryResponse, MemoryWrite, PropertyRead, PropertyResponse}
 use Rattle.knx_model.specs.Loading.{Loadable, octets_of, capacity_of, is_loading, is_loaded, with_state, with_memory, allocated, allocates, load_step, state_number, takes_write, overlaid}
 use Rattle.knx_model.specs.Device.{NonVolatile, Loads, Stores, Nothing, loadable, with_loadable, object_index, segment_base, capacity, table_reference}
-use Rattle.knx_model.specs.Plan.{Operation, loads, reads_base, piece, piece_count, writes_piece, reads_piece, each_piece, filling}
+use Rattle.knx_model.specs.declared.device.FrameSupport.{FrameSupport}
+use Rattle.knx_model.specs.declared.plan.PieceSize.{PieceSize}
+use Rattle.knx_model.specs.Operations.{Operation, event_then, reads_base, piece_octets, piece_start, piece, piece_count, writes_piece, reads_piece, each_piece, filling}
 use Rattle.download_plan.specs.Step.{IsShort}
-use Rattle.download_plan.proofs.Lists.{take_length, length-overlaid, take_piece, piece_room}
-use Rattle.download_plan.proofs.Steps.{IsStopped, OperationsLead, with_same, stopped_with, leads_step, load_service, state_answer, effect_load, whole_load, answer_load, answer_base, whole_write, taken_write, kept, answer_read, read_octets}
+use Rattle.download_plan.proofs.Lists.{take_length, length-overlaid, take_piece}
+use Rattle.download_plan.proofs.Pieces.{start_zero, start_next, start_within, start_after, piece_some, piece_fits}
+use Rattle.download_plan.proofs.Steps.{IsStopped, OperationsLead, with_same, stopped_with, leads_step, load_service, state_answer, effect_load, whole_load, answer_load, answer_base, whole_write, taken_write, kept, answer_read, range_of, given_octets, given_range}
 
 state_back : ℕ → LoadState
 state_back zero = Unloaded
@@ -46,9 +49,9 @@ pub same_octets : (a b : ℕ) (xs ys : List ℕ) → Some (MemoryResponse a xs) 
 same_octets a b xs ys e = cc
 
 -- a load event at one object
-pub load_leads : (R : NonVolatile → Type 0) (nv : NonVolatile) (o : LoadableObject) (p : Loadable) (e : LoadEvent) (s : LoadState) (ops : List Operation) → IsShort e → IsStopped (with_loadable nv o p) → IsStopped (with_loadable nv o (load_step p e)) → ((load_step p e).state ≡ s → OperationsLead IsStopped R ops (with_loadable nv o (load_step p e))) → OperationsLead IsStopped R (loads o e s ∷ ops) (with_loadable nv o p)
-load_leads R nv o p e s ops i h k f =
-    leads_step R (load_service o e) (Some (state_answer o s)) ops (with_loadable nv o p) (Loads o e) (λ _. with_loadable nv o (load_step p e)) (Some (state_answer o (load_step p e).state)) (effect_load o e i) (whole_load nv o p e) (λ _. whole_load nv o p e) (answer_load nv o p e i) h (λ _. k) (λ _ q. f (same_state o _ _ q))
+pub load_leads : (frames : FrameSupport) (R : NonVolatile → Type 0) (nv : NonVolatile) (o : LoadableObject) (p : Loadable) (e : LoadEvent) (s : LoadState) (ops : List Operation) → IsShort e → IsStopped (with_loadable nv o p) → IsStopped (with_loadable nv o (load_step p e)) → ((load_step p e).state ≡ s → OperationsLead frames IsStopped R ops (with_loadable nv o (load_step p e))) → OperationsLead frames IsStopped R (event_then o e s ∷ ops) (with_loadable nv o p)
+load_leads frames R nv o p e s ops i h k f =
+    leads_step frames R (load_service o e) (Some (state_answer o s)) ops (with_loadable nv o p) (Loads o e) (λ _. with_loadable nv o (load_step p e)) (Some (state_answer o (load_step p e).state)) (effect_load o e i) (whole_load nv o p e) (λ _. whole_load nv o p e) (answer_load frames nv o p e i) h (λ _. k) (λ _ q. f (same_state o _ _ q))
 
 pub not_loaded : (s : LoadState) → s ≡ Loading → is_loaded s ≡ false
 not_loaded s e = rw e refl
@@ -100,17 +103,18 @@ allocated_is p n fill =
     by _ refl
 
 -- the pieces are written: the object stays allocated, whatever octets stand there
-pub writes_lead : (R : NonVolatile → Type 0) (nv : NonVolatile) (o : LoadableObject) (list : List ℕ) (k n : ℕ) (p : Loadable) (ops : List Operation) → IsStopped nv → length list ≤ capacity o → k + n ≡ piece_count list → IsAllocated (length list) p
-    → ((q : Loadable) → IsAllocated (length list) q → OperationsLead IsStopped R ops (with_loadable nv o q))
-    → OperationsLead IsStopped R (map (writes_piece o list) (range_with_len k n) ++ ops) (with_loadable nv o p)
-writes_lead R nv o list k zero p ops h r b a f = f p a
-writes_lead R nv o list k (suc n) p ops h r b a f =
-    let os : List ℕ = piece list k in
-    let t : (wear : Option (List ℕ)) → IsAllocated (length list) (kept p (12 * k) os wear) = λ wear. kept_allocated (length list) p (12 * k) os wear a in
-    leads_step R (MemoryWrite (segment_base o + 12 * k) os) None (map (writes_piece o list) (range_with_len (k + 1) n) ++ ops) (with_loadable nv o p) (Stores (segment_base o + 12 * k) os) (λ wear. with_loadable nv o (kept p (12 * k) os wear)) None
-    refl (whole_write nv o p (12 * k) os (omega arith)) (λ wear. taken_write nv o p (12 * k) os wear (omega arith)) refl
-    (stopped_with nv o p h (not_loaded _ a.state)) (λ wear. stopped_with nv o (kept p (12 * k) os wear) h (not_loaded _ (t wear).state))
-    (λ wear _. writes_lead R nv o list (k + 1) n (kept p (12 * k) os wear) ops h r (omega arith) (t wear) f)
+pub writes_lead : (frames : FrameSupport) (size : PieceSize) (R : NonVolatile → Type 0) (nv : NonVolatile) (o : LoadableObject) (list : List ℕ) (k n : ℕ) (p : Loadable) (ops : List Operation) → IsStopped nv → length list ≤ capacity o → k + n ≡ piece_count size list → IsAllocated (length list) p
+    → ((q : Loadable) → IsAllocated (length list) q → OperationsLead frames IsStopped R ops (with_loadable nv o q))
+    → OperationsLead frames IsStopped R (map (writes_piece size o list) (range_with_len k n) ++ ops) (with_loadable nv o p)
+writes_lead frames size R nv o list k zero p ops h r b a f = f p a
+writes_lead frames size R nv o list k (suc n) p ops h r b a f =
+    let os : List ℕ = piece size list k in
+    let within : piece_start size k < capacity o = omega (arith, start_within size list k (omega (arith, b)), r) in
+    let t : (wear : Option (List ℕ)) → IsAllocated (length list) (kept p (piece_start size k) os wear) = λ wear. kept_allocated (length list) p (piece_start size k) os wear a in
+    leads_step frames R (MemoryWrite (segment_base o + piece_start size k) os) None (map (writes_piece size o list) (range_with_len (k + 1) n) ++ ops) (with_loadable nv o p) (Stores (segment_base o + piece_start size k) os) (λ wear. with_loadable nv o (kept p (piece_start size k) os wear)) None
+    refl (whole_write nv o p (piece_start size k) os within) (λ wear. taken_write nv o p (piece_start size k) os wear within) refl
+    (stopped_with nv o p h (not_loaded _ a.state)) (λ wear. stopped_with nv o (kept p (piece_start size k) os wear) h (not_loaded _ (t wear).state))
+    (λ wear _. writes_lead frames size R nv o list (k + 1) n (kept p (piece_start size k) os wear) ops h r (omega arith) (t wear) f)
 
 -- the object is Loading and holds the list
 pub record IsFilled (nv : NonVolatile) (o : LoadableObject) (list : List ℕ) (new : NonVolatile) : Type 0 where
@@ -119,63 +123,67 @@ pub record IsFilled (nv : NonVolatile) (o : LoadableObject) (list : List ℕ) (n
   pub state : p.state ≡ Loading
   pub octets : octets_of p ≡ list
 
-pub piece_fits : (list : List ℕ) (k : ℕ) → 12 * k ≤ length list → 12 * k + length (piece list k) ≤ length list
-unfolding piece
-piece_fits list k h = piece_room 12 list (12 * k) h
-
-pub read_is : (p : Loadable) (at n : ℕ) → at + n ≤ p.len → read_octets p at n ≡ take n (drop at (octets_of p))
+pub read_is : (p : Loadable) (at n : ℕ) → at + n ≤ p.len → range_of p at n ≡ take n (drop at (octets_of p))
 read_is p at n h = let t : nat_le (at + n) p.len ≡ true = grind (arith, nat_tests) in rw t refl
 
-piece_read : (xs list : List ℕ) (k : ℕ) → length xs ≡ length list → take (length (piece list k)) (drop (12 * k) xs) ≡ piece list k → take (12 * k) xs ≡ take (12 * k) list → take (12 * k + 12) xs ≡ take (12 * k + 12) list
+pub piece_read : (size : PieceSize) (xs list : List ℕ) (k : ℕ) → length xs ≡ length list → take (length (piece size list k)) (drop (piece_start size k) xs) ≡ piece size list k → take (piece_start size k) xs ≡ take (piece_start size k) list → take (piece_start size k + piece_octets size) xs ≡ take (piece_start size k + piece_octets size) list
 unfolding piece
-piece_read xs list k l e h =
-    take_piece 12 xs list (12 * k) h (sym (take_length 12 (drop (12 * k) xs) (drop (12 * k) list) (omega (arith, length-drop {A = ℕ}, l))) ∙ e)
+piece_read size xs list k l e h =
+    take_piece (piece_octets size) xs list (piece_start size k) h (sym (take_length (piece_octets size) (drop (piece_start size k) xs) (drop (piece_start size k) list) (omega (arith, length-drop {A = ℕ}, l))) ∙ e)
 
-pub next_front : (xs list : List ℕ) (k : ℕ) → take (12 * k + 12) xs ≡ take (12 * k + 12) list → take (12 * (k + 1)) xs ≡ take (12 * (k + 1)) list
-next_front xs list k e = let n : 12 * (k + 1) ≡ 12 * k + 12 = omega arith in rw n e
+pub next_front : (size : PieceSize) (xs list : List ℕ) (k : ℕ) → take (piece_start size k + piece_octets size) xs ≡ take (piece_start size k + piece_octets size) list → take (piece_start size (k + 1)) xs ≡ take (piece_start size (k + 1)) list
+next_front size xs list k e = rw (start_next size k) e
+
+-- of no pieces
+pub no_front : (size : PieceSize) (xs list : List ℕ) → take (piece_start size 0) xs ≡ take (piece_start size 0) list
+no_front size xs list = rw (start_zero size) refl
 
 -- a front that is the whole list
 pub front_is : (xs list : List ℕ) (n : ℕ) → length xs ≡ length list → length list ≤ n → take n xs ≡ take n list → xs ≡ list
 front_is xs list n l h e = sym (take_all n xs (omega arith)) ∙ (e ∙ take_all n list (omega arith))
 
 -- the pieces are read back
-pub reads_lead : (nv : NonVolatile) (o : LoadableObject) (list : List ℕ) (k n : ℕ) (p : Loadable) → IsStopped nv → length list ≤ capacity o → k + n ≡ piece_count list → IsAllocated (length list) p → take (12 * k) (octets_of p) ≡ take (12 * k) list
-    → OperationsLead IsStopped (IsFilled nv o list) (map (reads_piece o list) (range_with_len k n)) (with_loadable nv o p)
-reads_lead nv o list k zero p h r b a e =
-    (stopped_with nv o p h (not_loaded _ a.state), record { p = p; is = refl; state = a.state; octets = front_is (octets_of p) list (12 * k) (allocated_octets (length list) p a) (omega arith) e })
-reads_lead nv o list k (suc n) p h r b a e =
+pub reads_lead : (frames : FrameSupport) (size : PieceSize) (nv : NonVolatile) (o : LoadableObject) (list : List ℕ) (k n : ℕ) (p : Loadable) → IsStopped nv → length list ≤ capacity o → k + n ≡ piece_count size list → IsAllocated (length list) p → take (piece_start size k) (octets_of p) ≡ take (piece_start size k) list
+    → OperationsLead frames IsStopped (IsFilled nv o list) (map (reads_piece size o list) (range_with_len k n)) (with_loadable nv o p)
+reads_lead frames size nv o list k zero p h r b a e =
+    (stopped_with nv o p h (not_loaded _ a.state), record { p = p; is = refl; state = a.state; octets = front_is (octets_of p) list (piece_start size k) (allocated_octets (length list) p a) (start_after size list k (omega (arith, b))) e })
+reads_lead frames size nv o list k (suc n) p h r b a e =
     let stop = stopped_with nv o p h (not_loaded _ a.state) in
-    let m : ℕ = length (piece list k) in
+    let m : ℕ = length (piece size list k) in
+    let at : ℕ = piece_start size k in
+    let counted : k < piece_count size list = omega (arith, b) in
+    let within : at < length list = start_within size list k counted in
     let long : length (octets_of p) ≡ length list = allocated_octets (length list) p a in
-    leads_step (IsFilled nv o list) (MemoryRead m (segment_base o + 12 * k)) (Some (MemoryResponse (segment_base o + 12 * k) (piece list k))) (map (reads_piece o list) (range_with_len (k + 1) n)) (with_loadable nv o p) Nothing (λ _. with_loadable nv o p) (Some (MemoryResponse (segment_base o + 12 * k) (read_octets p (12 * k) m)))
-    refl refl (λ _. refl) (answer_read nv o p (12 * k) m (omega arith)) stop (λ _. stop)
-    (λ _ g. reads_lead nv o list (k + 1) n p h r (omega arith) a
-    (next_front (octets_of p) list k (piece_read (octets_of p) list k long
-    (sym (read_is p (12 * k) m (omega (arith, piece_fits list k (omega arith), a.len))) ∙ same_octets (segment_base o + 12 * k) (segment_base o + 12 * k) _ _ g) e)))
+    leads_step frames (IsFilled nv o list) (MemoryRead m (segment_base o + at)) (Some (MemoryResponse (segment_base o + at) (piece size list k))) (map (reads_piece size o list) (range_with_len (k + 1) n)) (with_loadable nv o p) Nothing (λ _. with_loadable nv o p) (Some (MemoryResponse (segment_base o + at) (given_octets frames p at m)))
+    refl refl (λ _. refl) (answer_read frames nv o p at m (omega (arith, within, r))) stop (λ _. stop)
+    (λ _ g. reads_lead frames size nv o list (k + 1) n p h r (omega arith) a
+    (next_front size (octets_of p) list k (piece_read size (octets_of p) list k long
+    (sym (read_is p at m (omega (arith, piece_fits size list k (omega (arith, within)), a.len)))
+    ∙ given_range frames p at m (piece size list k) (piece_some size list k counted) (same_octets (segment_base o + at) (segment_base o + at) _ _ g)) e)))
 
-pub filling_leads : (nv : NonVolatile) (o : LoadableObject) (list : List ℕ) → IsStopped nv → length list ≤ capacity o → length list < 0x10000 → OperationsLead IsStopped (IsFilled nv o list) (filling o list) nv
+pub filling_leads : (frames : FrameSupport) (size : PieceSize) (nv : NonVolatile) (o : LoadableObject) (list : List ℕ) → IsStopped nv → length list ≤ capacity o → length list < 0x10000 → OperationsLead frames IsStopped (IsFilled nv o list) (filling size o list) nv
 unfolding filling
-filling_leads nv o list h r i =
+filling_leads frames size nv o list h r i =
     let p0 : Loadable = loadable nv o in
     let p1 : Loadable = record { state = Unloaded; len = 0; memory = p0.memory } in
     let p2 : Loadable = with_state p1 Loading in
     let p3 : Loadable = allocated p2 (length list) 0 in
     let R : NonVolatile → Type 0 = IsFilled nv o list in
-    let rest : List Operation = each_piece (writes_piece o list) list ++ each_piece (reads_piece o list) list in
+    let rest : List Operation = each_piece (writes_piece size o list) (piece_count size list) ++ each_piece (reads_piece size o list) (piece_count size list) in
     let ops3 : List Operation = reads_base o ∷ rest in
-    let ops2 : List Operation = loads o (Allocate (length list) 0) Loading ∷ ops3 in
-    let ops1 : List Operation = loads o StartLoading Loading ∷ ops2 in
+    let ops2 : List Operation = event_then o (Allocate (length list) 0) Loading ∷ ops3 in
+    let ops1 : List Operation = event_then o StartLoading Loading ∷ ops2 in
     let s1 : IsStopped (with_loadable nv o p1) = stopped_with nv o p1 h refl in
     let s2 : IsStopped (with_loadable nv o p2) = stopped_with nv o p2 h refl in
     let s3 : IsStopped (with_loadable nv o p3) = stopped_with nv o p3 h (allocated_stopped p2 (length list) 0 refl) in
-    let last : p3.state ≡ Loading → OperationsLead IsStopped R rest (with_loadable nv o p3)
-    = λ a. writes_lead R nv o list 0 (piece_count list) p3 (each_piece (reads_piece o list) list) h r (omega arith) (allocated_is p2 (length list) 0 a)
-    (λ q t. reads_lead nv o list 0 (piece_count list) q h r (omega arith) t refl) in
+    let last : p3.state ≡ Loading → OperationsLead frames IsStopped R rest (with_loadable nv o p3)
+    = λ a. writes_lead frames size R nv o list 0 (piece_count size list) p3 (each_piece (reads_piece size o list) (piece_count size list)) h r (omega arith) (allocated_is p2 (length list) 0 a)
+    (λ q t. reads_lead frames size nv o list 0 (piece_count size list) q h r (omega arith) t (no_front size (octets_of q) list)) in
     let based : Option Apdu = Some (PropertyResponse (object_index o) 7 1 1 (table_reference o)) in
-    let third : p3.state ≡ Loading → OperationsLead IsStopped R ops3 (with_loadable nv o p3)
-    = λ a. leads_step R (PropertyRead (object_index o) 7 1 1) based rest (with_loadable nv o p3) Nothing (λ _. with_loadable nv o p3) based refl refl (λ _. refl) (answer_base (with_loadable nv o p3) o) s3 (λ _. s3) (λ _ _. last a) in
+    let third : p3.state ≡ Loading → OperationsLead frames IsStopped R ops3 (with_loadable nv o p3)
+    = λ a. leads_step frames R (PropertyRead (object_index o) 7 1 1) based rest (with_loadable nv o p3) Nothing (λ _. with_loadable nv o p3) based refl refl (λ _. refl) (answer_base frames (with_loadable nv o p3) o) s3 (λ _. s3) (λ _ _. last a) in
     let start : IsStopped (with_loadable nv o p0) = subst IsStopped (sym (with_same nv o)) h in
-    subst (OperationsLead IsStopped R (filling o list)) (with_same nv o)
-    (load_leads R nv o p0 Unload Unloaded ops1 tt start s1
-    (λ _. load_leads R nv o p1 StartLoading Loading ops2 tt s1 s2
-    (λ _. load_leads R nv o p2 (Allocate (length list) 0) Loading ops3 i s2 s3 third)))
+    subst (OperationsLead frames IsStopped R (filling size o list)) (with_same nv o)
+    (load_leads frames R nv o p0 Unload Unloaded ops1 tt start s1
+    (λ _. load_leads frames R nv o p1 StartLoading Loading ops2 tt s1 s2
+    (λ _. load_leads frames R nv o p2 (Allocate (length list) 0) Loading ops3 i s2 s3 third)))

@@ -1,9 +1,14 @@
 pub mod Lists
+pub mod Pieces
 pub mod Steps
 pub mod Filling
 pub mod Good
 pub mod Served
-pub mod Capacities
 pub mod Octets
+pub mod Writable
+pub mod Opened
+pub mod Checked
+pub mod Plans
 pub mod Places
-pub mod Leading
+pub mod Lefts
+pub mod Capacities

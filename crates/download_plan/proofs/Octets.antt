@@ -1,26 +1,24 @@
-use Rattle.std.proofs.Common.{ℕ, zero, suc, ◌≡◌, ◌+◌, ◌-◌, ◌*◌, ◌<◌, ◌≤◌, Bool, true, false, ◌==◌, ◌&&◌, List, [], ◌∷◌, ◌++◌, map, length, length-take, length-drop, take, drop, min, Option, Some, None, refl, sym, ◌∙◌, ap, subst, arith, if◌then◌else◌}
-use Rattle.std.specs.List.{range_with_len}
-use Rattle.knx_model.specs.declared.config.Image.{Image}
-use Rattle.knx_model.specs.declared.loading.LoadState.{LoadState}
-use Rattle.knx_model.specs.declared.loading.LoadState.TheVariants.{Unloaded, Loaded, Loading}
-use Rattle.knx_model.specs.declared.loading.LoadEvent.{LoadEvent}
-use Rattle.knx_model.specs.declared.loading.LoadEvent.TheVariants.{StartLoading, LoadCompleted, Allocate, Unload}
+-- Operations in octets: what their services do, and that what is answered in octets is what is answered.
+use Rattle.std.proofs.Common.{ℕ, ◌≡◌, ◌-◌, ◌<◌, ◌≤◌, Bool, true, false, not, ◌==◌, ◌&&◌, List, [], ◌∷◌, ◌++◌, map, length, length-take, take, drop, Option, Some, None, refl, sym, ◌∙◌, ap, subst, arith, if◌then◌else◌}
+use Rattle.knx_model.specs.declared.device.FrameSupport.{FrameSupport}
+use Rattle.knx_model.specs.declared.device.FrameSupport.TheVariants.{Standard, Extended}
 use Rattle.knx_model.specs.declared.loading.LoadableObject.{LoadableObject}
-use Rattle.knx_model.specs.declared.loading.LoadableObject.TheVariants.{AddressTable, AssociationTable, GroupObjects, Application}
 use Rattle.knx_model.specs.declared.frames.tpdu.Apdu.{Apdu}
 use Rattle.knx_model.specs.declared.frames.tpdu.Apdu.TheVariants.{MemoryRead, DescriptorRead, DescriptorResponse, PropertyRead, PropertyWrite}
-use Rattle.knx_model.specs.declared.plan.Op.TheVariants.{Send}
 use Rattle.knx_model.specs.Apdu.{IsApduInRange, word}
 use Rattle.knx_model.specs.ApduReading.{service_in, apdu_octets, option_map}
+use Rattle.knx_model.specs.Connection.{has_answer, is_memory_write}
 use Rattle.knx_model.specs.Loading.{octets_of, has_range}
-use Rattle.knx_model.specs.Device.{NonVolatile, Effect, loadable, segment_base, object_at, object_of_index, object_type, load_state, table_reference, is_load_control, effect_of, effect_in, effect_at, answer, answer_in, answer_at, whole, torn, taken_over, runs, range_octets, property_value, property_response, where_one, Fits, HasCapacities}
-use Rattle.knx_model.specs.Plan.{Operation, op_of, expect_of, expected_of, loads, piece, piece_count, writes_piece, reads_piece, each_piece, filling, loading, load_operations, load_plan, Leads, Serves, GoodPlan, OldStoppedOrImage}
+use Rattle.knx_model.specs.Device.{NonVolatile, Effect, Loads, Stores, Nothing, loadable, segment_base, object_at, object_of_index, object_type, load_state, table_reference, greatest_length, is_load_control, effect_of, effect_in, effect_at, answer, answer_in, answer_at, reads_at_once, read_octets, whole, torn, taken_over, range_octets, property_value, property_response, where_one}
+use Rattle.knx_model.specs.DeviceFrames.{Outcome, Whole, Torn, Worn, kept_after}
+use Rattle.knx_model.specs.Plans.{Plan, Suits}
+use Rattle.knx_model.specs.Operations.{Operation, expect_of, listed}
+use Rattle.knx_model.specs.GoodPlan.{AnswersAll, kept_by_all, kept_by, IsNotTorn, IsSendable, awaits_answer}
+use Rattle.knx_model.proofs.Leads.{Leads}
 use Rattle.apdu_frames.proofs.Function.{service_again}
-use Rattle.download_plan.proofs.Steps.{length_load, OperationsLead, OperationsServe}
-use Rattle.download_plan.proofs.Good.{operations_good}
-use Rattle.download_plan.proofs.Served.{operations_serve}
+use Rattle.apdu_frames.proofs.Apdus.{written_apdu}
+use Rattle.download_plan.proofs.Steps.{OperationsLead, OperationsServe}
 
--- services of the same octets
 octets_apart : (s t : Apdu) → IsApduInRange s → IsApduInRange t → apdu_octets s ≡ apdu_octets t → Some s ≡ Some t
 octets_apart s t h k e = sym (service_again s h) ∙ (ap service_in e ∙ service_again t k)
 
@@ -59,12 +57,12 @@ short_map : {X : Type 0} (f : X → List ℕ) (found : Option X) → ((x : X) �
 short_map f None h = tt
 short_map f (Some x) h = h x
 
-property_short : (nv : NonVolatile) (index property : ℕ) → IsShortValue (property_value nv index property)
-property_short nv index property =
+property_short : (frames : FrameSupport) (nv : NonVolatile) (index property : ℕ) → IsShortValue (property_value frames nv index property)
+property_short frames nv index property =
     short_either (property == 1) _ _ (short_map word (object_type index) (λ x. omega arith))
     (short_either (property == 5) _ _ (short_map (load_state nv) (object_of_index index) (λ o. omega arith))
     (short_either (property == 7) _ _ (short_map table_reference (object_of_index index) (λ o. omega arith))
-    (short_either ((property == 56) && (index == 0)) (Some (word 15)) None (omega arith) tt)))
+    (short_either ((property == 56) && (index == 0)) (Some (word (greatest_length frames))) None (omega arith) tt)))
 
 response_in_range : (index property start : ℕ) (value : Option (List ℕ)) → start < 4096 → IsShortValue value → IsApduInRange (property_response index property start value)
 response_in_range index property start None h k = (omega arith, h, omega arith)
@@ -74,20 +72,25 @@ descriptor_in_range : (v : Bool) → IsApduInRange (if v then DescriptorResponse
 descriptor_in_range true = omega arith
 descriptor_in_range false = refl
 
-answer_in_range : (nv : NonVolatile) (s : Apdu) → IsApduInRange s → IsOptionInRange (answer nv s)
-answer_in_range nv (DescriptorRead kind) h = descriptor_in_range (kind == 0)
-answer_in_range nv (MemoryRead count address) h = omega (arith, range_short nv address count, h.1)
-answer_in_range nv (PropertyRead index property count start) h =
-    response_in_range index property start (where_one count start (property_value nv index property)) h.1 (short_either ((count == 1) && (start == 1)) (property_value nv index property) None (property_short nv index property) tt)
-answer_in_range nv (PropertyWrite index property count start octets) h =
+read_short : (frames : FrameSupport) (nv : NonVolatile) (a n : ℕ) → length (read_octets frames nv a n) ≤ n
+read_short frames nv a n = elim (reads_at_once frames n) as (λ v. length (if v then range_octets nv a n else []) ≤ n) [ true ↦ range_short nv a n | false ↦ omega arith ]
+
+answer_in_range : (frames : FrameSupport) (nv : NonVolatile) (s : Apdu) → IsApduInRange s → IsOptionInRange (answer frames nv s)
+answer_in_range frames nv (DescriptorRead kind) h = descriptor_in_range (kind == 0)
+answer_in_range frames nv (MemoryRead count address) h = omega (arith, read_short frames nv address count, h.1)
+answer_in_range frames nv (PropertyRead index property count start) h =
+    response_in_range index property start (where_one count start (property_value frames nv index property)) h.1 (short_either ((count == 1) && (start == 1)) (property_value frames nv index property) None (property_short frames nv index property) tt)
+answer_in_range frames nv (PropertyWrite index property count start octets) h =
     response_in_range index property start _ h.1
     (short_either (is_load_control property count start octets) _ None
     (short_map (load_state (whole nv (effect_of (PropertyWrite index property count start octets)))) (object_of_index index) (λ o. omega arith)) tt)
-answer_in_range nv s h = tt
+answer_in_range frames nv s h = tt
 
--- an operation whose service and answer have octets
-abbrev pub IsWritable : Operation → Type 0
-IsWritable operation = IsApduInRange operation.service × IsOptionInRange operation.expected
+-- an operation whose service and answer have octets, and which expects an answer exactly where its service has one
+pub record IsWritable (x : Operation) : Type 0 where
+  pub service : IsApduInRange x.service
+  pub expected : IsOptionInRange x.expected
+  pub awaits : awaits_answer (expect_of x.expected) ≡ not (is_memory_write (Some x.service))
 
 abbrev pub AllWritable : List Operation → Type 0
 AllWritable [] = Unit {0}
@@ -97,84 +100,91 @@ pub AllWritable-append : (xs ys : List Operation) → AllWritable xs → AllWrit
 AllWritable-append [] ys h k = k
 AllWritable-append (x ∷ xs) ys h k = (h.0, AllWritable-append xs ys h.1 k)
 
-expected_again : (expected : Option Apdu) (apdu : List ℕ) → expected_of (Send apdu (expect_of expected)) ≡ option_map apdu_octets expected
-expected_again None apdu = refl
-expected_again (Some s) apdu = refl
-
-effect_again : (s : Apdu) → IsApduInRange s → effect_in (apdu_octets s) ≡ effect_of s
+pub effect_again : (s : Apdu) → IsApduInRange s → effect_in (apdu_octets s) ≡ effect_of s
 effect_again s h = ap effect_at (service_again s h)
 
-answer_again : (nv : NonVolatile) (s : Apdu) → IsApduInRange s → answer_in nv (apdu_octets s) ≡ option_map apdu_octets (answer nv s)
-answer_again nv s h = ap (answer_at nv) (service_again s h)
+pub answer_again : (frames : FrameSupport) (nv : NonVolatile) (s : Apdu) → IsApduInRange s → answer_in frames nv (apdu_octets s) ≡ option_map apdu_octets (answer frames nv s)
+answer_again frames nv s h = ap (answer_at frames nv) (service_again s h)
 
--- operations in octets lead where the operations lead
-pub octets_lead : (P R : NonVolatile → Type 0) (ops : List Operation) (nv : NonVolatile) → AllWritable ops → OperationsLead P R ops nv → Leads P R (map op_of ops) nv
-octets_lead P R [] nv w h = h
-octets_lead P R (x ∷ xs) nv w h =
-    let effect : effect_in (apdu_octets x.service) ≡ effect_of x.service = effect_again x.service w.0.0 in
-    let t : (wear : Option (List ℕ)) → taken_over nv (effect_in (apdu_octets x.service)) wear ≡ taken_over nv (effect_of x.service) wear = λ wear. ap (λ (e : Effect). taken_over nv e wear) effect in
-    let same : answer_in nv (apdu_octets x.service) ≡ expected_of (op_of x) → answer nv x.service ≡ x.expected
-    = λ e. options_apart (answer nv x.service) x.expected (answer_in_range nv x.service w.0.0) w.0.1 (sym (answer_again nv x.service w.0.0) ∙ (e ∙ expected_again x.expected (apdu_octets x.service))) in (
+-- the wanted answer in octets is the expected one
+suits_only : (apdu : List ℕ) (expected got : Option Apdu) → IsOptionInRange expected → IsOptionInRange got → Suits apdu (expect_of expected) (option_map apdu_octets got) → got ≡ expected
+suits_only apdu None None h k s = refl
+suits_only apdu None (Some t) h k s = absurd s
+suits_only apdu (Some e) None h k s = absurd s
+suits_only apdu (Some e) (Some t) h k s = octets_apart t e k h s
+
+pub suits_expected : (apdu : List ℕ) (expected : Option Apdu) → Suits apdu (expect_of expected) (option_map apdu_octets expected)
+suits_expected apdu None = tt
+suits_expected apdu (Some e) = refl
+
+pub suits_answer : (frames : FrameSupport) (nv : NonVolatile) (x : Operation) → IsWritable x → Suits (apdu_octets x.service) (expect_of x.expected) (answer_in frames nv (apdu_octets x.service)) → answer frames nv x.service ≡ x.expected
+suits_answer frames nv x w s =
+    suits_only (apdu_octets x.service) x.expected (answer frames nv x.service) w.expected (answer_in_range frames nv x.service w.service)
+    (subst (Suits (apdu_octets x.service) (expect_of x.expected)) (answer_again frames nv x.service w.service) s)
+
+pub answer_suits : (frames : FrameSupport) (nv : NonVolatile) (x : Operation) → IsWritable x → answer frames nv x.service ≡ x.expected → Suits (apdu_octets x.service) (expect_of x.expected) (answer_in frames nv (apdu_octets x.service))
+answer_suits frames nv x w e =
+    subst (Suits (apdu_octets x.service) (expect_of x.expected)) (sym (answer_again frames nv x.service w.service ∙ ap (option_map apdu_octets) e)) (suits_expected (apdu_octets x.service) x.expected)
+
+-- ---- outcomes
+
+pub taken_none : (nv : NonVolatile) (e : Effect) → taken_over nv e None ≡ whole nv e
+taken_none nv (Loads o event) = refl
+taken_none nv (Stores a octets) = refl
+taken_none nv Nothing = refl
+
+pub kept_nothing : (nv : NonVolatile) (outcome : Outcome) → kept_after nv Nothing outcome ≡ nv
+kept_nothing nv Whole = refl
+kept_nothing nv (Torn fresh octets) = refl
+kept_nothing nv (Worn octets) = refl
+
+any_moment : (P : NonVolatile → Type 0) (nv : NonVolatile) (e : Effect) → ((fresh : Bool) (octets : List ℕ) → P (torn nv e fresh octets)) → ((wear : Option (List ℕ)) → P (taken_over nv e wear)) → (outcome : Outcome) → P (kept_after nv e outcome)
+any_moment P nv e f g Whole = subst P (taken_none nv e) (g None)
+any_moment P nv e f g (Torn fresh octets) = f fresh octets
+any_moment P nv e f g (Worn octets) = g (Some octets)
+
+any_whole : (Q : NonVolatile → Type 0) (nv : NonVolatile) (e : Effect) → ((wear : Option (List ℕ)) → Q (taken_over nv e wear)) → (outcome : Outcome) → IsNotTorn outcome → Q (kept_after nv e outcome)
+any_whole Q nv e g Whole t = subst Q (taken_none nv e) (g None)
+any_whole Q nv e g (Torn fresh octets) t = absurd t
+any_whole Q nv e g (Worn octets) t = g (Some octets)
+
+-- ---- lists of operations as plans
+
+-- a list in octets leads where the operations lead
+pub octets_lead : (frames : FrameSupport) (P R : NonVolatile → Type 0) (ops : List Operation) (nv : NonVolatile) → AllWritable ops → OperationsLead frames P R ops nv → Leads (answer_in frames) P R (listed ops) nv
+octets_lead frames P R [] nv w h = h
+octets_lead frames P R (x ∷ xs) nv w h =
+    let e : effect_of x.service ≡ effect_in (apdu_octets x.service) = sym (effect_again x.service w.0.service) in (
       h.0,
-      λ fresh octets. subst (λ (e : Effect). P (torn nv e fresh octets)) (sym effect) (h.1 fresh octets),
-      λ wear. subst P (sym (t wear)) (h.2 wear),
-      λ wear e. subst (Leads P R (map op_of xs)) (sym (t wear)) (octets_lead P R xs (taken_over nv (effect_of x.service) wear) w.1 (h.3 wear (same e))),
+      λ outcome. subst (λ (e : Effect). P (kept_after nv e outcome)) e (any_moment P nv (effect_of x.service) h.1 h.2 outcome),
+      λ outcome t s. subst (λ (e : Effect). Leads (answer_in frames) P R (listed xs) (kept_after nv e outcome)) e
+          (any_whole (Leads (answer_in frames) P R (listed xs)) nv (effect_of x.service)
+          (λ wear. octets_lead frames P R xs (taken_over nv (effect_of x.service) wear) w.1 (h.3 wear (suits_answer frames nv x w.0 s))) outcome t),
     )
 
-pub octets_serve : (R : NonVolatile → Type 0) (ops : List Operation) (nv : NonVolatile) → AllWritable ops → OperationsServe R ops nv → Serves R (map op_of ops) nv
-octets_serve R [] nv w h = h
-octets_serve R (x ∷ xs) nv w h = (
-  answer_again nv x.service w.0.0 ∙ (ap (option_map apdu_octets) h.0 ∙ sym (expected_again x.expected (apdu_octets x.service))),
-  subst (λ (e : Effect). Serves R (map op_of xs) (whole nv e)) (sym (effect_again x.service w.0.0)) (octets_serve R xs (whole nv (effect_of x.service)) w.1 h.1),
-)
-
-piece_size : (list : List ℕ) (k : ℕ) → 12 * k < length list → (1 ≤ length (piece list k)) × (length (piece list k) ≤ 12)
-unfolding piece
-piece_size list k h = let e : length (take 12 (drop (12 * k) list)) ≡ min 12 (length (drop (12 * k) list)) = length-take 12 (drop (12 * k) list) in (omega (arith, e, length-drop {A = ℕ}), omega (arith, e))
-
-writes_writable : (o : LoadableObject) (list : List ℕ) (k n : ℕ) → k + n ≡ piece_count list → AllWritable (map (writes_piece o list) (range_with_len k n))
-writes_writable o list k zero b = tt
-writes_writable o list k (suc n) b = ((piece_size list k (omega arith), tt), writes_writable o list (k + 1) n (omega arith))
-
-reads_writable : (o : LoadableObject) (list : List ℕ) (k n : ℕ) → k + n ≡ piece_count list → AllWritable (map (reads_piece o list) (range_with_len k n))
-reads_writable o list k zero b = tt
-reads_writable o list k (suc n) b = let size = piece_size list k (omega arith) in ((size, size.1), reads_writable o list (k + 1) n (omega arith))
-
-loading_writable : (o : LoadableObject) (list : List ℕ) → AllWritable (loading o list)
-unfolding loading filling
-loading_writable o list =
-    let event : (e : LoadEvent) (s : LoadState) → IsWritable (loads o e s) = λ e s. ((omega arith, omega arith, omega (arith, length_load e)), (omega arith, omega arith, omega arith)) in
-    AllWritable-append (filling o list) (loads o LoadCompleted Loaded ∷ []) (
-      event Unload Unloaded,
+pub octets_serve : (frames : FrameSupport) (R : NonVolatile → Type 0) (ops : List Operation) (nv : NonVolatile) → AllWritable ops → OperationsServe frames R ops nv → AnswersAll (answer_in frames) (listed ops) nv × R (kept_by_all (answer_in frames) (listed ops) nv)
+octets_serve frames R [] nv w h = (tt, h)
+octets_serve frames R (x ∷ xs) nv w h =
+    let e : effect_of x.service ≡ effect_in (apdu_octets x.service) = sym (effect_again x.service w.0.service) in
+    let rest : AnswersAll (answer_in frames) (listed xs) (whole nv (effect_of x.service)) × R (kept_by_all (answer_in frames) (listed xs) (whole nv (effect_of x.service))) = octets_serve frames R xs (whole nv (effect_of x.service)) w.1 h.1 in (
       (
-        event StartLoading Loading,
-        (
-          event (Allocate (length list) 0) Loading,
-          (
-            ((omega arith, omega arith), (omega arith, omega arith, omega arith)),
-            AllWritable-append (each_piece (writes_piece o list) list) (each_piece (reads_piece o list) list) (writes_writable o list 0 (piece_count list) (omega arith)) (reads_writable o list 0 (piece_count list) (omega arith)),
-          ),
-        ),
+        answer_suits frames nv x w.0 h.0,
+        subst (λ (e : Effect). AnswersAll (answer_in frames) (listed xs) (whole nv e)) e rest.0,
       ),
+      subst (λ (e : Effect). R (kept_by_all (answer_in frames) (listed xs) (whole nv e))) e rest.1,
     )
-    (event LoadCompleted Loaded, tt)
 
-pub operations_writable : (image : Image) → AllWritable (load_operations image)
-unfolding load_operations
-operations_writable image = (
-  (omega arith, omega arith),
-  (
-    ((omega arith, omega arith, omega arith), (omega arith, omega arith, omega arith)),
-    AllWritable-append (loading AddressTable image.addr) _ (loading_writable AddressTable image.addr)
-        (AllWritable-append (loading AssociationTable image.assoc) _ (loading_writable AssociationTable image.assoc)
-        (AllWritable-append (loading GroupObjects image.objs) _ (loading_writable GroupObjects image.objs) (loading_writable Application image.params))),
-  ),
+pub octets_served : (frames : FrameSupport) (ops : List Operation) (nv : NonVolatile) → AllWritable ops → AnswersAll (answer_in frames) (listed ops) nv → OperationsServe frames (λ _. Unit {0}) ops nv
+octets_served frames [] nv w h = tt
+octets_served frames (x ∷ xs) nv w h = (
+  suits_answer frames nv x w.0 h.0,
+  octets_served frames xs (whole nv (effect_of x.service)) w.1 (subst (λ (e : Effect). AnswersAll (answer_in frames) (listed xs) (whole nv e)) (effect_again x.service w.0.service) h.1),
 )
 
-pub plan_good : (image : Image) → Fits image → GoodPlan (load_plan image) image
-unfolding load_plan
-plan_good image f start = octets_lead (OldStoppedOrImage start image) (λ nv. runs nv ≡ Some image) (load_operations image) start (operations_writable image) (operations_good image f start)
-
-pub plan_serves : (image : Image) → Fits image → (nv : NonVolatile) → HasCapacities nv → Serves (λ after. runs after ≡ Some image) (load_plan image) nv
-unfolding load_plan
-plan_serves image f nv h = octets_serve (λ after. runs after ≡ Some image) (load_operations image) nv (operations_writable image) (operations_serve image f nv h)
+pub octets_sendable : (ops : List Operation) → AllWritable ops → IsSendable (listed ops)
+octets_sendable [] w = tt
+octets_sendable (x ∷ xs) w = (
+  written_apdu x.service w.0.service,
+  w.0.awaits ∙ sym (ap (λ (s : Option Apdu). not (is_memory_write s)) (service_again x.service w.0.service)),
+  λ answer. octets_sendable xs w.1,
+)

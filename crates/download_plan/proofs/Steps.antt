@@ -1,4 +1,4 @@
-use Rattle.std.proofs.Common.{ℕ, ◌≡◌, ◌+◌, ◌-◌, ◌/◌, ◌%◌, ◌<◌, Bool, true, false, List, [], ◌∷◌, ◌++◌, length, take, drop, Option, Some, None, refl, sym, ◌∙◌, ap, subst, arith, if◌then◌else◌}
+use Rattle.std.proofs.Common.{ℕ, ◌≡◌, ◌+◌, ◌-◌, ◌/◌, ◌%◌, ◌<◌, ◌≤◌, Bool, true, false, List, [], ◌∷◌, ◌++◌, length, take, drop, Option, Some, None, refl, sym, ◌∙◌, ap, subst, arith, if◌then◌else◌}
 use Rattle.std.proofs.lemmas.Grind.{common_steps}
 use Rattle.std.proofs.lemmas.Bool.Decides.{nat_tests}
 use Rattle.knx_model.specs.declared.loading.LoadState.{LoadState}
@@ -10,8 +10,9 @@ use Rattle.knx_model.specs.declared.loading.LoadableObject.TheVariants.{AddressT
 use Rattle.knx_model.specs.declared.frames.tpdu.Apdu.{Apdu}
 use Rattle.knx_model.specs.declared.frames.tpdu.Apdu.TheVariants.{MemoryRead, MemoryResponse, PropertyRead, PropertyResponse, PropertyWrite}
 use Rattle.knx_model.specs.Loading.{Loadable, octets_of, is_loaded, with_state, with_memory, allocates, load_step, load_torn, load_event, four_octets, old_or_new, state_number, has_range, takes_write, memory_written, memory_torn, overlaid}
-use Rattle.knx_model.specs.Device.{NonVolatile, Effect, Loads, Stores, Nothing, loadable, with_loadable, object_index, segment_base, capacity, object_at, at_address, runs, effect_of, whole, torn, taken_over, answer, range_octets, table_reference}
-use Rattle.knx_model.specs.Plan.{Operation, load_octets}
+use Rattle.knx_model.specs.declared.device.FrameSupport.{FrameSupport}
+use Rattle.knx_model.specs.Device.{NonVolatile, Effect, reads_at_once, Loads, Stores, Nothing, loadable, with_loadable, object_index, segment_base, capacity, object_at, at_address, runs, effect_of, whole, torn, taken_over, answer, range_octets, table_reference}
+use Rattle.knx_model.specs.Operations.{Operation, load_octets}
 use Rattle.download_plan.specs.Step.{IsShort}
 
 -- the application isn't Loaded, so the device is stopped
@@ -22,18 +23,18 @@ pub runs_nothing : (nv : NonVolatile) → IsStopped nv → runs nv ≡ None
 runs_nothing nv h = grind (arith, common_steps)
 
 -- `Leads` of operations as services
-abbrev pub OperationsLead : (NonVolatile → Type 0) → (NonVolatile → Type 0) → List Operation → NonVolatile → Type 0
-OperationsLead P R [] nv = P nv × R nv
-OperationsLead P R (operation ∷ operations) nv =
+abbrev pub OperationsLead : FrameSupport → (NonVolatile → Type 0) → (NonVolatile → Type 0) → List Operation → NonVolatile → Type 0
+OperationsLead frames P R [] nv = P nv × R nv
+OperationsLead frames P R (operation ∷ operations) nv =
     P nv
     × ((fresh : Bool) (octets : List ℕ) → P (torn nv (effect_of operation.service) fresh octets))
     × ((wear : Option (List ℕ)) → P (taken_over nv (effect_of operation.service) wear))
-    × ((wear : Option (List ℕ)) → answer nv operation.service ≡ operation.expected → OperationsLead P R operations (taken_over nv (effect_of operation.service) wear))
+    × ((wear : Option (List ℕ)) → answer frames nv operation.service ≡ operation.expected → OperationsLead frames P R operations (taken_over nv (effect_of operation.service) wear))
 
 -- `Serves` of operations as services
-abbrev pub OperationsServe : (NonVolatile → Type 0) → List Operation → NonVolatile → Type 0
-OperationsServe R [] nv = R nv
-OperationsServe R (operation ∷ operations) nv = (answer nv operation.service ≡ operation.expected) × OperationsServe R operations (whole nv (effect_of operation.service))
+abbrev pub OperationsServe : FrameSupport → (NonVolatile → Type 0) → List Operation → NonVolatile → Type 0
+OperationsServe frames R [] nv = R nv
+OperationsServe frames R (operation ∷ operations) nv = (answer frames nv operation.service ≡ operation.expected) × OperationsServe frames R operations (whole nv (effect_of operation.service))
 
 -- one object is replaced
 pub object_with : (nv : NonVolatile) (o : LoadableObject) (p : Loadable) → loadable (with_loadable nv o p) o ≡ p
@@ -97,28 +98,28 @@ torn_stopped nv (Stores a asked) fresh octets h k =
     [ None ↦ h | Some o ↦ stopped_same nv o (memory_torn (loadable nv o) (a - segment_base o) (length asked) octets) h (scribbled_state (loadable nv o) (a - segment_base o) (length asked) octets) ]
 
 -- of two lists, one after the other
-pub leads-append : (P Q R : NonVolatile → Type 0) (xs ys : List Operation) (nv : NonVolatile) → OperationsLead P Q xs nv → ((u : NonVolatile) → Q u → OperationsLead P R ys u) → OperationsLead P R (xs ++ ys) nv
-leads-append P Q R [] ys nv h k = k nv h.1
-leads-append P Q R (x ∷ xs) ys nv h k = (h.0, h.1, h.2, λ wear e. leads-append P Q R xs ys _ (h.3 wear e) k)
+pub leads-append : (frames : FrameSupport) (P Q R : NonVolatile → Type 0) (xs ys : List Operation) (nv : NonVolatile) → OperationsLead frames P Q xs nv → ((u : NonVolatile) → Q u → OperationsLead frames P R ys u) → OperationsLead frames P R (xs ++ ys) nv
+leads-append frames P Q R [] ys nv h k = k nv h.1
+leads-append frames P Q R (x ∷ xs) ys nv h k = (h.0, h.1, h.2, λ wear e. leads-append frames P Q R xs ys _ (h.3 wear e) k)
 
-pub leads-weaker : (P Q R S : NonVolatile → Type 0) → ((u : NonVolatile) → P u → Q u) → ((u : NonVolatile) → R u → S u) → (xs : List Operation) (nv : NonVolatile) → OperationsLead P R xs nv → OperationsLead Q S xs nv
-leads-weaker P Q R S f g [] nv h = (f nv h.0, g nv h.1)
-leads-weaker P Q R S f g (x ∷ xs) nv h = (f nv h.0, λ fresh octets. f _ (h.1 fresh octets), λ wear. f _ (h.2 wear), λ wear e. leads-weaker P Q R S f g xs _ (h.3 wear e))
+pub leads-weaker : (frames : FrameSupport) (P Q R S : NonVolatile → Type 0) → ((u : NonVolatile) → P u → Q u) → ((u : NonVolatile) → R u → S u) → (xs : List Operation) (nv : NonVolatile) → OperationsLead frames P R xs nv → OperationsLead frames Q S xs nv
+leads-weaker frames P Q R S f g [] nv h = (f nv h.0, g nv h.1)
+leads-weaker frames P Q R S f g (x ∷ xs) nv h = (f nv h.0, λ fresh octets. f _ (h.1 fresh octets), λ wear. f _ (h.2 wear), λ wear e. leads-weaker frames P Q R S f g xs _ (h.3 wear e))
 
 abbrev pub operation : Apdu → Option Apdu → Operation
 operation service expected = record { service = service; expected = expected }
 
 -- one operation, before and after which the device is stopped
-pub leads_step : (R : NonVolatile → Type 0) (s : Apdu) (a : Option Apdu) (ops : List Operation) (nv : NonVolatile) (effect : Effect) (next : Option (List ℕ) → NonVolatile) (given : Option Apdu)
-    → effect_of s ≡ effect → whole nv effect ≡ next None → ((wear : Option (List ℕ)) → taken_over nv effect wear ≡ next wear) → answer nv s ≡ given → IsStopped nv → ((wear : Option (List ℕ)) → IsStopped (next wear))
-    → ((wear : Option (List ℕ)) → given ≡ a → OperationsLead IsStopped R ops (next wear)) → OperationsLead IsStopped R (operation s a ∷ ops) nv
-leads_step R s a ops nv effect next given i v w g h k f =
+pub leads_step : (frames : FrameSupport) (R : NonVolatile → Type 0) (s : Apdu) (a : Option Apdu) (ops : List Operation) (nv : NonVolatile) (effect : Effect) (next : Option (List ℕ) → NonVolatile) (given : Option Apdu)
+    → effect_of s ≡ effect → whole nv effect ≡ next None → ((wear : Option (List ℕ)) → taken_over nv effect wear ≡ next wear) → answer frames nv s ≡ given → IsStopped nv → ((wear : Option (List ℕ)) → IsStopped (next wear))
+    → ((wear : Option (List ℕ)) → given ≡ a → OperationsLead frames IsStopped R ops (next wear)) → OperationsLead frames IsStopped R (operation s a ∷ ops) nv
+leads_step frames R s a ops nv effect next given i v w g h k f =
     let t : (wear : Option (List ℕ)) → taken_over nv (effect_of s) wear ≡ next wear = λ wear. ap (λ e. taken_over nv e wear) i ∙ w wear in
     let u : whole nv (effect_of s) ≡ next None = ap (λ e. whole nv e) i ∙ v in (
       h,
       λ fresh octets. torn_stopped nv (effect_of s) fresh octets h (subst IsStopped (sym u) (k None)),
       λ wear. subst IsStopped (sym (t wear)) (k wear),
-      λ wear e. subst (OperationsLead IsStopped R ops) (sym (t wear)) (f wear (sym g ∙ e)),
+      λ wear e. subst (OperationsLead frames IsStopped R ops) (sym (t wear)) (f wear (sym g ∙ e)),
     )
 
 -- ---- the services of a plan
@@ -151,24 +152,24 @@ effect_load AssociationTable e h = rw (length_load e) (ap (Loads AssociationTabl
 effect_load GroupObjects e h = rw (length_load e) (ap (Loads GroupObjects) (load_again e h))
 effect_load Application e h = rw (length_load e) (ap (Loads Application) (load_again e h))
 
--- an effect on one object, seen at its state
+-- an effect on one loadable, seen at its state
 pub whole_load : (nv : NonVolatile) (o : LoadableObject) (p : Loadable) (e : LoadEvent) → whole (with_loadable nv o p) (Loads o e) ≡ with_loadable nv o (load_step p e)
 whole_load nv AddressTable p e = refl
 whole_load nv AssociationTable p e = refl
 whole_load nv GroupObjects p e = refl
 whole_load nv Application p e = refl
 
-pub answer_load : (nv : NonVolatile) (o : LoadableObject) (p : Loadable) (e : LoadEvent) → IsShort e → answer (with_loadable nv o p) (load_service o e) ≡ Some (state_answer o (load_step p e).state)
-answer_load nv AddressTable p e h = rw (length_load e, load_again e h) refl
-answer_load nv AssociationTable p e h = rw (length_load e, load_again e h) refl
-answer_load nv GroupObjects p e h = rw (length_load e, load_again e h) refl
-answer_load nv Application p e h = rw (length_load e, load_again e h) refl
+pub answer_load : (frames : FrameSupport) (nv : NonVolatile) (o : LoadableObject) (p : Loadable) (e : LoadEvent) → IsShort e → answer frames (with_loadable nv o p) (load_service o e) ≡ Some (state_answer o (load_step p e).state)
+answer_load frames nv AddressTable p e h = rw (length_load e, load_again e h) refl
+answer_load frames nv AssociationTable p e h = rw (length_load e, load_again e h) refl
+answer_load frames nv GroupObjects p e h = rw (length_load e, load_again e h) refl
+answer_load frames nv Application p e h = rw (length_load e, load_again e h) refl
 
-pub answer_base : (nv : NonVolatile) (o : LoadableObject) → answer nv (PropertyRead (object_index o) 7 1 1) ≡ Some (PropertyResponse (object_index o) 7 1 1 (table_reference o))
-answer_base nv AddressTable = refl
-answer_base nv AssociationTable = refl
-answer_base nv GroupObjects = refl
-answer_base nv Application = refl
+pub answer_base : (frames : FrameSupport) (nv : NonVolatile) (o : LoadableObject) → answer frames nv (PropertyRead (object_index o) 7 1 1) ≡ Some (PropertyResponse (object_index o) 7 1 1 (table_reference o))
+answer_base frames nv AddressTable = refl
+answer_base frames nv AssociationTable = refl
+answer_base frames nv GroupObjects = refl
+answer_base frames nv Application = refl
 
 pub object_is : (o : LoadableObject) (at : ℕ) → at < capacity o → object_at (segment_base o + at) ≡ Some o
 object_is AddressTable at h = grind (arith, nat_tests)
@@ -199,13 +200,32 @@ taken_write nv o p at octets None h = whole_write nv o p at octets h
 taken_write nv o p at octets (Some any) h = at_place nv o p at (λ q k. memory_torn q k (length octets) any) h
 
 -- the octets of a range of one object
-abbrev pub read_octets : Loadable → ℕ → ℕ → List ℕ
-read_octets p at n = if has_range p at n then take n (drop at (octets_of p)) else []
+abbrev pub range_of : Loadable → ℕ → ℕ → List ℕ
+range_of p at n = if has_range p at n then take n (drop at (octets_of p)) else []
 
-pub range_is : (nv : NonVolatile) (o : LoadableObject) (p : Loadable) (at n : ℕ) → at < capacity o → range_octets (with_loadable nv o p) (segment_base o + at) n ≡ read_octets p at n
+pub range_is : (nv : NonVolatile) (o : LoadableObject) (p : Loadable) (at n : ℕ) → at < capacity o → range_octets (with_loadable nv o p) (segment_base o + at) n ≡ range_of p at n
 range_is nv o p at n h =
-    ap (λ (found : Option LoadableObject). elim found as (λ _. List ℕ) [ None ↦ [] | Some q ↦ read_octets (loadable (with_loadable nv o p) q) (segment_base o + at - segment_base q) n ]) (object_is o at h)
-    ∙ (ap (λ (k : ℕ). read_octets (loadable (with_loadable nv o p) o) k n) (at_base o at) ∙ ap (λ (q : Loadable). read_octets q at n) (object_with nv o p))
+    ap (λ (found : Option LoadableObject). elim found as (λ _. List ℕ) [ None ↦ [] | Some q ↦ range_of (loadable (with_loadable nv o p) q) (segment_base o + at - segment_base q) n ]) (object_is o at h)
+    ∙ (ap (λ (k : ℕ). range_of (loadable (with_loadable nv o p) o) k n) (at_base o at) ∙ ap (λ (q : Loadable). range_of q at n) (object_with nv o p))
 
-pub answer_read : (nv : NonVolatile) (o : LoadableObject) (p : Loadable) (at n : ℕ) → at < capacity o → answer (with_loadable nv o p) (MemoryRead n (segment_base o + at)) ≡ Some (MemoryResponse (segment_base o + at) (read_octets p at n))
-answer_read nv o p at n h = ap (λ octets. Some (MemoryResponse (segment_base o + at) octets)) (range_is nv o p at n h)
+-- what a read of it is answered
+abbrev pub given_octets : FrameSupport → Loadable → ℕ → ℕ → List ℕ
+given_octets frames p at n = if reads_at_once frames n then range_of p at n else []
+
+pub answer_read : (frames : FrameSupport) (nv : NonVolatile) (o : LoadableObject) (p : Loadable) (at n : ℕ) → at < capacity o → answer frames (with_loadable nv o p) (MemoryRead n (segment_base o + at)) ≡ Some (MemoryResponse (segment_base o + at) (given_octets frames p at n))
+answer_read frames nv o p at n h =
+    ap (λ (octets : List ℕ). Some (MemoryResponse (segment_base o + at) (if reads_at_once frames n then octets else []))) (range_is nv o p at n h)
+
+-- octets that were given are those of the range
+pub given_range : (frames : FrameSupport) (p : Loadable) (at n : ℕ) (xs : List ℕ) → 1 ≤ length xs → given_octets frames p at n ≡ xs → range_of p at n ≡ xs
+given_range frames p at n xs h =
+    elim (reads_at_once frames n) as (λ v. (if v then range_of p at n else []) ≡ xs → range_of p at n ≡ xs)
+    [ true ↦ λ e. e | false ↦ λ e. absurd (omega (arith, h, ap length e)) ]
+
+-- and lie within the segment
+pub within_range : (p : Loadable) (at n : ℕ) (xs : List ℕ) → 1 ≤ length xs → range_of p at n ≡ xs → at + n ≤ p.len
+within_range p at n xs h =
+    let by : (v : Bool) → has_range p at n ≡ v → (if v then take n (drop at (octets_of p)) else []) ≡ xs → at + n ≤ p.len
+    = λ v. elim v as (λ v. has_range p at n ≡ v → (if v then take n (drop at (octets_of p)) else []) ≡ xs → at + n ≤ p.len)
+    [ true ↦ λ t e. grind (arith, nat_tests) | false ↦ λ t e. absurd (omega (arith, h, ap length e)) ] in
+    by _ refl

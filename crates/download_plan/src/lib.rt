@@ -1,15 +1,23 @@
-//! The load plan of an image: its operations, and that each beginning of them leaves a device as it was, stopped, or with the
-//! image.
+//! The plans that load an image and that check whether a device runs it: their operations, and that each beginning of a load leaves
+//! a device as it was, stopped, or with the image.
 #![tactic(auto)]
 
+mod answer;
+mod check_plan;
 mod laws;
+mod load_plan;
+mod opening;
 mod operation;
 mod place;
-mod plan;
 mod step;
 
-pub use laws::each_plan_is_good;
-pub use plan::LoadPlan;
+pub use answer::suits;
+pub use check_plan::CheckPlan;
+pub use knx_model::{Expect, Op, PieceSize, PlanSource};
+pub use laws::{
+    each_check_is_true, each_load_gets_through, each_operation_can_be_sent, each_plan_is_good,
+};
+pub use load_plan::LoadPlan;
 
 #[cfg(test)]
 mod tests;

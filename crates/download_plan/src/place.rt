@@ -1,23 +1,31 @@
-//! Which operation of which object stands at a number of the plan.
+//! Which operation of which object stands at a number of a plan. It is computed from how many operations each object has.
 
-ghost use Rattle.std.specs.Prelude.{◌≡◌, ◌+◌, ◌*◌, ◌<◌, ◌≤◌, length, Some};
-ghost use Rattle.std.specs.List.{slice_get};
+ghost use Rattle.std.specs.Prelude.{◌≡◌, ◌+◌, ◌<◌, ◌≤◌, length};
 ghost use Rattle.knx_model.specs.Device.{Fits, capacity};
-ghost use Rattle.knx_model.specs.Plan.{piece_count, loading, load_operations, load_plan};
-ghost use Rattle.download_plan.specs.Step.{list_of};
+ghost use Rattle.knx_model.specs.LoadPlan.{list_of};
+ghost use Rattle.knx_model.specs.Operations.{piece_count};
+ghost use Rattle.download_plan.specs.Step.{share_of, share_before, all_shares, load_share, check_share};
 
-use crate::operation::step_operation;
-use crate::step::step_at;
-use knx_model::{Image, LoadableObject, MOST_STANDARD_MEMORY_OCTETS, Op};
+use knx_model::{Image, LoadableObject, PieceSize};
 
-/// An operation of one object's loading, by its number there.
+/// How many operations each object has.
 #[derive(Clone, Copy)]
-struct Place {
-    object: LoadableObject,
-    number: u32,
+pub struct Shares {
+    pub addr: u32,
+    pub assoc: u32,
+    pub objs: u32,
+    pub params: u32,
 }
 
-fn list_of(image: &Image, object: LoadableObject) -> &[u8]
+/// An operation of one object, by its number there.
+#[derive(Clone, Copy)]
+pub struct Place {
+    pub object: LoadableObject,
+    pub number: u32,
+}
+
+/// The list of an object.
+pub fn list_of(image: &Image, object: LoadableObject) -> &[u8]
     requires { Fits image.now }
     ensures value { result.now ≡ list_of image.now object }
     ensures room { length result.now ≤ capacity object }
@@ -31,68 +39,102 @@ fn list_of(image: &Image, object: LoadableObject) -> &[u8]
     }
 }
 
-fn piece_count(list: &[u8]) -> u32
+/// How many pieces a list has.
+#[tactic(auto, unfolding(knx_model::specs::Operations::piece_count))]
+pub fn piece_count(size: PieceSize, list: &[u8]) -> u32
     requires { length list.now ≤ 0x2000 }
-    ensures { result ≡ piece_count list.now }
+    ensures value { result ≡ piece_count size list.now }
+    ensures bound { result ≤ 683 }
 {
-    list.len().div_ceil(MOST_STANDARD_MEMORY_OCTETS) as u32
+    match size {
+        PieceSize::Twelve => list.len().div_ceil(12) as u32,
+        PieceSize::Sixty => list.len().div_ceil(60) as u32,
+    }
 }
 
-/// How many operations load an object.
-pub fn operation_count(image: &Image, object: LoadableObject) -> u32
+fn load_share(image: &Image, size: PieceSize, object: LoadableObject) -> u32
     requires { Fits image.now }
-    ensures value { result ≡ 5 + 2 * piece_count (list_of image.now object) }
+    ensures value { result ≡ load_share size object (list_of image.now object) }
     ensures bound { result ≤ 0x1000 }
 {
-    5 + 2 * piece_count(list_of(image, object))
+    5 + 2 * piece_count(size, list_of(image, object))
 }
 
-/// The place of the k-th operation after the two that come before all objects.
-#[tactic(auto, using(crate::proofs::Places::operations_length, crate::proofs::Places::addr_at, crate::proofs::Places::assoc_at, crate::proofs::Places::objs_at, crate::proofs::Places::params_at))]
-fn place_at(image: &Image, k: u32) -> Place
-    requires fits { Fits image.now }
-    requires within { k + 2 < length (load_operations image.now) }
-    ensures place { slice_get (load_operations image.now) (k + 2) ≡ slice_get (loading result.object (list_of image.now result.object)) result.number }
-    ensures within { result.number < 5 + 2 * piece_count (list_of image.now result.object) }
+fn check_share(image: &Image, size: PieceSize, object: LoadableObject) -> u32
+    requires { Fits image.now }
+    ensures value { result ≡ check_share size object (list_of image.now object) }
+    ensures bound { result ≤ 0x1000 }
 {
-    let addr = operation_count(image, LoadableObject::AddressTable);
-    if k < addr {
-        return Place {
-            object: LoadableObject::AddressTable,
-            number: k,
-        };
-    }
-    let k = k - addr;
-    let assoc = operation_count(image, LoadableObject::AssociationTable);
-    if k < assoc {
-        return Place {
-            object: LoadableObject::AssociationTable,
-            number: k,
-        };
-    }
-    let k = k - assoc;
-    let objs = operation_count(image, LoadableObject::GroupObjects);
-    if k < objs {
-        return Place {
-            object: LoadableObject::GroupObjects,
-            number: k,
-        };
-    }
-    Place {
-        object: LoadableObject::Application,
-        number: k - objs,
+    let list = list_of(image, object);
+    let ends = if list.len() < object.capacity() as usize {
+        1
+    } else {
+        0
+    };
+    2 + piece_count(size, list) + ends
+}
+
+/// How many operations load each object.
+pub fn load_shares(image: &Image, size: PieceSize) -> Shares
+    requires { Fits image.now }
+    ensures addr { result.addr ≡ load_share size LoadableObject.AddressTable image.now.addr }
+    ensures assoc { result.assoc ≡ load_share size LoadableObject.AssociationTable image.now.assoc }
+    ensures objs { result.objs ≡ load_share size LoadableObject.GroupObjects image.now.objs }
+    ensures params { result.params ≡ load_share size LoadableObject.Application image.now.params }
+    ensures bound { all_shares result ≤ 0x4000 }
+{
+    Shares {
+        addr: load_share(image, size, LoadableObject::AddressTable),
+        assoc: load_share(image, size, LoadableObject::AssociationTable),
+        objs: load_share(image, size, LoadableObject::GroupObjects),
+        params: load_share(image, size, LoadableObject::Application),
     }
 }
 
-/// The k-th operation after the two that come before all objects.
-#[tactic(auto, using(crate::proofs::Places::op_at))]
-pub fn object_op(image: &Image, k: u32) -> Op
-    requires fits { Fits image.now }
-    requires within { k + 2 < length (load_operations image.now) }
-    ensures { slice_get (load_plan image.now) (k + 2) ≡ Some result }
+/// How many operations check each object.
+pub fn check_shares(image: &Image, size: PieceSize) -> Shares
+    requires { Fits image.now }
+    ensures addr { result.addr ≡ check_share size LoadableObject.AddressTable image.now.addr }
+    ensures assoc { result.assoc ≡ check_share size LoadableObject.AssociationTable image.now.assoc }
+    ensures objs { result.objs ≡ check_share size LoadableObject.GroupObjects image.now.objs }
+    ensures params { result.params ≡ check_share size LoadableObject.Application image.now.params }
+    ensures bound { all_shares result ≤ 0x4000 }
 {
-    let place = place_at(image, k);
-    let list = list_of(image, place.object);
-    let step = step_at(place.number, piece_count(list));
-    step_operation(place.object, list, step)
+    Shares {
+        addr: check_share(image, size, LoadableObject::AddressTable),
+        assoc: check_share(image, size, LoadableObject::AssociationTable),
+        objs: check_share(image, size, LoadableObject::GroupObjects),
+        params: check_share(image, size, LoadableObject::Application),
+    }
+}
+
+impl Shares {
+    /// How many operations all objects have.
+    pub fn all(self) -> u32
+        requires { all_shares self ≤ 0x4000 }
+        ensures { result ≡ all_shares self }
+    {
+        self.addr + self.assoc + self.objs + self.params
+    }
+
+    /// The place of the k-th operation.
+    pub fn place_at(self, k: u32) -> Place
+        requires { k < all_shares self }
+        ensures place { share_before self result.object + result.number ≡ k }
+        ensures within { result.number < share_of self result.object }
+    {
+        let (object, number) = if k < self.addr {
+            (LoadableObject::AddressTable, k)
+        } else if k - self.addr < self.assoc {
+            (LoadableObject::AssociationTable, k - self.addr)
+        } else if k - self.addr - self.assoc < self.objs {
+            (LoadableObject::GroupObjects, k - self.addr - self.assoc)
+        } else {
+            (
+                LoadableObject::Application,
+                k - self.addr - self.assoc - self.objs,
+            )
+        };
+        Place { object, number }
+    }
 }

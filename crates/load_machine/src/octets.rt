@@ -2,7 +2,7 @@
 
 ghost use Rattle.std.specs.Prelude.{◌≡◌, length};
 ghost use Rattle.knx_model.specs.Loading.{allocation, load_event};
-ghost use Rattle.knx_model.specs.Plan.{load_octets};
+ghost use Rattle.knx_model.specs.Operations.{load_octets};
 
 use knx_model::{ApduOctets, LoadEvent};
 

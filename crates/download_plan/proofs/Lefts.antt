@@ -1,0 +1,161 @@
+-- The plan that is left at a position: which operation is its head, what follows it, and what a note changes.
+use Rattle.std.proofs.Common.{ℕ, zero, suc, ◌≡◌, ◌+◌, ◌-◌, ◌≤◌, ◌<◌, List, [], ◌∷◌, map, length, drop, Option, Some, None, refl, sym, ◌∙◌, ap, subst, arith}
+use Rattle.std.specs.List.{slice_get}
+use Rattle.std.proofs.lemmas.List.{drop_all}
+use Rattle.knx_model.specs.declared.config.Image.{Image}
+use Rattle.knx_model.specs.declared.frames.tpdu.Apdu.{Apdu}
+use Rattle.knx_model.specs.declared.frames.tpdu.Apdu.TheVariants.{DescriptorRead, DescriptorResponse, PropertyRead}
+use Rattle.knx_model.specs.declared.loading.LoadState.TheVariants.{Unloaded}
+use Rattle.knx_model.specs.declared.loading.LoadEvent.TheVariants.{Unload}
+use Rattle.knx_model.specs.declared.loading.LoadableObject.TheVariants.{Application}
+use Rattle.knx_model.specs.declared.plan.Expect.TheVariants.{Note}
+use Rattle.knx_model.specs.declared.plan.Op.{Op}
+use Rattle.knx_model.specs.declared.plan.Op.TheVariants.{Send}
+use Rattle.knx_model.specs.declared.plan.PieceSize.{PieceSize}
+use Rattle.knx_model.specs.ApduReading.{apdu_octets}
+use Rattle.knx_model.specs.Plans.{Plan, Over, Asks, IsHead, IsNoted, followed}
+use Rattle.knx_model.specs.Operations.{Operation, expecting, expect_of, event_then, listed}
+use Rattle.knx_model.specs.LoadPlan.{size_by, opened, noting, load_operations, check_operations}
+use Rattle.download_plan.specs.Step.{op_of}
+use Rattle.download_plan.specs.Left.{Listening, left_of, load_left, check_left, load_count, check_count}
+use Rattle.download_plan.proofs.Places.{load_begins}
+
+-- ---- lists
+
+head_by : (apdu : List ℕ) (expected : Option Apdu) (rest : Plan) → IsHead (Send apdu (expect_of expected)) (Asks apdu (expect_of expected) (λ _. rest)) rest
+head_by apdu None rest = refl
+head_by apdu (Some answer) rest = refl
+
+same_op : (x y : Op) → Some x ≡ Some y → x ≡ y
+same_op x y e = cc
+
+listed_head : (ops : List Operation) (j : ℕ) (op : Op) → slice_get (map op_of ops) j ≡ Some op → IsHead op (listed (drop j ops)) (listed (drop (suc j) ops))
+listed_head [] zero op e = absurd (cc)
+listed_head [] (suc j) op e = absurd (cc)
+listed_head (x ∷ xs) zero op e = subst (λ (y : Op). IsHead y (listed (x ∷ xs)) (listed xs)) (same_op (op_of x) op e) (head_by (apdu_octets x.service) x.expected (listed xs))
+listed_head (x ∷ xs) (suc j) op e = listed_head xs j op e
+
+expected_unnoted : (apdu : List ℕ) (expected : Option Apdu) (next : Option (List ℕ) → Plan) → ¬ IsNoted (Asks apdu (expect_of expected) next)
+expected_unnoted apdu None next h = h
+expected_unnoted apdu (Some answer) next h = h
+
+listed_unnoted : (ops : List Operation) → ¬ IsNoted (listed ops)
+listed_unnoted [] h = h
+listed_unnoted (x ∷ xs) h = expected_unnoted (apdu_octets x.service) x.expected (λ _. listed xs) h
+
+-- ---- positions
+
+left_first : (operations : PieceSize → List Operation) (size : PieceSize) (k : ℕ) (op : Op) → k ≡ 0 → op ≡ op_of (expecting (DescriptorRead 0) (DescriptorResponse 0 (Some 0x07B0))) → IsHead op (left_of operations size k) (left_of operations size (k + 1))
+left_first operations size k op e f =
+    subst (λ (j : ℕ). IsHead op (left_of operations size j) (left_of operations size (j + 1))) (sym e)
+    (subst (λ (y : Op). IsHead y (opened operations) (noting operations)) (sym f) refl)
+
+left_second : (operations : PieceSize → List Operation) (size : PieceSize) (k : ℕ) (op : Op) → k ≡ 1 → op ≡ Send (apdu_octets (PropertyRead 0 56 1 1)) Note → IsHead op (left_of operations size k) (left_of operations size (k + 1))
+left_second operations size k op e f =
+    subst (λ (j : ℕ). IsHead op (left_of operations size j) (left_of operations size (j + 1))) (sym e)
+    (subst (λ (y : Op). IsHead y (noting operations) (left_of operations size 2)) (sym f) (λ answer. listed (operations (size_by answer)), refl))
+
+left_from : (operations : PieceSize → List Operation) (size : PieceSize) (j k : ℕ) (op : Op) → k ≡ j + 2 → slice_get (map op_of (operations size)) j ≡ Some op → IsHead op (left_of operations size k) (left_of operations size (k + 1))
+left_from operations size j k op e f =
+    let one : k ≡ suc (suc j) = omega (arith, e) in
+    let two : k + 1 ≡ suc (suc (suc j)) = omega (arith, e) in
+    subst (λ (i : ℕ). IsHead op (left_of operations size i) (left_of operations size (k + 1))) (sym one)
+    (subst (λ (i : ℕ). IsHead op (listed (drop j (operations size))) (left_of operations size i)) (sym two) (listed_head (operations size) j op f))
+
+left_over : (operations : PieceSize → List Operation) (size : PieceSize) (k : ℕ) → 2 + length (operations size) ≤ k → left_of operations size k ≡ Over
+left_over operations size zero h = absurd (omega (arith, h))
+left_over operations size (suc zero) h = absurd (omega (arith, h))
+left_over operations size (suc (suc k)) h = ap listed (drop_all k (operations size) (omega (arith, h)))
+
+left_noted : (operations : PieceSize → List Operation) (old new : PieceSize) (k : ℕ) (got : List ℕ) → k ≡ 1 → new ≡ size_by (Some got) → left_of operations new (k + 1) ≡ followed (left_of operations old k) got
+left_noted operations old new k got e f =
+    subst (λ (j : ℕ). left_of operations new (j + 1) ≡ followed (left_of operations old j) got) (sym e) (ap (λ (size : PieceSize). listed (operations size)) f)
+
+-- only the second operation is noted
+left_unnoted : (operations : PieceSize → List Operation) (size : PieceSize) (k : ℕ) → IsNoted (left_of operations size k) → k ≡ 1
+left_unnoted operations size zero h = absurd h
+left_unnoted operations size (suc zero) h = refl
+left_unnoted operations size (suc (suc k)) h = absurd (listed_unnoted (drop k (operations size)) h)
+
+-- up to the noted operation the size doesn't matter
+left_before : (operations : PieceSize → List Operation) (old new : PieceSize) (j : ℕ) → j ≤ 1 → left_of operations new j ≡ left_of operations old j
+left_before operations old new zero h = refl
+left_before operations old new (suc zero) h = refl
+left_before operations old new (suc (suc j)) h = absurd (omega (arith, h))
+
+left_is_noted : (operations : PieceSize → List Operation) (size : PieceSize) (k : ℕ) → k ≡ 1 → IsNoted (left_of operations size k)
+left_is_noted operations size k e = subst (λ (j : ℕ). IsNoted (left_of operations size j)) (sym e) tt
+
+-- ---- the load plan
+
+pub load_first : (p : Listening) (k : ℕ) (op : Op) → k ≡ 0 → op ≡ op_of (expecting (DescriptorRead 0) (DescriptorResponse 0 (Some 0x07B0))) → IsHead op (load_left p k) (load_left p (k + 1))
+unfolding load_left
+load_first p k op e f = left_first (load_operations p.image) p.size k op e f
+
+pub load_second : (p : Listening) (k : ℕ) (op : Op) → k ≡ 1 → op ≡ Send (apdu_octets (PropertyRead 0 56 1 1)) Note → IsHead op (load_left p k) (load_left p (k + 1))
+unfolding load_left
+load_second p k op e f = left_second (load_operations p.image) p.size k op e f
+
+pub load_third : (p : Listening) (k : ℕ) (op : Op) → k ≡ 2 → op ≡ op_of (event_then Application Unload Unloaded) → IsHead op (load_left p k) (load_left p (k + 1))
+unfolding load_left
+load_third p k op e f = left_from (load_operations p.image) p.size 0 k op (omega (arith, e)) (load_begins p.image p.size ∙ ap Some (sym f))
+
+pub load_from : (p : Listening) (k : ℕ) (op : Op) → 3 ≤ k → slice_get (map op_of (load_operations p.image p.size)) (k - 3 + 1) ≡ Some op → IsHead op (load_left p k) (load_left p (k + 1))
+unfolding load_left
+load_from p k op h e = left_from (load_operations p.image) p.size (k - 3 + 1) k op (omega (arith, h)) e
+
+pub load_over : (p : Listening) (k : ℕ) → load_count p ≤ k → load_left p k ≡ Over
+unfolding load_left load_count
+load_over p k h = left_over (load_operations p.image) p.size k h
+
+pub load_noted : (old new : Listening) (k : ℕ) (got : List ℕ) → new.image ≡ old.image → k ≡ 1 → new.size ≡ size_by (Some got) → load_left new (k + 1) ≡ followed (load_left old k) got
+unfolding load_left
+load_noted old new k got i e f =
+    subst (λ (image : Image). left_of (load_operations image) new.size (k + 1) ≡ followed (left_of (load_operations old.image) old.size k) got) (sym i) (left_noted (load_operations old.image) old.size new.size k got e f)
+
+pub load_unnoted : (p : Listening) (k : ℕ) → IsNoted (load_left p k) → k ≡ 1
+unfolding load_left
+load_unnoted p k h = left_unnoted (load_operations p.image) p.size k h
+
+pub load_is_noted : (p : Listening) (k : ℕ) → k ≡ 1 → IsNoted (load_left p k)
+unfolding load_left
+load_is_noted p k e = left_is_noted (load_operations p.image) p.size k e
+
+pub load_before : (old new : Listening) (j : ℕ) → new.image ≡ old.image → j ≤ 1 → load_left new j ≡ load_left old j
+unfolding load_left
+load_before old new j i h = ap (λ (image : Image). left_of (load_operations image) new.size j) i ∙ left_before (load_operations old.image) old.size new.size j h
+
+-- ---- the check plan
+
+pub check_first : (p : Listening) (k : ℕ) (op : Op) → k ≡ 0 → op ≡ op_of (expecting (DescriptorRead 0) (DescriptorResponse 0 (Some 0x07B0))) → IsHead op (check_left p k) (check_left p (k + 1))
+unfolding check_left
+check_first p k op e f = left_first (check_operations p.image) p.size k op e f
+
+pub check_second : (p : Listening) (k : ℕ) (op : Op) → k ≡ 1 → op ≡ Send (apdu_octets (PropertyRead 0 56 1 1)) Note → IsHead op (check_left p k) (check_left p (k + 1))
+unfolding check_left
+check_second p k op e f = left_second (check_operations p.image) p.size k op e f
+
+pub check_from : (p : Listening) (k : ℕ) (op : Op) → 2 ≤ k → slice_get (map op_of (check_operations p.image p.size)) (k - 2) ≡ Some op → IsHead op (check_left p k) (check_left p (k + 1))
+unfolding check_left
+check_from p k op h e = left_from (check_operations p.image) p.size (k - 2) k op (omega (arith, h)) e
+
+pub check_over : (p : Listening) (k : ℕ) → check_count p ≤ k → check_left p k ≡ Over
+unfolding check_left check_count
+check_over p k h = left_over (check_operations p.image) p.size k h
+
+pub check_noted : (old new : Listening) (k : ℕ) (got : List ℕ) → new.image ≡ old.image → k ≡ 1 → new.size ≡ size_by (Some got) → check_left new (k + 1) ≡ followed (check_left old k) got
+unfolding check_left
+check_noted old new k got i e f =
+    subst (λ (image : Image). left_of (check_operations image) new.size (k + 1) ≡ followed (left_of (check_operations old.image) old.size k) got) (sym i) (left_noted (check_operations old.image) old.size new.size k got e f)
+
+pub check_unnoted : (p : Listening) (k : ℕ) → IsNoted (check_left p k) → k ≡ 1
+unfolding check_left
+check_unnoted p k h = left_unnoted (check_operations p.image) p.size k h
+
+pub check_is_noted : (p : Listening) (k : ℕ) → k ≡ 1 → IsNoted (check_left p k)
+unfolding check_left
+check_is_noted p k e = left_is_noted (check_operations p.image) p.size k e
+
+pub check_before : (old new : Listening) (j : ℕ) → new.image ≡ old.image → j ≤ 1 → check_left new j ≡ check_left old j
+unfolding check_left
+check_before old new j i h = ap (λ (image : Image). left_of (check_operations image) new.size j) i ∙ left_before (check_operations old.image) old.size new.size j h

@@ -1,0 +1,6 @@
+use Rattle.std.proofs.Common.{arith}
+use Rattle.download_plan.proofs.Places.{check_length}
+use Rattle.download_plan.proofs.check_plan.object_op.Goals as goal
+
+pub place_at-place-requires : goal.place_at-place-requires
+place_at-place-requires c = omega (arith, check_length c.args.image.now c.args.size)
