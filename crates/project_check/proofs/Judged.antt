@@ -1,21 +1,31 @@
 -- Statements are judged one after another.
-use Rattle.std.proofs.Common.{◌≡◌, ℕ, ◌+◌, ◌<◌, ◌≤◌, List, [], ◌∷◌, ◌++◌, length, get_or, take, drop, Some, None, refl, sym, ◌∙◌, add-one, drop-cons}
+use Rattle.std.proofs.Common.{◌≡◌, ℕ, ◌+◌, ◌<◌, ◌≤◌, Bool, true, false, cond, Option, List, [], ◌∷◌, ◌++◌, length, get_or, take, drop, Some, None, refl, sym, ◌∙◌, add-one, drop-cons}
 use Rattle.std.specs.List.{cons_option}
 use Rattle.std.proofs.lemmas.List.{drop_all, take_more}
 use Rattle.knx_model.specs.declared.catalogue.model.NamedModel.{NamedModel}
 use Rattle.knx_model.specs.declared.project.Statement.{Statement}
+use Rattle.knx_model.specs.declared.project.What.{What}
 use Rattle.knx_model.specs.declared.refusal.Why.{Why}
+use Rattle.knx_model.specs.declared.refusal.Why.TheVariants.{NoMemory, DuplicateDevice, DuplicateGroup, UnknownGroup, UnknownModel, DuplicateObject, UnknownObject, DuplicateLink, UnknownParameter, OutOfRange, SizeDiffers, TooMany, NoDevice}
+use Rattle.std.proofs.lemmas.Option.{same_Some}
 use Rattle.knx_model.specs.Rules.{rule_of, broken_at, broken_from, first_broken}
-use Rattle.project_check.specs.Broken.{broken_rules, least}
 use Rattle.project_check.specs.Knowing.{DeclaresAll, Precedes}
 use Rattle.project_check.specs.Links.{IsUpTo}
 use Rattle.project_check.specs.declared.earlier.Earlier.{Earlier}
 use Rattle.project_check.specs.declared.rules.Whole.{Whole}
 
--- the rule of the least number is the least of those that are broken
-pub least_rule : (catalogue : List NamedModel) (before all : List Statement) (s : Statement) → least (broken_rules catalogue before all s.what) ≡ rule_of catalogue before all s.what
+-- want of memory is no rule
+another : (b : Bool) (x : Why) (rest : Option Why) (why : Why) → (x ≡ NoMemory tt → ⊥) → (rest ≡ Some why → why ≡ NoMemory tt → ⊥) → cond b (Some x) rest ≡ Some why → why ≡ NoMemory tt → ⊥
+another true x rest why one later e same = one (same_Some x why e ∙ same)
+another false x rest why one later e same = later e same
+
+pub never_memory : (catalogue : List NamedModel) (before all : List Statement) (what : What) (why : Why) → Some why ≡ rule_of catalogue before all what → why ≡ NoMemory tt → ⊥
 unfolding rule_of
-least_rule catalogue before all s = refl
+never_memory catalogue before all what why e =
+    another _ DuplicateDevice _ why (λ h. cc) (another _ DuplicateGroup _ why (λ h. cc) (another _ UnknownGroup _ why (λ h. cc) (another _ UnknownModel _ why (λ h. cc)
+    (another _ DuplicateObject _ why (λ h. cc) (another _ UnknownObject _ why (λ h. cc) (another _ DuplicateLink _ why (λ h. cc) (another _ UnknownParameter _ why (λ h. cc)
+    (another _ OutOfRange _ why (λ h. cc) (another _ SizeDiffers _ why (λ h. cc) (another _ (TooMany 255) _ why (λ h. cc) (another _ (TooMany 2047) _ why (λ h. cc)
+    (another _ NoDevice None why (λ h. cc) (λ h. absurd (cc)))))))))))))) (sym e)
 
 -- the first i statements break no rule, and these are known of them and of all
 pub record JudgedTo (catalogue : List NamedModel) (ss : List Statement) (earlier : Earlier) (whole : Whole) (i : ℕ) : Type 0 where

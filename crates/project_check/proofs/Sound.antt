@@ -5,15 +5,14 @@ use Rattle.std.proofs.lemmas.Bool.{cases_eq, false≢true}
 use Rattle.std.proofs.lemmas.Bool.Decides.{nat_tests}
 use Rattle.knx_model.specs.declared.catalogue.model.NamedModel.{NamedModel}
 use Rattle.knx_model.specs.declared.project.Statement.{Statement}
+use Rattle.knx_model.specs.declared.project.What.{What}
 use Rattle.knx_model.specs.declared.refusal.Refused.{Refused}
 use Rattle.knx_model.specs.declared.refusal.Why.{Why}
 use Rattle.knx_model.specs.declared.refusal.Why.TheVariants.{DuplicateDevice, DuplicateGroup, UnknownGroup, UnknownModel, DuplicateObject, UnknownObject, DuplicateLink, UnknownParameter, OutOfRange, SizeDiffers, TooMany, NoDevice}
 use Rattle.knx_model.specs.LeastLine.{first_refused}
 use Rattle.knx_model.specs.Rules.{rule_of, broken_at, broken_from, first_broken, duplicate_link}
-use Rattle.project_check.specs.Broken.{broken_rules, least}
+use Rattle.knx_model.specs.Rules as rules
 use Rattle.project_check.specs.Links.{IsUpTo, is_at}
-use Rattle.project_check.specs.declared.broken.Broken.{Broken}
-use Rattle.project_check.proofs.Judged.{least_rule}
 
 -- ---- no rule is broken at any place
 
@@ -43,36 +42,37 @@ sound_at catalogue ss i d e lt =
 
 -- ---- what a line keeps that breaks no rule
 
-pub record IsUnbroken (b : Broken) : Type 0 where
-  pub duplicate_device : b.duplicate_device ≡ false
-  pub unknown_model : b.unknown_model ≡ false
-  pub duplicate_object : b.duplicate_object ≡ false
-  pub duplicate_link : b.duplicate_link ≡ false
-  pub unknown_parameter : b.unknown_parameter ≡ false
-  pub out_of_range : b.out_of_range ≡ false
-  pub too_many_devices : b.too_many_devices ≡ false
-  pub too_many_links : b.too_many_links ≡ false
-  pub no_device : b.no_device ≡ false
+pub record IsUnbroken (catalogue : List NamedModel) (before all : List Statement) (what : What) : Type 0 where
+  pub duplicate_device : rules.duplicate_device before what ≡ false
+  pub unknown_model : rules.unknown_model catalogue what ≡ false
+  pub duplicate_object : rules.duplicate_object catalogue before all what ≡ false
+  pub duplicate_link : rules.duplicate_link before what ≡ false
+  pub unknown_parameter : rules.unknown_parameter catalogue all what ≡ false
+  pub out_of_range : rules.out_of_range catalogue all what ≡ false
+  pub too_many_devices : rules.too_many_devices before what ≡ false
+  pub too_many_links : rules.too_many_links before what ≡ false
+  pub no_device : rules.no_device all what ≡ false
 
 passed : {X : Type 0} (b : Bool) (x : X) (rest : Option X) → cond b (Some x) rest ≡ None → (b ≡ false) × (rest ≡ None)
 passed false x rest e = (refl, e)
 passed true x rest e = absurd (cc)
 
-kept : (b : Broken) → least b ≡ None → IsUnbroken b
-kept b e =
-    let e1 = passed b.duplicate_device DuplicateDevice _ e in
-    let e2 = passed b.duplicate_group DuplicateGroup _ e1.1 in
-    let e3 = passed b.unknown_group UnknownGroup _ e2.1 in
-    let e4 = passed b.unknown_model UnknownModel _ e3.1 in
-    let e5 = passed b.duplicate_object DuplicateObject _ e4.1 in
-    let e6 = passed b.unknown_object UnknownObject _ e5.1 in
-    let e7 = passed b.duplicate_link DuplicateLink _ e6.1 in
-    let e8 = passed b.unknown_parameter UnknownParameter _ e7.1 in
-    let e9 = passed b.out_of_range OutOfRange _ e8.1 in
-    let e10 = passed b.size_differs SizeDiffers _ e9.1 in
-    let e11 = passed b.too_many_devices (TooMany 255) _ e10.1 in
-    let e12 = passed b.too_many_links (TooMany 2047) _ e11.1 in
-    let e13 = passed b.no_device NoDevice _ e12.1 in
+kept : (catalogue : List NamedModel) (before all : List Statement) (what : What) → rule_of catalogue before all what ≡ None → IsUnbroken catalogue before all what
+unfolding rule_of
+kept catalogue before all what e =
+    let e1 = passed (rules.duplicate_device before what) DuplicateDevice _ e in
+    let e2 = passed (rules.duplicate_group before what) DuplicateGroup _ e1.1 in
+    let e3 = passed (rules.unknown_group all what) UnknownGroup _ e2.1 in
+    let e4 = passed (rules.unknown_model catalogue what) UnknownModel _ e3.1 in
+    let e5 = passed (rules.duplicate_object catalogue before all what) DuplicateObject _ e4.1 in
+    let e6 = passed (rules.unknown_object catalogue all what) UnknownObject _ e5.1 in
+    let e7 = passed (rules.duplicate_link before what) DuplicateLink _ e6.1 in
+    let e8 = passed (rules.unknown_parameter catalogue all what) UnknownParameter _ e7.1 in
+    let e9 = passed (rules.out_of_range catalogue all what) OutOfRange _ e8.1 in
+    let e10 = passed (rules.size_differs catalogue all what) SizeDiffers _ e9.1 in
+    let e11 = passed (rules.too_many_devices before what) (TooMany 255) _ e10.1 in
+    let e12 = passed (rules.too_many_links before what) (TooMany 2047) _ e11.1 in
+    let e13 = passed (rules.no_device all what) NoDevice _ e12.1 in
     record {
       duplicate_device = e1.0;
       unknown_model = e4.0;
@@ -86,12 +86,12 @@ kept b e =
     }
 
 pub unbroken_at : (catalogue : List NamedModel) (ss : List Statement) (i : ℕ) (d : Statement) → first_broken catalogue ss ≡ None → i < length ss
-    → IsUnbroken (broken_rules catalogue (take i ss) ss (get_or ss i d).what)
-unbroken_at catalogue ss i d e lt = kept (broken_rules catalogue (take i ss) ss (get_or ss i d).what) (least_rule catalogue (take i ss) ss (get_or ss i d) ∙ sound_at catalogue ss i d e lt)
+    → IsUnbroken catalogue (take i ss) ss (get_or ss i d).what
+unbroken_at catalogue ss i d e lt = kept catalogue (take i ss) ss (get_or ss i d).what (sound_at catalogue ss i d e lt)
 
 -- a line that breaks no rule repeats no link
 pub repeats_none : (catalogue : List NamedModel) (before all : List Statement) (s : Statement) → rule_of catalogue before all s.what ≡ None → duplicate_link before s.what ≡ false
-repeats_none catalogue before all s e = (kept (broken_rules catalogue before all s.what) (least_rule catalogue before all s ∙ e)).duplicate_link
+repeats_none catalogue before all s e = (kept catalogue before all s.what e).duplicate_link
 
 pub up_to_start : (first : Option ℕ) → IsUpTo first 0
 up_to_start None = tt

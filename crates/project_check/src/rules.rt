@@ -4,22 +4,30 @@ ghost use Rattle.std.specs.Prelude.{◌≡◌, ◌≢◌, ◌&&◌, true, ℕ, L
 ghost use Rattle.knx_model.specs.declared.catalogue.model.NamedModel.{NamedModel};
 ghost use Rattle.knx_model.specs.declared.project.Statement.{Statement as Stated};
 ghost use Rattle.knx_model.specs.declared.project.What.TheVariants.{Device as DeviceLine, Object as ObjectLine, Link as LinkLine, Flags as FlagsLine, Param as ParamLine};
-ghost use Rattle.knx_model.specs.declared.refusal.Why.TheVariants.{NoMemory};
-ghost use Rattle.knx_model.specs.Rules.{some_line, duplicate_object, duplicate_link, size_of_first, first_linked, differ};
-ghost use Rattle.project_check.specs.Broken.{broken_rules, least};
+ghost use Rattle.knx_model.specs.Rules.{rule_of, some_line, duplicate_object, duplicate_link, size_of_first, first_linked, differ};
 ghost use Rattle.project_check.specs.Keys.{names_model};
 ghost use Rattle.project_check.specs.Knowing.{AreNamed, DeclaresAll, repeats, IsNamed};
 ghost use Rattle.project_check.specs.Links.{is_at};
 
-use crate::broken::Broken;
+use crate::broken::first_broken_rule;
 use crate::by_address::ByAddress;
 use crate::declared::{Declared, first_sizes};
-use crate::earlier::Repeated;
+use crate::earlier::{MOST_DEVICES, MOST_LINKS, Repeated};
 use crate::group_object::GroupObject;
 use crate::links::{first_repeat, link_lines};
 use crate::named_models::NamedModels;
 use knx_model::{GroupAddr, IndAddr, Statement, What, Why};
 use std::alloc::{AllocError, Global};
+
+/// The 256th `device` line.
+const TOO_MANY_DEVICES: Why = Why::TooMany {
+    limit: MOST_DEVICES as u32,
+};
+
+/// The 2,048th `link` line of a device.
+const TOO_MANY_LINKS: Why = Why::TooMany {
+    limit: MOST_LINKS as u32,
+};
 
 /// What is known of a whole text: what it declares, the size code of the group object of the first link of each group, none where
 /// the group has no link, and the place of the first `link` line that repeats an earlier one.
@@ -61,27 +69,25 @@ impl<'b, 'a> Whole<'b, 'a> {
         })
     }
 
-    /// The rules that a `device` line breaks.
-    fn device_broken(&self, repeated: Repeated, model: &'a [u8]) -> Broken
-        ensures { (device : IndAddr) (catalogue : List NamedModel) (before all : List Stated) → DeclaresAll catalogue self.now all → some_line (names_model model.now) all ≡ true → repeated ≡ repeats before (DeviceLine device model.now) → result ≡ broken_rules catalogue before all (DeviceLine device model.now) }
+    /// The first rule that a `device` line breaks.
+    fn device_broken(&self, repeated: Repeated, model: &'a [u8]) -> Option<Why>
+        ensures { (device : IndAddr) (catalogue : List NamedModel) (before all : List Stated) → DeclaresAll catalogue self.now all → some_line (names_model model.now) all ≡ true → repeated ≡ repeats before (DeviceLine device model.now) → result ≡ rule_of catalogue before all (DeviceLine device model.now) }
     {
-        Broken {
-            duplicate_device: repeated.device,
-            unknown_model: self.models.named(model).is_none(),
-            too_many_devices: repeated.devices_full,
-            ..Broken::none()
-        }
+        let unknown = self.models.named(model).is_none();
+        first_broken_rule(&[
+            (repeated.device, Why::DuplicateDevice),
+            (unknown, Why::UnknownModel),
+            (repeated.devices_full, TOO_MANY_DEVICES),
+        ])
     }
 
-    /// The rules that an `object` line breaks.
-    fn object_broken(&self, repeated: Repeated, device: IndAddr, n: u8) -> Broken
-        ensures { (size flags : ℕ) (catalogue : List NamedModel) (before all : List Stated) → DeclaresAll catalogue self.now all → repeated ≡ repeats before (ObjectLine device n size flags) → result ≡ broken_rules catalogue before all (ObjectLine device n size flags) }
+    /// The first rule that an `object` line breaks.
+    fn object_broken(&self, repeated: Repeated, device: IndAddr, n: u8) -> Option<Why>
+        ensures { (size flags : ℕ) (catalogue : List NamedModel) (before all : List Stated) → DeclaresAll catalogue self.now all → repeated ≡ repeats before (ObjectLine device n size flags) → result ≡ rule_of catalogue before all (ObjectLine device n size flags) }
     {
-        Broken {
-            duplicate_object: self.has_twice(repeated, device, n),
-            no_device: !self.declared.has_device(device.raw),
-            ..Broken::none()
-        }
+        let twice = self.has_twice(repeated, device, n);
+        let declared = self.declared.has_device(device.raw);
+        first_broken_rule(&[(twice, Why::DuplicateObject), (!declared, Why::NoDevice)])
     }
 
     /// Whether an object is in the model of its device, or in an earlier line, where the model is known.
@@ -94,7 +100,7 @@ impl<'b, 'a> Whole<'b, 'a> {
         }
     }
 
-    /// The rules that a `link` line breaks.
+    /// The first rule that a `link` line breaks.
     fn link_broken(
         &self,
         place: usize,
@@ -102,23 +108,26 @@ impl<'b, 'a> Whole<'b, 'a> {
         device: IndAddr,
         object: u8,
         group: GroupAddr,
-    ) -> Broken
-        ensures { (catalogue : List NamedModel) (before all : List Stated) → DeclaresAll catalogue self.now all → repeated ≡ repeats before (LinkLine device object group) → duplicate_link before (LinkLine device object group) ≡ is_at self.now.first_repeat place → result ≡ broken_rules catalogue before all (LinkLine device object group) }
+    ) -> Option<Why>
+        ensures { (catalogue : List NamedModel) (before all : List Stated) → DeclaresAll catalogue self.now all → repeated ≡ repeats before (LinkLine device object group) → duplicate_link before (LinkLine device object group) ≡ is_at self.now.first_repeat place → result ≡ rule_of catalogue before all (LinkLine device object group) }
     {
         let known = self.declared.known_object(GroupObject {
             device: device.raw,
             number: object,
         });
+        let has_group = self.declared.has_group(group.raw);
+        let missing = known.is_missing();
+        let twice = self.repeats_link(place);
         let declared = self.declared.has_device(device.raw);
-        Broken {
-            unknown_group: !self.declared.has_group(group.raw),
-            unknown_object: known.is_missing(),
-            duplicate_link: self.repeats_link(place),
-            size_differs: self.size_differs(declared, known.size, group.raw),
-            too_many_links: repeated.links_full,
-            no_device: !declared,
-            ..Broken::none()
-        }
+        let differs = self.size_differs(declared, known.size, group.raw);
+        first_broken_rule(&[
+            (!has_group, Why::UnknownGroup),
+            (missing, Why::UnknownObject),
+            (twice, Why::DuplicateLink),
+            (differs, Why::SizeDiffers),
+            (repeated.links_full, TOO_MANY_LINKS),
+            (!declared, Why::NoDevice),
+        ])
     }
 
     /// Whether the line at a place is the first that repeats a link.
@@ -145,61 +154,54 @@ impl<'b, 'a> Whole<'b, 'a> {
         declared && differ(size, self.first_size(group))
     }
 
-    /// The rules that a `flags` line breaks.
-    fn flags_broken(&self, device: IndAddr, object: u8) -> Broken
-        ensures { (flags : ℕ) (catalogue : List NamedModel) (before all : List Stated) → DeclaresAll catalogue self.now all → result ≡ broken_rules catalogue before all (FlagsLine device object flags) }
+    /// The first rule that a `flags` line breaks.
+    fn flags_broken(&self, device: IndAddr, object: u8) -> Option<Why>
+        ensures { (flags : ℕ) (catalogue : List NamedModel) (before all : List Stated) → DeclaresAll catalogue self.now all → result ≡ rule_of catalogue before all (FlagsLine device object flags) }
     {
         let known = self.declared.known_object(GroupObject {
             device: device.raw,
             number: object,
         });
-        Broken {
-            unknown_object: known.is_missing(),
-            no_device: !self.declared.has_device(device.raw),
-            ..Broken::none()
-        }
+        let missing = known.is_missing();
+        let declared = self.declared.has_device(device.raw);
+        first_broken_rule(&[(missing, Why::UnknownObject), (!declared, Why::NoDevice)])
     }
 
-    /// The rules that a `param` line breaks.
-    fn param_broken(&self, device: IndAddr, name: &[u8], value: u32) -> Broken
-        ensures { (catalogue : List NamedModel) (before all : List Stated) → DeclaresAll catalogue self.now all → result ≡ broken_rules catalogue before all (ParamLine device name.now value) }
+    /// The first rule that a `param` line breaks.
+    fn param_broken(&self, device: IndAddr, name: &[u8], value: u32) -> Option<Why>
+        ensures { (catalogue : List NamedModel) (before all : List Stated) → DeclaresAll catalogue self.now all → result ≡ rule_of catalogue before all (ParamLine device name.now value) }
     {
         let known = self.declared.known_parameter(device.raw, name);
-        Broken {
-            unknown_parameter: known.is_unknown(),
-            out_of_range: known.excludes(value),
-            no_device: !self.declared.has_device(device.raw),
-            ..Broken::none()
-        }
+        let unknown = known.is_unknown();
+        let outside = known.excludes(value);
+        let declared = self.declared.has_device(device.raw);
+        first_broken_rule(&[
+            (unknown, Why::UnknownParameter),
+            (outside, Why::OutOfRange),
+            (!declared, Why::NoDevice),
+        ])
     }
 
     /// The rule of the least number that a statement breaks.
     pub fn first_rule(&self, place: usize, repeated: Repeated, what: &'a What<'a>) -> Option<Why>
-        ensures rule { (catalogue : List NamedModel) (before all : List Stated) → DeclaresAll catalogue self.now all → IsNamed all what.now → repeated ≡ repeats before what.now → duplicate_link before what.now ≡ is_at self.now.first_repeat place → result ≡ least (broken_rules catalogue before all what.now) }
-        ensures never { IfSome result (λ why. why ≢ NoMemory tt) }
+        ensures { (catalogue : List NamedModel) (before all : List Stated) → DeclaresAll catalogue self.now all → IsNamed all what.now → repeated ≡ repeats before what.now → duplicate_link before what.now ≡ is_at self.now.first_repeat place → result ≡ rule_of catalogue before all what.now }
     {
         match what {
             What::Title(_) => None,
-            What::Group { .. } => Broken {
-                duplicate_group: repeated.group,
-                ..Broken::none()
-            }
-            .least(),
-            What::Device { model, .. } => self.device_broken(repeated, model.as_slice()).least(),
-            What::Object { device, n, .. } => self.object_broken(repeated, *device, *n).least(),
+            What::Group { .. } => first_broken_rule(&[(repeated.group, Why::DuplicateGroup)]),
+            What::Device { model, .. } => self.device_broken(repeated, model.as_slice()),
+            What::Object { device, n, .. } => self.object_broken(repeated, *device, *n),
             What::Link {
                 device,
                 object,
                 group,
-            } => self
-                .link_broken(place, repeated, *device, *object, *group)
-                .least(),
-            What::Flags { device, object, .. } => self.flags_broken(*device, *object).least(),
+            } => self.link_broken(place, repeated, *device, *object, *group),
+            What::Flags { device, object, .. } => self.flags_broken(*device, *object),
             What::Param {
                 device,
                 name,
                 value,
-            } => self.param_broken(*device, name.as_slice(), *value).least(),
+            } => self.param_broken(*device, name.as_slice(), *value),
         }
     }
 }

@@ -1,14 +1,15 @@
 use Rattle.std.proofs.Common.{◌≡◌, ◌&&◌, refl, ap, ◌∙◌}
 use Rattle.std.specs.Prelude.{is_none}
-use Rattle.knx_model.specs.Rules.{asked_of, model_of, is_no_object}
+use Rattle.knx_model.specs.Rules.{rule_of, asked_of, model_of, is_no_object}
 use Rattle.project_check.specs.declared.known.KnownObject.{KnownObject}
 use Rattle.project_check.proofs.Asked.{missing}
 use Rattle.project_check.proofs.rules.Whole.flags_broken.Goals as goal
 
 pub returns : goal.returns
+unfolding rule_of
 returns c = λ flags catalogue before all h.
     let d = c.args.device.raw in
     let n = c.args.object in
-    let lacks : c.is_missing.result ≡ asked_of (model_of catalogue all d) (is_no_object all d n) =
-    c.is_missing.ensures ∙ ap (λ (l : KnownObject). l.modelled && is_none l.size) (c.known_object-known.ensures catalogue all h.declared) ∙ missing catalogue all d n in
-    rw (c.none.ensures, lacks, c.has_device.ensures catalogue all h.declared) refl
+    let lacks : c.is_missing-missing.result ≡ asked_of (model_of catalogue all d) (is_no_object all d n) =
+    c.is_missing-missing.ensures ∙ ap (λ (l : KnownObject). l.modelled && is_none l.size) (c.known_object-known.ensures catalogue all h.declared) ∙ missing catalogue all d n in
+    c.first_broken_rule.ensures ∙ rw (lacks, c.has_device-declared.ensures catalogue all h.declared) refl
