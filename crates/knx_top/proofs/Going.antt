@@ -14,8 +14,8 @@ use Rattle.knx_model.proofs.Leads.{Leads, Leads-by_runs}
 use Rattle.knx_top.specs.declared.event.BenchEvent.{BenchEvent}
 use Rattle.knx_top.specs.declared.event.BenchEvent.TheVariants.{Give, GiveTorn, On}
 use Rattle.knx_top.specs.declared.download.Asked.{Asked}
-use Rattle.knx_top.specs.Attempt.{IsNextFrom, GivesAll, Begins, Moves, Passes, CutsOff, EndsCutOff, StopsIn, plan_after}
-use Rattle.knx_top.specs.Attempts.{GaveUpTo, NothingYet, Next, WereCutOff, NoneYet, OneMore, GotThrough, WasBegun, HasGiven, WasCut, KeptToPlan, InAttempt, AfterThree}
+use Rattle.knx_top.specs.Attempt.{IsNextFrom, GivesWhole, Begins, Moves, Passes, CutsOff, EndsCutOff, StopsIn, plan_after}
+use Rattle.knx_top.specs.Attempts.{WasGiven, NothingYet, Next, WereCutOff, NoneYet, OneMore, GotThrough, WasBegun, HasGiven, WasCut, KeptToPlan, InAttempt, AfterThree}
 use Rattle.knx_top.specs.Bench.{Trace, happens, replay, now, after, answered, cut_after, Went}
 use Rattle.knx_top.proofs.Traces.{replay_last, Went_none, Went_more, Went_join, Went_weaker, Went_now}
 
@@ -54,10 +54,10 @@ power_on t = rw (now_after t On) (either_power (now t).power (now t) (record (at
 -- ---- the events that give a plan
 
 -- one operation more was given
-gave_next : (plan left : Plan) (d : DeviceState) (given : List BenchEvent) (apdu : List ℕ) (expect : Expect) (next : Option (List ℕ) → Plan) → GaveUpTo plan left d given → left ≡ Asks apdu expect next
-    → Suits apdu expect (answered (replay d given) apdu) → GaveUpTo plan (next (answered (replay d given) apdu)) d (given ++ Give apdu ∷ [])
+gave_next : (plan left : Plan) (d : DeviceState) (given : List BenchEvent) (apdu : List ℕ) (expect : Expect) (next : Option (List ℕ) → Plan) → WasGiven plan left d given → left ≡ Asks apdu expect next
+    → Suits apdu expect (answered (replay d given) apdu) → WasGiven plan (next (answered (replay d given) apdu)) d (given ++ Give apdu ∷ [])
 gave_next _ _ _ _ apdu expect next (NothingYet plan d) e s =
-    subst (λ (p : Plan). GaveUpTo p (next (answered d apdu)) d (Give apdu ∷ [])) (sym e)
+    subst (λ (p : Plan). WasGiven p (next (answered d apdu)) d (Give apdu ∷ [])) (sym e)
     (Next apdu expect next (next (answered d apdu)) d [] s (NothingYet (next (answered d apdu)) (happens d (Give apdu))))
 gave_next _ _ _ _ apdu expect next (Next first wants follows left d events suits more) e s =
     Next first wants follows (next (answered (replay (happens d (Give first)) events) apdu)) d (events ++ Give apdu ∷ []) suits
@@ -79,7 +79,7 @@ pub record IsGoing (plan : Plan) (first here : Trace) (left : Plan) : Type 0 whe
   pub given : List BenchEvent
   pub events : here.events ≡ first.events ++ given
   pub start : here.start ≡ first.start
-  pub gave : GaveUpTo plan left (now first) given
+  pub was_given : WasGiven plan left (now first) given
   pub power : (now here).power ≡ true
   pub serves : AnswersAll (answer_in (now here).frames) left (now here).kept
   pub led : (image : Image) → GoodPlan plan image → IsLed image first here left
@@ -90,7 +90,7 @@ starts plan t power serves = record {
   given = [];
   events = sym (append-nil t.events);
   start = refl;
-  gave = NothingYet plan (now t);
+  was_given = NothingYet plan (now t);
   power = power;
   serves = serves;
   led = λ image good. record {
@@ -148,8 +148,8 @@ goes_on plan apdu expect next first here new answer g p =
       given = g.given ++ Give apdu ∷ [];
       events = rw (p.taken, g.events) (append_assoc first.events g.given (Give apdu ∷ []));
       start = rw p.taken g.start;
-      gave = subst (λ (got : Option (List ℕ)). GaveUpTo plan (next got) (now first) (g.given ++ Give apdu ∷ [])) (ap (λ (d : DeviceState). answered d apdu) (sym (here_is plan (Asks apdu expect next) first here g)) ∙ sym p.answer_is)
-          (gave_next plan (Asks apdu expect next) (now first) g.given apdu expect next g.gave refl (subst (λ (d : DeviceState). Suits apdu expect (answered d apdu)) (here_is plan (Asks apdu expect next) first here g) suits));
+      was_given = subst (λ (got : Option (List ℕ)). WasGiven plan (next got) (now first) (g.given ++ Give apdu ∷ [])) (ap (λ (d : DeviceState). answered d apdu) (sym (here_is plan (Asks apdu expect next) first here g)) ∙ sym p.answer_is)
+          (gave_next plan (Asks apdu expect next) (now first) g.given apdu expect next g.was_given refl (subst (λ (d : DeviceState). Suits apdu expect (answered d apdu)) (here_is plan (Asks apdu expect next) first here g) suits));
       power = rw p.taken (power_whole here apdu g.power);
       serves = rw (kept, frames, a) g.serves.1;
       led = λ image good.
@@ -171,23 +171,23 @@ ends_cut_off plan apdu expect next first here new g c =
     record {
       events = g.given ++ torn ∷ On ∷ [];
       more = rw (c.is, g.events) (cut_events first.events g.given torn);
-      cut_off = record { given = g.given; apdu = apdu; expect = expect; next = next; gave = g.gave; fresh = c.fresh; octets = c.octets; events_are = refl };
+      cut_off = record { given = g.given; apdu = apdu; expect = expect; next = next; was_given = g.was_given; fresh = c.fresh; octets = c.octets; events_are = refl };
     }
 
 -- memory was wanting in the next operation
 pub begins : (plan : Plan) (apdu : List ℕ) (expect : Expect) (next : Option (List ℕ) → Plan) (first here new : Trace) → IsGoing plan first here (Asks apdu expect next) → StopsIn apdu here new → Begins plan first new
-begins plan apdu expect next first here new g (inl n) = record { events = g.given; more = rw n g.events; begun = HasGiven (Asks apdu expect next) g.given g.gave }
+begins plan apdu expect next first here new g (inl n) = record { events = g.given; more = rw n g.events; begun = HasGiven (Asks apdu expect next) g.given g.was_given }
 begins plan apdu expect next first here new g (inr n) =
     let torn : BenchEvent = GiveTorn apdu n.0 n.1.0 in
     record {
       events = g.given ++ torn ∷ [];
       more = rw (n.1.1, g.events) (append_assoc first.events g.given (torn ∷ []));
-      begun = WasCut apdu expect next n.0 n.1.0 g.given g.gave;
+      begun = WasCut apdu expect next n.0 n.1.0 g.given g.was_given;
     }
 
 -- nothing is left
-pub gives_all : (plan : Plan) (first here : Trace) → IsGoing plan first here Over → GivesAll plan first here
-gives_all plan first here g = record { events = g.given; more = g.events; gave = g.gave }
+pub gives_all : (plan : Plan) (first here : Trace) → IsGoing plan first here Over → GivesWhole plan first here
+gives_all plan first here g = record { events = g.given; more = g.events; was_given = g.was_given }
 
 pub runs_it : (plan : Plan) (first here : Trace) → IsGoing plan first here Over → (image : Image) → GoodPlan plan image → runs (now here).kept ≡ Some image
 runs_it plan first here g image good = (g.led image good).leads.1
@@ -244,14 +244,14 @@ pub one_more : (plan : Plan) (n : ℕ) (old new : Trace) → new.start ≡ old.s
 one_more plan n old new start were ends = rw (start, ends.more) (OneMore n old.events ends.events were ends.cut_off)
 
 -- the next attempt got through
-pub got_through : (plan : Plan) (n : ℕ) (old new : Trace) → n < 3 → new.start ≡ old.start → WereCutOff plan old.start n old.events → GivesAll plan old new → GotThrough plan new
+pub got_through : (plan : Plan) (n : ℕ) (old new : Trace) → n < 3 → new.start ≡ old.start → WereCutOff plan old.start n old.events → GivesWhole plan old new → GotThrough plan new
 got_through plan n old new fewer start were whole = record {
   cuts = n;
   fewer = fewer;
   front = old.events;
   last = whole.events;
   cut_off = rw start were;
-  gave = rw start whole.gave;
+  was_given = rw start whole.was_given;
   events_are = whole.more;
 }
 
@@ -261,7 +261,7 @@ kept_wanting plan n old new fewer start were b = InAttempt n fewer old.events b.
 
 -- a run that got through has kept to the plan
 pub kept_through : (plan : Plan) (t : Trace) → GotThrough plan t → KeptToPlan plan t
-kept_through plan t g = InAttempt g.cuts g.fewer g.front g.last g.cut_off (HasGiven Over g.last g.gave) g.events_are
+kept_through plan t g = InAttempt g.cuts g.fewer g.front g.last g.cut_off (HasGiven Over g.last g.was_given) g.events_are
 
 -- a new attempt begins from content that is already one of the cases
 case_case : (start mid : NonVolatile) (image : Image) → OldStoppedOrImage start image mid → (u : NonVolatile) → OldStoppedOrImage mid image u → OldStoppedOrImage start image u

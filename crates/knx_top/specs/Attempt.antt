@@ -8,7 +8,7 @@ use Rattle.knx_top.specs.declared.event.BenchEvent.TheVariants.{Give, GiveTorn, 
 use Rattle.knx_top.specs.declared.download.Asked.{Asked}
 use Rattle.knx_top.specs.declared.download.Reply.{Reply}
 use Rattle.knx_top.specs.declared.download.Reply.TheVariants.{Answer, CutOff}
-use Rattle.knx_top.specs.Attempts.{GaveAll, WasBegun, WasCutOff}
+use Rattle.knx_top.specs.Attempts.{WasGivenWhole, WasBegun, WasCutOff}
 use Rattle.knx_top.specs.Bench.{Trace, now, after, answered}
 use Rattle.knx_top.specs.Script.{Follows, write_count}
 
@@ -61,10 +61,10 @@ StopsIn apdu old new = (new ≡ old) ⊎ ((fresh : Bool) × ((octets : List ℕ)
 -- ---- an attempt
 
 -- from old to new the whole plan was given
-pub record GivesAll (plan : Plan) (old new : Trace) : Type 0 where
+pub record GivesWhole (plan : Plan) (old new : Trace) : Type 0 where
   pub events : List BenchEvent
   pub more : new.events ≡ old.events ++ events
-  pub gave : GaveAll plan (now old) events
+  pub was_given : WasGivenWhole plan (now old) events
 
 -- from old to new there was an attempt that a cut ended
 pub record EndsCutOff (plan : Plan) (old new : Trace) : Type 0 where

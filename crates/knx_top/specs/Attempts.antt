@@ -10,16 +10,16 @@ use Rattle.knx_top.specs.Bench.{Trace, happens, answered, replay}
 
 -- ---- a plan that is given
 
--- From the device d on, these events gave a plan up to the plan that is left. No event came, and all of it is left; or its first operation
--- was given whole and answered as wanted, and then the plan that follows this answer was given up to what is left.
-pub data GaveUpTo : Plan → Plan → DeviceState → List BenchEvent → Type 0 where
-  NothingYet : (plan : Plan) (d : DeviceState) → GaveUpTo plan plan d []
+-- These events, from the device d on, gave the beginning of a plan, and the other plan is left of it. Either no event came, and all of it
+-- is left; or its first operation was given whole and answered as wanted, and then the beginning of the plan that follows this answer.
+pub data WasGiven : Plan → Plan → DeviceState → List BenchEvent → Type 0 where
+  NothingYet : (plan : Plan) (d : DeviceState) → WasGiven plan plan d []
   Next : (apdu : List ℕ) (expect : Expect) (next : Option (List ℕ) → Plan) (left : Plan) (d : DeviceState) (events : List BenchEvent)
-      → Suits apdu expect (answered d apdu) → GaveUpTo (next (answered d apdu)) left (happens d (Give apdu)) events → GaveUpTo (Asks apdu expect next) left d (Give apdu ∷ events)
+      → Suits apdu expect (answered d apdu) → WasGiven (next (answered d apdu)) left (happens d (Give apdu)) events → WasGiven (Asks apdu expect next) left d (Give apdu ∷ events)
 
 -- these events, from the device d on, gave the whole plan
-abbrev pub GaveAll : Plan → DeviceState → List BenchEvent → Type 0
-GaveAll plan d events = GaveUpTo plan Over d events
+abbrev pub WasGivenWhole : Plan → DeviceState → List BenchEvent → Type 0
+WasGivenWhole plan d events = WasGiven plan Over d events
 
 -- ---- the attempts of a job
 
@@ -30,7 +30,7 @@ pub record WasCutOff (plan : Plan) (d : DeviceState) (events : List BenchEvent) 
   pub apdu : List ℕ
   pub expect : Expect
   pub next : Option (List ℕ) → Plan
-  pub gave : GaveUpTo plan (Asks apdu expect next) d given
+  pub was_given : WasGiven plan (Asks apdu expect next) d given
   pub fresh : Bool
   pub octets : List ℕ
   pub events_are : events ≡ given ++ GiveTorn apdu fresh octets ∷ On ∷ []
@@ -47,15 +47,15 @@ pub record GotThrough (plan : Plan) (t : Trace) : Type 0 where
   pub front : List BenchEvent
   pub last : List BenchEvent
   pub cut_off : WereCutOff plan t.start cuts front
-  pub gave : GaveAll plan (replay t.start front) last
+  pub was_given : WasGivenWhole plan (replay t.start front) last
   pub events_are : t.events ≡ front ++ last
 
 -- These events, from the device d on, are a beginning of an attempt: operations of the plan, from its first on, were given whole and
 -- each was answered as wanted, and then power may have been cut in the next one.
 pub data WasBegun (plan : Plan) (d : DeviceState) : List BenchEvent → Type 0 where
-  HasGiven : (left : Plan) (given : List BenchEvent) → GaveUpTo plan left d given → WasBegun plan d given
+  HasGiven : (left : Plan) (given : List BenchEvent) → WasGiven plan left d given → WasBegun plan d given
   WasCut : (apdu : List ℕ) (expect : Expect) (next : Option (List ℕ) → Plan) (fresh : Bool) (octets : List ℕ) (given : List BenchEvent)
-      → GaveUpTo plan (Asks apdu expect next) d given → WasBegun plan d (given ++ GiveTorn apdu fresh octets ∷ [])
+      → WasGiven plan (Asks apdu expect next) d given → WasBegun plan d (given ++ GiveTorn apdu fresh octets ∷ [])
 
 -- all events of a run so far are fewer than three attempts that a cut ended and then a beginning of one more, or three that a cut ended,
 -- and nothing more

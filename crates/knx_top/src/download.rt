@@ -9,7 +9,7 @@ ghost use Rattle.knx_model.specs.GoodPlan.{OldStoppedOrImage, GoodPlan, AnswersA
 ghost use Rattle.knx_model.specs.Plans.{IsHead, Suits};
 ghost use Rattle.knx_top.specs.Bench.{now, Went};
 ghost use Rattle.knx_top.specs.Script.{cut_for, number_with, Follows};
-ghost use Rattle.knx_top.specs.Attempt.{Finds, plan_after, Moves, Came, StopsIn, GivesAll, EndsCutOff, Begins, IsScripted};
+ghost use Rattle.knx_top.specs.Attempt.{Finds, plan_after, Moves, Came, StopsIn, GivesWhole, EndsCutOff, Begins, IsScripted};
 ghost use Rattle.knx_top.specs.Attempts.{WereCutOff, GotThrough, KeptToPlan};
 
 use crate::bench::Run;
@@ -152,7 +152,7 @@ fn attempt<P: PlanSource>(
     ensures power { OnOk result ((now run.new).power ≡ true) }
     ensures wanting { OnErr result (Begins (P.left plan.old 0) run.old run.new) }
     ensures closed { IfOk result (λ ending. ending ≡ AttemptEnd.Closed → EndsCutOff (P.left plan.old 0) run.old run.new) }
-    ensures whole { IfOk result (λ ending. ending ≡ AttemptEnd.Done → GivesAll (P.left plan.old 0) run.old run.new) }
+    ensures whole { IfOk result (λ ending. ending ≡ AttemptEnd.Done → GivesWhole (P.left plan.old 0) run.old run.new) }
     ensures done { IfOk result (λ ending. ending ≡ AttemptEnd.Done → (image : Image) → GoodPlan (P.left plan.old 0) image → runs (now run.new).kept ≡ Some image) }
 {
     run.facts();
