@@ -1,0 +1,17 @@
+-- What a dialer tells: the host and the port number that it was given last; and how its count of faults takes in those of what comes back.
+use Rattle.std.specs.Prelude.{◌≡◌, ℕ, zero, suc, List, Option, Some, None}
+use Rattle.knx_model.specs.Outside.{one_more}
+
+pub record Address : Type 0 where
+  pub host : List ℕ
+  pub port : ℕ
+
+-- a dialer that tells what it was given tells just this
+abbrev pub Tells : List ℕ → ℕ → Option Address → Type 0
+Tells host port None = Unit {0}
+Tells host port (Some address) = address ≡ record { host = host; port = port }
+
+-- the dialer's count rises, or stands at its last value, exactly where the count of what came back isn't 0
+abbrev pub TakesBack : ℕ → ℕ → ℕ → Type 0
+TakesBack zero old new = new ≡ old
+TakesBack (suc faults) old new = new ≡ one_more old

@@ -1,0 +1,125 @@
+-- What a link tells of itself: nothing, as a socket; its record alone; or its start and its events, off which the record is read. And what a
+-- sending, a new endpoint and a poll may do to that. A sending adds itself; a poll adds legal events that are not the client's, and then the
+-- datagram that is got, or a quiet wait. A call that fails may have added its own sending, or legal events without a datagram. Where a link
+-- tells something, time moves in polls alone.
+use Rattle.std.specs.Prelude.{◌≡◌, ℕ, ◌+◌, ◌-◌, ◌^◌, ◌≤◌, ◌⊎◌, min, Bool, true, false, List, [], ◌∷◌, ◌++◌, length, Option, Some, None}
+use Rattle.line_model.specs.Tunnel.{Commissions}
+use Rattle.line_model.specs.World.{World, Event, Send, From, Renew, Down, Pass, now, replay}
+use Rattle.line_model.specs.Legal.{MayHappen}
+use Rattle.line_model.specs.Fresh.{IsFresh}
+use Rattle.line_model.specs.Record.{Item, Put, Renewed, Got, Quiet, Entry, entry, item_at, record_of, Placed, placed, counted}
+
+pub data Story : Type 0 where
+  Untold : Story
+  Recorded : List Entry → Story
+  Full : World → List Event → Story
+
+-- ---- what it says of record and places, where it tells them
+
+abbrev pub record_in : Story → Option (List Entry)
+record_in Untold = None
+record_in (Recorded r) = Some r
+record_in (Full start events) = Some (record_of start events)
+
+abbrev pub places_in : Story → Option (List Placed)
+places_in Untold = None
+places_in (Recorded r) = Some (counted r)
+places_in (Full start events) = Some (placed start events)
+
+-- ---- its time and its place: how many events there were or, where the record alone is told, how many entries
+
+abbrev pub newest_time : List Entry → ℕ
+newest_time [] = 0
+newest_time (x ∷ r) = x.now
+
+-- a number of 64 bits stands still at its greatest
+abbrev pub capped : ℕ → ℕ
+capped n = min n (2 ^ 64 - 1)
+
+abbrev pub IsTime : ℕ → Story → Type 0
+IsTime clock Untold = Unit {0}
+IsTime clock (Recorded r) = clock ≡ capped (newest_time r)
+IsTime clock (Full start events) = clock ≡ capped (now (replay start events))
+
+abbrev pub IsPlace : ℕ → Story → Type 0
+IsPlace place Untold = Unit {0}
+IsPlace place (Recorded r) = place ≡ capped (length r)
+IsPlace place (Full start events) = place ≡ capped (length events)
+
+-- nothing was done on it, and its world is fresh
+abbrev pub IsNewLink : Story → Type 0
+IsNewLink Untold = Unit {0}
+IsNewLink (Recorded r) = r ≡ []
+IsNewLink (Full start events) = (events ≡ []) × IsFresh start
+
+-- ---- a sending and a new endpoint: one entry, with the time that was told before
+
+abbrev pub Adds : Item → Event → Story → Story → Type 0
+Adds what e before Untold = before ≡ Untold
+Adds what e before (Recorded r) = (older : List Entry) × (before ≡ Recorded older) × (r ≡ entry what (newest_time older) ∷ older)
+Adds what e before (Full start events) = (older : List Event) × (before ≡ Full start older) × (events ≡ e ∷ older)
+
+abbrev pub Sends : List ℕ → Story → Story → Type 0
+Sends octets before after = Adds (Put octets) (Send octets) before after
+
+abbrev pub Renews : Story → Story → Type 0
+Renews before after = Adds Renewed Renew before after
+
+abbrev pub SendsOrNot : List ℕ → Story → Story → Type 0
+SendsOrNot octets before after = Sends octets before after ⊎ (after ≡ before)
+
+abbrev pub RenewsOrNot : Story → Story → Type 0
+RenewsOrNot before after = Renews before after ⊎ (after ≡ before)
+
+-- ---- a poll, by events
+
+-- what may happen on its own, time that passes among it: all but what the client does and gets
+abbrev pub IsForeign : Event → Bool
+IsForeign (Send octets) = false
+IsForeign (From endpoint octets) = false
+IsForeign Renew = false
+IsForeign (Down age) = false
+IsForeign _ = true
+
+pub data GoesOn (start : World) (before : List Event) : List Event → Type 0 where
+  Same : GoesOn start before before
+  More : {events : List Event} (e : Event) → IsForeign e ≡ true → MayHappen Commissions (replay start events) e → GoesOn start before events → GoesOn start before (e ∷ events)
+
+-- the last event brings the datagram, within the wait; or time passes, until the wait is over
+abbrev pub EndsSo : Item → ℕ → ℕ → ℕ → Event → Type 0
+EndsSo (Got octets) wait since until (Down age) = until ≤ since + wait
+EndsSo Quiet wait since until (Pass ms) = until ≡ since + wait
+EndsSo what wait since until e = ⊥
+
+pub record PollsFull (what : Item) (wait : ℕ) (start : World) (before after : List Event) : Type 0 where
+  pub events : List Event
+  pub foreign : GoesOn start before events
+  pub last : Event
+  pub legal : MayHappen Commissions (replay start events) last
+  pub brings : item_at (replay start events) last ≡ Some what
+  pub all : after ≡ last ∷ events
+  pub ends : EndsSo what wait (now (replay start before)) (now (replay start after)) last
+
+-- ---- a poll, by the record
+
+-- waits into which something fell, each with its time, which doesn't fall
+abbrev pub AreWaits : ℕ → List Entry → ℕ → Type 0
+AreWaits since [] until = since ≤ until
+AreWaits since (x ∷ waits) until = (x.what ≡ Quiet) × (x.now ≤ until) × AreWaits since waits x.now
+
+pub record PollsRecord (what : Item) (clock : ℕ) (before after : List Entry) : Type 0 where
+  pub waits : List Entry
+  pub are : AreWaits (newest_time before) waits clock
+  pub all : after ≡ entry what clock ∷ (waits ++ before)
+
+-- ---- a poll
+
+abbrev pub Polls : Item → ℕ → ℕ → Story → Story → Type 0
+Polls what wait clock before Untold = before ≡ Untold
+Polls what wait clock before (Recorded r) = (older : List Entry) × (before ≡ Recorded older) × PollsRecord what clock older r
+Polls what wait clock before (Full start events) = (older : List Event) × (before ≡ Full start older) × PollsFull what wait start older events
+
+abbrev pub PollsNothing : Story → Story → Type 0
+PollsNothing before Untold = before ≡ Untold
+PollsNothing before (Recorded r) = before ≡ Recorded r
+PollsNothing before (Full start events) = (older : List Event) × (before ≡ Full start older) × GoesOn start older events

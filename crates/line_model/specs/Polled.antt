@@ -1,0 +1,23 @@
+-- What the answers of a link and of a port say of them: the datagram that was got is the first octets of the buffer, at most 512; a quiet wait
+-- brings none. A call answers that the link failed only where its count of faults rose.
+use Rattle.std.specs.Prelude.{ℕ, ◌≤◌, List, take, Result, Ok, Err}
+use Rattle.knx_model.specs.Outside.{Rose}
+use Rattle.line_model.specs.declared.outside.link.LinkFault.{LinkFault}
+use Rattle.line_model.specs.declared.outside.link.LinkFault.TheVariants as fault
+use Rattle.line_model.specs.declared.outside.link.Polled.{Polled}
+use Rattle.line_model.specs.declared.outside.link.Polled.TheVariants as answer
+use Rattle.line_model.specs.Record.{Got, Quiet, longest_got}
+use Rattle.line_model.specs.LinkStory.{Story, Polls, PollsNothing}
+
+abbrev pub PollsAs : Polled → List ℕ → ℕ → ℕ → Story → Story → Type 0
+PollsAs (answer.Got n) into wait clock before after = (n ≤ longest_got) × Polls (Got (take n into)) wait clock before after
+PollsAs answer.Quiet into wait clock before after = Polls Quiet wait clock before after
+
+abbrev pub PollsSo : Result Polled LinkFault → List ℕ → ℕ → ℕ → Story → Story → Type 0
+PollsSo (Ok polled) into wait clock before after = PollsAs polled into wait clock before after
+PollsSo (Err fault) into wait clock before after = PollsNothing before after
+
+abbrev pub FailsWhere : {X : Type 0} → Result X LinkFault → ℕ → ℕ → Type 0
+FailsWhere (Ok x) old new = Unit {0}
+FailsWhere (Err (fault.NoMemory want)) old new = Unit {0}
+FailsWhere (Err fault.Failed) old new = Rose old new

@@ -1,0 +1,45 @@
+-- What a port tells of itself: nothing, as a socket, or its record: what was taken, and from whom, the quiet waits, and what was given, and to
+-- whom, in order, the newest first. A port serves clients that it doesn't know; each is named by a number.
+use Rattle.std.specs.Prelude.{◌≡◌, ℕ, ◌≤◌, ◌⊎◌, List, [], ◌∷◌, take, Result, Ok, Err}
+use Rattle.knx_model.specs.Outside.{Rose}
+use Rattle.line_model.specs.declared.outside.port.PortFault.{PortFault}
+use Rattle.line_model.specs.declared.outside.port.PortFault.TheVariants as fault
+use Rattle.line_model.specs.declared.outside.port.PortPolled.{PortPolled}
+use Rattle.line_model.specs.declared.outside.port.PortPolled.TheVariants as answer
+use Rattle.line_model.specs.Record.{longest_got}
+
+pub data PortItem : Type 0 where
+  Took : ℕ → List ℕ → PortItem  -- a datagram of this client
+  Quiet : PortItem
+  Gave : ℕ → List ℕ → PortItem  -- a datagram to this client
+
+pub data PortStory : Type 0 where
+  Untold : PortStory
+  Recorded : List PortItem → PortStory
+
+-- nothing was done at it
+abbrev pub IsNewPort : PortStory → Type 0
+IsNewPort Untold = Unit {0}
+IsNewPort (Recorded items) = items ≡ []
+
+abbrev pub Adds : PortItem → PortStory → PortStory → Type 0
+Adds item before Untold = before ≡ Untold
+Adds item before (Recorded items) = (older : List PortItem) × (before ≡ Recorded older) × (items ≡ item ∷ older)
+
+-- ---- what the answers say
+
+abbrev pub TakesAs : PortPolled → List ℕ → PortStory → PortStory → Type 0
+TakesAs (answer.Got n from) into before after = (n ≤ longest_got) × Adds (Took from (take n into)) before after
+TakesAs answer.Quiet into before after = Adds Quiet before after
+
+abbrev pub TakesSo : Result PortPolled PortFault → List ℕ → PortStory → PortStory → Type 0
+TakesSo (Ok polled) into before after = TakesAs polled into before after
+TakesSo (Err fault) into before after = after ≡ before
+
+abbrev pub GivesOrNot : ℕ → List ℕ → PortStory → PortStory → Type 0
+GivesOrNot to octets before after = Adds (Gave to octets) before after ⊎ (after ≡ before)
+
+abbrev pub FailsWhere : {X : Type 0} → Result X PortFault → ℕ → ℕ → Type 0
+FailsWhere (Ok x) old new = Unit {0}
+FailsWhere (Err (fault.NoMemory want)) old new = Unit {0}
+FailsWhere (Err fault.Failed) old new = Rose old new

@@ -1,0 +1,105 @@
+-- How the client keeps its channel, by the record alone (ISO 22510, Core and Tunnelling): a connect request is sent only directly after a new
+-- endpoint was taken; each request of the gateway is acknowledged at once; and while there is something to do, a deadline of the channel that
+-- is reached is acted on before the second poll after it.
+use Rattle.std.specs.Prelude.{◌≡◌, ℕ, Bool, true, false, ◌&&◌, ◌||◌, ◌==◌, List, [], ◌∷◌, if◌then◌else◌, Option, Some, None}
+use Rattle.std.specs.List.{list_any}
+use Rattle.knx_model.specs.declared.frames.ip.IpFrame.{IpFrame}
+use Rattle.knx_model.specs.declared.frames.ip.IpFrame.TheVariants.{TunnellingAck}
+use Rattle.knx_model.specs.Connection.{has_passed}
+use Rattle.line_model.specs.Gateway.{next_number, acknowledgement_wait}
+use Rattle.line_model.specs.Reading.{is_connect_request, RequestFrame, request_in}
+use Rattle.line_model.specs.Record.{Entry, put_in, got_in, is_renewal, is_poll}
+use Rattle.line_model.specs.ChannelLost.{heartbeat_pause, expected, own, is_beat}
+use Rattle.line_model.specs.ClientView.{ClientChannel, Fresh, Sought, RefusedBy, Unanswered, Open, Lost, channel}
+
+-- ---- a new endpoint: after the first one only where the channel was lost, or the last try got a status other than 0, or 10,000 ms passed
+-- without a response
+
+abbrev pub is_just_renewed : List Entry → Bool
+is_just_renewed [] = false
+is_just_renewed (x ∷ r) = is_renewal x.what
+
+abbrev pub has_renewed : List Entry → Bool
+has_renewed r = list_any (λ (x : Entry). is_renewal x.what) r
+
+abbrev pub MayLeave : ClientChannel → Type 0
+MayLeave Fresh = ⊥
+MayLeave (Sought since) = ⊥
+MayLeave (RefusedBy status) = Unit {0}
+MayLeave Unanswered = Unit {0}
+MayLeave (Open c l) = ⊥
+MayLeave (Lost c) = Unit {0}
+
+pub record RenewsSo (r : List Entry) (x : Entry) : Type 0 where
+  pub connects : is_connect_request (put_in x.what) ≡ true → is_just_renewed r ≡ true
+  pub leaves : is_renewal x.what ≡ true → has_renewed r ≡ true → MayLeave (channel r)
+
+abbrev pub RenewsRightly : List Entry → Type 0
+RenewsRightly [] = Unit {0}
+RenewsRightly (x ∷ r) = RenewsSo r x × RenewsRightly r
+
+-- ---- an acknowledgement: after a request was got with the expected number, or the one before, the next entry sends it
+
+abbrev pub is_acknowledged : ℕ → List Entry → RequestFrame → Bool
+is_acknowledged c l request = (request.channel == c) && ((request.number == expected c l) || (next_number request.number == expected c l))
+
+abbrev pub calls_for : ℕ → List Entry → Option RequestFrame → Option IpFrame
+calls_for c l None = None
+calls_for c l (Some request) = if is_acknowledged c l request then Some (TunnellingAck request.channel request.number 0) else None
+
+-- what the newest entry calls for, where its channel stays open
+abbrev pub owed_in : ClientChannel → Entry → ClientChannel → Option IpFrame
+owed_in (Open c l) x (Open d more) = calls_for c l (request_in (got_in x.what))
+owed_in _ x _ = None
+
+abbrev pub owed : List Entry → Option IpFrame
+owed [] = None
+owed (x ∷ r) = owed_in (channel r) x (channel (x ∷ r))
+
+abbrev pub IsOwed : Option IpFrame → Entry → Type 0
+IsOwed None x = Unit {0}
+IsOwed (Some frame) x = put_in x.what ≡ Some frame
+
+abbrev pub AcknowledgesRightly : List Entry → Type 0
+AcknowledgesRightly [] = Unit {0}
+AcknowledgesRightly (x ∷ r) = IsOwed (owed r) x × AcknowledgesRightly r
+
+-- ---- a deadline: an unacknowledged request is to be sent again, a heartbeat is to be sent, or a new endpoint is to be taken
+
+abbrev pub is_repeat_due : List ℕ → ℕ → Bool
+is_repeat_due (t ∷ []) now = has_passed acknowledgement_wait t now
+is_repeat_due _ now = false
+
+-- when the last heartbeat was sent or, before the first, the channel came up
+abbrev pub last_beat : ℕ → List Entry → ℕ
+last_beat c [] = 0
+last_beat c (x ∷ []) = x.now
+last_beat c (x ∷ y ∷ l) = if is_beat c x then x.now else last_beat c (y ∷ l)
+
+abbrev pub is_beat_due : ℕ → List Entry → ℕ → Bool
+is_beat_due c l now = has_passed heartbeat_pause (last_beat c l) now
+
+abbrev pub is_due : ClientChannel → ℕ → Bool
+is_due Fresh now = false
+is_due (Sought since) now = false
+is_due (RefusedBy status) now = true
+is_due Unanswered now = true
+is_due (Open c l) now = is_repeat_due (own c l).sent now || is_beat_due c l now
+is_due (Lost c) now = true
+
+-- the time of the last poll, and of the poll before the last one
+abbrev pub last_poll : List Entry → Option ℕ
+last_poll [] = None
+last_poll (x ∷ r) = if is_poll x.what then Some x.now else last_poll r
+
+abbrev pub poll_before_last : List Entry → Option ℕ
+poll_before_last [] = None
+poll_before_last (x ∷ r) = if is_poll x.what then last_poll r else poll_before_last r
+
+abbrev pub IsPrompt : List Entry → Option ℕ → Type 0
+IsPrompt r None = Unit {0}
+IsPrompt r (Some now) = is_due (channel r) now ≡ false
+
+-- at a poll nothing was due already at the end of the poll before the last
+abbrev pub PollsPromptly : List Entry → Entry → Type 0
+PollsPromptly r x = is_poll x.what ≡ true → IsPrompt r (poll_before_last r)

@@ -1,0 +1,59 @@
+-- How the simulated line begins (this project's own): the tunnel's address has the area and line of the project's first device and device part
+-- 255, or is 1.1.255; on the bus are the devices of the new and of the old project on that line, those of the old one loaded with its compiled
+-- image, the others blank, all with power but those that the script switches off; those that it says so of are standard devices. No channel,
+-- nothing sent, and no frame that waits.
+use Rattle.std.specs.Prelude.{◌≡◌, ℕ, ◌+◌, ◌*◌, ◌/◌, Bool, true, false, not, ◌&&◌, ◌||◌, ◌==◌, List, [], ◌∷◌, Option, Some, None}
+use Rattle.knx_model.specs.declared.address.IndAddr.{IndAddr}
+use Rattle.knx_model.specs.DeviceState.{DeviceState, as_standard}
+use Rattle.knx_model.specs.Meaning.{Installation}
+use Rattle.knx_model.specs.Promises.{StartOf}
+use Rattle.knx_model.specs.Rules.{has_device, devices_of}
+use Rattle.line_model.specs.Lines.{Script, is_off, is_standard}
+use Rattle.line_model.specs.Tunnel as tunnel
+use Rattle.line_model.specs.World.{World}
+
+-- ---- the tunnel's address
+
+abbrev pub line_of : ℕ → ℕ
+line_of raw = raw / 256
+
+abbrev pub default_tunnel : IndAddr
+default_tunnel = record { raw = 0x11FF }
+
+abbrev pub on_line_of_first : List IndAddr → IndAddr
+on_line_of_first [] = default_tunnel
+on_line_of_first (first ∷ rest) = record { raw = line_of first.raw * 256 + 255 }
+
+abbrev pub tunnel_address : Installation → IndAddr
+tunnel_address project = on_line_of_first (devices_of project.statements)
+
+-- ---- the devices
+
+abbrev pub is_on_bus : Installation → Installation → ℕ → Bool
+is_on_bus new old device =
+    (line_of device == line_of (tunnel_address new).raw) && (has_device new.statements device || has_device old.statements device)
+
+-- with power or without
+abbrev pub powered : Bool → DeviceState → DeviceState
+powered power d = record d { power = power }
+
+-- a standard device or not
+abbrev pub framed : Bool → DeviceState → DeviceState
+framed true d = as_standard d
+framed false d = d
+
+-- loaded or blank
+pub record BeginsAs (old : Installation) (script : Script) (device : ℕ) (d : DeviceState) : Type 0 where
+  pub loaded : DeviceState
+  pub start : StartOf old (record { raw = device }) loaded
+  pub is : d ≡ powered (not (is_off script device)) (framed (is_standard script device) loaded)
+
+abbrev pub DeviceBegins : Installation → Script → ℕ → Bool → Option DeviceState → Type 0
+DeviceBegins old script device true (Some d) = BeginsAs old script device d
+DeviceBegins old script device true None = ⊥
+DeviceBegins old script device false d = d ≡ None
+
+pub record BusOf (new old : Installation) (script : Script) (w : World) : Type 0 where
+  pub tunnel : w.tunnel ≡ tunnel.fresh (tunnel_address new)
+  pub echo : w.echo ≡ None
+  pub devices : (device : ℕ) → DeviceBegins old script device (is_on_bus new old device) (w.devices device)

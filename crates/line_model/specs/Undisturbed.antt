@@ -1,0 +1,77 @@
+-- A run without disturbance: the script has none of its lines but those of group telegrams and of standard devices, and each job's device is on
+-- the bus, with power. Then time passes only where nothing is under way: no job is between its first T_Connect and its end, no group telegram
+-- between its request and its confirmation, and no connect request, tunnelling request or heartbeat of the client lacks its answer. So no wait
+-- is ever reached, no job fails and no group telegram is lost.
+use Rattle.std.specs.Prelude.{◌≡◌, ℕ, suc, Bool, true, false, List, [], ◌∷◌, length, Some}
+use Rattle.std.specs.List.{list_all, AllByRecursion}
+use Rattle.knx_model.specs.declared.script.ScriptWhat.{ScriptWhat}
+use Rattle.knx_model.specs.declared.script.ScriptWhat.TheVariants.{Standard, Group}
+use Rattle.line_model.specs.declared.log.LogEntry.{LogEntry}
+use Rattle.line_model.specs.declared.log.LogWhat.{LogWhat}
+use Rattle.line_model.specs.declared.log.LogWhat.TheVariants.{Failed, Lost as LostTurn}
+use Rattle.line_model.specs.Lines.{Script}
+use Rattle.line_model.specs.World.{World, Event, Pass}
+use Rattle.line_model.specs.Legal.{OfDevice}
+use Rattle.line_model.specs.Record.{Entry, Placed, entries, placed}
+use Rattle.line_model.specs.ChannelLost.{own, confirmed, beats}
+use Rattle.line_model.specs.ClientView.{ClientChannel, Fresh, Sought, RefusedBy, Unanswered, Open, Lost, channel}
+use Rattle.line_model.specs.Moments.{moments, between, stretches}
+use Rattle.line_model.specs.Log.{Job, Held, job_of, state_of, log_before}
+
+-- ---- the script and the devices
+
+abbrev pub is_undisturbing : ScriptWhat → Bool
+is_undisturbing (Standard device) = true
+is_undisturbing (Group after group service) = true
+is_undisturbing _ = false
+
+abbrev pub IsUndisturbed : Script → Type 0
+IsUndisturbed script = list_all is_undisturbing script ≡ true
+
+-- each job's device is on the bus, with power
+abbrev pub HasDevices : List Job → World → Type 0
+HasDevices jobs start = AllByRecursion (λ (job : Job). OfDevice (λ d. d.power ≡ true) (start.devices job.device.raw)) jobs
+
+-- ---- nothing is under way
+
+-- every request is acknowledged and confirmed, one of a group telegram too, and every heartbeat is answered
+pub record LacksNoAnswer (c : ℕ) (l : List Entry) : Type 0 where
+  pub acknowledged : (own c l).sent ≡ []
+  pub has_confirmation : confirmed c l ≡ true
+  pub alive : beats c l ≡ []
+
+abbrev pub AwaitsNothing : ClientChannel → Type 0
+AwaitsNothing Fresh = Unit {0}
+AwaitsNothing (Sought since) = ⊥
+AwaitsNothing (RefusedBy status) = Unit {0}
+AwaitsNothing Unanswered = Unit {0}
+AwaitsNothing (Open c l) = LacksNoAnswer c l
+AwaitsNothing (Lost c) = Unit {0}
+
+-- a job that is held hasn't put its first T_Connect
+abbrev pub HasntBegun : List Job → List LogEntry → List Placed → Type 0
+HasntBegun jobs log places =
+    (k worker since upto : ℕ) (job : Job) → job_of jobs k ≡ Some job → state_of k log ≡ Held worker since → stretches job.device.raw (between since upto (moments places)) ≡ []
+
+pub record IsIdle (jobs : List Job) (log : List LogEntry) (places : List Placed) : Type 0 where
+  pub channel_is : AwaitsNothing (channel (entries places))
+  pub jobs_are : HasntBegun jobs log places
+
+-- ---- time passes only then
+
+abbrev pub IsIdleAt : List Job → List LogEntry → List Placed → Event → Type 0
+IsIdleAt jobs log places (Pass (suc ms)) = IsIdle jobs log places
+IsIdleAt jobs log places _ = Unit {0}
+
+abbrev pub PassesIdly : List Job → World → List LogEntry → List Event → Type 0
+PassesIdly jobs start log [] = Unit {0}
+PassesIdly jobs start log (e ∷ past) = IsIdleAt jobs (log_before (length (e ∷ past)) log) (placed start past) e × PassesIdly jobs start log past
+
+-- no job failed, and no group telegram was lost
+abbrev pub FailsNot : LogWhat → Type 0
+FailsNot (Failed job signs) = ⊥
+FailsNot (LostTurn k) = ⊥
+FailsNot _ = Unit {0}
+
+abbrev pub NothingFailed : List LogEntry → Type 0
+NothingFailed log = AllByRecursion (λ (e : LogEntry). FailsNot e.what) log

@@ -1,0 +1,7 @@
+//! What stands between taking a job and starting it.
+
+/// Passes jobs, numbered from 1. Main's returns at once.
+pub trait Gate {
+    /// Called between taking and starting a job.
+    fn pass(&self, job: u32);
+}

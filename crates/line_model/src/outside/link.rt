@@ -1,0 +1,90 @@
+//! The link between the client and its gateway.
+
+ghost use Rattle.std.specs.Prelude.{◌≡◌, ◌≤◌, ℕ, OnOk, OnErr};
+ghost use Rattle.line_model.specs.LinkStory.{Story, IsTime, IsPlace, Sends, SendsOrNot, Renews, RenewsOrNot};
+ghost use Rattle.line_model.specs.Polled.{PollsSo, FailsWhere};
+
+use knx_model::NoMemory;
+
+/// A call of the link failed.
+#[derive(Clone, Copy, Debug, Drop, PartialEq, Eq)]
+pub enum LinkFault {
+    /// There was no memory.
+    NoMemory(NoMemory),
+    /// The link's count of faults rose.
+    Failed,
+}
+
+impl From<NoMemory> for LinkFault {
+    ghost use Rattle.line_model.specs.declared.outside.link.LinkFault.{LinkFault};
+    ghost use Rattle.std.specs.Prelude.{◌≡◌};
+
+    ghost from_gives = { λ _ fault. fault ≡ LinkFault.NoMemory tt };
+
+    fn from(error: NoMemory) -> LinkFault {
+        LinkFault::NoMemory(error)
+    }
+}
+
+/// What a poll brought.
+#[derive(Clone, Copy, Debug, Drop, PartialEq, Eq)]
+pub enum Polled {
+    /// A datagram of so many octets, at most 512; longer ones are cut off there.
+    Got(usize),
+    /// The wait ended without one.
+    Quiet,
+}
+
+/// Sends datagrams to the gateway and gets those that come.
+pub trait Link: Drop {
+    ghost use Rattle.line_model.specs.LinkStory.{Story};
+    ghost use Rattle.std.specs.Prelude.{ℕ};
+
+    /// What it tells of itself.
+    ghost story: { Self → Story };
+
+    /// The last time that it read, in milliseconds.
+    ghost clock: { Self → ℕ };
+
+    /// How many events there were; of a link that tells its record and no events, how many entries it has.
+    ghost place: { Self → ℕ };
+
+    /// How many calls failed; it never falls.
+    ghost faults: { Self → ℕ };
+
+    /// Sends a datagram.
+    fn send(&mut self, octets: &[u8]) -> Result<(), LinkFault>
+        ensures sent { OnOk result (Sends octets.now (story self.old) (story self.new)) }
+        ensures failed { OnErr result (SendsOrNot octets.now (story self.old) (story self.new)) }
+        ensures cause { FailsWhere result (faults self.old) (faults self.new) }
+        ensures count { faults self.old ≤ faults self.new }
+        ensures time { clock self.old ≤ clock self.new }
+        ensures events { place self.old ≤ place self.new };
+
+    /// Takes a new endpoint.
+    fn renew(&mut self) -> Result<(), LinkFault>
+        ensures renewed { OnOk result (Renews (story self.old) (story self.new)) }
+        ensures failed { OnErr result (RenewsOrNot (story self.old) (story self.new)) }
+        ensures cause { FailsWhere result (faults self.old) (faults self.new) }
+        ensures count { faults self.old ≤ faults self.new }
+        ensures time { clock self.old ≤ clock self.new }
+        ensures events { place self.old ≤ place self.new };
+
+    /// Waits for a datagram. Meanwhile whatever is legal may happen on the line.
+    fn poll(&mut self, into: &mut [u8; 512], wait_ms: u32) -> Result<Polled, LinkFault>
+        ensures polled { PollsSo result into.new wait_ms (clock self.new) (story self.old) (story self.new) }
+        ensures cause { FailsWhere result (faults self.old) (faults self.new) }
+        ensures count { faults self.old ≤ faults self.new }
+        ensures time { clock self.old ≤ clock self.new }
+        ensures events { place self.old ≤ place self.new };
+
+    /// The last time that was read, in milliseconds. A link that tells something has no other clock than that.
+    fn now(&self) -> u64
+        ensures value { result ≡ clock self.now }
+        ensures told { IsTime result (story self.now) };
+
+    /// How many events there were; of a link that tells its record and no events, how many entries it has.
+    fn at(&self) -> u64
+        ensures value { result ≡ place self.now }
+        ensures told { IsPlace result (story self.now) };
+}
