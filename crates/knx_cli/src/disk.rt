@@ -1,84 +1,118 @@
-//! Files on disk: they tell nothing of their contents, and their count rises at each read that failed. A file that isn't there and want of
-//! memory are answers of their own, and aren't counted.
+//! Files on disk. What a file holds is read whole or not at all, and a read that failed is kept by its name. A file that isn't there and
+//! want of memory are answers of their own, and aren't counted.
 
-ghost use Rattle.std.specs.Prelude.{◌≡◌, ◌≤◌, IfOk, OnOk, length};
+ghost use Rattle.std.specs.Prelude.{◌≡◌, ◌≤◌, ◌↔◌, ◌++◌, ◌∷◌, [], Err, IfErr, IfOk, IfSome, IsSome, OnErr, OnOk, length, take};
+ghost use Rattle.std.specs.IoError.{error_kind};
+ghost use Rattle.knx_cli.specs.Disk.{fault_of};
 
-use knx_model::{FileFault, Files, Octets};
+use knx_model::{FileFault, Files, NoMemory, Octets};
 use std::alloc::{AllocError, Global};
 use std::fs::File;
 use std::io::{self, ErrorKind, Read};
 use std::rt;
 
-/// The number of octets that one read asks for.
-const PIECE: usize = 65_536;
-
 /// The files of the system.
 #[derive(Drop)]
 pub struct Disk<'a, R> {
     rt: &'a R,
-    faults: u64,
+    /// The names of the reads that failed.
+    failed: Vec<Octets>,
 }
 
 impl<'a, R: rt::Files> Disk<'a, R> {
     /// The files of the system, of which no read failed yet.
-    pub fn new(rt: &'a R) -> Self
-        ensures { result.faults ≡ 0 }
+    pub fn new(alloc: Global, rt: &'a R) -> Self
+        ensures { result.failed.items ≡ [] }
     {
-        Disk { rt, faults: 0 }
+        Disk {
+            rt,
+            failed: Vec::new(alloc),
+        }
     }
 }
 
-/// Appends of a piece what there is room for up to `limit` octets.
-fn append_front(octets: &mut Vec<u8>, piece: &[u8], limit: usize) -> Result<(), AllocError>
-    requires { length octets.old.items ≤ limit }
-    ensures { OnOk result (length octets.new.items ≤ limit) }
+/// Want of memory, where an error is of this kind.
+pub fn memory_of(kind: ErrorKind) -> Option<NoMemory>
+    ensures { IsSome result ↔ (kind ≡ ErrorKind.OutOfMemory) }
 {
-    let room = limit - octets.len();
-    octets.extend_from_slice(&piece[..piece.len().min(room)])
+    match kind {
+        // the system tells of the refused growth without handing it over
+        ErrorKind::OutOfMemory => Some(NoMemory::from(AllocError)),
+        _ => None,
+    }
 }
 
-/// The first `limit` octets of a reader.
-fn read_front<F: Read>(alloc: Global, file: &mut F, limit: usize) -> io::Result<Vec<u8>>
-    ensures { IfOk result (λ octets. length octets.items ≤ limit) }
+/// The fault that an error of this kind is.
+fn fault_of(kind: ErrorKind) -> FileFault
+    ensures { result ≡ fault_of kind }
 {
-    let mut piece = vec![in alloc; 0; PIECE]?;
+    if let Some(want) = memory_of(kind) {
+        return FileFault::NoMemory(want);
+    }
+    match kind {
+        ErrorKind::NotFound | ErrorKind::NotADirectory => FileFault::NotThere,
+        _ => FileFault::Failed,
+    }
+}
+
+/// The first `limit` octets of a source, all of them where it has fewer.
+fn read_front<F: Read + Drop>(alloc: Global, source: F, limit: usize) -> io::Result<Vec<u8>>
+    ensures front { IfOk result (λ octets. IfSome (F.remaining source) (λ held. octets.items ≡ take limit held)) }
+    ensures within { IfOk result (λ octets. length octets.items ≤ limit) }
+{
     let mut octets = Vec::new(alloc);
-    // no file has so many pieces; that a `loop` ends would have to be proved of the file
-    for _ in 0..u64::MAX {
-        if octets.len() == limit {
-            break;
-        }
-        let count = file.read(piece.as_mut_slice())?;
-        if count == 0 {
-            break;
-        }
-        append_front(&mut octets, &piece[..count], limit)?;
-    }
+    source.take(limit as u64).read_to_end(&mut octets)?;
+    // where a source tells nothing of what it has, std's contract doesn't bound what `take` lets through
+    octets.truncate(limit);
     Ok(octets)
+}
+
+/// The first `limit` octets of what was opened, or the fault that kept it from being opened or read.
+fn read_opened<F: Read + Drop>(
+    alloc: Global,
+    opened: io::Result<F>,
+    limit: usize,
+) -> Result<Octets, FileFault>
+    ensures front { IfOk opened (λ source. IfOk result (λ octets. IfSome (F.remaining source) (λ held. octets ≡ take limit held))) }
+    ensures within { IfOk result (λ octets. length octets ≤ limit) }
+    ensures unopened { IfErr opened (λ error. result ≡ Err (fault_of (error_kind error))) }
+{
+    let read = match opened {
+        Ok(source) => read_front(alloc, source, limit),
+        Err(error) => Err(error),
+    };
+    match read {
+        Ok(octets) => Ok(Octets::from_vec(octets)),
+        Err(error) => Err(fault_of(error.kind())),
+    }
+}
+
+/// Keeps the name of a read that failed.
+fn keep(failed: &mut Vec<Octets>, alloc: Global, name: &str) -> Result<(), NoMemory>
+    ensures kept { OnOk result (failed.new.items ≡ failed.old.items ++ name.now ∷ []) }
+    ensures refused { OnErr result (failed.new.items ≡ failed.old.items) }
+{
+    let name = Octets::from_slice(alloc, name.as_bytes())?;
+    failed.push(name)?;
+    Ok(())
 }
 
 impl<R: rt::Files> Files for Disk<'_, R> {
     ghost use Rattle.knx_model.specs.Outside.{Untold};
+    ghost use Rattle.knx_cli.specs.Disk.{faults_of};
 
-    ghost faults = { λ d. d.faults };
+    ghost faults = { λ d name. faults_of d.failed.items name };
 
     ghost file = { λ d name. Untold };
 
     fn read(&mut self, alloc: Global, name: &str, limit: usize) -> Result<Octets, FileFault> {
-        let read = match File::open(self.rt, name) {
-            Ok(mut file) => read_front(alloc, &mut file, limit),
-            Err(error) => Err(error),
-        };
-        match read {
-            Ok(octets) => Ok(Octets::from_vec(octets)),
-            Err(error) => match error.kind() {
-                ErrorKind::NotFound => Err(FileFault::NotThere),
-                ErrorKind::OutOfMemory => Err(FileFault::NoMemory),
-                _ => {
-                    self.faults = self.faults.saturating_add(1);
-                    Err(FileFault::Failed)
-                }
-            },
+        match read_opened(alloc, File::open(self.rt, name), limit) {
+            Ok(octets) => Ok(octets),
+            Err(FileFault::Failed) => {
+                keep(&mut self.failed, alloc, name)?;
+                Err(FileFault::Failed)
+            }
+            Err(fault) => Err(fault),
         }
     }
 }
@@ -86,27 +120,33 @@ impl<R: rt::Files> Files for Disk<'_, R> {
 #[cfg(test)]
 mod tests {
     use super::*;
-    use std::fs;
     use std::test::Fail;
 
+    /// Gives seven octets at a time, and then ends or fails.
+    #[derive(Drop)]
+    struct Trickle<'a> {
+        rest: &'a [u8],
+        fails: bool,
+    }
+
+    impl Read for Trickle<'_> {
+        fn read(&mut self, buffer: &mut [u8]) -> io::Result<usize> {
+            if self.rest.is_empty() && self.fails {
+                return Err(io::Error::from(ErrorKind::TimedOut));
+            }
+            let (mut front, rest) = self.rest.split_at(self.rest.len().min(7).min(buffer.len()));
+            self.rest = rest;
+            front.read(buffer)
+        }
+    }
+
     #[test]
-    fn a_front_is_read_and_only_a_failed_read_is_counted(rt: HostRuntime) -> Result<(), Fail> {
-        let alloc = rt.alloc();
-        fs::write(&rt, "disk_test.txt", b"0123456789")?;
-        let mut disk = Disk::new(&rt);
-        let front = disk.read(alloc, "disk_test.txt", 4);
-        let whole = disk.read(alloc, "disk_test.txt", 100);
-        fs::remove_file(&rt, "disk_test.txt")?;
-        let front = front.ok().ok_or("the front")?;
-        let whole = whole.ok().ok_or("the whole")?;
-        assert_eq!(rt; front.as_slice(), b"0123".as_slice());
-        assert_eq!(rt; whole.as_slice(), b"0123456789".as_slice());
-        let absent = disk.read(alloc, "disk_test.txt", 4).err();
-        assert_eq!(rt; absent, Some(FileFault::NotThere));
-        assert_eq!(rt; disk.faults, 0);
-        let folder = disk.read(alloc, ".", 4).err();
-        assert_eq!(rt; folder, Some(FileFault::Failed));
-        assert_eq!(rt; disk.faults, 1);
+    fn a_source_that_reads_short_is_read_to_its_end(rt: HostRuntime) -> Result<(), Fail> {
+        let rest = b"a source of more than seven octets".as_slice();
+        let whole = read_front(rt.alloc(), Trickle { rest, fails: false }, 100)?;
+        assert_eq!(rt; whole.as_slice(), rest);
+        let failed = read_front(rt.alloc(), Trickle { rest, fails: true }, 100).err();
+        assert_eq!(rt; failed.map(|error| error.kind()), Some(ErrorKind::TimedOut));
         Ok(())
     }
 }

@@ -1,70 +1,128 @@
-//! Standard output: it tells nothing of what it took, and its count rises at each write that failed.
+//! An output: what it took is what its writer took, and it counts its writes and those that failed.
 
-ghost use Rattle.std.specs.Prelude.{◌≡◌, ◌≤◌, OnErr, OnOk, is_ok};
-ghost use Rattle.knx_model.specs.Outside.{Rose};
+ghost use Rattle.std.specs.Prelude.{◌≡◌, ◌≤◌, ℕ, IfOk, OnErr, OnOk, length, take};
+ghost use Rattle.std.specs.Io.KnownBytes.{Appends, WriteAppends};
 
 use knx_model::{Sink, SinkFailed};
-use std::io::{self, Write};
+use std::io::{ErrorKind, Printer, Write};
 
-/// The standard output of the program.
+/// A writer that tells either always or never what it took.
+pub trait Steady: Write + Drop {
+    ghost use Rattle.std.specs.Prelude.{◌≡◌, None};
+
+    ghost steady: { (before after : Self) → Self.contents before ≡ None → Self.contents after ≡ None };
+}
+
+impl<P: Print> Steady for Printer<'_, P> {
+    ghost steady = { λ before after silent. silent };
+}
+
+/// An output.
 #[derive(Drop)]
-pub struct Output<'a, R> {
-    rt: &'a R,
+pub struct Output<W> {
+    writer: W,
+    writes: u64,
     faults: u64,
 }
 
-impl<'a, R: Print> Output<'a, R> {
-    /// The standard output, at which no write failed yet.
-    pub fn new(rt: &'a R) -> Self
-        ensures { result.faults ≡ 0 }
+impl<W: Steady> Output<W> {
+    /// An output to which nothing was written yet.
+    pub fn new(writer: W) -> Self
+        ensures writer { result.writer ≡ writer }
+        ensures counts { (result.writes ≡ 0) × (result.faults ≡ 0) }
     {
-        Output { rt, faults: 0 }
-    }
-}
-
-/// Writes all of the octets, and sees them out.
-fn write_all<R: Print>(rt: &R, octets: &[u8]) -> io::Result<()> {
-    let mut out = io::writer(rt);
-    out.write_all(octets)?;
-    out.flush()
-}
-
-/// Whether a write succeeded; one that failed is counted.
-fn counted(faults: &mut u64, written: io::Result<()>) -> Result<(), SinkFailed>
-    ensures exactly { is_ok result ≡ is_ok written }
-    ensures failed { OnErr result (Rose faults.old faults.new) }
-    ensures still { OnOk result (faults.new ≡ faults.old) }
-    ensures count { faults.old ≤ faults.new }
-{
-    match written {
-        Ok(()) => Ok(()),
-        Err(_) => {
-            *faults = faults.saturating_add(1);
-            Err(SinkFailed)
+        Output {
+            writer,
+            writes: 0,
+            faults: 0,
         }
     }
 }
 
-impl<R: Print> Sink for Output<'_, R> {
-    ghost use Rattle.std.specs.Prelude.{None};
+/// One write, which takes a front of the octets. It takes none where a signal interrupted it; it is then to be tried again.
+fn write_some<W: Write>(writer: &mut W, octets: &[u8]) -> Result<usize, SinkFailed>
+    ensures within { IfOk result (λ count. count ≤ length octets.now) }
+    ensures front { WriteAppends (W.contents writer.old) (W.contents writer.new) result octets.now }
+{
+    match writer.write(octets) {
+        Ok(0) => Err(SinkFailed),
+        Ok(count) => Ok(count),
+        Err(error) => match error.kind() {
+            ErrorKind::Interrupted => Ok(0),
+            _ => Err(SinkFailed),
+        },
+    }
+}
 
+/// Writes all of the octets and sees them out, or only a front of them.
+fn write_out<W: Write>(writer: &mut W, octets: &[u8]) -> Result<(), SinkFailed>
+    ensures all { OnOk result (Appends (W.contents writer.old) (W.contents writer.new) octets.now) }
+    ensures front { OnErr result ((n : ℕ) × Appends (W.contents writer.old) (W.contents writer.new) (take n octets.now)) }
+{
+    let mut taken = 0;
+    // no writer is interrupted so often; that a `loop` ends would have to be proved of the writer
+    for _ in 0..u64::MAX {
+        if taken == octets.len() {
+            return writer.flush().map_err(|_| SinkFailed);
+        }
+        taken += write_some(writer, &octets[taken..])?;
+    }
+    Err(SinkFailed)
+}
+
+impl<W: Steady> Sink for Output<W> {
     ghost faults = { λ o. o.faults };
 
-    ghost taken = { λ o. None };
+    ghost writes = { λ o. o.writes };
+
+    ghost taken = { λ o. W.contents o.writer };
 
     fn write(&mut self, octets: &[u8]) -> Result<(), SinkFailed> {
-        counted(&mut self.faults, write_all(self.rt, octets))
+        self.writes = self.writes.saturating_add(1);
+        let written = write_out(&mut self.writer, octets);
+        if written.is_err() {
+            self.faults = self.faults.saturating_add(1);
+        }
+        written
     }
 }
 
 #[cfg(test)]
 mod tests {
     use super::*;
+    use crate::disk::Disk;
+    use knx_model::{FileFault, Files};
+    use std::fs::{self, File};
+    use std::test::Fail;
+
+    impl Steady for File {
+        ghost steady = { λ before after silent. silent };
+    }
 
     #[test]
-    fn a_write_that_succeeds_is_not_counted(rt: HostRuntime) {
-        let mut out = Output::new(&rt);
-        assert_eq!(rt; out.write(b""), Ok(()));
-        assert_eq!(rt; out.faults, 0);
+    fn what_is_written_whole_is_read_whole(rt: HostRuntime) -> Result<(), Fail> {
+        let alloc = rt.alloc();
+        let long: Vec<u8> = (0..300_000u32).map(|i| (i % 251) as u8).collect(alloc)?;
+        // two names that differ by a blank
+        let texts = [("edge.txt", long.as_slice()), ("edge.txt ", b"short")];
+        let mut disk = Disk::new(alloc, &rt);
+        for (name, text) in texts {
+            let mut out = Output::new(fs::create(&rt, name)?);
+            assert_eq!(rt; out.write(text), Ok(()));
+        }
+        for (name, text) in texts {
+            let whole = disk.read(alloc, name, 4_194_305).ok();
+            let front = disk.read(alloc, name, 3).ok();
+            fs::remove_file(&rt, name)?;
+            let absent = disk.read(alloc, name, 3).err();
+            assert_eq!(rt; whole.ok_or("whole")?.as_slice(), text);
+            let front = front.ok_or("front")?;
+            assert_eq!(rt; front.len(), 3);
+            assert!(rt; text.starts_with(front.as_slice()));
+            assert_eq!(rt; absent, Some(FileFault::NotThere));
+        }
+        let folder = disk.read(alloc, ".", 3).err();
+        assert_eq!(rt; folder, Some(FileFault::Failed));
+        Ok(())
     }
 }
