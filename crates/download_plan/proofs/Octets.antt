@@ -7,7 +7,7 @@ use Rattle.knx_model.specs.declared.frames.tpdu.Apdu.{Apdu}
 use Rattle.knx_model.specs.declared.frames.tpdu.Apdu.TheVariants.{MemoryRead, DescriptorRead, DescriptorResponse, PropertyRead, PropertyWrite}
 use Rattle.knx_model.specs.Apdu.{IsApduInRange, word}
 use Rattle.knx_model.specs.ApduReading.{service_in, apdu_octets, option_map}
-use Rattle.knx_model.specs.Connection.{has_answer, is_memory_write}
+use Rattle.knx_model.specs.ClientConnection.{is_memory_write}
 use Rattle.knx_model.specs.Loading.{octets_of, has_range}
 use Rattle.knx_model.specs.Device.{NonVolatile, Effect, Loads, Stores, Nothing, loadable, segment_base, object_at, object_of_index, object_type, load_state, table_reference, greatest_length, is_load_control, effect_of, effect_in, effect_at, answer, answer_in, answer_at, reads_at_once, read_octets, whole, torn, taken_over, range_octets, property_value, property_response, where_one}
 use Rattle.knx_model.specs.DeviceFrames.{Outcome, Whole, Torn, Worn, kept_after}

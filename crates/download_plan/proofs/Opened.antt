@@ -9,7 +9,7 @@ use Rattle.knx_model.specs.declared.plan.PieceSize.{PieceSize}
 use Rattle.knx_model.specs.declared.plan.PieceSize.TheVariants.{Twelve, Sixty}
 use Rattle.knx_model.specs.Apdu.{IsApduInRange, word}
 use Rattle.knx_model.specs.ApduReading.{service_in, apdu_octets}
-use Rattle.knx_model.specs.Connection.{is_memory_write}
+use Rattle.knx_model.specs.ClientConnection.{is_memory_write}
 use Rattle.knx_model.specs.Device.{NonVolatile, Effect, Nothing, greatest_length, effect_of, effect_in, answer_in, reads_at_once, whole}
 use Rattle.knx_model.specs.DeviceFrames.{Outcome, kept_after}
 use Rattle.knx_model.specs.Plans.{Suits, fits_both, is_fitting}
