@@ -5,8 +5,8 @@ use Rattle.transport_conn.specs.declared.client.State.{State as ClientState}
 use Rattle.transport_conn.specs.declared.client.State.TheVariants as client
 use Rattle.std.specs.Prelude.{◌<◌}
 use Rattle.knx_model.specs.Connection.{most_repeats}
-use Rattle.knx_model.specs.DeviceConnection.{DeviceEnd, Closed, Idle, Answering}
-use Rattle.knx_model.specs.ClientConnection.{ClientEnd, Asked, Up, Asking, Awaiting, Ended}
+use Rattle.knx_model.specs.DeviceConnection.{DeviceEnd, IsDeviceEnd, Closed, Idle, Answering}
+use Rattle.knx_model.specs.ClientConnection.{ClientEnd, IsClientEnd, Asked, Up, Asking, Awaiting, Ended}
 
 abbrev pub device_end : DeviceState → DeviceEnd
 device_end device.Closed = Closed
@@ -40,3 +40,10 @@ MayAskAgain (Up s) = Unit {0}
 MayAskAgain (Asking s q) = q.repeats < most_repeats
 MayAskAgain (Awaiting s) = Unit {0}
 MayAskAgain Ended = Unit {0}
+
+-- the numbers of an end have four bits
+abbrev pub HasDeviceNumbers : DeviceState → Type 0
+HasDeviceNumbers s = IsDeviceEnd (device_end s)
+
+abbrev pub HasClientNumbers : ClientState → Type 0
+HasClientNumbers s = IsClientEnd (client_end s)

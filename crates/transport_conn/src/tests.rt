@@ -152,7 +152,7 @@ fn a_client_hears_each_answer_once(rt: HostRuntime) {
 fn a_client_ends_where_its_device_is_silent(rt: HostRuntime) {
     let question = [0x43, 0x00];
     let rows: [(u64, u64, ClientExpired); 4] = [
-        (0, 3_000, ClientExpired::Repeat(octets(question))),
+        (2_000, 3_000, ClientExpired::Repeat(octets(question))),
         (4_000, 7_000, ClientExpired::Repeat(octets(question))),
         (8_000, 11_000, ClientExpired::Repeat(octets(question))),
         (12_000, 15_000, ClientExpired::Silent { ms: 3_000 }),
@@ -170,7 +170,9 @@ fn a_client_ends_where_its_device_is_silent(rt: HostRuntime) {
     assert_eq!(rt; conn.deadline(), Some(6_100));
     assert_eq!(rt; conn.expire(6_100), ClientExpired::Silent { ms: 6_000 });
     let mut conn = asking(&rt, &WRITE);
+    assert!(rt; !conn.awaits_nothing());
     assert_eq!(rt; conn.take(&[0xC2], 100), ClientTook::Acked);
+    assert!(rt; conn.awaits_nothing());
     assert_eq!(rt; conn.deadline(), None);
     let mut conn = ClientConn::begin(DEVICE);
     assert_eq!(rt; conn.take(&[0x43, 0x00], 0), ClientTook::Dropped);

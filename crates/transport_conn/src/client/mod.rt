@@ -21,7 +21,7 @@
 ghost use Rattle.std.specs.Prelude.{◌≡◌};
 ghost use Rattle.std.specs.Result.{result_ok};
 ghost use Rattle.knx_model.specs.Connection.{IsApdu, frame_in};
-ghost use Rattle.knx_model.specs.ClientConnection.{awaits_nothing, device_of, client_confirmed, after_confirmed, client_sent, after_send, client_took, client_after, client_expired, after_overdue, client_deadline, Asked};
+ghost use Rattle.knx_model.specs.ClientConnection.{IsClientEnd, awaits_nothing, device_of, client_confirmed, after_confirmed, client_sent, after_send, client_took, client_after, client_expired, after_overdue, client_deadline, Asked};
 
 mod question;
 mod steps;
@@ -61,6 +61,10 @@ impl Model for ClientConn {
     ghost use Rattle.transport_conn.specs.Ends.{client_end};
 
     ghost view = { λ c. client_end c.state };
+
+    ghost use Rattle.transport_conn.specs.Ends.{HasClientNumbers};
+
+    ghost invariant = { λ c. HasClientNumbers c.state };
 }
 
 impl ClientConn {
@@ -71,6 +75,13 @@ impl ClientConn {
         ClientConn {
             state: State::Asked(device),
         }
+    }
+
+    /// A law of the type: its numbers have four bits.
+    pub fn has_numbers(&self)
+        ensures { IsClientEnd self.now }
+    {
+        let _ = &self.state;
     }
 
     /// The device at the other end; None exactly where the connection has ended.

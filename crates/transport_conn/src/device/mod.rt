@@ -18,7 +18,7 @@
 ghost use Rattle.std.specs.Prelude.{◌≡◌};
 ghost use Rattle.std.specs.Result.{result_ok};
 ghost use Rattle.knx_model.specs.Connection.{IsApdu, frame_in};
-ghost use Rattle.knx_model.specs.DeviceConnection.{partner_of, device_took, device_after, device_answered, after_answer, device_expired, after_expiry, device_deadline, Closed};
+ghost use Rattle.knx_model.specs.DeviceConnection.{IsDeviceEnd, partner_of, device_took, device_after, device_answered, after_answer, device_expired, after_expiry, device_deadline, Closed};
 
 mod outstanding;
 mod steps;
@@ -56,6 +56,10 @@ impl Model for DeviceConn {
     ghost use Rattle.transport_conn.specs.Ends.{device_end};
 
     ghost view = { λ c. device_end c.state };
+
+    ghost use Rattle.transport_conn.specs.Ends.{HasDeviceNumbers};
+
+    ghost invariant = { λ c. HasDeviceNumbers c.state };
 }
 
 impl DeviceConn {
@@ -66,6 +70,13 @@ impl DeviceConn {
         DeviceConn {
             state: State::Closed,
         }
+    }
+
+    /// A law of the type: its numbers have four bits.
+    pub fn has_numbers(&self)
+        ensures { IsDeviceEnd self.now }
+    {
+        let _ = &self.state;
     }
 
     /// The partner of the open connection; None exactly where none is open.
