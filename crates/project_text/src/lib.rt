@@ -9,9 +9,7 @@ mod project;
 mod read;
 
 pub use knx_model::{Refused, Statement, What, Why};
-pub use laws::{
-    first_misfit, least_line, printed_again, statement_spelled, words_too_many_or_few,
-};
+pub use laws::{first_misfit, least_line, printed_again, statement_spelled, words_too_many_or_few};
 pub use print::print_project;
 pub use project::Project;
 pub use read::read_project;
