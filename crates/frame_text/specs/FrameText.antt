@@ -191,6 +191,10 @@ ip_refusal_line why = line (codes "ip" ∷ refusal_words (ip.refusal_number why)
 
 -- ---- the text of octets
 
+-- a text of this kind stands behind what stood there
+abbrev pub GrowsBy : (List ℕ → Type 0) → List ℕ → List ℕ → Type 0
+GrowsBy IsIt old new = (text : List ℕ) × IsIt text × (new ≡ old ++ text)
+
 -- a TPDU's octets: the line of their least refusal, or of the frame that they are read as
 unfoldable pub IsTpduText : List ℕ → List ℕ → Type 0
 IsTpduText octets text =
