@@ -1,5 +1,5 @@
 -- The plan that is left at a position: which operation is its head, what follows it, and what a note changes.
-use Rattle.std.proofs.Common.{ℕ, zero, suc, ◌≡◌, ◌+◌, ◌-◌, ◌≤◌, ◌<◌, List, [], ◌∷◌, map, length, drop, Option, Some, None, refl, sym, ◌∙◌, ap, subst, arith}
+use Rattle.std.proofs.Common.{ℕ, zero, suc, ◌≡◌, ◌≢◌, ◌+◌, ◌-◌, ◌≤◌, ◌<◌, List, [], ◌∷◌, map, length, drop, Option, Some, None, refl, sym, ◌∙◌, ap, subst, arith}
 use Rattle.std.specs.List.{slice_get}
 use Rattle.std.proofs.lemmas.List.{drop_all}
 use Rattle.knx_model.specs.declared.config.Image.{Image}
@@ -83,6 +83,12 @@ left_before operations old new zero h = refl
 left_before operations old new (suc zero) h = refl
 left_before operations old new (suc (suc j)) h = absurd (omega (arith, h))
 
+-- up to the k-th operation nothing changes where only the second is noted
+left_before_each : (operations : PieceSize → List Operation) (old new : PieceSize) (j k : ℕ) → j ≤ k → (k ≢ 1 → new ≡ old) → left_of operations new j ≡ left_of operations old j
+left_before_each operations old new j zero h f = ap (λ (size : PieceSize). left_of operations size j) (f (λ e. absurd (omega (arith, e))))
+left_before_each operations old new j (suc zero) h f = left_before operations old new j h
+left_before_each operations old new j (suc (suc k)) h f = ap (λ (size : PieceSize). left_of operations size j) (f (λ e. absurd (omega (arith, e))))
+
 left_is_noted : (operations : PieceSize → List Operation) (size : PieceSize) (k : ℕ) → k ≡ 1 → IsNoted (left_of operations size k)
 left_is_noted operations size k e = subst (λ (j : ℕ). IsNoted (left_of operations size j)) (sym e) tt
 
@@ -108,22 +114,22 @@ pub load_over : (p : Listening) (k : ℕ) → load_count p ≤ k → load_left p
 unfolding load_left load_count
 load_over p k h = left_over (load_operations p.image) p.size k h
 
-pub load_noted : (old new : Listening) (k : ℕ) (got : List ℕ) → new.image ≡ old.image → k ≡ 1 → new.size ≡ size_by (Some got) → load_left new (k + 1) ≡ followed (load_left old k) got
+pub load_noted : (old new : Listening) (k : ℕ) (got : List ℕ) → new.image ≡ old.image → (k ≡ 1 → new.size ≡ size_by (Some got)) → IsNoted (load_left old k) → load_left new (k + 1) ≡ followed (load_left old k) got
 unfolding load_left
-load_noted old new k got i e f =
-    subst (λ (image : Image). left_of (load_operations image) new.size (k + 1) ≡ followed (left_of (load_operations old.image) old.size k) got) (sym i) (left_noted (load_operations old.image) old.size new.size k got e f)
+load_noted old new k got i f n =
+    let second : k ≡ 1 = left_unnoted (load_operations old.image) old.size k n in
+    subst (λ (image : Image). left_of (load_operations image) new.size (k + 1) ≡ followed (left_of (load_operations old.image) old.size k) got) (sym i)
+    (left_noted (load_operations old.image) old.size new.size k got second (f second))
 
-pub load_unnoted : (p : Listening) (k : ℕ) → IsNoted (load_left p k) → k ≡ 1
+pub load_before : (old new : Listening) (k : ℕ) → new.image ≡ old.image → (k ≢ 1 → new.size ≡ old.size) → (j : ℕ) → j ≤ k → load_left new j ≡ load_left old j
 unfolding load_left
-load_unnoted p k h = left_unnoted (load_operations p.image) p.size k h
+load_before old new k i f j h = ap (λ (image : Image). left_of (load_operations image) new.size j) i ∙ left_before_each (load_operations old.image) old.size new.size j k h f
 
-pub load_is_noted : (p : Listening) (k : ℕ) → k ≡ 1 → IsNoted (load_left p k)
+pub load_ignored : (old new : Listening) (k : ℕ) → new.image ≡ old.image → (k ≢ 1 → new.size ≡ old.size) → ¬ IsNoted (load_left old k) → (j : ℕ) → load_left new j ≡ load_left old j
 unfolding load_left
-load_is_noted p k e = left_is_noted (load_operations p.image) p.size k e
-
-pub load_before : (old new : Listening) (j : ℕ) → new.image ≡ old.image → j ≤ 1 → load_left new j ≡ load_left old j
-unfolding load_left
-load_before old new j i h = ap (λ (image : Image). left_of (load_operations image) new.size j) i ∙ left_before (load_operations old.image) old.size new.size j h
+load_ignored old new k i f unnoted j =
+    ap (λ (image : Image). left_of (load_operations image) new.size j) i
+    ∙ ap (λ (size : PieceSize). left_of (load_operations old.image) size j) (f (λ e. unnoted (left_is_noted (load_operations old.image) old.size k e)))
 
 -- ---- the check plan
 
@@ -143,19 +149,19 @@ pub check_over : (p : Listening) (k : ℕ) → check_count p ≤ k → check_lef
 unfolding check_left check_count
 check_over p k h = left_over (check_operations p.image) p.size k h
 
-pub check_noted : (old new : Listening) (k : ℕ) (got : List ℕ) → new.image ≡ old.image → k ≡ 1 → new.size ≡ size_by (Some got) → check_left new (k + 1) ≡ followed (check_left old k) got
+pub check_noted : (old new : Listening) (k : ℕ) (got : List ℕ) → new.image ≡ old.image → (k ≡ 1 → new.size ≡ size_by (Some got)) → IsNoted (check_left old k) → check_left new (k + 1) ≡ followed (check_left old k) got
 unfolding check_left
-check_noted old new k got i e f =
-    subst (λ (image : Image). left_of (check_operations image) new.size (k + 1) ≡ followed (left_of (check_operations old.image) old.size k) got) (sym i) (left_noted (check_operations old.image) old.size new.size k got e f)
+check_noted old new k got i f n =
+    let second : k ≡ 1 = left_unnoted (check_operations old.image) old.size k n in
+    subst (λ (image : Image). left_of (check_operations image) new.size (k + 1) ≡ followed (left_of (check_operations old.image) old.size k) got) (sym i)
+    (left_noted (check_operations old.image) old.size new.size k got second (f second))
 
-pub check_unnoted : (p : Listening) (k : ℕ) → IsNoted (check_left p k) → k ≡ 1
+pub check_before : (old new : Listening) (k : ℕ) → new.image ≡ old.image → (k ≢ 1 → new.size ≡ old.size) → (j : ℕ) → j ≤ k → check_left new j ≡ check_left old j
 unfolding check_left
-check_unnoted p k h = left_unnoted (check_operations p.image) p.size k h
+check_before old new k i f j h = ap (λ (image : Image). left_of (check_operations image) new.size j) i ∙ left_before_each (check_operations old.image) old.size new.size j k h f
 
-pub check_is_noted : (p : Listening) (k : ℕ) → k ≡ 1 → IsNoted (check_left p k)
+pub check_ignored : (old new : Listening) (k : ℕ) → new.image ≡ old.image → (k ≢ 1 → new.size ≡ old.size) → ¬ IsNoted (check_left old k) → (j : ℕ) → check_left new j ≡ check_left old j
 unfolding check_left
-check_is_noted p k e = left_is_noted (check_operations p.image) p.size k e
-
-pub check_before : (old new : Listening) (j : ℕ) → new.image ≡ old.image → j ≤ 1 → check_left new j ≡ check_left old j
-unfolding check_left
-check_before old new j i h = ap (λ (image : Image). left_of (check_operations image) new.size j) i ∙ left_before (check_operations old.image) old.size new.size j h
+check_ignored old new k i f unnoted j =
+    ap (λ (image : Image). left_of (check_operations image) new.size j) i
+    ∙ ap (λ (size : PieceSize). left_of (check_operations old.image) size j) (f (λ e. unnoted (left_is_noted (check_operations old.image) old.size k e)))

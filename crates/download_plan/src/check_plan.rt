@@ -8,7 +8,7 @@ ghost use Rattle.knx_model.specs.LoadPlan.{check_operations};
 ghost use Rattle.download_plan.specs.Left.{check_left, check_count};
 ghost use Rattle.download_plan.specs.Step.{op_of};
 
-use crate::opening::{NOTED, read_descriptor, read_greatest_length, size_by};
+use crate::opening::{NOTED, read_descriptor, read_greatest_length, size_after};
 use crate::operation::check_step;
 use crate::place::{check_shares, list_of, piece_count};
 use crate::step::check_step_at;
@@ -90,8 +90,6 @@ impl PlanSource for CheckPlan {
     }
 
     fn note(&mut self, k: u32, got: &[u8]) {
-        if k == NOTED {
-            self.size = size_by(got);
-        }
+        self.size = size_after(k, self.size, got);
     }
 }

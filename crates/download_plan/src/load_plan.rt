@@ -8,7 +8,7 @@ ghost use Rattle.knx_model.specs.LoadPlan.{load_operations};
 ghost use Rattle.download_plan.specs.Left.{load_left, load_count};
 ghost use Rattle.download_plan.specs.Step.{op_of};
 
-use crate::opening::{NOTED, read_descriptor, read_greatest_length, size_by};
+use crate::opening::{NOTED, read_descriptor, read_greatest_length, size_after};
 use crate::operation::{load, load_step};
 use crate::place::{list_of, load_shares, piece_count};
 use crate::step::load_step_at;
@@ -95,8 +95,6 @@ impl PlanSource for LoadPlan {
     }
 
     fn note(&mut self, k: u32, got: &[u8]) {
-        if k == NOTED {
-            self.size = size_by(got);
-        }
+        self.size = size_after(k, self.size, got);
     }
 }

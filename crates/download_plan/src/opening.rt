@@ -1,7 +1,7 @@
 //! The two reads that a plan begins with: the descriptor, and the greatest length of an APDU, by which a device says how long the
 //! pieces may be.
 
-ghost use Rattle.std.specs.Prelude.{◌≡◌, Some};
+ghost use Rattle.std.specs.Prelude.{◌≡◌, ◌≢◌, Some};
 ghost use Rattle.knx_model.specs.declared.plan.Expect.TheVariants.{Note};
 ghost use Rattle.knx_model.specs.declared.plan.Op.TheVariants.{Send};
 ghost use Rattle.knx_model.specs.declared.frames.tpdu.Apdu.TheVariants.{DescriptorRead, DescriptorResponse, PropertyRead};
@@ -66,11 +66,19 @@ fn size_told(count: u8, octets: &[u8]) -> PieceSize
 }
 
 /// The size of the pieces for a device that gave this answer.
-pub fn size_by(got: &[u8]) -> PieceSize
+fn size_by(got: &[u8]) -> PieceSize
     ensures { result ≡ size_by (Some got.now) }
 {
     match service_in(got) {
         Some(Apdu::PropertyResponse { count, octets, .. }) => size_told(count, octets.as_slice()),
         _ => PieceSize::Twelve,
     }
+}
+
+/// The size of the pieces once the answer to the k-th operation came.
+pub fn size_after(k: u32, size: PieceSize, got: &[u8]) -> PieceSize
+    ensures noted { k ≡ 1 → result ≡ size_by (Some got.now) }
+    ensures stays { k ≢ 1 → result ≡ size }
+{
+    if k == NOTED { size_by(got) } else { size }
 }

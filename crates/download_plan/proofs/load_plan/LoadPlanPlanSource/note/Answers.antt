@@ -1,19 +1,20 @@
-use Rattle.std.proofs.Common.{ap, arith}
+use Rattle.std.proofs.Common.{◌≡◌, ◌≢◌, ◌∙◌, ap}
+use Rattle.knx_model.specs.declared.plan.PieceSize.{PieceSize}
 use Rattle.download_plan.specs.Left.{Listening}
-use Rattle.download_plan.proofs.Lefts.{load_noted, load_unnoted, load_is_noted, load_before}
+use Rattle.download_plan.proofs.Lefts.{load_noted, load_before, load_ignored}
 use Rattle.download_plan.proofs.load_plan.LoadPlanPlanSource.note.Goals as goal
 
-pub returns-then-k-eq-NOTED-clause-noted : goal.returns-then-k-eq-NOTED-clause-noted
-returns-then-k-eq-NOTED-clause-noted c =
-    λ _. load_noted c.args.self.now (record { image = c.self.inside.image; size = c.size_by-self-inside.result }) c.args.k c.args.got.now
-    (ap (λ (p : Listening). p.image) c.self.view_is) c.if-k-eq-NOTED.true c.size_by-self-inside.ensures
+pub returns-clause-noted : goal.returns-clause-noted
+returns-clause-noted c =
+    load_noted c.args.self.now (record { image = c.self.inside.image; size = c.size_after-self-inside.result }) c.args.k c.args.got.now
+    (ap (λ (p : Listening). p.image) c.self.view_is) c.size_after-self-inside.ensures.noted
 
-pub returns-then-k-eq-NOTED-clause-before : goal.returns-then-k-eq-NOTED-clause-before
-returns-then-k-eq-NOTED-clause-before c =
-    λ j h. load_before c.args.self.now (record { image = c.self.inside.image; size = c.size_by-self-inside.result }) j (ap (λ (p : Listening). p.image) c.self.view_is) (omega (arith, h))
+pub returns-clause-before : goal.returns-clause-before
+returns-clause-before c =
+    let stays : c.args.k ≢ 1 → c.size_after-self-inside.result ≡ c.args.self.now.size = λ other. c.size_after-self-inside.ensures.stays other ∙ ap (λ (p : Listening). p.size) c.self.view_is in
+    load_before c.args.self.now (record { image = c.self.inside.image; size = c.size_after-self-inside.result }) c.args.k (ap (λ (p : Listening). p.image) c.self.view_is) stays
 
-pub returns-then-k-eq-NOTED-clause-ignored : goal.returns-then-k-eq-NOTED-clause-ignored
-returns-then-k-eq-NOTED-clause-ignored c = λ unnoted j. absurd (unnoted (load_is_noted c.args.self.now c.args.k c.if-k-eq-NOTED.true))
-
-pub returns-else-k-eq-NOTED-clause-noted : goal.returns-else-k-eq-NOTED-clause-noted
-returns-else-k-eq-NOTED-clause-noted c = λ noted. absurd (c.if-k-eq-NOTED.false (load_unnoted c.args.self.now c.args.k noted))
+pub returns-clause-ignored : goal.returns-clause-ignored
+returns-clause-ignored c =
+    let stays : c.args.k ≢ 1 → c.size_after-self-inside.result ≡ c.args.self.now.size = λ other. c.size_after-self-inside.ensures.stays other ∙ ap (λ (p : Listening). p.size) c.self.view_is in
+    load_ignored c.args.self.now (record { image = c.self.inside.image; size = c.size_after-self-inside.result }) c.args.k (ap (λ (p : Listening). p.image) c.self.view_is) stays
