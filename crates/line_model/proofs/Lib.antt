@@ -1,0 +1,6 @@
+mod Passes
+mod Sessions
+mod Disturbed
+mod Begins
+mod Networks
+mod Projection

@@ -1,7 +1,7 @@
 -- Runs of the line that show what the definitions allow: a tunnel comes up, a connection to a device is opened and its descriptor is read,
 -- through network, gateway, bus and device and back; a device that takes no T_Connect; a group telegram; a write in which power goes, and one
 -- over worn memory; losses and repeats; a channel that closes, and the next one. Each list has its newest event first.
-use Rattle.std.specs.Prelude.{ℕ, Bool, true, false, ◌==◌, List, [], ◌∷◌, Option, Some, None, if◌then◌else◌}
+use Rattle.std.specs.Prelude.{ℕ, true, false, ◌==◌, List, [], ◌∷◌, Option, Some, None, if◌then◌else◌}
 use Rattle.knx_model.specs.declared.address.IndAddr.{IndAddr}
 use Rattle.knx_model.specs.declared.frames.cemi.Ldata.{Ldata}
 use Rattle.knx_model.specs.declared.frames.cemi.LdataCode.TheVariants.{Req}
@@ -23,7 +23,7 @@ use Rattle.line_model.specs.declared.log.LogWhat.TheVariants.{Took, Done, Failed
 use Rattle.line_model.specs.Log.{Job}
 use Rattle.line_model.specs.Record.{Entry, entry, Put, Renewed, Got, Quiet}
 use Rattle.line_model.specs.Tunnel.{fresh}
-use Rattle.line_model.specs.World.{World, Event, AtGateway, Comes, Send, Renew, Up, Down, LoseDown, Bus, BusTorn, BusWorn, BusAgain, DevSend, GwClose, On}
+use Rattle.line_model.specs.World.{World, Event, Comes, Send, Renew, Up, Down, LoseDown, Bus, BusTorn, BusWorn, BusAgain, DevSend, GwClose, On}
 
 -- ---- the line 1.1 with one device, 1.1.5, whatever it keeps
 

@@ -187,3 +187,8 @@ step w e = record { tunnel = tunnel.step w.tunnel (tunnel_event w e); devices = 
 abbrev pub replay : World → List Event → World
 replay start [] = start
 replay start (e ∷ events) = step (replay start events) e
+
+-- what a list of events is to the tunnel
+abbrev pub tunnel_events : World → List Event → List TunnelEvent
+tunnel_events start [] = []
+tunnel_events start (e ∷ events) = tunnel_event (replay start events) e ∷ tunnel_events start events

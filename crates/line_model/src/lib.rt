@@ -3,10 +3,18 @@
 
 mod fault;
 mod group;
+mod laws;
 mod log;
 mod outside;
+mod runs;
 
 pub use fault::{HubFault, Try};
 pub use group::{GroupTurn, Indication};
+pub use laws::{channel_numbers_come_again, datagrams_arrive, the_tunnel_runs_in_the_line};
 pub use log::{LogEntry, LogWhat, Report};
 pub use outside::{DialFailed, Dialer, Gate, Link, LinkFault, Polled, Port, PortFault, PortPolled};
+pub use runs::{
+    a_channel_dies, a_channel_follows_another, a_job_fails_by_three_signs, a_line_begins,
+    a_session_reads_the_descriptor, a_telegram_is_sent, datagrams_are_lost_and_repeated,
+    writes_are_torn_and_worn,
+};

@@ -1,0 +1,33 @@
+//! Laws of the definitions, each a function without a body whose contract is the law.
+
+ghost use Rattle.std.specs.Prelude.{◌≡◌, ◌≢◌, ℕ, ◌+◌, ◌<◌, ◌≤◌, ◌++◌, ◌∷◌, List, Some, length, slice_get};
+ghost use Rattle.line_model.specs.Gateway.{number_of};
+ghost use Rattle.line_model.specs.Legal.{IsLegal};
+ghost use Rattle.line_model.specs.Network.{Sent, MayArrive, new_datagram};
+ghost use Rattle.line_model.specs.Record.{record_of, tunnel_record};
+ghost use Rattle.line_model.specs.Tunnel.{Mode, IsLegal as IsLegalInTunnel, replay as tunnel_replay};
+ghost use Rattle.line_model.specs.World.{World, Event, replay, tunnel_events};
+
+/// What the network delivers: a datagram with 127 younger ones may arrive and one with 128 may not, nor one that was delivered twice, nor one
+/// since which 255 channels were made.
+pub fn datagrams_arrive()
+    ensures young { (made : ℕ) (younger older : List Sent) (octets : List ℕ) (endpoint : ℕ) → length younger ≡ 127 → MayArrive made (younger ++ new_datagram octets endpoint made ∷ older) 127 }
+    ensures old { (made : ℕ) (sent : List Sent) (age : ℕ) → 128 ≤ age → ¬ MayArrive made sent age }
+    ensures twice { (made : ℕ) (sent : List Sent) (age : ℕ) (s : Sent) → slice_get sent age ≡ Some s → 2 ≤ s.delivered → ¬ MayArrive made sent age }
+    ensures late { (made : ℕ) (sent : List Sent) (age : ℕ) (s : Sent) → slice_get sent age ≡ Some s → s.made + 255 ≤ made → ¬ MayArrive made sent age }
+{}
+
+/// The number of a channel comes again after 255 channels, and not before; it is 1 to 255.
+pub fn channel_numbers_come_again()
+    ensures again { (place : ℕ) → number_of (place + 255) ≡ number_of place }
+    ensures before { (place later : ℕ) → 0 < later → later < 255 → number_of (place + later) ≢ number_of place }
+    ensures least { (place : ℕ) → 1 ≤ number_of place }
+    ensures greatest { (place : ℕ) → number_of place ≤ 255 }
+{}
+
+/// The tunnel's part of a run of the line is a run of the tunnel, legal where the line's is, with the same record.
+pub fn the_tunnel_runs_in_the_line()
+    ensures runs { (start : World) (events : List Event) → (replay start events).tunnel ≡ tunnel_replay start.tunnel (tunnel_events start events) }
+    ensures legal { (mode : Mode) (start : World) (events : List Event) → IsLegal mode start events → IsLegalInTunnel mode start.tunnel (tunnel_events start events) }
+    ensures records { (start : World) (events : List Event) → record_of start events ≡ tunnel_record start.tunnel (tunnel_events start events) }
+{}

@@ -1,0 +1,72 @@
+//! Laws that show what the definitions allow: runs of the line, each a function without a body whose contract says what holds of the run.
+
+ghost use Rattle.std.specs.Prelude.{◌≡◌, List, [], ◌∷◌};
+ghost use Rattle.knx_model.specs.Device.{NonVolatile};
+ghost use Rattle.knx_model.specs.declared.script.ScriptWhat.TheVariants.{LoseDown, LoseTo, RepeatUp, RepeatTo, Cut, Worn};
+ghost use Rattle.line_model.specs.Attempts.{attempts, Resting};
+ghost use Rattle.line_model.specs.ClientView.{Open, Lost, channel};
+ghost use Rattle.line_model.specs.Follows.{Follows};
+ghost use Rattle.line_model.specs.Fresh.{IsFresh, Settled};
+ghost use Rattle.line_model.specs.Headline.{IsDisciplined};
+ghost use Rattle.line_model.specs.Legal.{IsLegal};
+ghost use Rattle.line_model.specs.Moments.{moments, between};
+ghost use Rattle.line_model.specs.Record.{Entry, placed, entries};
+ghost use Rattle.line_model.specs.Renews.{RenewsRightly};
+ghost use Rattle.line_model.specs.Runs.{device, begin, whole, job, reading, told_done, unheard, told_failed, nobody, turn, telegram_sent, told_sent, torn, filling, worn, response_lost, comes_twice, second, quiet_until};
+ghost use Rattle.line_model.specs.Told.{ToldTruly};
+ghost use Rattle.line_model.specs.Tunnel.{Commissions};
+
+/// A line with one device, whatever that keeps, is a fresh start, and settled.
+pub fn a_line_begins()
+    ensures fresh { (kept : NonVolatile) → IsFresh (begin kept) }
+    ensures settled { (kept : NonVolatile) → Settled Commissions (begin kept) }
+{}
+
+/// A session by which a descriptor is read is legal and follows the empty script; a hub that does it is disciplined, and tells the job done.
+pub fn a_session_reads_the_descriptor()
+    ensures legal { (kept : NonVolatile) → IsLegal Commissions (begin kept) whole }
+    ensures follows { (kept : NonVolatile) → Follows [] Commissions (begin kept) whole }
+    ensures disciplined { (kept : NonVolatile) → IsDisciplined (job ∷ []) [] 33 (placed (begin kept) whole) told_done }
+{}
+
+/// A device that gets no T_Connect: the script's losses, three attempts and no fourth, and the job told failed by three signs.
+pub fn a_job_fails_by_three_signs()
+    ensures legal { (kept : NonVolatile) → IsLegal Commissions (begin kept) unheard }
+    ensures follows { (kept : NonVolatile) → Follows (LoseTo device 1 ∷ LoseTo device 2 ∷ LoseTo device 3 ∷ []) Commissions (begin kept) unheard }
+    ensures told { (kept : NonVolatile) → ToldTruly (job ∷ []) [] (placed (begin kept) unheard) told_failed }
+    ensures spent { (kept : NonVolatile) → attempts device reading (between 4 25 (moments (placed (begin kept) unheard))) ≡ Resting 3 }
+{}
+
+/// A group telegram is put, confirmed and told sent.
+pub fn a_telegram_is_sent()
+    ensures legal { IsLegal Commissions nobody telegram_sent }
+    ensures told { ToldTruly [] (turn ∷ []) (placed nobody telegram_sent) told_sent }
+{}
+
+/// A write in which power goes, and one over worn memory: each is legal, and is just what the script's line says.
+pub fn writes_are_torn_and_worn()
+    ensures torn { (kept : NonVolatile) → IsLegal Commissions (begin kept) torn }
+    ensures cut { (kept : NonVolatile) → Follows (Cut device 1 1 ∷ []) Commissions (begin kept) torn }
+    ensures worn { IsLegal Commissions (begin filling) worn }
+    ensures changed { Follows (Worn device 1 ∷ []) Commissions (begin filling) worn }
+{}
+
+/// A datagram that is lost, and a datagram and a frame that come twice: each is legal, and is just what the script's lines say.
+pub fn datagrams_are_lost_and_repeated()
+    ensures lost { (kept : NonVolatile) → IsLegal Commissions (begin kept) response_lost }
+    ensures never { (kept : NonVolatile) → Follows (LoseDown 1 ∷ []) Commissions (begin kept) response_lost }
+    ensures twice { (kept : NonVolatile) → IsLegal Commissions (begin kept) comes_twice }
+    ensures repeated { (kept : NonVolatile) → Follows (RepeatUp 2 ∷ RepeatTo device 1 ∷ []) Commissions (begin kept) comes_twice }
+{}
+
+/// The gateway closes the channel, and the client renews its endpoint and gets the next one.
+pub fn a_channel_follows_another()
+    ensures legal { (kept : NonVolatile) → IsLegal Commissions (begin kept) second }
+    ensures renews { (kept : NonVolatile) → RenewsRightly (entries (placed (begin kept) second)) }
+{}
+
+/// Three heartbeats without answer: the channel is lost when 10,000 ms have passed after the third, and not a millisecond before.
+pub fn a_channel_dies()
+    ensures open { (l : List Entry) × (channel (quiet_until 190004) ≡ Open 1 l) }
+    ensures lost { channel (quiet_until 190005) ≡ Lost 1 }
+{}
