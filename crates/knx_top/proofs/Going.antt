@@ -14,7 +14,7 @@ use Rattle.knx_model.proofs.Leads.{Leads, Leads-by_runs}
 use Rattle.knx_top.specs.declared.event.BenchEvent.{BenchEvent}
 use Rattle.knx_top.specs.declared.event.BenchEvent.TheVariants.{Give, GiveTorn, On}
 use Rattle.knx_top.specs.declared.download.Asked.{Asked}
-use Rattle.knx_top.specs.Attempt.{IsNextFrom, GivesWhole, Begins, Moves, Passes, CutsOff, EndsCutOff, StopsIn, plan_after}
+use Rattle.knx_top.specs.Attempt.{IsNextFrom, Begins, Moves, Passes, CutsOff, EndsCutOff, StopsIn, plan_after}
 use Rattle.knx_top.specs.Attempts.{WasGiven, NothingYet, Next, WereCutOff, NoneYet, OneMore, GotThrough, WasBegun, HasGiven, WasCut, KeptToPlan, InAttempt, AfterThree}
 use Rattle.knx_top.specs.Bench.{Trace, happens, replay, now, after, answered, cut_after, Went}
 use Rattle.knx_top.proofs.Traces.{replay_last, Went_none, Went_more, Went_join, Went_weaker, Went_now}
@@ -105,7 +105,7 @@ here_is : (plan left : Plan) (first here : Trace) → (g : IsGoing plan first he
 here_is plan left first here g = rw (g.events, g.start) (replay-append first.start first.events g.given)
 
 -- whatever came of the next operation, the cases held at every moment
-pub Went_on : (plan : Plan) (apdu : List ℕ) (expect : Expect) (next : Option (List ℕ) → Plan) (first here new : Trace) → IsGoing plan first here (Asks apdu expect next) → Moves apdu here new
+Went_on : (plan : Plan) (apdu : List ℕ) (expect : Expect) (next : Option (List ℕ) → Plan) (first here new : Trace) → IsGoing plan first here (Asks apdu expect next) → Moves apdu here new
     → (image : Image) → GoodPlan plan image → Went (OldStoppedOrImage (now first).kept image) first new
 Went_on plan apdu expect next first here new g m image good =
     let P : NonVolatile → Type 0 = OldStoppedOrImage (now first).kept image in
@@ -128,7 +128,7 @@ Went_on plan apdu expect next first here new g m image good =
     by m
 
 -- the answer to the next operation is the wanted one
-pub suits_here : (plan : Plan) (apdu : List ℕ) (expect : Expect) (next : Option (List ℕ) → Plan) (first here : Trace) → IsGoing plan first here (Asks apdu expect next) → Suits apdu expect (answered (now here) apdu)
+suits_here : (plan : Plan) (apdu : List ℕ) (expect : Expect) (next : Option (List ℕ) → Plan) (first here : Trace) → IsGoing plan first here (Asks apdu expect next) → Suits apdu expect (answered (now here) apdu)
 suits_here plan apdu expect next first here g = subst (Suits apdu expect) (sym (answer_of (now here) apdu g.power)) g.serves.0
 
 -- a cut and the return of power are a cut in the service
@@ -136,7 +136,7 @@ pub cuts_off : (apdu : List ℕ) (old mid new : Trace) (k : ℕ) → mid ≡ aft
 cuts_off apdu old mid new k m n = record { fresh = ltb 0 k; octets = written_front (effect_in apdu) k; is = n ∙ ap (λ (t : Trace). after t On) m }
 
 -- where the next operation was given, the plan that follows its answer leads on
-pub goes_on : (plan : Plan) (apdu : List ℕ) (expect : Expect) (next : Option (List ℕ) → Plan) (first here new : Trace) (answer : Option (List ℕ)) → IsGoing plan first here (Asks apdu expect next)
+goes_on : (plan : Plan) (apdu : List ℕ) (expect : Expect) (next : Option (List ℕ) → Plan) (first here new : Trace) (answer : Option (List ℕ)) → IsGoing plan first here (Asks apdu expect next)
     → Passes apdu here new answer → IsGoing plan first new (next answer)
 goes_on plan apdu expect next first here new answer g p =
     let a : answer ≡ answer_in (now here).frames (now here).kept apdu = p.answer_is ∙ answer_of (now here) apdu g.power in
@@ -165,7 +165,7 @@ cut_events : (first given : List BenchEvent) (torn : BenchEvent) → ((first ++ 
 cut_events first given torn = append_assoc (first ++ given) (torn ∷ []) (On ∷ []) ∙ append_assoc first given (torn ∷ On ∷ [])
 
 -- a cut in the next operation ends the attempt
-pub ends_cut_off : (plan : Plan) (apdu : List ℕ) (expect : Expect) (next : Option (List ℕ) → Plan) (first here new : Trace) → IsGoing plan first here (Asks apdu expect next) → CutsOff apdu here new → EndsCutOff plan first new
+ends_cut_off : (plan : Plan) (apdu : List ℕ) (expect : Expect) (next : Option (List ℕ) → Plan) (first here new : Trace) → IsGoing plan first here (Asks apdu expect next) → CutsOff apdu here new → EndsCutOff plan first new
 ends_cut_off plan apdu expect next first here new g c =
     let torn : BenchEvent = GiveTorn apdu c.fresh c.octets in
     record {
@@ -175,7 +175,7 @@ ends_cut_off plan apdu expect next first here new g c =
     }
 
 -- memory was wanting in the next operation
-pub begins : (plan : Plan) (apdu : List ℕ) (expect : Expect) (next : Option (List ℕ) → Plan) (first here new : Trace) → IsGoing plan first here (Asks apdu expect next) → StopsIn apdu here new → Begins plan first new
+begins : (plan : Plan) (apdu : List ℕ) (expect : Expect) (next : Option (List ℕ) → Plan) (first here new : Trace) → IsGoing plan first here (Asks apdu expect next) → StopsIn apdu here new → Begins plan first new
 begins plan apdu expect next first here new g (inl n) = record { events = g.given; more = rw n g.events; begun = HasGiven (Asks apdu expect next) g.given g.was_given }
 begins plan apdu expect next first here new g (inr n) =
     let torn : BenchEvent = GiveTorn apdu n.0 n.1.0 in
@@ -185,21 +185,14 @@ begins plan apdu expect next first here new g (inr n) =
       begun = WasCut apdu expect next n.0 n.1.0 g.given g.was_given;
     }
 
--- nothing is left
-pub gives_all : (plan : Plan) (first here : Trace) → IsGoing plan first here Over → GivesWhole plan first here
-gives_all plan first here g = record { events = g.given; more = g.events; was_given = g.was_given }
-
-pub runs_it : (plan : Plan) (first here : Trace) → IsGoing plan first here Over → (image : Image) → GoodPlan plan image → runs (now here).kept ≡ Some image
-runs_it plan first here g image good = (g.led image good).leads.1
-
 -- ---- a position in a plan
 
 -- an operation at the head of a plan, with what follows its answer
-pub record Heads (apdu : List ℕ) (expect : Expect) (plan : Plan) : Type 0 where
+record Heads (apdu : List ℕ) (expect : Expect) (plan : Plan) : Type 0 where
   pub next : Option (List ℕ) → Plan
   pub is : plan ≡ Asks apdu expect next
 
-pub heads : (apdu : List ℕ) (expect : Expect) (plan rest : Plan) → IsHead (Send apdu expect) plan rest → Heads apdu expect plan
+heads : (apdu : List ℕ) (expect : Expect) (plan rest : Plan) → IsHead (Send apdu expect) plan rest → Heads apdu expect plan
 heads apdu AckOnly plan rest h = record { next = λ _. rest; is = h }
 heads apdu (Is wanted) plan rest h = record { next = λ _. rest; is = h }
 heads apdu Note plan rest h = record { next = h.0; is = h.1 }
