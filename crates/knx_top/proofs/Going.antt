@@ -14,7 +14,7 @@ use Rattle.knx_model.proofs.Leads.{Leads, Leads-by_runs}
 use Rattle.knx_top.specs.declared.event.BenchEvent.{BenchEvent}
 use Rattle.knx_top.specs.declared.event.BenchEvent.TheVariants.{Give, GiveTorn, On}
 use Rattle.knx_top.specs.declared.download.Asked.{Asked}
-use Rattle.knx_top.specs.Attempt.{IsNextFrom, Begins, Moves, Passes, CutsOff, EndsCutOff, StopsIn, plan_after}
+use Rattle.knx_top.specs.Attempt.{IsNextFrom, GivesWhole, Begins, Moves, Passes, CutsOff, EndsCutOff, StopsIn, plan_after}
 use Rattle.knx_top.specs.Attempts.{WasGiven, NothingYet, Next, WereCutOff, NoneYet, OneMore, GotThrough, WasBegun, HasGiven, WasCut, KeptToPlan, InAttempt, AfterThree}
 use Rattle.knx_top.specs.Bench.{Trace, happens, replay, now, after, answered, cut_after, Went}
 use Rattle.knx_top.proofs.Traces.{replay_last, Went_none, Went_more, Went_join, Went_weaker, Went_now}
