@@ -3,4 +3,9 @@ pub mod Answers
 pub mod Answered
 pub mod Slots
 pub mod Written
+pub mod Taken
+pub mod Capacities
 pub mod Leaving
+pub mod Telegrams
+pub mod Waiting
+pub mod Sendings

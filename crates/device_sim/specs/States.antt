@@ -2,7 +2,7 @@
 use Rattle.std.specs.Prelude.{Bool, ◌&&◌}
 use Rattle.device_sim.specs.declared.kept.LoadStates.{LoadStates}
 use Rattle.knx_model.specs.Device.{NonVolatile}
-use Rattle.knx_model.specs.DeviceFrames.{same_state}
+use Rattle.knx_model.specs.DeviceState.{same_state}
 
 abbrev pub states_of : NonVolatile → LoadStates
 states_of kept = record {

@@ -1,25 +1,25 @@
 //! The simulated device: what it is, its power, and what it runs.
 
 ghost use Rattle.std.specs.Prelude.{◌≡◌, true, IfOk};
-ghost use Rattle.knx_model.specs.Device.{Fits, all_loaded, runs};
-ghost use Rattle.knx_model.specs.DeviceState.{blank, loaded_with};
+ghost use Rattle.knx_model.specs.Device.{Fits, HasCapacities, NonVolatile, all_loaded, runs};
+ghost use Rattle.knx_model.specs.DeviceState.{IsDevice, blank, loaded_with, device_with, as_standard, at_rest, cut, switched_on};
 ghost use Rattle.knx_model.specs.DeviceConnection.{device_deadline};
-ghost use Rattle.knx_model.specs.DeviceFrames.{at_rest, cut, switched_on};
 
 use crate::kept::Kept;
 use crate::loadable::Loadable;
 use crate::values::Values;
-use knx_model::{Image, IndAddr, Ldata, LoadableObject, NoMemory, Octets};
+use knx_model::{FrameSupport, Image, IndAddr, Ldata, LoadableObject, NoMemory, Octets};
 use std::alloc::Global;
 use std::collections::VecDeque;
 use std::marker::Model;
 use transport_conn::DeviceConn;
 
-/// A device of System B on a line: its individual address, what it keeps without power, whether it has power, and what it has
-/// only while it has: its connection, its objects' values, the frames that it has to send, and the frame that it got last.
+/// A device of System B on a line: its individual address, which frames it takes, what it keeps without power, whether it has power,
+/// and what it has only while it has: its connection, its objects' values, the frames that it has to send, and the one that it got last.
 #[derive(Drop)]
 pub struct Device {
     pub(crate) address: IndAddr,
+    pub(crate) frames: FrameSupport,
     pub(crate) kept: Kept,
     pub(crate) power: bool,
     pub(crate) connection: DeviceConn,
@@ -29,17 +29,20 @@ pub struct Device {
 }
 
 impl Model for Device {
-    ghost use Rattle.knx_model.specs.DeviceFrames.{LineDevice};
+    ghost use Rattle.knx_model.specs.Device.{HasCapacities};
+    ghost use Rattle.knx_model.specs.DeviceState.{DeviceState};
 
-    ghost Value = { LineDevice };
+    ghost Value = { DeviceState };
 
-    ghost view = { λ d. record { state = record { address = d.address; kept = d.kept; power = d.power }; connection = d.connection; values = d.values; unsent = d.unsent.items; last = d.last } };
+    ghost view = { λ d. record { address = d.address; frames = d.frames; kept = d.kept; power = d.power; connection = d.connection; values = d.values; unsent = d.unsent.items; last = d.last } };
+
+    ghost invariant = { λ d. HasCapacities d.kept };
 }
 
 impl Device {
     /// A device with power to which nothing was loaded.
     pub fn blank(alloc: Global, address: IndAddr) -> Result<Device, NoMemory>
-        ensures { IfOk result (λ made. made ≡ at_rest (blank address)) }
+        ensures { IfOk result (λ made. made ≡ blank address) }
     {
         let kept = Kept {
             address_table: Loadable::blank(alloc, LoadableObject::AddressTable.capacity())?,
@@ -53,7 +56,7 @@ impl Device {
     /// A device with power that is loaded with an image.
     pub fn loaded(alloc: Global, address: IndAddr, image: &Image) -> Result<Device, NoMemory>
         requires { Fits image.now }
-        ensures { IfOk result (λ made. made ≡ at_rest (loaded_with address image.now)) }
+        ensures { IfOk result (λ made. made ≡ loaded_with address image.now) }
     {
         let kept = Kept {
             address_table: Loadable::loaded(
@@ -80,19 +83,36 @@ impl Device {
         Ok(Device::at_rest(alloc, address, kept))
     }
 
+    /// It takes standard frames alone.
+    pub fn set_standard(&mut self)
+        ensures { self.new ≡ as_standard self.old }
+    {
+        self.frames = FrameSupport::Standard;
+    }
+
+    /// What is so of each device, for a caller to know. It does nothing.
+    pub fn facts(&self)
+        ensures { IsDevice self.now }
+    {
+        let _ = &self.kept;
+        self.values.has_slots();
+    }
+
     /// Its individual address.
     pub fn address(&self) -> IndAddr
-        ensures { result ≡ self.now.state.address }
+        ensures { result ≡ self.now.address }
     {
         self.address
     }
 
     /// A device with power that has nothing but what it keeps without.
     fn at_rest(alloc: Global, address: IndAddr, kept: Kept) -> Device
-        ensures { result ≡ at_rest (record { address = address; kept = kept; power = true }) }
+        requires { HasCapacities kept }
+        ensures { result ≡ device_with address kept }
     {
         Device {
             address,
+            frames: FrameSupport::Extended,
             kept,
             power: true,
             connection: DeviceConn::idle(),
@@ -104,7 +124,7 @@ impl Device {
 
     /// What it has only while it has power is lost.
     fn forget(&mut self)
-        ensures { self.new ≡ at_rest self.old.state }
+        ensures { self.new ≡ at_rest self.old }
     {
         self.connection = DeviceConn::idle();
         self.values.reset();
@@ -146,14 +166,14 @@ impl Device {
 
     /// Whether it runs, that is whether all four objects are Loaded.
     pub fn runs(&self) -> bool
-        ensures { result ≡ all_loaded self.now.state.kept }
+        ensures { result ≡ all_loaded self.now.kept }
     {
         self.kept.runs()
     }
 
     /// The image that it runs, and none where it doesn't run.
     pub fn image(&self, alloc: Global) -> Result<Option<Image>, NoMemory>
-        ensures { IfOk result (λ image. image ≡ runs self.now.state.kept) }
+        ensures { IfOk result (λ image. image ≡ runs self.now.kept) }
     {
         if !self.runs() {
             return Ok(None);

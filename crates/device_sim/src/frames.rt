@@ -1,11 +1,13 @@
 //! The device on the line: the frames that it takes, and those that it sends.
 
-ghost use Rattle.std.specs.Prelude.{◌≡◌, nat_lt, true, is_some, Some, IfOk, IfSome, OnOk, OnErr, if◌then◌else◌};
+ghost use Rattle.std.specs.Prelude.{◌≡◌, [], nat_lt, true, is_some, Some, IfOk, IfSome, OnOk, OnErr, if◌then◌else◌};
 ghost use Rattle.knx_model.specs.declared.device.WriteKind.{WriteKind as Kind};
 ghost use Rattle.knx_model.specs.Device.{written_front};
+ghost use Rattle.knx_model.specs.declared.device.Sending.{Sending as Way};
 ghost use Rattle.knx_model.specs.Connection.{IsApdu};
-ghost use Rattle.knx_model.specs.DeviceConnection.{partner_of, after_expiry, device_expired};
-ghost use Rattle.knx_model.specs.DeviceFrames.{Whole, Torn, Worn, took_of, takes, got, taken_alone, effect_of_frame, would_write, write_kind, worn_octets, sends, sent, frame_to_partner, due_frame, shut, with_connection, taken_group, sender, connection_took, effect_delivered};
+ghost use Rattle.knx_model.specs.DeviceConnection.{device_expired};
+ghost use Rattle.knx_model.specs.DeviceFrames.{Whole, Torn, Worn, is_too_long, took_of, takes, after_frame, taken_alone, effect_of_frame, would_write, write_kind, worn_octets, taken_group, sender, connection_took, effect_delivered};
+ghost use Rattle.knx_model.specs.DeviceSending.{due_sending, next_sending, sending_frame, after_sending, waiting_frame, pops, repeat_frame, repeats, shut};
 ghost use Rattle.device_sim.specs.Sending.{answered_end, answered_frame};
 ghost use Rattle.device_sim.specs.Wear.{outcome};
 ghost use Rattle.device_sim.specs.Effects.{meant};
@@ -17,11 +19,26 @@ use crate::sending::{frame_to, queue, queue_if};
 use crate::service::effect_in;
 use crate::worn::Memory;
 use apdu_frames::encode;
-use knx_model::{ApduOctets, IndAddr, Ldata, NoMemory, Took, Tpdu, WriteKind};
+use knx_model::{
+    ApduOctets, FrameSupport, IndAddr, Ldata, NoMemory, Sending, Took, Tpdu, WriteKind,
+};
 use std::alloc::Global;
 use transport_conn::{DeviceConn, DeviceExpired, DeviceTook};
 
+/// The most octets of a standard frame's TPDU.
+const MOST_STANDARD_OCTETS: usize = 16;
+
 impl Device {
+    /// Whether the frame is an extended one and the device takes standard frames alone.
+    fn is_too_long(&self, frame: &Ldata) -> bool
+        ensures { result ≡ is_too_long self.now.frames frame.now }
+    {
+        match self.frames {
+            FrameSupport::Standard => frame.tpdu.len() > MOST_STANDARD_OCTETS,
+            FrameSupport::Extended => false,
+        }
+    }
+
     /// What `take` of this frame would say.
     fn took(&self, frame: &Ldata) -> Took
         ensures { result ≡ took_of self.now frame.now }
@@ -30,6 +47,8 @@ impl Device {
             Took::Off
         } else if !frame.group && frame.destination != self.address.raw {
             Took::NotMine
+        } else if self.is_too_long(frame) {
+            Took::TooLong
         } else {
             Took::Taken
         }
@@ -37,7 +56,8 @@ impl Device {
 
     /// A frame comes over the bus at this time, in milliseconds; its source is the sender. It acts by its connection, or as a
     /// group telegram, and what the device has to say to it waits to be sent. Off exactly where it has no power, else NotMine
-    /// exactly where the frame is for another device alone. At `Err` nothing has changed.
+    /// exactly where the frame is for another device alone, else TooLong exactly where the frame is an extended one and the device a
+    /// standard one. At `Err` nothing has changed.
     pub fn take(&mut self, alloc: Global, frame: &Ldata, now: u64) -> Result<Took, NoMemory>
         ensures took { IfOk result (λ took. took ≡ took_of self.old frame.now) }
         ensures next { OnOk result (self.new ≡ takes self.old frame.now now Whole) }
@@ -53,7 +73,7 @@ impl Device {
     }
 
     fn get(&mut self, alloc: Global, frame: &Ldata, now: u64) -> Result<(), NoMemory>
-        ensures next { OnOk result (self.new ≡ got self.old frame.now now Whole) }
+        ensures next { OnOk result (self.new ≡ after_frame self.old frame.now now Whole) }
         ensures err { OnErr result (self.new ≡ self.old) }
     {
         self.act(alloc, frame, now)?;
@@ -88,7 +108,13 @@ impl Device {
             }
             DeviceTook::Apdu { apdu, ack } => {
                 queue(&mut self.unsent, frame_to(self.address, from, ack));
-                let answer = serve(&mut self.kept, &mut self.values, apdu.as_slice(), memory);
+                let answer = serve(
+                    self.frames,
+                    &mut self.kept,
+                    &mut self.values,
+                    apdu.as_slice(),
+                    memory,
+                );
                 let tpdu = answer_frame(&mut self.connection, answer, now);
                 queue_if(&mut self.unsent, self.address, from, tpdu);
                 Ok(())
@@ -156,11 +182,38 @@ impl Device {
         Ok(())
     }
 
-    /// The next frame that it sends at this time: the oldest that waits, else its outstanding answer where this is due again, else
-    /// the T_Disconnect of a connection that was idle for too long. None exactly where there is none of these.
+    /// What it sends next at this time: the frame that waits longest, else its outstanding answer where this is due again, else the
+    /// T_Disconnect of a connection that was idle for too long. None exactly where there is none of these.
+    pub fn next_sending(&self, now: u64) -> Option<Sending>
+        ensures { result ≡ next_sending self.now now }
+    {
+        match self.unsent.front() {
+            Some(_) => Some(Sending::Waiting),
+            None => due_sending(&self.connection, now),
+        }
+    }
+
+    /// Sends the frame that waits longest; None exactly where none waits.
+    pub fn send_waiting(&mut self) -> Option<Ldata>
+        ensures frame { result ≡ waiting_frame self.old }
+        ensures next { self.new ≡ pops self.old }
+    {
+        self.unsent.pop_front()
+    }
+
+    /// Sends its outstanding answer again.
+    pub fn repeat(&mut self, now: u64) -> Option<Ldata>
+        requires { next_sending self.old now ≡ Some Way.Repeat }
+        ensures frame { result ≡ repeat_frame self.old }
+        ensures next { self.new ≡ repeats self.old now }
+    {
+        self.sends(now)
+    }
+
+    /// The frame that it sends next at this time, by `next_sending`. A closing and its T_Disconnect are one sending here.
     pub fn sends(&mut self, now: u64) -> Option<Ldata>
-        ensures frame { result ≡ sends self.old now }
-        ensures next { self.new ≡ sent self.old now }
+        ensures frame { result ≡ sending_frame self.old (next_sending self.old now) }
+        ensures next { self.new ≡ after_sending self.old now (next_sending self.old now) }
     {
         match self.unsent.pop_front() {
             Some(frame) => Some(frame),
@@ -168,9 +221,12 @@ impl Device {
         }
     }
 
+    /// Nothing waits.
+    #[tactic(auto, using(crate::proofs::Sendings::due_frame_is, crate::proofs::Sendings::due_next_is))]
     fn due(&mut self, now: u64) -> Option<Ldata>
-        ensures frame { result ≡ frame_to_partner self.old (partner_of self.old.connection) (due_frame (device_expired self.old.connection now)) }
-        ensures next { self.new ≡ with_connection self.old (after_expiry self.old.connection now (device_expired self.old.connection now)) }
+        requires { self.old.unsent ≡ [] }
+        ensures frame { result ≡ sending_frame self.old (next_sending self.old now) }
+        ensures next { self.new ≡ after_sending self.old now (next_sending self.old now) }
     {
         let partner = self.connection.partner();
         match self.connection.expire(now) {
@@ -193,6 +249,17 @@ impl Device {
             .push_back(frame_to(self.address, partner, encode(&Tpdu::Disconnect)))?;
         self.connection = DeviceConn::idle();
         Ok(())
+    }
+}
+
+/// What of a connection is due at this time.
+fn due_sending(connection: &DeviceConn, now: u64) -> Option<Sending>
+    ensures { result ≡ due_sending (device_expired connection.now now) }
+{
+    match connection.would_expire(now) {
+        DeviceExpired::Nothing => None,
+        DeviceExpired::Repeat(_) => Some(Sending::Repeat),
+        DeviceExpired::Closed(_) => Some(Sending::Closing),
     }
 }
 

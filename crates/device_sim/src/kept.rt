@@ -2,7 +2,9 @@
 
 ghost use Rattle.std.specs.Prelude.{◌≡◌, ◌≤◌, ℕ, true, List, length, nat_lt, take, Some};
 ghost use Rattle.knx_model.specs.Device.{loadable as content, whole, torn, taken_over, is_write, all_loaded, Loads, Stores, range_octets, written_front, front_of_load};
-ghost use Rattle.knx_model.specs.DeviceFrames.{same_state, complements, worn_octets};
+ghost use Rattle.knx_model.specs.Apdu.{most_octets};
+ghost use Rattle.knx_model.specs.DeviceState.{same_state};
+ghost use Rattle.knx_model.specs.DeviceFrames.{complements, worn_octets};
 ghost use Rattle.device_sim.specs.Effects.{meant};
 ghost use Rattle.device_sim.specs.States.{states_of, has_states};
 
@@ -143,7 +145,7 @@ impl Kept {
 
     /// Stores the complement of each of these octets.
     fn store_worn(&mut self, address: u16, octets: &[u8])
-        requires { length octets.now ≤ 16 }
+        requires { length octets.now ≤ most_octets }
         ensures { self.new ≡ torn self.old (Stores address octets.now) true (complements octets.now) }
     {
         self.scribble(address, octets, complements(octets).as_slice());

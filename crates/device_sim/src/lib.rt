@@ -19,10 +19,14 @@ mod values;
 mod worn;
 
 pub use device::Device;
-pub use knx_model::{ApduOctets, Image, IndAddr, Ldata, NoMemory, Octets, Took, Value, WriteKind};
+pub use knx_model::{
+    ApduOctets, FrameSupport, Image, IndAddr, Ldata, NoMemory, Octets, Sending, Took, Value,
+    WriteKind,
+};
 pub use laws::{
-    group_telegrams_load_nothing, only_delivered_services_load, telegrams_write_by_the_tables,
-    what_is_not_taken_changes_nothing,
+    capacities_stay, group_telegrams_load_nothing, load_states_zero_the_values,
+    only_delivered_services_load, reads_are_answered_by_the_tables, telegrams_write_by_the_tables,
+    waiting_frames_keep_their_order, what_is_not_taken_changes_nothing, writes_are_told,
 };
 pub use service::written_front;
 

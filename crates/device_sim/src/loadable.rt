@@ -30,7 +30,7 @@ impl Model for Loadable {
 
 impl Loadable {
     /// An object to which nothing was loaded, with a memory of `capacity` octets.
-    #[tactic(auto, unfolding(knx_model::specs::Device::blank_object))]
+    #[tactic(auto, unfolding(knx_model::specs::DeviceState::blank_object))]
     pub fn blank(alloc: Global, capacity: u16) -> Result<Loadable, NoMemory>
         ensures { IfOk result (λ made. made ≡ blank_object capacity) }
     {

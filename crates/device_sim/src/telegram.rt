@@ -4,7 +4,8 @@ ghost use Rattle.std.specs.Prelude.{◌≡◌, IfSome, OnOk, OnErr};
 ghost use Rattle.knx_model.specs.Apdu.{IsValueInRange};
 ghost use Rattle.knx_model.specs.ApduReading.{service_in};
 ghost use Rattle.knx_model.specs.Acts.{answerer};
-ghost use Rattle.knx_model.specs.DeviceFrames.{group_service, taken_group, told, answered_by, value_of, response_octets};
+ghost use Rattle.knx_model.specs.DeviceState.{value_of};
+ghost use Rattle.knx_model.specs.DeviceFrames.{group_service, taken_group, telegram_acted, answered_by, response_octets};
 ghost use Rattle.device_sim.specs.Telegrams.{IsServiceInRange};
 
 use crate::device::Device;
@@ -53,7 +54,7 @@ impl Device {
         service: &GroupService,
     ) -> Result<(), NoMemory>
         requires { IsServiceInRange service.now }
-        ensures next { OnOk result (self.new ≡ told self.old image.now group.raw service.now) }
+        ensures next { OnOk result (self.new ≡ telegram_acted self.old image.now group.raw service.now) }
         ensures err { OnErr result (self.new ≡ self.old) }
     {
         let acts = acts(image, group, service);

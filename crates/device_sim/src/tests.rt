@@ -1,7 +1,6 @@
-ghost use Rattle.std.specs.Prelude.{◌≤◌, length, IfOk};
-ghost use Rattle.knx_model.specs.Device.{Fits};
+ghost use Rattle.std.specs.Prelude.{◌≤◌, length};
 
-use crate::{Device, Ldata, Took, Value, WriteKind, written_front};
+use crate::{Device, Ldata, Sending, Took, Value, WriteKind, written_front};
 use knx_model::{ApduOctets, Image, IndAddr, LdataCode, NoMemory, Octets};
 use std::alloc::Global;
 use std::process::Abort;
@@ -9,41 +8,36 @@ use std::test::Fail;
 
 const ADDRESS: IndAddr = IndAddr { raw: 0x1105 };
 
-const OTHER: IndAddr = IndAddr { raw: 0x1106 };
+const OTHER: u16 = 0x1106;
 
 const CLIENT: u16 = 0x11FF;
 
-/// What is done to a device, and what must come of it.
+const GROUP: u16 = 0x0A03;
+
+/// What is done to a device.
 #[derive(Drop)]
-enum Step<'a> {
-    /// A service is given to it, which it answers so.
-    Give(&'a [u8], Option<&'a [u8]>),
+enum Deed<'a> {
+    /// A service is given to it.
+    Give(&'a [u8]),
     /// A service is given to it, and power is cut in its write after so many octets.
     GiveTorn(&'a [u8], u32),
-    /// A frame of the client comes to it, and these it sends next.
-    Take(&'a [u8], Option<&'a [u8]>, Option<&'a [u8]>),
-    /// A frame of the client to this address comes, which it doesn't take.
-    Leave(&'a [u8], IndAddr, Took),
+    /// A frame of the client comes to it.
+    Take(&'a [u8]),
     /// A frame of the client comes to it, and power is cut in its write after so many octets.
     TakeTorn(&'a [u8], u32),
     /// A frame of the client comes to it, and worn memory keeps the complements.
     TakeWorn(&'a [u8]),
-    /// A frame of the client to it would be this write.
-    WouldWrite(&'a [u8], Option<WriteKind>),
-    /// The frame that it sends next.
-    Send(&'a [u8]),
-    /// The frame that it got last.
-    Last(&'a [u8]),
-    /// When a wait of its connection has passed.
-    Deadline(u64),
-    /// Whether it runs.
-    Runs(bool),
+    /// A telegram to the group comes.
+    Telegram(&'a [u8]),
     Shut,
     Cut,
     On,
 }
 
-/// A TPDU of at most 16 octets.
+/// What is done, and what the device answers to a service that is given, or sends then.
+type Row<'a> = (Deed<'a>, &'a [&'a [u8]]);
+
+/// A TPDU of at most 64 octets.
 fn octets(tpdu: &[u8]) -> ApduOctets {
     if tpdu.len() <= ApduOctets::CAPACITY {
         ApduOctets::from_slice(tpdu)
@@ -70,12 +64,29 @@ fn to_device(tpdu: &[u8]) -> Ldata {
     frame(false, ADDRESS.raw, tpdu)
 }
 
-fn gives(device: &mut Device, apdu: &[u8], wanted: Option<&[u8]>) -> bool {
-    match (device.give(apdu), wanted) {
-        (Some(answer), Some(wanted)) => answer.as_slice() == wanted,
-        (None, None) => true,
+fn answers(answer: Option<ApduOctets>, wanted: &[&[u8]]) -> bool {
+    match (answer, wanted) {
+        (Some(answer), [wanted]) => answer.as_slice() == *wanted,
+        (None, []) => true,
         _ => false,
     }
+}
+
+fn sends_next(device: &mut Device, wanted: &[u8]) -> bool {
+    match device.sends(0) {
+        Some(frame) => frame.source == ADDRESS.raw && frame.tpdu.as_slice() == wanted,
+        None => false,
+    }
+}
+
+/// Whether it sends just these.
+fn sends(device: &mut Device, wanted: &[&[u8]]) -> bool {
+    for tpdu in wanted {
+        if !sends_next(device, tpdu) {
+            return false;
+        }
+    }
+    device.next_sending(0).is_none()
 }
 
 fn gives_torn(device: &mut Device, apdu: &[u8], k: u32) -> bool {
@@ -84,25 +95,6 @@ fn gives_torn(device: &mut Device, apdu: &[u8], k: u32) -> bool {
         device.give_torn(apdu, k);
     }
     writes
-}
-
-fn sends(device: &mut Device, wanted: Option<&[u8]>) -> bool {
-    match (device.sends(0), wanted) {
-        (Some(frame), Some(wanted)) => {
-            frame.source == ADDRESS.raw && frame.tpdu.as_slice() == wanted
-        }
-        (None, None) => true,
-        _ => false,
-    }
-}
-
-fn takes(
-    alloc: Global,
-    device: &mut Device,
-    frame: &Ldata,
-    wanted: Took,
-) -> Result<bool, NoMemory> {
-    Ok(device.take(alloc, frame, 0)? == wanted)
 }
 
 fn takes_torn(device: &mut Device, frame: &Ldata, k: u32) -> bool {
@@ -121,130 +113,160 @@ fn takes_worn(alloc: Global, device: &mut Device, frame: &Ldata) -> Result<bool,
     Ok(false)
 }
 
-fn is_last(device: &Device, wanted: &[u8]) -> bool {
-    match device.last() {
-        Some(frame) => frame.tpdu.as_slice() == wanted,
-        None => false,
-    }
-}
-
-/// Does a step to the device, and says whether of it comes what must.
-fn goes(alloc: Global, device: &mut Device, step: &Step<'_>) -> Result<bool, NoMemory> {
-    match step {
-        Step::Give(apdu, answer) => Ok(gives(device, apdu, *answer)),
-        Step::GiveTorn(apdu, k) => Ok(gives_torn(device, apdu, *k)),
-        Step::Take(tpdu, first, second) => {
-            let taken = takes(alloc, device, &to_device(tpdu), Took::Taken)?;
-            Ok(taken && sends(device, *first) && sends(device, *second))
-        }
-        Step::Leave(tpdu, to, took) => takes(alloc, device, &frame(false, to.raw, tpdu), *took),
-        Step::TakeTorn(tpdu, k) => Ok(takes_torn(device, &to_device(tpdu), *k)),
-        Step::TakeWorn(tpdu) => takes_worn(alloc, device, &to_device(tpdu)),
-        Step::WouldWrite(tpdu, kind) => Ok(device.would_write(&to_device(tpdu)) == *kind),
-        Step::Send(tpdu) => Ok(sends(device, Some(tpdu))),
-        Step::Shut => {
+/// Does this to the device, and says whether it was taken.
+fn does(alloc: Global, device: &mut Device, deed: &Deed<'_>) -> Result<bool, NoMemory> {
+    match deed {
+        Deed::Take(tpdu) => Ok(device.take(alloc, &to_device(tpdu), 0)? == Took::Taken),
+        Deed::Telegram(tpdu) => Ok(
+            device.take(alloc, &frame(true, GROUP, tpdu), 0)? == Took::Taken,
+        ),
+        Deed::TakeTorn(tpdu, k) => Ok(takes_torn(device, &to_device(tpdu), *k)),
+        Deed::TakeWorn(tpdu) => takes_worn(alloc, device, &to_device(tpdu)),
+        Deed::GiveTorn(apdu, k) => Ok(gives_torn(device, apdu, *k)),
+        Deed::Shut => {
             device.shut(alloc)?;
             Ok(true)
         }
-        _ => Ok(stands(device, step)),
-    }
-}
-
-/// The steps that take no memory.
-fn stands(device: &mut Device, step: &Step<'_>) -> bool {
-    match step {
-        Step::Last(tpdu) => is_last(device, tpdu),
-        Step::Deadline(at) => device.deadline() == Some(*at),
-        Step::Runs(runs) => device.runs() == *runs,
-        Step::Cut => {
+        Deed::Cut => {
             device.cut();
-            true
+            Ok(true)
         }
-        Step::On => {
+        Deed::On => {
             device.on();
-            true
+            Ok(true)
         }
-        _ => false,
+        Deed::Give(_) => Ok(false),
     }
 }
 
-/// Fails where of a step doesn't come what must.
+fn goes(alloc: Global, device: &mut Device, row: &Row<'_>) -> Result<bool, NoMemory> {
+    let (deed, wanted) = row;
+    if let Deed::Give(apdu) = deed {
+        return Ok(answers(device.give(apdu), wanted));
+    }
+    Ok(does(alloc, device, deed)? && sends(device, wanted))
+}
+
+/// Fails where a row doesn't come out.
 fn assert_goes(
     rt: &impl Abort,
     alloc: Global,
     device: &mut Device,
-    steps: &[Step<'_>],
+    rows: &[Row<'_>],
 ) -> Result<(), NoMemory> {
-    for (at, step) in steps.iter().enumerate() {
-        assert!(rt; goes(alloc, device, step)?, "step {at}");
+    for (at, row) in rows.iter().enumerate() {
+        assert!(rt; goes(alloc, device, row)?, "row {at}");
     }
     Ok(())
 }
 
+/// Start loading of the address table, an allocation of sixteen octets, and its completion.
+const START: &[u8] = b"\x03\xD7\x01\x05\x10\x01\x01\x00\x00\x00\x00\x00\x00\x00\x00\x00";
+
+const SIXTEEN: &[u8] = b"\x03\xD7\x01\x05\x10\x01\x03\x0B\x00\x00\x00\x10\x01\x00\x00\x00";
+
+const COMPLETED: &[u8] = b"\x03\xD7\x01\x05\x10\x01\x02\x00\x00\x00\x00\x00\x00\x00\x00\x00";
+
+const UNLOAD_APPLICATION: &[u8] =
+    b"\x03\xD7\x04\x05\x10\x01\x04\x00\x00\x00\x00\x00\x00\x00\x00\x00";
+
 #[test]
-fn descriptor_and_properties(rt: HostRuntime) -> Result<(), Fail> {
+fn services_and_their_answers(rt: HostRuntime) -> Result<(), Fail> {
     let device = &mut Device::blank(rt.alloc(), ADDRESS)?;
-    let steps = [
+    let rows: [Row<'_>; 15] = [
         // the descriptor of type 0, and of another type
-        Step::Give(b"\x03\x00", Some(b"\x03\x40\x07\xB0")),
-        Step::Give(b"\x03\x01", Some(b"\x03\x7F")),
+        (Deed::Give(b"\x03\x00"), &[b"\x03\x40\x07\xB0"]),
+        (Deed::Give(b"\x03\x01"), &[b"\x03\x7F"]),
         // the object type of the device, and the greatest length of an APDU
-        Step::Give(
-            b"\x03\xD5\x00\x01\x10\x01",
-            Some(b"\x03\xD6\x00\x01\x10\x01\x00\x00"),
+        (
+            Deed::Give(b"\x03\xD5\x00\x01\x10\x01"),
+            &[b"\x03\xD6\x00\x01\x10\x01\x00\x00"],
         ),
-        Step::Give(
-            b"\x03\xD5\x00\x38\x10\x01",
-            Some(b"\x03\xD6\x00\x38\x10\x01\x00\x0F"),
+        (
+            Deed::Give(b"\x03\xD5\x00\x38\x10\x01"),
+            &[b"\x03\xD6\x00\x38\x10\x01\x00\x3F"],
         ),
-        // the table reference of the association table
-        Step::Give(
-            b"\x03\xD5\x02\x07\x10\x01",
-            Some(b"\x03\xD6\x02\x07\x10\x01\x00\x00\x50\x00"),
+        // the table reference of the association table, two elements of it, and an element other than 1
+        (
+            Deed::Give(b"\x03\xD5\x02\x07\x10\x01"),
+            &[b"\x03\xD6\x02\x07\x10\x01\x00\x00\x50\x00"],
         ),
-        // two elements of it, and an element other than 1
-        Step::Give(
-            b"\x03\xD5\x02\x07\x20\x01",
-            Some(b"\x03\xD6\x02\x07\x00\x01"),
+        (
+            Deed::Give(b"\x03\xD5\x02\x07\x20\x01"),
+            &[b"\x03\xD6\x02\x07\x00\x01"],
         ),
-        Step::Give(
-            b"\x03\xD5\x02\x07\x10\x00",
-            Some(b"\x03\xD6\x02\x07\x00\x00"),
+        (
+            Deed::Give(b"\x03\xD5\x02\x07\x10\x00"),
+            &[b"\x03\xD6\x02\x07\x00\x00"],
         ),
+        // memory that isn't allocated
+        (Deed::Give(b"\x02\x04\x40\x00"), &[b"\x02\x40\x40\x00"]),
+        (Deed::Give(START), &[b"\x03\xD6\x01\x05\x10\x01\x02"]),
+        (Deed::Give(SIXTEEN), &[b"\x03\xD6\x01\x05\x10\x01\x02"]),
+        // two octets are written and read
+        (Deed::Give(b"\x02\x82\x40\x00\xAB\xCD"), &[]),
+        (
+            Deed::Give(b"\x02\x02\x40\x00"),
+            &[b"\x02\x42\x40\x00\xAB\xCD"],
+        ),
+        (Deed::Give(COMPLETED), &[b"\x03\xD6\x01\x05\x10\x01\x01"]),
+        (
+            Deed::Give(UNLOAD_APPLICATION),
+            &[b"\x03\xD6\x04\x05\x10\x01\x00"],
+        ),
+        // a group service has no answer
+        (Deed::Give(b"\x00\x80"), &[]),
     ];
-    assert_goes(&rt, rt.alloc(), device, &steps)?;
+    assert_goes(&rt, rt.alloc(), device, &rows)?;
     Ok(())
 }
 
+/// A TPDU of 17 octets, with which an unnumbered frame is an extended one, and one of 16.
+const LONG: &[u8] = b"\x02\x8D\x40\x00\x01\x02\x03\x04\x05\x06\x07\x08\x09\x0A\x0B\x0C\x0D";
+
+const SHORT: &[u8] = b"\x02\x8C\x40\x00\x01\x02\x03\x04\x05\x06\x07\x08\x09\x0A\x0B\x0C";
+
 #[test]
-fn an_address_table_is_loaded(rt: HostRuntime) -> Result<(), Fail> {
+fn standard_devices_and_extended_frames(rt: HostRuntime) -> Result<(), Fail> {
     let device = &mut Device::blank(rt.alloc(), ADDRESS)?;
-    let steps = [
-        // memory that isn't allocated
-        Step::Give(b"\x02\x04\x40\x00", Some(b"\x02\x40\x40\x00")),
-        // start loading, and an allocation of four octets
-        Step::Give(
-            b"\x03\xD7\x01\x05\x10\x01\x01\x00\x00\x00\x00\x00\x00\x00\x00\x00",
-            Some(b"\x03\xD6\x01\x05\x10\x01\x02"),
+    let rows: [Row<'_>; 4] = [
+        (Deed::Give(START), &[b"\x03\xD6\x01\x05\x10\x01\x02"]),
+        (Deed::Give(SIXTEEN), &[b"\x03\xD6\x01\x05\x10\x01\x02"]),
+        (Deed::Give(LONG), &[]),
+        (
+            Deed::Give(b"\x02\x0D\x40\x00"),
+            &[b"\x02\x4D\x40\x00\x01\x02\x03\x04\x05\x06\x07\x08\x09\x0A\x0B\x0C\x0D"],
         ),
-        Step::Give(
-            b"\x03\xD7\x01\x05\x10\x01\x03\x0B\x00\x00\x00\x04\x01\x00\x00\x00",
-            Some(b"\x03\xD6\x01\x05\x10\x01\x02"),
-        ),
-        // write two of the four octets, and read them
-        Step::Give(b"\x02\x82\x40\x00\xAB\xCD", None),
-        Step::Give(b"\x02\x02\x40\x00", Some(b"\x02\x42\x40\x00\xAB\xCD")),
-        // load completed
-        Step::Give(
-            b"\x03\xD7\x01\x05\x10\x01\x02\x00\x00\x00\x00\x00\x00\x00\x00\x00",
-            Some(b"\x03\xD6\x01\x05\x10\x01\x01"),
-        ),
-        // unload the application
-        Step::Give(UNLOAD_APPLICATION, Some(b"\x03\xD6\x04\x05\x10\x01\x00")),
-        // a group service has no answer
-        Step::Give(b"\x00\x80", None),
     ];
-    assert_goes(&rt, rt.alloc(), device, &steps)?;
+    assert_goes(&rt, rt.alloc(), device, &rows)?;
+    assert!(rt; device.take(rt.alloc(), &to_device(LONG), 0)? == Took::Taken);
+    device.set_standard();
+    let rows: [Row<'_>; 3] = [
+        (
+            Deed::Give(b"\x03\xD5\x00\x38\x10\x01"),
+            &[b"\x03\xD6\x00\x38\x10\x01\x00\x0F"],
+        ),
+        (
+            Deed::Give(b"\x02\x0C\x40\x00"),
+            &[b"\x02\x4C\x40\x00\x01\x02\x03\x04\x05\x06\x07\x08\x09\x0A\x0B\x0C"],
+        ),
+        (Deed::Give(b"\x02\x0D\x40\x00"), &[b"\x02\x40\x40\x00"]),
+    ];
+    assert_goes(&rt, rt.alloc(), device, &rows)?;
+    // whether it takes frames to itself, to another device and to the group, and without power
+    let table: [(bool, u16, &[u8], Took); 5] = [
+        (false, ADDRESS.raw, SHORT, Took::Taken),
+        (false, ADDRESS.raw, LONG, Took::TooLong),
+        (false, OTHER, LONG, Took::NotMine),
+        (true, GROUP, LONG, Took::TooLong),
+        (true, GROUP, SHORT, Took::Taken),
+    ];
+    for (group, destination, tpdu, took) in table {
+        let said = device.take(rt.alloc(), &frame(group, destination, tpdu), 0)?;
+        assert!(rt; said == took, "{took:?}");
+    }
+    device.cut();
+    assert!(rt; device.take(rt.alloc(), &to_device(LONG), 0)? == Took::Off);
     Ok(())
 }
 
@@ -274,62 +296,94 @@ fn small(alloc: Global) -> Result<Device, NoMemory> {
     loaded(alloc, b"\x01\x02", b"", b"\x03", b"\x04\x05\x06")
 }
 
-fn has_params(alloc: Global, device: &Device, params: &[u8]) -> Result<bool, NoMemory> {
-    match device.image(alloc)? {
-        Some(image) => Ok(image.params.as_slice() == params),
-        None => Ok(false),
-    }
-}
-
 #[test]
-fn a_device_is_loaded_with_an_image(rt: HostRuntime) -> Result<(), Fail> {
-    let device = small(rt.alloc())?;
-    assert!(rt; device.address() == ADDRESS);
-    assert!(rt; has_params(rt.alloc(), &device, b"\x04\x05\x06")?);
-    Ok(())
-}
-
-const UNLOAD_APPLICATION: &[u8] =
-    b"\x03\xD7\x04\x05\x10\x01\x04\x00\x00\x00\x00\x00\x00\x00\x00\x00";
-
-#[test]
-fn a_cut_of_an_unload(rt: HostRuntime) -> Result<(), Fail> {
+fn a_loaded_device_and_the_cut_of_an_unload(rt: HostRuntime) -> Result<(), Fail> {
     let device = &mut small(rt.alloc())?;
-    let steps = [
-        Step::Runs(true),
-        Step::GiveTorn(UNLOAD_APPLICATION, 1),
-        Step::Runs(false),
-        Step::Give(b"\x03\x00", None),
-        Step::On,
-        Step::Give(b"\x03\x00", Some(b"\x03\x40\x07\xB0")),
+    assert!(rt; device.address() == ADDRESS && device.runs());
+    if let Some(image) = device.image(rt.alloc())? {
+        assert!(rt; image.params.as_slice() == b"\x04\x05\x06".as_slice());
+    }
+    let rows: [Row<'_>; 4] = [
+        (Deed::GiveTorn(UNLOAD_APPLICATION, 1), &[]),
+        (Deed::Give(b"\x03\x00"), &[]),
+        (Deed::On, &[]),
+        (Deed::Give(b"\x03\x00"), &[b"\x03\x40\x07\xB0"]),
     ];
-    assert_goes(&rt, rt.alloc(), device, &steps)?;
-    Ok(())
-}
-
-#[test]
-fn the_front_of_a_write(rt: HostRuntime) -> Result<(), Fail> {
+    assert_goes(&rt, rt.alloc(), device, &rows)?;
+    assert!(rt; !device.runs());
     let front = written_front(rt.alloc(), b"\x02\x82\x40\x00\xAB\xCD", 1)?;
     assert!(rt; front.as_slice() == b"\xAB".as_slice());
     Ok(())
 }
 
+/// Unload the address table, by numbered data.
+const UNLOAD: &[u8] = b"\x43\xD7\x01\x05\x10\x01\x04\x00\x00\x00\x00\x00\x00\x00\x00\x00";
+
 #[test]
-fn a_descriptor_read_by_numbered_data(rt: HostRuntime) -> Result<(), Fail> {
-    let device = &mut Device::blank(rt.alloc(), ADDRESS)?;
-    let steps = [
+fn services_by_numbered_data(rt: HostRuntime) -> Result<(), Fail> {
+    let device = &mut small(rt.alloc())?;
+    let rows: [Row<'_>; 13] = [
         // a closed device answers numbered data by T_Disconnect
-        Step::Take(b"\x43\x00", Some(b"\x81"), None),
-        Step::Take(b"\x80", None, None),
-        Step::Take(b"\x43\x00", Some(b"\xC2"), Some(b"\x43\x40\x07\xB0")),
+        (Deed::Take(b"\x43\x00"), &[b"\x81"]),
+        (Deed::Take(b"\x80"), &[]),
+        (Deed::Take(b"\x43\x00"), &[b"\xC2", b"\x43\x40\x07\xB0"]),
         // the same number again is acknowledged and dropped
-        Step::Take(b"\x43\x00", Some(b"\xC2"), None),
+        (Deed::Take(b"\x43\x00"), &[b"\xC2"]),
         // the next one is neither taken nor acknowledged before the answer's T_ACK
-        Step::Take(b"\x47\x00", None, None),
-        Step::Take(b"\xC2", None, None),
-        Step::Take(b"\x4B\x00", Some(b"\xCB"), None),
+        (Deed::Take(b"\x47\x00"), &[]),
+        (Deed::Take(b"\xC2"), &[]),
+        (Deed::Take(b"\x4B\x00"), &[b"\xCB"]),
+        (Deed::Shut, &[b"\x81"]),
+        (Deed::Take(b"\x80"), &[]),
+        // of a write that power is cut in before its first octet, nothing stands
+        (Deed::TakeTorn(UNLOAD, 0), &[]),
+        (Deed::On, &[]),
+        (Deed::Cut, &[]),
+        (Deed::On, &[]),
     ];
-    assert_goes(&rt, rt.alloc(), device, &steps)?;
+    assert_goes(&rt, rt.alloc(), device, &rows)?;
+    assert!(rt; device.runs() && device.last().is_none());
+    Ok(())
+}
+
+#[test]
+fn worn_memory_keeps_other_octets(rt: HostRuntime) -> Result<(), Fail> {
+    let device = &mut Device::blank(rt.alloc(), ADDRESS)?;
+    let rows: [Row<'_>; 5] = [
+        (Deed::Give(START), &[b"\x03\xD6\x01\x05\x10\x01\x02"]),
+        (Deed::Give(SIXTEEN), &[b"\x03\xD6\x01\x05\x10\x01\x02"]),
+        (Deed::Take(b"\x80"), &[]),
+        (Deed::TakeWorn(b"\x42\x82\x40\x00\x00\x5F"), &[b"\xC2"]),
+        (
+            Deed::Give(b"\x02\x02\x40\x00"),
+            &[b"\x02\x42\x40\x00\xFF\xA0"],
+        ),
+    ];
+    assert_goes(&rt, rt.alloc(), device, &rows)?;
+    Ok(())
+}
+
+#[test]
+fn an_answer_is_repeated_and_an_idle_connection_closes(rt: HostRuntime) -> Result<(), Fail> {
+    let device = &mut Device::blank(rt.alloc(), ADDRESS)?;
+    device.take(rt.alloc(), &to_device(b"\x80"), 0)?;
+    device.take(rt.alloc(), &to_device(b"\x43\x00"), 0)?;
+    assert!(rt; device.deadline() == Some(3000));
+    // what waits goes first, then the answer again after its wait, and the closing where nothing was sent or taken for longer
+    let table: [(u64, Option<Sending>, &[u8]); 6] = [
+        (9000, Some(Sending::Waiting), b"\xC2"),
+        (0, Some(Sending::Waiting), b"\x43\x40\x07\xB0"),
+        (2999, None, b""),
+        (3000, Some(Sending::Repeat), b"\x43\x40\x07\xB0"),
+        (9000, Some(Sending::Closing), b"\x81"),
+        (9000, None, b""),
+    ];
+    for (now, next, tpdu) in table {
+        assert!(rt; device.next_sending(now) == next, "at {now}");
+        if let Some(frame) = device.sends(now) {
+            assert!(rt; frame.tpdu.as_slice() == tpdu, "at {now}");
+        }
+    }
     Ok(())
 }
 
@@ -347,29 +401,6 @@ fn is_long(value: Option<Value>, wanted: &[u8]) -> bool {
     }
 }
 
-/// Whether the objects 1 to 3 have these short values, and object 4 this long one.
-fn has_values(device: &Device, short: [u8; 3], long: &[u8]) -> bool {
-    let [first, second, third] = short;
-    is_short(device.value(1), first)
-        && is_short(device.value(2), second)
-        && is_short(device.value(3), third)
-        && is_long(device.value(4), long)
-}
-
-/// Fails where after the telegram to 1/2/3 the objects 1 to 4 haven't these values.
-fn assert_leaves(
-    rt: &impl Abort,
-    device: &mut Device,
-    alloc: Global,
-    tpdu: &[u8],
-    short: [u8; 3],
-    long: &[u8],
-) -> Result<(), NoMemory> {
-    let taken = takes(alloc, device, &frame(true, 0x0A03, tpdu), Took::Taken)?;
-    assert!(rt; taken && has_values(device, short, long), "at {tpdu:?}");
-    Ok(())
-}
-
 /// The objects 1 to 4 are linked to the group 1/2/3. Their flags are communicate and write; write alone; communicate, update and read;
 /// communicate, write and read. The last one is of one octet.
 fn linked(alloc: Global) -> Result<Device, NoMemory> {
@@ -385,70 +416,32 @@ fn linked(alloc: Global) -> Result<Device, NoMemory> {
 #[test]
 fn group_telegrams_by_flag_and_size(rt: HostRuntime) -> Result<(), Fail> {
     let device = &mut linked(rt.alloc())?;
-    // a write of a short value, a response, a write of one octet and one of two, and a read
-    let table: [(&[u8], [u8; 3], &[u8]); 5] = [
-        (b"\x00\x81", [1, 0, 0], b"\x00"),
-        (b"\x00\x42", [1, 0, 2], b"\x00"),
-        (b"\x00\x80\x5A", [1, 0, 2], b"\x5A"),
-        (b"\x00\x80\x5B\x5C", [1, 0, 2], b"\x5A"),
-        (b"\x00\x00", [1, 0, 2], b"\x5A"),
+    // a write of a short value, a response, a write of one octet and one of two, and a read, which the lowest object with read answers
+    let table: [(&[u8], &[&[u8]], [u8; 3], &[u8]); 5] = [
+        (b"\x00\x81", &[], [1, 0, 0], b"\x00"),
+        (b"\x00\x42", &[], [1, 0, 2], b"\x00"),
+        (b"\x00\x80\x5A", &[], [1, 0, 2], b"\x5A"),
+        (b"\x00\x80\x5B\x5C", &[], [1, 0, 2], b"\x5A"),
+        (b"\x00\x00", &[b"\x00\x42"], [1, 0, 2], b"\x5A"),
     ];
-    for (tpdu, short, long) in table {
-        assert_leaves(&rt, device, rt.alloc(), tpdu, short, long)?;
+    for (tpdu, answer, [first, second, third], fourth) in table {
+        assert!(rt;
+            goes(rt.alloc(), device, &(Deed::Telegram(tpdu), answer))?,
+            "at {tpdu:?}"
+        );
+        assert!(rt;
+            is_short(device.value(1), first) && is_short(device.value(2), second),
+            "at {tpdu:?}"
+        );
+        assert!(rt;
+            is_short(device.value(3), third) && is_long(device.value(4), fourth),
+            "at {tpdu:?}"
+        );
     }
-    // there is no object 5, and the lowest object with read answers
     assert!(rt; device.value(5).is_none());
-    assert!(rt; sends(device, Some(b"\x00\x42")));
-    Ok(())
-}
-
-/// Unload the address table, by numbered data.
-const UNLOAD: &[u8] = b"\x43\xD7\x01\x05\x10\x01\x04\x00\x00\x00\x00\x00\x00\x00\x00\x00";
-
-#[test]
-fn a_write_by_frames(rt: HostRuntime) -> Result<(), Fail> {
-    let device = &mut small(rt.alloc())?;
-    let steps = [
-        Step::WouldWrite(UNLOAD, None),
-        Step::Take(b"\x80", None, None),
-        Step::WouldWrite(UNLOAD, Some(WriteKind::Load)),
-        Step::Deadline(6000),
-        Step::Leave(b"\x43\x00", OTHER, Took::NotMine),
-        Step::Last(b"\x80"),
-        Step::Shut,
-        Step::Send(b"\x81"),
-        Step::Cut,
-        Step::Leave(UNLOAD, ADDRESS, Took::Off),
-        Step::On,
-        Step::Take(b"\x80", None, None),
-        Step::TakeTorn(UNLOAD, 0),
-        Step::Runs(true),
-    ];
-    assert_goes(&rt, rt.alloc(), device, &steps)?;
-    Ok(())
-}
-
-#[test]
-fn worn_memory_keeps_other_octets(rt: HostRuntime) -> Result<(), Fail> {
-    let device = &mut Device::blank(rt.alloc(), ADDRESS)?;
-    let steps = [
-        Step::Take(b"\x80", None, None),
-        // start loading, and an allocation of two octets
-        Step::Take(
-            b"\x43\xD7\x01\x05\x10\x01\x01\x00\x00\x00\x00\x00\x00\x00\x00\x00",
-            Some(b"\xC2"),
-            Some(b"\x43\xD6\x01\x05\x10\x01\x02"),
-        ),
-        Step::Take(b"\xC2", None, None),
-        Step::Take(
-            b"\x47\xD7\x01\x05\x10\x01\x03\x0B\x00\x00\x00\x02\x01\x00\x00\x00",
-            Some(b"\xC6"),
-            Some(b"\x47\xD6\x01\x05\x10\x01\x02"),
-        ),
-        Step::Take(b"\xC6", None, None),
-        Step::TakeWorn(b"\x4A\x82\x40\x00\x00\x5F"),
-        Step::Give(b"\x02\x02\x40\x00", Some(b"\x02\x42\x40\x00\xFF\xA0")),
-    ];
-    assert_goes(&rt, rt.alloc(), device, &steps)?;
+    // a change of a load state makes all values zero
+    assert!(rt; device.give(COMPLETED).is_some() && is_short(device.value(1), 1));
+    assert!(rt; device.give(START).is_some() && device.give(COMPLETED).is_some());
+    assert!(rt; is_short(device.value(1), 0));
     Ok(())
 }

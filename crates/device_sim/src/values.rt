@@ -1,9 +1,9 @@
 //! The values of a device's group objects.
 
-ghost use Rattle.std.specs.Prelude.{◌≡◌, ◌<◌, [], IfOk, IfSome, if◌then◌else◌};
+ghost use Rattle.std.specs.Prelude.{◌≡◌, ◌<◌, length, IfOk, IfSome, if◌then◌else◌};
 ghost use Rattle.knx_model.specs.Apdu.{IsValueInRange};
 ghost use Rattle.knx_model.specs.Acts.{zero_value};
-ghost use Rattle.knx_model.specs.DeviceFrames.{slot, value_or_zero, written_values};
+ghost use Rattle.knx_model.specs.DeviceState.{slot, value_or_zero, written_values, zero_values};
 ghost use Rattle.device_tables.specs.Objects.{holds};
 
 use device_tables::{Objects, zero_value};
@@ -20,29 +20,31 @@ fn copied_slot(slot: &Option<Value>) -> Option<Value>
 /// How many object numbers there are, from 0.
 const OBJECTS: usize = 256;
 
-/// What was written to each object number; no slots where nothing was written.
+/// What was written to each object number. It holds no slots where nothing was written, and takes memory only with the first value.
 #[derive(Drop)]
 pub struct Values {
     slots: Vec<Option<Value>>,
 }
 
 impl Model for Values {
-    ghost use Rattle.std.specs.Prelude.{List, Option, ℕ, IfSome};
+    ghost use Rattle.std.specs.Prelude.{List, Option, ℕ, IfSome, map};
+    ghost use Rattle.std.specs.List.{range_with_len};
     ghost use Rattle.knx_model.specs.declared.frames.value.Value.{Value as GroupValue};
     ghost use Rattle.knx_model.specs.Apdu.{IsValueInRange};
-    ghost use Rattle.knx_model.specs.DeviceFrames.{slot};
+    ghost use Rattle.knx_model.specs.DeviceState.{slot};
 
     ghost Value = { List (Option GroupValue) };
 
-    ghost view = { λ v. v.slots.items };
+    ghost view = { λ v. map (slot v.slots.items) (range_with_len 0 256) };
 
     ghost invariant = { λ v. (k : ℕ) → IfSome (slot v.slots.items k) IsValueInRange };
 }
 
 impl Values {
     /// All are zero. It takes no memory.
+    #[tactic(auto, using(crate::proofs::Slots::no_slots))]
     pub fn zero(alloc: Global) -> Values
-        ensures { result ≡ [] }
+        ensures { result ≡ zero_values }
     {
         Values {
             slots: Vec::new(alloc),
@@ -50,14 +52,17 @@ impl Values {
     }
 
     /// All become zero.
+    #[tactic(auto, using(crate::proofs::Slots::no_slots))]
     pub fn reset(&mut self)
-        ensures { self.new ≡ [] }
+        ensures { self.new ≡ zero_values }
     {
         self.slots.clear();
     }
 
     /// What was written to an object.
+    #[tactic(auto, using(crate::proofs::Slots::slot_of_padded))]
     fn slot(&self, object: usize) -> Option<Value>
+        requires { object < 256 }
         ensures value { result ≡ slot self.now object }
         ensures range { IfSome result IsValueInRange }
     {
@@ -66,6 +71,14 @@ impl Values {
         } else {
             None
         }
+    }
+
+    /// There is a slot for each object number.
+    #[tactic(auto, using(crate::proofs::Slots::padded_length))]
+    pub fn has_slots(&self)
+        ensures { length self.now ≡ 256 }
+    {
+        let _ = &self.slots;
     }
 
     /// The value of an object of a size code.
@@ -80,7 +93,7 @@ impl Values {
     }
 
     /// The values after this one was written to these objects.
-    #[tactic(auto, unfolding(knx_model::specs::DeviceFrames::written_values))]
+    #[tactic(auto, unfolding(knx_model::specs::DeviceState::written_values))]
     pub fn written(
         &self,
         alloc: Global,

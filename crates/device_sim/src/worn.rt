@@ -1,6 +1,7 @@
 //! Worn memory, which keeps other octets than were sent.
 
 ghost use Rattle.std.specs.Prelude.{◌≡◌, ◌≤◌, length};
+ghost use Rattle.knx_model.specs.Apdu.{most_octets};
 ghost use Rattle.knx_model.specs.DeviceFrames.{complements};
 
 use knx_model::ApduOctets;
@@ -16,7 +17,7 @@ pub enum Memory {
 
 /// The complement of each octet.
 pub fn complements(octets: &[u8]) -> ApduOctets
-    requires { length octets.now ≤ 16 }
+    requires { length octets.now ≤ most_octets }
     ensures { result ≡ complements octets.now }
 {
     let mut all = ApduOctets::new();

@@ -3,3 +3,4 @@ pub mod ObjectTable
 pub mod Counting
 pub mod Agreement
 pub mod Pigeonhole
+pub mod Lowest

@@ -10,7 +10,7 @@ mod telegram;
 mod value;
 
 pub use knx_model::{GroupAddr, GroupService, Image, LongValue, NoMemory, ObjSpec, Octets, Value};
-pub use laws::{agrees, linked_exactly};
+pub use laws::{agrees, linked_exactly, the_lowest_answers};
 pub use links::linked;
 pub use objects::{Acts, Objects};
 pub use table::object_in_table;

@@ -1,17 +1,13 @@
 -- The device on the line (ISO/IEC 14543-3-2, 3-1 and 3-4, transport and application layer, management): what it makes of each frame that
--- comes over the bus, and what it sends. A frame that is taken may be taken whole, or a power cut tears the write that it asks for, or
+-- comes over the bus. A frame that is taken may be taken whole, or a power cut tears the write that it asks for, or
 -- worn memory keeps other octets than were sent. That unnumbered data to one device is ignored is this project's own.
-use Rattle.std.specs.Prelude.{ℕ, ◌≡◌, ◌-◌, Bool, true, false, not, ◌&&◌, ◌==◌, is_some, List, [], ◌∷◌, ◌++◌, map, drop, Option, Some, None, if◌then◌else◌}
+use Rattle.std.specs.Prelude.{ℕ, ◌≡◌, ◌-◌, Bool, true, false, not, ◌&&◌, ◌==◌, is_some, List, [], ◌∷◌, ◌++◌, map, Option, Some, None, if◌then◌else◌}
 use Rattle.knx_model.specs.declared.address.IndAddr.{IndAddr}
 use Rattle.knx_model.specs.declared.config.Image.{Image}
 use Rattle.knx_model.specs.declared.connection.DeviceTook.{DeviceTook}
 use Rattle.knx_model.specs.declared.connection.DeviceTook.TheVariants as took
-use Rattle.knx_model.specs.declared.connection.DeviceExpired.{DeviceExpired}
-use Rattle.knx_model.specs.declared.connection.DeviceExpired.TheVariants as expired
 use Rattle.knx_model.specs.declared.device.FrameSupport.{FrameSupport}
 use Rattle.knx_model.specs.declared.device.FrameSupport.TheVariants.{Standard, Extended}
-use Rattle.knx_model.specs.declared.device.Sending.{Sending}
-use Rattle.knx_model.specs.declared.device.Sending.TheVariants.{Waiting, Repeat, Closing}
 use Rattle.knx_model.specs.declared.device.Took.{Took}
 use Rattle.knx_model.specs.declared.device.Took.TheVariants.{NotMine, TooLong, Taken, Off}
 use Rattle.knx_model.specs.declared.device.WriteKind.{WriteKind}
@@ -26,7 +22,8 @@ use Rattle.knx_model.specs.declared.script.GroupService.TheVariants.{Read, Write
 use Rattle.knx_model.specs.Acts.{is_written, answerer}
 use Rattle.knx_model.specs.ApduReading.{service_in, apdu_octets}
 use Rattle.knx_model.specs.Cemi.{is_extended}
-use Rattle.knx_model.specs.Connection.{frame_in, disconnect}
+use Rattle.knx_model.specs.Connection.{frame_in}
+use Rattle.knx_model.specs.DeviceConnection.{device_took, device_after, device_answered, after_answer}
 use Rattle.knx_model.specs.DeviceConnection.{DeviceEnd, Closed, Idle, Answering, partner_of, device_took, device_after, device_answered, after_answer, device_expired, device_repeated}
 use Rattle.knx_model.specs.Device.{NonVolatile, Effect, Loads, Stores, Nothing, runs, whole, torn, taken_over, is_write, effect_in, answer_in}
 use Rattle.knx_model.specs.DeviceState.{DeviceState, cut, moved, value_of, written_values}
@@ -210,65 +207,6 @@ abbrev pub worn_octets : Effect → List ℕ
 worn_octets (Stores address octets) = complements octets
 worn_octets (Loads o event) = []
 worn_octets Nothing = []
-
--- ---- what it sends: a frame that waits, its outstanding answer again, or the T_Disconnect of its closing
-
-abbrev pub first_frame : List Ldata → Option Ldata
-first_frame [] = None
-first_frame (frame ∷ frames) = Some frame
-
--- the frame that waits longest, and the device after it was sent
-abbrev pub waiting_frame : DeviceState → Option Ldata
-waiting_frame d = first_frame d.unsent
-
-abbrev pub pops : DeviceState → DeviceState
-pops d = record d { unsent = drop 1 d.unsent }
-
--- the answer that isn't acknowledged, and the device after it was sent again
-abbrev pub outstanding_frame : IndAddr → DeviceEnd → Option Ldata
-outstanding_frame address Closed = None
-outstanding_frame address (Idle s) = None
-outstanding_frame address (Answering s a) = Some (own_frame address false s.partner.raw a.frame)
-
-abbrev pub repeat_frame : DeviceState → Option Ldata
-repeat_frame d = outstanding_frame d.address d.connection
-
-abbrev pub repeats : DeviceState → ℕ → DeviceState
-repeats d now = record d { connection = device_repeated d.connection now }
-
--- it closes its connection, where one is open: the T_Disconnect to its partner joins the unsent frames
-abbrev pub shut_from : DeviceState → Option IndAddr → DeviceState
-shut_from d None = d
-shut_from d (Some partner) = queued_to (record d { connection = Closed }) partner disconnect
-
-abbrev pub shut : DeviceState → DeviceState
-shut d = shut_from d (partner_of d.connection)
-
--- which it sends next: what waits goes first, and of a connection that was idle for too long, or whose answer is due again, the wait decides
-abbrev pub due_sending : DeviceExpired → Option Sending
-due_sending expired.Nothing = None
-due_sending (expired.Repeat tpdu) = Some Repeat
-due_sending (expired.Closed tpdu) = Some Closing
-
-abbrev pub sending_of : List Ldata → DeviceExpired → Option Sending
-sending_of [] due = due_sending due
-sending_of (frame ∷ frames) due = Some Waiting
-
-abbrev pub next_sending : DeviceState → ℕ → Option Sending
-next_sending d now = sending_of d.unsent (device_expired d.connection now)
-
--- the frame of such a sending, and the device after it
-abbrev pub sending_frame : DeviceState → Option Sending → Option Ldata
-sending_frame d None = None
-sending_frame d (Some Waiting) = waiting_frame d
-sending_frame d (Some Repeat) = repeat_frame d
-sending_frame d (Some Closing) = waiting_frame (shut d)
-
-abbrev pub after_sending : DeviceState → ℕ → Option Sending → DeviceState
-after_sending d now None = d
-after_sending d now (Some Waiting) = pops d
-after_sending d now (Some Repeat) = repeats d now
-after_sending d now (Some Closing) = pops (shut d)
 
 -- ---- on a bench, where services are given to the device by themselves
 

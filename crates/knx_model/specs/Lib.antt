@@ -33,6 +33,7 @@ pub mod Loading
 pub mod Device
 pub mod DeviceState
 pub mod DeviceFrames
+pub mod DeviceSending
 pub mod Plan
 pub mod Plans
 pub mod Operations

@@ -2,7 +2,7 @@
 use Rattle.std.proofs.Common.{◌≡◌, ℕ, Bool, true, false, Some, None, refl, sym, subst, arith, ◌==◌, if◌then◌else◌}
 use Rattle.knx_model.specs.Device.{NonVolatile}
 use Rattle.knx_model.specs.DeviceConnection.{device_expired}
-use Rattle.knx_model.specs.DeviceFrames.{next_sending}
+use Rattle.knx_model.specs.DeviceSending.{next_sending}
 use Rattle.knx_model.specs.DeviceState.{DeviceState, device_with}
 use Rattle.line_model.specs.Fresh.{IsFresh, IsAtRest, Settled}
 use Rattle.line_model.specs.Gateway.{gateway_expired}

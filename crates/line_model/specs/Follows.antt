@@ -4,7 +4,7 @@
 use Rattle.std.specs.Prelude.{◌≡◌, ℕ, suc, Bool, true, false, List, [], ◌∷◌, Some}
 use Rattle.knx_model.specs.declared.device.Sending.{Sending}
 use Rattle.knx_model.specs.declared.device.Sending.TheVariants as sending
-use Rattle.knx_model.specs.DeviceFrames.{next_sending}
+use Rattle.knx_model.specs.DeviceSending.{next_sending}
 use Rattle.line_model.specs.Gateway as gateway
 use Rattle.line_model.specs.Gateway.{GatewayExpired, gateway_expired}
 use Rattle.line_model.specs.Tunnel.{Mode}

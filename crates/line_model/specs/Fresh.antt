@@ -3,7 +3,7 @@
 use Rattle.std.specs.Prelude.{◌≡◌, ℕ, ◌+◌, ◌<◌, ◌≤◌, ◌⊎◌, true, [], Some, None, slice_get}
 use Rattle.knx_model.specs.DeviceConnection.{Closed}
 use Rattle.knx_model.specs.DeviceState.{DeviceState}
-use Rattle.knx_model.specs.DeviceFrames.{next_sending}
+use Rattle.knx_model.specs.DeviceSending.{next_sending}
 use Rattle.line_model.specs.Gateway.{gateway_expired, Nothing}
 use Rattle.line_model.specs.Network.{Sent, MayArrive, MayReach}
 use Rattle.line_model.specs.Tunnel as tunnel

@@ -4,7 +4,8 @@
 use Rattle.std.specs.Prelude.{◌≡◌, ◌≢◌, false, List, [], ◌∷◌, Option, Some, None}
 use Rattle.knx_model.specs.declared.frames.cemi.Ldata.{Ldata}
 use Rattle.knx_model.specs.DeviceState.{DeviceState}
-use Rattle.knx_model.specs.DeviceFrames.{Outcome, Torn, Worn, MayTake, repeat_frame}
+use Rattle.knx_model.specs.DeviceFrames.{Outcome, Torn, Worn, MayTake}
+use Rattle.knx_model.specs.DeviceSending.{repeat_frame}
 use Rattle.line_model.specs.Tunnel as tunnel
 use Rattle.line_model.specs.Tunnel.{Mode, Commissions, Serves}
 use Rattle.line_model.specs.World.{World, Event, Bus, BusTorn, BusWorn, BusAgain, DevSend, DevRepeat, DevClose, GwAgain, Cut, On, next_frame, tunnel_event, replay}

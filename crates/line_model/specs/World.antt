@@ -10,7 +10,8 @@ use Rattle.knx_model.specs.declared.frames.cemi.Ldata.{Ldata}
 use Rattle.knx_model.specs.declared.frames.cemi.LdataCode.TheVariants.{Con}
 use Rattle.knx_model.specs.ApduReading.{option_map}
 use Rattle.knx_model.specs.DeviceState.{DeviceState, cut, switched_on}
-use Rattle.knx_model.specs.DeviceFrames.{Outcome, Whole, Torn, Worn, own_frame, first_frame, took_of, is_taken, takes, taken_again, waiting_frame, pops, repeat_frame, repeats, shut}
+use Rattle.knx_model.specs.DeviceFrames.{Outcome, Whole, Torn, Worn, own_frame, took_of, is_taken, takes, taken_again}
+use Rattle.knx_model.specs.DeviceSending.{first_frame, waiting_frame, pops, repeat_frame, repeats, shut}
 use Rattle.line_model.specs.Tunnel as tunnel
 use Rattle.line_model.specs.Tunnel.{Tunnel, TunnelEvent}
 

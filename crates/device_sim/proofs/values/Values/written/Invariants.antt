@@ -1,7 +1,7 @@
 use Rattle.std.proofs.Common.{◌≡◌, map, if◌then◌else◌, Some}
 use Rattle.std.specs.List.{range_with_len}
 use Rattle.device_tables.specs.Objects.{holds}
-use Rattle.knx_model.specs.DeviceFrames.{slot}
+use Rattle.knx_model.specs.DeviceState.{slot}
 use Rattle.device_sim.proofs.Slots.{AreInRange}
 use Rattle.device_sim.proofs.values.Values.written.Given as goal
 

@@ -1,0 +1,6 @@
+use Rattle.std.proofs.Common.{ap, ◌∙◌}
+use Rattle.device_sim.proofs.Slots.{padded, no_slots}
+use Rattle.device_sim.proofs.values.Values.zero.Goals as goal
+
+pub returns : goal.returns
+returns c = ap padded c.new.ensures.items ∙ no_slots
