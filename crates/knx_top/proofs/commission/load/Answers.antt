@@ -20,5 +20,5 @@ returns-clause-reported c =
     let left = c.each_load_gets_through.ensures.leaves c.args.plan.now.image c.image.ensures.fits Standard _ c.facts.ensures.capacities in
     let leaves = c.each_load_gets_through.ensures.leaves c.download.new.plan.image c.image-2.ensures.fits Standard _ c.facts.ensures.capacities in
     let same = same_image c.args.plan.now c.download.new.plan _ c.download.ensures.same_plan left leaves in
-    reported_by _ _ _ _ c.in_ok-end.end c.reported.result (c.image-2.ensures.value ∙ same)
+    reported_by _ _ _ _ _ c.reported.result (c.image-2.ensures.value ∙ same)
     (ended_by c.args.plan.now _ _ good c.in_ok-end.ensures.failed c.in_ok-end.ensures.got_through c.in_ok-end.ensures.done) c.reported.ensures
