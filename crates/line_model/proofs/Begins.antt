@@ -1,9 +1,10 @@
 -- The start of the runs is a fresh one, and settled.
-use Rattle.std.proofs.Common.{◌≡◌, ℕ, Bool, true, false, Some, None, refl, sym, subst, arith, ◌==◌, if◌then◌else◌}
+use Rattle.std.proofs.Common.{◌≡◌, ℕ, Bool, true, false, Some, None, refl, sym, subst, ◌==◌, if◌then◌else◌}
 use Rattle.knx_model.specs.Device.{NonVolatile}
 use Rattle.knx_model.specs.DeviceConnection.{device_expired}
 use Rattle.knx_model.specs.DeviceSending.{next_sending}
 use Rattle.knx_model.specs.DeviceState.{DeviceState, device_with}
+use Rattle.line_model.proofs.Tests.{equal}
 use Rattle.line_model.specs.Fresh.{IsFresh, IsAtRest, Settled}
 use Rattle.line_model.specs.Gateway.{gateway_expired}
 use Rattle.line_model.specs.Legal.{OfDevice}
@@ -15,11 +16,8 @@ of_each : (P : DeviceState → Type 0) (x d : DeviceState) (b : Bool) → (b ≡
 of_each P x d true h e = subst (OfDevice P) e (h refl)
 of_each P x d false h e = cc
 
-same : (a b : ℕ) → (a == b) ≡ true → a ≡ b
-same a b e = grind arith
-
 rests : (kept : NonVolatile) (a : ℕ) → (a == 0x1105) ≡ true → IsAtRest a (device_with device kept)
-rests kept a e = record { named = sym (same a 0x1105 e); unconnected = refl; nothing_unsent = refl; nothing_got = refl }
+rests kept a e = record { named = sym (equal a 0x1105 e); unconnected = refl; nothing_unsent = refl; nothing_got = refl }
 
 pub is_fresh : (kept : NonVolatile) → IsFresh (begin kept)
 is_fresh kept = record { tunnel = refl; echo = refl; devices = λ a d e. of_each (IsAtRest a) (device_with device kept) d (a == 0x1105) (rests kept a) e }

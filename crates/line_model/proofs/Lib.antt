@@ -1,3 +1,6 @@
+mod Tests
+mod Datagrams
+mod Frames
 mod Passes
 mod Sessions
 mod Disturbed

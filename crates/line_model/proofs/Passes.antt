@@ -2,6 +2,7 @@
 use Rattle.std.proofs.Common.{◌≡◌, ◌≢◌, ℕ, Bool, true, false, ◌&&◌, ◌==◌, ◌<◌, not, is_some, refl, arith, List, [], ◌∷◌, Option, Some, None}
 use Rattle.std.specs.Prelude.{nat_lt, slice_get}
 use Rattle.knx_model.specs.DeviceState.{DeviceState}
+use Rattle.line_model.proofs.Tests.{both, equal}
 use Rattle.line_model.specs.Deliveries.{is_under_way}
 use Rattle.line_model.specs.Legal.{OfDevice, MayHappen, DevicesAllow, IsLegal}
 use Rattle.line_model.specs.Network.{Sent, IsUnderWay, OfSent}
@@ -9,19 +10,12 @@ use Rattle.line_model.specs.Tunnel as tunnel
 use Rattle.line_model.specs.Tunnel.{Tunnel, TunnelEvent, Commissions, made}
 use Rattle.line_model.specs.World.{World, Event, Send, From, Renew, Up, UpRefused, Down, LoseUp, LoseDown, Bus, BusTorn, BusWorn, BusAgain, DevSend, DevRepeat, DevClose, GwAgain, GwRepeat, GwClose, Cut, On, Pass, next_frame, tunnel_event, replay}
 
-both : (a b : Bool) → (a && b) ≡ true → (a ≡ true) × (b ≡ true)
-both true b e = (refl, e)
-both false b e = cc
-
 isnt : (a : Bool) → not a ≡ true → a ≡ false
 isnt false e = refl
 isnt true e = cc
 
 smaller : (a b : ℕ) → nat_lt a b ≡ true → a < b
 smaller a b e = grind arith
-
-same : (a b : ℕ) → (a == b) ≡ true → a ≡ b
-same a b e = grind arith
 
 is_there : {X : Type 0} → (x : Option X) → is_some x ≡ true → x ≢ None
 is_there None e = cc
@@ -48,7 +42,7 @@ abbrev pub passes_here : ℕ → ℕ → ℕ → Sent → Bool
 passes_here present made age s = is_under_way made age s && (s.endpoint == present)
 
 passes_to : (present made age : ℕ) (s : Sent) → passes_here present made age s ≡ true → IsUnderWay made age s × (s.endpoint ≡ present)
-passes_to present made age s e = let parts = both _ _ e in (passes made age s parts.0, same _ _ parts.1)
+passes_to present made age s e = let parts = both _ _ e in (passes made age s parts.0, equal _ _ parts.1)
 
 -- ---- the tunnel's events
 

@@ -1,12 +1,23 @@
 //! Laws of the definitions, each a function without a body whose contract is the law.
 
-ghost use Rattle.std.specs.Prelude.{◌≡◌, ◌≢◌, ℕ, ◌+◌, ◌<◌, ◌≤◌, ◌++◌, ◌∷◌, List, Some, length, slice_get};
+ghost use Rattle.std.specs.Prelude.{◌≡◌, ◌≢◌, ℕ, ◌+◌, ◌<◌, ◌≤◌, ◌++◌, ◌∷◌, List, Some, length, slice_get, ◌↔◌};
+ghost use Rattle.knx_model.specs.Cemi.{Reads as ReadsLdata};
+ghost use Rattle.knx_model.specs.KnxNetIp.{Reads as ReadsDatagram};
+ghost use Rattle.knx_model.specs.declared.frames.cemi.Ldata.{Ldata};
+ghost use Rattle.knx_model.specs.declared.frames.ip.IpFrame.{IpFrame};
 ghost use Rattle.line_model.specs.Gateway.{number_of};
 ghost use Rattle.line_model.specs.Legal.{IsLegal};
 ghost use Rattle.line_model.specs.Network.{Sent, MayArrive, new_datagram};
+ghost use Rattle.line_model.specs.Reading.{datagram_in, ldata_in};
 ghost use Rattle.line_model.specs.Record.{record_of, tunnel_record};
 ghost use Rattle.line_model.specs.Tunnel.{Mode, IsLegal as IsLegalInTunnel, replay as tunnel_replay};
 ghost use Rattle.line_model.specs.World.{World, Event, replay, tunnel_events};
+
+/// The frame that a datagram is, and the frame of the link layer that a request's octets are, are those that the octets read as.
+pub fn frames_are_read()
+    ensures datagrams { (octets : List ℕ) (frame : IpFrame) → (datagram_in octets ≡ Some frame) ↔ ReadsDatagram octets frame }
+    ensures frames { (octets : List ℕ) (frame : Ldata) → (ldata_in octets ≡ Some frame) ↔ ReadsLdata octets frame }
+{}
 
 /// What the network delivers: a datagram with 127 younger ones may arrive and one with 128 may not, nor one that was delivered twice, nor one
 /// since which 255 channels were made.

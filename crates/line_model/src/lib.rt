@@ -10,7 +10,9 @@ mod runs;
 
 pub use fault::{HubFault, Try};
 pub use group::{GroupTurn, Indication};
-pub use laws::{channel_numbers_come_again, datagrams_arrive, the_tunnel_runs_in_the_line};
+pub use laws::{
+    channel_numbers_come_again, datagrams_arrive, frames_are_read, the_tunnel_runs_in_the_line,
+};
 pub use log::{LogEntry, LogWhat, Report};
 pub use outside::{DialFailed, Dialer, Gate, Link, LinkFault, Polled, Port, PortFault, PortPolled};
 pub use runs::{

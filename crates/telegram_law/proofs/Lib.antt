@@ -1,0 +1,3 @@
+mod Long
+mod Telegram
+mod Telegrams
