@@ -56,8 +56,8 @@ pub enum Why {
 
 impl Why {
     /// Its number, from 1; none for want of memory.
-    pub fn number(self) -> Option<u8>
-        ensures { result ≡ why_number self }
+    pub fn number(&self) -> Option<u8>
+        ensures { result ≡ why_number self.now }
     {
         match self {
             Why::NoMemory(_) => None,
@@ -86,8 +86,8 @@ impl Why {
     }
 
     /// Its word, as it is printed.
-    pub fn word(self) -> &'static str
-        ensures { result.now ≡ why_word self }
+    pub fn word(&self) -> &'static str
+        ensures { result.now ≡ why_word self.now }
     {
         match self {
             Why::NoMemory(_) => "NoMemory",

@@ -1,7 +1,7 @@
 -- Four lists, one appended after another, and the first eight of a list.
 use Rattle.std.proofs.Common.{◌≡◌, ℕ, List, [], ◌∷◌, ◌++◌, length, get_or, take, drop, ◌-◌, ◌≤◌, refl, sym, ap, arith, append_assoc, ◌∙◌, Result, Ok, Err}
 use Rattle.std.specs.Prelude.{OnOk}
-use Rattle.std.proofs.lemmas.List.{drop_more, drop_all, take_all, length-drop}
+use Rattle.std.proofs.lemmas.List.{drop_more, drop_all, take_all, length-drop, length-take, take-append-le}
 use Rattle.knx_model.specs.ReportText.{hex_text}
 
 pub four_more : {A E : Type 0} (result : Result A E) (out one two three four a b c d : List ℕ) → one ≡ out ++ a → two ≡ one ++ b → three ≡ two ++ c → OnOk result (four ≡ three ++ d) → OnOk result (four ≡ out ++ (a ++ (b ++ (c ++ d))))
@@ -21,3 +21,9 @@ eight_more out now all xs long is before =
     let eights : List ℕ = get_or xs 0 0 ∷ get_or xs 1 0 ∷ get_or xs 2 0 ∷ get_or xs 3 0 ∷ get_or xs 4 0 ∷ get_or xs 5 0 ∷ get_or xs 6 0 ∷ get_or xs 7 0 ∷ [] in
     let rest : take (length xs - 8) (drop 8 xs) ≡ drop 8 xs = take_all (length xs - 8) (drop 8 xs) (omega (arith, length-drop 8 xs)) in
     rw (rest, is) (append_assoc out (hex_text eights) (hex_text (drop 8 xs))) ∙ ap (λ (ys : List ℕ). out ++ hex_text ys) (sym (first_eight xs (drop 8 xs) long refl)) ∙ before
+
+-- what stood before stays where more is appended
+pub stood_more : (old now more new : List ℕ) → take (length old) now ≡ old → new ≡ now ++ more → take (length old) new ≡ old
+stood_more old now more new stood is =
+    let below : length old ≤ length now = omega (arith, ap length stood, length-take {A = ℕ}) in
+    rw (is, take-append-le) stood

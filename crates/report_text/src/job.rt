@@ -7,7 +7,8 @@ ghost use Rattle.knx_model.specs.Addresses.{device_text};
 ghost use Rattle.knx_model.specs.ReportText.{end_of, end_words, end_text, sign_word, job_word, job_line};
 
 use knx_model::{
-    JobWord, LogEntry, LogWhat, NoMemory, Octets, Sign, put_device_word, put_number_word, put_word,
+    JobKind, JobWord, LogEntry, LogWhat, NoMemory, Octets, Sign, put_device_word, put_number_word,
+    put_word,
 };
 use std::alloc::Global;
 
@@ -67,19 +68,22 @@ fn put_end(out: &mut Octets, log: &[LogEntry], job: u64) -> Result<(), NoMemory>
     }
 }
 
-fn job_word(check: bool) -> &'static str
-    ensures { result.now ≡ job_word check }
+fn job_word(kind: JobKind) -> &'static str
+    ensures { result.now ≡ job_word kind }
 {
-    if check { "check" } else { "load" }
+    match kind {
+        JobKind::Load => "load",
+        JobKind::Check => "check",
+    }
 }
 
 /// Appends the words of a job before its end, and a space.
 fn put_job_words(alloc: Global, out: &mut Octets, number: u64, job: JobWord) -> Result<(), NoMemory>
-    ensures { OnOk result (out.new ≡ out.old ++ (join_with_byte 32 (codes "job" ∷ decimal number ∷ job_word job.check ∷ device_text job.device ∷ []) ++ 32 ∷ [])) }
+    ensures { OnOk result (out.new ≡ out.old ++ (join_with_byte 32 (codes "job" ∷ decimal number ∷ job_word job.kind ∷ device_text job.device ∷ []) ++ 32 ∷ [])) }
 {
     out.append(b"job")?;
     put_number_word(alloc, out, number)?;
-    put_word(out, job_word(job.check).as_bytes())?;
+    put_word(out, job_word(job.kind).as_bytes())?;
     put_device_word(alloc, out, job.device)?;
     out.push(b' ')
 }

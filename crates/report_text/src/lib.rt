@@ -1,14 +1,16 @@
-//! The report of a run, and what is told of a checked project, as text.
+//! The report of a run, what is told of a checked project, and where a call stops, as text.
 #![tactic(auto)]
 
 mod job;
 mod pieces;
 mod project;
+mod refusal;
 mod report;
 
-pub use knx_model::{Case, Counts, DeviceCase, JobWord, LogEntry, LogWhat, Report, Sign};
+pub use knx_model::{Case, Counts, DeviceCase, JobKind, JobWord, LogEntry, LogWhat, Report, Sign};
 pub use pieces::{put_digits, put_hex};
-pub use project::{counts_text, put_tables};
+pub use project::{counts_text, tables_text};
+pub use refusal::{NO_MEMORY, USAGE, stop_status, stop_text};
 pub use report::report_of;
 
 #[cfg(test)]

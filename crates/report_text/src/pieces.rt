@@ -1,6 +1,7 @@
 //! Octets as they are printed.
 
-ghost use Rattle.std.specs.Prelude.{◌≡◌, ◌<◌, ◌++◌, OnOk};
+ghost use Rattle.std.specs.Prelude.{◌≡◌, ◌<◌, ◌++◌, length, take, OnErr, OnOk};
+ghost use Rattle.knx_model.specs.Outside.{Appends};
 ghost use Rattle.knx_model.specs.ReportText.{hex_digit, hex_octet, hex_text, octets_text};
 
 use knx_model::{NoMemory, Octets};
@@ -15,10 +16,9 @@ fn hex_digit(n: u8) -> u8
 
 /// Appends an octet's two digits.
 pub fn put_digits(out: &mut Octets, octet: u8) -> Result<(), NoMemory>
-    ensures { OnOk result (out.new ≡ out.old ++ hex_octet octet) }
+    ensures { Appends (hex_octet octet) out.old out.new result }
 {
-    out.push(hex_digit(octet >> 4))?;
-    out.push(hex_digit(octet & 0x0F))
+    out.append(&[hex_digit(octet >> 4), hex_digit(octet & 0x0F)])
 }
 
 /// The digits of eight octets.
@@ -46,9 +46,10 @@ fn digits_of_eight(octets: [u8; 8]) -> [u8; 16]
     ]
 }
 
-/// Appends the digits of octets, eight octets at a time.
+/// Appends the digits of octets, eight octets at a time. What stood before stays, also where memory is wanting.
 fn put_all_digits(out: &mut Octets, octets: &[u8]) -> Result<(), NoMemory>
-    ensures { OnOk result (out.new ≡ out.old ++ hex_text octets.now) }
+    ensures ok { OnOk result (out.new ≡ out.old ++ hex_text octets.now) }
+    ensures err { OnErr result (take (length out.old) out.new ≡ out.old) }
 {
     let mut rest = octets;
     while let [a, b, c, d, e, f, g, h, next @ ..] = rest {
@@ -61,12 +62,17 @@ fn put_all_digits(out: &mut Octets, octets: &[u8]) -> Result<(), NoMemory>
     Ok(())
 }
 
-/// Appends octets as digits, or `-` for none.
+/// Appends octets as digits, or `-` for none. Where memory is wanting, nothing is appended.
 pub fn put_hex(out: &mut Octets, octets: &[u8]) -> Result<(), NoMemory>
-    ensures { OnOk result (out.new ≡ out.old ++ octets_text octets.now) }
+    ensures { Appends (octets_text octets.now) out.old out.new result }
 {
-    match octets {
-        [] => out.push(b'-'),
-        [_, ..] => put_all_digits(out, octets),
+    if octets.is_empty() {
+        return out.push(b'-');
     }
+    let start = out.len();
+    let done = put_all_digits(out, octets);
+    if done.is_err() {
+        out.truncate(start);
+    }
+    done
 }

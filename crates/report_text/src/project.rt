@@ -2,6 +2,7 @@
 
 ghost use Rattle.std.specs.Prelude.{◌≡◌, ◌++◌, ◌∷◌, [], OnOk, IfOk, codes};
 ghost use Rattle.std.specs.Fmt.{decimal};
+ghost use Rattle.std.specs.List.{flat_map, zip};
 ghost use Rattle.knx_model.specs.Addresses.{device_text};
 ghost use Rattle.knx_model.specs.ReportText.{counts_line, image_lines, line, list_line, tables_lines};
 
@@ -55,7 +56,7 @@ fn put_image(out: &mut Octets, image: &Image) -> Result<(), NoMemory>
 }
 
 /// Appends the tables and the parameter memory of a device, in five lines.
-pub fn put_tables(
+fn put_tables(
     alloc: Global,
     out: &mut Octets,
     device: IndAddr,
@@ -65,4 +66,35 @@ pub fn put_tables(
 {
     put_device_line(alloc, out, device)?;
     put_image(out, image)
+}
+
+/// Appends the tables of devices, each of its image.
+#[tactic(auto, using(crate::proofs::TableLines::one_more, crate::proofs::TableLines::no_device, crate::proofs::TableLines::no_image))]
+fn put_all_tables(
+    alloc: Global,
+    out: &mut Octets,
+    devices: &[IndAddr],
+    images: &[Image],
+) -> Result<(), NoMemory>
+    ensures { OnOk result (out.new ≡ out.old ++ flat_map (λ c. tables_lines c.0 c.1) (zip devices.now images.now)) }
+{
+    let (mut devices, mut images) = (devices, images);
+    while let [device, next_devices @ ..] = devices {
+        let [image, next_images @ ..] = images else {
+            return Ok(());
+        };
+        put_tables(alloc, out, *device, image)?;
+        devices = next_devices;
+        images = next_images;
+    }
+    Ok(())
+}
+
+/// The tables of devices, each of its image: as many as both lists have.
+pub fn tables_text(alloc: Global, devices: &[IndAddr], images: &[Image]) -> Result<Octets, NoMemory>
+    ensures { IfOk result (λ text. text ≡ flat_map (λ c. tables_lines c.0 c.1) (zip devices.now images.now)) }
+{
+    let mut out = Octets::new(alloc);
+    put_all_tables(alloc, &mut out, devices, images)?;
+    Ok(out)
 }

@@ -26,11 +26,11 @@ fn a_report_is_printed(rt: HostRuntime) -> Result<(), Fail> {
     let report = Report { log, missed: 0 };
     let load = JobWord {
         device,
-        check: false,
+        kind: JobKind::Load,
     };
     let check = JobWord {
         device: other,
-        check: true,
+        kind: JobKind::Check,
     };
     let cases = [
         DeviceCase {
