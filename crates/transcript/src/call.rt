@@ -1,0 +1,68 @@
+//! One call of `knx` over files in memory.
+
+use crate::fault::Fault;
+use crate::text::TextFile;
+use knx_model::{MemoryFile, MemoryFiles, MemorySink, NoMemory};
+use knx_top::{Bench, knx};
+use std::alloc::Global;
+
+/// The longest output that is copied, in octets.
+const LONGEST_COPIED: usize = 2_000;
+
+/// The checksum of no octets, and the factor of each (FNV-1a, 64 bits).
+const CHECKSUM_OF_NONE: u64 = 0xCBF2_9CE4_8422_2325;
+const CHECKSUM_FACTOR: u64 = 0x0000_0100_0000_01B3;
+
+fn checksum(octets: &[u8]) -> u64 {
+    let mut sum = CHECKSUM_OF_NONE;
+    for octet in octets {
+        sum = (sum ^ u64::from(*octet)).wrapping_mul(CHECKSUM_FACTOR);
+    }
+    sum
+}
+
+/// The texts as files in memory.
+fn files_of(alloc: Global, texts: &[TextFile]) -> Result<MemoryFiles, NoMemory> {
+    let mut files = Vec::new(alloc);
+    for text in texts {
+        files.push(MemoryFile::new(
+            alloc,
+            text.name.as_str(),
+            text.content.as_slice(),
+        )?)?;
+    }
+    Ok(MemoryFiles::new(alloc, files))
+}
+
+/// Adds what was written, or the length and the checksum of a long output.
+fn put_output(alloc: Global, out: &mut String, written: &[u8]) -> Result<(), Fault> {
+    match std::str::from_utf8(written) {
+        Ok(text) if text.len() <= LONGEST_COPIED => out.push_str(text)?,
+        _ => {
+            let (len, sum) = (written.len(), checksum(written));
+            out.push_str(format!(in alloc; "{len} octets, checksum {sum:016X}\n")?.as_str())?;
+        }
+    }
+    Ok(())
+}
+
+/// Adds what a call with these words writes, and its status.
+pub fn put_call(
+    alloc: Global,
+    out: &mut String,
+    texts: &[TextFile],
+    line: &str,
+) -> Result<(), Fault> {
+    let mut words = Vec::new(alloc);
+    for word in line.split_whitespace() {
+        words.push(String::from_str(alloc, word)?)?;
+    }
+    let mut files = files_of(alloc, texts)?;
+    let mut sink = MemorySink::new(alloc);
+    let mut sim = Bench::empty(alloc);
+    let status = knx(alloc, words.as_slice(), &mut files, &mut sink, &mut sim);
+    put_output(alloc, out, sink.taken.as_slice())?;
+    let status = status.number();
+    out.push_str(format!(in alloc; "status {status}\n")?.as_str())?;
+    Ok(())
+}
