@@ -14,6 +14,3 @@ mod values;
 pub use knx_model::{CatRefused, Catalogue, Model, ModelField, ModelObject, NamedModel};
 pub use laws::{first_refused, taken_whole};
 pub use read::read_catalogue;
-
-#[cfg(test)]
-mod tests;

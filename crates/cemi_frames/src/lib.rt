@@ -10,6 +10,3 @@ mod ldata;
 pub use knx_model::{ApduOctets, CemiRefused, Datagram, Ldata, LdataCode};
 pub use laws::{read_breaks_none, reads_once, written_reads};
 pub use ldata::{decode, encode};
-
-#[cfg(test)]
-mod tests;

@@ -16,6 +16,3 @@ pub use objects::{Acts, Objects};
 pub use table::object_in_table;
 pub use telegram::acts;
 pub use value::{takes_form, zero_value};
-
-#[cfg(test)]
-mod tests;

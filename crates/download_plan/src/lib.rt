@@ -18,6 +18,3 @@ pub use laws::{
     each_check_is_true, each_load_gets_through, each_operation_can_be_sent, each_plan_is_good,
 };
 pub use load_plan::LoadPlan;
-
-#[cfg(test)]
-mod tests;

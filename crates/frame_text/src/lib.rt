@@ -12,6 +12,3 @@ mod word;
 pub use frame::frame_text;
 pub use knx_model::{NoMemory, Octets};
 pub use word::hex_in;
-
-#[cfg(test)]
-mod tests;

@@ -160,6 +160,3 @@ pub use words::value_of;
 pub use words::value_spelled;
 pub use words::without_comment;
 pub use words::words_of_text;
-
-#[cfg(test)]
-mod tests;

@@ -12,6 +12,3 @@ mod services;
 pub use frame::{decode, encode};
 pub use knx_model::{Datagram, IndAddr, IpFrame, IpRefused};
 pub use laws::{read_breaks_none, reads_once, written_reads};
-
-#[cfg(test)]
-mod tests;

@@ -10,6 +10,3 @@ pub use knx_model::{LoadEvent, LoadState, LoadableObject};
 pub use loads::{Loads, Segment};
 pub use machine::LoadMachine;
 pub use octets::{load_event, load_octets};
-
-#[cfg(test)]
-mod tests;

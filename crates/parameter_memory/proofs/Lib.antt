@@ -2,4 +2,3 @@ pub mod Digits
 pub mod Written
 pub mod Holds
 pub mod One
-pub mod Example

@@ -10,6 +10,3 @@ pub use knx_model::{Model, ModelField, NoMemory, Octets, ParamValue};
 pub use laws::{one_memory, setting_or_default};
 pub use laying::lay;
 pub use reading::value_at;
-
-#[cfg(test)]
-mod tests;

@@ -20,6 +20,3 @@ pub use by_address::ByAddress;
 pub use checked::{Checked, check};
 pub use knx_model::Counts;
 pub use laws::least_broken;
-
-#[cfg(test)]
-mod tests;

@@ -13,6 +13,3 @@ pub use laws::{first_misfit, least_line, printed_again, statement_spelled, words
 pub use print::print_project;
 pub use project::Project;
 pub use read::read_project;
-
-#[cfg(test)]
-mod tests;

@@ -13,6 +13,3 @@ pub use knx_model::{Cut, GroupService, Refused, ScriptLine, ScriptWhat, Why};
 pub use laws::{first_misfit, least_line, least_stranger, line_spelled, words_too_many_or_few};
 pub use read::read_script;
 pub use script::Script;
-
-#[cfg(test)]
-mod tests;

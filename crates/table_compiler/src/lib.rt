@@ -14,6 +14,3 @@ mod tables;
 pub use compiler::{compile, compile_all};
 pub use knx_model::{Config, Image, LinkSpec, NoMemory, ObjSpec, ParamValue};
 pub use laws::{links_said, one_image};
-
-#[cfg(test)]
-mod tests;

@@ -22,6 +22,3 @@ pub use laws::{
     numbered_is_grammatical, numbers_have_four_bits, other_calls_keep_numbers, repeats_exactly,
     sent_at_most_four_times, sent_carries_number, silent_exactly,
 };
-
-#[cfg(test)]
-mod tests;

@@ -1,7 +1,9 @@
+//! Operations of the load plan and the check plan.
+
 ghost use Rattle.std.specs.Prelude.{◌≤◌, length, IfOk};
 ghost use Rattle.knx_model.specs.Device.{Fits};
 
-use crate::{CheckPlan, LoadPlan, suits};
+use download_plan::{CheckPlan, LoadPlan, suits};
 use knx_model::{ApduOctets, Expect, Image, NoMemory, Octets, Op, PlanSource};
 use std::alloc::Global;
 use std::test::Fail;

@@ -1,6 +1,11 @@
+//! What group telegrams act on, by the octets of the tables.
+
 ghost use Rattle.std.specs.Prelude.{◌≤◌};
 
-use super::*;
+use device_tables::{
+    Acts, GroupAddr, GroupService, Image, LongValue, NoMemory, ObjSpec, Objects, Octets, Value, acts,
+    linked, object_in_table, takes_form, zero_value,
+};
 use std::alloc::Global;
 use std::process::Abort;
 use std::test::*;

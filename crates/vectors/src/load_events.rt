@@ -1,4 +1,6 @@
-use crate::{LoadState, LoadableObject, Loads};
+//! Each load event in each load state.
+
+use load_machine::{LoadState, LoadableObject, Loads};
 use LoadState::{Error, Loaded, Loading, Unloaded};
 use std::process::Abort;
 

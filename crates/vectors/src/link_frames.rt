@@ -1,7 +1,9 @@
+//! Frames of the link layer as octets (KNX standard 3/6/3, common EMI).
+
 ghost use Rattle.std.specs.Prelude.{◌≤◌};
 ghost use Rattle.knx_model.specs.Cemi.{IsInRange};
 
-use crate::{ApduOctets, CemiRefused, Datagram, Ldata, LdataCode, decode, encode};
+use cemi_frames::{ApduOctets, CemiRefused, Datagram, Ldata, LdataCode, decode, encode};
 use std::process::Abort;
 
 /// Fails where the octets and the frame aren't each other's.

@@ -1,7 +1,9 @@
+//! Both ends of a numbered connection, call by call (ISO/IEC 14543-3-2, transport layer).
+
 ghost use Rattle.std.specs.Prelude.{◌≤◌};
 ghost use Rattle.knx_model.specs.Connection.{IsApdu};
 
-use crate::{
+use transport_conn::{
     ApduOctets, Busy, ClientConfirmed, ClientConn, ClientExpired, ClientTook, DeviceConn,
     DeviceExpired, DeviceTook, IndAddr,
 };

@@ -1,5 +1,9 @@
-use super::*;
-use knx_model::{IndAddr, List};
+//! The report of several jobs and devices.
+
+use report_text::report_of;
+use knx_model::{
+    Case, DeviceCase, IndAddr, JobKind, JobWord, List, LogEntry, LogWhat, Report, Sign,
+};
 use std::test::Fail;
 
 #[test]

@@ -1,6 +1,8 @@
+//! Datagrams of a tunnel (ISO 22510, KNXnet/IP).
+
 ghost use Rattle.knx_model.specs.KnxNetIp.{IsInRange};
 
-use crate::{Datagram, IndAddr, IpFrame, IpRefused, decode, encode};
+use knxnetip_frames::{Datagram, IndAddr, IpFrame, IpRefused, decode, encode};
 use std::process::Abort;
 
 /// Fails where the octets and the frame aren't each other's.

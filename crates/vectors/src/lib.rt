@@ -1,0 +1,28 @@
+//! Vectors from outside and worked examples of the libraries, as tests: what no call of the program shows. They stand in one crate, so that
+//! no library is proved twice.
+#![tactic(auto)]
+
+#[cfg(test)]
+mod connections;
+#[cfg(test)]
+mod datagrams;
+#[cfg(test)]
+mod field_words;
+#[cfg(test)]
+mod link_frames;
+#[cfg(test)]
+mod load_events;
+#[cfg(test)]
+mod parameters;
+#[cfg(test)]
+mod plans;
+#[cfg(test)]
+mod projects;
+#[cfg(test)]
+mod reports;
+#[cfg(test)]
+mod requests;
+#[cfg(test)]
+mod services;
+#[cfg(test)]
+mod telegrams;
