@@ -29,6 +29,3 @@ pub use laws::{
     waiting_frames_keep_their_order, what_is_not_taken_changes_nothing, writes_are_told,
 };
 pub use service::written_front;
-
-#[cfg(test)]
-mod tests;

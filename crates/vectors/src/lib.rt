@@ -7,6 +7,8 @@ mod connections;
 #[cfg(test)]
 mod datagrams;
 #[cfg(test)]
+mod devices;
+#[cfg(test)]
 mod field_words;
 #[cfg(test)]
 mod link_frames;

@@ -1,6 +1,8 @@
+//! The simulated device, step by step: services on a bench, frames of a line, cuts and worn memory.
+
 ghost use Rattle.std.specs.Prelude.{◌≤◌, length};
 
-use crate::{Device, Ldata, Sending, Took, Value, WriteKind, written_front};
+use device_sim::{Device, Ldata, Sending, Took, Value, WriteKind, written_front};
 use knx_model::{ApduOctets, Image, IndAddr, LdataCode, NoMemory, Octets};
 use std::alloc::Global;
 use std::process::Abort;
