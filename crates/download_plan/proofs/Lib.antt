@@ -11,4 +11,3 @@ pub mod Checked
 pub mod Plans
 pub mod Places
 pub mod Lefts
-pub mod Capacities

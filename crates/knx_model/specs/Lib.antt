@@ -34,7 +34,6 @@ pub mod Device
 pub mod DeviceState
 pub mod DeviceFrames
 pub mod DeviceSending
-pub mod Plan
 pub mod Plans
 pub mod Operations
 pub mod LoadPlan
