@@ -3,7 +3,8 @@ use Rattle.std.proofs.Common.{ℕ, ◌≡◌, List, [], ◌∷◌, Bool, true, f
 use Rattle.knx_model.specs.declared.frames.cemi.Ldata.{Ldata}
 use Rattle.knx_model.specs.ApduReading.{option_map, service_in}
 use Rattle.knx_model.specs.Device.{runs}
-use Rattle.knx_model.specs.DeviceFrames.{Whole, takes, taken_again, group_service, pops}
+use Rattle.knx_model.specs.DeviceFrames.{Whole, takes, taken_again, group_service}
+use Rattle.knx_model.specs.DeviceSending.{pops}
 use Rattle.knx_model.specs.DeviceState.{DeviceState}
 use Rattle.line_model.specs.Telegrams.{unless_among, for_others, ActsByImage, EventActsRight, TelegramsActRight}
 use Rattle.line_model.specs.World.{World, Event, Send, From, Renew, Up, UpRefused, Down, LoseUp, LoseDown, Bus, BusTorn, BusWorn, BusAgain, DevSend, DevRepeat, DevClose, GwAgain, GwRepeat, GwClose, Cut, On, Pass, Devices, now, next_frame, waiting_at, frame_by, is_among, all_take, others_take, changed, replay}
