@@ -12,6 +12,3 @@ pub use pieces::{put_digits, put_hex};
 pub use project::{counts_text, tables_text};
 pub use refusal::{NO_MEMORY, USAGE, stop_status, stop_text};
 pub use report::report_of;
-
-#[cfg(test)]
-mod tests;

@@ -11,6 +11,7 @@ const LONGEST_COPIED: usize = 2_000;
 
 /// The checksum of no octets, and the factor of each (FNV-1a, 64 bits).
 const CHECKSUM_OF_NONE: u64 = 0xCBF2_9CE4_8422_2325;
+
 const CHECKSUM_FACTOR: u64 = 0x0000_0100_0000_01B3;
 
 fn checksum(octets: &[u8]) -> u64 {
@@ -25,11 +26,7 @@ fn checksum(octets: &[u8]) -> u64 {
 fn files_of(alloc: Global, texts: &[TextFile]) -> Result<MemoryFiles, NoMemory> {
     let mut files = Vec::new(alloc);
     for text in texts {
-        files.push(MemoryFile::new(
-            alloc,
-            text.name.as_str(),
-            text.content.as_slice(),
-        )?)?;
+        files.push(MemoryFile::new(alloc, text.name.as_str(), text.content.as_slice())?)?;
     }
     Ok(MemoryFiles::new(alloc, files))
 }

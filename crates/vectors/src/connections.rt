@@ -3,11 +3,11 @@
 ghost use Rattle.std.specs.Prelude.{◌≤◌};
 ghost use Rattle.knx_model.specs.Connection.{IsApdu};
 
+use std::process::Abort;
 use transport_conn::{
     ApduOctets, Busy, ClientConfirmed, ClientConn, ClientExpired, ClientTook, DeviceConn,
     DeviceExpired, DeviceTook, IndAddr,
 };
-use std::process::Abort;
 
 const CLIENT: IndAddr = IndAddr { raw: 0x11FF };
 

@@ -1,7 +1,7 @@
 //! Each load event in each load state.
 
-use load_machine::{LoadState, LoadableObject, Loads};
 use LoadState::{Error, Loaded, Loading, Unloaded};
+use load_machine::{LoadState, LoadableObject, Loads};
 use std::process::Abort;
 
 const NONE: [u8; 10] = [0; 10];

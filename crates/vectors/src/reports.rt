@@ -1,9 +1,9 @@
 //! The report of several jobs and devices.
 
-use report_text::report_of;
 use knx_model::{
     Case, DeviceCase, IndAddr, JobKind, JobWord, List, LogEntry, LogWhat, Report, Sign,
 };
+use report_text::report_of;
 use std::test::Fail;
 
 #[test]

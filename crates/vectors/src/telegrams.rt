@@ -3,8 +3,8 @@
 ghost use Rattle.std.specs.Prelude.{◌≤◌};
 
 use device_tables::{
-    Acts, GroupAddr, GroupService, Image, LongValue, NoMemory, ObjSpec, Objects, Octets, Value, acts,
-    linked, object_in_table, takes_form, zero_value,
+    Acts, GroupAddr, GroupService, Image, LongValue, NoMemory, ObjSpec, Objects, Octets, Value,
+    acts, linked, object_in_table, takes_form, zero_value,
 };
 use std::alloc::Global;
 use std::process::Abort;
