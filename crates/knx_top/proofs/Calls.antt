@@ -1,45 +1,162 @@
 -- A whole call, from what was read to what was written.
-use Rattle.std.proofs.Common.{ℕ, List, Option, Some, None, Result, Ok, Err, refl, inl, inr}
+use Rattle.std.proofs.Common.{ℕ, ◌≡◌, ◌≢◌, List, [], ◌∷◌, Option, Some, None, Result, Ok, Err, ◌⊎◌, refl, sym, ap, ◌∙◌, subst, inl, inr}
+use Rattle.frame_text.specs.FrameText.{IsFrameText, hex_word}
 use Rattle.knx_model.specs.declared.command.Stop.{Stop}
 use Rattle.knx_model.specs.declared.command.Stop.TheVariants as stop
 use Rattle.knx_model.specs.declared.status.Status.{Status}
+use Rattle.knx_model.specs.declared.status.Status.TheVariants as status
+use Rattle.knx_model.specs.ReportText.{stop_text}
 use Rattle.knx_top.specs.Bench.{Trace}
-use Rattle.knx_model.specs.Outside.{Told}
-use Rattle.knx_top.specs.Asked.{Command, Check, Tables, Sim, Decode, files_of, no_files}
-use Rattle.knx_top.specs.Call.{AnswersTo, ComesTo, TellsOf, WroteOutcome}
-use Rattle.knx_top.specs.Ended.{WroteOf}
-use Rattle.knx_top.specs.Judged.{Commission}
-use Rattle.knx_top.specs.Ran.{Outcome, Stops, Tells, Reports, Commissions}
+use Rattle.knx_model.specs.Meaning.{Installation}
+use Rattle.knx_model.specs.Outside.{FileContent}
+use Rattle.knx_top.specs.Moments.{AtEveryMoment}
+use Rattle.knx_top.specs.Command.{Command, Check, Tables, Sim, Decode, ProjectWords, SimWords, asked}
+use Rattle.knx_top.specs.Call.{Does, TellsText, TellsOf, TellsOfProject, TellsOfFrame, RunsScript, HasRunOf, IsAsBefore, HasRun, IsCountsText, IsTablesText, AtMostOneRose, Replies, Writes, octets_or_usage, outcome_status, outcome_text}
+use Rattle.knx_top.specs.Ended.{IsTextOf, wanting}
+use Rattle.knx_top.specs.Input.{ProjectIsRead, SimIsRead, OnlyRose, failed_of_project, failed_of_sim, first_some}
+use Rattle.knx_top.specs.Judged.{judged, judged_project}
+use Rattle.knx_top.specs.Ran.{Outcome, Stops, Tells, BreaksOff, Reports, StopsFor, Runs, Commissions, Began}
+use Rattle.knx_top.specs.Stops.{Commission, project_tests, project_told, sim_tests, commission_told}
+use Rattle.knx_top.specs.declared.input.ProjectTexts.{ProjectTexts}
+use Rattle.knx_top.specs.declared.input.SimTexts.{SimTexts}
+use Rattle.knx_top.proofs.Stops.{unless_stopped, stopped_by, stopped_by_none, judged_is, judged_project_is}
 
 -- ---- memory may be wanting after all
 
-commission_wants : (j : Result Commission Stop) (before after : Option Trace) (outcome : Outcome) → Commissions j before after outcome → Commissions j before after (Stops (stop.NoMemory tt))
-commission_wants (Err why) before after (Stops told) h = (inr refl, h.1)
-commission_wants (Err why) before after (Tells text) h = absurd h
-commission_wants (Err why) before after (Reports report jobs devices) h = absurd h
-commission_wants (Ok c) before after (Stops told) h = (refl, h.1)
-commission_wants (Ok c) before after (Tells text) h = absurd h
-commission_wants (Ok c) before after (Reports report jobs devices) h = (refl, inr (h.0, (h.1.0, h.1.1.began)))
+stop_wants : (why : Stop) (outcome : Outcome) → StopsFor why outcome → StopsFor why (wanting outcome)
+stop_wants why (Stops told) h = inr refl
+stop_wants why (Tells text) h = absurd h
+stop_wants why BreaksOff h = absurd h
+stop_wants why (Reports report jobs devices) h = absurd h
 
-told_wants : {A : Type 0} (IsText : A → List ℕ → Type 0) (found : Result A Stop) → TellsOf IsText found (Stops (stop.NoMemory tt))
-told_wants IsText (Err why) = inr refl
-told_wants IsText (Ok found) = refl
+text_wants : (IsText : List ℕ → Type 0) (outcome : Outcome) → TellsText IsText outcome → TellsText IsText (wanting outcome)
+text_wants IsText (Stops told) h = refl
+text_wants IsText (Tells text) h = refl
+text_wants IsText BreaksOff h = absurd h
+text_wants IsText (Reports report jobs devices) h = absurd h
 
-pub comes_wanting : (command : Command) (told : List ℕ → Told) (rose : Type 0) (before after : Option Trace) (outcome : Outcome) → ComesTo (Some command) told rose before after outcome → ComesTo (Some command) told rose before after (Stops (stop.NoMemory tt))
-comes_wanting (Decode word) told rose before after outcome h = (told_wants _ _, h.1)
-comes_wanting (Check words) told rose before after outcome h = (h.0, (h.1.0, told_wants _ _, h.1.2))
-comes_wanting (Tables words) told rose before after outcome h = (h.0, (h.1.0, told_wants _ _, h.1.2))
-comes_wanting (Sim words) told rose before after outcome h = (h.0, (h.1.0, commission_wants _ before after outcome h.1.1))
+told_wants : {A : Type 0} (IsText : A → List ℕ → Type 0) (found : Result A Stop) (outcome : Outcome) → TellsOf IsText found outcome → TellsOf IsText found (wanting outcome)
+told_wants IsText (Err why) outcome h = stop_wants why outcome h
+told_wants IsText (Ok found) outcome h = text_wants (IsText found) outcome h
 
--- ---- what was written
+run_wants : (c : Commission) (before after : Option Trace) (outcome : Outcome) → Runs c before after outcome → Runs c before after (wanting outcome)
+run_wants c before after (Stops told) h = (refl, h.1)
+run_wants c before after (Tells text) h = absurd h
+run_wants c before after BreaksOff h = h
+run_wants c before after (Reports report jobs devices) h = (h.0, (h.1.0, h.1.1.began))
 
-pub answers : (command : Command) (told : List ℕ → Told) (files_rose sink_rose : Type 0) (before after : Option Trace) (taken taken' : Option (List ℕ)) (ending : Status) (outcome : Outcome)
-    → ComesTo (Some command) told files_rose before after outcome → WroteOf (files_of (Some command)) outcome sink_rose taken taken' ending → AnswersTo (Some command) told files_rose sink_rose before after taken taken' ending
-answers command told files_rose sink_rose before after taken taken' ending outcome comes (inl wrote) = record { outcome = outcome; comes = comes; wrote = wrote }
-answers command told files_rose sink_rose before after taken taken' ending outcome comes (inr wrote) =
-    record { outcome = Stops (stop.NoMemory tt); comes = comes_wanting command told files_rose before after outcome comes; wrote = wrote }
+commission_wants : (j : Result Commission Stop) (before after : Option Trace) (outcome : Outcome) → Commissions j before after outcome → Commissions j before after (wanting outcome)
+commission_wants (Err why) before after outcome h = (stop_wants why outcome h.0, h.1)
+commission_wants (Ok c) before after outcome h = run_wants c before after outcome h
 
--- words that ask for nothing
-pub answers_nothing : (told : List ℕ → Told) (files_rose sink_rose : Type 0) (bench : Option Trace) (taken taken' : Option (List ℕ)) (ending : Status)
-    → WroteOutcome no_files (Stops stop.Usage) sink_rose taken taken' ending → AnswersTo None told files_rose sink_rose bench bench taken taken' ending
-answers_nothing told files_rose sink_rose bench taken taken' ending wrote = record { outcome = Stops stop.Usage; comes = (refl, refl); wrote = wrote }
+-- what is written where memory is wanting for a text is the text of the outcome that wants it
+pub replied_wanting : (outcome : Outcome) (faults faults' : ℕ) (taken taken' : Option (List ℕ)) (told : Status) → Writes (stop_text (stop.NoMemory tt)) status.NoMemory faults faults' taken taken' told → Replies faults faults' taken taken' told (wanting outcome)
+replied_wanting (Stops why) faults faults' taken taken' told h = h
+replied_wanting (Tells text) faults faults' taken taken' told h = h
+replied_wanting BreaksOff faults faults' taken taken' told h = h
+replied_wanting (Reports report jobs devices) faults faults' taken taken' told h = h
+
+pub replied_text : (outcome : Outcome) (text : List ℕ) (ending : Status) (faults faults' : ℕ) (taken taken' : Option (List ℕ)) (told : Status) → IsTextOf outcome text ending → Writes text ending faults faults' taken taken' told → Replies faults faults' taken taken' told outcome
+replied_text outcome text ending faults faults' taken taken' told is h =
+    subst (λ (t : List ℕ). Writes t (outcome_status outcome) faults faults' taken taken' told) is.0 (subst (λ (s : Status). Writes text s faults faults' taken taken' told) is.1 h)
+
+-- ---- the commands
+
+project_from : (IsText : Installation → List ℕ → Type 0) (words : ProjectWords) (file : List ℕ → FileContent) (faults faults' : List ℕ → ℕ) (Replied : Outcome → Type 0) (texts : ProjectTexts) (outcome : Outcome)
+    → ProjectIsRead file words texts → OnlyRose (failed_of_project words texts) faults faults' → TellsOf IsText (judged_project words texts) outcome → Replied outcome → TellsOfProject IsText words file faults faults' Replied
+project_from IsText words file faults faults' Replied texts outcome is counts tells replied =
+    let told : TellsOf IsText (unless_stopped (project_tests words texts) (project_told texts)) outcome = subst (λ (r : Result Installation Stop). TellsOf IsText r outcome) (judged_project_is words texts) tells in
+    record {
+      texts = texts;
+      is_read = is;
+      counts = counts;
+      outcome = outcome;
+      stops = λ why e. subst (λ (r : Result Installation Stop). TellsOf IsText r outcome) (stopped_by (project_tests words texts) (project_told texts) why e) told;
+      tells = λ e. subst (λ (r : Result Installation Stop). TellsOf IsText r outcome) (stopped_by_none (project_tests words texts) (project_told texts) e) told;
+      replied = replied;
+    }
+
+pub project_tells : (IsText : Installation → List ℕ → Type 0) (words : ProjectWords) (file : List ℕ → FileContent) (faults faults' : List ℕ → ℕ) (Replied : Outcome → Type 0) (texts : ProjectTexts) (outcome : Outcome)
+    → ProjectIsRead file words texts → OnlyRose (failed_of_project words texts) faults faults' → TellsOf IsText (judged_project words texts) outcome → Replied outcome ⊎ Replied (wanting outcome) → TellsOfProject IsText words file faults faults' Replied
+project_tells IsText words file faults faults' Replied texts outcome is counts tells (inl replied) = project_from IsText words file faults faults' Replied texts outcome is counts tells replied
+project_tells IsText words file faults faults' Replied texts outcome is counts tells (inr replied) = project_from IsText words file faults faults' Replied texts (wanting outcome) is counts (told_wants IsText _ outcome tells) replied
+
+pub frame_tells : (word : List ℕ) (Replied : Outcome → Type 0) (outcome : Outcome) → TellsOf IsFrameText (octets_or_usage (hex_word word)) outcome → Replied outcome ⊎ Replied (wanting outcome) → TellsOfFrame word Replied
+frame_tells word Replied outcome tells (inl replied) = record { outcome = outcome; tells = tells; replied = replied }
+frame_tells word Replied outcome tells (inr replied) = record { outcome = wanting outcome; tells = told_wants IsFrameText _ outcome tells; replied = replied }
+
+sim_from : (words : SimWords) (file : List ℕ → FileContent) (faults faults' : List ℕ → ℕ) (before after : Option Trace) (Replied : Outcome → Type 0) (texts : SimTexts) (outcome : Outcome)
+    → SimIsRead file words texts → OnlyRose (failed_of_sim words texts) faults faults' → Commissions (judged words texts) before after outcome → Replied outcome → RunsScript words file faults faults' before after Replied
+sim_from words file faults faults' before after Replied texts outcome is counts comes replied =
+    let came : Commissions (unless_stopped (sim_tests words texts) (commission_told texts)) before after outcome = subst (λ (r : Result Commission Stop). Commissions r before after outcome) (judged_is words texts) comes in
+    record {
+      texts = texts;
+      is_read = is;
+      counts = counts;
+      outcome = outcome;
+      stops = λ why e. subst (λ (r : Result Commission Stop). Commissions r before after outcome) (stopped_by (sim_tests words texts) (commission_told texts) why e) came;
+      runs = λ e. subst (λ (r : Result Commission Stop). Commissions r before after outcome) (stopped_by_none (sim_tests words texts) (commission_told texts) e) came;
+      replied = replied;
+    }
+
+pub sim_runs : (words : SimWords) (file : List ℕ → FileContent) (faults faults' : List ℕ → ℕ) (before after : Option Trace) (Replied : Outcome → Type 0) (texts : SimTexts) (outcome : Outcome)
+    → SimIsRead file words texts → OnlyRose (failed_of_sim words texts) faults faults' → Commissions (judged words texts) before after outcome → Replied outcome ⊎ Replied (wanting outcome) → RunsScript words file faults faults' before after Replied
+sim_runs words file faults faults' before after Replied texts outcome is counts comes (inl replied) = sim_from words file faults faults' before after Replied texts outcome is counts comes replied
+sim_runs words file faults faults' before after Replied texts outcome is counts comes (inr replied) = sim_from words file faults faults' before after Replied texts (wanting outcome) is counts (commission_wants _ before after outcome comes) replied
+
+-- ---- each clause of the whole call
+
+pub usage_of : (command : Option Command) (file : List ℕ → FileContent) (faults faults' : List ℕ → ℕ) (before after : Option Trace) (Replied : Outcome → Type 0) → Does command file faults faults' before after Replied → command ≡ None → Replied (Stops stop.Usage)
+usage_of command file faults faults' before after Replied does e = (subst (λ (o : Option Command). Does o file faults faults' before after Replied) e does).0
+
+pub check_of : (command : Option Command) (file : List ℕ → FileContent) (faults faults' : List ℕ → ℕ) (before after : Option Trace) (Replied : Outcome → Type 0) (words : ProjectWords) → Does command file faults faults' before after Replied → command ≡ Some (Check words) → TellsOfProject IsCountsText words file faults faults' Replied
+check_of command file faults faults' before after Replied words does e = (subst (λ (o : Option Command). Does o file faults faults' before after Replied) e does).0
+
+pub tables_of : (command : Option Command) (file : List ℕ → FileContent) (faults faults' : List ℕ → ℕ) (before after : Option Trace) (Replied : Outcome → Type 0) (words : ProjectWords) → Does command file faults faults' before after Replied → command ≡ Some (Tables words) → TellsOfProject IsTablesText words file faults faults' Replied
+tables_of command file faults faults' before after Replied words does e = (subst (λ (o : Option Command). Does o file faults faults' before after Replied) e does).0
+
+pub decode_of : (command : Option Command) (file : List ℕ → FileContent) (faults faults' : List ℕ → ℕ) (before after : Option Trace) (Replied : Outcome → Type 0) (word : List ℕ) → Does command file faults faults' before after Replied → command ≡ Some (Decode word) → TellsOfFrame word Replied
+decode_of command file faults faults' before after Replied word does e = (subst (λ (o : Option Command). Does o file faults faults' before after Replied) e does).0
+
+pub sim_of : (command : Option Command) (file : List ℕ → FileContent) (faults faults' : List ℕ → ℕ) (before after : Option Trace) (Replied : Outcome → Type 0) (words : SimWords) → Does command file faults faults' before after Replied → command ≡ Some (Sim words) → RunsScript words file faults faults' before after Replied
+sim_of command file faults faults' before after Replied words does e = subst (λ (o : Option Command). Does o file faults faults' before after Replied) e does
+
+pub bench_of : (command : Option Command) (file : List ℕ → FileContent) (faults faults' : List ℕ → ℕ) (before after : Option Trace) (Replied : Outcome → Type 0) → Does command file faults faults' before after Replied → ((words : SimWords) → command ≢ Some (Sim words)) → after ≡ before
+bench_of None file faults faults' before after Replied does other = does.2
+bench_of (Some (Check words)) file faults faults' before after Replied does other = does.1
+bench_of (Some (Tables words)) file faults faults' before after Replied does other = does.1
+bench_of (Some (Sim words)) file faults faults' before after Replied does other = absurd (other words refl)
+bench_of (Some (Decode word)) file faults faults' before after Replied does other = does.2
+
+pub faults_in : (command : Option Command) (file : List ℕ → FileContent) (faults faults' : List ℕ → ℕ) (before after : Option Trace) (Replied : Outcome → Type 0) → Does command file faults faults' before after Replied → AtMostOneRose faults faults'
+faults_in None file faults faults' before after Replied does = (None, does.1)
+faults_in (Some (Check words)) file faults faults' before after Replied does = (failed_of_project words does.0.texts, does.0.counts)
+faults_in (Some (Tables words)) file faults faults' before after Replied does = (failed_of_project words does.0.texts, does.0.counts)
+faults_in (Some (Sim words)) file faults faults' before after Replied does = (failed_of_sim words does.texts, does.counts)
+faults_in (Some (Decode word)) file faults faults' before after Replied does = (None, does.1)
+
+-- ---- old, stopped or new
+
+abbrev Old : Commission → Trace → Type 0
+Old c t = AtEveryMoment c.project c.device t
+
+begun_of : (words : List (List ℕ)) (names : SimWords) (file : List ℕ → FileContent) (before after : Option Trace) (texts : SimTexts) (outcome : Outcome) → asked words ≡ Some (Sim names) → SimIsRead file names texts → Runs (commission_told texts) before after outcome → HasRunOf Old words file before after
+begun_of words names file before after texts (Stops told) e is runs = IsAsBefore runs.1
+begun_of words names file before after texts (Tells text) e is runs = absurd runs
+begun_of words names file before after texts BreaksOff e is runs = HasRun names texts runs.0 e is runs.1.0 runs.1.1.old_stopped_or_new
+begun_of words names file before after texts (Reports report jobs devices) e is runs = HasRun names texts runs.0 e is runs.1.0 runs.1.1.began.old_stopped_or_new
+
+tested : (tests : Option Stop) (words : List (List ℕ)) (names : SimWords) (file : List ℕ → FileContent) (faults faults' : List ℕ → ℕ) (before after : Option Trace) (Replied : Outcome → Type 0) (run : RunsScript names file faults faults' before after Replied)
+    → first_some (sim_tests names run.texts) ≡ tests → asked words ≡ Some (Sim names) → HasRunOf Old words file before after
+tested (Some why) words names file faults faults' before after Replied run t e = IsAsBefore (run.stops why t).1
+tested None words names file faults faults' before after Replied run t e = begun_of words names file before after run.texts run.outcome e run.is_read (run.runs t)
+
+old_in : (command : Option Command) (words : List (List ℕ)) (file : List ℕ → FileContent) (faults faults' : List ℕ → ℕ) (before after : Option Trace) (Replied : Outcome → Type 0) → asked words ≡ command → Does command file faults faults' before after Replied → HasRunOf Old words file before after
+old_in None words file faults faults' before after Replied e does = IsAsBefore does.2
+old_in (Some (Check names)) words file faults faults' before after Replied e does = IsAsBefore does.1
+old_in (Some (Tables names)) words file faults faults' before after Replied e does = IsAsBefore does.1
+old_in (Some (Sim names)) words file faults faults' before after Replied e does = tested _ words names file faults faults' before after Replied does refl e
+old_in (Some (Decode word)) words file faults faults' before after Replied e does = IsAsBefore does.2
+
+pub old_of : (words : List (List ℕ)) (file : List ℕ → FileContent) (faults faults' : List ℕ → ℕ) (before after : Option Trace) (Replied : Outcome → Type 0) → Does (asked words) file faults faults' before after Replied → HasRunOf Old words file before after
+old_of words file faults faults' before after Replied does = old_in (asked words) words file faults faults' before after Replied refl does

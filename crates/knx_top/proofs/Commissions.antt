@@ -1,11 +1,15 @@
 -- A run keeps the promises of the commission that it was begun with.
-use Rattle.std.proofs.Common.{ℕ, ◌≡◌, ◌≢◌, ◌≤◌, true, List, [], ◌∷◌, length, Option, Some, None, Result, Ok, Err, refl, sym, ap, ◌∙◌, subst, arith, inl, inr, ◌⊎◌}
+use Rattle.std.proofs.Common.{ℕ, ◌≡◌, ◌≢◌, ◌≤◌, true, List, [], ◌∷◌, ◌++◌, length, Option, Some, None, Result, Ok, Err, refl, sym, ap, ◌∙◌, subst, arith, inl, inr, ◌⊎◌}
 use Rattle.std.specs.Prelude.{IfSome, IfOk}
 use Rattle.std.proofs.lemmas.List.{take_all}
 use Rattle.knx_model.specs.declared.address.IndAddr.{IndAddr}
 use Rattle.knx_model.specs.declared.command.Stop.{Stop}
 use Rattle.knx_model.specs.declared.command.Stop.TheVariants as stop
 use Rattle.knx_model.specs.declared.config.Image.{Image}
+use Rattle.knx_model.specs.declared.log.JobKind.TheVariants.{Load}
+use Rattle.knx_model.specs.declared.log.JobWord.{JobWord}
+use Rattle.knx_model.specs.declared.log.LogEntry.{LogEntry}
+use Rattle.knx_model.specs.declared.log.LogWhat.TheVariants as told
 use Rattle.knx_model.specs.declared.no_memory.NoMemory.{NoMemory}
 use Rattle.knx_model.specs.declared.script.Cut.{Cut}
 use Rattle.knx_top.specs.Bench.{Trace, now, moment, replay, Went}
@@ -14,20 +18,19 @@ use Rattle.knx_model.specs.DeviceState.{DeviceState}
 use Rattle.knx_model.specs.Meaning.{Installation, meaning}
 use Rattle.knx_model.specs.GoodPlan.{OldStoppedOrImage}
 use Rattle.knx_model.specs.LoadPlan.{load_plan}
-use Rattle.knx_model.specs.Promises.{StartOf, BeginsLoaded, BeginsBlank, OldStoppedOrNew, RunsProject}
-use Rattle.knx_top.specs.Moments.{ToldTruly}
+use Rattle.knx_model.specs.Promises.{StartOf, BeginsLoaded, BeginsBlank, OldStoppedOrNew, RunsProject, IsJobOf, DoneIsTrue, OldUntilTaken, StaysFromDone}
 use Rattle.knx_top.specs.Script.{Follows}
 use Rattle.knx_model.specs.Tables.{StandsFor}
 use Rattle.knx_top.specs.declared.judge.Order.{Order}
 use Rattle.knx_top.specs.declared.commission.Ended.{Ended}
 use Rattle.knx_top.specs.declared.download.JobEnd.{JobEnd}
 use Rattle.knx_top.specs.declared.download.JobEnd.TheVariants.{Done, Failed}
-use Rattle.knx_top.specs.Judged.{Commission}
+use Rattle.knx_top.specs.Stops.{Commission}
 use Rattle.knx_top.specs.Order.{OrderFor, IsOrder, IsBefore}
 use Rattle.knx_top.specs.Attempts.{KeptToPlan}
-use Rattle.knx_top.specs.Ran.{Commissions, Stops, Reports, Outcome, Began, Ran, IsOver, IsDone, HasFailed}
+use Rattle.knx_top.specs.Ran.{Commissions, Stops, BreaksOff, Reports, Outcome, Began, Ran, IsOver, IsDone, HasFailed, entry}
 use Rattle.knx_top.specs.Start.{start_with}
-use Rattle.knx_top.specs.Ended.{log_of, run_outcome, HasLoaded, HasEnded, Reported}
+use Rattle.knx_top.specs.Ended.{end_of, log_of, run_outcome, HasLoaded, HasEnded, Reported}
 
 -- ---- where the call stops before a run
 
@@ -40,22 +43,22 @@ ok c = Ok c
 stops_for : (why told : Stop) → (told ≢ stop.NoMemory tt → err why ≡ err told) → (told ≡ why) ⊎ (told ≡ stop.NoMemory tt)
 stops_for why (stop.NoMemory want) h = inr refl
 stops_for why stop.Usage h = inl (let e : err why ≡ err stop.Usage = h (λ q. cc) in cc)
-stops_for why (stop.NotThere place) h = inl (let e : err why ≡ err (stop.NotThere place) = h (λ q. cc) in cc)
-stops_for why (stop.ReadFailed place) h = inl (let e : err why ≡ err (stop.ReadFailed place) = h (λ q. cc) in cc)
+stops_for why (stop.NotThere name) h = inl (let e : err why ≡ err (stop.NotThere name) = h (λ q. cc) in cc)
+stops_for why (stop.ReadFailed name) h = inl (let e : err why ≡ err (stop.ReadFailed name) = h (λ q. cc) in cc)
 stops_for why (stop.CatalogueRefused refused) h = inl (let e : err why ≡ err (stop.CatalogueRefused refused) = h (λ q. cc) in cc)
 stops_for why (stop.Refused place refused) h = inl (let e : err why ≡ err (stop.Refused place refused) = h (λ q. cc) in cc)
 
 no_stop : (c : Commission) (told : Stop) → (told ≢ stop.NoMemory tt → ok c ≡ err told) → told ≡ stop.NoMemory tt
 no_stop c (stop.NoMemory want) h = refl
 no_stop c stop.Usage h = absurd (let e : ok c ≡ err stop.Usage = h (λ q. cc) in cc)
-no_stop c (stop.NotThere place) h = absurd (let e : ok c ≡ err (stop.NotThere place) = h (λ q. cc) in cc)
-no_stop c (stop.ReadFailed place) h = absurd (let e : ok c ≡ err (stop.ReadFailed place) = h (λ q. cc) in cc)
+no_stop c (stop.NotThere name) h = absurd (let e : ok c ≡ err (stop.NotThere name) = h (λ q. cc) in cc)
+no_stop c (stop.ReadFailed name) h = absurd (let e : ok c ≡ err (stop.ReadFailed name) = h (λ q. cc) in cc)
 no_stop c (stop.CatalogueRefused refused) h = absurd (let e : ok c ≡ err (stop.CatalogueRefused refused) = h (λ q. cc) in cc)
 no_stop c (stop.Refused place refused) h = absurd (let e : ok c ≡ err (stop.Refused place refused) = h (λ q. cc) in cc)
 
 pub decided_stop : (j : Result Commission Stop) (told : Stop) (bench : Option Trace) → (told ≢ stop.NoMemory tt → j ≡ err told) → Commissions j bench bench (Stops told)
 decided_stop (Err why) told bench h = (stops_for why told h, refl)
-decided_stop (Ok c) told bench h = (no_stop c told h, inl refl)
+decided_stop (Ok c) told bench h = (no_stop c told h, refl)
 
 pub decided_run : (j : Result Commission Stop) (order : Order) (before after : Option Trace) (outcome : Outcome) → OrderFor j order → ((c : Commission) → IsOrder c order → Commissions (Ok c) before after outcome) → Commissions j before after outcome
 decided_run (Err why) order before after outcome o h = absurd o
@@ -112,7 +115,7 @@ begun : (c : Commission) (order : Order) (t : Trace) → IsOrder c order → t.s
 begun c order t o start h = record {
   start = subst (StartOf c.before c.device) (sym (start ∙ ap (λ (d : IndAddr). start_with d order.before) o.device)) (start_for c.before c.device order.before o.before);
   follows = subst (λ (cuts : List Cut). Follows cuts t.start 0 t.events) o.cuts h.follows;
-  moments = λ k l. image_case c order.image t.start.kept (moment t k).kept o.image.stands (h.moments k l);
+  old_stopped_or_new = λ k l. image_case c order.image t.start.kept (moment t k).kept o.image.stands (h.moments k l);
   image = order.image;
   stands = o.image.stands;
   kept_to = h.kept_to;
@@ -123,30 +126,87 @@ begun c order t o start h = record {
 last_moment : (t : Trace) → moment t (length t.events) ≡ now t
 last_moment t = ap (replay t.start) (take_all (length t.events) t.events (omega arith))
 
-told_for : (c : Commission) (t : Trace) (end : JobEnd) → (end ≡ Done → RunsProject c.project c.device (now t).kept) → ToldTruly c.project c.device t (log_of end (length t.events))
-told_for c t Done h = (λ job e. absurd cc, (λ job e. subst (λ (d : DeviceState). RunsProject c.project c.device d.kept) (sym (last_moment t)) (h refl), tt))
+head_same : (one other : LogEntry) (xs ys : List LogEntry) → one ∷ xs ≡ other ∷ ys → one ≡ other
+head_same one other xs ys e = cc
+
+second_same : (one other two three : LogEntry) (xs ys : List LogEntry) → one ∷ two ∷ xs ≡ other ∷ three ∷ ys → two ≡ three
+second_same one other two three xs ys e = cc
+
+no_third : (one two a b d : LogEntry) (ys : List LogEntry) → one ∷ two ∷ [] ≡ a ∷ b ∷ d ∷ ys → ⊥
+no_third one two a b d ys e = let f : [] ≡ d ∷ ys = cc in cc
+
+abbrev is_job : Commission → ℕ → Type 0
+is_job c job = IsJobOf (record { device = c.device; kind = Load } ∷ []) c.device job
+
+told_for : (c : Commission) (t : Trace) (end : JobEnd) → (end ≡ Done → RunsProject c.project c.device (now t).kept) → DoneIsTrue c.project (record { device = c.device; kind = Load } ∷ []) (log_of end (length t.events)) (λ device k. (moment t k).kept)
+told_for c t Done h = (
+  λ job e. absurd cc,
+  (
+    λ job e.
+        let one : 1 ≡ job = same_job 1 job e in
+        (c.device, (subst (is_job c) one (Load, (omega arith, refl)), subst (λ (d : DeviceState). RunsProject c.project c.device d.kept) (sym (last_moment t)) (h refl))),
+    tt,
+  ),
+)
+  where
+    same_job : (one job : ℕ) → told.Done one ≡ told.Done job → one ≡ job
+    same_job one job e = cc
 told_for c t Failed h = (λ job e. absurd cc, (λ job e. absurd cc, tt))
+
+-- before the first event nothing was taken
+old_for : (c : Commission) (t : Trace) (end : JobEnd) → OldUntilTaken (record { device = c.device; kind = Load } ∷ []) c.device (log_of end (length t.events)) (length t.events) (λ k. (moment t k).kept)
+old_for c t end k below none =
+    let first : k ≤ 0 = none.0 1 refl (omega arith, refl) in
+    ap (λ (n : ℕ). (moment t n).kept) (omega (arith, first))
+
+-- nothing comes behind the end of the job
+stays_in : (c : Commission) (t : Trace) (first last : LogEntry) → first.what ≡ told.Took 1 → last.at ≡ length t.events → StaysFromDone (record { device = c.device; kind = Load } ∷ []) c.device (first ∷ last ∷ []) (length t.events) (λ k. (moment t k).kept)
+stays_in c t first last took at [] later entry job k e done is above below none =
+    let same : first ≡ entry = head_same first entry (last ∷ []) later e in
+    absurd (let f : told.Took 1 ≡ told.Done job = sym took ∙ (ap (λ (x : LogEntry). x.what) same ∙ done) in cc)
+stays_in c t first last took at (a ∷ []) later entry job k e done is above below none =
+    let same : last ≡ entry = second_same first a last entry [] later e in
+    let end : entry.at ≡ length t.events = sym (ap (λ (x : LogEntry). x.at) same) ∙ at in
+    ap (λ (n : ℕ). (moment t n).kept) (omega (arith, end, above, below))
+stays_in c t first last took at (a ∷ b ∷ []) later entry job k e done is above below none = absurd (no_third first last a b entry later e)
+stays_in c t first last took at (a ∷ b ∷ d ∷ more) later entry job k e done is above below none = absurd (no_third first last a b d (more ++ entry ∷ later) e)
+
+stays_for : (c : Commission) (t : Trace) (end : JobEnd) → StaysFromDone (record { device = c.device; kind = Load } ∷ []) c.device (log_of end (length t.events)) (length t.events) (λ k. (moment t k).kept)
+stays_for c t end = stays_in c t (entry 0 (told.Took 1)) (entry (length t.events) (end_of end)) refl refl
 
 over_for : (c : Commission) (order : Order) (t : Trace) (end : JobEnd) → IsOrder c order → HasEnded order.image t end → IsOver c t (log_of end (length t.events))
 over_for c order t Done o h = IsDone order.image o.image.stands (h.got_through refl)
 over_for c order t Failed o h = HasFailed order.image o.image.stands (h.failed refl)
 
 ran : (c : Commission) (order : Order) (t : Trace) (ended : Ended) → IsOrder c order → t.start ≡ start_with order.device order.before → HasLoaded order.image order.cuts t → Reported order.image order.device t ended → Ran c t ended.report (ended.job ∷ []) (ended.device ∷ [])
-ran c order t ended o start loaded r = record {
-  began = begun c order t o start loaded;
-  told = subst (ToldTruly c.project c.device t) (sym r.reported.log) (told_for c t r.end (λ e. record { image = order.image; runs_it = r.has_ended.done e; stands = o.image.stands }));
-  over = subst (IsOver c t) (sym r.reported.log) (over_for c order t r.end o r.has_ended);
-  job = rw (r.reported.job, o.device) refl;
-  missed = r.reported.missed;
-  case = ended.device.case;
-  case_is = r.reported.case c.project c.device o.image.stands;
-  device = rw (← o.device, ← r.reported.device) refl;
-}
+ran c order t ended o start loaded r =
+    let own : JobWord = record { device = c.device; kind = Load } in
+    let is_own : ended.job ≡ own = rw (r.reported.job, o.device) refl in
+    let job_is : own ≡ ended.job = sym is_own in
+    record {
+      began = begun c order t o start loaded;
+      done_is_true =
+          subst (λ (job : JobWord). DoneIsTrue c.project (job ∷ []) ended.report.log (λ device k. (moment t k).kept)) job_is
+          (subst (λ (log : List LogEntry). DoneIsTrue c.project (own ∷ []) log (λ device k. (moment t k).kept)) (sym r.reported.log)
+          (told_for c t r.end (λ e. record { image = order.image; runs_it = r.has_ended.done e; stands = o.image.stands })));
+      old_until_taken =
+          subst (λ (job : JobWord). OldUntilTaken (job ∷ []) c.device ended.report.log (length t.events) (λ k. (moment t k).kept)) job_is
+          (subst (λ (log : List LogEntry). OldUntilTaken (own ∷ []) c.device log (length t.events) (λ k. (moment t k).kept)) (sym r.reported.log) (old_for c t r.end));
+      stays_from_done =
+          subst (λ (job : JobWord). StaysFromDone (job ∷ []) c.device ended.report.log (length t.events) (λ k. (moment t k).kept)) job_is
+          (subst (λ (log : List LogEntry). StaysFromDone (own ∷ []) c.device log (length t.events) (λ k. (moment t k).kept)) (sym r.reported.log) (stays_for c t r.end));
+      over = subst (IsOver c t) (sym r.reported.log) (over_for c order t r.end o r.has_ended);
+      job = rw (r.reported.job, o.device) refl;
+      missed = r.reported.missed;
+      case = ended.device.case;
+      case_is = r.reported.case c.project c.device o.image.stands;
+      device = rw (← o.device, ← r.reported.device) refl;
+    }
 
 -- ---- the whole run
 
-pub decided_wanting : (c : Commission) (order : Order) (before : Option Trace) (t : Trace) → IsOrder c order → t.start ≡ start_with order.device order.before → HasLoaded order.image order.cuts t → Commissions (Ok c) before (Some t) (Stops (stop.NoMemory tt))
-decided_wanting c order before t o start h = (refl, inr (t, (refl, begun c order t o start h)))
+decided_wanting : (c : Commission) (order : Order) (before : Option Trace) (t : Trace) → IsOrder c order → t.start ≡ start_with order.device order.before → HasLoaded order.image order.cuts t → Commissions (Ok c) before (Some t) BreaksOff
+decided_wanting c order before t o start h = (t, (refl, begun c order t o start h))
 
 pub decided_ran : (c : Commission) (order : Order) (before : Option Trace) (t : Trace) (ended : Ended) → IsOrder c order → t.start ≡ start_with order.device order.before → HasLoaded order.image order.cuts t → Reported order.image order.device t ended → Commissions (Ok c) before (Some t) (Reports ended.report (ended.job ∷ []) (ended.device ∷ []))
 decided_ran c order before t ended o start h r = (t, (refl, ran c order t ended o start h r))

@@ -14,14 +14,17 @@ use Rattle.knx_model.specs.declared.status.Status.{Status}
 use Rattle.knx_model.specs.declared.status.Status.TheVariants as status
 use Rattle.knx_top.specs.Bench.{Trace}
 use Rattle.knx_model.specs.Meaning.{Installation, meaning}
-use Rattle.knx_model.specs.Outside.{Told, Takes, TakesFront}
+use Rattle.knx_model.specs.Outside.{FileContent, Rose, Wrote, WroteFront}
 use Rattle.knx_model.specs.ReportText.{counts_line, tables_lines, report_text, stop_text, stop_status}
 use Rattle.knx_model.specs.Counts.{counts_of}
 use Rattle.knx_model.specs.Rules.{devices_of}
 use Rattle.knx_model.specs.Tables.{StandsFor}
-use Rattle.knx_top.specs.Asked.{Command, Check, Tables, Sim, Decode, FileNames, asked, files_of, name_in}
-use Rattle.knx_top.specs.Judged.{ProjectReads, SimReads, ProjectIsRead, SimIsRead, judged_project, judged}
-use Rattle.knx_top.specs.Ran.{Outcome, Stops, Tells, Reports, Commissions}
+use Rattle.knx_top.specs.Command.{Command, Check, Tables, Sim, Decode, ProjectWords, SimWords, asked}
+use Rattle.knx_top.specs.Input.{ProjectIsRead, SimIsRead, OnlyRose, failed_of_project, failed_of_sim, first_some}
+use Rattle.knx_top.specs.Ran.{Outcome, Stops, Tells, BreaksOff, Reports, StopsFor, Runs}
+use Rattle.knx_top.specs.Stops.{Commission, project_tests, project_told, sim_tests, commission_told}
+use Rattle.knx_top.specs.declared.input.ProjectTexts.{ProjectTexts}
+use Rattle.knx_top.specs.declared.input.SimTexts.{SimTexts}
 
 -- ---- the texts of the commands without a run
 
@@ -43,26 +46,16 @@ abbrev pub octets_or_usage : Option (List ℕ) → Result (List ℕ) Stop
 octets_or_usage None = Err stop.Usage
 octets_or_usage (Some octets) = Ok octets
 
+-- what a call tells of what it has found: a text of it, or that there was no memory
+abbrev pub TellsText : (List ℕ → Type 0) → Outcome → Type 0
+TellsText IsText (Stops told) = told ≡ stop.NoMemory tt
+TellsText IsText (Tells text) = IsText text
+TellsText IsText outcome = ⊥
+
 -- it stops where it must, or for want of memory, and else tells a text of what it has found
 abbrev pub TellsOf : {A : Type 0} → (A → List ℕ → Type 0) → Result A Stop → Outcome → Type 0
-TellsOf IsText (Err why) (Stops told) = (told ≡ why) ⊎ (told ≡ stop.NoMemory tt)
-TellsOf IsText (Ok found) (Stops told) = told ≡ stop.NoMemory tt
-TellsOf IsText (Ok found) (Tells text) = IsText found text
-TellsOf IsText _ _ = ⊥
-
--- ---- the commands
-
--- What a command comes to, where the files tell `told` and their count of faults rose or not, and the bench was `before` and is
--- `after`: only `sim` begins a run.
-abbrev pub ComesTo : Option Command → (List ℕ → Told) → Type 0 → Option Trace → Option Trace → Outcome → Type 0
-ComesTo None told rose before after outcome = (outcome ≡ Stops stop.Usage) × (after ≡ before)
-ComesTo (Some (Decode word)) told rose before after outcome = TellsOf IsFrameText (octets_or_usage (hex_word word)) outcome × (after ≡ before)
-ComesTo (Some (Check words)) told rose before after outcome =
-    (reads : ProjectReads) × (ProjectIsRead told rose words reads × TellsOf IsCountsText (judged_project reads) outcome × (after ≡ before))
-ComesTo (Some (Tables words)) told rose before after outcome =
-    (reads : ProjectReads) × (ProjectIsRead told rose words reads × TellsOf IsTablesText (judged_project reads) outcome × (after ≡ before))
-ComesTo (Some (Sim words)) told rose before after outcome =
-    (reads : SimReads) × (SimIsRead told rose words reads × Commissions (judged reads) before after outcome)
+TellsOf IsText (Err why) outcome = StopsFor why outcome
+TellsOf IsText (Ok found) outcome = TellsText (IsText found) outcome
 
 -- ---- what is written
 
@@ -77,28 +70,75 @@ log_status log = if list_any (λ e. is_failed e.what) log then status.SomeFailed
 abbrev pub outcome_status : Outcome → Status
 outcome_status (Stops why) = stop_status why
 outcome_status (Tells text) = status.Done
+outcome_status BreaksOff = status.NoMemory
 outcome_status (Reports report jobs devices) = log_status report.log
 
--- the text of an outcome, where each file's name is given
-abbrev pub outcome_text : FileNames → Outcome → List ℕ
-outcome_text names (Stops why) = stop_text (name_in names) why
-outcome_text names (Tells text) = text
-outcome_text names (Reports report jobs devices) = report_text report jobs devices
+-- the text of an outcome
+abbrev pub outcome_text : Outcome → List ℕ
+outcome_text (Stops why) = stop_text why
+outcome_text (Tells text) = text
+outcome_text BreaksOff = stop_text (stop.NoMemory tt)
+outcome_text (Reports report jobs devices) = report_text report jobs devices
 
--- the whole text was written and the status is the outcome's, or a write failed, a front of the text was taken and the status tells it
-abbrev pub Wrote : List ℕ → Status → Type 0 → Option (List ℕ) → Option (List ℕ) → Status → Type 0
-Wrote text ending rose before after told = ((told ≡ ending) × Takes text before after) ⊎ ((told ≡ status.Write) × (rose × TakesFront text before after))
+-- A text was to be written, where the sink's count of faults was `faults` and is `faults'` and it had taken `taken` and has taken `taken'`: it
+-- was written whole and the status is its own; or the write failed, a front of the text was taken, and the status tells that.
+abbrev pub Writes : List ℕ → Status → ℕ → ℕ → Option (List ℕ) → Option (List ℕ) → Status → Type 0
+Writes text ending faults faults' taken taken' told =
+    ((told ≡ ending) × Wrote text taken taken' × (faults' ≡ faults))
+    ⊎ ((told ≡ status.Write) × WroteFront text taken taken' × Rose faults faults')
 
-abbrev pub WroteOutcome : FileNames → Outcome → Type 0 → Option (List ℕ) → Option (List ℕ) → Status → Type 0
-WroteOutcome names outcome rose before after told = Wrote (outcome_text names outcome) (outcome_status outcome) rose before after told
+-- an outcome was to be written, with its status
+abbrev pub Replies : ℕ → ℕ → Option (List ℕ) → Option (List ℕ) → Status → Outcome → Type 0
+Replies faults faults' taken taken' told outcome = Writes (outcome_text outcome) (outcome_status outcome) faults faults' taken taken' told
 
--- What a call does that is asked for a command, or for nothing: the sink had taken `taken` and has taken `taken'`, and the call ended
--- with a status.
-pub record AnswersTo (command : Option Command) (told : List ℕ → Told) (files_rose sink_rose : Type 0) (before after : Option Trace) (taken taken' : Option (List ℕ)) (ending : Status) : Type 0 where
+-- ---- the commands, where the files tell `file`, their counts of faults were `faults` and are `faults'`, and `Replied` says what was written
+
+-- `check P` and `tables P`
+pub record TellsOfProject (IsText : Installation → List ℕ → Type 0) (words : ProjectWords) (file : List ℕ → FileContent) (faults faults' : List ℕ → ℕ) (Replied : Outcome → Type 0) : Type 0 where
+  -- what was read, in order, up to the first read that was refused
+  pub texts : ProjectTexts
+  pub is_read : ProjectIsRead file words texts
+  -- the count of no file rose but of the one whose read failed
+  pub counts : OnlyRose (failed_of_project words texts) faults faults'
   pub outcome : Outcome
-  pub comes : ComesTo command told files_rose before after outcome
-  pub wrote : WroteOutcome (files_of command) outcome sink_rose taken taken' ending
+  -- the first test that fails is told
+  pub stops : (why : Stop) → first_some (project_tests words texts) ≡ Some why → StopsFor why outcome
+  -- where none fails, the project's text is told
+  pub tells : first_some (project_tests words texts) ≡ None → TellsText (IsText (project_told texts)) outcome
+  pub replied : Replied outcome
 
--- what a call with these words does
-abbrev pub Answers : List (List ℕ) → (List ℕ → Told) → Type 0 → Type 0 → Option Trace → Option Trace → Option (List ℕ) → Option (List ℕ) → Status → Type 0
-Answers words = AnswersTo (asked words)
+-- `decode HEX`
+pub record TellsOfFrame (word : List ℕ) (Replied : Outcome → Type 0) : Type 0 where
+  pub outcome : Outcome
+  pub tells : TellsOf IsFrameText (octets_or_usage (hex_word word)) outcome
+  pub replied : Replied outcome
+
+-- `sim NEW OLD SCRIPT`, where the bench was `before` and is `after`
+pub record RunsScript (words : SimWords) (file : List ℕ → FileContent) (faults faults' : List ℕ → ℕ) (before after : Option Trace) (Replied : Outcome → Type 0) : Type 0 where
+  pub texts : SimTexts
+  pub is_read : SimIsRead file words texts
+  pub counts : OnlyRose (failed_of_sim words texts) faults faults'
+  pub outcome : Outcome
+  -- the first test that fails is told, and no run is begun
+  pub stops : (why : Stop) → first_some (sim_tests words texts) ≡ Some why → StopsFor why outcome × (after ≡ before)
+  -- where none fails, what the texts ask for is run
+  pub runs : first_some (sim_tests words texts) ≡ None → Runs (commission_told texts) before after outcome
+  pub replied : Replied outcome
+
+-- ---- a call, by what its words ask for
+
+abbrev pub Does : Option Command → (List ℕ → FileContent) → (List ℕ → ℕ) → (List ℕ → ℕ) → Option Trace → Option Trace → (Outcome → Type 0) → Type 0
+Does None file faults faults' before after Replied = Replied (Stops stop.Usage) × OnlyRose None faults faults' × (after ≡ before)
+Does (Some (Check words)) file faults faults' before after Replied = TellsOfProject IsCountsText words file faults faults' Replied × (after ≡ before)
+Does (Some (Tables words)) file faults faults' before after Replied = TellsOfProject IsTablesText words file faults faults' Replied × (after ≡ before)
+Does (Some (Sim words)) file faults faults' before after Replied = RunsScript words file faults faults' before after Replied
+Does (Some (Decode word)) file faults faults' before after Replied = TellsOfFrame word Replied × OnlyRose None faults faults' × (after ≡ before)
+
+-- the count of one file rose at most
+abbrev pub AtMostOneRose : (List ℕ → ℕ) → (List ℕ → ℕ) → Type 0
+AtMostOneRose faults faults' = (one : Option (List ℕ)) × OnlyRose one faults faults'
+
+-- the bench is as it was, or has a run of what the words ask for and the files gave
+pub data HasRunOf (P : Commission → Trace → Type 0) (words : List (List ℕ)) (file : List ℕ → FileContent) (before after : Option Trace) : Type 0 where
+  IsAsBefore : after ≡ before → HasRunOf P words file before after
+  HasRun : (names : SimWords) (texts : SimTexts) (t : Trace) → asked words ≡ Some (Sim names) → SimIsRead file names texts → after ≡ Some t → P (commission_told texts) t → HasRunOf P words file before after

@@ -1,10 +1,11 @@
 -- What a run has done so far, what is reported of it in the end, and what is written of that.
-use Rattle.std.specs.Prelude.{ℕ, ◌≡◌, ◌≤◌, ◌⊎◌, false, List, [], ◌∷◌, length, Option, Some, Result, Ok, Err}
+use Rattle.std.specs.Prelude.{ℕ, ◌≡◌, ◌≤◌, ◌⊎◌, List, [], ◌∷◌, length, Option, Some, Result, Ok, Err}
 use Rattle.knx_model.specs.declared.address.IndAddr.{IndAddr}
 use Rattle.knx_model.specs.declared.command.Stop.{Stop}
 use Rattle.knx_model.specs.declared.command.Stop.TheVariants as stop
 use Rattle.knx_model.specs.declared.config.Image.{Image}
 use Rattle.knx_model.specs.declared.no_memory.NoMemory.{NoMemory}
+use Rattle.knx_model.specs.declared.log.JobKind.TheVariants.{Load}
 use Rattle.knx_model.specs.declared.log.LogEntry.{LogEntry}
 use Rattle.knx_model.specs.declared.log.LogWhat.{LogWhat}
 use Rattle.knx_model.specs.declared.log.LogWhat.TheVariants as told
@@ -12,10 +13,9 @@ use Rattle.knx_model.specs.declared.log.Sign.TheVariants.{Closed}
 use Rattle.knx_model.specs.declared.script.Cut.{Cut}
 use Rattle.knx_model.specs.declared.status.Status.{Status}
 use Rattle.knx_top.specs.Bench.{Trace, now, moment}
-use Rattle.knx_top.specs.Asked.{FileNames}
-use Rattle.knx_top.specs.Call.{WroteOutcome, outcome_status, outcome_text}
+use Rattle.knx_top.specs.Call.{Replies, outcome_status, outcome_text}
 use Rattle.knx_top.specs.Attempts.{WereCutOff, GotThrough, KeptToPlan}
-use Rattle.knx_top.specs.Ran.{Outcome, Stops, Tells, Reports, entry}
+use Rattle.knx_top.specs.Ran.{Outcome, Stops, Tells, BreaksOff, Reports, entry}
 use Rattle.knx_model.specs.Device.{runs}
 use Rattle.knx_model.specs.Meaning.{Installation, meaning}
 use Rattle.knx_model.specs.GoodPlan.{OldStoppedOrImage}
@@ -24,6 +24,8 @@ use Rattle.knx_model.specs.Promises.{IsCase}
 use Rattle.knx_top.specs.Script.{Follows}
 use Rattle.knx_model.specs.Tables.{StandsFor}
 use Rattle.knx_top.specs.declared.commission.Ended.{Ended}
+use Rattle.knx_top.specs.declared.commission.Unreported.{Unreported}
+use Rattle.knx_top.specs.declared.commission.Unreported.TheVariants.{Stopped, BrokenOff}
 use Rattle.knx_top.specs.declared.download.JobEnd.{JobEnd}
 use Rattle.knx_top.specs.declared.download.JobEnd.TheVariants.{Done, Failed}
 
@@ -45,7 +47,7 @@ pub record HasLoaded (image : Image) (cuts : List Cut) (t : Trace) : Type 0 wher
 pub record HasReported (image : Image) (named : IndAddr) (t : Trace) (end : JobEnd) (ended : Ended) : Type 0 where
   pub log : ended.report.log ≡ log_of end (length t.events)
   pub missed : ended.report.missed ≡ 0
-  pub job : ended.job ≡ record { device = named; check = false }
+  pub job : ended.job ≡ record { device = named; kind = Load }
   pub device : ended.device.device ≡ named
   pub case : (project : Installation) (of : IndAddr) → StandsFor image (meaning project of) → IsCase project of (now t).kept ended.device.case
 
@@ -61,14 +63,15 @@ pub record Reported (image : Image) (device : IndAddr) (t : Trace) (ended : Ende
   pub has_ended : HasEnded image t end
   pub reported : HasReported image device t end ended
 
--- how a call ends: with a report, or where it stops
-abbrev pub outcome_of : Result Ended Stop → Outcome
+-- how a call ends: with a report, or where it stops, or memory is wanting in the run
+abbrev pub outcome_of : Result Ended Unreported → Outcome
 outcome_of (Ok ended) = Reports ended.report (ended.job ∷ []) (ended.device ∷ [])
-outcome_of (Err why) = Stops why
+outcome_of (Err (Stopped why)) = Stops why
+outcome_of (Err (BrokenOff want)) = BreaksOff
 
 abbrev pub run_outcome : Result Ended NoMemory → Outcome
 run_outcome (Ok ended) = Reports ended.report (ended.job ∷ []) (ended.device ∷ [])
-run_outcome (Err why) = Stops (stop.NoMemory tt)
+run_outcome (Err want) = BreaksOff
 
 -- or with a text
 abbrev pub told_outcome : Result (List ℕ) Stop → Outcome
@@ -78,9 +81,16 @@ told_outcome (Err why) = Stops why
 -- ---- what is written of it
 
 -- the text of an outcome and its status
-abbrev pub IsTextOf : FileNames → Outcome → List ℕ → Status → Type 0
-IsTextOf names outcome text ending = (text ≡ outcome_text names outcome) × (ending ≡ outcome_status outcome)
+abbrev pub IsTextOf : Outcome → List ℕ → Status → Type 0
+IsTextOf outcome text ending = (text ≡ outcome_text outcome) × (ending ≡ outcome_status outcome)
+
+-- the same outcome where memory is wanting for its text
+abbrev pub wanting : Outcome → Outcome
+wanting (Stops why) = Stops (stop.NoMemory tt)
+wanting (Tells text) = Stops (stop.NoMemory tt)
+wanting BreaksOff = BreaksOff
+wanting (Reports report jobs devices) = BreaksOff
 
 -- an outcome was written, or that there was no memory for its text
-abbrev pub WroteOf : FileNames → Outcome → Type 0 → Option (List ℕ) → Option (List ℕ) → Status → Type 0
-WroteOf names outcome rose before after told = WroteOutcome names outcome rose before after told ⊎ WroteOutcome names (Stops (stop.NoMemory tt)) rose before after told
+abbrev pub RepliesOf : ℕ → ℕ → Option (List ℕ) → Option (List ℕ) → Status → Outcome → Type 0
+RepliesOf faults faults' taken taken' told outcome = Replies faults faults' taken taken' told outcome ⊎ Replies faults faults' taken taken' told (wanting outcome)

@@ -1,6 +1,5 @@
--- What a call reads, and where it stops: the files are read in the order catalogue, NEW or P, OLD, SCRIPT; then the catalogue, NEW,
--- OLD, the script and the script's devices are tried. The first refusal ends the call.
-use Rattle.std.specs.Prelude.{ℕ, ◌≡◌, Bool, true, false, ◌==◌, List, [], ◌∷◌, Option, Some, None, Result, Ok, Err, if◌then◌else◌}
+-- The same tests one after another, each with what it gives to the next: what the code does.
+use Rattle.std.specs.Prelude.{ℕ, ◌≡◌, List, [], ◌∷◌, Option, Some, None, unwrap_or, Result, Ok, Err, if◌then◌else◌}
 use Rattle.std.specs.List.{list_all}
 use Rattle.catalogue.specs.Catalogue.{catalogue_of}
 use Rattle.knx_model.specs.declared.address.IndAddr.{IndAddr}
@@ -10,79 +9,40 @@ use Rattle.knx_model.specs.declared.command.InputFile.{InputFile}
 use Rattle.knx_model.specs.declared.command.InputFile.TheVariants as file
 use Rattle.knx_model.specs.declared.command.Stop.{Stop}
 use Rattle.knx_model.specs.declared.command.Stop.TheVariants as stop
-use Rattle.knx_model.specs.declared.outside.files.FileFault.{FileFault}
-use Rattle.knx_model.specs.declared.outside.files.FileFault.TheVariants as fault
+use Rattle.knx_model.specs.declared.project.Statement.{Statement}
 use Rattle.knx_model.specs.declared.refusal.Refused.{Refused}
-use Rattle.knx_model.specs.declared.refusal.Why.TheVariants.{NotBuilt}
 use Rattle.knx_model.specs.declared.script.Cut.{Cut}
 use Rattle.knx_model.specs.declared.script.ScriptLine.{ScriptLine}
 use Rattle.knx_model.specs.Answers.{◌>>=◌, AnswersUnless}
 use Rattle.knx_model.specs.Meaning.{Installation}
-use Rattle.knx_model.specs.Outside.{Told, MayRead}
 use Rattle.knx_model.specs.Rules.{first_broken, devices_of}
 use Rattle.knx_model.specs.ScriptText.{cuts_of, script_reading, is_cut, first_stranger}
 use Rattle.knx_model.specs.Statements.{reading}
-use Rattle.knx_top.specs.Asked.{ProjectWords, SimWords}
+use Rattle.knx_top.specs.Command.{ProjectWords, SimWords}
+use Rattle.knx_top.specs.Input.{fault_told}
+use Rattle.knx_top.specs.Stops.{Commission, the_device, has_at_most, not_built}
+use Rattle.knx_top.specs.declared.input.ProjectTexts.{ProjectTexts}
+use Rattle.knx_top.specs.declared.input.Reading.{Reading}
+use Rattle.knx_top.specs.declared.input.Reading.TheVariants as read
+use Rattle.knx_top.specs.declared.input.SimTexts.{SimTexts}
 
--- ---- what is read
-
--- a text is read up to one octet more than it may have
-abbrev pub limit : ℕ
-limit = 4194305
-
--- a read answers what the files tell, and fails only where their count rose
-pub record IsRead (told : Told) (rose : Type 0) (answer : Result (List ℕ) FileFault) : Type 0 where
-  pub told_so : MayRead told limit answer
-  pub failed : answer ≡ Err fault.Failed → rose
-
--- the same of a file that may not be named, and then isn't read
-abbrev pub IsReadWhereNamed : (List ℕ → Told) → Type 0 → Option (List ℕ) → Result (Option (List ℕ)) FileFault → Type 0
-IsReadWhereNamed told rose None answer = answer ≡ Ok None
-IsReadWhereNamed told rose (Some name) (Ok None) = ⊥
-IsReadWhereNamed told rose (Some name) (Ok (Some octets)) = IsRead (told name) rose (Ok octets)
-IsReadWhereNamed told rose (Some name) (Err why) = IsRead (told name) rose (Err why)
-
--- what the reads answer. A file that isn't read any more, since a read before it was refused, answers that there was no memory.
-pub record ProjectReads : Type 0 where
-  pub catalogue : Result (Option (List ℕ)) FileFault
-  pub project : Result (List ℕ) FileFault
-
-pub record SimReads : Type 0 where
-  pub catalogue : Result (Option (List ℕ)) FileFault
-  pub new : Result (List ℕ) FileFault
-  pub old : Result (List ℕ) FileFault
-  pub script : Result (List ℕ) FileFault
-
-pub record ProjectIsRead (told : List ℕ → Told) (rose : Type 0) (words : ProjectWords) (reads : ProjectReads) : Type 0 where
-  pub catalogue : IsReadWhereNamed told rose words.catalogue reads.catalogue
-  pub project : IsRead (told words.project) rose reads.project
-
-pub record SimIsRead (told : List ℕ → Told) (rose : Type 0) (words : SimWords) (reads : SimReads) : Type 0 where
-  pub catalogue : IsReadWhereNamed told rose words.catalogue reads.catalogue
-  pub new : IsRead (told words.new) rose reads.new
-  pub old : IsRead (told words.old) rose reads.old
-  pub script : IsRead (told words.script) rose reads.script
-
--- ---- where a call stops
-
-abbrev pub fault_of : InputFile → FileFault → Stop
-fault_of place fault.NotThere = stop.NotThere place
-fault_of place fault.Failed = stop.ReadFailed place
-fault_of place (fault.NoMemory want) = stop.NoMemory want
-
--- what was read, or the fault
-abbrev pub read_of : {A : Type 0} → InputFile → Result A FileFault → Result A Stop
-read_of place (Ok read) = Ok read
-read_of place (Err why) = Err (fault_of place why)
+-- the octets of a file, or its fault
+abbrev pub read_of : Option (List ℕ) → Reading → Result (List ℕ) Stop
+read_of name (read.Whole octets) = Ok octets
+read_of name (read.Fault why) = Err (fault_told (unwrap_or name []) why)
+read_of name read.Unnamed = Ok []
+read_of name read.Unread = Ok []
 
 abbrev pub models_or : Result (List NamedModel) CatRefused → Result (List NamedModel) Stop
 models_or (Ok models) = Ok models
 models_or (Err why) = Err (stop.CatalogueRefused why)
 
 -- the models of the catalogue, and none where no catalogue is named
-abbrev pub models_of : Option (List ℕ) → Result (List NamedModel) Stop
-models_of None = Ok []
-models_of (Some octets) = models_or (catalogue_of octets)
+abbrev pub models_of : Reading → Result (List NamedModel) Stop
+models_of (read.Whole octets) = models_or (catalogue_of octets)
+models_of read.Unnamed = Ok []
+models_of read.Unread = Ok []
+models_of (read.Fault why) = Ok []
 
 abbrev pub unless_refused : {A : Type 0} → InputFile → Result A Refused → Result A Stop
 unless_refused place (Ok x) = Ok x
@@ -92,48 +52,35 @@ abbrev pub unless_broken : {A : Type 0} → InputFile → Option Refused → A �
 unless_broken place None x = Ok x
 unless_broken place (Some why) x = Err (stop.Refused place why)
 
--- the statements of a text that reads as a project, with the models that it is read with
-abbrev pub read_as_project : InputFile → List NamedModel → List ℕ → Result Installation Stop
-read_as_project place models octets = unless_refused place (reading octets) >>= λ ss. Ok (let i : Installation = record { statements = ss; catalogue = models } in i)
-
 -- where they break no rule
 abbrev pub sound : InputFile → Installation → Result Installation Stop
 sound place i = unless_broken place (first_broken i.catalogue i.statements) i
 
-abbrev pub installation_of : InputFile → List NamedModel → List ℕ → Result Installation Stop
-installation_of place models octets = read_as_project place models octets >>= sound place
+abbrev pub installed : List NamedModel → List Statement → Installation
+installed models ss = record { statements = ss; catalogue = models }
 
--- `check P` and `tables P`: the catalogue, then the project
-abbrev pub project_of : ProjectReads → Result Installation Stop
-project_of reads = do
-  catalogue ← read_of file.Catalogue reads.catalogue
-  project ← read_of file.New reads.project
-  models ← models_of catalogue
-  read_as_project file.New models project
+-- ---- `check P` and `tables P`
 
-abbrev pub judged_project : ProjectReads → Result Installation Stop
-judged_project reads = project_of reads >>= sound file.New
+abbrev pub project_of_models : ProjectTexts → List ℕ → List NamedModel → Result Installation Stop
+project_of_models texts project models = unless_refused file.New (reading project) >>= λ ss. Ok (installed models ss)
 
--- ---- what of a valid call of `sim` is built yet
+abbrev pub project_of_text : ProjectTexts → List ℕ → Result Installation Stop
+project_of_text texts project = models_of texts.catalogue >>= project_of_models texts project
 
--- a text of a form that isn't built yet is refused at line 0
-abbrev pub not_built : InputFile → Stop
-not_built place = stop.Refused place (record { line = 0; why = NotBuilt })
+abbrev pub project_of_catalogue : ProjectWords → ProjectTexts → List ℕ → Result Installation Stop
+project_of_catalogue words texts catalogue = read_of (Some words.project) texts.project >>= project_of_text texts
+
+abbrev pub project_of : ProjectWords → ProjectTexts → Result Installation Stop
+project_of words texts = read_of words.catalogue texts.catalogue >>= project_of_catalogue words texts
+
+abbrev pub judged_project : ProjectWords → ProjectTexts → Result Installation Stop
+judged_project words texts = project_of words texts >>= sound file.New
+
+-- ---- `sim NEW OLD SCRIPT`
 
 abbrev pub built : {A : Type 0} → InputFile → Option A → Result A Stop
 built place None = Err (not_built place)
 built place (Some x) = Ok x
-
--- NEW has just one device
-abbrev pub the_device : List IndAddr → Option IndAddr
-the_device (device ∷ []) = Some device
-the_device _ = None
-
--- OLD has no device, or just NEW's
-abbrev pub has_at_most : IndAddr → List IndAddr → Bool
-has_at_most device [] = true
-has_at_most device (other ∷ []) = other.raw == device.raw
-has_at_most device _ = false
 
 abbrev pub with_at_most : IndAddr → Installation → Option Installation
 with_at_most device i = if has_at_most device (devices_of i.statements) then Some i else None
@@ -142,34 +89,54 @@ with_at_most device i = if has_at_most device (devices_of i.statements) then Som
 abbrev pub just_cuts : List ScriptLine → Option (List Cut)
 just_cuts ls = if list_all is_cut ls then Some (cuts_of ls) else None
 
+abbrev pub known_cuts : List ScriptLine → Result (List Cut) Stop
+known_cuts known = built file.Script (just_cuts known)
+
+abbrev pub own_cuts : IndAddr → List ScriptLine → Result (List Cut) Stop
+own_cuts device ls = unless_broken file.Script (first_stranger (device ∷ []) ls) ls >>= known_cuts
+
 -- a script that reads, names no device but this one and has `cut` lines alone
 abbrev pub script_cuts : IndAddr → List ℕ → Result (List Cut) Stop
-script_cuts device octets = do
-  ls ← unless_refused file.Script (script_reading octets)
-  known ← unless_broken file.Script (first_stranger (device ∷ []) ls) ls
-  built file.Script (just_cuts known)
+script_cuts device octets = unless_refused file.Script (script_reading octets) >>= own_cuts device
 
--- what a run is begun with: NEW and its one device, OLD, and the script's cuts
-pub record Commission : Type 0 where
-  pub project : Installation
-  pub device : IndAddr
-  pub before : Installation
-  pub cuts : List Cut
+abbrev pub with_cuts : Installation → IndAddr → Installation → List Cut → Result Commission Stop
+with_cuts project device before cuts = Ok (record { project = project; device = device; before = before; cuts = cuts })
 
--- `sim NEW OLD SCRIPT`: the reads, the catalogue, NEW, OLD, what of both is built, the script, its devices, what of it is built
-abbrev pub judged : SimReads → Result Commission Stop
-judged reads = do
-  catalogue ← read_of file.Catalogue reads.catalogue
-  new ← read_of file.New reads.new
-  old ← read_of file.Old reads.old
-  script ← read_of file.Script reads.script
-  models ← models_of catalogue
-  project ← installation_of file.New models new
-  before ← installation_of file.Old models old
-  device ← built file.New (the_device (devices_of project.statements))
-  begins ← built file.Old (with_at_most device before)
-  cuts ← script_cuts device script
-  Ok (record { project = project; device = device; before = begins; cuts = cuts })
+abbrev pub with_begins : List ℕ → Installation → IndAddr → Installation → Result Commission Stop
+with_begins script project device before = script_cuts device script >>= with_cuts project device before
+
+abbrev pub with_device : List ℕ → Installation → Installation → IndAddr → Result Commission Stop
+with_device script project before device = built file.Old (with_at_most device before) >>= with_begins script project device
+
+abbrev pub with_before : List ℕ → Installation → Installation → Result Commission Stop
+with_before script project before = built file.New (the_device (devices_of project.statements)) >>= with_device script project before
+
+abbrev pub with_old : List NamedModel → List ℕ → Installation → List Statement → Result Commission Stop
+with_old models script project ss = sound file.Old (installed models ss) >>= with_before script project
+
+abbrev pub with_project : List NamedModel → List ℕ → List ℕ → Installation → Result Commission Stop
+with_project models old script project = unless_refused file.Old (reading old) >>= with_old models script project
+
+abbrev pub with_new : List NamedModel → List ℕ → List ℕ → List Statement → Result Commission Stop
+with_new models old script ss = sound file.New (installed models ss) >>= with_project models old script
+
+abbrev pub with_models : List ℕ → List ℕ → List ℕ → List NamedModel → Result Commission Stop
+with_models new old script models = unless_refused file.New (reading new) >>= with_new models old script
+
+abbrev pub after_script : SimTexts → List ℕ → List ℕ → List ℕ → Result Commission Stop
+after_script texts new old script = models_of texts.catalogue >>= with_models new old script
+
+abbrev pub after_old : SimWords → SimTexts → List ℕ → List ℕ → Result Commission Stop
+after_old words texts new old = read_of (Some words.script) texts.script >>= after_script texts new old
+
+abbrev pub after_new : SimWords → SimTexts → List ℕ → Result Commission Stop
+after_new words texts new = read_of (Some words.old) texts.old >>= after_old words texts new
+
+abbrev pub after_catalogue : SimWords → SimTexts → List ℕ → Result Commission Stop
+after_catalogue words texts catalogue = read_of (Some words.new) texts.new >>= after_new words texts
+
+abbrev pub judged : SimWords → SimTexts → Result Commission Stop
+judged words texts = read_of words.catalogue texts.catalogue >>= after_catalogue words texts
 
 -- ---- an answer of the code beside the definition's: the same, unless memory was wanting
 abbrev pub Gives : {A B : Type 0} → (A → B) → Result A Stop → Result B Stop → Type 0

@@ -2,17 +2,13 @@
 use Rattle.std.specs.Prelude.{ℕ, List, Option}
 use Rattle.std.specs.Option.{option_map}
 use Rattle.std.specs.Borrow.{Bor}
-use Rattle.knx_top.specs.Asked as asked
-use Rattle.knx_top.specs.Judged.{ProjectReads, SimReads}
-use Rattle.knx_top.specs.declared.asked.Command.{Command}
-use Rattle.knx_top.specs.declared.asked.Command.TheVariants.{Check, Tables, Sim, Decode}
-use Rattle.knx_top.specs.declared.asked.FileNames.{FileNames}
-use Rattle.knx_top.specs.declared.asked.ProjectNames.{ProjectNames}
-use Rattle.knx_top.specs.declared.asked.SimNames.{SimNames}
+use Rattle.knx_top.specs.Command as asked
+use Rattle.knx_top.specs.declared.command.Command.{Command}
+use Rattle.knx_top.specs.declared.command.Command.TheVariants.{Check, Tables, Sim, Decode}
+use Rattle.knx_top.specs.declared.command.ProjectNames.{ProjectNames}
+use Rattle.knx_top.specs.declared.command.SimNames.{SimNames}
 use Rattle.knx_model.specs.Meaning.{Installation}
 use Rattle.knx_top.specs.declared.told.ReadProject.{ReadProject}
-use Rattle.knx_top.specs.declared.texts.ProjectTexts.{ProjectTexts}
-use Rattle.knx_top.specs.declared.texts.SimTexts.{SimTexts}
 
 abbrev pub the_word : Bor (List ℕ) → List ℕ
 the_word word = word.now
@@ -31,15 +27,6 @@ command_of (Check names) = asked.Check (project_words_of names)
 command_of (Tables names) = asked.Tables (project_words_of names)
 command_of (Sim names) = asked.Sim (sim_words_of names)
 command_of (Decode word) = asked.Decode word.now
-
-abbrev pub files_of : FileNames → asked.FileNames
-files_of names = record { catalogue = names.catalogue.now; new = names.new.now; old = names.old.now; script = names.script.now }
-
-abbrev pub project_reads_of : ProjectTexts → ProjectReads
-project_reads_of texts = record { catalogue = texts.catalogue; project = texts.project }
-
-abbrev pub sim_reads_of : SimTexts → SimReads
-sim_reads_of texts = record { catalogue = texts.catalogue; new = texts.new; old = texts.old; script = texts.script }
 
 abbrev pub installation_of : ReadProject → Installation
 installation_of read = record { statements = read.project.statements; catalogue = read.models }

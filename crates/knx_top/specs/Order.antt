@@ -7,7 +7,7 @@ use Rattle.knx_model.specs.Device.{Fits}
 use Rattle.knx_model.specs.Meaning.{Installation, meaning}
 use Rattle.knx_model.specs.Rules.{has_device}
 use Rattle.knx_model.specs.Tables.{StandsFor}
-use Rattle.knx_top.specs.Judged.{Commission}
+use Rattle.knx_top.specs.Stops.{Commission}
 use Rattle.knx_top.specs.declared.judge.Order.{Order}
 
 -- the compiled image of what a project says of a device, which fits

@@ -1,22 +1,23 @@
 //! The top call.
 
-ghost use Rattle.std.specs.Prelude.{◌≡◌, Some, map, string_bytes, IfOk};
+ghost use Rattle.std.specs.Prelude.{◌≡◌, ◌≢◌, ℕ, List, None, Some, map, string_bytes, IfOk};
 ghost use Rattle.std.specs.List.{list_any};
-ghost use Rattle.knx_model.specs.Outside.{Rose};
-ghost use Rattle.knx_top.specs.Asked.{FileNames as Named};
-ghost use Rattle.knx_top.specs.Call.{Answers, AnswersTo, Wrote, is_failed, log_status};
-ghost use Rattle.knx_top.specs.Ended.{IsTextOf, WroteOf, outcome_of, told_outcome};
-ghost use Rattle.knx_top.specs.Names.{command_of, files_of};
+ghost use Rattle.knx_model.specs.declared.command.Stop.TheVariants.{Usage};
+ghost use Rattle.knx_model.specs.Outside.{one_more};
+ghost use Rattle.knx_top.specs.Call.{AtMostOneRose, Does, HasRunOf, IsCountsText, IsTablesText, Replies, RunsScript, TellsOfFrame, TellsOfProject, Writes, is_failed, log_status};
+ghost use Rattle.knx_top.specs.Command.{ProjectWords, SimWords, asked, Check as AskedCheck, Decode as AskedDecode, Sim as AskedSim, Tables as AskedTables};
+ghost use Rattle.knx_top.specs.Ended.{IsTextOf, RepliesOf, outcome_of, told_outcome};
+ghost use Rattle.knx_top.specs.Moments.{AtEveryMoment};
+ghost use Rattle.knx_top.specs.Names.{command_of, project_words_of, sim_words_of};
 ghost use Rattle.knx_top.specs.Ran.{Outcome, Stops};
 
-use crate::asked::{Command, FileNames, asked};
 use crate::bench::Bench;
-use crate::commission::{Ended, commission};
-use crate::stop::{NO_MEMORY, USAGE, stop_status, stop_text};
-use crate::texts::{read_project_texts, read_sim_texts};
+use crate::command::{Command, ProjectNames, SimNames, asked};
+use crate::commission::{Ended, Unreported, commission};
+use crate::input::{read_project_texts, read_sim_texts};
 use crate::told::{check_told, decode_told, tables_told};
 use knx_model::{Files, LogEntry, LogWhat, NoMemory, Octets, Sink, Status, Stop};
-use report_text::report_of;
+use report_text::{NO_MEMORY, USAGE, report_of, stop_status, stop_text};
 use std::alloc::Global;
 
 fn is_failed(what: LogWhat) -> bool
@@ -53,38 +54,30 @@ struct Text {
 }
 
 /// What is printed where a call stops.
-fn text_of_stop(alloc: Global, names: FileNames<'_>, stop: &Stop) -> Result<Text, NoMemory>
-    ensures { IfOk result (λ p. IsTextOf (files_of names.entry) (Stops stop.now) p.octets p.status) }
+fn text_of_stop(alloc: Global, stop: &Stop) -> Result<Text, NoMemory>
+    ensures { IfOk result (λ p. IsTextOf (Stops stop.now) p.octets p.status) }
 {
     let status = stop_status(stop);
-    let octets = stop_text(alloc, names, stop)?;
+    let octets = stop_text(alloc, stop)?;
     Ok(Text { status, octets })
 }
 
 /// What is printed of a command without a run.
-fn text_of_told(
-    alloc: Global,
-    names: FileNames<'_>,
-    told: Result<Octets, Stop>,
-) -> Result<Text, NoMemory>
-    ensures { IfOk result (λ p. IsTextOf (files_of names.entry) (told_outcome told) p.octets p.status) }
+fn text_of_told(alloc: Global, told: Result<Octets, Stop>) -> Result<Text, NoMemory>
+    ensures { IfOk result (λ p. IsTextOf (told_outcome told) p.octets p.status) }
 {
     match told {
         Ok(octets) => Ok(Text {
             status: Status::Done,
             octets,
         }),
-        Err(stop) => text_of_stop(alloc, names, &stop),
+        Err(stop) => text_of_stop(alloc, &stop),
     }
 }
 
 /// What is printed of a run.
-fn text_of_run(
-    alloc: Global,
-    names: FileNames<'_>,
-    ended: &Result<Ended, Stop>,
-) -> Result<Text, NoMemory>
-    ensures { IfOk result (λ p. IsTextOf (files_of names.entry) (outcome_of ended.now) p.octets p.status) }
+fn text_of_run(alloc: Global, ended: &Result<Ended, Unreported>) -> Result<Text, NoMemory>
+    ensures { IfOk result (λ p. IsTextOf (outcome_of ended.now) p.octets p.status) }
 {
     match ended {
         Ok(ended) => {
@@ -92,13 +85,15 @@ fn text_of_run(
             let octets = report_of(alloc, &ended.report, &[ended.job], &[ended.device])?;
             Ok(Text { status, octets })
         }
-        Err(stop) => text_of_stop(alloc, names, stop),
+        Err(Unreported::Stopped(stop)) => text_of_stop(alloc, stop),
+        Err(Unreported::BrokenOff(want)) => Err(*want),
     }
 }
 
 /// Writes a text, and answers its status unless the write fails.
 fn tell<K: Sink>(out: &mut K, text: &[u8], status: Status) -> Status
-    ensures { Wrote text.now status (Rose (K.faults out.old) (K.faults out.new)) (K.taken out.old) (K.taken out.new) result }
+    ensures told { Writes text.now status (K.faults out.old) (K.faults out.new) (K.taken out.old) (K.taken out.new) result }
+    ensures written { K.writes out.new ≡ one_more (K.writes out.old) }
 {
     match out.write(text) {
         Ok(()) => status,
@@ -108,12 +103,71 @@ fn tell<K: Sink>(out: &mut K, text: &[u8], status: Status) -> Status
 
 /// Writes what is printed, or that there was no memory for it.
 fn tell_text<K: Sink>(out: &mut K, text: Result<Text, NoMemory>) -> Status
-    ensures { (names : Named) (outcome : Outcome) → IfOk text (λ p. IsTextOf names outcome p.octets p.status) → WroteOf names outcome (Rose (K.faults out.old) (K.faults out.new)) (K.taken out.old) (K.taken out.new) result }
+    ensures told { (outcome : Outcome) → IfOk text (λ p. IsTextOf outcome p.octets p.status) → RepliesOf (K.faults out.old) (K.faults out.new) (K.taken out.old) (K.taken out.new) result outcome }
+    ensures written { K.writes out.new ≡ one_more (K.writes out.old) }
 {
     match text {
         Ok(text) => tell(out, text.octets.as_slice(), text.status),
         Err(_) => tell(out, NO_MEMORY, Status::NoMemory),
     }
+}
+
+/// `check`: the counts of a project.
+fn tell_check<F: Files, K: Sink>(
+    alloc: Global,
+    names: ProjectNames<'_>,
+    files: &mut F,
+    out: &mut K,
+) -> Status
+    ensures told { TellsOfProject IsCountsText (project_words_of names.entry) (F.file files.old) (F.faults files.old) (F.faults files.new) (Replies (K.faults out.old) (K.faults out.new) (K.taken out.old) (K.taken out.new) result) }
+    ensures stays { (other : List ℕ) → F.file files.new other ≡ F.file files.old other }
+    ensures written { K.writes out.new ≡ one_more (K.writes out.old) }
+{
+    let texts = read_project_texts(alloc, files, names);
+    let told = check_told(alloc, names, &texts);
+    tell_text(out, text_of_told(alloc, told))
+}
+
+/// `tables`: the tables of a project's devices.
+fn tell_tables<F: Files, K: Sink>(
+    alloc: Global,
+    names: ProjectNames<'_>,
+    files: &mut F,
+    out: &mut K,
+) -> Status
+    ensures told { TellsOfProject IsTablesText (project_words_of names.entry) (F.file files.old) (F.faults files.old) (F.faults files.new) (Replies (K.faults out.old) (K.faults out.new) (K.taken out.old) (K.taken out.new) result) }
+    ensures stays { (other : List ℕ) → F.file files.new other ≡ F.file files.old other }
+    ensures written { K.writes out.new ≡ one_more (K.writes out.old) }
+{
+    let texts = read_project_texts(alloc, files, names);
+    let told = tables_told(alloc, names, &texts);
+    tell_text(out, text_of_told(alloc, told))
+}
+
+/// `decode`: the frame of octets.
+fn tell_decode<K: Sink>(alloc: Global, word: &str, out: &mut K) -> Status
+    ensures told { TellsOfFrame word.now (Replies (K.faults out.old) (K.faults out.new) (K.taken out.old) (K.taken out.new) result) }
+    ensures written { K.writes out.new ≡ one_more (K.writes out.old) }
+{
+    let told = decode_told(alloc, word);
+    tell_text(out, text_of_told(alloc, told))
+}
+
+/// `sim`: a run, and its report.
+fn tell_sim<F: Files, K: Sink>(
+    alloc: Global,
+    names: SimNames<'_>,
+    files: &mut F,
+    out: &mut K,
+    sim: &mut Bench,
+) -> Status
+    ensures told { RunsScript (sim_words_of names.entry) (F.file files.old) (F.faults files.old) (F.faults files.new) sim.old sim.new (Replies (K.faults out.old) (K.faults out.new) (K.taken out.old) (K.taken out.new) result) }
+    ensures stays { (other : List ℕ) → F.file files.new other ≡ F.file files.old other }
+    ensures written { K.writes out.new ≡ one_more (K.writes out.old) }
+{
+    let texts = read_sim_texts(alloc, files, names);
+    let ended = commission(alloc, names, &texts, sim);
+    tell_text(out, text_of_run(alloc, &ended))
 }
 
 /// A command of words.
@@ -124,28 +178,33 @@ fn run<F: Files, K: Sink>(
     out: &mut K,
     sim: &mut Bench,
 ) -> Status
-    ensures { AnswersTo (Some (command_of command.entry)) (F.file files.old) (Rose (F.faults files.old) (F.faults files.new)) (Rose (K.faults out.old) (K.faults out.new)) sim.old sim.new (K.taken out.old) (K.taken out.new) result }
+    ensures does { Does (Some (command_of command.entry)) (F.file files.old) (F.faults files.old) (F.faults files.new) sim.old sim.new (Replies (K.faults out.old) (K.faults out.new) (K.taken out.old) (K.taken out.new) result) }
+    ensures stays { (other : List ℕ) → F.file files.new other ≡ F.file files.old other }
+    ensures written { K.writes out.new ≡ one_more (K.writes out.old) }
 {
     match command {
-        Command::Check(names) => {
-            let texts = read_project_texts(alloc, files, names);
-            let told = check_told(alloc, &texts);
-            tell_text(out, text_of_told(alloc, names.files(), told))
-        }
-        Command::Tables(names) => {
-            let texts = read_project_texts(alloc, files, names);
-            let told = tables_told(alloc, &texts);
-            tell_text(out, text_of_told(alloc, names.files(), told))
-        }
-        Command::Sim(names) => {
-            let texts = read_sim_texts(alloc, files, names);
-            let ended = commission(alloc, &texts, sim);
-            tell_text(out, text_of_run(alloc, names.files(), &ended))
-        }
-        Command::Decode(word) => {
-            let told = decode_told(alloc, word);
-            tell_text(out, text_of_told(alloc, FileNames::none(), told))
-        }
+        Command::Check(names) => tell_check(alloc, names, files, out),
+        Command::Tables(names) => tell_tables(alloc, names, files, out),
+        Command::Sim(names) => tell_sim(alloc, names, files, out, sim),
+        Command::Decode(word) => tell_decode(alloc, word, out),
+    }
+}
+
+/// What the words ask for is done.
+fn answer<F: Files, K: Sink>(
+    alloc: Global,
+    words: &[String],
+    files: &mut F,
+    out: &mut K,
+    sim: &mut Bench,
+) -> Status
+    ensures does { Does (asked (map string_bytes words.now)) (F.file files.old) (F.faults files.old) (F.faults files.new) sim.old sim.new (Replies (K.faults out.old) (K.faults out.new) (K.taken out.old) (K.taken out.new) result) }
+    ensures stays { (other : List ℕ) → F.file files.new other ≡ F.file files.old other }
+    ensures written { K.writes out.new ≡ one_more (K.writes out.old) }
+{
+    match asked(words) {
+        Some(command) => run(alloc, command, files, out, sim),
+        None => tell(out, USAGE, Status::Usage),
     }
 }
 
@@ -158,13 +217,21 @@ pub fn knx<F: Files, K: Sink>(
     out: &mut K,
     sim: &mut Bench,
 ) -> Status
-    // Of `sim`: whatever is cut, each device keeps its starting configuration, or is stopped, or runs exactly what the project says,
-    // at every moment; `done` is told only where the project's runs; and what was written is exactly the report of it. Of `check`,
-    // `tables` and `decode`: exactly the text was written that the definitions give for what was read.
-    ensures { Answers (map string_bytes words.now) (F.file files.old) (Rose (F.faults files.old) (F.faults files.new)) (Rose (K.faults out.old) (K.faults out.new)) sim.old sim.new (K.taken out.old) (K.taken out.new) result }
+    // other words than a command's are told so
+    ensures usage { asked (map string_bytes words.now) ≡ None → Replies (K.faults out.old) (K.faults out.new) (K.taken out.old) (K.taken out.new) result (Stops Usage) }
+    // what each command tells: the first test that fails, or exactly the text that the definitions give for what was read
+    ensures check { (names : ProjectWords) → asked (map string_bytes words.now) ≡ Some (AskedCheck names) → TellsOfProject IsCountsText names (F.file files.old) (F.faults files.old) (F.faults files.new) (Replies (K.faults out.old) (K.faults out.new) (K.taken out.old) (K.taken out.new) result) }
+    ensures tables { (names : ProjectWords) → asked (map string_bytes words.now) ≡ Some (AskedTables names) → TellsOfProject IsTablesText names (F.file files.old) (F.faults files.old) (F.faults files.new) (Replies (K.faults out.old) (K.faults out.new) (K.taken out.old) (K.taken out.new) result) }
+    ensures decode { (word : List ℕ) → asked (map string_bytes words.now) ≡ Some (AskedDecode word) → TellsOfFrame word (Replies (K.faults out.old) (K.faults out.new) (K.taken out.old) (K.taken out.new) result) }
+    ensures sim { (names : SimWords) → asked (map string_bytes words.now) ≡ Some (AskedSim names) → RunsScript names (F.file files.old) (F.faults files.old) (F.faults files.new) sim.old sim.new (Replies (K.faults out.old) (K.faults out.new) (K.taken out.old) (K.taken out.new) result) }
+    // whatever is cut, at every moment of a run the device keeps its starting content, or is stopped, or runs exactly what the project says
+    ensures old_stopped_or_new { HasRunOf (λ c t. AtEveryMoment c.project c.device t) (map string_bytes words.now) (F.file files.old) sim.old sim.new }
+    // only `sim` begins a run
+    ensures bench { ((names : SimWords) → asked (map string_bytes words.now) ≢ Some (AskedSim names)) → sim.new ≡ sim.old }
+    // what the files tell stays, the count of one file rose at most, and there is just one write
+    ensures files { (name : List ℕ) → F.file files.new name ≡ F.file files.old name }
+    ensures faults { AtMostOneRose (F.faults files.old) (F.faults files.new) }
+    ensures written { K.writes out.new ≡ one_more (K.writes out.old) }
 {
-    match asked(words) {
-        Some(command) => run(alloc, command, files, out, sim),
-        None => tell(out, USAGE, Status::Usage),
-    }
+    answer(alloc, words, files, out, sim)
 }

@@ -2,21 +2,24 @@
 
 ghost use Rattle.std.specs.Prelude.{◌≡◌, [], true, Ok, IfOk, IfSome};
 ghost use Rattle.knx_top.specs.Bench.{now};
-ghost use Rattle.knx_top.specs.Judged.{Commission, judged};
+ghost use Rattle.knx_top.specs.Judged.{judged};
 ghost use Rattle.knx_top.specs.Ran.{Commissions};
 ghost use Rattle.knx_model.specs.Device.{Fits};
-ghost use Rattle.knx_top.specs.Names.{sim_reads_of};
+ghost use Rattle.knx_top.specs.Names.{sim_words_of};
+ghost use Rattle.knx_top.specs.Stops.{Commission};
 ghost use Rattle.knx_top.specs.Order.{IsOrder};
 ghost use Rattle.knx_top.specs.Ended.{end_of, log_of, HasLoaded, HasEnded, HasReported, Reported, outcome_of, run_outcome};
 
 use crate::bench::{Bench, Run};
 use crate::case::case_of;
+use crate::command::SimNames;
 use crate::download::{JobEnd, download};
+use crate::input::SimTexts;
 use crate::judge::{Order, judge};
-use crate::texts::SimTexts;
 use download_plan::{LoadPlan, each_load_gets_through, each_plan_is_good};
 use knx_model::{
-    Cut, DeviceCase, Image, IndAddr, JobWord, List, LogEntry, LogWhat, NoMemory, Report, Sign, Stop,
+    Cut, DeviceCase, Image, IndAddr, JobKind, JobWord, List, LogEntry, LogWhat, NoMemory, Report,
+    Sign, Stop,
 };
 use std::alloc::Global;
 
@@ -77,7 +80,7 @@ fn reported(
         report: Report { log, missed: 0 },
         job: JobWord {
             device,
-            check: false,
+            kind: JobKind::Load,
         },
         device: DeviceCase { device, case },
     })
@@ -105,11 +108,41 @@ fn load(
     reported(alloc, run, plan.image(), device, end)
 }
 
+/// Why a call of `sim` doesn't report.
+#[derive(Drop)]
+pub enum Unreported {
+    /// No run was begun.
+    Stopped(Stop),
+    /// There was no memory in a run, which the bench has as far as it got.
+    BrokenOff(NoMemory),
+}
+
+impl From<NoMemory> for Unreported {
+    ghost use Rattle.knx_model.specs.declared.command.Stop.{Stop};
+    ghost use Rattle.knx_top.specs.declared.commission.Unreported.{Unreported};
+
+    ghost from_gives = { λ _ why. why ≡ Unreported.Stopped (Stop.NoMemory tt) };
+
+    fn from(want: NoMemory) -> Unreported {
+        Unreported::Stopped(Stop::NoMemory(want))
+    }
+}
+
+/// What a run came to.
+fn unless_broken_off(run: Result<Ended, NoMemory>) -> Result<Ended, Unreported>
+    ensures { outcome_of result ≡ run_outcome run }
+{
+    match run {
+        Ok(ended) => Ok(ended),
+        Err(want) => Err(Unreported::BrokenOff(want)),
+    }
+}
+
 /// Runs on the bench what was judged. It has the run from its beginning on, whether it ends or memory is wanting on the way.
-fn commission_order(alloc: Global, order: Order, sim: &mut Bench) -> Result<Ended, NoMemory>
+fn commission_order(alloc: Global, order: Order, sim: &mut Bench) -> Result<Ended, Unreported>
     requires fits { Fits order.image }
     requires before { IfSome order.before Fits }
-    ensures { (c : Commission) → IsOrder c order → Commissions (Ok c) sim.old sim.new (run_outcome result) }
+    ensures { (c : Commission) → IsOrder c order → Commissions (Ok c) sim.old sim.new (outcome_of result) }
 {
     let Order {
         device,
@@ -120,16 +153,22 @@ fn commission_order(alloc: Global, order: Order, sim: &mut Bench) -> Result<Ende
     sim.begin(alloc, device, &before)?;
     let mut plan = LoadPlan::of(image);
     match sim.run() {
-        Some(run) => load(alloc, run, &mut plan, device, cuts.as_slice()),
+        Some(run) => unless_broken_off(load(alloc, run, &mut plan, device, cuts.as_slice())),
         None => unreachable!(),
     }
 }
 
 /// Judges the texts and runs what they ask for.
-pub fn commission(alloc: Global, texts: &SimTexts, sim: &mut Bench) -> Result<Ended, Stop>
-    ensures { Commissions (judged (sim_reads_of texts.now)) sim.old sim.new (outcome_of result) }
+pub fn commission(
+    alloc: Global,
+    names: SimNames<'_>,
+    texts: &SimTexts,
+    sim: &mut Bench,
+) -> Result<Ended, Unreported>
+    ensures { Commissions (judged (sim_words_of names.entry) texts.now) sim.old sim.new (outcome_of result) }
 {
-    let order = judge(alloc, texts)?;
-    let ended = commission_order(alloc, order, sim)?;
-    Ok(ended)
+    match judge(alloc, names, texts) {
+        Ok(order) => commission_order(alloc, order, sim),
+        Err(why) => Err(Unreported::Stopped(why)),
+    }
 }

@@ -6,12 +6,14 @@ ghost use Rattle.knx_model.specs.declared.command.Stop.TheVariants.{NoMemory as 
 ghost use Rattle.std.specs.List.{list_all};
 ghost use Rattle.knx_model.specs.Rules.{devices_of};
 ghost use Rattle.knx_model.specs.ScriptText.{is_cut};
-ghost use Rattle.knx_top.specs.Judged.{Gives, built, judged, just_cuts, script_cuts, the_device, with_at_most};
-ghost use Rattle.knx_top.specs.Names.{sim_reads_of};
+ghost use Rattle.knx_top.specs.Judged.{Gives, built, judged, just_cuts, script_cuts, with_at_most};
+ghost use Rattle.knx_top.specs.Names.{sim_words_of};
+ghost use Rattle.knx_top.specs.Stops.{the_device};
 ghost use Rattle.knx_top.specs.Order.{IsBefore, IsImage, OrderFor};
 
+use crate::command::SimNames;
+use crate::input::SimTexts;
 use crate::project::{models_in, not_built, project_in, read_of, refusal, sound_in};
-use crate::texts::SimTexts;
 use knx_model::{Cut, Image, IndAddr, InputFile, List, NoMemory, ScriptLine, Stop};
 use project_check::Checked;
 use script_text::{cuts_of, first_stranger, is_cut, read_script};
@@ -110,22 +112,22 @@ fn image_before(
 }
 
 /// What a run needs, or why the call stops before one.
-pub fn judge(alloc: Global, texts: &SimTexts) -> Result<Order, Stop>
-    ensures ok { IfOk result (λ order. OrderFor (judged (sim_reads_of texts.now)) order) }
-    ensures err { IfErr result (λ why. why ≢ OutOfMemory tt → judged (sim_reads_of texts.now) ≡ Err why) }
+pub fn judge(alloc: Global, names: SimNames<'_>, texts: &SimTexts) -> Result<Order, Stop>
+    ensures ok { IfOk result (λ order. OrderFor (judged (sim_words_of names.entry) texts.now) order) }
+    ensures err { IfErr result (λ why. why ≢ OutOfMemory tt → judged (sim_words_of names.entry) texts.now ≡ Err why) }
 {
-    let catalogue = read_of(InputFile::Catalogue, &texts.catalogue)?;
-    let new = read_of(InputFile::New, &texts.new)?;
-    let old = read_of(InputFile::Old, &texts.old)?;
-    let script = read_of(InputFile::Script, &texts.script)?;
-    let models = models_in(alloc, catalogue)?;
-    let new = project_in(alloc, InputFile::New, new.as_slice())?;
+    read_of(alloc, names.catalogue, &texts.catalogue)?;
+    let new = read_of(alloc, Some(names.new), &texts.new)?;
+    let old = read_of(alloc, Some(names.old), &texts.old)?;
+    let script = read_of(alloc, Some(names.script), &texts.script)?;
+    let models = models_in(alloc, &texts.catalogue)?;
+    let new = project_in(alloc, InputFile::New, new)?;
     let new = sound_in(alloc, InputFile::New, &new, &models)?;
-    let old = project_in(alloc, InputFile::Old, old.as_slice())?;
+    let old = project_in(alloc, InputFile::Old, old)?;
     let old = sound_in(alloc, InputFile::Old, &old, &models)?;
     let device = the_device(&new)?;
     has_at_most(device, &old)?;
-    let cuts = cuts_in(alloc, script.as_slice(), device)?;
+    let cuts = cuts_in(alloc, script, device)?;
     let image = image_of(alloc, &new, device)?;
     let before = image_before(alloc, &old, device)?;
     Ok(Order {

@@ -1,13 +1,20 @@
 //! A catalogue and a project are read and checked.
 
-ghost use Rattle.std.specs.Prelude.{◌≡◌, ◌≢◌};
+ghost use Rattle.std.specs.Prelude.{◌≡◌, ◌≢◌, [], IfOk, unwrap_or};
 ghost use Rattle.knx_model.specs.declared.command.Stop.TheVariants.{NoMemory, Refused as Refuses};
 ghost use Rattle.knx_model.specs.declared.refusal.Why.TheVariants.{NoMemory as WithoutMemory};
 ghost use Rattle.knx_model.specs.Statements.{reading};
-ghost use Rattle.knx_top.specs.Judged.{Gives, fault_of, models_of, not_built, read_of, sound, unless_refused};
+ghost use Rattle.knx_top.specs.Input.{fault_told};
+ghost use Rattle.knx_top.specs.Judged.{Gives, models_of, read_of, sound, unless_refused};
+ghost use Rattle.knx_top.specs.Names.{named};
+ghost use Rattle.knx_top.specs.Stops.{not_built};
 
+use crate::input::Reading;
 use catalogue::read_catalogue;
-use knx_model::{CatRefused, Catalogue, FileFault, InputFile, Octets, Refused, Stop, Why};
+use knx_model::{
+    CatRefused, Catalogue, FileFault, InputFile, NoMemory as OutOfMemory, Octets, Refused, Stop,
+    Why,
+};
 use project_check::{Checked, check};
 use project_text::{Project, read_project};
 use std::alloc::Global;
@@ -20,32 +27,48 @@ pub fn not_built(place: InputFile) -> Stop
     Stop::Refused(place, Refused { line: 0, why })
 }
 
-/// Why the call stops at a file that couldn't be read.
-pub fn fault_of(place: InputFile, fault: FileFault) -> Stop
-    ensures { result ≡ fault_of place fault }
+/// Why the call stops at a file of this name that couldn't be read.
+fn fault_told(alloc: Global, name: &str, fault: FileFault) -> Result<Stop, OutOfMemory>
+    ensures { IfOk result (λ why. why ≡ fault_told name.now fault) }
 {
+    let name = Octets::from_slice(alloc, name.as_bytes())?;
     match fault {
-        FileFault::NotThere => Stop::NotThere(place),
-        FileFault::Failed => Stop::ReadFailed(place),
-        FileFault::NoMemory(want) => Stop::NoMemory(want),
+        FileFault::NotThere => Ok(Stop::NotThere(name)),
+        FileFault::Failed => Ok(Stop::ReadFailed(name)),
+        FileFault::NoMemory(want) => Ok(Stop::NoMemory(want)),
     }
 }
 
-/// What was read, or why the call stops.
-pub fn read_of<T>(place: InputFile, read: &Result<T, FileFault>) -> Result<&T, Stop>
-    ensures { Gives (λ x. x.now) result (read_of place read.now) }
+/// The name of a file that is named.
+fn name_or_empty(name: Option<&str>) -> &str
+    ensures { result.now ≡ unwrap_or (named name.entry) [] }
 {
-    match read {
-        Ok(octets) => Ok(octets),
-        Err(fault) => Err(fault_of(place, *fault)),
+    match name {
+        Some(name) => name,
+        None => "",
+    }
+}
+
+/// The octets of a file, or why the call stops.
+pub fn read_of<'a>(
+    alloc: Global,
+    name: Option<&str>,
+    reading: &'a Reading,
+) -> Result<&'a [u8], Stop>
+    ensures { Gives (λ x. x.now) result (read_of (named name.entry) reading.now) }
+{
+    match reading {
+        Reading::Unnamed | Reading::Unread => Ok(&[]),
+        Reading::Whole(octets) => Ok(octets.as_slice()),
+        Reading::Fault(fault) => Err(fault_told(alloc, name_or_empty(name), *fault)?),
     }
 }
 
 /// The models of the catalogue; none where no catalogue is named.
-pub fn models_in(alloc: Global, octets: &Option<Octets>) -> Result<Catalogue, Stop>
-    ensures { Gives (λ x. x) result (models_of octets.now) }
+pub fn models_in(alloc: Global, catalogue: &Reading) -> Result<Catalogue, Stop>
+    ensures { Gives (λ x. x) result (models_of catalogue.now) }
 {
-    let Some(octets) = octets else {
+    let Reading::Whole(octets) = catalogue else {
         return Ok(Catalogue::empty(alloc));
     };
     match read_catalogue(alloc, octets.as_slice()) {

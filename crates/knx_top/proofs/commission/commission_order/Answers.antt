@@ -5,5 +5,6 @@ use Rattle.knx_top.proofs.commission.commission_order.Goals as goal
 
 pub returns : goal.returns
 returns c = λ commission is.
-    decided_all commission c.args.order c.args.sim.now _ _ _ _ c.load.result is c.of-plan.ensures.image c.as_slice.ensures
-    (c.load.ensures.start ∙ ap (λ (t : Trace). t.start) (begun_run _ _ _ c.in-Some.ensures.value c.in_ok-begin.ensures.begun)) refl c.load.ensures.loaded c.load.ensures.reported
+    rw c.unless_broken_off.ensures
+    (decided_all commission c.args.order c.args.sim.now _ _ _ _ c.load.result is c.of-plan.ensures.image c.as_slice.ensures
+    (c.load.ensures.start ∙ ap (λ (t : Trace). t.start) (begun_run _ _ _ c.in-Some.ensures.value c.in_ok-begin.ensures.begun)) refl c.load.ensures.loaded c.load.ensures.reported)

@@ -1,9 +1,7 @@
 -- What the words of a call ask for: a command with the names of its files, or nothing.
-use Rattle.std.specs.Prelude.{ℕ, bytes_eq, nat_eq, codes, List, [], ◌∷◌, drop, Option, Some, None, if◌then◌else◌}
+use Rattle.std.specs.Prelude.{ℕ, bytes_eq, nat_eq, codes, List, [], ◌∷◌, ◌++◌, drop, Option, Some, None, if◌then◌else◌}
 use Rattle.std.specs.List.{starts_with}
 use Rattle.std.specs.Option.{option_map}
-use Rattle.knx_model.specs.declared.command.InputFile.{InputFile}
-use Rattle.knx_model.specs.declared.command.InputFile.TheVariants as file
 
 -- P [catalogue=F]
 pub record ProjectWords : Type 0 where
@@ -22,6 +20,25 @@ pub data Command : Type 0 where
   Tables : ProjectWords → Command
   Sim : SimWords → Command
   Decode : List ℕ → Command
+
+-- ---- the words that spell a command
+
+-- an option is a word `catalogue=F`, and may be left out
+pub data SpellsOption : List (List ℕ) → Option (List ℕ) → Type 0 where
+  NoOption : SpellsOption [] None
+  CatalogueOption : (name : List ℕ) → SpellsOption ((codes "catalogue=" ++ name) ∷ []) (Some name)
+
+-- `check P`, `tables P`, `sim NEW OLD SCRIPT`, each with its option behind, and `decode HEX`
+pub data SpellsCommand : List (List ℕ) → Command → Type 0 where
+  SpellsCheck : (project : List ℕ) (others : List (List ℕ)) (catalogue : Option (List ℕ)) → SpellsOption others catalogue
+      → SpellsCommand (codes "check" ∷ project ∷ others) (Check (record { project = project; catalogue = catalogue }))
+  SpellsTables : (project : List ℕ) (others : List (List ℕ)) (catalogue : Option (List ℕ)) → SpellsOption others catalogue
+      → SpellsCommand (codes "tables" ∷ project ∷ others) (Tables (record { project = project; catalogue = catalogue }))
+  SpellsSim : (new old script : List ℕ) (others : List (List ℕ)) (catalogue : Option (List ℕ)) → SpellsOption others catalogue
+      → SpellsCommand (codes "sim" ∷ new ∷ old ∷ script ∷ others) (Sim (record { new = new; old = old; script = script; catalogue = catalogue }))
+  SpellsDecode : (word : List ℕ) → SpellsCommand (codes "decode" ∷ word ∷ []) (Decode word)
+
+-- ---- the command that words spell, and none for other words
 
 -- the name in `catalogue=F`
 abbrev pub catalogue_name : List ℕ → Option (List ℕ)
@@ -54,37 +71,3 @@ asked (command ∷ words) =
     else (if bytes_eq command (codes "sim") then option_map Sim (sim_words words)
     else (if bytes_eq command (codes "decode") then option_map Decode (decode_word words)
     else None)))
-
--- ---- the names of a command's files, as a read fault tells them; a file that the command doesn't read has none
-
-pub record FileNames : Type 0 where
-  pub catalogue : List ℕ
-  pub new : List ℕ
-  pub old : List ℕ
-  pub script : List ℕ
-
-abbrev pub name_in : FileNames → InputFile → List ℕ
-name_in names file.Catalogue = names.catalogue
-name_in names file.New = names.new
-name_in names file.Old = names.old
-name_in names file.Script = names.script
-
-abbrev pub or_nameless : Option (List ℕ) → List ℕ
-or_nameless None = []
-or_nameless (Some name) = name
-
-abbrev pub no_files : FileNames
-no_files = record { catalogue = []; new = []; old = []; script = [] }
-
-abbrev pub project_files : ProjectWords → FileNames
-project_files words = record { catalogue = or_nameless words.catalogue; new = words.project; old = []; script = [] }
-
-abbrev pub sim_files : SimWords → FileNames
-sim_files words = record { catalogue = or_nameless words.catalogue; new = words.new; old = words.old; script = words.script }
-
-abbrev pub files_of : Option Command → FileNames
-files_of None = no_files
-files_of (Some (Check words)) = project_files words
-files_of (Some (Tables words)) = project_files words
-files_of (Some (Sim words)) = sim_files words
-files_of (Some (Decode word)) = no_files

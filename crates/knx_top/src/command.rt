@@ -1,9 +1,9 @@
 //! What the words ask for.
 
-ghost use Rattle.std.specs.Prelude.{◌≡◌, map, string_bytes};
+ghost use Rattle.std.specs.Prelude.{◌≡◌, ◌↔◌, ℕ, List, Some, map, string_bytes};
 ghost use Rattle.std.specs.Option.{option_map};
-ghost use Rattle.knx_top.specs.Asked.{asked, catalogue_name, decode_word, no_files, options, or_nameless, project_files, project_words, sim_files, sim_words};
-ghost use Rattle.knx_top.specs.Names.{command_of, files_of, named, project_words_of, sim_words_of, the_word};
+ghost use Rattle.knx_top.specs.Command.{Command as Commanded, SpellsCommand, asked, catalogue_name, decode_word, options, project_words, sim_words};
+ghost use Rattle.knx_top.specs.Names.{command_of, named, project_words_of, sim_words_of, the_word};
 
 /// The names in `P [catalogue=F]`.
 #[derive(Clone, Copy)]
@@ -32,66 +32,6 @@ pub enum Command<'a> {
     Sim(SimNames<'a>),
     /// `decode HEX`
     Decode(&'a str),
-}
-
-/// The names of a command's files; that of a file which the command doesn't read is empty.
-#[derive(Clone, Copy)]
-pub struct FileNames<'a> {
-    pub catalogue: &'a str,
-    pub new: &'a str,
-    pub old: &'a str,
-    pub script: &'a str,
-}
-
-impl FileNames<'_> {
-    /// Those of a command without files.
-    pub fn none() -> FileNames<'static>
-        ensures { files_of result ≡ no_files }
-    {
-        FileNames {
-            catalogue: "",
-            new: "",
-            old: "",
-            script: "",
-        }
-    }
-}
-
-fn or_nameless(name: Option<&str>) -> &str
-    ensures { result.now ≡ or_nameless (named name.entry) }
-{
-    match name {
-        Some(name) => name,
-        None => "",
-    }
-}
-
-impl<'a> ProjectNames<'a> {
-    /// The names by their files.
-    pub fn files(self) -> FileNames<'a>
-        ensures { files_of result ≡ project_files (project_words_of self.entry) }
-    {
-        FileNames {
-            catalogue: or_nameless(self.catalogue),
-            new: self.project,
-            old: "",
-            script: "",
-        }
-    }
-}
-
-impl<'a> SimNames<'a> {
-    /// The names by their files.
-    pub fn files(self) -> FileNames<'a>
-        ensures { files_of result ≡ sim_files (sim_words_of self.entry) }
-    {
-        FileNames {
-            catalogue: or_nameless(self.catalogue),
-            new: self.new,
-            old: self.old,
-            script: self.script,
-        }
-    }
 }
 
 /// The name in `catalogue=F`.
@@ -164,3 +104,8 @@ pub fn asked(words: &[String]) -> Option<Command<'_>>
         _ => None,
     }
 }
+
+/// What words ask for is just the command that they spell.
+pub fn commands_spelled()
+    ensures { (words : List (List ℕ)) (command : Commanded) → (asked words ≡ Some command) ↔ SpellsCommand words command }
+{}

@@ -1,0 +1,99 @@
+-- What words ask for is just the command that they spell.
+use Rattle.std.proofs.Common.{ℕ, ◌≡◌, ◌↔◌, Bool, true, false, codes, List, [], ◌∷◌, ◌++◌, take, drop, Option, Some, None, refl, sym, ap, ◌∙◌, subst}
+use Rattle.std.specs.Prelude.{bytes_eq, nat_eq, if◌then◌else◌}
+use Rattle.std.specs.List.{starts_with}
+use Rattle.std.specs.Option.{option_map}
+use Rattle.std.proofs.lemmas.List.{take-append-drop}
+use Rattle.std.proofs.lemmas.Slice.Eq.{bytes_eq-Decides}
+use Rattle.knx_top.specs.Command.{Command, Check, Tables, Sim, Decode, ProjectWords, SimWords, SpellsOption, NoOption, CatalogueOption, SpellsCommand, SpellsCheck, SpellsTables, SpellsSim, SpellsDecode, catalogue_name, options, project_words, sim_words, decode_word, asked}
+
+-- ---- from the words that spell it
+
+options_from : (others : List (List ℕ)) (catalogue : Option (List ℕ)) → SpellsOption others catalogue → options others ≡ Some catalogue
+options_from others catalogue NoOption = refl
+options_from others catalogue (CatalogueOption name) = refl
+
+asked_from : (words : List (List ℕ)) (command : Command) → SpellsCommand words command → asked words ≡ Some command
+asked_from words command (SpellsCheck project others catalogue o) = rw (options_from others catalogue o) refl
+asked_from words command (SpellsTables project others catalogue o) = rw (options_from others catalogue o) refl
+asked_from words command (SpellsSim new old script others catalogue o) = rw (options_from others catalogue o) refl
+asked_from words command (SpellsDecode word) = refl
+
+-- ---- from the command that is asked
+
+some_option : (one other : Option (List ℕ)) → Some one ≡ Some other → one ≡ other
+some_option one other e = cc
+
+catalogue_to : (b : Bool) (word : List ℕ) (catalogue : Option (List ℕ)) → bytes_eq (codes "catalogue=") (take 10 word) ≡ b → option_map (λ (name : List ℕ). Some name) (if b then Some (drop 10 word) else None) ≡ Some catalogue → SpellsOption (word ∷ []) catalogue
+catalogue_to true word catalogue is e =
+    let named : Some (drop 10 word) ≡ catalogue = some_option (Some (drop 10 word)) catalogue e in
+    let front : codes "catalogue=" ≡ take 10 word = (bytes_eq-Decides (codes "catalogue=") (take 10 word)).0 is in
+    let whole : codes "catalogue=" ++ drop 10 word ≡ word = ap (λ (l : List ℕ). l ++ drop 10 word) front ∙ take-append-drop 10 word in
+    subst (λ (c : Option (List ℕ)). SpellsOption (word ∷ []) c) named (subst (λ (w : List ℕ). SpellsOption (w ∷ []) (Some (drop 10 word))) whole (CatalogueOption (drop 10 word)))
+catalogue_to false word catalogue is e = absurd cc
+
+option_to : (others : List (List ℕ)) (catalogue : Option (List ℕ)) → options others ≡ Some catalogue → SpellsOption others catalogue
+option_to [] catalogue e = subst (λ (c : Option (List ℕ)). SpellsOption [] c) (some_option None catalogue e) NoOption
+option_to (word ∷ []) catalogue e = catalogue_to (bytes_eq (codes "catalogue=") (take 10 word)) word catalogue refl e
+option_to (word ∷ more ∷ others) catalogue e = absurd cc
+
+some_command : (one other : Command) → Some one ≡ Some other → one ≡ other
+some_command one other e = cc
+
+-- a command of one project
+check_to : (o : Option (Option (List ℕ))) (project : List ℕ) (others : List (List ℕ)) (command : Command) → options others ≡ o
+    → option_map Check (option_map (λ (catalogue : Option (List ℕ)). let w : ProjectWords = record { project = project; catalogue = catalogue } in w) o) ≡ Some command → SpellsCommand (codes "check" ∷ project ∷ others) command
+check_to None project others command is e = absurd cc
+check_to (Some catalogue) project others command is e =
+    subst (λ (c : Command). SpellsCommand (codes "check" ∷ project ∷ others) c) (some_command (Check (record { project = project; catalogue = catalogue })) command e) (SpellsCheck project others catalogue (option_to others catalogue is))
+
+tables_to : (o : Option (Option (List ℕ))) (project : List ℕ) (others : List (List ℕ)) (command : Command) → options others ≡ o
+    → option_map Tables (option_map (λ (catalogue : Option (List ℕ)). let w : ProjectWords = record { project = project; catalogue = catalogue } in w) o) ≡ Some command → SpellsCommand (codes "tables" ∷ project ∷ others) command
+tables_to None project others command is e = absurd cc
+tables_to (Some catalogue) project others command is e =
+    subst (λ (c : Command). SpellsCommand (codes "tables" ∷ project ∷ others) c) (some_command (Tables (record { project = project; catalogue = catalogue })) command e) (SpellsTables project others catalogue (option_to others catalogue is))
+
+sim_to : (o : Option (Option (List ℕ))) (new old script : List ℕ) (others : List (List ℕ)) (command : Command) → options others ≡ o
+    → option_map Sim (option_map (λ (catalogue : Option (List ℕ)). let w : SimWords = record { new = new; old = old; script = script; catalogue = catalogue } in w) o) ≡ Some command → SpellsCommand (codes "sim" ∷ new ∷ old ∷ script ∷ others) command
+sim_to None new old script others command is e = absurd cc
+sim_to (Some catalogue) new old script others command is e =
+    subst (λ (c : Command). SpellsCommand (codes "sim" ∷ new ∷ old ∷ script ∷ others) c) (some_command (Sim (record { new = new; old = old; script = script; catalogue = catalogue })) command e) (SpellsSim new old script others catalogue (option_to others catalogue is))
+
+check_words : (words : List (List ℕ)) (command : Command) → option_map Check (project_words words) ≡ Some command → SpellsCommand (codes "check" ∷ words) command
+check_words [] command e = absurd cc
+check_words (project ∷ others) command e = check_to (options others) project others command refl e
+
+tables_words : (words : List (List ℕ)) (command : Command) → option_map Tables (project_words words) ≡ Some command → SpellsCommand (codes "tables" ∷ words) command
+tables_words [] command e = absurd cc
+tables_words (project ∷ others) command e = tables_to (options others) project others command refl e
+
+sim_of_words : (words : List (List ℕ)) (command : Command) → option_map Sim (sim_words words) ≡ Some command → SpellsCommand (codes "sim" ∷ words) command
+sim_of_words [] command e = absurd cc
+sim_of_words (new ∷ []) command e = absurd cc
+sim_of_words (new ∷ old ∷ []) command e = absurd cc
+sim_of_words (new ∷ old ∷ script ∷ others) command e = sim_to (options others) new old script others command refl e
+
+decode_words : (words : List (List ℕ)) (command : Command) → option_map Decode (decode_word words) ≡ Some command → SpellsCommand (codes "decode" ∷ words) command
+decode_words [] command e = absurd cc
+decode_words (word ∷ []) command e = subst (λ (c : Command). SpellsCommand (codes "decode" ∷ word ∷ []) c) (some_command (Decode word) command e) (SpellsDecode word)
+decode_words (word ∷ more ∷ others) command e = absurd cc
+
+headed : (first text : List ℕ) (words : List (List ℕ)) (command : Command) → bytes_eq first text ≡ true → SpellsCommand (text ∷ words) command → SpellsCommand (first ∷ words) command
+headed first text words command is s = subst (λ (w : List ℕ). SpellsCommand (w ∷ words) command) (sym ((bytes_eq-Decides first text).0 is)) s
+
+asked_to : (a b c d : Bool) (first : List ℕ) (words : List (List ℕ)) (command : Command) → bytes_eq first (codes "check") ≡ a → bytes_eq first (codes "tables") ≡ b → bytes_eq first (codes "sim") ≡ c → bytes_eq first (codes "decode") ≡ d
+    → (if a then option_map Check (project_words words) else (if b then option_map Tables (project_words words) else (if c then option_map Sim (sim_words words) else (if d then option_map Decode (decode_word words) else None)))) ≡ Some command
+    → SpellsCommand (first ∷ words) command
+asked_to true b c d first words command is _ _ _ e = headed first (codes "check") words command is (check_words words command e)
+asked_to false true c d first words command _ is _ _ e = headed first (codes "tables") words command is (tables_words words command e)
+asked_to false false true d first words command _ _ is _ e = headed first (codes "sim") words command is (sim_of_words words command e)
+asked_to false false false true first words command _ _ _ is e = headed first (codes "decode") words command is (decode_words words command e)
+asked_to false false false false first words command _ _ _ _ e = absurd cc
+
+spelled_to : (words : List (List ℕ)) (command : Command) → asked words ≡ Some command → SpellsCommand words command
+spelled_to [] command e = absurd cc
+spelled_to (first ∷ words) command e =
+    asked_to (bytes_eq first (codes "check")) (bytes_eq first (codes "tables")) (bytes_eq first (codes "sim")) (bytes_eq first (codes "decode")) first words command refl refl refl refl e
+
+pub commands : (words : List (List ℕ)) (command : Command) → (asked words ≡ Some command) ↔ SpellsCommand words command
+commands words command = (spelled_to words command, asked_from words command)

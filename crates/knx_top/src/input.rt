@@ -1,0 +1,121 @@
+//! The files of a call are read, up to the first read that is refused.
+
+ghost use Rattle.std.specs.Prelude.{◌≡◌, ℕ, List, Some, true};
+ghost use Rattle.knx_top.specs.Input.{IsRead, OnlyRose, ProjectIsRead, SimIsRead, failed, failed_of_project, failed_of_sim, goes_on};
+ghost use Rattle.knx_top.specs.Names.{named, project_words_of, sim_words_of};
+
+use crate::command::{ProjectNames, SimNames};
+use knx_model::{FileFault, Files, LONGEST_TEXT, Octets};
+use std::alloc::Global;
+
+/// One octet more than a text may have, so that a longer one is seen to be longer.
+const LIMIT: usize = LONGEST_TEXT as usize + 1;
+
+/// What came of a file.
+#[derive(Drop)]
+pub enum Reading {
+    /// The words don't name it.
+    Unnamed,
+    /// A read before it was refused.
+    Unread,
+    /// These octets were read.
+    Whole(Octets),
+    /// The read was refused.
+    Fault(FileFault),
+}
+
+/// The texts of `check` and `tables`.
+#[derive(Drop)]
+pub struct ProjectTexts {
+    pub catalogue: Reading,
+    pub project: Reading,
+}
+
+/// The texts of `sim`.
+#[derive(Drop)]
+pub struct SimTexts {
+    pub catalogue: Reading,
+    pub new: Reading,
+    pub old: Reading,
+    pub script: Reading,
+}
+
+/// Whether the file behind this one is read.
+fn goes_on(reading: &Reading) -> bool
+    ensures { result ≡ goes_on reading.now }
+{
+    match reading {
+        Reading::Unnamed | Reading::Whole(_) => true,
+        Reading::Unread | Reading::Fault(_) => false,
+    }
+}
+
+/// Reads a file.
+fn read<F: Files>(alloc: Global, files: &mut F, name: &str) -> Reading
+    ensures read { IsRead (F.file files.old) true (Some name.now) result }
+    ensures counts { OnlyRose (failed (Some name.now) result) (F.faults files.old) (F.faults files.new) }
+    ensures stays { (other : List ℕ) → F.file files.new other ≡ F.file files.old other }
+{
+    match files.read(alloc, name, LIMIT) {
+        Ok(octets) => Reading::Whole(octets),
+        Err(fault) => Reading::Fault(fault),
+    }
+}
+
+/// Reads a file, where it is named.
+fn read_named<F: Files>(alloc: Global, files: &mut F, name: Option<&str>) -> Reading
+    ensures read { IsRead (F.file files.old) true (named name.entry) result }
+    ensures counts { OnlyRose (failed (named name.entry) result) (F.faults files.old) (F.faults files.new) }
+    ensures stays { (other : List ℕ) → F.file files.new other ≡ F.file files.old other }
+{
+    match name {
+        None => Reading::Unnamed,
+        Some(name) => read(alloc, files, name),
+    }
+}
+
+/// Reads a file, where the reading goes on behind the one before it.
+fn read_after<F: Files>(alloc: Global, files: &mut F, before: &Reading, name: &str) -> Reading
+    ensures read { IsRead (F.file files.old) (goes_on before.now) (Some name.now) result }
+    ensures counts { OnlyRose (failed (Some name.now) result) (F.faults files.old) (F.faults files.new) }
+    ensures stays { (other : List ℕ) → F.file files.new other ≡ F.file files.old other }
+{
+    if goes_on(before) {
+        read(alloc, files, name)
+    } else {
+        Reading::Unread
+    }
+}
+
+/// Reads the catalogue, then the project.
+pub fn read_project_texts<F: Files>(
+    alloc: Global,
+    files: &mut F,
+    names: ProjectNames<'_>,
+) -> ProjectTexts
+    ensures read { ProjectIsRead (F.file files.old) (project_words_of names.entry) result }
+    ensures counts { OnlyRose (failed_of_project (project_words_of names.entry) result) (F.faults files.old) (F.faults files.new) }
+    ensures stays { (other : List ℕ) → F.file files.new other ≡ F.file files.old other }
+{
+    let catalogue = read_named(alloc, files, names.catalogue);
+    let project = read_after(alloc, files, &catalogue, names.project);
+    ProjectTexts { catalogue, project }
+}
+
+/// Reads the catalogue, then NEW, OLD and the script.
+pub fn read_sim_texts<F: Files>(alloc: Global, files: &mut F, names: SimNames<'_>) -> SimTexts
+    ensures read { SimIsRead (F.file files.old) (sim_words_of names.entry) result }
+    ensures counts { OnlyRose (failed_of_sim (sim_words_of names.entry) result) (F.faults files.old) (F.faults files.new) }
+    ensures stays { (other : List ℕ) → F.file files.new other ≡ F.file files.old other }
+{
+    let catalogue = read_named(alloc, files, names.catalogue);
+    let new = read_after(alloc, files, &catalogue, names.new);
+    let old = read_after(alloc, files, &new, names.old);
+    let script = read_after(alloc, files, &old, names.script);
+    SimTexts {
+        catalogue,
+        new,
+        old,
+        script,
+    }
+}
