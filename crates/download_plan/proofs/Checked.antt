@@ -1,5 +1,5 @@
 -- The check plan: it gets every expected answer exactly where the device runs the image, and changes nothing.
-use Rattle.std.proofs.Common.{ℕ, zero, suc, ◌≡◌, ◌+◌, ◌-◌, ◌<◌, ◌≤◌, Bool, true, false, ◌&&◌, nat_lt, nat_le, List, [], ◌∷◌, ◌++◌, length, length-take, length-drop, take, drop, map, min, Option, Some, None, inl, inr, refl, sym, ◌∙◌, ap, subst, arith, if◌then◌else◌}
+use Rattle.std.proofs.Common.{ℕ, zero, suc, ◌≡◌, ◌+◌, ◌-◌, ◌<◌, ◌≤◌, Bool, true, false, ◌&&◌, nat_lt, nat_le, List, [], ◌∷◌, ◌++◌, length, length-take, length-drop, take, drop, map, min, Some, None, inl, inr, refl, sym, ◌∙◌, ap, subst, arith, if◌then◌else◌}
 use Rattle.std.specs.List.{range_with_len}
 use Rattle.std.proofs.lemmas.Bool.Decides.{nat_tests}
 use Rattle.std.proofs.lemmas.Bool.{cases_lt}
@@ -10,13 +10,12 @@ use Rattle.knx_model.specs.declared.loading.LoadState.{LoadState}
 use Rattle.knx_model.specs.declared.loading.LoadState.TheVariants.{Unloaded, Loaded, Loading, Error}
 use Rattle.knx_model.specs.declared.loading.LoadableObject.{LoadableObject}
 use Rattle.knx_model.specs.declared.loading.LoadableObject.TheVariants.{AddressTable, AssociationTable, GroupObjects, Application}
-use Rattle.knx_model.specs.declared.frames.tpdu.Apdu.{Apdu}
 use Rattle.knx_model.specs.declared.frames.tpdu.Apdu.TheVariants.{MemoryRead, MemoryResponse, PropertyRead}
 use Rattle.knx_model.specs.declared.plan.PieceSize.{PieceSize}
-use Rattle.knx_model.specs.Loading.{Loadable, octets_of, capacity_of, is_loaded, has_range}
+use Rattle.knx_model.specs.Loading.{Loadable, octets_of, capacity_of, is_loaded}
 use Rattle.knx_model.specs.Device.{NonVolatile, Effect, Nothing, loadable, object_index, segment_base, capacity, runs, all_loaded, segments, effect_of, whole, taken_over, torn, answer, reads_at_once, Fits, HasCapacities}
-use Rattle.knx_model.specs.Operations.{Operation, expecting, reads_loaded, reads_base, piece_start, piece_octets, piece, piece_count, reads_piece, each_piece, reads_end, checking}
-use Rattle.knx_model.specs.LoadPlan.{list_of, each_object, check_operations}
+use Rattle.knx_model.specs.Operations.{Operation, expecting, piece_start, piece_octets, piece, piece_count, reads_piece, each_piece, reads_end, checking}
+use Rattle.knx_model.specs.LoadPlan.{list_of, check_operations}
 use Rattle.download_plan.proofs.Steps.{OperationsLead, OperationsServe, with_same, state_answer, answer_base, answer_read, range_of, given_octets, given_range, within_range}
 use Rattle.download_plan.proofs.Pieces.{start_zero, start_next, start_within, start_after, piece_length, piece_some}
 use Rattle.download_plan.proofs.Filling.{same_state, same_octets, no_front, next_front, front_is, piece_read, read_is}

@@ -1,8 +1,6 @@
 -- Operations in octets: what their services do, and that what is answered in octets is what is answered.
-use Rattle.std.proofs.Common.{ℕ, ◌≡◌, ◌-◌, ◌<◌, ◌≤◌, Bool, true, false, not, ◌==◌, ◌&&◌, List, [], ◌∷◌, ◌++◌, map, length, length-take, take, drop, Option, Some, None, refl, sym, ◌∙◌, ap, subst, arith, if◌then◌else◌}
+use Rattle.std.proofs.Common.{ℕ, ◌≡◌, ◌-◌, ◌<◌, ◌≤◌, Bool, true, false, not, ◌==◌, ◌&&◌, List, [], ◌∷◌, ◌++◌, length, length-take, take, drop, Option, Some, None, refl, sym, ◌∙◌, ap, subst, arith, if◌then◌else◌}
 use Rattle.knx_model.specs.declared.device.FrameSupport.{FrameSupport}
-use Rattle.knx_model.specs.declared.device.FrameSupport.TheVariants.{Standard, Extended}
-use Rattle.knx_model.specs.declared.loading.LoadableObject.{LoadableObject}
 use Rattle.knx_model.specs.declared.frames.tpdu.Apdu.{Apdu}
 use Rattle.knx_model.specs.declared.frames.tpdu.Apdu.TheVariants.{MemoryRead, DescriptorRead, DescriptorResponse, PropertyRead, PropertyWrite}
 use Rattle.knx_model.specs.Apdu.{IsApduInRange, word}
@@ -11,9 +9,9 @@ use Rattle.knx_model.specs.ClientConnection.{is_memory_write}
 use Rattle.knx_model.specs.Loading.{octets_of, has_range}
 use Rattle.knx_model.specs.Device.{NonVolatile, Effect, Loads, Stores, Nothing, loadable, segment_base, object_at, object_of_index, object_type, load_state, table_reference, greatest_length, is_load_control, effect_of, effect_in, effect_at, answer, answer_in, answer_at, reads_at_once, read_octets, whole, torn, taken_over, range_octets, property_value, property_response, where_one}
 use Rattle.knx_model.specs.DeviceFrames.{Outcome, Whole, Torn, Worn, kept_after}
-use Rattle.knx_model.specs.Plans.{Plan, Suits}
+use Rattle.knx_model.specs.Plans.{Suits}
 use Rattle.knx_model.specs.Operations.{Operation, expect_of, listed}
-use Rattle.knx_model.specs.GoodPlan.{AnswersAll, kept_by_all, kept_by, IsNotTorn, IsSendable, awaits_answer}
+use Rattle.knx_model.specs.GoodPlan.{AnswersAll, kept_by_all, IsNotTorn, IsSendable, awaits_answer}
 use Rattle.knx_model.proofs.Leads.{Leads}
 use Rattle.apdu_frames.proofs.Function.{service_again}
 use Rattle.apdu_frames.proofs.Apdus.{written_apdu}

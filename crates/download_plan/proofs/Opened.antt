@@ -1,5 +1,5 @@
 -- The two reads that a plan begins with: they change nothing, and the second tells the size of the pieces.
-use Rattle.std.proofs.Common.{ℕ, ◌≡◌, true, not, IsTrue, List, Option, Some, refl, sym, ◌∙◌, ap, subst, arith}
+use Rattle.std.proofs.Common.{◌≡◌, true, not, List, Option, Some, refl, sym, ◌∙◌, ap, subst, arith}
 use Rattle.knx_model.specs.declared.device.FrameSupport.{FrameSupport}
 use Rattle.knx_model.specs.declared.device.FrameSupport.TheVariants.{Standard, Extended}
 use Rattle.knx_model.specs.declared.frames.tpdu.Apdu.{Apdu}

@@ -1,5 +1,5 @@
 -- The pieces of a list, of either size: where they begin, how long they are, and how many there are.
-use Rattle.std.proofs.Common.{ℕ, ◌≡◌, ◌+◌, ◌-◌, ◌*◌, ◌/◌, ◌<◌, ◌≤◌, List, length, length-take, length-drop, take, drop, min, refl, arith}
+use Rattle.std.proofs.Common.{ℕ, ◌≡◌, ◌+◌, ◌-◌, ◌/◌, ◌<◌, ◌≤◌, List, length, length-take, length-drop, drop, min, refl, arith}
 use Rattle.knx_model.specs.declared.plan.PieceSize.{PieceSize}
 use Rattle.knx_model.specs.declared.plan.PieceSize.TheVariants.{Twelve, Sixty}
 use Rattle.knx_model.specs.Operations.{piece_octets, piece_start, piece, piece_count}

@@ -1,10 +1,10 @@
 -- Both plans whole: each load plan is good, whatever is noted, and serves a device that nothing disturbs.
-use Rattle.std.proofs.Common.{ℕ, ◌≡◌, List, Some, None, ◌⊎◌, inl, refl, sym, ◌∙◌, ap, subst}
+use Rattle.std.proofs.Common.{◌≡◌, Some, inl, refl, ◌∙◌, ap}
 use Rattle.knx_model.specs.declared.config.Image.{Image}
 use Rattle.knx_model.specs.declared.device.FrameSupport.{FrameSupport}
 use Rattle.knx_model.specs.declared.plan.PieceSize.{PieceSize}
 use Rattle.knx_model.specs.Device.{NonVolatile, answer_in, runs, Fits, HasCapacities}
-use Rattle.knx_model.specs.Operations.{Operation, listed}
+use Rattle.knx_model.specs.Operations.{listed}
 use Rattle.knx_model.specs.LoadPlan.{load_operations, load_plan, check_operations, check_plan}
 use Rattle.knx_model.specs.GoodPlan.{GoodPlan, Beginning, OldStoppedOrImage, AnswersAll, kept_by_all, IsSendable}
 use Rattle.knx_model.proofs.Leads.{Leads, Leads-beginning, Leads-whole}

@@ -1,5 +1,5 @@
 -- The operations of both plans have octets, and expect an answer exactly where their service has one.
-use Rattle.std.proofs.Common.{ℕ, zero, suc, ◌≡◌, ◌+◌, ◌<◌, ◌≤◌, Bool, true, false, nat_lt, List, [], ◌∷◌, ◌++◌, length, map, Some, refl, arith, if◌then◌else◌}
+use Rattle.std.proofs.Common.{ℕ, zero, suc, ◌≡◌, ◌+◌, true, false, nat_lt, List, [], ◌∷◌, length, map, refl, arith, if◌then◌else◌}
 use Rattle.std.specs.List.{range_with_len}
 use Rattle.knx_model.specs.declared.config.Image.{Image}
 use Rattle.knx_model.specs.declared.loading.LoadState.{LoadState}
@@ -11,7 +11,7 @@ use Rattle.knx_model.specs.declared.loading.LoadableObject.TheVariants.{AddressT
 use Rattle.knx_model.specs.declared.frames.tpdu.Apdu.TheVariants.{MemoryRead, MemoryResponse}
 use Rattle.knx_model.specs.declared.plan.PieceSize.{PieceSize}
 use Rattle.knx_model.specs.Device.{segment_base, capacity}
-use Rattle.knx_model.specs.Operations.{Operation, expecting, event_then, reads_loaded, reads_base, piece, piece_count, writes_piece, reads_piece, each_piece, filling, loading, reads_end, checking}
+use Rattle.knx_model.specs.Operations.{Operation, expecting, event_then, reads_loaded, reads_base, piece_count, writes_piece, reads_piece, each_piece, filling, loading, reads_end, checking}
 use Rattle.knx_model.specs.LoadPlan.{list_of, each_object, load_operations, check_operations}
 use Rattle.download_plan.proofs.Steps.{length_load}
 use Rattle.download_plan.proofs.Pieces.{piece_some, piece_short}

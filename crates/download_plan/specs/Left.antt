@@ -4,7 +4,7 @@ use Rattle.knx_model.specs.declared.config.Image.{Image}
 use Rattle.knx_model.specs.declared.plan.PieceSize.{PieceSize}
 use Rattle.knx_model.specs.Plans.{Plan}
 use Rattle.knx_model.specs.Operations.{Operation, listed}
-use Rattle.knx_model.specs.LoadPlan.{opened, noting, load_operations, load_plan, check_operations, check_plan}
+use Rattle.knx_model.specs.LoadPlan.{opened, noting, load_operations, check_operations}
 
 -- an image, and the size of pieces that was noted last; 12 octets before
 pub record Listening : Type 0 where

@@ -1,5 +1,5 @@
 -- An attempt goes on: operation after operation, with the plan that is left.
-use Rattle.std.proofs.Common.{ℕ, ◌≡◌, ◌+◌, ◌<◌, Bool, true, false, List, [], ◌∷◌, ◌++◌, append_assoc, append-nil, Option, Some, None, Result, Ok, Err, refl, sym, ◌∙◌, ap, subst, inl, inr, ltb, if◌then◌else◌}
+use Rattle.std.proofs.Common.{ℕ, ◌≡◌, ◌+◌, ◌<◌, Bool, true, false, List, [], ◌∷◌, ◌++◌, append_assoc, append-nil, Option, Some, Result, Ok, Err, refl, sym, ◌∙◌, ap, subst, inl, inr, ltb, if◌then◌else◌}
 use Rattle.std.specs.Result.{OnErr}
 use Rattle.knx_model.specs.declared.config.Image.{Image}
 use Rattle.knx_model.specs.declared.plan.Expect.{Expect}
@@ -15,7 +15,7 @@ use Rattle.knx_top.specs.declared.event.BenchEvent.{BenchEvent}
 use Rattle.knx_top.specs.declared.event.BenchEvent.TheVariants.{Give, GiveTorn, On}
 use Rattle.knx_top.specs.declared.download.Asked.{Asked}
 use Rattle.knx_top.specs.Attempt.{IsNextFrom, GivesWhole, Begins, Moves, Passes, CutsOff, EndsCutOff, StopsIn, plan_after}
-use Rattle.knx_top.specs.Attempts.{WasGiven, NothingYet, Next, WereCutOff, NoneYet, OneMore, GotThrough, WasBegun, HasGiven, WasCut, KeptToPlan, InAttempt, AfterThree}
+use Rattle.knx_top.specs.Attempts.{WasGiven, NothingYet, Next, WereCutOff, NoneYet, OneMore, GotThrough, HasGiven, WasCut, KeptToPlan, InAttempt}
 use Rattle.knx_top.specs.Bench.{Trace, happens, replay, now, after, answered, cut_after, Went}
 use Rattle.knx_top.proofs.Traces.{replay_last, Went_none, Went_more, Went_join, Went_weaker, Went_now}
 

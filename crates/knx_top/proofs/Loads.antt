@@ -1,5 +1,5 @@
 -- The load plan of an image is given to a device: what the plan's law and the download say of the run.
-use Rattle.std.proofs.Common.{ℕ, ◌≡◌, List, [], Option, Some, Result, Ok, Err, sym, ◌∙◌, ap, subst, refl}
+use Rattle.std.proofs.Common.{◌≡◌, List, [], Some, Result, Ok, Err, sym, ◌∙◌, ap, subst, refl}
 use Rattle.std.specs.Prelude.{IfOk}
 use Rattle.knx_model.specs.declared.address.IndAddr.{IndAddr}
 use Rattle.knx_model.specs.declared.config.Image.{Image}

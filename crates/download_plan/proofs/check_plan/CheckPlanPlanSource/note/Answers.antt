@@ -1,5 +1,4 @@
 use Rattle.std.proofs.Common.{◌≡◌, ◌≢◌, ◌∙◌, ap}
-use Rattle.knx_model.specs.declared.plan.PieceSize.{PieceSize}
 use Rattle.download_plan.specs.Left.{Listening}
 use Rattle.download_plan.proofs.Lefts.{check_noted, check_before, check_ignored}
 use Rattle.download_plan.proofs.check_plan.CheckPlanPlanSource.note.Goals as goal

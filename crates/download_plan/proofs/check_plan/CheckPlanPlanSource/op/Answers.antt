@@ -1,4 +1,4 @@
-use Rattle.std.proofs.Common.{◌+◌, ◌-◌, ◌<◌, length, sym, subst, arith}
+use Rattle.std.proofs.Common.{◌-◌, ◌<◌, length, sym, subst, arith}
 use Rattle.knx_model.specs.LoadPlan.{check_operations}
 use Rattle.download_plan.specs.Left.{Listening}
 use Rattle.download_plan.proofs.Places.{check_inside}

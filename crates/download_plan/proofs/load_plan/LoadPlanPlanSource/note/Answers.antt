@@ -1,5 +1,4 @@
 use Rattle.std.proofs.Common.{◌≡◌, ◌≢◌, ◌∙◌, ap}
-use Rattle.knx_model.specs.declared.plan.PieceSize.{PieceSize}
 use Rattle.download_plan.specs.Left.{Listening}
 use Rattle.download_plan.proofs.Lefts.{load_noted, load_before, load_ignored}
 use Rattle.download_plan.proofs.load_plan.LoadPlanPlanSource.note.Goals as goal
