@@ -3,14 +3,15 @@
 #![tactic(auto)]
 
 mod disk;
+mod ended;
 mod output;
 mod words;
 
 use crate::disk::Disk;
+use crate::ended::{ended, ended_without_words};
 use crate::output::Output;
 use crate::words::words_of;
-use knx_model::Sink;
-use knx_top::{Bench, NO_MEMORY, Status, knx};
+use knx_top::Bench;
 use std::io;
 use std::process::ExitCode;
 
@@ -20,11 +21,8 @@ fn main(rt: HostRuntime) -> ExitCode {
     let mut out = Output::new(io::writer(&rt));
     let mut sim = Bench::empty(alloc);
     let status = match words_of(&rt, alloc) {
-        Ok(words) => knx(alloc, words.as_slice(), &mut files, &mut out, &mut sim),
-        Err(_) => match out.write(NO_MEMORY) {
-            Ok(()) => Status::NoMemory,
-            Err(_) => Status::Write,
-        },
+        Ok(words) => ended(alloc, words.as_slice(), &mut files, &mut out, &mut sim),
+        Err(_) => ended_without_words(&mut out),
     };
-    ExitCode::from(status.number())
+    ExitCode::from(status)
 }

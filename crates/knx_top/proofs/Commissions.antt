@@ -157,7 +157,8 @@ told_for c t Failed h = (λ job e. absurd cc, (λ job e. absurd cc, tt))
 old_for : (c : Commission) (t : Trace) (end : JobEnd) → OldUntilTaken (record { device = c.device; kind = Load } ∷ []) c.device (log_of end (length t.events)) (length t.events) (λ k. (moment t k).kept)
 old_for c t end k below none =
     let first : k ≤ 0 = none.0 1 refl (omega arith, refl) in
-    ap (λ (n : ℕ). (moment t n).kept) (omega (arith, first))
+    let begins : k ≡ 0 = omega (arith, first) in
+    ap (λ (n : ℕ). (moment t n).kept) begins
 
 -- nothing comes behind the end of the job
 stays_in : (c : Commission) (t : Trace) (first last : LogEntry) → first.what ≡ told.Took 1 → last.at ≡ length t.events → StaysFromDone (record { device = c.device; kind = Load } ∷ []) c.device (first ∷ last ∷ []) (length t.events) (λ k. (moment t k).kept)
@@ -167,7 +168,8 @@ stays_in c t first last took at [] later entry job k e done is above below none 
 stays_in c t first last took at (a ∷ []) later entry job k e done is above below none =
     let same : last ≡ entry = second_same first a last entry [] later e in
     let end : entry.at ≡ length t.events = sym (ap (λ (x : LogEntry). x.at) same) ∙ at in
-    ap (λ (n : ℕ). (moment t n).kept) (omega (arith, end, above, below))
+    let at_end : k ≡ entry.at = omega (arith, end, above, below) in
+    ap (λ (n : ℕ). (moment t n).kept) at_end
 stays_in c t first last took at (a ∷ b ∷ []) later entry job k e done is above below none = absurd (no_third first last a b entry later e)
 stays_in c t first last took at (a ∷ b ∷ d ∷ more) later entry job k e done is above below none = absurd (no_third first last a b d (more ++ entry ∷ later) e)
 

@@ -1,7 +1,7 @@
 //! A catalogue and a project are read and checked.
 
-ghost use Rattle.std.specs.Prelude.{◌≡◌, ◌≢◌, [], IfOk, unwrap_or};
-ghost use Rattle.knx_model.specs.declared.command.Stop.TheVariants.{NoMemory, Refused as Refuses};
+ghost use Rattle.std.specs.Prelude.{◌≡◌, ◌≢◌, [], IfOk, IsNone, IsSome, unwrap_or};
+ghost use Rattle.knx_model.specs.declared.command.Stop.TheVariants.{CatalogueRefused, NoMemory, Refused as Refuses};
 ghost use Rattle.knx_model.specs.declared.refusal.Why.TheVariants.{NoMemory as WithoutMemory};
 ghost use Rattle.knx_model.specs.Statements.{reading};
 ghost use Rattle.knx_top.specs.Input.{fault_told};
@@ -64,6 +64,28 @@ pub fn read_of<'a>(
     }
 }
 
+/// The want of memory, where a catalogue is refused for it.
+fn wanted_for_catalogue(refused: &CatRefused) -> Option<OutOfMemory>
+    ensures some { IsSome result → refused.now ≡ CatRefused.NoMemory tt }
+    ensures none { IsNone result → refused.now ≢ CatRefused.NoMemory tt }
+{
+    match refused {
+        CatRefused::NoMemory(want) => Some(*want),
+        _ => None,
+    }
+}
+
+/// Why the call stops at a refused catalogue.
+fn catalogue_refusal(refused: CatRefused) -> Stop
+    ensures memory { refused ≡ CatRefused.NoMemory tt → result ≡ NoMemory tt }
+    ensures other { refused ≢ CatRefused.NoMemory tt → result ≡ CatalogueRefused refused }
+{
+    match wanted_for_catalogue(&refused) {
+        Some(want) => Stop::NoMemory(want),
+        None => Stop::CatalogueRefused(refused),
+    }
+}
+
 /// The models of the catalogue; none where no catalogue is named.
 pub fn models_in(alloc: Global, catalogue: &Reading) -> Result<Catalogue, Stop>
     ensures { Gives (λ x. x) result (models_of catalogue.now) }
@@ -73,8 +95,18 @@ pub fn models_in(alloc: Global, catalogue: &Reading) -> Result<Catalogue, Stop>
     };
     match read_catalogue(alloc, octets.as_slice()) {
         Ok(catalogue) => Ok(catalogue),
-        Err(CatRefused::NoMemory(want)) => Err(Stop::NoMemory(want)),
-        Err(refused) => Err(Stop::CatalogueRefused(refused)),
+        Err(refused) => Err(catalogue_refusal(refused)),
+    }
+}
+
+/// The want of memory, where a text is refused for it.
+fn wanted_for_text(why: &Why) -> Option<OutOfMemory>
+    ensures some { IsSome result → why.now ≡ WithoutMemory tt }
+    ensures none { IsNone result → why.now ≢ WithoutMemory tt }
+{
+    match why {
+        Why::NoMemory(want) => Some(*want),
+        _ => None,
     }
 }
 
@@ -83,9 +115,9 @@ pub fn refusal(place: InputFile, refused: Refused) -> Stop
     ensures memory { refused.why ≡ WithoutMemory tt → result ≡ NoMemory tt }
     ensures other { refused.why ≢ WithoutMemory tt → result ≡ Refuses place refused }
 {
-    match refused.why {
-        Why::NoMemory(want) => Stop::NoMemory(want),
-        _ => Stop::Refused(place, refused),
+    match wanted_for_text(&refused.why) {
+        Some(want) => Stop::NoMemory(want),
+        None => Stop::Refused(place, refused),
     }
 }
 

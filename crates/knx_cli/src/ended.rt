@@ -1,0 +1,51 @@
+//! How the program ends.
+
+ghost use Rattle.std.specs.Prelude.{◌≡◌, ◌≢◌, ℕ, List, None, Some, map, string_bytes};
+ghost use Rattle.knx_model.specs.declared.command.Stop.TheVariants.{Usage, NoMemory as Wanting};
+ghost use Rattle.knx_model.specs.Outside.{one_more};
+ghost use Rattle.knx_model.specs.Refusal.{status_number};
+ghost use Rattle.knx_top.specs.Call.{AtMostOneRose, HasRunOf, IsCountsText, IsTablesText, Replies, RunsScript, TellsOfFrame, TellsOfProject};
+ghost use Rattle.knx_top.specs.Command.{ProjectWords, SimWords, asked, Check as AskedCheck, Decode as AskedDecode, Sim as AskedSim, Tables as AskedTables};
+ghost use Rattle.knx_top.specs.Moments.{AtEveryMoment};
+ghost use Rattle.knx_top.specs.Ran.{Stops};
+ghost use Rattle.knx_cli.specs.Exit.{status_of};
+
+use knx_model::{Files, Sink, Status};
+use knx_top::{Bench, NO_MEMORY, knx};
+use std::alloc::Global;
+
+/// The exit status of a call: its status by its number.
+pub fn ended<F: Files, K: Sink>(
+    alloc: Global,
+    words: &[String],
+    files: &mut F,
+    out: &mut K,
+    sim: &mut Bench,
+) -> u8
+    ensures numbered { result ≡ status_number (status_of result) }
+    // what the top call promises of its status
+    ensures usage { asked (map string_bytes words.now) ≡ None → Replies (K.faults out.old) (K.faults out.new) (K.taken out.old) (K.taken out.new) (status_of result) (Stops Usage) }
+    ensures check { (names : ProjectWords) → asked (map string_bytes words.now) ≡ Some (AskedCheck names) → TellsOfProject IsCountsText names (F.file files.old) (F.faults files.old) (F.faults files.new) (Replies (K.faults out.old) (K.faults out.new) (K.taken out.old) (K.taken out.new) (status_of result)) }
+    ensures tables { (names : ProjectWords) → asked (map string_bytes words.now) ≡ Some (AskedTables names) → TellsOfProject IsTablesText names (F.file files.old) (F.faults files.old) (F.faults files.new) (Replies (K.faults out.old) (K.faults out.new) (K.taken out.old) (K.taken out.new) (status_of result)) }
+    ensures decode { (word : List ℕ) → asked (map string_bytes words.now) ≡ Some (AskedDecode word) → TellsOfFrame word (Replies (K.faults out.old) (K.faults out.new) (K.taken out.old) (K.taken out.new) (status_of result)) }
+    ensures sim { (names : SimWords) → asked (map string_bytes words.now) ≡ Some (AskedSim names) → RunsScript names (F.file files.old) (F.faults files.old) (F.faults files.new) sim.old sim.new (Replies (K.faults out.old) (K.faults out.new) (K.taken out.old) (K.taken out.new) (status_of result)) }
+    ensures old_stopped_or_new { HasRunOf (λ c t. AtEveryMoment c.project c.device t) (map string_bytes words.now) (F.file files.old) sim.old sim.new }
+    ensures bench { ((names : SimWords) → asked (map string_bytes words.now) ≢ Some (AskedSim names)) → sim.new ≡ sim.old }
+    ensures files { (name : List ℕ) → F.file files.new name ≡ F.file files.old name }
+    ensures faults { AtMostOneRose (F.faults files.old) (F.faults files.new) }
+    ensures written { K.writes out.new ≡ one_more (K.writes out.old) }
+{
+    knx(alloc, words, files, out, sim).number()
+}
+
+/// The exit status where memory is wanting for the words.
+pub fn ended_without_words<K: Sink>(out: &mut K) -> u8
+    ensures numbered { result ≡ status_number (status_of result) }
+    ensures told { Replies (K.faults out.old) (K.faults out.new) (K.taken out.old) (K.taken out.new) (status_of result) (Stops (Wanting tt)) }
+    ensures written { K.writes out.new ≡ one_more (K.writes out.old) }
+{
+    match out.write(NO_MEMORY) {
+        Ok(()) => Status::NoMemory.number(),
+        Err(_) => Status::Write.number(),
+    }
+}
