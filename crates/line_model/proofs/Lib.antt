@@ -3,6 +3,8 @@ mod Datagrams
 mod Frames
 mod Passes
 mod Sessions
+mod Loads
+mod Buses
 mod Disturbed
 mod Begins
 mod Networks
