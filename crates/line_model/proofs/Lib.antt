@@ -8,4 +8,4 @@ mod Buses
 mod Disturbed
 mod Begins
 mod Networks
-mod Projection
+pub mod Projection

@@ -1,0 +1,13 @@
+mod Numbers
+mod Read
+mod Inside
+mod Fits
+mod Client
+mod Sends
+mod Takes
+mod Events
+mod Makes
+mod Took
+mod Steps
+mod Law
+mod Line
