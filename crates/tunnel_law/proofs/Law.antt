@@ -5,15 +5,14 @@ use Rattle.knx_model.specs.declared.frames.ip.IpFrame.{IpFrame}
 use Rattle.knx_model.specs.declared.frames.ip.IpFrame.TheVariants.{TunnellingRequest}
 use Rattle.line_model.specs.Reading.{datagram_in}
 use Rattle.line_model.specs.Network.{Sent}
-use Rattle.line_model.specs.Gateway.{number_of}
+use Rattle.line_model.specs.Gateway.{Gateway, number_of}
 use Rattle.line_model.specs.Tunnel.{Tunnel, TunnelEvent, Send, From, Renew, Up, UpRefused, Down, LoseUp, LoseDown, Carried, Heard, Repeat, Close, Pass, Elsewhere, Commissions, IsLegal, fresh, replay}
 use Rattle.line_model.specs.Record.{Item, Put, Entry, entry, noted, is_renewal, put_in, item_of, tunnel_record}
 use Rattle.line_model.specs.ClientView.{ClientChannel, Fresh, View, unused, goes_on, after_entry, deed, channel, views, first_view_after, view_after}
 use Rattle.line_model.specs.Reading.{is_connect_request}
 use Rattle.line_model.specs.Renews.{RenewsRightly, RenewsSo, is_just_renewed}
 use Rattle.line_model.specs.Sendings.{SendsRightly, IsRightFrame, IsRightRequest, OfOpen}
-use Rattle.line_model.specs.ActedOnce.{Has, in_channel, IsPrefix}
-use Rattle.tunnel_law.specs.Law.{IsUpOnce}
+use Rattle.line_model.specs.ActedOnce.{Has, in_channel, IsPrefix, IsChannelOf}
 use Rattle.tunnel_law.proofs.Inside.{Nothing, Found, has_at}
 use Rattle.tunnel_law.proofs.Fits.{Book, new_book, head_after, books, BookIs, BookFits, Named, Member, IsAsk}
 use Rattle.tunnel_law.proofs.Sends.{MaySend, ask_or}
@@ -37,7 +36,7 @@ just_renewed (x ∷ r) h = renewed_fresh (channel r) x h
 
 -- ---- the books are the views
 
-abbrev HeadIs : List Book → ClientChannel → Type 0
+abbrev pub HeadIs : List Book → ClientChannel → Type 0
 HeadIs [] c = ⊥
 HeadIs (b ∷ rest) c = b.state ≡ c
 
@@ -49,11 +48,11 @@ head_by : (bs : List Book) (c : ClientChannel) (x : Entry) → HeadIs bs c → (
 head_by bs c x h true g = sym (renewed_fresh c x g)
 head_by bs c x h false g = head_next bs c x h
 
-head_state : (r : List Entry) → HeadIs (books r) (channel r)
+pub head_state : (r : List Entry) → HeadIs (books r) (channel r)
 head_state [] = refl
 head_state (x ∷ r) = head_by (books r) (channel r) x (head_state r) (is_renewal x.what) refl
 
-abbrev views_of : List Book → List View
+abbrev pub views_of : List Book → List View
 views_of [] = []
 views_of (b ∷ bs) = b.view ∷ views_of bs
 
@@ -66,7 +65,7 @@ views_by : (bs : List Book) (c : ClientChannel) (x : Entry) (vs : List View) →
 views_by bs c x vs e h true = ap (λ z. unused ∷ z) e
 views_by bs c x vs e h false = ap (λ z. first_view_after z (after_entry c x) (deed c x)) e ∙ views_next bs c x h
 
-views_are : (r : List Entry) → views r ≡ views_of (books r)
+pub views_are : (r : List Entry) → views r ≡ views_of (books r)
 views_are [] = refl
 views_are (x ∷ r) = views_by (books r) (channel r) x (views r) (views_are r) (head_state r) (is_renewal x.what)
 
@@ -74,12 +73,12 @@ length_views : (bs : List Book) → length (views_of bs) ≡ length bs
 length_views [] = refl
 length_views (b ∷ bs) = ap (λ n. suc n) (length_views bs)
 
-record Booked (bs : List Book) (e : ℕ) (v : View) : Type 0 where
+pub record Booked (bs : List Book) (e : ℕ) (v : View) : Type 0 where
   pub book : Book
   pub at : Has bs e book
   pub is : book.view ≡ v
 
-booked : (bs : List Book) (e : ℕ) (v : View) → Has (views_of bs) e v → Booked bs e v
+pub booked : (bs : List Book) (e : ℕ) (v : View) → Has (views_of bs) e v → Booked bs e v
 booked [] e v h = absurd h
 booked (b ∷ bs) e v (inl q) = record { book = b; at = inl (q.0 ∙ length_views bs, refl); is = q.1 }
 booked (b ∷ bs) e v (inr q) = let f : Booked bs e v = booked bs e v q in record { book = f.book; at = inr f.at; is = f.is }
@@ -104,7 +103,7 @@ may_here : (bs : List Book) (c : ClientChannel) (x : Entry) (f : Option IpFrame)
 may_here [] c x f h m = absurd h
 may_here (b ∷ rest) c x f h m = subst (λ z. MaySend x z f) (sym h) m
 
-may_do : (r : List Entry) (t : Tunnel) (e : TunnelEvent) (now : ℕ) → RenewsRightly (noted (item_of t e) now r) → SendsRightly (noted (item_of t e) now r) → MayDo (books r) e now
+pub may_do : (r : List Entry) (t : Tunnel) (e : TunnelEvent) (now : ℕ) → RenewsRightly (noted (item_of t e) now r) → SendsRightly (noted (item_of t e) now r) → MayDo (books r) e now
 may_do r t (Send octets) now a b =
     may_here (books r) (channel r) (entry (Put octets) now) (datagram_in octets) (head_state r)
     (record { ask = may_ask r (entry (Put octets) now) a.0; tell = may_tell r (entry (Put octets) now) (datagram_in octets) b.0 })
@@ -130,7 +129,7 @@ pub sends_before : (o : Option Item) (now : ℕ) (r : List Entry) → SendsRight
 sends_before None now r h = h
 sends_before (Some x) now r h = h.1
 
-books_noted : (o : Option Item) (now : ℕ) (r : List Entry) (t : Tunnel) → InvT (noted_in (books r) o now) t → InvT (books (noted o now r)) t
+pub books_noted : (o : Option Item) (now : ℕ) (r : List Entry) (t : Tunnel) → InvT (noted_in (books r) o now) t → InvT (books (noted o now r)) t
 books_noted None now r t h = h
 books_noted (Some x) now r t h = h
 
@@ -143,7 +142,7 @@ first_each e x (inl q) =
     subst (λ y. BookIs [] [] [] e y) q.1 here
 first_each e x (inr q) = absurd q
 
-first : (me : IndAddr) → InvT (new_book ∷ []) (fresh me)
+pub first : (me : IndAddr) → InvT (new_book ∷ []) (fresh me)
 first me = record { endpoints = refl; sent = tt; made = λ k e h. absurd h; unmade = λ k le. refl; each = first_each; serving = tt; acks = λ k. Nothing; responses = tt }
 
 always : (me : IndAddr) (events : List TunnelEvent) → IsLegal Commissions (fresh me) events → RenewsRightly (tunnel_record (fresh me) events) → SendsRightly (tunnel_record (fresh me) events)
@@ -157,6 +156,11 @@ always me (e ∷ events) legal a b =
     books_noted (item_of t e) now r (replay (fresh me) (e ∷ events)) (step_kept (books r) t e now i legal.0 (may_do r t e now a b))
 
 -- ---- what this says
+
+-- the client's requests: those acted on are the first of those put and, in a channel that the client never got, none
+pub record IsUpOnce (g : Gateway) (r : List Entry) : Type 0 where
+  pub up : (k : ℕ) (v : View) → IsChannelOf g r k v → IsPrefix (in_channel k g.acted) v.puts
+  pub alone : (k : ℕ) → ((v : View) → ¬ IsChannelOf g r k v) → in_channel k g.acted ≡ []
 
 below_or : (k n : ℕ) → (k < n) ⊎ (n ≤ k)
 below_or k n = grind arith
@@ -175,7 +179,7 @@ named_at : (joined number : Option ℕ) (k : ℕ) → Named joined number → jo
 named_at None number k named is = cc
 named_at (Some j) number k named is = let at : j ≡ k = cc in named ∙ ap (λ z. Some (number_of z)) at
 
-says : (t : Tunnel) (r : List Entry) → InvT (books r) t → IsUpOnce t.gateway r
+pub says : (t : Tunnel) (r : List Entry) → InvT (books r) t → IsUpOnce t.gateway r
 says t r i =
     record {
       up = λ k v h.
@@ -198,7 +202,3 @@ says t r i =
             | inr above ↦ i.unmade k above
           ];
     }
-
-pub once : (me : IndAddr) (events : List TunnelEvent) → IsLegal Commissions (fresh me) events → RenewsRightly (tunnel_record (fresh me) events) → SendsRightly (tunnel_record (fresh me) events)
-    → IsUpOnce (replay (fresh me) events).gateway (tunnel_record (fresh me) events)
-once me events legal a b = says (replay (fresh me) events) (tunnel_record (fresh me) events) (always me events legal a b)

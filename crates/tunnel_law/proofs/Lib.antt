@@ -11,3 +11,13 @@ mod Took
 mod Steps
 mod Law
 mod Line
+mod Down
+mod Mirror
+mod Puts
+mod Gets
+mod Replies
+mod Books
+mod Both
+mod Taken
+mod Whole
+mod Joined

@@ -126,7 +126,7 @@ got_by : (bs : List Book) (t : Tunnel) (age now : ℕ) (o : Option Sent) → Inv
 got_by bs t age now None inv at may = absurd may
 got_by bs t age now (Some s) inv at may = down_by bs t age now (Some s) inv at may (Got (take 512 s.octets)) refl
 
-after_kept : (bs : List Book) (t : Tunnel) (e : TunnelEvent) (now : ℕ) → InvT bs t → MayHappen Commissions t e → MayDo bs e now → InvT (noted_in bs (item_of t e) now) (after t e)
+pub after_kept : (bs : List Book) (t : Tunnel) (e : TunnelEvent) (now : ℕ) → InvT bs t → MayHappen Commissions t e → MayDo bs e now → InvT (noted_in bs (item_of t e) now) (after t e)
 after_kept bs t (Send octets) now inv can may = send_by bs t octets now inv may
 after_kept bs t (From endpoint octets) now inv can may = absurd can
 after_kept bs t Renew now inv can may = renew_kept bs t.present t.network.up t.network.down t.gateway.makers t.gateway.channel t.gateway.acted inv

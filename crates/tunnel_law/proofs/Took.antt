@@ -32,7 +32,7 @@ hears_by : (makers : List ℕ) (acted : List (ℕ × List ℕ)) (c c2 : Channel)
 hears_by makers acted c c2 true h h2 = h2
 hears_by makers acted c c2 false h h2 = h
 
-hears_serving : (makers : List ℕ) (acted : List (ℕ × List ℕ)) (channel : Option Channel) (from now : ℕ) → Serving makers acted channel → Serving makers acted (hears channel from now)
+pub hears_serving : (makers : List ℕ) (acted : List (ℕ × List ℕ)) (channel : Option Channel) (from now : ℕ) → Serving makers acted channel → Serving makers acted (hears channel from now)
 hears_serving makers acted None from now h = h
 hears_serving makers acted (Some c) from now h =
     hears_by makers acted c (record c { heard = now }) (c.endpoint == from) h (serving_same makers acted c (record c { heard = now }) refl refl refl h)
