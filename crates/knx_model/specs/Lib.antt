@@ -1,6 +1,6 @@
-pub mod Outside
-pub mod Memory
-pub mod Refusal
+-- The definitions that all contracts cite, in the order of a book.
+
+-- 1. Words of a text
 pub mod Words
 pub mod Numbers
 pub mod Addresses
@@ -8,35 +8,47 @@ pub mod Flags
 pub mod Sizes
 pub mod Values
 pub mod Spells
-pub mod Apdu
-pub mod ApduReading
-pub mod Connection
-pub mod DeviceConnection
-pub mod ClientConnection
-pub mod ConnectionLaws
-pub mod Octets
-pub mod Cemi
-pub mod KnxNetIp
+pub mod Places
 pub mod Answers
 pub mod LeastLine
+pub mod Refusal
+-- 2. A project and what it means
 pub mod Statements
-pub mod ScriptText
-pub mod Places
 pub mod Models
 pub mod Rules
 pub mod Meaning
 pub mod Counts
+-- 3. Its octets
 pub mod Parameters
 pub mod Tables
 pub mod Acts
+-- 4. Frames
+pub mod Octets
+pub mod Apdu
+pub mod ApduReading
+pub mod Cemi
+pub mod KnxNetIp
+-- 5. The connection
+pub mod Connection
+pub mod DeviceConnection
+pub mod ClientConnection
+pub mod ConnectionLaws
+-- 6. The device
 pub mod Loading
 pub mod Device
 pub mod DeviceState
 pub mod DeviceFrames
 pub mod DeviceSending
-pub mod Plans
+-- 7. The plan
 pub mod Operations
+pub mod Plans
 pub mod LoadPlan
 pub mod GoodPlan
+-- 8. The script
+pub mod ScriptText
+-- 9. What a run promises, and what is printed
 pub mod Promises
 pub mod ReportText
+-- 10. The outside
+pub mod Outside
+pub mod Memory

@@ -9,6 +9,7 @@ use Rattle.knx_model.specs.ClientConnection.{after_confirmed, client_sent, after
 use Rattle.knx_model.specs.Connection.{frame_in}
 use Rattle.knx_model.specs.Device.{NonVolatile}
 use Rattle.knx_model.specs.DeviceConnection.{device_took, device_after, device_answered, after_answer}
+use Rattle.line_model.specs.ActedOnce.{in_channel}
 use Rattle.line_model.specs.Attempts.{attempts, Resting}
 use Rattle.line_model.specs.ClientView.{Deed, Puts, Takes, Nothing, Open, Lost, channel, after_entry, deed}
 use Rattle.line_model.specs.Follows.{Follows}
@@ -18,9 +19,10 @@ use Rattle.line_model.specs.Moments.{Moment, moments, between}
 use Rattle.line_model.specs.Reading.{datagram_in, ldata_in}
 use Rattle.line_model.specs.Record.{Entry, placed, entries}
 use Rattle.line_model.specs.Renews.{RenewsRightly}
-use Rattle.line_model.specs.Runs.{device, begin, job, reading, unheard, told_failed, turn, telegram, nobody, telegram_sent, told_sent, unloads, torn, filling, writes, worn, response_lost, comes_twice, second, quiet_until}
+use Rattle.line_model.specs.Runs.{device, begin, job, reading, unheard, told_failed, turn, telegram, nobody, telegram_sent, told_sent, unloads, torn, filling, writes, worn, response_lost, comes_twice, second, quiet_until, to_device}
 use Rattle.line_model.specs.Told.{ToldTruly}
 use Rattle.line_model.specs.Tunnel.{Commissions}
+use Rattle.line_model.specs.World.{replay}
 use Rattle.line_model.proofs.Passes.{legal_by}
 
 -- ---- three attempts, each confirmed with error
@@ -127,3 +129,7 @@ dies = refl
 pub lives : (l : List Entry) × (channel (quiet_until 190004) ≡ Open 1 l)
 unfolding datagram_in ldata_in after_entry
 lives = (_, refl)
+
+pub acts_once : (kept : NonVolatile) → in_channel 0 (replay (begin kept) comes_twice).tunnel.gateway.acted ≡ cemi_octets (to_device (0x80 ∷ [])) ∷ []
+unfolding datagram_in ldata_in gateway_took frame_in device_took device_after device_answered after_answer apdu_in tpdu_in service_in
+acts_once kept = refl

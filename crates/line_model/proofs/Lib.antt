@@ -3,7 +3,9 @@ mod Datagrams
 mod Frames
 mod Passes
 mod Sessions
+mod Loads
+mod Buses
 mod Disturbed
 mod Begins
 mod Networks
-mod Projection
+pub mod Projection

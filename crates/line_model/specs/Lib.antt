@@ -30,6 +30,7 @@ pub mod Asks
 pub mod LinkStory
 pub mod Polled
 pub mod PortStory
+pub mod Serving
 pub mod Dialled
 -- 7. What is promised
 pub mod OldStoppedOrNew

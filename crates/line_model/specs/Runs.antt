@@ -6,8 +6,8 @@ use Rattle.knx_model.specs.declared.address.IndAddr.{IndAddr}
 use Rattle.knx_model.specs.declared.frames.cemi.Ldata.{Ldata}
 use Rattle.knx_model.specs.declared.frames.cemi.LdataCode.TheVariants.{Req}
 use Rattle.knx_model.specs.declared.frames.ip.IpFrame.TheVariants.{ConnectRequest, DisconnectResponse, StateRequest, ConnectResponse, TunnellingRequest, TunnellingAck}
-use Rattle.knx_model.specs.declared.loading.LoadState.TheVariants.{Unloaded, Loading}
-use Rattle.knx_model.specs.declared.log.JobKind.TheVariants.{Check}
+use Rattle.knx_model.specs.declared.loading.LoadState.TheVariants.{Unloaded, Loading, Loaded}
+use Rattle.knx_model.specs.declared.log.JobKind.TheVariants.{Check, Load}
 use Rattle.knx_model.specs.declared.log.Sign.TheVariants.{NoCon}
 use Rattle.knx_model.specs.declared.plan.Expect.TheVariants.{Is}
 use Rattle.knx_model.specs.declared.script.GroupService.TheVariants.{Read}
@@ -81,6 +81,36 @@ job = record { device = device; image = record { addr = []; assoc = []; objs = [
 
 abbrev pub told_done : List LogEntry
 told_done = record { at = 33; worker = 1; what = Done 1 } ∷ record { at = 4; worker = 1; what = Took 1 } ∷ []
+
+-- ---- a load: the last operation of one, for a device to which all else is loaded
+
+abbrev pub loaded : Loadable
+loaded = record { state = Loaded; len = 0; memory = [] }
+
+abbrev pub nearly : NonVolatile
+nearly = record {
+  address_table = loaded;
+  association_table = loaded;
+  group_objects = loaded;
+  application = record { state = Loading; len = 0; memory = [] };
+}
+
+abbrev pub completion : List ℕ
+completion = 0xD7 ∷ 4 ∷ 5 ∷ 0x10 ∷ 1 ∷ 2 ∷ 0 ∷ 0 ∷ 0 ∷ 0 ∷ 0 ∷ 0 ∷ 0 ∷ 0 ∷ 0 ∷ []
+
+abbrev pub completing : Plan
+completing = Asks (3 ∷ completion) (Is (0x03 ∷ 0xD6 ∷ 4 ∷ 5 ∷ 0x10 ∷ 1 ∷ 1 ∷ [])) (λ answer. Over)
+
+abbrev pub load : Job
+load = record job { plan = completing; kind = Load }
+
+abbrev pub completed : List Event
+completed = Up 0 ∷ ack 1 ∷ Down 0 ∷ Down 1 ∷ Bus [] ∷ Up 0 ∷ request 1 1 (0x43 ∷ completion) ∷ connected
+
+abbrev pub loads : List Event
+loads =
+    Up 0 ∷ ack 4 ∷ Down 0 ∷ Down 1 ∷ Bus [] ∷ Up 0 ∷ request 1 2 (0xC2 ∷ []) ∷ Up 0 ∷ ack 3 ∷ Down 0 ∷ DevSend 0x1105 Comes [] ∷ Up 0 ∷ ack 2 ∷ Down 0
+    ∷ DevSend 0x1105 Comes [] ∷ completed
 
 -- ---- a device that gets no T_Connect: three attempts, each confirmed with error
 

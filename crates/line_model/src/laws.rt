@@ -1,7 +1,9 @@
 //! Laws of the definitions, each a function without a body whose contract is the law.
 
-ghost use Rattle.std.specs.Prelude.{◌≡◌, ◌≢◌, ℕ, ◌+◌, ◌<◌, ◌≤◌, ◌++◌, ◌∷◌, List, Some, length, slice_get, ◌↔◌};
+ghost use Rattle.std.specs.Prelude.{◌≡◌, ◌≢◌, ℕ, ◌+◌, ◌<◌, ◌≤◌, ◌++◌, ◌∷◌, List, Some, length, slice_get, ◌↔◌, true, false, not};
 ghost use Rattle.knx_model.specs.Cemi.{Reads as ReadsLdata};
+ghost use Rattle.knx_model.specs.DeviceConnection.{Closed};
+ghost use Rattle.knx_model.specs.DeviceState.{DeviceState};
 ghost use Rattle.knx_model.specs.KnxNetIp.{Reads as ReadsDatagram};
 ghost use Rattle.knx_model.specs.declared.frames.cemi.Ldata.{Ldata};
 ghost use Rattle.knx_model.specs.declared.frames.ip.IpFrame.{IpFrame};
@@ -11,7 +13,7 @@ ghost use Rattle.line_model.specs.Network.{Sent, MayArrive, new_datagram};
 ghost use Rattle.line_model.specs.Reading.{datagram_in, ldata_in};
 ghost use Rattle.line_model.specs.Record.{record_of, tunnel_record};
 ghost use Rattle.line_model.specs.Tunnel.{Mode, IsLegal as IsLegalInTunnel, replay as tunnel_replay};
-ghost use Rattle.line_model.specs.World.{World, Event, replay, tunnel_events};
+ghost use Rattle.line_model.specs.World.{World, Event, Cut, takes_it, is_among, confirmation, step, replay, tunnel_events};
 
 /// The frame that a datagram is, and the frame of the link layer that a request's octets are, are those that the octets read as.
 pub fn frames_are_read()
@@ -41,4 +43,19 @@ pub fn the_tunnel_runs_in_the_line()
     ensures runs { (start : World) (events : List Event) → (replay start events).tunnel ≡ tunnel_replay start.tunnel (tunnel_events start events) }
     ensures legal { (mode : Mode) (start : World) (events : List Event) → IsLegal mode start events → IsLegalInTunnel mode start.tunnel (tunnel_events start events) }
     ensures records { (start : World) (events : List Event) → record_of start events ≡ tunnel_record start.tunnel (tunnel_events start events) }
+{}
+
+/// The confirmation of a frame shows an error exactly where the frame is for one device that doesn't take it: it is lost for that device, or
+/// there is no such device, or the device isn't one that takes it.
+pub fn confirmations_are_true()
+    ensures group { (w : World) (left_out : List ℕ) (frame : Ldata) → frame.group ≡ true → (confirmation w left_out frame).error ≡ false }
+    ensures lost { (w : World) (left_out : List ℕ) (frame : Ldata) → frame.group ≡ false → is_among left_out frame.destination ≡ true → (confirmation w left_out frame).error ≡ true }
+    ensures came { (w : World) (left_out : List ℕ) (frame : Ldata) → frame.group ≡ false → is_among left_out frame.destination ≡ false → (confirmation w left_out frame).error ≡ not (takes_it frame (w.devices frame.destination)) }
+{}
+
+/// A cut takes the device's connection and its power, and leaves what it keeps.
+pub fn a_cut_ends_the_connection()
+    ensures closed { (w : World) (device : ℕ) (d : DeviceState) → (step w (Cut device)).devices device ≡ Some d → d.connection ≡ Closed }
+    ensures stopped { (w : World) (device : ℕ) (d : DeviceState) → (step w (Cut device)).devices device ≡ Some d → d.power ≡ false }
+    ensures kept { (w : World) (device : ℕ) (old d : DeviceState) → w.devices device ≡ Some old → (step w (Cut device)).devices device ≡ Some d → d.kept ≡ old.kept }
 {}

@@ -3,6 +3,8 @@
 ghost use Rattle.std.specs.Prelude.{◌≡◌, List, [], ◌∷◌};
 ghost use Rattle.knx_model.specs.Device.{NonVolatile};
 ghost use Rattle.knx_model.specs.declared.script.ScriptWhat.TheVariants.{LoseDown, LoseTo, RepeatUp, RepeatTo, Cut, Worn};
+ghost use Rattle.knx_model.specs.Cemi.{Written as cemi_octets};
+ghost use Rattle.line_model.specs.ActedOnce.{in_channel};
 ghost use Rattle.line_model.specs.Attempts.{attempts, Resting};
 ghost use Rattle.line_model.specs.ClientView.{Open, Lost, channel};
 ghost use Rattle.line_model.specs.Follows.{Follows};
@@ -10,11 +12,13 @@ ghost use Rattle.line_model.specs.Fresh.{IsFresh, Settled};
 ghost use Rattle.line_model.specs.Headline.{IsDisciplined};
 ghost use Rattle.line_model.specs.Legal.{IsLegal};
 ghost use Rattle.line_model.specs.Moments.{moments, between};
+ghost use Rattle.line_model.specs.OldStoppedOrNew.{RunsWhereDone};
 ghost use Rattle.line_model.specs.Record.{Entry, placed, entries};
 ghost use Rattle.line_model.specs.Renews.{RenewsRightly};
-ghost use Rattle.line_model.specs.Runs.{device, begin, whole, job, reading, told_done, unheard, told_failed, nobody, turn, telegram_sent, told_sent, torn, filling, worn, response_lost, comes_twice, second, quiet_until};
+ghost use Rattle.line_model.specs.Runs.{device, begin, whole, job, reading, nearly, load, loads, told_done, unheard, told_failed, nobody, turn, telegram_sent, told_sent, torn, filling, worn, response_lost, comes_twice, second, quiet_until, to_device};
 ghost use Rattle.line_model.specs.Told.{ToldTruly};
 ghost use Rattle.line_model.specs.Tunnel.{Commissions};
+ghost use Rattle.line_model.specs.World.{replay};
 
 /// A line with one device, whatever that keeps, is a fresh start, and settled.
 pub fn a_line_begins()
@@ -27,6 +31,15 @@ pub fn a_session_reads_the_descriptor()
     ensures legal { (kept : NonVolatile) → IsLegal Commissions (begin kept) whole }
     ensures follows { (kept : NonVolatile) → Follows [] Commissions (begin kept) whole }
     ensures disciplined { (kept : NonVolatile) → IsDisciplined (job ∷ []) [] 33 (placed (begin kept) whole) told_done }
+{}
+
+/// The last operation of a load, for a device to which all else is loaded: legal, undisturbed and disciplined; it is told done, and the device
+/// runs the job's image.
+pub fn a_load_ends_done()
+    ensures legal { IsLegal Commissions (begin nearly) loads }
+    ensures follows { Follows [] Commissions (begin nearly) loads }
+    ensures disciplined { IsDisciplined (load ∷ []) [] 33 (placed (begin nearly) loads) told_done }
+    ensures new { RunsWhereDone (load ∷ []) (begin nearly) loads told_done }
 {}
 
 /// A device that gets no T_Connect: the script's losses, three attempts and no fourth, and the job told failed by three signs.
@@ -51,12 +64,14 @@ pub fn writes_are_torn_and_worn()
     ensures changed { Follows (Worn device 1 ∷ []) Commissions (begin filling) worn }
 {}
 
-/// A datagram that is lost, and a datagram and a frame that come twice: each is legal, and is just what the script's lines say.
+/// A datagram that is lost, and a datagram and a frame that come twice: each is legal, and is just what the script's lines say; the request that
+/// came twice is acted on once.
 pub fn datagrams_are_lost_and_repeated()
     ensures lost { (kept : NonVolatile) → IsLegal Commissions (begin kept) response_lost }
     ensures never { (kept : NonVolatile) → Follows (LoseDown 1 ∷ []) Commissions (begin kept) response_lost }
     ensures twice { (kept : NonVolatile) → IsLegal Commissions (begin kept) comes_twice }
     ensures repeated { (kept : NonVolatile) → Follows (RepeatUp 2 ∷ RepeatTo device 1 ∷ []) Commissions (begin kept) comes_twice }
+    ensures once { (kept : NonVolatile) → in_channel 0 (replay (begin kept) comes_twice).tunnel.gateway.acted ≡ cemi_octets (to_device (0x80 ∷ [])) ∷ [] }
 {}
 
 /// The gateway closes the channel, and the client renews its endpoint and gets the next one.
