@@ -6,6 +6,7 @@ mod Sessions
 mod Loads
 mod Buses
 mod Disturbed
+mod Scripts
 mod Begins
 mod Networks
 pub mod Projection

@@ -1,7 +1,7 @@
 -- Which requests the client puts, by record and log alone: one at a time, and each is the least group telegram without an entry, put once, or
 -- a frame that the attempt of a job may put, of a job that is taken and not ended. With the discipline of the channel this is all that the
 -- promises of the line need of the client.
-use Rattle.std.specs.Prelude.{◌≡◌, ◌≢◌, ℕ, ◌-◌, ◌⊎◌, true, false, List, [], ◌∷◌, Some, None}
+use Rattle.std.specs.Prelude.{◌≡◌, ℕ, ◌-◌, ◌⊎◌, true, false, List, [], ◌∷◌, Some}
 use Rattle.knx_model.specs.declared.frames.cemi.Ldata.{Ldata}
 use Rattle.knx_model.specs.Connection.{frame_in}
 use Rattle.line_model.specs.declared.group.GroupTurn.{GroupTurn}
@@ -12,7 +12,7 @@ use Rattle.line_model.specs.ChannelLost.{own, confirmed}
 use Rattle.line_model.specs.ClientView.{ClientChannel, Open, Deed, Puts, channel, deed}
 use Rattle.line_model.specs.Moments.{Moment, moments, between}
 use Rattle.line_model.specs.Signs.{Every}
-use Rattle.line_model.specs.Log.{Job, Held, Over, job_of, turn_of, state_of, has_entry, turn_place, log_before, AllOver, IsNextTurn}
+use Rattle.line_model.specs.Log.{Job, Held, job_of, turn_of, state_of, turn_place, log_before, AllOver, JobUnfinished, TurnUnfinished, IsNextTurn}
 use Rattle.line_model.specs.Told.{PutsTurn, PutsNoGroup}
 use Rattle.line_model.specs.Attempts.{attempts, MayPut}
 use Rattle.line_model.specs.Renews.{AcknowledgesRightly, PollsPromptly}
@@ -64,11 +64,6 @@ abbrev pub IsRightDeed : List Job → List GroupTurn → List LogEntry → List 
 IsRightDeed jobs turns log older m (Puts octets) = IsRightRequest jobs turns log older m octets
 IsRightDeed jobs turns log older m _ = Unit {0}
 
--- ---- something is unfinished
-
-abbrev pub IsUnfinished : List Job → List GroupTurn → List LogEntry → Type 0
-IsUnfinished jobs turns log = ((k : ℕ) × (job_of jobs k ≢ None) × (state_of k log ≢ Over)) ⊎ ((k : ℕ) × (turn_of turns k ≢ None) × (has_entry k log ≡ false))
-
 -- ---- all of it
 
 abbrev pub moment_of : List Placed → Placed → Moment
@@ -76,7 +71,7 @@ moment_of older p = record { what = deed (channel (entries older)) p.what; now =
 
 pub record IsRightEntry (jobs : List Job) (turns : List GroupTurn) (log : List LogEntry) (older : List Placed) (p : Placed) : Type 0 where
   pub asks : IsRightDeed jobs turns log older (moment_of older p) (moment_of older p).what
-  pub prompt : IsUnfinished jobs turns log → PollsPromptly (entries older) p.what
+  pub prompt : JobUnfinished jobs log ⊎ TurnUnfinished turns log → PollsPromptly (entries older) p.what
 
 abbrev pub EachRight : List Job → List GroupTurn → List LogEntry → List Placed → Type 0
 EachRight jobs turns log [] = Unit {0}

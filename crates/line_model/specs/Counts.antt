@@ -102,3 +102,7 @@ requests_acted start events = length (replay start events).tunnel.gateway.acted
 -- the number of a datagram, from 1
 abbrev pub number_at : List Sent → ℕ → ℕ
 number_at sent age = length sent - age
+
+-- how many younger ones the datagram of a number has
+abbrev pub age_of : List Sent → ℕ → ℕ
+age_of sent number = length sent - number

@@ -10,11 +10,12 @@ use Rattle.line_model.specs.declared.fault.HubFault.{HubFault}
 use Rattle.line_model.specs.declared.fault.HubFault.TheVariants.{NoMemory, LinkFailed, GatewayRefused, Flooded, WrongLine}
 use Rattle.line_model.specs.declared.fault.Try.{Try}
 use Rattle.line_model.specs.declared.fault.Try.TheVariants.{Status, NoAnswer}
+use Rattle.line_model.specs.declared.log.LogEntry.{LogEntry}
 use Rattle.line_model.specs.Reading.{state_response_in}
 use Rattle.line_model.specs.Record.{Entry, got_in, is_got}
 use Rattle.line_model.specs.ChannelLost.{answers_beat, beats}
 use Rattle.line_model.specs.ClientView.{ClientChannel, Sought, RefusedBy, Unanswered, Open, channel}
-use Rattle.line_model.specs.Log.{Job}
+use Rattle.line_model.specs.Log.{Job, JobUnfinished}
 
 -- ---- how the connect requests since the last channel failed, the newest first
 
@@ -76,9 +77,9 @@ first_elsewhere jobs (Some tunnel) = find (is_elsewhere tunnel) jobs
 
 -- ---- the causes
 
-pub record IsFlooded (unfinished : Type 0) (r : List Entry) : Type 0 where
+pub record IsFlooded (jobs : List Job) (log : List LogEntry) (r : List Entry) : Type 0 where
   pub count : datagrams_taken r ≡ flood
-  pub early : unfinished
+  pub early : JobUnfinished jobs log
 
 pub record IsWrongLine (jobs : List Job) (r : List Entry) (device tunnel : IndAddr) : Type 0 where
   pub told : first_tunnel r ≡ Some tunnel
@@ -87,20 +88,20 @@ pub record IsWrongLine (jobs : List Job) (r : List Entry) (device tunnel : IndAd
   pub is_its : device ≡ job.device
 
 -- where there is no fault there is no cause either, those of memory and of the link aside
-pub record HasNoCause (jobs : List Job) (unfinished : Type 0) (r : List Entry) : Type 0 where
+pub record HasNoCause (jobs : List Job) (log : List LogEntry) (r : List Entry) : Type 0 where
   pub tries_left : length (tries r) < 3
-  pub no_flood : unfinished → datagrams_taken r < flood
+  pub no_flood : JobUnfinished jobs log → datagrams_taken r < flood
   pub right_line : first_elsewhere jobs (first_tunnel r) ≡ None
 
 -- a fault of the link comes only where its count of faults rose, which the link's own calls say
-abbrev pub HasCause : List Job → Type 0 → List Entry → HubFault → Type 0
-HasCause jobs unfinished r (NoMemory want) = Unit {0}
-HasCause jobs unfinished r LinkFailed = Unit {0}
-HasCause jobs unfinished r (GatewayRefused three) = tries r ≡ reverse three
-HasCause jobs unfinished r Flooded = IsFlooded unfinished r
-HasCause jobs unfinished r (WrongLine device tunnel) = IsWrongLine jobs r device tunnel
+abbrev pub HasCause : List Job → List LogEntry → List Entry → HubFault → Type 0
+HasCause jobs log r (NoMemory want) = Unit {0}
+HasCause jobs log r LinkFailed = Unit {0}
+HasCause jobs log r (GatewayRefused three) = tries r ≡ reverse three
+HasCause jobs log r Flooded = IsFlooded jobs log r
+HasCause jobs log r (WrongLine device tunnel) = IsWrongLine jobs r device tunnel
 
 -- each comes exactly at its cause
-abbrev pub FaultRight : List Job → Type 0 → List Entry → Option HubFault → Type 0
-FaultRight jobs unfinished r None = HasNoCause jobs unfinished r
-FaultRight jobs unfinished r (Some fault) = HasCause jobs unfinished r fault
+abbrev pub FaultRight : List Job → List LogEntry → List Entry → Option HubFault → Type 0
+FaultRight jobs log r None = HasNoCause jobs log r
+FaultRight jobs log r (Some fault) = HasCause jobs log r fault

@@ -26,12 +26,14 @@ pub mod Renews
 pub mod Sendings
 pub mod Attempts
 pub mod Asks
+pub mod Closing
 -- 6. The outside: what a link, a port and a dialer tell
 pub mod LinkStory
 pub mod Polled
 pub mod PortStory
 pub mod Serving
 pub mod Dialled
+pub mod Pumped
 -- 7. What is promised
 pub mod OldStoppedOrNew
 pub mod ActedOnce

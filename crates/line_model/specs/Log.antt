@@ -84,6 +84,12 @@ state_of job (e ∷ log) = state_after job e (state_of job log)
 abbrev pub AllOver : List Job → List LogEntry → Type 0
 AllOver jobs log = (k : ℕ) → job_of jobs k ≢ None → state_of k log ≡ Over
 
+abbrev pub JobUnfinished : List Job → List LogEntry → Type 0
+JobUnfinished jobs log = (k : ℕ) × (job_of jobs k ≢ None) × (state_of k log ≢ Over)
+
+abbrev pub TurnUnfinished : List GroupTurn → List LogEntry → Type 0
+TurnUnfinished turns log = (k : ℕ) × (turn_of turns k ≢ None) × (has_entry k log ≡ false)
+
 -- the telegram is the least without an entry
 pub record IsNextTurn (turns : List GroupTurn) (log : List LogEntry) (k : ℕ) : Type 0 where
   pub there : turn_of turns k ≢ None

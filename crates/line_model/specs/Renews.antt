@@ -79,27 +79,37 @@ last_beat c (x ∷ y ∷ l) = if is_beat c x then x.now else last_beat c (y ∷ 
 abbrev pub is_beat_due : ℕ → List Entry → ℕ → Bool
 is_beat_due c l now = has_passed heartbeat_pause (last_beat c l) now
 
+-- the last try failed, or the channel was lost: a new endpoint is to be taken
+abbrev pub is_left : ClientChannel → Bool
+is_left Fresh = false
+is_left (Sought since) = false
+is_left (RefusedBy status) = true
+is_left Unanswered = true
+is_left (Open c l) = false
+is_left (Lost c) = true
+
+-- by the time
+abbrev pub is_late : ClientChannel → ℕ → Bool
+is_late (Open c l) now = is_repeat_due (own c l).sent now || is_beat_due c l now
+is_late _ now = false
+
 abbrev pub is_due : ClientChannel → ℕ → Bool
-is_due Fresh now = false
-is_due (Sought since) now = false
-is_due (RefusedBy status) now = true
-is_due Unanswered now = true
-is_due (Open c l) now = is_repeat_due (own c l).sent now || is_beat_due c l now
-is_due (Lost c) now = true
+is_due ch now = is_left ch || is_late ch now
 
--- the time of the last poll, and of the poll before the last one
-abbrev pub last_poll : List Entry → Option ℕ
-last_poll [] = None
-last_poll (x ∷ r) = if is_poll x.what then Some x.now else last_poll r
+-- ---- promptly: at a poll nothing is due that was due already at the end of the poll before the last
 
-abbrev pub poll_before_last : List Entry → Option ℕ
-poll_before_last [] = None
-poll_before_last (x ∷ r) = if is_poll x.what then last_poll r else poll_before_last r
+-- the record up to the last poll, and up to the poll before that
+abbrev pub to_last_poll : List Entry → List Entry
+to_last_poll [] = []
+to_last_poll (x ∷ r) = if is_poll x.what then x ∷ r else to_last_poll r
 
-abbrev pub IsPrompt : List Entry → Option ℕ → Type 0
-IsPrompt r None = Unit {0}
-IsPrompt r (Some now) = is_due (channel r) now ≡ false
+abbrev pub to_poll_before : List Entry → List Entry
+to_poll_before [] = []
+to_poll_before (x ∷ r) = if is_poll x.what then to_last_poll r else to_poll_before r
 
--- at a poll nothing was due already at the end of the poll before the last
+abbrev pub is_overdue : ClientChannel → List Entry → Bool
+is_overdue ch [] = false
+is_overdue ch (x ∷ old) = (is_left ch && is_left (channel (x ∷ old))) || is_late ch x.now
+
 abbrev pub PollsPromptly : List Entry → Entry → Type 0
-PollsPromptly r x = is_poll x.what ≡ true → IsPrompt r (poll_before_last r)
+PollsPromptly r x = is_poll x.what ≡ true → is_overdue (channel r) (to_poll_before r) ≡ false

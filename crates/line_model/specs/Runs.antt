@@ -23,7 +23,7 @@ use Rattle.line_model.specs.declared.log.LogWhat.TheVariants.{Took, Done, Failed
 use Rattle.line_model.specs.Log.{Job}
 use Rattle.line_model.specs.Record.{Entry, entry, Put, Renewed, Got, Quiet}
 use Rattle.line_model.specs.Tunnel.{fresh}
-use Rattle.line_model.specs.World.{World, Event, Comes, Send, Renew, Up, Down, LoseDown, Bus, BusTorn, BusWorn, BusAgain, DevSend, GwClose, On}
+use Rattle.line_model.specs.World.{World, Event, Comes, IsLost, Send, Renew, Up, UpRefused, Down, LoseUp, LoseDown, Bus, BusTorn, BusWorn, BusAgain, DevSend, DevClose, GwClose, On}
 
 -- ---- the line 1.1 with one device, 1.1.5, whatever it keeps
 
@@ -174,6 +174,31 @@ response_lost = LoseDown 0 ∷ Up 0 ∷ Send (Written ConnectRequest) ∷ Renew 
 
 abbrev pub comes_twice : List Event
 comes_twice = BusAgain 0x1105 ∷ Bus [] ∷ Up 0 ∷ Up 0 ∷ request 1 0 (0x80 ∷ []) ∷ up
+
+-- ---- the other lines of a script: a request lost, a try refused, a response that comes twice, a channel and a connection that close, and a
+-- device's frame that is lost for the gateway
+
+abbrev pub request_lost : List Event
+request_lost = LoseUp 0 ∷ Send (Written ConnectRequest) ∷ Renew ∷ []
+
+abbrev pub try_refused : List Event
+try_refused = UpRefused 0 0x24 ∷ Send (Written ConnectRequest) ∷ Renew ∷ []
+
+abbrev pub response_twice : List Event
+response_twice = Down 0 ∷ up
+
+-- it is acknowledged between
+abbrev pub confirmation_twice : List Event
+confirmation_twice = ack 0 ∷ Down 0 ∷ ack 0 ∷ Down 0 ∷ Down 1 ∷ Bus [] ∷ Up 0 ∷ request 1 0 (0x80 ∷ []) ∷ up
+
+abbrev pub channel_dropped : List Event
+channel_dropped = GwClose ∷ Up 0 ∷ request 1 0 (0x80 ∷ []) ∷ up
+
+abbrev pub connection_closed : List Event
+connection_closed = DevClose 0x1105 ∷ Bus [] ∷ Up 0 ∷ request 1 0 (0x80 ∷ []) ∷ up
+
+abbrev pub answer_lost : List Event
+answer_lost = DevSend 0x1105 IsLost [] ∷ asked
 
 -- ---- the gateway closes the channel, and the client takes another
 

@@ -4,6 +4,8 @@
 -- nothing sent, and no frame that waits.
 use Rattle.std.specs.Prelude.{◌≡◌, ℕ, ◌+◌, ◌*◌, ◌/◌, Bool, true, false, not, ◌&&◌, ◌||◌, ◌==◌, List, [], ◌∷◌, Option, Some, None}
 use Rattle.knx_model.specs.declared.address.IndAddr.{IndAddr}
+use Rattle.knx_model.specs.declared.device.FrameSupport.{FrameSupport}
+use Rattle.knx_model.specs.declared.device.FrameSupport.TheVariants.{Standard, Extended}
 use Rattle.knx_model.specs.DeviceState.{DeviceState, as_standard}
 use Rattle.knx_model.specs.Meaning.{Installation}
 use Rattle.knx_model.specs.Promises.{StartOf}
@@ -37,7 +39,11 @@ is_on_bus new old device =
 abbrev pub powered : Bool → DeviceState → DeviceState
 powered power d = record d { power = power }
 
--- a standard device or not
+-- the frames that a standard device takes, and another
+abbrev pub frames_for : Bool → FrameSupport
+frames_for true = Standard
+frames_for false = Extended
+
 abbrev pub framed : Bool → DeviceState → DeviceState
 framed true d = as_standard d
 framed false d = d

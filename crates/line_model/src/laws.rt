@@ -5,13 +5,16 @@ ghost use Rattle.knx_model.specs.Cemi.{Reads as ReadsLdata};
 ghost use Rattle.knx_model.specs.DeviceConnection.{Closed};
 ghost use Rattle.knx_model.specs.DeviceState.{DeviceState};
 ghost use Rattle.knx_model.specs.KnxNetIp.{Reads as ReadsDatagram};
+ghost use Rattle.knx_model.specs.Meaning.{Installation};
 ghost use Rattle.knx_model.specs.declared.frames.cemi.Ldata.{Ldata};
 ghost use Rattle.knx_model.specs.declared.frames.ip.IpFrame.{IpFrame};
 ghost use Rattle.line_model.specs.Gateway.{number_of};
 ghost use Rattle.line_model.specs.Legal.{IsLegal};
+ghost use Rattle.line_model.specs.Lines.{Script, is_off, is_standard};
 ghost use Rattle.line_model.specs.Network.{Sent, MayArrive, new_datagram};
 ghost use Rattle.line_model.specs.Reading.{datagram_in, ldata_in};
 ghost use Rattle.line_model.specs.Record.{record_of, tunnel_record};
+ghost use Rattle.line_model.specs.StartOf.{BeginsAs, frames_for};
 ghost use Rattle.line_model.specs.Tunnel.{Mode, IsLegal as IsLegalInTunnel, replay as tunnel_replay};
 ghost use Rattle.line_model.specs.World.{World, Event, Cut, takes_it, is_among, confirmation, step, replay, tunnel_events};
 
@@ -58,4 +61,11 @@ pub fn a_cut_ends_the_connection()
     ensures closed { (w : World) (device : ℕ) (d : DeviceState) → (step w (Cut device)).devices device ≡ Some d → d.connection ≡ Closed }
     ensures stopped { (w : World) (device : ℕ) (d : DeviceState) → (step w (Cut device)).devices device ≡ Some d → d.power ≡ false }
     ensures kept { (w : World) (device : ℕ) (old d : DeviceState) → w.devices device ≡ Some old → (step w (Cut device)).devices device ≡ Some d → d.kept ≡ old.kept }
+{}
+
+/// A device of the simulated line begins with power but where the script switches it off, and takes extended frames but where the script says that
+/// it is a standard one.
+pub fn devices_begin_as_the_script_says()
+    ensures power { (old : Installation) (script : Script) (device : ℕ) (d : DeviceState) → BeginsAs old script device d → d.power ≡ not (is_off script device) }
+    ensures frames { (old : Installation) (script : Script) (device : ℕ) (d : DeviceState) → BeginsAs old script device d → d.frames ≡ frames_for (is_standard script device) }
 {}

@@ -2,7 +2,7 @@
 
 ghost use Rattle.std.specs.Prelude.{◌≡◌, List, [], ◌∷◌};
 ghost use Rattle.knx_model.specs.Device.{NonVolatile};
-ghost use Rattle.knx_model.specs.declared.script.ScriptWhat.TheVariants.{LoseDown, LoseTo, RepeatUp, RepeatTo, Cut, Worn};
+ghost use Rattle.knx_model.specs.declared.script.ScriptWhat.TheVariants.{LoseUp, LoseDown, LoseTo, LoseFrom, RepeatUp, RepeatDown, RepeatTo, Cut, Worn, CloseAfter, Refuse, DropChannel};
 ghost use Rattle.knx_model.specs.Cemi.{Written as cemi_octets};
 ghost use Rattle.line_model.specs.ActedOnce.{in_channel};
 ghost use Rattle.line_model.specs.Attempts.{attempts, Resting};
@@ -15,7 +15,7 @@ ghost use Rattle.line_model.specs.Moments.{moments, between};
 ghost use Rattle.line_model.specs.OldStoppedOrNew.{RunsWhereDone};
 ghost use Rattle.line_model.specs.Record.{Entry, placed, entries};
 ghost use Rattle.line_model.specs.Renews.{RenewsRightly};
-ghost use Rattle.line_model.specs.Runs.{device, begin, whole, job, reading, nearly, load, loads, told_done, unheard, told_failed, nobody, turn, telegram_sent, told_sent, torn, filling, worn, response_lost, comes_twice, second, quiet_until, to_device};
+ghost use Rattle.line_model.specs.Runs.{device, begin, whole, job, reading, nearly, load, loads, told_done, unheard, told_failed, nobody, turn, telegram_sent, told_sent, torn, filling, worn, response_lost, comes_twice, second, quiet_until, to_device, request_lost, try_refused, response_twice, confirmation_twice, channel_dropped, connection_closed, answer_lost};
 ghost use Rattle.line_model.specs.Told.{ToldTruly};
 ghost use Rattle.line_model.specs.Tunnel.{Commissions};
 ghost use Rattle.line_model.specs.World.{replay};
@@ -72,6 +72,18 @@ pub fn datagrams_are_lost_and_repeated()
     ensures twice { (kept : NonVolatile) → IsLegal Commissions (begin kept) comes_twice }
     ensures repeated { (kept : NonVolatile) → Follows (RepeatUp 2 ∷ RepeatTo device 1 ∷ []) Commissions (begin kept) comes_twice }
     ensures once { (kept : NonVolatile) → in_channel 0 (replay (begin kept) comes_twice).tunnel.gateway.acted ≡ cemi_octets (to_device (0x80 ∷ [])) ∷ [] }
+{}
+
+/// Each of the other lines of a script has its event: a lost request, a refused try, a response that comes twice, a channel and a connection that
+/// close, and an answer that is lost for the gateway.
+pub fn the_other_lines_have_their_events()
+    ensures loses_up { (kept : NonVolatile) → Follows (LoseUp 1 ∷ []) Commissions (begin kept) request_lost }
+    ensures refuses { (kept : NonVolatile) → Follows (Refuse 1 0x24 ∷ []) Commissions (begin kept) try_refused }
+    ensures repeats_down { (kept : NonVolatile) → Follows (RepeatDown 1 ∷ []) Commissions (begin kept) response_twice }
+    ensures repeats_between_sendings { (kept : NonVolatile) → Follows (RepeatDown 3 ∷ []) Commissions (begin kept) confirmation_twice }
+    ensures drops_channel { (kept : NonVolatile) → Follows (DropChannel 1 ∷ []) Commissions (begin kept) channel_dropped }
+    ensures closes { (kept : NonVolatile) → Follows (CloseAfter device 1 ∷ []) Commissions (begin kept) connection_closed }
+    ensures loses_from { (kept : NonVolatile) → Follows (LoseFrom device 1 ∷ []) Commissions (begin kept) answer_lost }
 {}
 
 /// The gateway closes the channel, and the client renews its endpoint and gets the next one.

@@ -7,6 +7,7 @@ mod Sends
 mod Takes
 mod Events
 mod Makes
+mod Acts
 mod Took
 mod Steps
 mod Law

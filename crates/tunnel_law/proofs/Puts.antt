@@ -7,7 +7,8 @@ use Rattle.line_model.specs.Gateway.{Channel, Request, number_of}
 use Rattle.line_model.specs.ActedOnce.{Has, in_channel}
 use Rattle.tunnel_law.proofs.Inside.{CountedIn, Next, Other, inside_map, again_at}
 use Rattle.tunnel_law.proofs.Fits.{Book}
-use Rattle.tunnel_law.proofs.Makes.{dec, eqb_other, not_eqb, acted_same, acted_other}
+use Rattle.tunnel_law.proofs.Acts.{acted_same, acted_other}
+use Rattle.tunnel_law.proofs.Makes.{dec, eqb_other, not_eqb}
 use Rattle.tunnel_law.proofs.Down.{ReqOf, ReqIs, NotReq, put_next}
 use Rattle.tunnel_law.proofs.Mirror.{Gate, At, Ends, Dn, Names}
 

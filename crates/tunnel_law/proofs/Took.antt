@@ -14,7 +14,8 @@ use Rattle.line_model.specs.Tunnel.{Tunnel, with_gateway, sends_down, answers as
 use Rattle.line_model.specs.ActedOnce.{Has}
 use Rattle.tunnel_law.proofs.Read.{IsOther, seen_of, ack_seen, response_seen, state_seen, disconnected_seen}
 use Rattle.tunnel_law.proofs.Fits.{Book, Serving, Inv}
-use Rattle.tunnel_law.proofs.Makes.{other_down, response_down, channel_kept, make_kept, acts_kept, again_kept}
+use Rattle.tunnel_law.proofs.Acts.{acts_kept, again_kept}
+use Rattle.tunnel_law.proofs.Makes.{other_down, response_down, channel_kept, make_kept}
 
 abbrev pub InvT : List Book → Tunnel → Type 0
 InvT bs t = Inv bs t.present t.network.up t.network.down t.gateway.makers t.gateway.channel t.gateway.acted
