@@ -12,7 +12,7 @@ use Rattle.line_model.specs.Runs.{device, begin}
 use Rattle.line_model.specs.Tunnel.{Commissions}
 
 -- what holds of the one device holds of each
-of_each : (P : DeviceState → Type 0) (x d : DeviceState) (b : Bool) → (b ≡ true → P x) → (if b then Some x else None) ≡ Some d → P d
+pub of_each : (P : DeviceState → Type 0) (x d : DeviceState) (b : Bool) → (b ≡ true → P x) → (if b then Some x else None) ≡ Some d → P d
 of_each P x d true h e = subst (OfDevice P) e (h refl)
 of_each P x d false h e = cc
 

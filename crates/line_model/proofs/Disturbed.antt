@@ -1,6 +1,6 @@
 -- Runs in which something is lost, comes twice, is torn or worn, or ends: they are legal, they follow their script where it says so, and
 -- what is told of them is true.
-use Rattle.std.proofs.Common.{◌≡◌, ℕ, List, [], ◌∷◌, true, false, inr, refl}
+use Rattle.std.proofs.Common.{◌≡◌, ◌<◌, arith, ℕ, List, [], ◌∷◌, true, false, inr, refl}
 use Rattle.knx_model.specs.declared.frames.cemi.LdataCode.TheVariants.{Con}
 use Rattle.knx_model.specs.declared.script.ScriptWhat.TheVariants.{LoseDown, LoseTo, RepeatUp, RepeatTo, Cut, Worn}
 use Rattle.knx_model.specs.ApduReading.{apdu_in, tpdu_in, service_in}
@@ -14,7 +14,7 @@ use Rattle.line_model.specs.Attempts.{attempts, Resting}
 use Rattle.line_model.specs.ClientView.{Deed, Puts, Takes, Nothing, Open, Lost, channel, after_entry, deed}
 use Rattle.line_model.specs.Follows.{Follows}
 use Rattle.line_model.specs.Gateway.{gateway_took}
-use Rattle.line_model.specs.Legal.{IsLegal}
+use Rattle.line_model.specs.Legal.{MayHappen, IsLegal}
 use Rattle.line_model.specs.Moments.{Moment, moments, between}
 use Rattle.line_model.specs.Reading.{datagram_in, ldata_in}
 use Rattle.line_model.specs.Record.{Entry, placed, entries}
@@ -22,7 +22,7 @@ use Rattle.line_model.specs.Renews.{RenewsRightly}
 use Rattle.line_model.specs.Runs.{device, begin, job, reading, unheard, told_failed, turn, telegram, nobody, telegram_sent, told_sent, unloads, torn, filling, writes, worn, response_lost, comes_twice, second, quiet_until, to_device}
 use Rattle.line_model.specs.Told.{ToldTruly}
 use Rattle.line_model.specs.Tunnel.{Commissions}
-use Rattle.line_model.specs.World.{replay}
+use Rattle.line_model.specs.World.{Up, replay}
 use Rattle.line_model.proofs.Passes.{legal_by}
 
 -- ---- three attempts, each confirmed with error
@@ -133,3 +133,8 @@ lives = (_, refl)
 pub acts_once : (kept : NonVolatile) → in_channel 0 (replay (begin kept) comes_twice).tunnel.gateway.acted ≡ cemi_octets (to_device (0x80 ∷ [])) ∷ []
 unfolding datagram_in ldata_in gateway_took frame_in device_took device_after device_answered after_answer apdu_in tpdu_in service_in
 acts_once kept = refl
+
+-- a third delivery isn't possible
+pub no_third : (kept : NonVolatile) → MayHappen Commissions (replay (begin kept) comes_twice) (Up 0) → ⊥
+unfolding datagram_in ldata_in gateway_took frame_in device_took device_after device_answered after_answer apdu_in tpdu_in service_in
+no_third kept h = absurd (let few : 2 < 2 = h.tunnel.twice in omega arith)

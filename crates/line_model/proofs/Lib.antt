@@ -7,6 +7,7 @@ mod Loads
 mod Buses
 mod Disturbed
 mod Scripts
+mod Waits
 mod Begins
 mod Networks
 pub mod Projection

@@ -23,7 +23,7 @@ use Rattle.line_model.specs.declared.log.LogWhat.TheVariants.{Took, Done, Failed
 use Rattle.line_model.specs.Log.{Job}
 use Rattle.line_model.specs.Record.{Entry, entry, Put, Renewed, Got, Quiet}
 use Rattle.line_model.specs.Tunnel.{fresh}
-use Rattle.line_model.specs.World.{World, Event, Comes, IsLost, Send, Renew, Up, UpRefused, Down, LoseUp, LoseDown, Bus, BusTorn, BusWorn, BusAgain, DevSend, DevClose, GwClose, On}
+use Rattle.line_model.specs.World.{World, Event, Comes, IsLost, Send, Renew, Up, UpRefused, Down, LoseUp, LoseDown, Bus, BusTorn, BusWorn, BusAgain, DevSend, DevClose, GwClose, On, Pass}
 
 -- ---- the line 1.1 with one device, 1.1.5, whatever it keeps
 
@@ -207,6 +207,14 @@ again = Down 0 ∷ Up 0 ∷ Send (Written ConnectRequest) ∷ Renew ∷ Send (Wr
 
 abbrev pub second : List Event
 second = Up 0 ∷ request 2 0 (0x80 ∷ []) ∷ again
+
+-- ---- a minute passes in which nothing is under way, and a heartbeat is answered
+
+abbrev pub quiet_minute : List Event
+quiet_minute = Pass 60000 ∷ up
+
+abbrev pub beat_answered : List Event
+beat_answered = Down 0 ∷ Up 0 ∷ Send (Written (StateRequest 1)) ∷ quiet_minute
 
 -- ---- three heartbeats without answer, each after 60,000 ms
 

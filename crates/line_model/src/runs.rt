@@ -10,15 +10,16 @@ ghost use Rattle.line_model.specs.ClientView.{Open, Lost, channel};
 ghost use Rattle.line_model.specs.Follows.{Follows};
 ghost use Rattle.line_model.specs.Fresh.{IsFresh, Settled};
 ghost use Rattle.line_model.specs.Headline.{IsDisciplined};
-ghost use Rattle.line_model.specs.Legal.{IsLegal};
+ghost use Rattle.line_model.specs.Legal.{MayHappen, IsLegal};
 ghost use Rattle.line_model.specs.Moments.{moments, between};
 ghost use Rattle.line_model.specs.OldStoppedOrNew.{RunsWhereDone};
-ghost use Rattle.line_model.specs.Record.{Entry, placed, entries};
+ghost use Rattle.line_model.specs.Record.{Entry, placed, entries, record_of};
 ghost use Rattle.line_model.specs.Renews.{RenewsRightly};
-ghost use Rattle.line_model.specs.Runs.{device, begin, whole, job, reading, nearly, load, loads, told_done, unheard, told_failed, nobody, turn, telegram_sent, told_sent, torn, filling, worn, response_lost, comes_twice, second, quiet_until, to_device, request_lost, try_refused, response_twice, confirmation_twice, channel_dropped, connection_closed, answer_lost};
+ghost use Rattle.line_model.specs.Runs.{device, begin, whole, job, reading, nearly, load, loads, told_done, unheard, told_failed, nobody, turn, telegram_sent, told_sent, torn, filling, worn, response_lost, comes_twice, second, quiet_until, to_device, request_lost, try_refused, response_twice, confirmation_twice, channel_dropped, connection_closed, answer_lost, quiet_minute, beat_answered};
+ghost use Rattle.line_model.specs.Sendings.{SendsRightly};
 ghost use Rattle.line_model.specs.Told.{ToldTruly};
 ghost use Rattle.line_model.specs.Tunnel.{Commissions};
-ghost use Rattle.line_model.specs.World.{replay};
+ghost use Rattle.line_model.specs.World.{Up, replay};
 
 /// A line with one device, whatever that keeps, is a fresh start, and settled.
 pub fn a_line_begins()
@@ -65,12 +66,13 @@ pub fn writes_are_torn_and_worn()
 {}
 
 /// A datagram that is lost, and a datagram and a frame that come twice: each is legal, and is just what the script's lines say; the request that
-/// came twice is acted on once.
+/// came twice is acted on once, and may not come a third time.
 pub fn datagrams_are_lost_and_repeated()
     ensures lost { (kept : NonVolatile) → IsLegal Commissions (begin kept) response_lost }
     ensures never { (kept : NonVolatile) → Follows (LoseDown 1 ∷ []) Commissions (begin kept) response_lost }
     ensures twice { (kept : NonVolatile) → IsLegal Commissions (begin kept) comes_twice }
     ensures repeated { (kept : NonVolatile) → Follows (RepeatUp 2 ∷ RepeatTo device 1 ∷ []) Commissions (begin kept) comes_twice }
+    ensures thrice { (kept : NonVolatile) → ¬ MayHappen Commissions (replay (begin kept) comes_twice) (Up 0) }
     ensures once { (kept : NonVolatile) → in_channel 0 (replay (begin kept) comes_twice).tunnel.gateway.acted ≡ cemi_octets (to_device (0x80 ∷ [])) ∷ [] }
 {}
 
@@ -90,6 +92,12 @@ pub fn the_other_lines_have_their_events()
 pub fn a_channel_follows_another()
     ensures legal { (kept : NonVolatile) → IsLegal Commissions (begin kept) second }
     ensures renews { (kept : NonVolatile) → RenewsRightly (entries (placed (begin kept) second)) }
+{}
+
+/// A minute may pass over a settled line, and the heartbeat that is due then may be sent.
+pub fn a_minute_passes()
+    ensures follows { (kept : NonVolatile) → Follows [] Commissions (begin kept) quiet_minute }
+    ensures sends { (kept : NonVolatile) → SendsRightly (record_of (begin kept) beat_answered) }
 {}
 
 /// Three heartbeats without answer: the channel is lost when 10,000 ms have passed after the third, and not a millisecond before.
