@@ -10,4 +10,5 @@ mod Scripts
 mod Waits
 mod Begins
 mod Networks
+mod Channels
 pub mod Projection

@@ -1,6 +1,6 @@
 //! Laws of the definitions, each a function without a body whose contract is the law.
 
-ghost use Rattle.std.specs.Prelude.{◌≡◌, ◌≢◌, ℕ, ◌+◌, ◌<◌, ◌≤◌, ◌++◌, ◌∷◌, List, Some, length, slice_get, ◌↔◌, true, false, not};
+ghost use Rattle.std.specs.Prelude.{◌≡◌, ◌≢◌, ℕ, ◌+◌, ◌<◌, ◌≤◌, ◌++◌, [], ◌∷◌, List, Some, None, length, slice_get, ◌↔◌, true, false, not};
 ghost use Rattle.knx_model.specs.Cemi.{Reads as ReadsLdata};
 ghost use Rattle.knx_model.specs.DeviceConnection.{Closed};
 ghost use Rattle.knx_model.specs.DeviceState.{DeviceState};
@@ -8,12 +8,15 @@ ghost use Rattle.knx_model.specs.KnxNetIp.{Reads as ReadsDatagram};
 ghost use Rattle.knx_model.specs.Meaning.{Installation};
 ghost use Rattle.knx_model.specs.declared.frames.cemi.Ldata.{Ldata};
 ghost use Rattle.knx_model.specs.declared.frames.ip.IpFrame.{IpFrame};
-ghost use Rattle.line_model.specs.Gateway.{number_of};
+ghost use Rattle.knx_model.specs.declared.frames.ip.IpFrame.TheVariants.{ConnectResponse, DisconnectRequest, TunnellingAck};
+ghost use Rattle.line_model.specs.ChannelLost.{Own, expected, acknowledges};
+ghost use Rattle.line_model.specs.Gateway.{Gateway, Channel, Request, Nothing, Closing, number_of, next_number, connects, answers, next_put, channel_expired, closed};
 ghost use Rattle.line_model.specs.Legal.{IsLegal};
 ghost use Rattle.line_model.specs.Lines.{Script, is_off, is_standard};
 ghost use Rattle.line_model.specs.Network.{Sent, MayArrive, new_datagram};
-ghost use Rattle.line_model.specs.Reading.{datagram_in, ldata_in};
-ghost use Rattle.line_model.specs.Record.{record_of, tunnel_record};
+ghost use Rattle.line_model.specs.Reading.{RequestFrame, AckFrame, datagram_in, ldata_in};
+ghost use Rattle.line_model.specs.Record.{Entry, record_of, tunnel_record};
+ghost use Rattle.line_model.specs.Renews.{calls_for};
 ghost use Rattle.line_model.specs.StartOf.{BeginsAs, frames_for};
 ghost use Rattle.line_model.specs.Tunnel.{Mode, IsLegal as IsLegalInTunnel, replay as tunnel_replay};
 ghost use Rattle.line_model.specs.World.{World, Event, Cut, takes_it, is_among, confirmation, step, replay, tunnel_events};
@@ -68,4 +71,21 @@ pub fn a_cut_ends_the_connection()
 pub fn devices_begin_as_the_script_says()
     ensures power { (old : Installation) (script : Script) (device : ℕ) (d : DeviceState) → BeginsAs old script device d → d.power ≡ not (is_off script device) }
     ensures frames { (old : Installation) (script : Script) (device : ℕ) (d : DeviceState) → BeginsAs old script device d → d.frames ≡ frames_for (is_standard script device) }
+{}
+
+/// The gateway answers another connect request of its client with the channel that is open, and puts no request while one is outstanding. It closes
+/// when 120,000 ms have passed without a datagram of its client, not before, and what waits for the client is dropped then.
+pub fn a_gateway_keeps_its_channel()
+    ensures same { (g : Gateway) (c : Channel) (now : ℕ) → connects g c.endpoint now (Some c) ≡ answers (ConnectResponse c.number 0 (Some g.tunnel)) g }
+    ensures one { (c : Channel) (r : Request) (frames : List Ldata) → c.outstanding ≡ Some r → next_put (Some c) frames ≡ None }
+    ensures waits { (c : Channel) (now : ℕ) → c.outstanding ≡ None → now < c.heard + 120000 → channel_expired (Some c) now ≡ Nothing }
+    ensures closes { (c : Channel) (now : ℕ) → c.heard + 120000 ≤ now → channel_expired (Some c) now ≡ Closing (DisconnectRequest c.number) }
+    ensures drops { (g : Gateway) (c : Channel) → g.channel ≡ Some c → (closed g).waiting ≡ [] }
+{}
+
+/// The client's own acknowledgement is called for by a request with the number before the expected one too; that of the gateway counts only
+/// with status 0.
+pub fn a_client_counts_what_it_gets()
+    ensures again { (c : ℕ) (l : List Entry) (r : RequestFrame) → r.channel ≡ c → next_number r.number ≡ expected c l → calls_for c l (Some r) ≡ Some (TunnellingAck r.channel r.number 0) }
+    ensures agreed { (c : ℕ) (o : Own) (ack : AckFrame) → acknowledges c o (Some ack) ≡ true → ack.status ≡ 0 }
 {}
