@@ -84,7 +84,10 @@ fn next_octet(octets: &[u8]) -> Option<(u8, &[u8])> {
 pub fn unescaped(alloc: Global, text: &str) -> Result<Octets, Fault> {
     let mut out = Octets::new(alloc);
     let mut rest = text.as_bytes();
-    while let Some((octet, after)) = next_octet(rest) {
+    for _ in 0..text.len() {
+        let Some((octet, after)) = next_octet(rest) else {
+            break;
+        };
         out.push(octet)?;
         rest = after;
     }

@@ -149,17 +149,18 @@ fn goes(alloc: Global, device: &mut Device, row: &Row<'_>) -> Result<bool, NoMem
     Ok(does(alloc, device, deed)? && sends(device, wanted))
 }
 
-/// Fails where a row doesn't come out.
-fn assert_goes(
-    rt: &impl Abort,
+/// The first row that doesn't come out.
+fn first_wrong(
     alloc: Global,
     device: &mut Device,
     rows: &[Row<'_>],
-) -> Result<(), NoMemory> {
+) -> Result<Option<usize>, NoMemory> {
     for (at, row) in rows.iter().enumerate() {
-        assert!(rt; goes(alloc, device, row)?, "row {at}");
+        if !goes(alloc, device, row)? {
+            return Ok(Some(at));
+        }
     }
-    Ok(())
+    Ok(None)
 }
 
 /// Start loading of the address table, an allocation of sixteen octets, and its completion.
@@ -175,7 +176,7 @@ const UNLOAD_APPLICATION: &[u8] =
 #[test]
 fn services_and_their_answers(rt: HostRuntime) -> Result<(), Fail> {
     let device = &mut Device::blank(rt.alloc(), ADDRESS)?;
-    let rows: [Row<'_>; 15] = [
+    let rows: [Row<'_>; 8] = [
         // the descriptor of type 0, and of another type
         (Deed::Give(b"\x03\x00"), &[b"\x03\x40\x07\xB0"]),
         (Deed::Give(b"\x03\x01"), &[b"\x03\x7F"]),
@@ -203,6 +204,16 @@ fn services_and_their_answers(rt: HostRuntime) -> Result<(), Fail> {
         ),
         // memory that isn't allocated
         (Deed::Give(b"\x02\x04\x40\x00"), &[b"\x02\x40\x40\x00"]),
+    ];
+    let wrong = first_wrong(rt.alloc(), device, &rows)?;
+    assert!(rt; wrong.is_none(), "row {wrong:?}");
+    Ok(())
+}
+
+#[test]
+fn writes_while_a_part_is_loaded(rt: HostRuntime) -> Result<(), Fail> {
+    let device = &mut Device::blank(rt.alloc(), ADDRESS)?;
+    let rows: [Row<'_>; 7] = [
         (Deed::Give(START), &[b"\x03\xD6\x01\x05\x10\x01\x02"]),
         (Deed::Give(SIXTEEN), &[b"\x03\xD6\x01\x05\x10\x01\x02"]),
         // two octets are written and read
@@ -219,7 +230,8 @@ fn services_and_their_answers(rt: HostRuntime) -> Result<(), Fail> {
         // a group service has no answer
         (Deed::Give(b"\x00\x80"), &[]),
     ];
-    assert_goes(&rt, rt.alloc(), device, &rows)?;
+    let wrong = first_wrong(rt.alloc(), device, &rows)?;
+    assert!(rt; wrong.is_none(), "row {wrong:?}");
     Ok(())
 }
 
@@ -240,7 +252,8 @@ fn standard_devices_and_extended_frames(rt: HostRuntime) -> Result<(), Fail> {
             &[b"\x02\x4D\x40\x00\x01\x02\x03\x04\x05\x06\x07\x08\x09\x0A\x0B\x0C\x0D"],
         ),
     ];
-    assert_goes(&rt, rt.alloc(), device, &rows)?;
+    let wrong = first_wrong(rt.alloc(), device, &rows)?;
+    assert!(rt; wrong.is_none(), "row {wrong:?}");
     assert!(rt; device.take(rt.alloc(), &to_device(LONG), 0)? == Took::Taken);
     device.set_standard();
     let rows: [Row<'_>; 3] = [
@@ -254,7 +267,8 @@ fn standard_devices_and_extended_frames(rt: HostRuntime) -> Result<(), Fail> {
         ),
         (Deed::Give(b"\x02\x0D\x40\x00"), &[b"\x02\x40\x40\x00"]),
     ];
-    assert_goes(&rt, rt.alloc(), device, &rows)?;
+    let wrong = first_wrong(rt.alloc(), device, &rows)?;
+    assert!(rt; wrong.is_none(), "row {wrong:?}");
     // whether it takes frames to itself, to another device and to the group, and without power
     let table: [(bool, u16, &[u8], Took); 5] = [
         (false, ADDRESS.raw, SHORT, Took::Taken),
@@ -298,21 +312,29 @@ fn small(alloc: Global) -> Result<Device, NoMemory> {
     loaded(alloc, b"\x01\x02", b"", b"\x03", b"\x04\x05\x06")
 }
 
+/// Whether it is the device of this address, and runs with this parameter memory.
+fn is_loaded(alloc: Global, device: &Device, params: &[u8]) -> Result<bool, NoMemory> {
+    let address = device.address();
+    match device.image(alloc)? {
+        Some(image) => Ok(address == ADDRESS && image.params.as_slice() == params),
+        None => Ok(false),
+    }
+}
+
 #[test]
 fn a_loaded_device_and_the_cut_of_an_unload(rt: HostRuntime) -> Result<(), Fail> {
     let device = &mut small(rt.alloc())?;
-    assert!(rt; device.address() == ADDRESS && device.runs());
-    if let Some(image) = device.image(rt.alloc())? {
-        assert!(rt; image.params.as_slice() == b"\x04\x05\x06".as_slice());
-    }
+    assert!(rt; is_loaded(rt.alloc(), device, b"\x04\x05\x06")?);
     let rows: [Row<'_>; 4] = [
         (Deed::GiveTorn(UNLOAD_APPLICATION, 1), &[]),
         (Deed::Give(b"\x03\x00"), &[]),
         (Deed::On, &[]),
         (Deed::Give(b"\x03\x00"), &[b"\x03\x40\x07\xB0"]),
     ];
-    assert_goes(&rt, rt.alloc(), device, &rows)?;
-    assert!(rt; !device.runs());
+    let wrong = first_wrong(rt.alloc(), device, &rows)?;
+    assert!(rt; wrong.is_none(), "row {wrong:?}");
+    let runs = device.runs();
+    assert!(rt; !runs);
     let front = written_front(rt.alloc(), b"\x02\x82\x40\x00\xAB\xCD", 1)?;
     assert!(rt; front.as_slice() == b"\xAB".as_slice());
     Ok(())
@@ -343,8 +365,11 @@ fn services_by_numbered_data(rt: HostRuntime) -> Result<(), Fail> {
         (Deed::Cut, &[]),
         (Deed::On, &[]),
     ];
-    assert_goes(&rt, rt.alloc(), device, &rows)?;
-    assert!(rt; device.runs() && device.last().is_none());
+    let wrong = first_wrong(rt.alloc(), device, &rows)?;
+    assert!(rt; wrong.is_none(), "row {wrong:?}");
+    let runs = device.runs();
+    let got_none = device.last().is_none();
+    assert!(rt; runs && got_none);
     Ok(())
 }
 
@@ -361,7 +386,8 @@ fn worn_memory_keeps_other_octets(rt: HostRuntime) -> Result<(), Fail> {
             &[b"\x02\x42\x40\x00\xFF\xA0"],
         ),
     ];
-    assert_goes(&rt, rt.alloc(), device, &rows)?;
+    let wrong = first_wrong(rt.alloc(), device, &rows)?;
+    assert!(rt; wrong.is_none(), "row {wrong:?}");
     Ok(())
 }
 
