@@ -17,7 +17,7 @@ use Rattle.line_model.specs.Log.{SameDevice, job_of, IsLog, OneDownloaderPerDevi
 use Rattle.line_model.specs.Reading.{datagram_in, ldata_in}
 use Rattle.line_model.specs.Record.{placed, entries}
 use Rattle.line_model.specs.Renews.{RenewsRightly, AcknowledgesRightly}
-use Rattle.line_model.specs.Runs.{device, begin, whole, job, told_done, to_device}
+use Rattle.line_model.specs.Runs.{device, begin, whole, job, other_job, told_done, told_refused, to_device}
 use Rattle.line_model.specs.Sendings.{SendsRightly}
 use Rattle.line_model.specs.Told.{ToldTruly}
 use Rattle.line_model.specs.Tunnel.{Commissions}
@@ -47,6 +47,10 @@ alone = (tt, (record { alone = λ other worker since same e. cc; in_order = λ o
 truly : (kept : NonVolatile) → ToldTruly (job ∷ []) [] (placed (begin kept) whole) told_done
 unfolding datagram_in ldata_in gateway_took frame_in device_took device_after device_answered after_answer apdu_in tpdu_in service_in after_entry deed
 truly kept = ((refl, refl), (tt, tt))
+
+pub refused : (kept : NonVolatile) → ToldTruly (other_job ∷ []) [] (placed (begin kept) whole) told_refused
+unfolding datagram_in ldata_in gateway_took frame_in device_took device_after device_answered after_answer apdu_in tpdu_in service_in after_entry deed
+refused kept = (record { later = []; before = []; taken = refl; why = inl (record { last = refl; left = other_job.plan; so_far = refl; differs = (refl, λ e. cc) }) }, (tt, tt))
 
 renews : (kept : NonVolatile) → RenewsRightly (entries (placed (begin kept) whole))
 unfolding datagram_in ldata_in gateway_took frame_in device_took device_after device_answered after_answer apdu_in tpdu_in service_in after_entry deed

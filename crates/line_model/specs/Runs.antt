@@ -19,7 +19,7 @@ use Rattle.knx_model.specs.Loading.{Loadable}
 use Rattle.knx_model.specs.Plans.{Plan, Over, Asks}
 use Rattle.line_model.specs.declared.group.GroupTurn.{GroupTurn}
 use Rattle.line_model.specs.declared.log.LogEntry.{LogEntry}
-use Rattle.line_model.specs.declared.log.LogWhat.TheVariants.{Took, Done, Failed, Sent}
+use Rattle.line_model.specs.declared.log.LogWhat.TheVariants.{Took, Done, Failed, Refused, Sent}
 use Rattle.line_model.specs.Log.{Job}
 use Rattle.line_model.specs.Record.{Entry, entry, Put, Renewed, Got, Quiet}
 use Rattle.line_model.specs.Tunnel.{fresh}
@@ -81,6 +81,16 @@ job = record { device = device; image = record { addr = []; assoc = []; objs = [
 
 abbrev pub told_done : List LogEntry
 told_done = record { at = 33; worker = 1; what = Done 1 } ∷ record { at = 4; worker = 1; what = Took 1 } ∷ []
+
+-- a job that wants the descriptor of another mask, and what is told then
+abbrev pub other_mask : List ℕ
+other_mask = 0x03 ∷ 0x40 ∷ 0x07 ∷ 0x05 ∷ []
+
+abbrev pub other_job : Job
+other_job = record job { plan = Asks (3 ∷ 0 ∷ []) (Is other_mask) (λ answer. Over) }
+
+abbrev pub told_refused : List LogEntry
+told_refused = record { at = 33; worker = 1; what = Refused 1 0 (0x03 ∷ 0x40 ∷ 0x07 ∷ 0xB0 ∷ []) other_mask } ∷ record { at = 4; worker = 1; what = Took 1 } ∷ []
 
 -- ---- a load: the last operation of one, for a device to which all else is loaded
 

@@ -15,7 +15,7 @@ ghost use Rattle.line_model.specs.Moments.{moments, between};
 ghost use Rattle.line_model.specs.OldStoppedOrNew.{RunsWhereDone};
 ghost use Rattle.line_model.specs.Record.{Entry, placed, entries, record_of};
 ghost use Rattle.line_model.specs.Renews.{RenewsRightly};
-ghost use Rattle.line_model.specs.Runs.{device, begin, whole, job, reading, nearly, load, loads, told_done, unheard, told_failed, nobody, turn, telegram_sent, told_sent, torn, filling, worn, response_lost, comes_twice, second, quiet_until, to_device, request_lost, try_refused, response_twice, confirmation_twice, channel_dropped, connection_closed, answer_lost, quiet_minute, beat_answered};
+ghost use Rattle.line_model.specs.Runs.{device, begin, whole, job, other_job, reading, nearly, load, loads, told_done, told_refused, unheard, told_failed, nobody, turn, telegram_sent, told_sent, torn, filling, worn, response_lost, comes_twice, second, quiet_until, to_device, request_lost, try_refused, response_twice, confirmation_twice, channel_dropped, connection_closed, answer_lost, quiet_minute, beat_answered};
 ghost use Rattle.line_model.specs.Sendings.{SendsRightly};
 ghost use Rattle.line_model.specs.Told.{ToldTruly};
 ghost use Rattle.line_model.specs.Tunnel.{Commissions};
@@ -27,11 +27,13 @@ pub fn a_line_begins()
     ensures settled { (kept : NonVolatile) → Settled Commissions (begin kept) }
 {}
 
-/// A session by which a descriptor is read is legal and follows the empty script; a hub that does it is disciplined, and tells the job done.
+/// A session by which a descriptor is read is legal and follows the empty script; a hub that does it is disciplined, and tells the job done. Where
+/// the job wants another descriptor, its operation 0 is told refused.
 pub fn a_session_reads_the_descriptor()
     ensures legal { (kept : NonVolatile) → IsLegal Commissions (begin kept) whole }
     ensures follows { (kept : NonVolatile) → Follows [] Commissions (begin kept) whole }
     ensures disciplined { (kept : NonVolatile) → IsDisciplined (job ∷ []) [] 33 (placed (begin kept) whole) told_done }
+    ensures refused { (kept : NonVolatile) → ToldTruly (other_job ∷ []) [] (placed (begin kept) whole) told_refused }
 {}
 
 /// The last operation of a load, for a device to which all else is loaded: legal, undisturbed and disciplined; it is told done, and the device
