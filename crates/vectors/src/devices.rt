@@ -5,7 +5,6 @@ ghost use Rattle.std.specs.Prelude.{◌≤◌, length};
 use device_sim::{Device, Ldata, Sending, Took, Value, WriteKind, written_front};
 use knx_model::{ApduOctets, Image, IndAddr, LdataCode, NoMemory, Octets};
 use std::alloc::Global;
-use std::process::Abort;
 use std::test::Fail;
 
 const ADDRESS: IndAddr = IndAddr { raw: 0x1105 };
@@ -21,19 +20,12 @@ const GROUP: u16 = 0x0A03;
 enum Deed<'a> {
     /// A service is given to it.
     Give(&'a [u8]),
-    /// A service is given to it, and power is cut in its write after so many octets.
-    GiveTorn(&'a [u8], u32),
     /// A frame of the client comes to it.
     Take(&'a [u8]),
-    /// A frame of the client comes to it, and power is cut in its write after so many octets.
-    TakeTorn(&'a [u8], u32),
     /// A frame of the client comes to it, and worn memory keeps the complements.
     TakeWorn(&'a [u8]),
     /// A telegram to the group comes.
     Telegram(&'a [u8]),
-    Shut,
-    Cut,
-    On,
 }
 
 /// What is done, and what the device answers to a service that is given, or sends then.
@@ -91,6 +83,16 @@ fn sends(device: &mut Device, wanted: &[&[u8]]) -> bool {
     device.next_sending(0).is_none()
 }
 
+fn takes(
+    alloc: Global,
+    device: &mut Device,
+    tpdu: &[u8],
+    wanted: &[&[u8]],
+) -> Result<bool, NoMemory> {
+    let took = device.take(alloc, &to_device(tpdu), 0)?;
+    Ok(took == Took::Taken && sends(device, wanted))
+}
+
 fn gives_torn(device: &mut Device, apdu: &[u8], k: u32) -> bool {
     let writes = device.gives_write(apdu);
     if writes {
@@ -115,38 +117,20 @@ fn takes_worn(alloc: Global, device: &mut Device, frame: &Ldata) -> Result<bool,
     Ok(false)
 }
 
-/// Does this to the device, and says whether it was taken.
-fn does(alloc: Global, device: &mut Device, deed: &Deed<'_>) -> Result<bool, NoMemory> {
-    match deed {
-        Deed::Take(tpdu) => Ok(device.take(alloc, &to_device(tpdu), 0)? == Took::Taken),
-        Deed::Telegram(tpdu) => Ok(
-            device.take(alloc, &frame(true, GROUP, tpdu), 0)? == Took::Taken,
-        ),
-        Deed::TakeTorn(tpdu, k) => Ok(takes_torn(device, &to_device(tpdu), *k)),
-        Deed::TakeWorn(tpdu) => takes_worn(alloc, device, &to_device(tpdu)),
-        Deed::GiveTorn(apdu, k) => Ok(gives_torn(device, apdu, *k)),
-        Deed::Shut => {
-            device.shut(alloc)?;
-            Ok(true)
-        }
-        Deed::Cut => {
-            device.cut();
-            Ok(true)
-        }
-        Deed::On => {
-            device.on();
-            Ok(true)
-        }
-        Deed::Give(_) => Ok(false),
-    }
-}
-
+/// Whether this is taken, and just these are its answer, or sent then.
 fn goes(alloc: Global, device: &mut Device, row: &Row<'_>) -> Result<bool, NoMemory> {
     let (deed, wanted) = row;
-    if let Deed::Give(apdu) = deed {
-        return Ok(answers(device.give(apdu), wanted));
+    match deed {
+        Deed::Give(apdu) => Ok(answers(device.give(apdu), wanted)),
+        Deed::Take(tpdu) => takes(alloc, device, tpdu, wanted),
+        Deed::TakeWorn(tpdu) => {
+            Ok(takes_worn(alloc, device, &to_device(tpdu))? && sends(device, wanted))
+        }
+        Deed::Telegram(tpdu) => {
+            let took = device.take(alloc, &frame(true, GROUP, tpdu), 0)?;
+            Ok(took == Took::Taken && sends(device, wanted))
+        }
     }
-    Ok(does(alloc, device, deed)? && sends(device, wanted))
 }
 
 /// The first row that doesn't come out.
@@ -213,25 +197,25 @@ fn services_and_their_answers(rt: HostRuntime) -> Result<(), Fail> {
 #[test]
 fn writes_while_a_part_is_loaded(rt: HostRuntime) -> Result<(), Fail> {
     let device = &mut Device::blank(rt.alloc(), ADDRESS)?;
-    let rows: [Row<'_>; 7] = [
-        (Deed::Give(START), &[b"\x03\xD6\x01\x05\x10\x01\x02"]),
-        (Deed::Give(SIXTEEN), &[b"\x03\xD6\x01\x05\x10\x01\x02"]),
-        // two octets are written and read
-        (Deed::Give(b"\x02\x82\x40\x00\xAB\xCD"), &[]),
-        (
-            Deed::Give(b"\x02\x02\x40\x00"),
-            &[b"\x02\x42\x40\x00\xAB\xCD"],
-        ),
-        (Deed::Give(COMPLETED), &[b"\x03\xD6\x01\x05\x10\x01\x01"]),
-        (
-            Deed::Give(UNLOAD_APPLICATION),
-            &[b"\x03\xD6\x04\x05\x10\x01\x00"],
-        ),
-        // a group service has no answer
-        (Deed::Give(b"\x00\x80"), &[]),
-    ];
-    let wrong = first_wrong(rt.alloc(), device, &rows)?;
-    assert!(rt; wrong.is_none(), "row {wrong:?}");
+    assert!(rt; answers(device.give(START), &[b"\x03\xD6\x01\x05\x10\x01\x02"]));
+    assert!(rt; answers(device.give(SIXTEEN), &[b"\x03\xD6\x01\x05\x10\x01\x02"]));
+    // two octets are written and read
+    assert!(rt; answers(device.give(b"\x02\x82\x40\x00\xAB\xCD"), &[]));
+    assert!(rt;
+        answers(
+            device.give(b"\x02\x02\x40\x00"),
+            &[b"\x02\x42\x40\x00\xAB\xCD"]
+        )
+    );
+    assert!(rt; answers(device.give(COMPLETED), &[b"\x03\xD6\x01\x05\x10\x01\x01"]));
+    assert!(rt;
+        answers(
+            device.give(UNLOAD_APPLICATION),
+            &[b"\x03\xD6\x04\x05\x10\x01\x00"]
+        )
+    );
+    // a group service has no answer
+    assert!(rt; answers(device.give(b"\x00\x80"), &[]));
     Ok(())
 }
 
@@ -325,16 +309,11 @@ fn is_loaded(alloc: Global, device: &Device, params: &[u8]) -> Result<bool, NoMe
 fn a_loaded_device_and_the_cut_of_an_unload(rt: HostRuntime) -> Result<(), Fail> {
     let device = &mut small(rt.alloc())?;
     assert!(rt; is_loaded(rt.alloc(), device, b"\x04\x05\x06")?);
-    let rows: [Row<'_>; 4] = [
-        (Deed::GiveTorn(UNLOAD_APPLICATION, 1), &[]),
-        (Deed::Give(b"\x03\x00"), &[]),
-        (Deed::On, &[]),
-        (Deed::Give(b"\x03\x00"), &[b"\x03\x40\x07\xB0"]),
-    ];
-    let wrong = first_wrong(rt.alloc(), device, &rows)?;
-    assert!(rt; wrong.is_none(), "row {wrong:?}");
-    let runs = device.runs();
-    assert!(rt; !runs);
+    assert!(rt; gives_torn(device, UNLOAD_APPLICATION, 1));
+    assert!(rt; answers(device.give(b"\x03\x00"), &[]));
+    device.on();
+    assert!(rt; answers(device.give(b"\x03\x00"), &[b"\x03\x40\x07\xB0"]));
+    assert!(rt; !device.runs());
     let front = written_front(rt.alloc(), b"\x02\x82\x40\x00\xAB\xCD", 1)?;
     assert!(rt; front.as_slice() == b"\xAB".as_slice());
     Ok(())
@@ -346,30 +325,32 @@ const UNLOAD: &[u8] = b"\x43\xD7\x01\x05\x10\x01\x04\x00\x00\x00\x00\x00\x00\x00
 #[test]
 fn services_by_numbered_data(rt: HostRuntime) -> Result<(), Fail> {
     let device = &mut small(rt.alloc())?;
-    let rows: [Row<'_>; 13] = [
-        // a closed device answers numbered data by T_Disconnect
-        (Deed::Take(b"\x43\x00"), &[b"\x81"]),
-        (Deed::Take(b"\x80"), &[]),
-        (Deed::Take(b"\x43\x00"), &[b"\xC2", b"\x43\x40\x07\xB0"]),
-        // the same number again is acknowledged and dropped
-        (Deed::Take(b"\x43\x00"), &[b"\xC2"]),
-        // the next one is neither taken nor acknowledged before the answer's T_ACK
-        (Deed::Take(b"\x47\x00"), &[]),
-        (Deed::Take(b"\xC2"), &[]),
-        (Deed::Take(b"\x4B\x00"), &[b"\xCB"]),
-        (Deed::Shut, &[b"\x81"]),
-        (Deed::Take(b"\x80"), &[]),
-        // of a write that power is cut in before its first octet, nothing stands
-        (Deed::TakeTorn(UNLOAD, 0), &[]),
-        (Deed::On, &[]),
-        (Deed::Cut, &[]),
-        (Deed::On, &[]),
-    ];
-    let wrong = first_wrong(rt.alloc(), device, &rows)?;
-    assert!(rt; wrong.is_none(), "row {wrong:?}");
-    let runs = device.runs();
-    let got_none = device.last().is_none();
-    assert!(rt; runs && got_none);
+    // a closed device answers numbered data by T_Disconnect
+    assert!(rt; takes(rt.alloc(), device, b"\x43\x00", &[b"\x81"])?);
+    assert!(rt; takes(rt.alloc(), device, b"\x80", &[])?);
+    assert!(rt;
+        takes(
+            rt.alloc(),
+            device,
+            b"\x43\x00",
+            &[b"\xC2", b"\x43\x40\x07\xB0"]
+        )?
+    );
+    // the same number again is acknowledged and dropped
+    assert!(rt; takes(rt.alloc(), device, b"\x43\x00", &[b"\xC2"])?);
+    // the next one is neither taken nor acknowledged before the answer's T_ACK
+    assert!(rt; takes(rt.alloc(), device, b"\x47\x00", &[])?);
+    assert!(rt; takes(rt.alloc(), device, b"\xC2", &[])?);
+    assert!(rt; takes(rt.alloc(), device, b"\x4B\x00", &[b"\xCB"])?);
+    device.shut(rt.alloc())?;
+    assert!(rt; sends(device, &[b"\x81"]));
+    assert!(rt; takes(rt.alloc(), device, b"\x80", &[])?);
+    // of a write that power is cut in before its first octet, nothing stands
+    assert!(rt; takes_torn(device, &to_device(UNLOAD), 0));
+    device.on();
+    device.cut();
+    device.on();
+    assert!(rt; device.runs() && device.last().is_none());
     Ok(())
 }
 
