@@ -31,6 +31,9 @@ enum Deed<'a> {
 /// What is done, and what the device answers to a service that is given, or sends then.
 type Row<'a> = (Deed<'a>, &'a [&'a [u8]]);
 
+/// No answer, and no frame that is sent.
+const NOTHING: &[&[u8]] = &[];
+
 /// A TPDU of at most 64 octets.
 fn octets(tpdu: &[u8]) -> ApduOctets {
     if tpdu.len() <= ApduOctets::CAPACITY {
@@ -197,25 +200,25 @@ fn services_and_their_answers(rt: HostRuntime) -> Result<(), Fail> {
 #[test]
 fn writes_while_a_part_is_loaded(rt: HostRuntime) -> Result<(), Fail> {
     let device = &mut Device::blank(rt.alloc(), ADDRESS)?;
-    assert!(rt; answers(device.give(START), &[b"\x03\xD6\x01\x05\x10\x01\x02"]));
-    assert!(rt; answers(device.give(SIXTEEN), &[b"\x03\xD6\x01\x05\x10\x01\x02"]));
-    // two octets are written and read
-    assert!(rt; answers(device.give(b"\x02\x82\x40\x00\xAB\xCD"), &[]));
-    assert!(rt;
-        answers(
-            device.give(b"\x02\x02\x40\x00"),
-            &[b"\x02\x42\x40\x00\xAB\xCD"]
-        )
-    );
-    assert!(rt; answers(device.give(COMPLETED), &[b"\x03\xD6\x01\x05\x10\x01\x01"]));
-    assert!(rt;
-        answers(
-            device.give(UNLOAD_APPLICATION),
-            &[b"\x03\xD6\x04\x05\x10\x01\x00"]
-        )
-    );
-    // a group service has no answer
-    assert!(rt; answers(device.give(b"\x00\x80"), &[]));
+    let rows: [Row<'_>; 7] = [
+        (Deed::Give(START), &[b"\x03\xD6\x01\x05\x10\x01\x02"]),
+        (Deed::Give(SIXTEEN), &[b"\x03\xD6\x01\x05\x10\x01\x02"]),
+        // two octets are written and read
+        (Deed::Give(b"\x02\x82\x40\x00\xAB\xCD"), NOTHING),
+        (
+            Deed::Give(b"\x02\x02\x40\x00"),
+            &[b"\x02\x42\x40\x00\xAB\xCD"],
+        ),
+        (Deed::Give(COMPLETED), &[b"\x03\xD6\x01\x05\x10\x01\x01"]),
+        (
+            Deed::Give(UNLOAD_APPLICATION),
+            &[b"\x03\xD6\x04\x05\x10\x01\x00"],
+        ),
+        // a group service has no answer
+        (Deed::Give(b"\x00\x80"), NOTHING),
+    ];
+    let wrong = first_wrong(rt.alloc(), device, &rows)?;
+    assert!(rt; wrong.is_none(), "row {wrong:?}");
     Ok(())
 }
 
@@ -225,12 +228,12 @@ const LONG: &[u8] = b"\x02\x8D\x40\x00\x01\x02\x03\x04\x05\x06\x07\x08\x09\x0A\x
 const SHORT: &[u8] = b"\x02\x8C\x40\x00\x01\x02\x03\x04\x05\x06\x07\x08\x09\x0A\x0B\x0C";
 
 #[test]
-fn standard_devices_and_extended_frames(rt: HostRuntime) -> Result<(), Fail> {
+fn a_device_of_extended_frames(rt: HostRuntime) -> Result<(), Fail> {
     let device = &mut Device::blank(rt.alloc(), ADDRESS)?;
     let rows: [Row<'_>; 4] = [
         (Deed::Give(START), &[b"\x03\xD6\x01\x05\x10\x01\x02"]),
         (Deed::Give(SIXTEEN), &[b"\x03\xD6\x01\x05\x10\x01\x02"]),
-        (Deed::Give(LONG), &[]),
+        (Deed::Give(LONG), NOTHING),
         (
             Deed::Give(b"\x02\x0D\x40\x00"),
             &[b"\x02\x4D\x40\x00\x01\x02\x03\x04\x05\x06\x07\x08\x09\x0A\x0B\x0C\x0D"],
@@ -238,13 +241,21 @@ fn standard_devices_and_extended_frames(rt: HostRuntime) -> Result<(), Fail> {
     ];
     let wrong = first_wrong(rt.alloc(), device, &rows)?;
     assert!(rt; wrong.is_none(), "row {wrong:?}");
-    assert!(rt; device.take(rt.alloc(), &to_device(LONG), 0)? == Took::Taken);
+    Ok(())
+}
+
+#[test]
+fn a_device_of_standard_frames(rt: HostRuntime) -> Result<(), Fail> {
+    let device = &mut Device::blank(rt.alloc(), ADDRESS)?;
     device.set_standard();
-    let rows: [Row<'_>; 3] = [
+    let rows: [Row<'_>; 6] = [
         (
             Deed::Give(b"\x03\xD5\x00\x38\x10\x01"),
             &[b"\x03\xD6\x00\x38\x10\x01\x00\x0F"],
         ),
+        (Deed::Give(START), &[b"\x03\xD6\x01\x05\x10\x01\x02"]),
+        (Deed::Give(SIXTEEN), &[b"\x03\xD6\x01\x05\x10\x01\x02"]),
+        (Deed::Give(SHORT), NOTHING),
         (
             Deed::Give(b"\x02\x0C\x40\x00"),
             &[b"\x02\x4C\x40\x00\x01\x02\x03\x04\x05\x06\x07\x08\x09\x0A\x0B\x0C"],
@@ -253,7 +264,35 @@ fn standard_devices_and_extended_frames(rt: HostRuntime) -> Result<(), Fail> {
     ];
     let wrong = first_wrong(rt.alloc(), device, &rows)?;
     assert!(rt; wrong.is_none(), "row {wrong:?}");
-    // whether it takes frames to itself, to another device and to the group, and without power
+    Ok(())
+}
+
+/// Whether each of the frames, to a group or not, is taken by the device as told.
+fn takes_as_told(
+    alloc: Global,
+    device: &mut Device,
+    table: &[(bool, u16, &[u8], Took)],
+) -> Result<bool, NoMemory> {
+    for (group, destination, tpdu, took) in table {
+        let said = device.take(alloc, &frame(*group, *destination, tpdu), 0)?;
+        if said != *took {
+            return Ok(false);
+        }
+    }
+    Ok(true)
+}
+
+#[test]
+fn which_frames_a_device_takes(rt: HostRuntime) -> Result<(), Fail> {
+    let device = &mut Device::blank(rt.alloc(), ADDRESS)?;
+    assert!(rt;
+        takes_as_told(
+            rt.alloc(),
+            device,
+            &[(false, ADDRESS.raw, LONG, Took::Taken)]
+        )?
+    );
+    device.set_standard();
     let table: [(bool, u16, &[u8], Took); 5] = [
         (false, ADDRESS.raw, SHORT, Took::Taken),
         (false, ADDRESS.raw, LONG, Took::TooLong),
@@ -261,12 +300,9 @@ fn standard_devices_and_extended_frames(rt: HostRuntime) -> Result<(), Fail> {
         (true, GROUP, LONG, Took::TooLong),
         (true, GROUP, SHORT, Took::Taken),
     ];
-    for (group, destination, tpdu, took) in table {
-        let said = device.take(rt.alloc(), &frame(group, destination, tpdu), 0)?;
-        assert!(rt; said == took, "{took:?}");
-    }
+    assert!(rt; takes_as_told(rt.alloc(), device, &table)?);
     device.cut();
-    assert!(rt; device.take(rt.alloc(), &to_device(LONG), 0)? == Took::Off);
+    assert!(rt; takes_as_told(rt.alloc(), device, &[(false, ADDRESS.raw, LONG, Took::Off)])?);
     Ok(())
 }
 
@@ -310,7 +346,7 @@ fn a_loaded_device_and_the_cut_of_an_unload(rt: HostRuntime) -> Result<(), Fail>
     let device = &mut small(rt.alloc())?;
     assert!(rt; is_loaded(rt.alloc(), device, b"\x04\x05\x06")?);
     assert!(rt; gives_torn(device, UNLOAD_APPLICATION, 1));
-    assert!(rt; answers(device.give(b"\x03\x00"), &[]));
+    assert!(rt; answers(device.give(b"\x03\x00"), NOTHING));
     device.on();
     assert!(rt; answers(device.give(b"\x03\x00"), &[b"\x03\x40\x07\xB0"]));
     assert!(rt; !device.runs());
@@ -325,32 +361,32 @@ const UNLOAD: &[u8] = b"\x43\xD7\x01\x05\x10\x01\x04\x00\x00\x00\x00\x00\x00\x00
 #[test]
 fn services_by_numbered_data(rt: HostRuntime) -> Result<(), Fail> {
     let device = &mut small(rt.alloc())?;
-    // a closed device answers numbered data by T_Disconnect
-    assert!(rt; takes(rt.alloc(), device, b"\x43\x00", &[b"\x81"])?);
-    assert!(rt; takes(rt.alloc(), device, b"\x80", &[])?);
-    assert!(rt;
-        takes(
-            rt.alloc(),
-            device,
-            b"\x43\x00",
-            &[b"\xC2", b"\x43\x40\x07\xB0"]
-        )?
-    );
-    // the same number again is acknowledged and dropped
-    assert!(rt; takes(rt.alloc(), device, b"\x43\x00", &[b"\xC2"])?);
-    // the next one is neither taken nor acknowledged before the answer's T_ACK
-    assert!(rt; takes(rt.alloc(), device, b"\x47\x00", &[])?);
-    assert!(rt; takes(rt.alloc(), device, b"\xC2", &[])?);
-    assert!(rt; takes(rt.alloc(), device, b"\x4B\x00", &[b"\xCB"])?);
+    let rows: [Row<'_>; 7] = [
+        // a closed device answers numbered data by T_Disconnect
+        (Deed::Take(b"\x43\x00"), &[b"\x81"]),
+        (Deed::Take(b"\x80"), NOTHING),
+        (Deed::Take(b"\x43\x00"), &[b"\xC2", b"\x43\x40\x07\xB0"]),
+        // the same number again is acknowledged and dropped
+        (Deed::Take(b"\x43\x00"), &[b"\xC2"]),
+        // the next one is neither taken nor acknowledged before the answer's T_ACK
+        (Deed::Take(b"\x47\x00"), NOTHING),
+        (Deed::Take(b"\xC2"), NOTHING),
+        (Deed::Take(b"\x4B\x00"), &[b"\xCB"]),
+    ];
+    let wrong = first_wrong(rt.alloc(), device, &rows)?;
+    assert!(rt; wrong.is_none(), "row {wrong:?}");
     device.shut(rt.alloc())?;
     assert!(rt; sends(device, &[b"\x81"]));
-    assert!(rt; takes(rt.alloc(), device, b"\x80", &[])?);
-    // of a write that power is cut in before its first octet, nothing stands
+    Ok(())
+}
+
+#[test]
+fn a_write_cut_before_its_first_octet(rt: HostRuntime) -> Result<(), Fail> {
+    let device = &mut small(rt.alloc())?;
+    assert!(rt; takes(rt.alloc(), device, b"\x80", NOTHING)?);
     assert!(rt; takes_torn(device, &to_device(UNLOAD), 0));
     device.on();
-    device.cut();
-    device.on();
-    assert!(rt; device.runs() && device.last().is_none());
+    assert!(rt; device.runs());
     Ok(())
 }
 
@@ -360,7 +396,7 @@ fn worn_memory_keeps_other_octets(rt: HostRuntime) -> Result<(), Fail> {
     let rows: [Row<'_>; 5] = [
         (Deed::Give(START), &[b"\x03\xD6\x01\x05\x10\x01\x02"]),
         (Deed::Give(SIXTEEN), &[b"\x03\xD6\x01\x05\x10\x01\x02"]),
-        (Deed::Take(b"\x80"), &[]),
+        (Deed::Take(b"\x80"), NOTHING),
         (Deed::TakeWorn(b"\x42\x82\x40\x00\x00\x5F"), &[b"\xC2"]),
         (
             Deed::Give(b"\x02\x02\x40\x00"),
