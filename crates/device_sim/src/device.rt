@@ -2,7 +2,8 @@
 
 ghost use Rattle.std.specs.Prelude.{◌≡◌, true, IfOk};
 ghost use Rattle.knx_model.specs.Device.{Fits, HasCapacities, NonVolatile, all_loaded, runs};
-ghost use Rattle.knx_model.specs.DeviceState.{IsDevice, blank, loaded_with, device_with, as_standard, at_rest, cut, switched_on};
+ghost use Rattle.knx_model.specs.declared.device.FrameSupport.TheVariants.{Standard};
+ghost use Rattle.knx_model.specs.DeviceState.{IsDevice, blank, loaded_with, device_with, framed, at_rest, cut, switched_on};
 ghost use Rattle.knx_model.specs.DeviceConnection.{device_deadline};
 
 use crate::kept::Kept;
@@ -85,7 +86,7 @@ impl Device {
 
     /// It takes standard frames alone.
     pub fn set_standard(&mut self)
-        ensures { self.new ≡ as_standard self.old }
+        ensures { self.new ≡ framed Standard self.old }
     {
         self.frames = FrameSupport::Standard;
     }

@@ -1,7 +1,8 @@
 -- The device on the line (ISO/IEC 14543-3-2, 3-1 and 3-4, transport and application layer, management): what it makes of each frame that
 -- comes over the bus. A frame that is taken may be taken whole, or a power cut tears the write that it asks for, or
 -- worn memory keeps other octets than were sent. That unnumbered data to one device is ignored is this project's own.
-use Rattle.std.specs.Prelude.{ℕ, ◌≡◌, ◌-◌, Bool, true, false, not, ◌&&◌, ◌==◌, is_some, List, [], ◌∷◌, ◌++◌, map, Option, Some, None, if◌then◌else◌}
+use Rattle.std.specs.Prelude.{ℕ, ◌≡◌, ◌<◌, ◌-◌, Bool, true, false, not, ◌&&◌, ◌==◌, is_some, List, [], ◌∷◌, ◌++◌, length, map, Option, Some, None, if◌then◌else◌}
+use Rattle.std.specs.List.{AllByRecursion}
 use Rattle.knx_model.specs.declared.address.IndAddr.{IndAddr}
 use Rattle.knx_model.specs.declared.config.Image.{Image}
 use Rattle.knx_model.specs.declared.connection.DeviceTook.{DeviceTook}
@@ -193,20 +194,33 @@ write_kind Nothing = None
 abbrev pub would_write : DeviceState → Ldata → Option WriteKind
 would_write d frame = if is_write d.kept (effect_of_frame d frame) then write_kind (effect_of_frame d frame) else None
 
+-- the octets of a memory write
+abbrev pub octets_sent : Effect → List ℕ
+octets_sent (Stores address octets) = octets
+octets_sent (Loads o event) = []
+octets_sent Nothing = []
+
+abbrev pub AreOctets : List ℕ → Type 0
+AreOctets octets = AllByRecursion (λ octet. octet < 256) octets
+
+-- worn memory keeps another octet, or the same one, for each that was sent
+pub record MayWear (d : DeviceState) (frame : Ldata) (octets : List ℕ) : Type 0 where
+  pub write : would_write d frame ≡ Some kind.Memory
+  pub each : length octets ≡ length (octets_sent (effect_of_frame d frame))
+  pub eight_bits : AreOctets octets
+
 -- how a frame may be taken: torn where it would be a write, and over worn memory where this would be a memory write
 abbrev pub MayTake : DeviceState → Ldata → Outcome → Type 0
 MayTake d frame Whole = Unit {0}
-MayTake d frame (Torn fresh octets) = is_some (would_write d frame) ≡ true
-MayTake d frame (Worn octets) = would_write d frame ≡ Some kind.Memory
+MayTake d frame (Torn fresh octets) = (is_some (would_write d frame) ≡ true) × AreOctets octets
+MayTake d frame (Worn octets) = MayWear d frame octets
 
 -- the octets of a memory write, each the complement of the one that was sent
 abbrev pub complements : List ℕ → List ℕ
 complements octets = map (λ octet. 255 - octet) octets
 
 abbrev pub worn_octets : Effect → List ℕ
-worn_octets (Stores address octets) = complements octets
-worn_octets (Loads o event) = []
-worn_octets Nothing = []
+worn_octets effect = complements (octets_sent effect)
 
 -- ---- on a bench, where services are given to the device by themselves
 

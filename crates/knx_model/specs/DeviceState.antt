@@ -81,9 +81,9 @@ loaded_with address image = device_with address (record {
   application = loaded_object (capacity Application) image.params;
 })
 
--- a device that takes standard frames alone
-abbrev pub as_standard : DeviceState → DeviceState
-as_standard d = record d { frames = Standard }
+-- a device that takes these frames
+abbrev pub framed : FrameSupport → DeviceState → DeviceState
+framed frames d = record d { frames = frames }
 
 -- ---- values
 

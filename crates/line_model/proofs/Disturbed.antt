@@ -76,7 +76,7 @@ telegram_told = (
 
 pub torn_legal : (kept : NonVolatile) → IsLegal Commissions (begin kept) torn
 unfolding datagram_in ldata_in gateway_took frame_in device_took device_after device_answered after_answer apdu_in tpdu_in service_in
-torn_legal kept = (record { tunnel = tt; devices = λ e. cc }, (record { tunnel = λ e. cc; devices = record { alone = refl; device = refl } }, legal_by (begin kept) unloads refl))
+torn_legal kept = (record { tunnel = tt; devices = λ e. cc }, (record { tunnel = λ e. cc; devices = record { alone = refl; device = (refl, tt) } }, legal_by (begin kept) unloads refl))
 
 pub torn_follows : (kept : NonVolatile) → Follows (Cut device 1 1 ∷ []) Commissions (begin kept) torn
 unfolding datagram_in ldata_in gateway_took frame_in device_took device_after device_answered after_answer apdu_in tpdu_in service_in
@@ -86,7 +86,7 @@ torn_follows kept = (inr refl, (refl, (record { next = record { next = refl; say
 
 pub worn_legal : IsLegal Commissions (begin filling) worn
 unfolding datagram_in ldata_in gateway_took frame_in device_took device_after device_answered after_answer apdu_in tpdu_in service_in
-worn_legal = (record { tunnel = λ e. cc; devices = record { alone = refl; device = refl } }, legal_by (begin filling) writes refl)
+worn_legal = (record { tunnel = λ e. cc; devices = record { alone = refl; device = record { write = refl; each = refl; eight_bits = (omega arith, (omega arith, tt)) } } }, legal_by (begin filling) writes refl)
 
 pub worn_follows : Follows (Worn device 1 ∷ []) Commissions (begin filling) worn
 unfolding datagram_in ldata_in gateway_took frame_in device_took device_after device_answered after_answer apdu_in tpdu_in service_in

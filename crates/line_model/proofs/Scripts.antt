@@ -1,7 +1,5 @@
 -- Each of the other lines of a script has its event, and a device begins as the script says.
-use Rattle.std.proofs.Common.{◌≡◌, ℕ, Bool, [], ◌∷◌, true, false, not, inl, inr, refl, ap, ◌∙◌}
-use Rattle.knx_model.specs.declared.address.IndAddr.{IndAddr}
-use Rattle.knx_model.specs.declared.device.FrameSupport.TheVariants.{Extended}
+use Rattle.std.proofs.Common.{◌≡◌, ℕ, [], ◌∷◌, true, false, not, inl, inr, refl, ap}
 use Rattle.knx_model.specs.declared.script.ScriptWhat.TheVariants.{LoseUp, RepeatDown, LoseFrom, CloseAfter, Refuse, DropChannel}
 use Rattle.knx_model.specs.ApduReading.{apdu_in, tpdu_in, service_in}
 use Rattle.knx_model.specs.Connection.{frame_in}
@@ -9,13 +7,12 @@ use Rattle.knx_model.specs.Device.{NonVolatile}
 use Rattle.knx_model.specs.DeviceConnection.{device_took, device_after, device_answered, after_answer}
 use Rattle.knx_model.specs.DeviceState.{DeviceState}
 use Rattle.knx_model.specs.Meaning.{Installation}
-use Rattle.knx_model.specs.Promises.{StartOf, BeginsLoaded, BeginsBlank}
 use Rattle.line_model.specs.Follows.{Follows}
 use Rattle.line_model.specs.Gateway.{gateway_took}
 use Rattle.line_model.specs.Lines.{Script, is_off, is_standard}
 use Rattle.line_model.specs.Reading.{datagram_in, ldata_in}
 use Rattle.line_model.specs.Runs.{device, begin, request_lost, try_refused, response_twice, confirmation_twice, channel_dropped, connection_closed, answer_lost}
-use Rattle.line_model.specs.StartOf.{BeginsAs, framed, frames_for}
+use Rattle.line_model.specs.StartOf.{BeginsAs, frames_for}
 use Rattle.line_model.specs.Tunnel.{Commissions}
 
 pub loses_up : (kept : NonVolatile) → Follows (LoseUp 1 ∷ []) Commissions (begin kept) request_lost
@@ -52,13 +49,5 @@ loses_from kept = ((refl, refl), (record { next = record { next = refl; says = r
 pub power_is : (old : Installation) (script : Script) (a : ℕ) (d : DeviceState) → BeginsAs old script a d → d.power ≡ not (is_off script a)
 power_is old script a d b = ap (λ (x : DeviceState). x.power) b.is
 
-frames_of_start : (old : Installation) (a : IndAddr) (d : DeviceState) → StartOf old a d → d.frames ≡ Extended
-frames_of_start old a d (BeginsLoaded has image stands is) = ap (λ (x : DeviceState). x.frames) is
-frames_of_start old a d (BeginsBlank lacks is) = ap (λ (x : DeviceState). x.frames) is
-
-frames_so : (standard : Bool) (d : DeviceState) → d.frames ≡ Extended → (framed standard d).frames ≡ frames_for standard
-frames_so true d e = refl
-frames_so false d e = e
-
 pub frames_are : (old : Installation) (script : Script) (a : ℕ) (d : DeviceState) → BeginsAs old script a d → d.frames ≡ frames_for (is_standard script a)
-frames_are old script a d b = ap (λ (x : DeviceState). x.frames) b.is ∙ frames_so (is_standard script a) b.loaded (frames_of_start old (record { raw = a }) b.loaded b.start)
+frames_are old script a d b = ap (λ (x : DeviceState). x.frames) b.is

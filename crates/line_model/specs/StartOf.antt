@@ -6,7 +6,7 @@ use Rattle.std.specs.Prelude.{◌≡◌, ℕ, ◌+◌, ◌*◌, ◌/◌, Bool, t
 use Rattle.knx_model.specs.declared.address.IndAddr.{IndAddr}
 use Rattle.knx_model.specs.declared.device.FrameSupport.{FrameSupport}
 use Rattle.knx_model.specs.declared.device.FrameSupport.TheVariants.{Standard, Extended}
-use Rattle.knx_model.specs.DeviceState.{DeviceState, as_standard}
+use Rattle.knx_model.specs.DeviceState.{DeviceState, framed}
 use Rattle.knx_model.specs.Meaning.{Installation}
 use Rattle.knx_model.specs.Promises.{StartOf}
 use Rattle.knx_model.specs.Rules.{has_device, devices_of}
@@ -44,15 +44,11 @@ abbrev pub frames_for : Bool → FrameSupport
 frames_for true = Standard
 frames_for false = Extended
 
-abbrev pub framed : Bool → DeviceState → DeviceState
-framed true d = as_standard d
-framed false d = d
-
 -- loaded or blank
 pub record BeginsAs (old : Installation) (script : Script) (device : ℕ) (d : DeviceState) : Type 0 where
   pub loaded : DeviceState
   pub start : StartOf old (record { raw = device }) loaded
-  pub is : d ≡ powered (not (is_off script device)) (framed (is_standard script device) loaded)
+  pub is : d ≡ powered (not (is_off script device)) (framed (frames_for (is_standard script device)) loaded)
 
 abbrev pub DeviceBegins : Installation → Script → ℕ → Bool → Option DeviceState → Type 0
 DeviceBegins old script device true (Some d) = BeginsAs old script device d
