@@ -12,3 +12,4 @@ mod Begins
 mod Networks
 mod Channels
 pub mod Projection
+pub mod Turns

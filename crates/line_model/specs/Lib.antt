@@ -27,6 +27,7 @@ pub mod Sendings
 pub mod Attempts
 pub mod Asks
 pub mod Closing
+pub mod Waiting
 -- 6. The outside: what a link, a port and a dialer tell
 pub mod LinkStory
 pub mod Polled

@@ -56,9 +56,13 @@ ack number = Send (Written (TunnellingAck 1 number 0))
 abbrev pub up : List Event
 up = Down 0 ∷ Up 0 ∷ Send (Written ConnectRequest) ∷ Renew ∷ []
 
--- the T_Connect is confirmed
+-- the T_Connect is sent
+abbrev pub connecting : List Event
+connecting = request 1 0 (0x80 ∷ []) ∷ up
+
+-- and confirmed
 abbrev pub connected : List Event
-connected = Up 0 ∷ ack 0 ∷ Down 0 ∷ Down 1 ∷ Bus [] ∷ Up 0 ∷ request 1 0 (0x80 ∷ []) ∷ up
+connected = Up 0 ∷ ack 0 ∷ Down 0 ∷ Down 1 ∷ Bus [] ∷ Up 0 ∷ connecting
 
 -- the descriptor is asked for; the T_ACK and the answer are on their way
 abbrev pub asked : List Event
@@ -79,8 +83,11 @@ reading = Asks (3 ∷ 0 ∷ []) (Is (0x03 ∷ 0x40 ∷ 0x07 ∷ 0xB0 ∷ [])) (�
 abbrev pub job : Job
 job = record { device = device; image = record { addr = []; assoc = []; objs = []; params = [] }; plan = reading; kind = Check }
 
+abbrev pub told_taken : List LogEntry
+told_taken = record { at = 4; worker = 1; what = Took 1 } ∷ []
+
 abbrev pub told_done : List LogEntry
-told_done = record { at = 33; worker = 1; what = Done 1 } ∷ record { at = 4; worker = 1; what = Took 1 } ∷ []
+told_done = record { at = 33; worker = 1; what = Done 1 } ∷ told_taken
 
 -- a job that wants the descriptor of another mask, and what is told then
 abbrev pub other_mask : List ℕ
@@ -90,7 +97,7 @@ abbrev pub other_job : Job
 other_job = record job { plan = Asks (3 ∷ 0 ∷ []) (Is other_mask) (λ answer. Over) }
 
 abbrev pub told_refused : List LogEntry
-told_refused = record { at = 33; worker = 1; what = Refused 1 0 (0x03 ∷ 0x40 ∷ 0x07 ∷ 0xB0 ∷ []) other_mask } ∷ record { at = 4; worker = 1; what = Took 1 } ∷ []
+told_refused = record { at = 33; worker = 1; what = Refused 1 0 (0x03 ∷ 0x40 ∷ 0x07 ∷ 0xB0 ∷ []) other_mask } ∷ told_taken
 
 -- ---- a load: the last operation of one, for a device to which all else is loaded
 
@@ -131,7 +138,7 @@ abbrev pub unheard : List Event
 unheard = missed 2 (missed 1 (missed 0 up))
 
 abbrev pub told_failed : List LogEntry
-told_failed = record { at = 25; worker = 1; what = Failed 1 (NoCon ∷ NoCon ∷ NoCon ∷ []) } ∷ record { at = 4; worker = 1; what = Took 1 } ∷ []
+told_failed = record { at = 25; worker = 1; what = Failed 1 (NoCon ∷ NoCon ∷ NoCon ∷ []) } ∷ told_taken
 
 -- ---- a group telegram, put once and confirmed, where there is no device
 

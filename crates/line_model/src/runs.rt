@@ -1,6 +1,6 @@
 //! Laws that show what the definitions allow: runs of the line, each a function without a body whose contract says what holds of the run.
 
-ghost use Rattle.std.specs.Prelude.{◌≡◌, List, [], ◌∷◌};
+ghost use Rattle.std.specs.Prelude.{◌≡◌, List, [], ◌∷◌, None};
 ghost use Rattle.knx_model.specs.Device.{NonVolatile};
 ghost use Rattle.knx_model.specs.declared.script.ScriptWhat.TheVariants.{LoseUp, LoseDown, LoseTo, LoseFrom, RepeatUp, RepeatDown, RepeatTo, Cut, Worn, CloseAfter, Refuse, DropChannel};
 ghost use Rattle.knx_model.specs.Cemi.{Written as cemi_octets};
@@ -15,10 +15,11 @@ ghost use Rattle.line_model.specs.Moments.{moments, between};
 ghost use Rattle.line_model.specs.OldStoppedOrNew.{RunsWhereDone};
 ghost use Rattle.line_model.specs.Record.{Entry, placed, entries, record_of};
 ghost use Rattle.line_model.specs.Renews.{RenewsRightly};
-ghost use Rattle.line_model.specs.Runs.{device, begin, whole, job, other_job, reading, nearly, load, loads, told_done, told_refused, unheard, told_failed, nobody, turn, telegram_sent, told_sent, torn, filling, worn, response_lost, comes_twice, second, quiet_until, to_device, request_lost, try_refused, response_twice, confirmation_twice, channel_dropped, connection_closed, answer_lost, quiet_minute, beat_answered};
+ghost use Rattle.line_model.specs.Runs.{device, begin, connecting, connected, whole, job, other_job, reading, nearly, load, loads, told_taken, told_done, told_refused, unheard, told_failed, nobody, turn, telegram_sent, told_sent, torn, filling, worn, response_lost, comes_twice, second, quiet_until, to_device, request_lost, try_refused, response_twice, confirmation_twice, channel_dropped, connection_closed, answer_lost, quiet_minute, beat_answered};
 ghost use Rattle.line_model.specs.Sendings.{SendsRightly};
 ghost use Rattle.line_model.specs.Told.{ToldTruly};
 ghost use Rattle.line_model.specs.Tunnel.{Commissions};
+ghost use Rattle.line_model.specs.Waiting.{TurnWaits, PollsSo};
 ghost use Rattle.line_model.specs.World.{Up, replay};
 
 /// A line with one device, whatever that keeps, is a fresh start, and settled.
@@ -34,6 +35,13 @@ pub fn a_session_reads_the_descriptor()
     ensures follows { (kept : NonVolatile) → Follows [] Commissions (begin kept) whole }
     ensures disciplined { (kept : NonVolatile) → IsDisciplined (job ∷ []) [] 33 (placed (begin kept) whole) told_done }
     ensures refused { (kept : NonVolatile) → ToldTruly (other_job ∷ []) [] (placed (begin kept) whole) told_refused }
+{}
+
+/// A worker whose T_Connect has no confirmation waits, and a poll lasts 100 ms; once that is confirmed, it has an operation to send, and waits no more.
+pub fn a_worker_waits_for_its_confirmation()
+    ensures waits { (kept : NonVolatile) → TurnWaits (job ∷ []) [] told_taken (placed (begin kept) connecting) 5 0 1 0 }
+    ensures polls { (kept : NonVolatile) → PollsSo (job ∷ []) [] told_taken (placed (begin kept) connecting) 5 0 None (λ k. 0) 100 }
+    ensures goes_on { (kept : NonVolatile) → ¬ TurnWaits (job ∷ []) [] told_taken (placed (begin kept) connected) 11 0 1 0 }
 {}
 
 /// The last operation of a load, for a device to which all else is loaded: legal, undisturbed and disciplined; it is told done, and the device
