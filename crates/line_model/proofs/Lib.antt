@@ -13,3 +13,4 @@ mod Networks
 mod Channels
 pub mod Projection
 pub mod Turns
+pub mod Prints

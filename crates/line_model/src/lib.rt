@@ -19,7 +19,7 @@ pub use log::{LogEntry, LogWhat, Report};
 pub use outside::{DialFailed, Dialer, Gate, Link, LinkFault, Polled, Port, PortFault, PortPolled};
 pub use runs::{
     a_channel_dies, a_channel_follows_another, a_job_fails_by_three_signs, a_line_begins,
-    a_load_ends_done, a_minute_passes, a_session_reads_the_descriptor, a_telegram_is_sent,
-    a_worker_waits_for_its_confirmation, datagrams_are_lost_and_repeated,
+    a_load_ends_done, a_minute_passes, a_report_is_printed, a_session_reads_the_descriptor,
+    a_telegram_is_sent, a_worker_waits_for_its_confirmation, datagrams_are_lost_and_repeated,
     the_other_lines_have_their_events, writes_are_torn_and_worn,
 };
