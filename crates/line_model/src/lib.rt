@@ -2,13 +2,16 @@
 #![tactic(auto)]
 
 mod fault;
+mod gateway_end;
 mod group;
 mod laws;
 mod log;
 mod outside;
+mod put_refused;
 mod runs;
 
 pub use fault::{HubFault, Try};
+pub use gateway_end::{GatewayExpired, GatewayTook};
 pub use group::{GroupTurn, Indication};
 pub use laws::{
     channel_numbers_come_again, datagrams_arrive, devices_begin_as_the_script_says,
@@ -16,6 +19,7 @@ pub use laws::{
 };
 pub use log::{LogEntry, LogWhat, Report};
 pub use outside::{DialFailed, Dialer, Gate, Link, LinkFault, Polled, Port, PortFault, PortPolled};
+pub use put_refused::PutRefused;
 pub use runs::{
     a_channel_dies, a_channel_follows_another, a_job_fails_by_three_signs, a_line_begins,
     a_load_ends_done, a_minute_passes, a_session_reads_the_descriptor, a_telegram_is_sent,

@@ -1,0 +1,1 @@
+//! The gateway's end, state by frame and state by time.
