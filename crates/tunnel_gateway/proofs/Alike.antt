@@ -91,8 +91,8 @@ took_alike g h from now (StateResponse channel status) same = drops_alike g h sa
 took_alike g h from now (DisconnectRequest n) same =
     subst (λ (x : Option Channel). Same (took g from now (DisconnectRequest n)) (if names from n x then answers (DisconnectResponse n 0) (closed_if_open h x) else answers (DisconnectResponse n 0x21) h)) (channel_same g h same)
     (same_if (names from n g.channel) _ _ _ _
-        (answers_alike (DisconnectResponse n 0) (closed_if_open g g.channel) (closed_if_open h g.channel) (closes_alike g.channel g h same))
-        (answers_alike (DisconnectResponse n 0x21) g h same))
+    (answers_alike (DisconnectResponse n 0) (closed_if_open g g.channel) (closed_if_open h g.channel) (closes_alike g.channel g h same))
+    (answers_alike (DisconnectResponse n 0x21) g h same))
 took_alike g h from now (DisconnectResponse channel status) same = drops_alike g h same
 took_alike g h from now (TunnellingRequest n number frame) same =
     subst (λ (x : Option Channel). Same (took g from now (TunnellingRequest n number frame)) (if names from n x then request_took h x number frame else drops h)) (channel_same g h same)
@@ -100,8 +100,8 @@ took_alike g h from now (TunnellingRequest n number frame) same =
 took_alike g h from now (TunnellingAck n number status) same =
     subst (λ (x : Option Channel). Same (took g from now (TunnellingAck n number status)) (if names from n x then drops (acknowledged h x number status) else drops h)) (channel_same g h same)
     (same_if (names from n g.channel) _ _ _ _
-        (drops_alike (acknowledged g g.channel number status) (acknowledged h g.channel number status) (acknowledged_alike g.channel number status g h same))
-        (drops_alike g h same))
+    (drops_alike (acknowledged g g.channel number status) (acknowledged h g.channel number status) (acknowledged_alike g.channel number status g h same))
+    (drops_alike g h same))
 
 hears_alike : (g h : Gateway) (from now : ℕ) → end_of g ≡ end_of h → end_of (record g { channel = hears g.channel from now }) ≡ end_of (record h { channel = hears h.channel from now })
 hears_alike g h from now same = ap (λ (e : GatewayEnd). record e { channel = hears e.channel from now }) same

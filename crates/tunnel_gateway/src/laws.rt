@@ -23,6 +23,7 @@ pub fn gateways_of_one_end_answer_alike()
 {}
 
 /// The gateway acts exactly on a request of the open channel's endpoint with the channel's number and the expected one, and acknowledges it.
+#[tactic(auto, unfolding(line_model::specs::Gateway::gateway_took))]
 pub fn acts_on_the_expected_number()
     ensures only { (g : Gateway) (from now : ℕ) (frame : Frame) (cemi : List ℕ) → (gateway_took g from now frame).acted ≡ Some cemi
         → (c : Channel) × (g.channel ≡ Some c) × (c.endpoint ≡ from) × (frame ≡ TunnellingRequest c.number c.expected cemi) }
@@ -33,6 +34,7 @@ pub fn acts_on_the_expected_number()
 
 /// The number before the expected one is acknowledged too. A request with another number, of another channel or of another endpoint isn't
 /// answered.
+#[tactic(auto, unfolding(line_model::specs::Gateway::gateway_took))]
 pub fn acknowledges_the_number_before()
     ensures before { (g : Gateway) (c : Channel) (number now : ℕ) (cemi : List ℕ) → number < 256 → g.channel ≡ Some c → next_number number ≡ c.expected
         → (gateway_took g c.endpoint now (TunnellingRequest c.number number cemi)).send ≡ Some (TunnellingAck c.number number 0) }
@@ -43,6 +45,7 @@ pub fn acknowledges_the_number_before()
 {}
 
 /// A request that comes once more is acknowledged once more and not acted on.
+#[tactic(auto, unfolding(line_model::specs::Gateway::gateway_took))]
 pub fn acts_once()
     ensures sends { (g : Gateway) (c : Channel) (now later : ℕ) (cemi : List ℕ) → c.expected < 256 → g.channel ≡ Some c
         → (gateway_took (gateway_took g c.endpoint now (TunnellingRequest c.number c.expected cemi)).after c.endpoint later (TunnellingRequest c.number c.expected cemi)).send
@@ -53,6 +56,7 @@ pub fn acts_once()
 
 /// A connect request of the open channel's endpoint is answered with that channel, and changes nothing but when its client was heard. Any
 /// other opens the next channel, with both counters 0.
+#[tactic(auto, unfolding(line_model::specs::Gateway::gateway_took))]
 pub fn keeps_the_channel_of_its_client()
     ensures answer { (g : Gateway) (c : Channel) (now : ℕ) → g.channel ≡ Some c → (gateway_took g c.endpoint now ConnectRequest).send ≡ Some (ConnectResponse c.number 0 (Some g.tunnel)) }
     ensures next { (g : Gateway) (c : Channel) (now : ℕ) → g.channel ≡ Some c → (gateway_took g c.endpoint now ConnectRequest).after ≡ record g { channel = Some (record c { heard = now }) } }
@@ -61,11 +65,13 @@ pub fn keeps_the_channel_of_its_client()
 
 /// A disconnect request of no open channel is answered with status 21 (hexadecimal), and changes nothing of the channel but when its client
 /// was heard.
+#[tactic(auto, unfolding(line_model::specs::Gateway::gateway_took))]
 pub fn tells_that_there_is_no_such_channel()
     ensures { (g : Gateway) (from channel now : ℕ) → names from channel g.channel ≡ false → (gateway_took g from now (DisconnectRequest channel)).send ≡ Some (DisconnectResponse channel 0x21) }
 {}
 
 /// Channels have the numbers 1 to 255, one after another, and then 1 again.
+#[tactic(auto, unfolding(line_model::specs::Gateway::gateway_took))]
 pub fn channels_have_numbers_from_1_to_255()
     ensures first { (tunnel : Address) → IsEnd (end_of (at_rest tunnel)) }
     ensures stay { (g : Gateway) (from now : ℕ) (frame : Frame) → IsEnd (end_of g) → IsEnd (end_of (gateway_took g from now frame).after) }
@@ -83,6 +89,7 @@ pub fn deadline_is_nearest()
 {}
 
 /// What becomes due is an event of the tunnel: the gateway sends its request again, or closes its channel.
+#[tactic(auto, unfolding(line_model::specs::Gateway::gateway_expired))]
 pub fn what_is_due_happens_in_the_tunnel()
     ensures repeats { (t : Tunnel) (c : Channel) (frame : Frame) → t.gateway.channel ≡ Some c → gateway_expired t.gateway t.now ≡ Repeat frame
         → after t RepeatEvent ≡ sends_down (with_gateway t (after_due t.gateway t.now (Repeat frame))) c.endpoint frame }
