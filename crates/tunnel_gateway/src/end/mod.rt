@@ -16,19 +16,17 @@
 //! answered as before; one of another endpoint closes the channel and opens the next, with both counters 0. The channels are numbered 1 to
 //! 255, and then from 1 again.
 
-ghost use Rattle.std.specs.Prelude.{◌≡◌, ◌≤◌, ◌+◌, ◌%◌, ◌∷◌, ℕ, List, length, Option, Some, None, Ok, Err, if◌then◌else◌};
+ghost use Rattle.std.specs.Prelude.{◌≡◌, ◌≤◌, ◌↔◌, List, length, None, Ok, Err, OnErr};
 ghost use Rattle.knx_model.specs.declared.frames.cemi.Ldata.{Ldata};
-ghost use Rattle.knx_model.specs.declared.frames.ip.IpFrame.TheVariants.{ConnectRequest, StateRequest, DisconnectRequest, TunnellingRequest, TunnellingAck};
 ghost use Rattle.knx_model.specs.Cemi.{Written as cemi_octets};
 ghost use Rattle.knx_model.specs.KnxNetIp.{Written};
-ghost use Rattle.line_model.specs.Gateway.{Gateway, Channel as Known, at_rest, hears, names, connects, took, gateway_took, gateway_expired, next_put, put_after, request_of, closed};
-ghost use Rattle.line_model.specs.GatewayEnd.{IsChannelNumber, IsEnd, TookAs, end_of, repeated_if_open, gateway_of, told, end_took, channel_put, after_put, told_due, after_due, channel_deadline, endpoint_of, farewell};
+ghost use Rattle.line_model.specs.Gateway.{Gateway, Channel as Known, at_rest, gateway_took, gateway_expired, next_put, put_after, request_of, closed};
+ghost use Rattle.line_model.specs.GatewayEnd.{IsEnd, TookAs, end_of, repeated_if_open, gateway_of, told, end_took, channel_put, after_put, told_due, after_due, channel_deadline, endpoint_of, farewell};
 ghost use Rattle.line_model.specs.Tunnel.{HasOutstanding};
 
-use crate::answers::{
-    CONNECTION_ID, NO_ERROR, answered, connect_response, disconnect_request, disconnect_response,
-    dropped, state_response,
-};
+mod frames;
+
+use crate::answers::disconnect_request;
 use crate::channel::Channel;
 use knx_model::{Datagram, IndAddr, IpFrame};
 use line_model::{GatewayExpired, GatewayTook, PutRefused};
@@ -78,10 +76,8 @@ impl GatewayEnd {
     pub fn endpoint(&self) -> Option<u32>
         ensures { result ≡ endpoint_of self.now.channel }
     {
-        match &self.channel {
-            Some(channel) => Some(channel.endpoint()),
-            None => None,
-        }
+        let channel = self.channel.as_ref()?;
+        Some(channel.endpoint())
     }
 
     /// Takes a frame of an endpoint. It isn't looked at whether a wait has passed.
@@ -101,7 +97,10 @@ impl GatewayEnd {
         requires least { 1 ≤ length cemi.now }
         requires most { length cemi.now ≤ 290 }
         ensures answer { result ≡ channel_put self.old.channel cemi.now }
+        ensures busy { (result ≡ Err PutRefused.Busy) ↔ HasOutstanding self.old.channel }
+        ensures not_up { (result ≡ Err PutRefused.NotUp) ↔ (self.old.channel ≡ None) }
         ensures next { self.new ≡ record self.old { channel = after_put self.old.channel cemi.now now } }
+        ensures refused { OnErr result (self.new ≡ self.old) }
         ensures simulates { (g : Gateway) (c : Known) (frame : Ldata) (frames rest : List Ldata) → end_of g ≡ self.old → next_put g.channel frames ≡ Some (c, frame) → cemi.now ≡ cemi_octets frame
             → (result ≡ Ok (Written (request_of c (cemi_octets frame)))) × (self.new ≡ end_of (put_after g c frame rest now)) }
     {
@@ -130,7 +129,7 @@ impl GatewayEnd {
 
     /// What `expire` would answer at this time; nothing changes.
     #[tactic(auto, unfolding(line_model::specs::Gateway::gateway_expired))]
-    pub fn would_expire(&self, now: u64) -> GatewayExpired
+    fn would_expire(&self, now: u64) -> GatewayExpired
         ensures { result ≡ told_due (gateway_expired (gateway_of self.now) now) }
     {
         match &self.channel {
@@ -145,128 +144,16 @@ impl GatewayEnd {
         ensures next { self.new ≡ record self.old { channel = None } }
         ensures simulates { (g : Gateway) → end_of g ≡ self.old → (result ≡ farewell g.channel) × (self.new ≡ end_of (closed g)) }
     {
-        match self.channel.take() {
-            Some(channel) => Some(disconnect_request(channel.number())),
-            None => None,
-        }
+        let channel = self.channel.take()?;
+        Some(disconnect_request(channel.number()))
     }
 
     /// The nearest time at which one of its waits has passed; None exactly where there is no channel, since none runs then.
     pub fn deadline(&self) -> Option<u64>
         ensures { result ≡ channel_deadline self.now.channel }
     {
-        match &self.channel {
-            Some(channel) => Some(channel.deadline()),
-            None => None,
-        }
-    }
-
-    // ---- frames
-
-    /// A datagram of an endpoint came.
-    fn hear(&mut self, from: u32, now: u64)
-        ensures channel { self.new ≡ record self.old { channel = hears self.old.channel from now } }
-        ensures next { IsChannelNumber self.new.next }
-    {
-        match &mut self.channel {
-            Some(channel) => channel.hear(from, now),
-            None => {}
-        }
-    }
-
-    /// What a frame does, once its datagram was heard.
-    fn act(&mut self, from: u32, frame: &IpFrame, now: u64) -> GatewayTook
-        requires { IsChannelNumber self.old.next }
-        ensures { TookAs (took (gateway_of self.old) from now frame.now) result self.new }
-    {
-        match frame {
-            IpFrame::ConnectRequest => self.connect(from, now),
-            IpFrame::StateRequest { channel } => self.state_request(from, *channel),
-            IpFrame::DisconnectRequest { channel } => self.disconnect(from, *channel),
-            IpFrame::TunnellingRequest {
-                channel,
-                number,
-                cemi,
-            } => self.request(from, *channel, *number, cemi),
-            IpFrame::TunnellingAck {
-                channel,
-                number,
-                status,
-            } => self.ack(from, *channel, *number, *status),
-            IpFrame::ConnectResponse { .. }
-            | IpFrame::StateResponse { .. }
-            | IpFrame::DisconnectResponse { .. } => dropped(),
-        }
-    }
-
-    fn connect(&mut self, from: u32, now: u64) -> GatewayTook
-        ensures { TookAs (connects (gateway_of self.old) from now self.old.channel) result self.new }
-    {
-        match &self.channel {
-            Some(channel) if channel.endpoint() == from => {
-                answered(connect_response(channel.number(), self.tunnel))
-            }
-            _ => self.open(from, now),
-        }
-    }
-
-    /// Opens the next channel, whatever was open.
-    fn open(&mut self, from: u32, now: u64) -> GatewayTook
-        ensures { TookAs (connects (gateway_of self.old) from now None) result self.new }
-    {
-        let number = self.next;
-        self.next = next_channel(number);
-        self.channel = Some(Channel::new(from, number, now));
-        answered(connect_response(number, self.tunnel))
-    }
-
-    fn state_request(&self, from: u32, number: u8) -> GatewayTook
-        ensures { (now : ℕ) → TookAs (took (gateway_of self.now) from now (StateRequest number)) result self.now }
-    {
-        match &self.channel {
-            Some(channel) if channel.is(from, number) => answered(state_response(number)),
-            _ => dropped(),
-        }
-    }
-
-    fn disconnect(&mut self, from: u32, number: u8) -> GatewayTook
-        ensures { (now : ℕ) → TookAs (took (gateway_of self.old) from now (DisconnectRequest number)) result self.new }
-    {
-        if self.has(from, number) {
-            self.channel = None;
-            answered(disconnect_response(number, NO_ERROR))
-        } else {
-            answered(disconnect_response(number, CONNECTION_ID))
-        }
-    }
-
-    fn request(&mut self, from: u32, channel: u8, number: u8, cemi: &Datagram) -> GatewayTook
-        ensures { (now : ℕ) → TookAs (took (gateway_of self.old) from now (TunnellingRequest channel number cemi.now)) result self.new }
-    {
-        match &mut self.channel {
-            Some(open) if open.is(from, channel) => open.take_request(number, cemi),
-            _ => dropped(),
-        }
-    }
-
-    fn ack(&mut self, from: u32, channel: u8, number: u8, status: u8) -> GatewayTook
-        ensures { (now : ℕ) → TookAs (took (gateway_of self.old) from now (TunnellingAck channel number status)) result self.new }
-    {
-        match &mut self.channel {
-            Some(open) if open.is(from, channel) => open.take_ack(number, status),
-            _ => {}
-        }
-        dropped()
-    }
-
-    /// Whether the open channel is this endpoint's and has this number.
-    fn has(&self, from: u32, number: u8) -> bool
-        ensures { result ≡ names from number self.now.channel }
-    {
-        match &self.channel {
-            Some(channel) => channel.is(from, number),
-            None => false,
-        }
+        let channel = self.channel.as_ref()?;
+        Some(channel.deadline())
     }
 
     /// The outstanding request, if any, is sent again.
@@ -278,13 +165,4 @@ impl GatewayEnd {
             None => {}
         }
     }
-}
-
-/// The number of the channel after one: 1 to 255, and then 1 again.
-fn next_channel(number: u8) -> u8
-    requires { IsChannelNumber number }
-    ensures value { result ≡ 1 + number % 255 }
-    ensures range { IsChannelNumber result }
-{
-    if number == u8::MAX { 1 } else { number + 1 }
 }
