@@ -8,7 +8,7 @@ ghost use Rattle.knx_model.specs.Connection.{last_time};
 ghost use Rattle.knx_model.specs.ConnectionLaws.{Reached};
 ghost use Rattle.line_model.specs.Gateway.{Gateway, Channel, Request, Nothing, Repeat, Closing, at_rest, number_of, next_number, is_of, names, new_channel, gateway_took, gateway_expired, channel_expired};
 ghost use Rattle.line_model.specs.GatewayEnd.{GatewayEnd, IsEnd, end_of, gateway_of, told, after_due, channel_deadline};
-ghost use Rattle.line_model.specs.Tunnel.{Tunnel, Repeat as RepeatEvent, Close as CloseEvent, after, repeated, sends_down, with_gateway};
+ghost use Rattle.line_model.specs.Tunnel.{Tunnel, Mode, MayHappen, Repeat as RepeatEvent, Close as CloseEvent, after, repeated, sends_down, with_gateway};
 
 /// Every end is that of a gateway.
 pub fn every_end_is_a_gateways()
@@ -55,11 +55,12 @@ pub fn acts_once()
 {}
 
 /// A connect request of the open channel's endpoint is answered with that channel, and changes nothing but when its client was heard. Any
-/// other opens the next channel, with both counters 0.
+/// other is answered with the next channel and opens it, with both counters 0.
 #[tactic(auto, unfolding(line_model::specs::Gateway::gateway_took))]
 pub fn keeps_the_channel_of_its_client()
     ensures answer { (g : Gateway) (c : Channel) (now : ℕ) → g.channel ≡ Some c → (gateway_took g c.endpoint now ConnectRequest).send ≡ Some (ConnectResponse c.number 0 (Some g.tunnel)) }
     ensures next { (g : Gateway) (c : Channel) (now : ℕ) → g.channel ≡ Some c → (gateway_took g c.endpoint now ConnectRequest).after ≡ record g { channel = Some (record c { heard = now }) } }
+    ensures another_answer { (g : Gateway) (from now : ℕ) → is_of from g.channel ≡ false → (gateway_took g from now ConnectRequest).send ≡ Some (ConnectResponse (number_of (length g.makers)) 0 (Some g.tunnel)) }
     ensures another { (g : Gateway) (from now : ℕ) → is_of from g.channel ≡ false → (gateway_took g from now ConnectRequest).after.channel ≡ Some (new_channel from (number_of (length g.makers)) now) }
 {}
 
@@ -88,9 +89,11 @@ pub fn deadline_is_nearest()
     ensures { (channel : Option Channel) (now : ℕ) → now < last_time → Reached (channel_deadline channel) now ↔ (channel_expired channel now ≢ Nothing) }
 {}
 
-/// What becomes due is an event of the tunnel: the gateway sends its request again, or closes its channel.
+/// What becomes due is an event of the tunnel that may happen then: the gateway sends its request again, or closes its channel.
 #[tactic(auto, unfolding(line_model::specs::Gateway::gateway_expired))]
 pub fn what_is_due_happens_in_the_tunnel()
+    ensures may_repeat { (mode : Mode) (t : Tunnel) (frame : Frame) → gateway_expired t.gateway t.now ≡ Repeat frame → MayHappen mode t RepeatEvent }
+    ensures may_close { (mode : Mode) (t : Tunnel) (frame : Frame) → gateway_expired t.gateway t.now ≡ Closing frame → MayHappen mode t CloseEvent }
     ensures repeats { (t : Tunnel) (c : Channel) (frame : Frame) → t.gateway.channel ≡ Some c → gateway_expired t.gateway t.now ≡ Repeat frame
         → after t RepeatEvent ≡ sends_down (with_gateway t (after_due t.gateway t.now (Repeat frame))) c.endpoint frame }
     ensures closes { (t : Tunnel) (c : Channel) (frame : Frame) → t.gateway.channel ≡ Some c → gateway_expired t.gateway t.now ≡ Closing frame

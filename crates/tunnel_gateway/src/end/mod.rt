@@ -81,7 +81,6 @@ impl GatewayEnd {
     }
 
     /// Takes a frame of an endpoint. It isn't looked at whether a wait has passed.
-    #[tactic(auto, unfolding(line_model::specs::Gateway::gateway_took))]
     pub fn take(&mut self, from: u32, frame: &IpFrame, now: u64) -> GatewayTook
         ensures answer { result ≡ told (end_took self.old from now frame.now) }
         ensures next { self.new ≡ end_of (end_took self.old from now frame.now).after }
