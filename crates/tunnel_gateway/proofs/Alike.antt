@@ -4,7 +4,7 @@ use Rattle.std.proofs.lemmas.Grind.{common_steps}
 use Rattle.knx_model.specs.declared.frames.ip.IpFrame.{IpFrame}
 use Rattle.knx_model.specs.declared.frames.ip.IpFrame.TheVariants.{ConnectRequest, ConnectResponse, StateRequest, StateResponse, DisconnectRequest, DisconnectResponse, TunnellingRequest, TunnellingAck}
 use Rattle.line_model.specs.declared.gateway_end.GatewayTook.{GatewayTook as Took}
-use Rattle.line_model.specs.Gateway.{Gateway, GatewayTook, Channel, number_of, next_number, took, hears, gateway_took, request_took, acts_on, acknowledged, settles, connects, names, drops, answers, makes, closed_if_open}
+use Rattle.line_model.specs.Gateway.{Gateway, GatewayTook, Channel, number_of, next_number, took, hears, gateway_took, request_took, acknowledged, settles, connects, names, drops, answers, makes, closed_if_open}
 use Rattle.line_model.specs.GatewayEnd.{GatewayEnd, IsChannelNumber, TookAs, end_of, end_took, gateway_of, told}
 
 -- what two gateways answer is the same, and they have the same end afterwards
