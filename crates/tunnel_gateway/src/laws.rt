@@ -6,7 +6,7 @@ ghost use Rattle.knx_model.specs.declared.frames.ip.IpFrame.{IpFrame as Frame};
 ghost use Rattle.knx_model.specs.declared.frames.ip.IpFrame.TheVariants.{ConnectRequest, ConnectResponse, DisconnectRequest, DisconnectResponse, TunnellingRequest, TunnellingAck};
 ghost use Rattle.knx_model.specs.Connection.{last_time};
 ghost use Rattle.knx_model.specs.ConnectionLaws.{Reached};
-ghost use Rattle.line_model.specs.Gateway.{Gateway, Channel, Request, Nothing, Repeat, Closing, at_rest, number_of, next_number, is_of, names, new_channel, gateway_took, gateway_expired, channel_expired};
+ghost use Rattle.line_model.specs.Gateway.{Gateway, Channel, Request, Nothing, Repeat, Closing, at_rest, number_of, next_number, is_of, names, hears, new_channel, gateway_took, gateway_expired, channel_expired};
 ghost use Rattle.line_model.specs.GatewayEnd.{GatewayEnd, IsEnd, end_of, gateway_of, told, after_due, channel_deadline};
 ghost use Rattle.line_model.specs.Tunnel.{Tunnel, Mode, MayHappen, Repeat as RepeatEvent, Close as CloseEvent, after, repeated, sends_down, with_gateway};
 
@@ -64,11 +64,11 @@ pub fn keeps_the_channel_of_its_client()
     ensures another { (g : Gateway) (from now : ℕ) → is_of from g.channel ≡ false → (gateway_took g from now ConnectRequest).after.channel ≡ Some (new_channel from (number_of (length g.makers)) now) }
 {}
 
-/// A disconnect request of no open channel is answered with status 21 (hexadecimal), and changes nothing of the channel but when its client
-/// was heard.
+/// A disconnect request of no open channel is answered with status 21 (hexadecimal), and changes nothing but when the client was heard.
 #[tactic(auto, unfolding(line_model::specs::Gateway::gateway_took))]
 pub fn tells_that_there_is_no_such_channel()
-    ensures { (g : Gateway) (from channel now : ℕ) → names from channel g.channel ≡ false → (gateway_took g from now (DisconnectRequest channel)).send ≡ Some (DisconnectResponse channel 0x21) }
+    ensures answer { (g : Gateway) (from channel now : ℕ) → names from channel g.channel ≡ false → (gateway_took g from now (DisconnectRequest channel)).send ≡ Some (DisconnectResponse channel 0x21) }
+    ensures next { (g : Gateway) (from channel now : ℕ) → names from channel g.channel ≡ false → (gateway_took g from now (DisconnectRequest channel)).after ≡ record g { channel = hears g.channel from now } }
 {}
 
 /// Channels have the numbers 1 to 255, one after another, and then 1 again.
