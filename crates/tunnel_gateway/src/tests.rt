@@ -2,6 +2,7 @@
 
 ghost use Rattle.std.specs.Prelude.{◌≤◌};
 
+use self::At::{Closed, Idle, Waiting};
 use crate::{Datagram, GatewayEnd, GatewayExpired, GatewayTook, IndAddr, IpFrame, PutRefused};
 
 const TUNNEL: IndAddr = IndAddr { raw: 0x11FF };
@@ -29,6 +30,20 @@ fn octets<const N: usize>(octets: [u8; N]) -> Datagram
     Datagram::from_slice(&octets)
 }
 
+// ---- frames of the client
+
+fn connect() -> IpFrame {
+    IpFrame::ConnectRequest
+}
+
+fn state(channel: u8) -> IpFrame {
+    IpFrame::StateRequest { channel }
+}
+
+fn disconnect(channel: u8) -> IpFrame {
+    IpFrame::DisconnectRequest { channel }
+}
+
 fn request(channel: u8, number: u8) -> IpFrame {
     IpFrame::TunnellingRequest {
         channel,
@@ -37,19 +52,91 @@ fn request(channel: u8, number: u8) -> IpFrame {
     }
 }
 
+fn ack(channel: u8, number: u8, status: u8) -> IpFrame {
+    IpFrame::TunnellingAck {
+        channel,
+        number,
+        status,
+    }
+}
+
+// ---- what the end makes of them
+
+fn nothing() -> GatewayTook {
+    GatewayTook {
+        send: None,
+        acted: None,
+    }
+}
+
+fn sent<const N: usize>(datagram: [u8; N]) -> GatewayTook
+    requires { N ≤ 300 }
+{
+    GatewayTook {
+        send: Some(octets(datagram)),
+        acted: None,
+    }
+}
+
+fn connected(channel: u8) -> GatewayTook {
+    sent([
+        0x06, 0x10, 0x02, 0x06, 0x00, 0x14, channel, 0x00, 0x08, 0x01, 0, 0, 0, 0, 0, 0, 0x04,
+        0x04, 0x11, 0xFF,
+    ])
+}
+
+fn alive(channel: u8) -> GatewayTook {
+    sent([0x06, 0x10, 0x02, 0x08, 0x00, 0x08, channel, 0x00])
+}
+
+fn left(channel: u8, status: u8) -> GatewayTook {
+    sent([0x06, 0x10, 0x02, 0x0A, 0x00, 0x08, channel, status])
+}
+
+fn again(number: u8) -> GatewayTook {
+    sent([0x06, 0x10, 0x04, 0x21, 0x00, 0x0A, 0x04, 1, number, 0x00])
+}
+
+fn acted(number: u8) -> GatewayTook {
+    GatewayTook {
+        send: again(number).send,
+        acted: Some(octets(CEMI)),
+    }
+}
+
+// ---- what becomes due
+
+fn farewell() -> Datagram {
+    octets([
+        0x06, 0x10, 0x02, 0x09, 0x00, 0x10, 1, 0x00, 0x08, 0x01, 0, 0, 0, 0, 0, 0,
+    ])
+}
+
+fn closes() -> GatewayExpired {
+    GatewayExpired::Closed(farewell())
+}
+
+fn repeats() -> GatewayExpired {
+    GatewayExpired::Repeat(octets([
+        0x06, 0x10, 0x04, 0x20, 0x00, 0x14, 0x04, 1, 0, 0x00, 0x11, 0x00, 0xBC, 0x60, 0x00, 0x00,
+        0x11, 0x05, 0x00, 0x80,
+    ]))
+}
+
+fn waits() -> GatewayExpired {
+    GatewayExpired::Nothing
+}
+
+// ---- states
+
 fn end_at(at: At) -> GatewayEnd {
     let mut end = GatewayEnd::new(TUNNEL);
-    match at {
-        At::Closed => {}
-        At::Idle => {
-            let _ = end.take(CLIENT, &IpFrame::ConnectRequest, 0);
-            let _ = end.take(CLIENT, &request(1, 0), 0);
-        }
-        At::Waiting => {
-            let _ = end.take(CLIENT, &IpFrame::ConnectRequest, 0);
-            let _ = end.take(CLIENT, &request(1, 0), 0);
-            let _ = end.put(&CEMI, 0);
-        }
+    if at != Closed {
+        let _ = end.take(CLIENT, &connect(), 0);
+        let _ = end.take(CLIENT, &request(1, 0), 0);
+    }
+    if at == Waiting {
+        let _ = end.put(&CEMI, 0);
     }
     end
 }
@@ -57,196 +144,51 @@ fn end_at(at: At) -> GatewayEnd {
 /// The state, told by what a request is answered.
 fn state_of(mut end: GatewayEnd) -> At {
     match end.put(&CEMI, 0) {
-        Ok(_) => At::Idle,
-        Err(PutRefused::Busy) => At::Waiting,
-        Err(PutRefused::NotUp) => At::Closed,
+        Ok(_) => Idle,
+        Err(PutRefused::Busy) => Waiting,
+        Err(PutRefused::NotUp) => Closed,
     }
-}
-
-fn connect_response(channel: u8) -> Option<Datagram> {
-    Some(octets([
-        0x06, 0x10, 0x02, 0x06, 0x00, 0x14, channel, 0x00, 0x08, 0x01, 0, 0, 0, 0, 0, 0, 0x04,
-        0x04, 0x11, 0xFF,
-    ]))
-}
-
-fn state_response() -> Option<Datagram> {
-    Some(octets([0x06, 0x10, 0x02, 0x08, 0x00, 0x08, 1, 0x00]))
-}
-
-fn disconnect_response(channel: u8, status: u8) -> Option<Datagram> {
-    Some(octets([0x06, 0x10, 0x02, 0x0A, 0x00, 0x08, channel, status]))
-}
-
-fn ack(number: u8) -> Option<Datagram> {
-    Some(octets([0x06, 0x10, 0x04, 0x21, 0x00, 0x0A, 0x04, 1, number, 0x00]))
-}
-
-fn disconnect_request() -> Datagram {
-    octets([
-        0x06, 0x10, 0x02, 0x09, 0x00, 0x10, 1, 0x00, 0x08, 0x01, 0, 0, 0, 0, 0, 0,
-    ])
-}
-
-fn tunnelling_request() -> Datagram {
-    octets([
-        0x06, 0x10, 0x04, 0x20, 0x00, 0x14, 0x04, 1, 0, 0x00, 0x11, 0x00, 0xBC, 0x60, 0x00, 0x00,
-        0x11, 0x05, 0x00, 0x80,
-    ])
 }
 
 #[test]
 fn each_state_takes_each_frame(rt: HostRuntime) {
-    let state = |channel: u8| IpFrame::StateRequest { channel };
-    let disconnect = |channel: u8| IpFrame::DisconnectRequest { channel };
-    let acks = |channel: u8, number: u8, status: u8| IpFrame::TunnellingAck {
-        channel,
-        number,
-        status,
-    };
-    let rows: [(At, u32, IpFrame, Option<Datagram>, bool, At); 30] = [
-        (
-            At::Closed,
-            CLIENT,
-            IpFrame::ConnectRequest,
-            connect_response(1),
-            false,
-            At::Idle,
-        ),
-        (At::Closed, CLIENT, state(1), None, false, At::Closed),
-        (
-            At::Closed,
-            CLIENT,
-            disconnect(1),
-            disconnect_response(1, 0x21),
-            false,
-            At::Closed,
-        ),
-        (At::Closed, CLIENT, request(1, 0), None, false, At::Closed),
-        (At::Closed, CLIENT, acks(1, 0, 0), None, false, At::Closed),
-        (
-            At::Idle,
-            CLIENT,
-            IpFrame::ConnectRequest,
-            connect_response(1),
-            false,
-            At::Idle,
-        ),
-        (
-            At::Idle,
-            OTHER,
-            IpFrame::ConnectRequest,
-            connect_response(2),
-            false,
-            At::Idle,
-        ),
-        (
-            At::Idle,
-            CLIENT,
-            state(1),
-            state_response(),
-            false,
-            At::Idle,
-        ),
-        (At::Idle, CLIENT, state(2), None, false, At::Idle),
-        (At::Idle, OTHER, state(1), None, false, At::Idle),
-        (
-            At::Idle,
-            CLIENT,
-            disconnect(1),
-            disconnect_response(1, 0x00),
-            false,
-            At::Closed,
-        ),
-        (
-            At::Idle,
-            CLIENT,
-            disconnect(2),
-            disconnect_response(2, 0x21),
-            false,
-            At::Idle,
-        ),
-        (
-            At::Idle,
-            OTHER,
-            disconnect(1),
-            disconnect_response(1, 0x21),
-            false,
-            At::Idle,
-        ),
-        (At::Idle, CLIENT, request(1, 1), ack(1), true, At::Idle),
-        (At::Idle, CLIENT, request(1, 0), ack(0), false, At::Idle),
-        (At::Idle, CLIENT, request(1, 2), None, false, At::Idle),
-        (At::Idle, CLIENT, request(2, 1), None, false, At::Idle),
-        (At::Idle, OTHER, request(1, 1), None, false, At::Idle),
-        (At::Idle, CLIENT, acks(1, 0, 0), None, false, At::Idle),
-        (
-            At::Waiting,
-            CLIENT,
-            IpFrame::ConnectRequest,
-            connect_response(1),
-            false,
-            At::Waiting,
-        ),
-        (
-            At::Waiting,
-            OTHER,
-            IpFrame::ConnectRequest,
-            connect_response(2),
-            false,
-            At::Idle,
-        ),
-        (
-            At::Waiting,
-            CLIENT,
-            state(1),
-            state_response(),
-            false,
-            At::Waiting,
-        ),
-        (
-            At::Waiting,
-            CLIENT,
-            disconnect(1),
-            disconnect_response(1, 0x00),
-            false,
-            At::Closed,
-        ),
-        (
-            At::Waiting,
-            CLIENT,
-            request(1, 1),
-            ack(1),
-            true,
-            At::Waiting,
-        ),
-        (
-            At::Waiting,
-            CLIENT,
-            request(1, 0),
-            ack(0),
-            false,
-            At::Waiting,
-        ),
-        (At::Waiting, CLIENT, acks(1, 0, 0), None, false, At::Idle),
-        (
-            At::Waiting,
-            CLIENT,
-            acks(1, 0, 0x29),
-            None,
-            false,
-            At::Waiting,
-        ),
-        (At::Waiting, CLIENT, acks(1, 1, 0), None, false, At::Waiting),
-        (At::Waiting, CLIENT, acks(2, 0, 0), None, false, At::Waiting),
-        (At::Waiting, OTHER, acks(1, 0, 0), None, false, At::Waiting),
+    let rows: [(At, u32, IpFrame, GatewayTook, At); 30] = [
+        (Closed, CLIENT, connect(), connected(1), Idle),
+        (Closed, CLIENT, state(1), nothing(), Closed),
+        (Closed, CLIENT, disconnect(1), left(1, 0x21), Closed),
+        (Closed, CLIENT, request(1, 0), nothing(), Closed),
+        (Closed, CLIENT, ack(1, 0, 0), nothing(), Closed),
+        (Idle, CLIENT, connect(), connected(1), Idle),
+        (Idle, OTHER, connect(), connected(2), Idle),
+        (Idle, CLIENT, state(1), alive(1), Idle),
+        (Idle, CLIENT, state(2), nothing(), Idle),
+        (Idle, OTHER, state(1), nothing(), Idle),
+        (Idle, CLIENT, disconnect(1), left(1, 0x00), Closed),
+        (Idle, CLIENT, disconnect(2), left(2, 0x21), Idle),
+        (Idle, OTHER, disconnect(1), left(1, 0x21), Idle),
+        (Idle, CLIENT, request(1, 1), acted(1), Idle),
+        (Idle, CLIENT, request(1, 0), again(0), Idle),
+        (Idle, CLIENT, request(1, 2), nothing(), Idle),
+        (Idle, CLIENT, request(2, 1), nothing(), Idle),
+        (Idle, OTHER, request(1, 1), nothing(), Idle),
+        (Idle, CLIENT, ack(1, 0, 0), nothing(), Idle),
+        (Waiting, CLIENT, connect(), connected(1), Waiting),
+        (Waiting, OTHER, connect(), connected(2), Idle),
+        (Waiting, CLIENT, state(1), alive(1), Waiting),
+        (Waiting, CLIENT, disconnect(1), left(1, 0x00), Closed),
+        (Waiting, CLIENT, request(1, 1), acted(1), Waiting),
+        (Waiting, CLIENT, request(1, 0), again(0), Waiting),
+        (Waiting, CLIENT, ack(1, 0, 0), nothing(), Idle),
+        (Waiting, CLIENT, ack(1, 0, 0x29), nothing(), Waiting),
+        (Waiting, CLIENT, ack(1, 1, 0), nothing(), Waiting),
+        (Waiting, CLIENT, ack(2, 0, 0), nothing(), Waiting),
+        (Waiting, OTHER, ack(1, 0, 0), nothing(), Waiting),
     ];
-    for (at, from, frame, send, acts, after) in rows {
+    for (at, from, frame, took, after) in rows {
         let mut end = end_at(at);
-        let acted = if acts { Some(octets(CEMI)) } else { None };
         assert_eq!(rt;
             end.take(from, &frame, 0),
-            GatewayTook { send, acted },
+            took,
             "{at:?}, {from}: {frame:?}"
         );
         assert_eq!(rt; state_of(end), after, "{at:?}, {from}: {frame:?}");
@@ -270,80 +212,31 @@ fn responses_are_dropped(rt: HostRuntime) {
             status: 0,
         },
     ];
-    let mut end = end_at(At::Waiting);
+    let mut end = end_at(Waiting);
     for frame in frames {
-        let took = end.take(CLIENT, &frame, 0);
-        assert!(rt; took.send.is_none() && took.acted.is_none());
+        assert_eq!(rt; end.take(CLIENT, &frame, 0), nothing());
     }
-    assert_eq!(rt; state_of(end), At::Waiting);
+    assert_eq!(rt; state_of(end), Waiting);
 }
 
 #[test]
 fn a_request_that_comes_twice_acts_once(rt: HostRuntime) {
-    let mut end = end_at(At::Idle);
-    for acted in [Some(octets(CEMI)), None] {
-        assert_eq!(rt;
-            end.take(CLIENT, &request(1, 1), 0),
-            GatewayTook {
-                send: ack(1),
-                acted
-            }
-        );
+    let mut end = end_at(Idle);
+    for took in [acted(1), again(1)] {
+        assert_eq!(rt; end.take(CLIENT, &request(1, 1), 0), took);
     }
 }
 
 #[test]
 fn each_state_by_time(rt: HostRuntime) {
     let rows: [(At, Option<u64>, u64, GatewayExpired, At); 7] = [
-        (
-            At::Closed,
-            None,
-            u64::MAX,
-            GatewayExpired::Nothing,
-            At::Closed,
-        ),
-        (
-            At::Idle,
-            Some(120_000),
-            119_999,
-            GatewayExpired::Nothing,
-            At::Idle,
-        ),
-        (
-            At::Idle,
-            Some(120_000),
-            120_000,
-            GatewayExpired::Closed(disconnect_request()),
-            At::Closed,
-        ),
-        (
-            At::Waiting,
-            Some(1_000),
-            999,
-            GatewayExpired::Nothing,
-            At::Waiting,
-        ),
-        (
-            At::Waiting,
-            Some(1_000),
-            1_000,
-            GatewayExpired::Repeat(tunnelling_request()),
-            At::Waiting,
-        ),
-        (
-            At::Waiting,
-            Some(1_000),
-            119_999,
-            GatewayExpired::Repeat(tunnelling_request()),
-            At::Waiting,
-        ),
-        (
-            At::Waiting,
-            Some(1_000),
-            120_000,
-            GatewayExpired::Closed(disconnect_request()),
-            At::Closed,
-        ),
+        (Closed, None, u64::MAX, waits(), Closed),
+        (Idle, Some(120_000), 119_999, waits(), Idle),
+        (Idle, Some(120_000), 120_000, closes(), Closed),
+        (Waiting, Some(1_000), 999, waits(), Waiting),
+        (Waiting, Some(1_000), 1_000, repeats(), Waiting),
+        (Waiting, Some(1_000), 119_999, repeats(), Waiting),
+        (Waiting, Some(1_000), 120_000, closes(), Closed),
     ];
     for (at, deadline, now, expired, after) in rows {
         let mut end = end_at(at);
@@ -356,29 +249,24 @@ fn each_state_by_time(rt: HostRuntime) {
 #[test]
 fn a_request_is_sent_twice_and_then_the_channel_closes(rt: HostRuntime) {
     let rows: [(u64, Option<u64>, GatewayExpired); 4] = [
-        (
-            1_000,
-            Some(2_000),
-            GatewayExpired::Repeat(tunnelling_request()),
-        ),
-        (1_999, Some(2_000), GatewayExpired::Nothing),
-        (2_000, None, GatewayExpired::Closed(disconnect_request())),
-        (3_000, None, GatewayExpired::Nothing),
+        (1_000, Some(2_000), repeats()),
+        (1_999, Some(2_000), waits()),
+        (2_000, None, closes()),
+        (3_000, None, waits()),
     ];
-    let mut end = end_at(At::Waiting);
+    let mut end = end_at(Waiting);
     for (now, deadline, expired) in rows {
         assert_eq!(rt; end.expire(now), expired, "at {now}");
         assert_eq!(rt; end.deadline(), deadline, "after {now}");
     }
-    assert!(rt; end.endpoint().is_none());
 }
 
 #[test]
 fn a_channel_is_shut_by_a_disconnect_request(rt: HostRuntime) {
-    let mut end = end_at(At::Waiting);
+    let mut end = end_at(Waiting);
     end.has_numbers();
     assert_eq!(rt; end.endpoint(), Some(CLIENT));
-    assert_eq!(rt; end.shut(), Some(disconnect_request()));
+    assert_eq!(rt; end.shut(), Some(farewell()));
     assert_eq!(rt; end.shut(), None);
     assert_eq!(rt; end.endpoint(), None);
 }
@@ -388,7 +276,7 @@ fn channels_are_numbered_from_1_to_255_and_from_1_again(rt: HostRuntime) {
     let mut end = GatewayEnd::new(TUNNEL);
     for place in 0..256_u32 {
         let number = (1 + place % 255) as u8;
-        let took = end.take(place, &IpFrame::ConnectRequest, 0);
-        assert_eq!(rt; took.send, connect_response(number), "at {place}");
+        let took = end.take(place, &connect(), 0);
+        assert_eq!(rt; took, connected(number), "at {place}");
     }
 }
