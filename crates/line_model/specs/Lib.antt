@@ -6,6 +6,7 @@ pub mod Network
 -- 2. The gateway, the tunnel, and the whole line: what can happen
 pub mod Gateway
 pub mod Tunnel
+pub mod GatewayEnd
 pub mod World
 pub mod Legal
 pub mod Fresh

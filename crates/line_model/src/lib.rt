@@ -2,13 +2,16 @@
 #![tactic(auto)]
 
 mod fault;
+mod gateway_end;
 mod group;
 mod laws;
 mod log;
 mod outside;
+mod put_refused;
 mod runs;
 
 pub use fault::{HubFault, Try};
+pub use gateway_end::{GatewayExpired, GatewayTook};
 pub use group::{GroupTurn, Indication};
 pub use laws::{
     a_client_counts_what_it_gets, a_cut_ends_the_connection, a_gateway_keeps_its_channel,
@@ -17,6 +20,7 @@ pub use laws::{
 };
 pub use log::{LogEntry, LogWhat, Report};
 pub use outside::{DialFailed, Dialer, Gate, Link, LinkFault, Polled, Port, PortFault, PortPolled};
+pub use put_refused::PutRefused;
 pub use runs::{
     a_channel_dies, a_channel_follows_another, a_job_fails_by_three_signs, a_line_begins,
     a_load_ends_done, a_minute_passes, a_report_is_printed, a_session_reads_the_descriptor,
