@@ -1,0 +1,5 @@
+pub mod World
+pub mod Client
+pub mod Device
+pub mod Events
+pub mod Promises
