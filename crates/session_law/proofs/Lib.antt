@@ -9,3 +9,6 @@ pub mod Bus
 pub mod Heard
 pub mod Books
 pub mod Steps
+pub mod Counts
+pub mod Law
+pub mod Closed

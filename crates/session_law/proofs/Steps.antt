@@ -189,7 +189,7 @@ echo_step w b (Some frame) e h =
           (subst (λ (l : List Sign). Inv w.me b.asked w.client (opt_sign w.flying) (l ++ Frame x ∷ []) o) (sym (signs_append w.coming (Ind frame ∷ []))) (twice_kept w.me b.asked w.client (opt_sign w.flying) (signs w.coming) x o inv));
     }
 
-group_step : (w : World) (b : Books) (frame : Ldata) → frame.group ≡ true → WorldInv w b → WorldInv (gets w frame Whole) (gets_book w b frame Whole)
+pub group_step : (w : World) (b : Books) (frame : Ldata) → frame.group ≡ true → WorldInv w b → WorldInv (gets w frame Whole) (gets_book w b frame Whole)
 group_step w b frame g h =
     let got : GotIs w.me w.device frame w.now Whole b.delivered b.given Other = got_group w.me w.device frame w.now b.delivered b.given g h.inv.side.conn in
     record {
