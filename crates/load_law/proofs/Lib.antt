@@ -1,3 +1,5 @@
 mod Answers
 mod Walked
 mod Loads
+mod Follows
+mod Quiet
