@@ -34,7 +34,7 @@ use Rattle.load_law.proofs.Walked.{Trail, On, count, few, walked}
 use Rattle.load_law.proofs.Loads.{Spoiled, InStep, IsCase, Load, got_load, shut_load, spoke_load}
 
 -- a frame that comes again opens only where nothing was delivered
-again_opens : (me : IndAddr) (outcome : Outcome) (s : TransportFrame) (o : Seen) (asked : Texts) (b taken : Bool) (n : Seen) → LastIs (Some s) asked o.delivered o.given → Got me outcome s o b taken n → b ≡ true → (o.delivered ≡ []) × (o.given ≡ [])
+pub again_opens : (me : IndAddr) (outcome : Outcome) (s : TransportFrame) (o : Seen) (asked : Texts) (b taken : Bool) (n : Seen) → LastIs (Some s) asked o.delivered o.given → Got me outcome s o b taken n → b ≡ true → (o.delivered ≡ []) × (o.given ≡ [])
 again_opens me outcome s o asked b taken n l GNot e = absurd (false≢true e)
 again_opens me outcome s o asked true taken n l (GWhole b2 n2 (HOpens t se ci) w) e = (subst (λ (z : TransportFrame). LastIs (Some z) asked o.delivered o.given) se l).1
 again_opens me outcome s o asked false taken n l (GWhole b2 n2 h w) e = absurd (false≢true e)

@@ -3,3 +3,5 @@ mod Walked
 mod Loads
 mod Follows
 mod Quiet
+mod Short
+mod Calm

@@ -93,9 +93,9 @@ module _ (plan : Plan) (image : Image) (frames : FrameSupport) (first : NonVolat
   same_reached latest kept asked o conn st (inr s) = inr (s.0, st s.1)
 
   -- it takes one more
-  takes_one : {outcome : Outcome} → (asked : Texts) (s : TransportFrame) (o n : Seen) (apdu : List ℕ) (a : Option (List ℕ)) → is_torn outcome ≡ false → Ready s asked o.delivered → Load asked o → extra o.conn ≡ 0 → s ≡ Numbered (length o.delivered % 16) apdu
+  takes_one : (outcome : Outcome) (asked : Texts) (s : TransportFrame) (o n : Seen) (apdu : List ℕ) (a : Option (List ℕ)) → is_torn outcome ≡ false → Ready s asked o.delivered → Load asked o → extra o.conn ≡ 0 → s ≡ Numbered (length o.delivered % 16) apdu
       → answer_in o.frames o.kept apdu ≡ a → n.frames ≡ o.frames → n.delivered ≡ apdu ∷ o.delivered → n.given ≡ and_octets a o.given → n.kept ≡ kept_after o.kept (effect_in apdu) outcome → Load asked n
-  takes_one {outcome} asked s o n apdu a wh r h ex se ai fe de ge ke =
+  takes_one outcome asked s o n apdu a wh r h ex se ai fe de ge ke =
       let d = delivers asked s o apdu r h ex se in
       let t : Trail frames h.start o.delivered o.given o.kept = subst (λ (z : NonVolatile). Trail frames h.start o.delivered o.given z) (latest_kept asked o ex h) h.trail in
       let answer : answer_in frames o.kept apdu ≡ a = subst (λ (z : FrameSupport). answer_in z o.kept apdu ≡ a) h.same_frames ai in
@@ -115,8 +115,8 @@ module _ (plan : Plan) (image : Image) (frames : FrameSupport) (first : NonVolat
       }
 
   pub heard_load : {outcome : Outcome} → (me : IndAddr) (asked : Texts) (s : TransportFrame) (o n : Seen) → is_torn outcome ≡ false → Ready s asked o.delivered → Load asked o → Hears me outcome s o false n → Load asked n
-  heard_load {outcome} me asked s o n wh r h (HDelivers u apdu l ex se ci le ai) = takes_one {outcome = outcome} asked s o n apdu None wh r h ex se ai refl refl refl refl
-  heard_load {outcome} me asked s o n wh r h (HAnswers u a apdu v l ex se ci le ai) = takes_one {outcome = outcome} asked s o n apdu (Some v) wh r h ex se ai refl refl refl refl
+  heard_load {outcome} me asked s o n wh r h (HDelivers u apdu l ex se ci le ai) = takes_one outcome asked s o n apdu None wh r h ex se ai refl refl refl refl
+  heard_load {outcome} me asked s o n wh r h (HAnswers u a apdu v l ex se ci le ai) = takes_one outcome asked s o n apdu (Some v) wh r h ex se ai refl refl refl refl
   heard_load me asked s o n wh r h (HAgain c k apdu l se ne nx ex ci le st) =
       record { same_frames = h.same_frames; case = h.case; in_step = h.in_step; start = h.start; latest = h.latest; began = h.began; trail = h.trail; reached = same_reached h.latest o.kept asked o c st h.reached }
   heard_load me asked s o n wh r h (HSpeaks c k l sc pl ex ci le st) =
