@@ -99,25 +99,25 @@ halfway me d kept values last echo p h sent accepted v = record {
   given = v ∷ accepted;
 }
 
-abbrev Waits : World → IndAddr → DeviceState → NonVolatile → ℕ → ℕ → Texts → Texts → List ℕ → Type 0
+abbrev pub Waits : World → IndAddr → DeviceState → NonVolatile → ℕ → ℕ → Texts → Texts → List ℕ → Type 0
 Waits w me d kept p h sent accepted v = (values : List (Option Value)) × (last : Option Ldata) × (echo : Option Ldata) × (w ≡ halfway me d kept values last echo p h sent accepted v)
 
-abbrev answering : List Event
+abbrev pub answering : List Event
 answering = Takes ∷ Bus Whole ∷ Replies ∷ Takes ∷ DevSend Comes ∷ []
 
 module _ (me : IndAddr) (d : DeviceState) (kept : NonVolatile) (values : List (Option Value)) (last echo : Option Ldata) (p h : ℕ) (sent accepted : Texts) where
-  waits : (apdu v : List ℕ) → p < 16 → IsApdu apdu → FitsInto d.frames apdu → has_answer apdu ≡ true → answer_in d.frames kept apdu ≡ Some v
+  pub waits : (apdu v : List ℕ) → p < 16 → IsApdu apdu → FitsInto d.frames apdu → has_answer apdu ≡ true → answer_in d.frames kept apdu ≡ Some v
       → Waits (replay (calm me d kept values last echo p h sent accepted) (acknowledged apdu)) me d (whole kept (effect_in apdu)) (next_number p) h (apdu ∷ sent) accepted v
   unfolding device_took device_after device_answered after_answer client_confirmed after_confirmed client_sent after_send client_took client_after
   waits apdu v small is fits a n =
       let w : World = replay (calm me d kept values last echo p h sent accepted) (acknowledged apdu) in
       (w.device.values, w.device.last, w.echo, rw (same d.address.raw) (rw (short_service d.frames me d.address p apdu fits) (rw (numbered_read p apdu small is) (rw (same me.raw) (rw (same p) (rw n (rw (same d.address.raw) (rw (ack_read p small) (rw (same p) (rw a refl))))))))))
 
-  answered : (v : List ℕ) → h < 16 → IsApdu v → Ends (replay (halfway me d kept values last echo p h sent accepted v) answering) me d kept p (next_number h) sent (v ∷ accepted)
+  pub answered : (v : List ℕ) → h < 16 → IsApdu v → Ends (replay (halfway me d kept values last echo p h sent accepted v) answering) me d kept p (next_number h) sent (v ∷ accepted)
   unfolding device_took device_after device_answered after_answer client_confirmed after_confirmed client_sent after_send client_took client_after
   answered v tiny iv =
       let w : World = replay (halfway me d kept values last echo p h sent accepted v) answering in
       (w.device.values, w.device.last, w.echo, rw (same d.address.raw) (rw (numbered_read h v tiny iv) (rw (same h) (rw (same d.address.raw) (rw (short_control d.frames me d.address (0xC2 + 4 * h)) (rw (ack_read h tiny) (rw (same me.raw) (rw (same h) refl))))))))
 
-  legal_answering : (v : List ℕ) → IsLegal (halfway me d kept values last echo p h sent accepted v) answering
+  pub legal_answering : (v : List ℕ) → IsLegal (halfway me d kept values last echo p h sent accepted v) answering
   legal_answering v = (tt, (tt, (refl, (tt, (tt, tt)))))

@@ -99,7 +99,7 @@ module _ (plan : Plan) (image : Image) (frames : FrameSupport) (first : NonVolat
   leads_on asked o sent accepted rest over l went =
       let t : Trail frames l.start sent accepted o.kept
       = subst (λ (z : NonVolatile). Trail frames l.start sent accepted z) (latest_is asked o sent accepted over l)
-          (subst (λ (z : Texts). Trail frames l.start sent z l.latest) over.given_is (subst (λ (z : Texts). Trail frames l.start z o.given l.latest) over.delivered_is l.trail)) in
+      (subst (λ (z : Texts). Trail frames l.start sent z l.latest) over.given_is (subst (λ (z : Texts). Trail frames l.start z o.given l.latest) over.delivered_is l.trail)) in
       walked plan image frames first good can rest sent accepted l.start o.kept l.began went t
 
   -- ---- each event
@@ -177,8 +177,8 @@ module _ (plan : Plan) (image : Image) (frames : FrameSupport) (first : NonVolat
       let last : LastIs (Some s) b.asked b.delivered b.given = subst (λ (z : Option TransportFrame). LastIs z b.asked b.delivered b.given) at h.inv.side.last_is in
       let got : GotIs w.me w.device frame w.now Whole b.delivered b.given s = got_mine w.me w.device frame w.now Whole b.delivered b.given mine.0 mine.1 (ready_small s b.asked b.delivered last.0) h.inv.side.conn in
       let opens : got.0 ≡ true → InStep plan b.asked [] [] = λ z.
-          let none = again_opens w.me Whole s o b.asked got.0 (is_taken (took_of w.device frame)) _ last got.1 z in
-          subst (λ (x : Texts). InStep plan b.asked x []) none.0 (subst (λ (y : Texts). InStep plan b.asked b.delivered y) none.1 l.in_step) in
+      let none = again_opens w.me Whole s o b.asked got.0 (is_taken (took_of w.device frame)) _ last got.1 z in
+      subst (λ (x : Texts). InStep plan b.asked x []) none.0 (subst (λ (y : Texts). InStep plan b.asked b.delivered y) none.1 l.in_step) in
       got_load plan image frames first good can w.me b.asked b.asked s o _ got.0 (is_taken (took_of w.device frame)) last.0 (λ z. refl) opens l got.1
 
   step_load : (w : World) (b : Books) (e : Event) → MayHappen w e → MayAsk plan w e → WorldInv w b → LoadInv w b → LoadInv (step w e) (books_after w b e)

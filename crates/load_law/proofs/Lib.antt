@@ -5,3 +5,5 @@ mod Follows
 mod Quiet
 mod Short
 mod Calm
+mod Ends
+mod Loadings
