@@ -12,3 +12,4 @@ pub mod Steps
 pub mod Counts
 pub mod Law
 pub mod Closed
+mod Computed

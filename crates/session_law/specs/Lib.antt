@@ -3,3 +3,4 @@ pub mod Client
 pub mod Device
 pub mod Events
 pub mod Promises
+pub mod Runs

@@ -2,6 +2,8 @@
 //! its power, at every moment of every run.
 #![tactic(auto)]
 
+mod runs;
+
 ghost use Rattle.std.specs.Prelude.{◌≡◌, List};
 ghost use Rattle.knx_model.specs.declared.address.IndAddr.{IndAddr as Address};
 ghost use Rattle.knx_model.specs.DeviceConnection.{Closed};
@@ -9,6 +11,8 @@ ghost use Rattle.knx_model.specs.DeviceState.{DeviceState};
 ghost use Rattle.session_law.specs.World.{World, fresh};
 ghost use Rattle.session_law.specs.Events.{Event, replay, IsLegal, AtEveryMoment};
 ghost use Rattle.session_law.specs.Promises.{InOrder, ActsOnNext, TakesNoConnect, ActsOnNothing};
+
+pub use runs::{a_descriptor_is_read_through_losses, one_frame_at_a_time};
 
 /// Since the last T_Connect whose confirmation without error the client took, the services that the device delivered are the first of those which
 /// the client sent, each once, and the answers that the client accepted are the first of those which the device gave.
