@@ -80,7 +80,7 @@ module _ (plan : Plan) (me : IndAddr) (d : DeviceState) (can : IsSendable plan) 
   without_one apdu next kept values last echo p h sent accepted small tiny went is fits a n rest more =
       let g = goes_without me d kept values last echo p h sent accepted apdu small is fits a n in
       then_done plan (Up kept values last echo p h sent accepted) rest (acknowledged apdu) (legal_without me d kept values last echo p h sent accepted apdu small is fits)
-      (tt, (tt, (tt, (tt, (record { up = refl; expect = AckOnly; next = next; went = went }, tt)))))
+      (tt, (tt, (tt, (tt, (record { free = refl; expect = AckOnly; next = next; went = went }, tt)))))
       (subst (λ (w : World). EndsDone plan w rest) (sym g.3) (more g.0 g.1 g.2))
 
   with_one : (apdu v : List ℕ) (expect : Expect) (next : Option (List ℕ) → Plan) (kept : NonVolatile) (values : List (Option Value)) (last echo : Option Ldata) (p h : ℕ) (sent accepted : Texts) → p < 16 → h < 16 → Went plan sent accepted (Operation apdu expect next) → IsApdu apdu
@@ -96,7 +96,7 @@ module _ (plan : Plan) (me : IndAddr) (d : DeviceState) (can : IsSendable plan) 
       let end : replay k answering ≡ Up (whole kept (effect_in apdu)) u.0 u.1 u.2 (next_number p) (next_number h) (apdu ∷ sent) (v ∷ accepted) = ap (λ (w : World). replay w answering) g.3 ∙ u.3 in
       let last_part : EndsDone plan k (rest ++ answering) = then_done plan k rest answering legal (tt, (tt, (tt, (tt, (tt, tt))))) (subst (λ (w : World). EndsDone plan w rest) (sym end) (more u.0 u.1 u.2)) in
       let all : EndsDone plan start ((rest ++ answering) ++ acknowledged apdu) = then_done plan start (rest ++ answering) (acknowledged apdu) (legal_without me d kept values last echo p h sent accepted apdu small is fits)
-      (tt, (tt, (tt, (tt, (record { up = refl; expect = expect; next = next; went = went }, tt))))) last_part in
+      (tt, (tt, (tt, (tt, (record { free = refl; expect = expect; next = next; went = went }, tt))))) last_part in
       subst (λ (l : List Event). EndsDone plan start l) (append_assoc rest answering (acknowledged apdu)) all
 
   by_answer : (apdu : List ℕ) (expect : Expect) (next : Option (List ℕ) → Plan) (kept : NonVolatile) (values : List (Option Value)) (last echo : Option Ldata) (p h : ℕ) (sent accepted : Texts) → p < 16 → h < 16 → Went plan sent accepted (Operation apdu expect next)
@@ -117,7 +117,7 @@ module _ (plan : Plan) (me : IndAddr) (d : DeviceState) (can : IsSendable plan) 
       (more (next_number p) (next_number h) (v ∷ accepted) (next_small p) (next_small h) (Answered apdu Note next v sent accepted went suits))
 
   goes_on : (rest : Plan) → GoesOn rest
-  goes_on Over kept values last echo p h sent accepted small tiny went s a f = record { legal = tt; follows = tt; done = record { up = refl; all = went } }
+  goes_on Over kept values last echo p h sent accepted small tiny went s a f = record { legal = tt; follows = tt; done = record { over = refl; all = went } }
   goes_on (Operation apdu expect next) kept values last echo p h sent accepted small tiny went s a f =
       by_answer apdu expect next kept values last echo p h sent accepted small tiny went s f.0 (answers_of d kept apdu) refl a.0
       (λ p2 h2 accepted2 small2 tiny2 went2 values2 last2 echo2. goes_on (next (answers_of d kept apdu)) (whole kept (effect_in apdu)) values2 last2 echo2 p2 h2 (apdu ∷ sent) accepted2 small2 tiny2 went2 (s.2 (answers_of d kept apdu)) a.1 f.1)

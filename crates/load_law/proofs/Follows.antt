@@ -107,7 +107,7 @@ module _ (plan : Plan) (image : Image) (frames : FrameSupport) (first : NonVolat
   asks_load : (w : World) (b : Books) (apdu : List ℕ) (o : Option (List ℕ)) → WorldInv w b → LoadInv w b → IsNext plan w apdu → LoadInv (asks_so w apdu o) (asks_book b apdu o)
   asks_load w b apdu None h l may = l
   asks_load w b apdu (Some tpdu) h l may =
-      let over = over_at w b (Operation apdu may.expect may.next) h l may.up may.went in
+      let over = over_at w b (Operation apdu may.expect may.next) h l may.free may.went in
       record {
         same_frames = l.same_frames;
         case = l.case;
@@ -210,7 +210,7 @@ module _ (plan : Plan) (image : Image) (frames : FrameSupport) (first : NonVolat
   right_at w b h l =
       record {
         case = l.case;
-        done = λ d. (leads_on b.asked (seen_of w.device b.delivered b.given) w.client.sent w.client.accepted Over (over_at w b Over h l d.up d.all) l d.all).1;
+        done = λ d. (leads_on b.asked (seen_of w.device b.delivered b.given) w.client.sent w.client.accepted Over (over_at w b Over h l d.over d.all) l d.all).1;
       }
 
   pub load_always : (start : World) (events : List Event) → WorldInv start empty → LoadInv start empty → IsLegal start events → Follows plan start events → LoadInv (replay start events) (books start events)

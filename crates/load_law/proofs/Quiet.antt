@@ -169,5 +169,5 @@ done_stays plan image me d later earlier good can legal f done na =
     let b : Books = books start earlier in
     let h : WorldInv w b = always start earlier (fresh_inv me d) (front_legal start later earlier legal) in
     let l = load_always plan image d.frames d.kept good can start earlier (fresh_inv me d) (fresh_load plan image d.frames d.kept good can me d refl refl) (front_legal start later earlier legal) f in
-    let all = over_at plan image d.frames d.kept good can w b Over h l done.up done.all in
+    let all = over_at plan image d.frames d.kept good can w b Over h l done.over done.all in
     (stays start later earlier (fresh_inv me d) legal na (all.sent_is ∙ sym all.delivered_is)).kept

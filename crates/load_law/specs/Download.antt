@@ -19,7 +19,7 @@ pub data Went (plan : Plan) : List (List ℕ) → List (List ℕ) → Plan → T
 
 -- a service that the client sends is the plan's next operation, and nothing is awaited
 pub record IsNext (plan : Plan) (w : World) (apdu : List ℕ) : Type 0 where
-  pub up : awaits_nothing w.client.end ≡ true
+  pub free : awaits_nothing w.client.end ≡ true
   pub expect : Expect
   pub next : Option (List ℕ) → Plan
   pub went : Went plan w.client.sent w.client.accepted (Operation apdu expect next)
@@ -34,7 +34,7 @@ Follows plan start (e ∷ events) = MayAsk plan (replay start events) e × Follo
 
 -- the attempt is done: the plan is over, and nothing is awaited
 pub record IsDone (plan : Plan) (w : World) : Type 0 where
-  pub up : awaits_nothing w.client.end ≡ true
+  pub over : awaits_nothing w.client.end ≡ true
   pub all : Went plan w.client.sent w.client.accepted Over
 
 -- what the device keeps is as it was, or it is stopped, or it runs the image; and where the attempt is done it runs the image
