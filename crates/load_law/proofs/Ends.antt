@@ -38,22 +38,22 @@ legal_more : (start : World) (l k : List Event) → IsLegal (replay start k) l �
 legal_more start [] k h g = g
 legal_more start (e ∷ l) k h g = (subst (λ (w : World). MayHappen w e) (sym (replay_more start l k)) h.0, legal_more start l k h.1 g)
 
-follows_more : (plan : Plan) (start : World) (l k : List Event) → Follows plan (replay start k) l → Follows plan start k → Follows plan start (l ++ k)
-follows_more plan start [] k h g = g
-follows_more plan start (e ∷ l) k h g = (subst (λ (w : World). MayAsk plan w e) (sym (replay_more start l k)) h.0, follows_more plan start l k h.1 g)
+follows_more : (IsJob : Plan → Type 0) (start : World) (l k : List Event) → Follows IsJob (replay start k) l → Follows IsJob start k → Follows IsJob start (l ++ k)
+follows_more IsJob start [] k h g = g
+follows_more IsJob start (e ∷ l) k h g = (subst (λ (w : World). MayAsk IsJob w e) (sym (replay_more start l k)) h.0, follows_more IsJob start l k h.1 g)
 
 next_small : (n : ℕ) → next_number n < 16
 next_small n = omega arith
 
 -- ---- from a connection that is up
 
-pub record EndsDone (plan : Plan) (w : World) (events : List Event) : Type 0 where
+pub record EndsDone (IsJob : Plan → Type 0) (plan : Plan) (w : World) (events : List Event) : Type 0 where
   pub legal : IsLegal w events
-  pub follows : Follows plan w events
+  pub follows : Follows IsJob w events
   pub done : IsDone plan (replay w events)
 
-then_done : (plan : Plan) (w : World) (l k : List Event) → IsLegal w k → Follows plan w k → EndsDone plan (replay w k) l → EndsDone plan w (l ++ k)
-then_done plan w l k legal f h = record { legal = legal_more w l k h.legal legal; follows = follows_more plan w l k h.follows f; done = subst (λ (x : World). IsDone plan x) (sym (replay_more w l k)) h.done }
+then_done : (IsJob : Plan → Type 0) (plan : Plan) (w : World) (l k : List Event) → IsLegal w k → Follows IsJob w k → EndsDone IsJob plan (replay w k) l → EndsDone IsJob plan w (l ++ k)
+then_done IsJob plan w l k legal f h = record { legal = legal_more w l k h.legal legal; follows = follows_more IsJob w l k h.follows f; done = subst (λ (x : World). IsDone plan x) (sym (replay_more w l k)) h.done }
 
 abbrev answers_of : DeviceState → NonVolatile → List ℕ → Option (List ℕ)
 answers_of d = answer_in d.frames
@@ -64,7 +64,7 @@ no_more apdu AckOnly s = refl
 no_more apdu (Is wanted) s = absurd s
 no_more apdu Note s = absurd s
 
-module _ (plan : Plan) (me : IndAddr) (d : DeviceState) (can : IsSendable plan) where
+module _ (IsJob : Plan → Type 0) (plan : Plan) (job : IsJob plan) (me : IndAddr) (d : DeviceState) (can : IsSendable plan) where
   abbrev Up : NonVolatile → List (Option Value) → Option Ldata → Option Ldata → ℕ → ℕ → Texts → Texts → World
   Up = calm me d
 
@@ -72,20 +72,20 @@ module _ (plan : Plan) (me : IndAddr) (d : DeviceState) (can : IsSendable plan) 
   abbrev GoesOn : Plan → Type 0
   GoesOn rest =
       (kept : NonVolatile) (values : List (Option Value)) (last echo : Option Ldata) (p h : ℕ) (sent accepted : Texts) → p < 16 → h < 16 → Went plan sent accepted rest → IsSendable rest → AnswersAll (answers_of d) rest kept → AllFit d.frames (answers_of d) rest kept
-      → EndsDone plan (Up kept values last echo p h sent accepted) (operations (answers_of d) rest kept)
+      → EndsDone IsJob plan (Up kept values last echo p h sent accepted) (operations (answers_of d) rest kept)
 
   without_one : (apdu : List ℕ) (next : Option (List ℕ) → Plan) (kept : NonVolatile) (values : List (Option Value)) (last echo : Option Ldata) (p h : ℕ) (sent accepted : Texts) → p < 16 → h < 16 → Went plan sent accepted (Operation apdu AckOnly next) → IsApdu apdu
-      → FitsInto d.frames apdu → has_answer apdu ≡ false → answers_of d kept apdu ≡ None → (rest : List Event) → ((values : List (Option Value)) (last echo : Option Ldata) → EndsDone plan (Up (whole kept (effect_in apdu)) values last echo (next_number p) h (apdu ∷ sent) accepted) rest)
-      → EndsDone plan (Up kept values last echo p h sent accepted) (rest ++ acknowledged apdu)
+      → FitsInto d.frames apdu → has_answer apdu ≡ false → answers_of d kept apdu ≡ None → (rest : List Event) → ((values : List (Option Value)) (last echo : Option Ldata) → EndsDone IsJob plan (Up (whole kept (effect_in apdu)) values last echo (next_number p) h (apdu ∷ sent) accepted) rest)
+      → EndsDone IsJob plan (Up kept values last echo p h sent accepted) (rest ++ acknowledged apdu)
   without_one apdu next kept values last echo p h sent accepted small tiny went is fits a n rest more =
       let g = goes_without me d kept values last echo p h sent accepted apdu small is fits a n in
-      then_done plan (Up kept values last echo p h sent accepted) rest (acknowledged apdu) (legal_without me d kept values last echo p h sent accepted apdu small is fits)
-      (tt, (tt, (tt, (tt, (record { free = refl; expect = AckOnly; next = next; went = went }, tt)))))
-      (subst (λ (w : World). EndsDone plan w rest) (sym g.3) (more g.0 g.1 g.2))
+      then_done IsJob plan (Up kept values last echo p h sent accepted) rest (acknowledged apdu) (legal_without me d kept values last echo p h sent accepted apdu small is fits)
+      (tt, (tt, (tt, (tt, ((plan, job, record { free = refl; expect = AckOnly; next = next; went = went }), tt)))))
+      (subst (λ (w : World). EndsDone IsJob plan w rest) (sym g.3) (more g.0 g.1 g.2))
 
   with_one : (apdu v : List ℕ) (expect : Expect) (next : Option (List ℕ) → Plan) (kept : NonVolatile) (values : List (Option Value)) (last echo : Option Ldata) (p h : ℕ) (sent accepted : Texts) → p < 16 → h < 16 → Went plan sent accepted (Operation apdu expect next) → IsApdu apdu
-      → FitsInto d.frames apdu → has_answer apdu ≡ true → answers_of d kept apdu ≡ Some v → (rest : List Event) → ((values : List (Option Value)) (last echo : Option Ldata) → EndsDone plan (Up (whole kept (effect_in apdu)) values last echo (next_number p) (next_number h) (apdu ∷ sent) (v ∷ accepted)) rest)
-      → EndsDone plan (Up kept values last echo p h sent accepted) (rest ++ operation apdu (Some v))
+      → FitsInto d.frames apdu → has_answer apdu ≡ true → answers_of d kept apdu ≡ Some v → (rest : List Event) → ((values : List (Option Value)) (last echo : Option Ldata) → EndsDone IsJob plan (Up (whole kept (effect_in apdu)) values last echo (next_number p) (next_number h) (apdu ∷ sent) (v ∷ accepted)) rest)
+      → EndsDone IsJob plan (Up kept values last echo p h sent accepted) (rest ++ operation apdu (Some v))
   with_one apdu v expect next kept values last echo p h sent accepted small tiny went is fits a n rest more =
       let iv : IsApdu v = answer_is_apdu d.frames kept apdu v n in
       let start : World = Up kept values last echo p h sent accepted in
@@ -94,15 +94,15 @@ module _ (plan : Plan) (me : IndAddr) (d : DeviceState) (can : IsSendable plan) 
       let u = answered me d (whole kept (effect_in apdu)) g.0 g.1 g.2 (next_number p) h (apdu ∷ sent) accepted v tiny iv in
       let legal : IsLegal k answering = subst (λ (w : World). IsLegal w answering) (sym g.3) (legal_answering me d (whole kept (effect_in apdu)) g.0 g.1 g.2 (next_number p) h (apdu ∷ sent) accepted v) in
       let end : replay k answering ≡ Up (whole kept (effect_in apdu)) u.0 u.1 u.2 (next_number p) (next_number h) (apdu ∷ sent) (v ∷ accepted) = ap (λ (w : World). replay w answering) g.3 ∙ u.3 in
-      let last_part : EndsDone plan k (rest ++ answering) = then_done plan k rest answering legal (tt, (tt, (tt, (tt, (tt, tt))))) (subst (λ (w : World). EndsDone plan w rest) (sym end) (more u.0 u.1 u.2)) in
-      let all : EndsDone plan start ((rest ++ answering) ++ acknowledged apdu) = then_done plan start (rest ++ answering) (acknowledged apdu) (legal_without me d kept values last echo p h sent accepted apdu small is fits)
-      (tt, (tt, (tt, (tt, (record { free = refl; expect = expect; next = next; went = went }, tt))))) last_part in
-      subst (λ (l : List Event). EndsDone plan start l) (append_assoc rest answering (acknowledged apdu)) all
+      let last_part : EndsDone IsJob plan k (rest ++ answering) = then_done IsJob plan k rest answering legal (tt, (tt, (tt, (tt, (tt, tt))))) (subst (λ (w : World). EndsDone IsJob plan w rest) (sym end) (more u.0 u.1 u.2)) in
+      let all : EndsDone IsJob plan start ((rest ++ answering) ++ acknowledged apdu) = then_done IsJob plan start (rest ++ answering) (acknowledged apdu) (legal_without me d kept values last echo p h sent accepted apdu small is fits)
+      (tt, (tt, (tt, (tt, ((plan, job, record { free = refl; expect = expect; next = next; went = went }), tt))))) last_part in
+      subst (λ (l : List Event). EndsDone IsJob plan start l) (append_assoc rest answering (acknowledged apdu)) all
 
   by_answer : (apdu : List ℕ) (expect : Expect) (next : Option (List ℕ) → Plan) (kept : NonVolatile) (values : List (Option Value)) (last echo : Option Ldata) (p h : ℕ) (sent accepted : Texts) → p < 16 → h < 16 → Went plan sent accepted (Operation apdu expect next)
       → IsSendable (Operation apdu expect next) → FitsInto d.frames apdu → (o : Option (List ℕ)) → answers_of d kept apdu ≡ o → Suits apdu expect o
-      → ((p h : ℕ) (accepted : Texts) → p < 16 → h < 16 → Went plan (apdu ∷ sent) accepted (next o) → (values : List (Option Value)) (last echo : Option Ldata) → EndsDone plan (Up (whole kept (effect_in apdu)) values last echo p h (apdu ∷ sent) accepted) (operations (answers_of d) (next o) (whole kept (effect_in apdu))))
-      → EndsDone plan (Up kept values last echo p h sent accepted) (operations (answers_of d) (next o) (whole kept (effect_in apdu)) ++ operation apdu o)
+      → ((p h : ℕ) (accepted : Texts) → p < 16 → h < 16 → Went plan (apdu ∷ sent) accepted (next o) → (values : List (Option Value)) (last echo : Option Ldata) → EndsDone IsJob plan (Up (whole kept (effect_in apdu)) values last echo p h (apdu ∷ sent) accepted) (operations (answers_of d) (next o) (whole kept (effect_in apdu))))
+      → EndsDone IsJob plan (Up kept values last echo p h sent accepted) (operations (answers_of d) (next o) (whole kept (effect_in apdu)) ++ operation apdu o)
   by_answer apdu AckOnly next kept values last echo p h sent accepted small tiny went s fits None e suits more =
       without_one apdu next kept values last echo p h sent accepted small tiny went s.0 fits (sym s.1) e (operations (answers_of d) (next None) (whole kept (effect_in apdu)))
       (more (next_number p) h accepted (next_small p) tiny (Acknowledged apdu next sent accepted went))
@@ -130,8 +130,8 @@ module _ (plan : Plan) (me : IndAddr) (d : DeviceState) (can : IsSendable plan) 
       let w : World = replay (fresh me d) opening in
       (w.device.values, w.device.last, w.echo, rw power (rw (same d.address.raw) (rw (short_control d.frames me d.address 0x80) (rw connect_read refl))))
 
-  pub ends : d.power ≡ true → AnswersAll (answers_of d) plan d.kept → AllFit d.frames (answers_of d) plan d.kept → EndsDone plan (fresh me d) (undisturbed (answers_of d) plan d.kept)
+  pub ends : d.power ≡ true → AnswersAll (answers_of d) plan d.kept → AllFit d.frames (answers_of d) plan d.kept → EndsDone IsJob plan (fresh me d) (undisturbed (answers_of d) plan d.kept)
   ends power a f =
       let g = opens power in
-      then_done plan (fresh me d) (operations (answers_of d) plan d.kept) opening (tt, (tt, ((refl, refl), (tt, tt)))) (tt, (tt, (tt, (tt, tt))))
-      (subst (λ (w : World). EndsDone plan w (operations (answers_of d) plan d.kept)) (sym g.3) (goes_on plan d.kept g.0 g.1 g.2 0 0 [] [] (omega arith) (omega arith) NotBegun can a f))
+      then_done IsJob plan (fresh me d) (operations (answers_of d) plan d.kept) opening (tt, (tt, ((refl, refl), (tt, tt)))) (tt, (tt, (tt, (tt, tt))))
+      (subst (λ (w : World). EndsDone IsJob plan w (operations (answers_of d) plan d.kept)) (sym g.3) (goes_on plan d.kept g.0 g.1 g.2 0 0 [] [] (omega arith) (omega arith) NotBegun can a f))

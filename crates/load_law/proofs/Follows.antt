@@ -14,7 +14,6 @@ use Rattle.knx_model.specs.ClientConnection.{ClientEnd, Asked, Up, Asking, Await
 use Rattle.knx_model.specs.Device.{NonVolatile, runs}
 use Rattle.knx_model.specs.DeviceState.{DeviceState}
 use Rattle.knx_model.specs.DeviceFrames.{Outcome, Whole, took_of, is_taken}
-use Rattle.knx_model.specs.GoodPlan.{GoodPlan, IsSendable}
 use Rattle.knx_model.specs.Plans.{Plan, Over, Asks as Operation}
 use Rattle.session_law.specs.World.{Message, Con, Ind, World, fresh}
 use Rattle.session_law.specs.Client.{asks_so, waits_so, replies_so, takes_oldest}
@@ -28,9 +27,9 @@ use Rattle.session_law.proofs.Session.{Side, Sess, LastIs, FlyIs, PhaseIs, fly_r
 use Rattle.session_law.proofs.Heard.{tail_same}
 use Rattle.session_law.proofs.Books.{Books, empty, asks_book, carries_book, again_book, gets_book, books_after, books}
 use Rattle.session_law.proofs.Steps.{items, FlyMine, WorldInv, step_kept, fly_small, ready_small, sign_alone, fresh_inv, always}
-use Rattle.load_law.specs.Download.{Went, IsNext, MayAsk, Follows, IsDone, IsRight}
+use Rattle.load_law.specs.Download.{Went, MayAsk, Follows, IsDone, IsRight}
 use Rattle.load_law.proofs.Answers.{Texts, want}
-use Rattle.load_law.proofs.Walked.{Trail, On, count, few, walked}
+use Rattle.load_law.proofs.Walked.{AllGoodFor, Trail, On, count, few, walked}
 use Rattle.load_law.proofs.Loads.{Spoiled, InStep, IsCase, Load, got_load, shut_load, spoke_load}
 
 -- a frame that comes again opens only where nothing was delivered
@@ -54,13 +53,13 @@ pub record AllOver (sent accepted asked : Texts) (o : Seen) : Type 0 where
   pub delivered_is : o.delivered ≡ sent
   pub given_is : o.given ≡ accepted
 
-module _ (plan : Plan) (image : Image) (frames : FrameSupport) (first : NonVolatile) (good : GoodPlan plan image) (can : IsSendable plan) where
+module _ (IsJob : Plan → Type 0) (Holds : NonVolatile → Type 0) (image : Image) (frames : FrameSupport) (first : NonVolatile) (good : AllGoodFor IsJob Holds image) where
   abbrev Loaded : Texts → Seen → Type 0
-  Loaded = Load plan image frames first good can
+  Loaded = Load IsJob Holds image frames first good
 
-  session_over : (me : IndAddr) (asked : Texts) (fly : Option TransportFrame) (coming : List Sign) (owed : Texts) (number expected : ℕ) (sent accepted : Texts) (o : Seen) (rest : Plan) → Side me asked fly o → Loaded asked o
+  session_over : (me : IndAddr) (asked : Texts) (fly : Option TransportFrame) (coming : List Sign) (owed : Texts) (number expected : ℕ) (sent accepted : Texts) (o : Seen) (plan rest : Plan) → IsJob plan → Side me asked fly o → Loaded asked o
       → Sess asked fly coming owed false number expected sent accepted o → Went plan sent accepted rest → AllOver sent accepted asked o
-  session_over me asked fly coming owed number expected sent accepted o rest side load ss went =
+  session_over me asked fly coming owed number expected sent accepted o plan rest job side load ss went =
       let wait : length sent ≡ ss.done = ss.waiting in
       let told : ss.done ≤ length o.delivered = ss.told in
       let len : length asked ≡ length sent = ap (λ (z : Texts). length z) ss.same in
@@ -68,25 +67,25 @@ module _ (plan : Plan) (image : Image) (frames : FrameSupport) (first : NonVolat
       let same : o.delivered ≡ asked = tail_same o.delivered asked asked side.prefix ([], refl) (omega arith) in
       let fewer : length o.given ≤ want o.delivered = few frames load.start o.delivered o.given load.latest load.trail in
       let wants : want o.delivered ≡ want sent = ap want (same ∙ ss.same) in
-      let all : length accepted ≡ want sent = count plan rest sent accepted can went in
+      let all : length accepted ≡ want sent = count plan rest sent accepted (good.sendable plan job) went in
       let most : length accepted ≤ length o.given = tail_length accepted o.given ss.heard_is in
       record { sent_is = ss.same; delivered_is = same ∙ ss.same; given_is = sym (tail_same accepted o.given o.given ss.heard_is ([], refl) (omega arith)) }
 
   -- a client that awaits nothing
-  pub over_by : (me : IndAddr) (asked : Texts) (fly : Option TransportFrame) (coming : List Sign) (o : Seen) (end : ClientEnd) (joined pending : Bool) (owed sent accepted : Texts) (rest : Plan) → Side me asked fly o → Loaded asked o
+  pub over_by : (me : IndAddr) (asked : Texts) (fly : Option TransportFrame) (coming : List Sign) (o : Seen) (end : ClientEnd) (joined pending : Bool) (owed sent accepted : Texts) (plan rest : Plan) → IsJob plan → Side me asked fly o → Loaded asked o
       → PhaseIs end joined pending owed sent accepted asked fly coming o → awaits_nothing end ≡ true → Went plan sent accepted rest → AllOver sent accepted asked o
-  over_by me asked fly coming o (Asked device) joined pending owed sent accepted rest side load h up went = absurd (false≢true up)
-  over_by me asked fly coming o (Up s) joined pending owed sent accepted rest side load h up went = session_over me asked fly coming owed s.number s.expected sent accepted o rest side load h.1 went
-  over_by me asked fly coming o (Asking s q) joined pending owed sent accepted rest side load h up went = absurd (false≢true up)
-  over_by me asked fly coming o (Awaiting s) joined pending owed sent accepted rest side load h up went = absurd (false≢true up)
-  over_by me asked fly coming o Ended joined pending owed sent accepted rest side load h up went = absurd (false≢true up)
+  over_by me asked fly coming o (Asked device) joined pending owed sent accepted plan rest job side load h up went = absurd (false≢true up)
+  over_by me asked fly coming o (Up s) joined pending owed sent accepted plan rest job side load h up went = session_over me asked fly coming owed s.number s.expected sent accepted o plan rest job side load h.1 went
+  over_by me asked fly coming o (Asking s q) joined pending owed sent accepted plan rest job side load h up went = absurd (false≢true up)
+  over_by me asked fly coming o (Awaiting s) joined pending owed sent accepted plan rest job side load h up went = absurd (false≢true up)
+  over_by me asked fly coming o Ended joined pending owed sent accepted plan rest job side load h up went = absurd (false≢true up)
 
   abbrev pub LoadInv : World → Books → Type 0
   LoadInv w b = Loaded b.asked (seen_of w.device b.delivered b.given)
 
-  pub over_at : (w : World) (b : Books) (rest : Plan) → WorldInv w b → LoadInv w b → awaits_nothing w.client.end ≡ true → Went plan w.client.sent w.client.accepted rest → AllOver w.client.sent w.client.accepted b.asked (seen_of w.device b.delivered b.given)
-  over_at w b rest h l up went =
-      over_by w.me b.asked (opt_sign w.flying) (items w) (seen_of w.device b.delivered b.given) w.client.end w.client.joined w.client.pending w.client.owed w.client.sent w.client.accepted rest h.inv.side l h.inv.phase up went
+  pub over_at : (w : World) (b : Books) (plan rest : Plan) → IsJob plan → WorldInv w b → LoadInv w b → awaits_nothing w.client.end ≡ true → Went plan w.client.sent w.client.accepted rest → AllOver w.client.sent w.client.accepted b.asked (seen_of w.device b.delivered b.given)
+  over_at w b plan rest job h l up went =
+      over_by w.me b.asked (opt_sign w.flying) (items w) (seen_of w.device b.delivered b.given) w.client.end w.client.joined w.client.pending w.client.owed w.client.sent w.client.accepted plan rest job h.inv.side l h.inv.phase up went
 
   -- what it keeps is then what it kept after the last service
   latest_is : (asked : Texts) (o : Seen) (sent accepted : Texts) → AllOver sent accepted asked o → (l : Loaded asked o) → l.latest ≡ o.kept
@@ -95,29 +94,31 @@ module _ (plan : Plan) (image : Image) (frames : FrameSupport) (first : NonVolat
     | inr s ↦ absurd (let g : length asked ≡ suc (length o.delivered) = s.0 in let e : length asked ≡ length o.delivered = ap (λ (z : Texts). length z) (over.sent_is ∙ sym over.delivered_is) in omega arith)
   ]
 
-  leads_on : (asked : Texts) (o : Seen) (sent accepted : Texts) (rest : Plan) → AllOver sent accepted asked o → Loaded asked o → Went plan sent accepted rest → On plan image frames first good can rest o.kept
-  leads_on asked o sent accepted rest over l went =
+  leads_on : (asked : Texts) (o : Seen) (sent accepted : Texts) (plan rest : Plan) → IsJob plan → AllOver sent accepted asked o → Loaded asked o → Went plan sent accepted rest → On image frames first rest o.kept
+  leads_on asked o sent accepted plan rest job over l went =
       let t : Trail frames l.start sent accepted o.kept
       = subst (λ (z : NonVolatile). Trail frames l.start sent accepted z) (latest_is asked o sent accepted over l)
       (subst (λ (z : Texts). Trail frames l.start sent z l.latest) over.given_is (subst (λ (z : Texts). Trail frames l.start z o.given l.latest) over.delivered_is l.trail)) in
-      walked plan image frames first good can rest sent accepted l.start o.kept l.began went t
+      walked image frames first Holds plan (good.good plan job) (good.sendable plan job) rest sent accepted l.start o.kept l.began l.held went t
 
   -- ---- each event
 
-  asks_load : (w : World) (b : Books) (apdu : List ℕ) (o : Option (List ℕ)) → WorldInv w b → LoadInv w b → IsNext plan w apdu → LoadInv (asks_so w apdu o) (asks_book b apdu o)
+  asks_load : (w : World) (b : Books) (apdu : List ℕ) (o : Option (List ℕ)) → WorldInv w b → LoadInv w b → MayAsk IsJob w (Asks apdu) → LoadInv (asks_so w apdu o) (asks_book b apdu o)
   asks_load w b apdu None h l may = l
-  asks_load w b apdu (Some tpdu) h l may =
-      let over = over_at w b (Operation apdu may.expect may.next) h l may.free may.went in
+  asks_load w b apdu (Some tpdu) h l (plan, job, may) =
+      let over = over_at w b plan (Operation apdu may.expect may.next) job h l may.free may.went in
       record {
         same_frames = l.same_frames;
         case = l.case;
+        holds = l.holds;
         in_step = (
-          record { expect = may.expect; next = may.next; accepted = w.client.accepted; went = subst (λ (z : Texts). Went plan z w.client.accepted (Operation apdu may.expect may.next)) (sym over.sent_is) may.went },
+          record { plan = plan; job = job; expect = may.expect; next = may.next; accepted = w.client.accepted; went = subst (λ (z : Texts). Went plan z w.client.accepted (Operation apdu may.expect may.next)) (sym over.sent_is) may.went },
           λ len. over.given_is,
         );
         start = l.start;
         latest = l.latest;
         began = l.began;
+        held = l.held;
         trail = l.trail;
         reached = inl (latest_is b.asked (seen_of w.device b.delivered b.given) w.client.sent w.client.accepted over l);
       }
@@ -140,8 +141,8 @@ module _ (plan : Plan) (image : Image) (frames : FrameSupport) (first : NonVolat
   anew_same true asked asked' e z = absurd (false≢true (sym z))
   anew_same false asked asked' e z = e
 
-  anew_step : (b : Bool) (asked asked' : Texts) → asked' ≡ cond b [] asked → b ≡ true → InStep plan asked' [] []
-  anew_step true asked asked' e z = subst (λ (x : Texts). InStep plan x [] []) (sym e) tt
+  anew_step : (b : Bool) (asked asked' : Texts) → asked' ≡ cond b [] asked → b ≡ true → InStep IsJob asked' [] []
+  anew_step true asked asked' e z = subst (λ (x : Texts). InStep IsJob x [] []) (sym e) tt
   anew_step false asked asked' e z = absurd (false≢true z)
 
   bus_load : (w : World) (b : Books) (fl : Option Ldata) (outcome : Outcome) → w.flying ≡ fl → WorldInv w b → LoadInv w b → LoadInv (carries w fl outcome) (carries_book w b fl outcome)
@@ -154,7 +155,7 @@ module _ (plan : Plan) (image : Image) (frames : FrameSupport) (first : NonVolat
       let fly : FlyIs (Some s) b.asked = subst (λ (z : Option TransportFrame). FlyIs z b.asked) at h.inv.side.fly_is in
       let got : GotIs w.me w.device frame w.now outcome b.delivered b.given s = got_mine w.me w.device frame w.now outcome b.delivered b.given mine.0 mine.1 (fly_small s b.asked fly) h.inv.side.conn in
       let asked' : Texts = or_anew (took_alone w.device frame) b.asked in
-      got_load plan image frames first good can w.me b.asked asked' s o _ got.0 (is_taken (took_of w.device frame)) (fly_ready s b.asked b.delivered h.inv.side.prefix h.inv.side.one fly)
+      got_load IsJob Holds image frames first good w.me b.asked asked' s o _ got.0 (is_taken (took_of w.device frame)) (fly_ready s b.asked b.delivered h.inv.side.prefix h.inv.side.one fly)
       (anew_same got.0 b.asked asked' (got.2 b.asked)) (anew_step got.0 b.asked asked' (got.2 b.asked)) l got.1
 
   lost_load : (w : World) (b : Books) (fl : Option Ldata) → LoadInv w b → LoadInv (carries_lost w fl) b
@@ -165,7 +166,7 @@ module _ (plan : Plan) (image : Image) (frames : FrameSupport) (first : NonVolat
   group_load w b frame g h l =
       let o : Seen = seen_of w.device b.delivered b.given in
       let got : GotIs w.me w.device frame w.now Whole b.delivered b.given Other = got_group w.me w.device frame w.now b.delivered b.given g h.inv.side.conn in
-      got_load plan image frames first good can w.me b.asked b.asked Other o _ got.0 (is_taken (took_of w.device frame)) tt (λ z. refl) (λ z. absurd (opens_other w.me Whole o got.0 (is_taken (took_of w.device frame)) _ got.1 z)) l got.1
+      got_load IsJob Holds image frames first good w.me b.asked b.asked Other o _ got.0 (is_taken (took_of w.device frame)) tt (λ z. refl) (λ z. absurd (opens_other w.me Whole o got.0 (is_taken (took_of w.device frame)) _ got.1 z)) l got.1
 
   again_load : (w : World) (b : Books) (r : Option Ldata) → w.device.last ≡ r → LastMine w.me r → WorldInv w b → LoadInv w b → LoadInv (gets_again w r) (again_book w b r)
   again_load w b None e mine h l = l
@@ -176,12 +177,12 @@ module _ (plan : Plan) (image : Image) (frames : FrameSupport) (first : NonVolat
       let at : opt_sign w.device.last ≡ Some s = ap opt_sign e ∙ ap (λ (z : TransportFrame). Some z) (sign_alone frame mine.0) in
       let last : LastIs (Some s) b.asked b.delivered b.given = subst (λ (z : Option TransportFrame). LastIs z b.asked b.delivered b.given) at h.inv.side.last_is in
       let got : GotIs w.me w.device frame w.now Whole b.delivered b.given s = got_mine w.me w.device frame w.now Whole b.delivered b.given mine.0 mine.1 (ready_small s b.asked b.delivered last.0) h.inv.side.conn in
-      let opens : got.0 ≡ true → InStep plan b.asked [] [] = λ z.
+      let opens : got.0 ≡ true → InStep IsJob b.asked [] [] = λ z.
       let none = again_opens w.me Whole s o b.asked got.0 (is_taken (took_of w.device frame)) _ last got.1 z in
-      subst (λ (x : Texts). InStep plan b.asked x []) none.0 (subst (λ (y : Texts). InStep plan b.asked b.delivered y) none.1 l.in_step) in
-      got_load plan image frames first good can w.me b.asked b.asked s o _ got.0 (is_taken (took_of w.device frame)) last.0 (λ z. refl) opens l got.1
+      subst (λ (x : Texts). InStep IsJob b.asked x []) none.0 (subst (λ (y : Texts). InStep IsJob b.asked b.delivered y) none.1 l.in_step) in
+      got_load IsJob Holds image frames first good w.me b.asked b.asked s o _ got.0 (is_taken (took_of w.device frame)) last.0 (λ z. refl) opens l got.1
 
-  step_load : (w : World) (b : Books) (e : Event) → MayHappen w e → MayAsk plan w e → WorldInv w b → LoadInv w b → LoadInv (step w e) (books_after w b e)
+  step_load : (w : World) (b : Books) (e : Event) → MayHappen w e → MayAsk IsJob w e → WorldInv w b → LoadInv w b → LoadInv (step w e) (books_after w b e)
   step_load w b Connects may al h l = l
   step_load w b (Asks apdu) may al h l = asks_load w b apdu (client_sent w.client.end apdu) h l al
   step_load w b Waits may al h l = waits_load w b (client_expired w.client.end w.now) l
@@ -196,36 +197,36 @@ module _ (plan : Plan) (image : Image) (frames : FrameSupport) (first : NonVolat
   step_load w b BusAgain may al h l = again_load w b w.device.last refl h.last h l
   step_load w b (Group frame) may al h l = group_load w b frame may h l
   step_load w b Elsewhere may al h l = l
-  step_load w b (DevSend gateway) may al h l = spoke_load plan image frames first good can w.me b.asked (seen_of w.device b.delivered b.given) _ _ l (pops_seen w.me w.device b.delivered b.given)
-  step_load w b (DevRepeat gateway) may al h l = spoke_load plan image frames first good can w.me b.asked (seen_of w.device b.delivered b.given) _ _ l (repeats_seen w.me w.device w.now b.delivered b.given may h.inv.side.conn)
-  step_load w b DevClose may al h l = shut_load plan image frames first good can b.asked (seen_of w.device b.delivered b.given) _ l (shut_seen w.device b.delivered b.given)
+  step_load w b (DevSend gateway) may al h l = spoke_load IsJob Holds image frames first good w.me b.asked (seen_of w.device b.delivered b.given) _ _ l (pops_seen w.me w.device b.delivered b.given)
+  step_load w b (DevRepeat gateway) may al h l = spoke_load IsJob Holds image frames first good w.me b.asked (seen_of w.device b.delivered b.given) _ _ l (repeats_seen w.me w.device w.now b.delivered b.given may h.inv.side.conn)
+  step_load w b DevClose may al h l = shut_load IsJob Holds image frames first good b.asked (seen_of w.device b.delivered b.given) _ l (shut_seen w.device b.delivered b.given)
   step_load w b GwAgain may al h l = l
-  step_load w b Cut may al h l = shut_load plan image frames first good can b.asked (seen_of w.device b.delivered b.given) _ l (cut_is w.device b.delivered b.given)
-  step_load w b PowerOn may al h l = shut_load plan image frames first good can b.asked (seen_of w.device b.delivered b.given) _ l (on_seen w.device b.delivered b.given)
+  step_load w b Cut may al h l = shut_load IsJob Holds image frames first good b.asked (seen_of w.device b.delivered b.given) _ l (cut_is w.device b.delivered b.given)
+  step_load w b PowerOn may al h l = shut_load IsJob Holds image frames first good b.asked (seen_of w.device b.delivered b.given) _ l (on_seen w.device b.delivered b.given)
   step_load w b (Pass ms) may al h l = l
 
   -- ---- what it promises
 
-  right_at : (w : World) (b : Books) → WorldInv w b → LoadInv w b → IsRight plan image first w
+  right_at : (w : World) (b : Books) → WorldInv w b → LoadInv w b → IsRight IsJob image first w
   right_at w b h l =
       record {
         case = l.case;
-        done = λ d. (leads_on b.asked (seen_of w.device b.delivered b.given) w.client.sent w.client.accepted Over (over_at w b Over h l d.over d.all) l d.all).1;
+        done = λ plan job d. (leads_on b.asked (seen_of w.device b.delivered b.given) w.client.sent w.client.accepted plan Over job (over_at w b plan Over job h l d.over d.all) l d.all).1;
       }
 
-  pub load_always : (start : World) (events : List Event) → WorldInv start empty → LoadInv start empty → IsLegal start events → Follows plan start events → LoadInv (replay start events) (books start events)
+  pub load_always : (start : World) (events : List Event) → WorldInv start empty → LoadInv start empty → IsLegal start events → Follows IsJob start events → LoadInv (replay start events) (books start events)
   load_always start [] h l legal f = l
   load_always start (e ∷ events) h l legal f = step_load (replay start events) (books start events) e legal.0 f.0 (always start events h legal.1) (load_always start events h l legal.1 f.1)
 
-  pub right_always : (start : World) (events : List Event) → WorldInv start empty → LoadInv start empty → IsLegal start events → Follows plan start events → AtEveryMoment (λ past. IsRight plan image first (replay start past)) events
+  pub right_always : (start : World) (events : List Event) → WorldInv start empty → LoadInv start empty → IsLegal start events → Follows IsJob start events → AtEveryMoment (λ past. IsRight IsJob image first (replay start past)) events
   right_always start [] h l legal f = right_at start empty h l
   right_always start (e ∷ events) h l legal f =
       (right_at (replay start (e ∷ events)) (books start (e ∷ events)) (always start (e ∷ events) h legal) (load_always start (e ∷ events) h l legal f), right_always start events h l legal.1 f.1)
 
-  pub fresh_load : (me : IndAddr) (d : DeviceState) → d.frames ≡ frames → d.kept ≡ first → LoadInv (fresh me d) empty
-  fresh_load me d e f = record { same_frames = e; case = inl f; in_step = tt; start = d.kept; latest = d.kept; began = inl f; trail = (refl, refl); reached = inl refl }
+  pub fresh_load : (me : IndAddr) (d : DeviceState) → d.frames ≡ frames → d.kept ≡ first → Holds d.kept → LoadInv (fresh me d) empty
+  fresh_load me d e f holds = record { same_frames = e; case = inl f; holds = holds; in_step = tt; start = d.kept; latest = d.kept; began = inl f; held = holds; trail = (refl, refl); reached = inl refl }
 
-pub each_moment : (plan : Plan) (image : Image) (me : IndAddr) (d : DeviceState) (events : List Event) → GoodPlan plan image → IsSendable plan → IsLegal (fresh me d) events → Follows plan (fresh me d) events
-    → AtEveryMoment (λ past. IsRight plan image d.kept (replay (fresh me d) past)) events
-each_moment plan image me d events good can legal f =
-    right_always plan image d.frames d.kept good can (fresh me d) events (fresh_inv me d) (fresh_load plan image d.frames d.kept good can me d refl refl) legal f
+pub each_moment : (IsJob : Plan → Type 0) (Holds : NonVolatile → Type 0) (image : Image) (me : IndAddr) (d : DeviceState) (events : List Event) → AllGoodFor IsJob Holds image → Holds d.kept → IsLegal (fresh me d) events → Follows IsJob (fresh me d) events
+    → AtEveryMoment (λ past. IsRight IsJob image d.kept (replay (fresh me d) past)) events
+each_moment IsJob Holds image me d events good holds legal f =
+    right_always IsJob Holds image d.frames d.kept good (fresh me d) events (fresh_inv me d) (fresh_load IsJob Holds image d.frames d.kept good me d refl refl holds) legal f

@@ -6,4 +6,5 @@ mod Quiet
 mod Short
 mod Calm
 mod Ends
-mod Loadings
+mod Capacities
+mod Jobs

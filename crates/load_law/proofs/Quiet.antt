@@ -12,7 +12,7 @@ use Rattle.knx_model.specs.Connection.{frame_in}
 use Rattle.knx_model.specs.ClientConnection.{client_expired}
 use Rattle.knx_model.specs.DeviceState.{DeviceState}
 use Rattle.knx_model.specs.DeviceFrames.{Outcome, Whole, took_of, is_taken}
-use Rattle.knx_model.specs.GoodPlan.{GoodPlan, IsSendable}
+use Rattle.knx_model.specs.Device.{NonVolatile}
 use Rattle.knx_model.specs.Plans.{Plan, Over}
 use Rattle.session_law.specs.World.{Message, Con, Ind, World, fresh}
 use Rattle.session_law.specs.Client.{waits_so, replies_so, takes_oldest}
@@ -26,6 +26,7 @@ use Rattle.session_law.proofs.Books.{Books, empty, carries_book, gets_book, agai
 use Rattle.session_law.proofs.Steps.{FlyMine, WorldInv, fly_small, ready_small, sign_alone, fresh_inv, always}
 use Rattle.load_law.specs.Download.{Follows, IsDone, IsSilent, AsksNothing}
 use Rattle.load_law.proofs.Answers.{Texts}
+use Rattle.load_law.proofs.Walked.{AllGoodFor}
 use Rattle.load_law.proofs.Follows.{again_opens, opens_other, over_at, load_always, fresh_load}
 
 -- what a frame leaves where nothing else was asked
@@ -161,13 +162,13 @@ stays start (e ∷ later) earlier h legal na q =
     = quiet_step (replay start (later ++ earlier)) (books start (later ++ earlier)) e legal.0 na.0 (always start (later ++ earlier) h legal.1) t.quiet in
     record { quiet = u.quiet; kept = u.kept ∙ t.kept }
 
-pub done_stays : (plan : Plan) (image : Image) (me : IndAddr) (d : DeviceState) (later earlier : List Event) → GoodPlan plan image → IsSendable plan → IsLegal (fresh me d) (later ++ earlier) → Follows plan (fresh me d) earlier
-    → IsDone plan (replay (fresh me d) earlier) → AsksNothing later → (replay (fresh me d) (later ++ earlier)).device.kept ≡ (replay (fresh me d) earlier).device.kept
-done_stays plan image me d later earlier good can legal f done na =
+pub done_stays : (IsJob : Plan → Type 0) (Holds : NonVolatile → Type 0) (plan : Plan) (image : Image) (me : IndAddr) (d : DeviceState) (later earlier : List Event) → AllGoodFor IsJob Holds image → Holds d.kept → IsJob plan → IsLegal (fresh me d) (later ++ earlier)
+    → Follows IsJob (fresh me d) earlier → IsDone plan (replay (fresh me d) earlier) → AsksNothing later → (replay (fresh me d) (later ++ earlier)).device.kept ≡ (replay (fresh me d) earlier).device.kept
+done_stays IsJob Holds plan image me d later earlier good holds job legal f done na =
     let start : World = fresh me d in
     let w : World = replay start earlier in
     let b : Books = books start earlier in
     let h : WorldInv w b = always start earlier (fresh_inv me d) (front_legal start later earlier legal) in
-    let l = load_always plan image d.frames d.kept good can start earlier (fresh_inv me d) (fresh_load plan image d.frames d.kept good can me d refl refl) (front_legal start later earlier legal) f in
-    let all = over_at plan image d.frames d.kept good can w b Over h l done.over done.all in
+    let l = load_always IsJob Holds image d.frames d.kept good start earlier (fresh_inv me d) (fresh_load IsJob Holds image d.frames d.kept good me d refl refl holds) (front_legal start later earlier legal) f in
+    let all = over_at IsJob Holds image d.frames d.kept good w b plan Over job h l done.over done.all in
     (stays start later earlier (fresh_inv me d) legal na (all.sent_is ∙ sym all.delivered_is)).kept

@@ -8,7 +8,7 @@ use Rattle.knx_model.specs.declared.plan.Expect.TheVariants.{AckOnly, Is, Note}
 use Rattle.knx_model.specs.ClientConnection.{has_answer}
 use Rattle.knx_model.specs.Device.{NonVolatile, runs, answer_in}
 use Rattle.knx_model.specs.DeviceFrames.{Outcome}
-use Rattle.knx_model.specs.GoodPlan.{kept_by, IsNotTorn, OldStoppedOrImage, GoodPlan, IsSendable, awaits_answer}
+use Rattle.knx_model.specs.GoodPlan.{Beginning, WholeRun, kept_by, IsNotTorn, OldStoppedOrImage, IsSendable, awaits_answer}
 use Rattle.knx_model.specs.Plans.{Plan, Over, Asks as Operation, Suits}
 use Rattle.knx_model.proofs.Leads.{Leads, Leads-by_runs, Leads-weaker}
 use Rattle.session_law.proofs.Device.{and_octets}
@@ -56,9 +56,20 @@ count plan _ _ _ s (Answered apdu expect next got sent accepted w suits) =
     let one : one_if (has_answer apdu) ≡ 1 = ap one_if (answered_one apdu expect got suits (sendable plan (Operation apdu expect next) sent accepted s w).1) in
     omega arith
 
+-- ---- plans that are good for devices of which something holds, which no service takes from them
+
+pub record IsGoodFor (Holds : NonVolatile → Type 0) (plan : Plan) (image : Image) : Type 0 where
+  pub beginnings : (frames : FrameSupport) (start end : NonVolatile) → Holds start → Beginning (answer_in frames) plan start end → OldStoppedOrImage start image end
+  pub whole_runs : (frames : FrameSupport) (start end : NonVolatile) → Holds start → WholeRun (answer_in frames) plan start end → runs end ≡ Some image
+
+pub record AllGoodFor (IsJob : Plan → Type 0) (Holds : NonVolatile → Type 0) (image : Image) : Type 0 where
+  pub kept : (nv : NonVolatile) (apdu : List ℕ) (outcome : Outcome) → Holds nv → Holds (kept_by nv apdu outcome)
+  pub good : (plan : Plan) → IsJob plan → IsGoodFor Holds plan image
+  pub sendable : (plan : Plan) → IsJob plan → IsSendable plan
+
 -- ---- so what the device keeps leads on
 
-module _ (plan : Plan) (image : Image) (frames : FrameSupport) (first : NonVolatile) (good : GoodPlan plan image) (can : IsSendable plan) where
+module _ (image : Image) (frames : FrameSupport) (first : NonVolatile) where
   abbrev pub Case : NonVolatile → Type 0
   Case = OldStoppedOrImage first image
 
@@ -68,10 +79,10 @@ module _ (plan : Plan) (image : Image) (frames : FrameSupport) (first : NonVolat
   abbrev pub On : Plan → NonVolatile → Type 0
   On = Leads (answer_in frames) Case Runs
 
-  begun : (start : NonVolatile) → Case start → On plan start
-  begun start case =
+  begun : (Holds : NonVolatile → Type 0) (plan : Plan) → IsGoodFor Holds plan image → (start : NonVolatile) → Case start → Holds start → On plan start
+  begun Holds plan good start case holds =
       Leads-weaker (answer_in frames) (OldStoppedOrImage start image) Case Runs Runs (λ u h. elim h [ inl same ↦ subst Case (sym same) case | inr other ↦ inr other ]) (λ u h. h) plan start
-      (Leads-by_runs (answer_in frames) (OldStoppedOrImage start image) Runs plan start (good.beginnings frames start) (good.whole_runs frames start))
+      (Leads-by_runs (answer_in frames) (OldStoppedOrImage start image) Runs plan start (λ end b. good.beginnings frames start end holds b) (λ end r. good.whole_runs frames start end holds r))
 
   goes_on : (apdu : List ℕ) (expect : Expect) (next : Option (List ℕ) → Plan) (nv kept : NonVolatile) (outcome : Outcome) (o : Option (List ℕ)) → answer_in frames nv apdu ≡ o → Suits apdu expect o → IsNotTorn outcome → kept ≡ kept_by nv apdu outcome
       → On (Operation apdu expect next) nv → On (next o) kept
@@ -88,12 +99,12 @@ module _ (plan : Plan) (image : Image) (frames : FrameSupport) (first : NonVolat
       let more : rest ≡ accepted = cc in
       goes_on apdu expect next nv kept outcome (Some got) (e ∙ ap (λ (z : List ℕ). Some z) (sym is)) suits whole ke (f more)
 
-  pub walked : (rest : Plan) (sent given : Texts) (start kept : NonVolatile) → Case start → Went plan sent given rest → Trail frames start sent given kept → On rest kept
-  walked _ _ _ start kept case NotBegun t = subst (λ (z : NonVolatile). On plan z) (sym t.1) (begun start case)
-  walked _ _ _ start kept case (Acknowledged apdu next sent accepted w) t =
+  pub walked : (Holds : NonVolatile → Type 0) (plan : Plan) → IsGoodFor Holds plan image → IsSendable plan → (rest : Plan) (sent given : Texts) (start kept : NonVolatile) → Case start → Holds start → Went plan sent given rest → Trail frames start sent given kept → On rest kept
+  walked Holds plan good can _ _ _ start kept case holds NotBegun t = subst (λ (z : NonVolatile). On plan z) (sym t.1) (begun Holds plan good start case holds)
+  walked Holds plan good can _ _ _ start kept case holds (Acknowledged apdu next sent accepted w) t =
       let none : answer_in frames t.0 apdu ≡ None = no_answer frames t.0 apdu (sym (sendable plan (Operation apdu AckOnly next) sent accepted can w).1) in
       let same : t.1 ≡ accepted = sym (t.4 ∙ ap (λ (z : Option (List ℕ)). and_octets z t.1) none) in
-      goes_on apdu AckOnly next t.0 kept t.2 None none tt t.3 t.5 (walked (Operation apdu AckOnly next) sent accepted start t.0 case w (subst (λ (z : Texts). Trail frames start sent z t.0) same t.6))
-  walked _ _ _ start kept case (Answered apdu expect next got sent accepted w suits) t =
+      goes_on apdu AckOnly next t.0 kept t.2 None none tt t.3 t.5 (walked Holds plan good can (Operation apdu AckOnly next) sent accepted start t.0 case holds w (subst (λ (z : Texts). Trail frames start sent z t.0) same t.6))
+  walked Holds plan good can _ _ _ start kept case holds (Answered apdu expect next got sent accepted w suits) t =
       answered_on apdu expect next got sent accepted t.1 start t.0 kept t.2 (answer_in frames t.0 apdu) refl t.4 (few frames start sent t.1 t.0 t.6) (count plan (Operation apdu expect next) sent accepted can w) suits t.3 t.5
-      (λ same. walked (Operation apdu expect next) sent accepted start t.0 case w (subst (λ (z : Texts). Trail frames start sent z t.0) same t.6))
+      (λ same. walked Holds plan good can (Operation apdu expect next) sent accepted start t.0 case holds w (subst (λ (z : Texts). Trail frames start sent z t.0) same t.6))

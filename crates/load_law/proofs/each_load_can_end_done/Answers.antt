@@ -1,5 +1,5 @@
 use Rattle.load_law.proofs.each_load_can_end_done.Goals as goal
-use Rattle.load_law.proofs.Loadings.{load_ends, load_runs}
+use Rattle.load_law.proofs.Jobs.{load_ends, load_runs}
 
 pub returns-clause-legal : goal.returns-clause-legal
 returns-clause-legal c = λ image me d fits has power. (load_ends image me d fits has power).legal
