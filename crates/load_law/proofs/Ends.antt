@@ -1,0 +1,137 @@
+-- A download that nothing disturbs may happen, follows the plan, and ends done.
+use Rattle.std.proofs.Common.{◌≡◌, ℕ, suc, ◌+◌, ◌%◌, ◌<◌, ◌≤◌, List, [], ◌∷◌, ◌++◌, Bool, true, false, Option, Some, None, refl, sym, ◌∙◌, ap, subst, arith, append_assoc}
+use Rattle.std.proofs.lemmas.Bool.{false≢true}
+use Rattle.std.specs.List.{AllByRecursion}
+use Rattle.knx_model.specs.declared.address.IndAddr.{IndAddr}
+use Rattle.knx_model.specs.declared.frames.cemi.Ldata.{Ldata}
+use Rattle.knx_model.specs.declared.frames.tpdu.Tpdu.TheVariants as tpdu
+use Rattle.knx_model.specs.declared.frames.value.Value.{Value}
+use Rattle.knx_model.specs.declared.plan.Expect.{Expect}
+use Rattle.knx_model.specs.declared.plan.Expect.TheVariants.{AckOnly, Is, Note}
+use Rattle.knx_model.specs.Apdu.{Written}
+use Rattle.knx_model.specs.Connection.{IsApdu, next_number}
+use Rattle.knx_model.specs.ClientConnection.{has_answer, client_confirmed, after_confirmed}
+use Rattle.knx_model.specs.DeviceConnection.{device_took, device_after}
+use Rattle.knx_model.specs.Device.{NonVolatile, whole, effect_in, answer_in}
+use Rattle.knx_model.specs.DeviceState.{DeviceState, zero_values}
+use Rattle.knx_model.specs.DeviceFrames.{Whole, own_frame}
+use Rattle.knx_model.specs.GoodPlan.{AnswersAll, IsSendable, services_given}
+use Rattle.knx_model.specs.Plans.{Plan, Over, Asks as Operation, Suits}
+use Rattle.session_law.specs.World.{World, fresh}
+use Rattle.session_law.specs.Device.{Comes}
+use Rattle.session_law.specs.Events.{Event, Connects, Takes, Joins, Bus, DevSend, MayHappen, replay, IsLegal}
+use Rattle.session_law.proofs.Apdus.{answer_is_apdu}
+use Rattle.session_law.proofs.Device.{and_octets}
+use Rattle.session_law.proofs.Frames.{connect_read}
+use Rattle.load_law.specs.Download.{Went, NotBegun, Acknowledged, Answered, IsNext, MayAsk, Follows, IsDone}
+use Rattle.load_law.specs.Undisturbed.{opening, acknowledged, operation, operations, undisturbed, FitsInto, AllFit}
+use Rattle.load_law.proofs.Answers.{Texts, no_answer}
+use Rattle.load_law.proofs.Calm.{calm, same, Ends, short_control, goes_without, legal_without, Waits, answering, waits, answered, legal_answering}
+
+-- ---- one run after another
+
+replay_more : (start : World) (l k : List Event) → replay start (l ++ k) ≡ replay (replay start k) l
+replay_more start [] k = refl
+replay_more start (e ∷ l) k = ap (λ (w : World). replay w (e ∷ [])) (replay_more start l k)
+
+legal_more : (start : World) (l k : List Event) → IsLegal (replay start k) l → IsLegal start k → IsLegal start (l ++ k)
+legal_more start [] k h g = g
+legal_more start (e ∷ l) k h g = (subst (λ (w : World). MayHappen w e) (sym (replay_more start l k)) h.0, legal_more start l k h.1 g)
+
+follows_more : (IsJob : Plan → Type 0) (start : World) (l k : List Event) → Follows IsJob (replay start k) l → Follows IsJob start k → Follows IsJob start (l ++ k)
+follows_more IsJob start [] k h g = g
+follows_more IsJob start (e ∷ l) k h g = (subst (λ (w : World). MayAsk IsJob w e) (sym (replay_more start l k)) h.0, follows_more IsJob start l k h.1 g)
+
+next_small : (n : ℕ) → next_number n < 16
+next_small n = omega arith
+
+-- ---- from a connection that is up
+
+pub record EndsDone (IsJob : Plan → Type 0) (plan : Plan) (w : World) (events : List Event) : Type 0 where
+  pub legal : IsLegal w events
+  pub follows : Follows IsJob w events
+  pub done : IsDone plan (replay w events)
+
+then_done : (IsJob : Plan → Type 0) (plan : Plan) (w : World) (l k : List Event) → IsLegal w k → Follows IsJob w k → EndsDone IsJob plan (replay w k) l → EndsDone IsJob plan w (l ++ k)
+then_done IsJob plan w l k legal f h = record { legal = legal_more w l k h.legal legal; follows = follows_more IsJob w l k h.follows f; done = subst (λ (x : World). IsDone plan x) (sym (replay_more w l k)) h.done }
+
+abbrev answers_of : DeviceState → NonVolatile → List ℕ → Option (List ℕ)
+answers_of d = answer_in d.frames
+
+-- the operation has an answer exactly where one is wanted
+no_more : (apdu : List ℕ) (expect : Expect) → Suits apdu expect None → expect ≡ AckOnly
+no_more apdu AckOnly s = refl
+no_more apdu (Is wanted) s = absurd s
+no_more apdu Note s = absurd s
+
+module _ (IsJob : Plan → Type 0) (plan : Plan) (job : IsJob plan) (me : IndAddr) (d : DeviceState) (can : IsSendable plan) where
+  abbrev Up : NonVolatile → List (Option Value) → Option Ldata → Option Ldata → ℕ → ℕ → Texts → Texts → World
+  Up = calm me d
+
+  -- the rest of the plan, from any such connection
+  abbrev GoesOn : Plan → Type 0
+  GoesOn rest =
+      (kept : NonVolatile) (values : List (Option Value)) (last echo : Option Ldata) (p h : ℕ) (sent accepted : Texts) → p < 16 → h < 16 → Went plan sent accepted rest → IsSendable rest → AnswersAll (answers_of d) rest kept → AllFit d.frames (answers_of d) rest kept
+      → EndsDone IsJob plan (Up kept values last echo p h sent accepted) (operations (answers_of d) rest kept)
+
+  without_one : (apdu : List ℕ) (next : Option (List ℕ) → Plan) (kept : NonVolatile) (values : List (Option Value)) (last echo : Option Ldata) (p h : ℕ) (sent accepted : Texts) → p < 16 → h < 16 → Went plan sent accepted (Operation apdu AckOnly next) → IsApdu apdu
+      → FitsInto d.frames apdu → has_answer apdu ≡ false → answers_of d kept apdu ≡ None → (rest : List Event) → ((values : List (Option Value)) (last echo : Option Ldata) → EndsDone IsJob plan (Up (whole kept (effect_in apdu)) values last echo (next_number p) h (apdu ∷ sent) accepted) rest)
+      → EndsDone IsJob plan (Up kept values last echo p h sent accepted) (rest ++ acknowledged apdu)
+  without_one apdu next kept values last echo p h sent accepted small tiny went is fits a n rest more =
+      let g = goes_without me d kept values last echo p h sent accepted apdu small is fits a n in
+      then_done IsJob plan (Up kept values last echo p h sent accepted) rest (acknowledged apdu) (legal_without me d kept values last echo p h sent accepted apdu small is fits)
+      (tt, (tt, (tt, (tt, ((plan, job, record { free = refl; expect = AckOnly; next = next; went = went }), tt)))))
+      (subst (λ (w : World). EndsDone IsJob plan w rest) (sym g.3) (more g.0 g.1 g.2))
+
+  with_one : (apdu v : List ℕ) (expect : Expect) (next : Option (List ℕ) → Plan) (kept : NonVolatile) (values : List (Option Value)) (last echo : Option Ldata) (p h : ℕ) (sent accepted : Texts) → p < 16 → h < 16 → Went plan sent accepted (Operation apdu expect next) → IsApdu apdu
+      → FitsInto d.frames apdu → has_answer apdu ≡ true → answers_of d kept apdu ≡ Some v → (rest : List Event) → ((values : List (Option Value)) (last echo : Option Ldata) → EndsDone IsJob plan (Up (whole kept (effect_in apdu)) values last echo (next_number p) (next_number h) (apdu ∷ sent) (v ∷ accepted)) rest)
+      → EndsDone IsJob plan (Up kept values last echo p h sent accepted) (rest ++ operation apdu (Some v))
+  with_one apdu v expect next kept values last echo p h sent accepted small tiny went is fits a n rest more =
+      let iv : IsApdu v = answer_is_apdu d.frames kept apdu v n in
+      let start : World = Up kept values last echo p h sent accepted in
+      let g = waits me d kept values last echo p h sent accepted apdu v small is fits a n in
+      let k : World = replay start (acknowledged apdu) in
+      let u = answered me d (whole kept (effect_in apdu)) g.0 g.1 g.2 (next_number p) h (apdu ∷ sent) accepted v tiny iv in
+      let legal : IsLegal k answering = subst (λ (w : World). IsLegal w answering) (sym g.3) (legal_answering me d (whole kept (effect_in apdu)) g.0 g.1 g.2 (next_number p) h (apdu ∷ sent) accepted v) in
+      let end : replay k answering ≡ Up (whole kept (effect_in apdu)) u.0 u.1 u.2 (next_number p) (next_number h) (apdu ∷ sent) (v ∷ accepted) = ap (λ (w : World). replay w answering) g.3 ∙ u.3 in
+      let last_part : EndsDone IsJob plan k (rest ++ answering) = then_done IsJob plan k rest answering legal (tt, (tt, (tt, (tt, (tt, tt))))) (subst (λ (w : World). EndsDone IsJob plan w rest) (sym end) (more u.0 u.1 u.2)) in
+      let all : EndsDone IsJob plan start ((rest ++ answering) ++ acknowledged apdu) = then_done IsJob plan start (rest ++ answering) (acknowledged apdu) (legal_without me d kept values last echo p h sent accepted apdu small is fits)
+      (tt, (tt, (tt, (tt, ((plan, job, record { free = refl; expect = expect; next = next; went = went }), tt))))) last_part in
+      subst (λ (l : List Event). EndsDone IsJob plan start l) (append_assoc rest answering (acknowledged apdu)) all
+
+  by_answer : (apdu : List ℕ) (expect : Expect) (next : Option (List ℕ) → Plan) (kept : NonVolatile) (values : List (Option Value)) (last echo : Option Ldata) (p h : ℕ) (sent accepted : Texts) → p < 16 → h < 16 → Went plan sent accepted (Operation apdu expect next)
+      → IsSendable (Operation apdu expect next) → FitsInto d.frames apdu → (o : Option (List ℕ)) → answers_of d kept apdu ≡ o → Suits apdu expect o
+      → ((p h : ℕ) (accepted : Texts) → p < 16 → h < 16 → Went plan (apdu ∷ sent) accepted (next o) → (values : List (Option Value)) (last echo : Option Ldata) → EndsDone IsJob plan (Up (whole kept (effect_in apdu)) values last echo p h (apdu ∷ sent) accepted) (operations (answers_of d) (next o) (whole kept (effect_in apdu))))
+      → EndsDone IsJob plan (Up kept values last echo p h sent accepted) (operations (answers_of d) (next o) (whole kept (effect_in apdu)) ++ operation apdu o)
+  by_answer apdu AckOnly next kept values last echo p h sent accepted small tiny went s fits None e suits more =
+      without_one apdu next kept values last echo p h sent accepted small tiny went s.0 fits (sym s.1) e (operations (answers_of d) (next None) (whole kept (effect_in apdu)))
+      (more (next_number p) h accepted (next_small p) tiny (Acknowledged apdu next sent accepted went))
+  by_answer apdu (Is wanted) next kept values last echo p h sent accepted small tiny went s fits None e suits more = absurd suits
+  by_answer apdu Note next kept values last echo p h sent accepted small tiny went s fits None e suits more = absurd suits
+  by_answer apdu AckOnly next kept values last echo p h sent accepted small tiny went s fits (Some v) e suits more = absurd suits
+  by_answer apdu (Is wanted) next kept values last echo p h sent accepted small tiny went s fits (Some v) e suits more =
+      with_one apdu v (Is wanted) next kept values last echo p h sent accepted small tiny went s.0 fits (sym s.1) e (operations (answers_of d) (next (Some v)) (whole kept (effect_in apdu)))
+      (more (next_number p) (next_number h) (v ∷ accepted) (next_small p) (next_small h) (Answered apdu (Is wanted) next v sent accepted went suits))
+  by_answer apdu Note next kept values last echo p h sent accepted small tiny went s fits (Some v) e suits more =
+      with_one apdu v Note next kept values last echo p h sent accepted small tiny went s.0 fits (sym s.1) e (operations (answers_of d) (next (Some v)) (whole kept (effect_in apdu)))
+      (more (next_number p) (next_number h) (v ∷ accepted) (next_small p) (next_small h) (Answered apdu Note next v sent accepted went suits))
+
+  goes_on : (rest : Plan) → GoesOn rest
+  goes_on Over kept values last echo p h sent accepted small tiny went s a f = record { legal = tt; follows = tt; done = record { over = refl; all = went } }
+  goes_on (Operation apdu expect next) kept values last echo p h sent accepted small tiny went s a f =
+      by_answer apdu expect next kept values last echo p h sent accepted small tiny went s f.0 (answers_of d kept apdu) refl a.0
+      (λ p2 h2 accepted2 small2 tiny2 went2 values2 last2 echo2. goes_on (next (answers_of d kept apdu)) (whole kept (effect_in apdu)) values2 last2 echo2 p2 h2 (apdu ∷ sent) accepted2 small2 tiny2 went2 (s.2 (answers_of d kept apdu)) a.1 f.1)
+
+  -- ---- the connection
+
+  opens : d.power ≡ true → Ends (replay (fresh me d) opening) me d d.kept 0 0 [] []
+  unfolding device_took device_after client_confirmed after_confirmed
+  opens power =
+      let w : World = replay (fresh me d) opening in
+      (w.device.values, w.device.last, w.echo, rw power (rw (same d.address.raw) (rw (short_control d.frames me d.address 0x80) (rw connect_read refl))))
+
+  pub ends : d.power ≡ true → AnswersAll (answers_of d) plan d.kept → AllFit d.frames (answers_of d) plan d.kept → EndsDone IsJob plan (fresh me d) (undisturbed (answers_of d) plan d.kept)
+  ends power a f =
+      let g = opens power in
+      then_done IsJob plan (fresh me d) (operations (answers_of d) plan d.kept) opening (tt, (tt, ((refl, refl), (tt, tt)))) (tt, (tt, (tt, (tt, tt))))
+      (subst (λ (w : World). EndsDone IsJob plan w (operations (answers_of d) plan d.kept)) (sym g.3) (goes_on plan d.kept g.0 g.1 g.2 0 0 [] [] (omega arith) (omega arith) NotBegun can a f))

@@ -1,0 +1,10 @@
+mod Answers
+mod Walked
+mod Loads
+mod Follows
+mod Quiet
+mod Short
+mod Calm
+mod Ends
+mod Capacities
+mod Jobs

@@ -1,0 +1,2 @@
+pub mod Download
+pub mod Undisturbed
