@@ -14,6 +14,7 @@ pub mod Record
 pub mod ChannelLost
 pub mod ClientView
 pub mod Dropped
+pub mod ClientEnd
 -- 4. What is told
 pub mod Log
 pub mod Moments

@@ -1,13 +1,16 @@
 //! The whole line: network, gateway, bus and devices, the client's view of it, and what is promised of it.
 #![tactic(auto)]
 
+mod client_end;
 mod fault;
 mod group;
 mod laws;
 mod log;
 mod outside;
+mod put_refused;
 mod runs;
 
+pub use client_end::{ChannelExpired, ChannelTook};
 pub use fault::{HubFault, Try};
 pub use group::{GroupTurn, Indication};
 pub use laws::{
@@ -16,6 +19,7 @@ pub use laws::{
 };
 pub use log::{LogEntry, LogWhat, Report};
 pub use outside::{DialFailed, Dialer, Gate, Link, LinkFault, Polled, Port, PortFault, PortPolled};
+pub use put_refused::PutRefused;
 pub use runs::{
     a_channel_dies, a_channel_follows_another, a_job_fails_by_three_signs, a_line_begins,
     a_load_ends_done, a_minute_passes, a_session_reads_the_descriptor, a_telegram_is_sent,
