@@ -1,8 +1,10 @@
 -- The client's end of a tunnel knows what the link's record says of its channel: it is a function of the readings of the record, from the
 -- channel's connect response on. Where the time alone has ended the channel, or the wait for one, the end is told so by `expire` only: until
 -- then it is behind the record.
-use Rattle.std.specs.Prelude.{◌≡◌, ℕ, ◌⊎◌, Bool, true, false, is_some, List, [], ◌∷◌, length, Option, Some, None}
+use Rattle.std.specs.Prelude.{◌≡◌, ℕ, ◌⊎◌, Bool, true, false, List, [], ◌∷◌, length, Option, Some, None}
+use Rattle.knx_model.specs.declared.frames.ip.IpFrame.TheVariants.{TunnellingRequest}
 use Rattle.knx_model.specs.Connection.{has_passed}
+use Rattle.line_model.specs.Reading.{datagram_in}
 use Rattle.line_model.specs.Gateway.{acknowledgement_wait}
 use Rattle.line_model.specs.Record.{Entry}
 use Rattle.line_model.specs.LinkStory.{newest_time}
@@ -35,12 +37,19 @@ end_of c l = record {
   beat = last_beat c l;
 }
 
+-- the request that was put last has the channel and the number
+pub record IsOutstanding (c number : ℕ) (last : Option (List ℕ)) : Type 0 where
+  pub octets : List ℕ
+  pub cemi : List ℕ
+  pub is : last ≡ Some octets
+  pub reads : datagram_in octets ≡ Some (TunnellingRequest c number cemi)
+
 -- a request was sent at most twice, again 1,000 ms after the first time at the earliest
-abbrev pub IsSentRightly : List ℕ → Option (List ℕ) → Type 0
-IsSentRightly [] last = Unit {0}
-IsSentRightly (t ∷ []) last = is_some last ≡ true
-IsSentRightly (s ∷ t ∷ []) last = has_passed acknowledgement_wait t s ≡ true
-IsSentRightly (s ∷ t ∷ u ∷ ts) last = ⊥
+abbrev pub IsSentRightly : ℕ → ℕ → List ℕ → Option (List ℕ) → Type 0
+IsSentRightly c number [] last = Unit {0}
+IsSentRightly c number (t ∷ []) last = IsOutstanding c number last
+IsSentRightly c number (s ∷ t ∷ []) last = has_passed acknowledgement_wait t s ≡ true
+IsSentRightly c number (s ∷ t ∷ u ∷ ts) last = ⊥
 
 -- at most three heartbeats have no answer, each was sent when the one before had none in time, and the newest is the last of all
 abbrev pub IsBeatenRightly : List ℕ → ℕ → Type 0
@@ -57,7 +66,7 @@ HasBegun (x ∷ l) = Unit {0}
 pub record Knows (e : OpenEnd) (left : Bool) (c : ℕ) (l : List Entry) : Type 0 where
   pub begun : HasBegun l
   pub is : e ≡ end_of c l
-  pub sendings : IsSentRightly (own c l).sent (last_request c l)
+  pub sendings : IsSentRightly c (own c l).number (own c l).sent (last_request c l)
   pub heartbeats : IsBeatenRightly (beats c l) (last_beat c l)
   pub asked : has_left c l ≡ left
 

@@ -1,0 +1,10 @@
+mod Frames
+mod Times
+mod Readings
+mod Opened
+mod Rows
+mod Puts
+mod Take
+mod Answered
+mod Given
+mod Expired
