@@ -8,3 +8,7 @@ mod Take
 mod Answered
 mod Given
 mod Expired
+mod Calls
+mod Current
+mod Quiet
+mod Deadline

@@ -1,0 +1,1 @@
+-- After a poll the record has come to its time.

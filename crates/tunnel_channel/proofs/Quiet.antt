@@ -1,0 +1,1 @@
+-- A poll that gets nothing.
