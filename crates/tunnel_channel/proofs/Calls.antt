@@ -135,7 +135,7 @@ late_lapses : (a b u : Bool) → u ≡ true → (a || u || b) ≡ true
 late_lapses true b u h = refl
 late_lapses false b u h = rw h refl
 
-poll_loses : (r : List Entry) (what : Item) (now c : ℕ) (l : List Entry) → channel r ≡ seen.Open c l → is_poll what ≡ true → has_lapsed c l now ≡ true → channel (entry what now ∷ r) ≡ seen.Lost c
+pub poll_loses : (r : List Entry) (what : Item) (now c : ℕ) (l : List Entry) → channel r ≡ seen.Open c l → is_poll what ≡ true → has_lapsed c l now ≡ true → channel (entry what now ∷ r) ≡ seen.Lost c
 unfolding after_entry
 poll_loses r (Put octets) now c l at p h = absurd (cc)
 poll_loses r Renewed now c l at p h = absurd (cc)
