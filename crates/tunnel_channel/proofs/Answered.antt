@@ -1,6 +1,6 @@
 -- What this end answers to a frame, in each of its states.
-use Rattle.std.proofs.Common.{◌≡◌, ℕ, ◌≤◌, ◌⊎◌, inl, inr, List, [], ◌∷◌, Bool, true, false, cond, Option, Some, None, refl, sym, ◌∙◌, ap, subst}
-use Rattle.std.specs.Prelude.{◌==◌, is_some, if◌then◌else◌}
+use Rattle.std.proofs.Common.{◌≡◌, ℕ, ◌≤◌, ◌⊎◌, inl, inr, List, [], ◌∷◌, Bool, true, false, cond, Some, None, refl, sym, ◌∙◌, subst}
+use Rattle.std.specs.Prelude.{◌==◌}
 use Rattle.knx_model.specs.declared.address.IndAddr.{IndAddr}
 use Rattle.knx_model.specs.declared.frames.ip.IpFrame.{IpFrame}
 use Rattle.knx_model.specs.declared.frames.ip.IpFrame.TheVariants.{ConnectRequest, ConnectResponse, StateRequest, StateResponse, DisconnectRequest, DisconnectResponse, TunnellingRequest, TunnellingAck}
@@ -14,7 +14,7 @@ use Rattle.line_model.specs.ChannelLost.{answer_wait, acknowledged, confirmed, i
 use Rattle.line_model.specs.ClientView as seen
 use Rattle.line_model.specs.ClientView.{ClientChannel, channel, after_entry, deed}
 use Rattle.line_model.specs.Dropped.{drops_sought}
-use Rattle.line_model.specs.ClientEnd.{OpenEnd, ClientEnd, Idle, Seeking, Open, Leaving, JustLost, is_over, seeking_took, took_in_time, channel_took, after_took, new_channel, HasTunnelIfUp}
+use Rattle.line_model.specs.ClientEnd.{OpenEnd, ClientEnd, Idle, Seeking, Open, Leaving, JustLost, is_over, seeking_took, channel_took, after_took, HasTunnelIfUp}
 use Rattle.tunnel_channel.specs.Fits.{end_of, Knows, KnowsOpen, IsBehind, IsUnanswered, HasNone, FitsChannel, Fits}
 use Rattle.tunnel_channel.specs.Follows.{TakesFrame, TakeFollows, is_confirmation_late}
 use Rattle.tunnel_channel.proofs.Times.{over_later, passed_later}
@@ -58,8 +58,8 @@ module _ (r : List Entry) (octets : List ℕ) (frame : IpFrame) (now : ℕ) (is 
       let timely : (is_unconfirmed (acknowledged k.c k.l) (confirmed k.c k.l) now ≡ false) = subst (λ (ch : ClientChannel). is_confirmation_late ch now ≡ false) k.is u in
       let over : Bool = is_over (Open (end_of k.c k.l)) now in
       subst (λ (d : OpenEnd). Answers (up left d) frame now octets r (channel_took (up left d) frame now)) (sym same)
-        (subst (λ (told : ChannelTook). Answers (up left (end_of k.c k.l)) frame now octets r told) (sym (told_is left (end_of k.c k.l) frame now over refl))
-          (known_takes left k.c k.l k.is knows timely over refl))
+      (subst (λ (told : ChannelTook). Answers (up left (end_of k.c k.l)) frame now octets r told) (sym (told_is left (end_of k.c k.l) frame now over refl))
+      (known_takes left k.c k.l k.is knows timely over refl))
 
   behind_takes : (left : Bool) (e : OpenEnd) → IsBehind e (newest_time r) (channel r) → newest_time r ≤ now → Answers (up left e) frame now octets r (channel_took (up left e) frame now)
   behind_takes left e b le =
@@ -80,7 +80,7 @@ module _ (r : List Entry) (octets : List ℕ) (frame : IpFrame) (now : ℕ) (is 
   none_takes end drops none fits later =
       let g = none_got_by (channel r) r octets frame now (none (channel r) fits) refl is in
       subst (λ (told : ChannelTook). Answers end frame now octets r told) (sym (drops frame))
-        (unheard end r octets now g.0 (subst (λ (ch : ClientChannel). FitsChannel end now ch) (sym g.1) (later (channel r) fits)))
+      (unheard end r octets now g.0 (subst (λ (ch : ClientChannel). FitsChannel end now ch) (sym g.1) (later (channel r) fits)))
 
 -- ---- an end that seeks one
 

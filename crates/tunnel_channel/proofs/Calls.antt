@@ -1,6 +1,6 @@
 -- A connect request, a request, a disconnect request and a loss follow the record.
-use Rattle.std.proofs.Common.{◌≡◌, ◌≢◌, ℕ, ◌≤◌, ◌⊎◌, inl, inr, List, [], ◌∷◌, Bool, true, false, cond, Option, Some, None, refl, sym, ◌∙◌, ap, subst}
-use Rattle.std.specs.Prelude.{◌&&◌, ◌||◌, ◌==◌, if◌then◌else◌, is_some}
+use Rattle.std.proofs.Common.{◌≡◌, ◌≢◌, ℕ, ◌≤◌, ◌⊎◌, inl, inr, List, [], ◌∷◌, Bool, true, false, cond, Some, None, refl, sym, ◌∙◌, ap, subst}
+use Rattle.std.specs.Prelude.{◌||◌}
 use Rattle.knx_model.specs.declared.frames.ip.IpFrame.TheVariants.{ConnectRequest, DisconnectRequest, TunnellingRequest}
 use Rattle.knx_model.specs.KnxNetIp.{Written}
 use Rattle.line_model.specs.Reading.{datagram_in}
@@ -11,15 +11,15 @@ use Rattle.line_model.specs.ChannelLost.{own, acknowledged, confirmed, beats, is
 use Rattle.line_model.specs.ClientView as seen
 use Rattle.line_model.specs.ClientView.{ClientChannel, channel, Puts, after_entry, deed}
 use Rattle.line_model.specs.Renews.{is_just_renewed, MayLeave}
-use Rattle.line_model.specs.Sendings.{last_request, OwnsChannel}
-use Rattle.line_model.specs.ClientEnd.{OpenEnd, ClientEnd, Idle, Seeking, Open, Leaving, JustLost, MayConnect, IsCemi, open_end, lost, is_over, is_free, channel_put, put_octets, with_request, request_of, after_put, channel_left, after_leave}
-use Rattle.tunnel_channel.specs.Fits.{end_of, outstanding_of, Knows, KnowsOpen, IsBehind, HasNone, FitsChannel, Fits}
-use Rattle.tunnel_channel.specs.Follows.{Sends, Connects, ConnectFollows, PutsRequest, PutFollows, LostFollows, LeaveFollows, is_confirmation_late}
+use Rattle.line_model.specs.Sendings.{last_request}
+use Rattle.line_model.specs.ClientEnd.{OpenEnd, ClientEnd, Idle, Seeking, Open, Leaving, JustLost, MayConnect, IsCemi, is_over, is_free, put_octets, with_request, request_of}
+use Rattle.tunnel_channel.specs.Fits.{end_of, Knows, KnowsOpen, IsBehind, HasNone, Fits}
+use Rattle.tunnel_channel.specs.Follows.{Sends, ConnectFollows, PutsRequest, PutFollows, LostFollows, LeaveFollows, is_confirmation_late}
 use Rattle.tunnel_channel.proofs.Frames.{connect_read, leave_read, request_read}
 use Rattle.tunnel_channel.proofs.Times.{over_later, same_free}
 use Rattle.tunnel_channel.proofs.Readings.{readings}
-use Rattle.tunnel_channel.proofs.Rows.{up, fits_up, with_up, lost_up}
-use Rattle.tunnel_channel.proofs.Puts.{put_readings, opened_put, lost_put}
+use Rattle.tunnel_channel.proofs.Rows.{up, with_up}
+use Rattle.tunnel_channel.proofs.Puts.{put_readings, lost_put}
 use Rattle.tunnel_channel.proofs.Given.{same_number, put_fits, put_sends, put_deed}
 
 -- ---- a connect request
@@ -84,7 +84,7 @@ up_puts : (left : Bool) (e : OpenEnd) (r : List Entry) (now : ℕ) (cemi octets 
 up_puts left e r now cemi octets i (inl k) le over h =
     let same : (e ≡ end_of k.c k.l) = k.knows.is in
     subst (λ (d : OpenEnd). PutsRequest (up left d) cemi octets now r) (sym same)
-      (known_puts left k.c k.l r now cemi octets i k.is (subst (λ (d : OpenEnd). Knows d left k.c k.l) same k.knows) (subst (λ (d : OpenEnd). put_octets (Some d) cemi ≡ Some octets) same h))
+    (known_puts left k.c k.l r now cemi octets i k.is (subst (λ (d : OpenEnd). Knows d left k.c k.l) same k.knows) (subst (λ (d : OpenEnd). put_octets (Some d) cemi ≡ Some octets) same h))
 up_puts left e r now cemi octets i (inr b) le over h = absurd (let lapsed : (is_over (Open e) now ≡ true) = over_later e (newest_time r) now le b.over in cc)
 
 pub put_follows : (end : ClientEnd) (cemi : List ℕ) (now : ℕ) → IsCemi cemi → PutFollows end cemi now

@@ -1,15 +1,15 @@
 -- After a poll the record has come to its time, and a sending at that time leaves it so.
-use Rattle.std.proofs.Common.{◌≡◌, ℕ, ◌-◌, List, [], ◌∷◌, Bool, true, false, cond, Option, Some, None, refl, sym, ◌∙◌, ap, subst, arith}
-use Rattle.std.specs.Prelude.{◌&&◌, ◌||◌, ◌==◌, if◌then◌else◌}
+use Rattle.std.proofs.Common.{◌≡◌, ℕ, List, [], ◌∷◌, Bool, true, false, cond, Option, Some, None, refl, sym, ◌∙◌, arith}
+use Rattle.std.specs.Prelude.{◌&&◌, ◌||◌, ◌==◌}
 use Rattle.std.proofs.lemmas.Bool.Decides.{nat_tests}
 use Rattle.knx_model.specs.declared.address.IndAddr.{IndAddr}
 use Rattle.knx_model.specs.declared.frames.ip.IpFrame.{IpFrame}
 use Rattle.knx_model.specs.declared.frames.ip.IpFrame.TheVariants.{ConnectRequest, ConnectResponse, StateRequest, StateResponse, DisconnectRequest, DisconnectResponse, TunnellingRequest, TunnellingAck}
 use Rattle.knx_model.specs.Connection.{has_passed}
-use Rattle.line_model.specs.Gateway.{acknowledgement_wait, next_number}
+use Rattle.line_model.specs.Gateway.{acknowledgement_wait}
 use Rattle.line_model.specs.Reading.{datagram_in, is_connect_request, request_in, ack_in, state_response_in}
-use Rattle.line_model.specs.Record.{Item, Put, Renewed, Got, Quiet, Entry, entry, got_in, is_poll}
-use Rattle.line_model.specs.ChannelLost.{Own, answer_wait, confirmation_wait, expected, own, acknowledged, confirmed, beats, delivers, acknowledges, confirms, answers_beat, is_request, is_none, is_new_request, is_beat, is_given_up, is_unconfirmed, is_dead, has_lapsed, is_lost}
+use Rattle.line_model.specs.Record.{Item, Put, Renewed, Got, Quiet, Entry, entry, is_poll}
+use Rattle.line_model.specs.ChannelLost.{answer_wait, confirmation_wait, expected, own, acknowledged, confirmed, beats, acknowledges, confirms, answers_beat, is_request, is_new_request, is_beat, is_given_up, is_unconfirmed, is_dead, has_lapsed, is_lost}
 use Rattle.line_model.specs.ClientView as seen
 use Rattle.line_model.specs.ClientView.{ClientChannel, channel, after_entry, answered, sought_got}
 use Rattle.tunnel_channel.specs.Follows.{IsCurrent, PollsAreCurrent, SendingsStayCurrent}
@@ -70,7 +70,7 @@ module _ (c : ℕ) (l : List Entry) (octets : List ℕ) (now : ℕ) where
       let d : Bool = is_dead (beats c l) now in
       let m : List Entry = entry (Got octets) now ∷ l in
       none_of (is_given_up (own c m).sent now) (is_unconfirmed (acknowledged c m) (confirmed c m) now) (is_dead (beats c m) now)
-        (got_given_up _ refl (first_not g u d h)) (got_confirmed _ _ _ refl refl refl (second_not g u d h)) (got_dead _ refl (third_not g u d h))
+      (got_given_up _ refl (first_not g u d h)) (got_confirmed _ _ _ refl refl refl (second_not g u d h)) (got_dead _ refl (third_not g u d h))
 
 -- a channel that just came up
 new_unlapsed : (c : ℕ) (octets : List ℕ) (status now : ℕ) (tunnel : Option IndAddr) → datagram_in octets ≡ Some (ConnectResponse c status tunnel) → has_lapsed c (entry (Got octets) now ∷ []) now ≡ false
@@ -166,7 +166,7 @@ module _ (c : ℕ) (l : List Entry) (octets : List ℕ) (now : ℕ) where
       let d : Bool = is_dead (beats c l) now in
       let m : List Entry = entry (Put octets) now ∷ l in
       none_of (is_given_up (own c m).sent now) (is_unconfirmed (acknowledged c m) (confirmed c m) now) (is_dead (beats c m) now)
-        (put_given_up _ refl (first_not g u d h)) (put_confirmed _ refl (second_not g u d h)) (put_dead _ refl (third_not g u d h))
+      (put_given_up _ refl (first_not g u d h)) (put_confirmed _ refl (second_not g u d h)) (put_dead _ refl (third_not g u d h))
 
 fresh_sent : (octets : List ℕ) (now : ℕ) (t : Bool) → is_connect_request (datagram_in octets) ≡ t → IsCurrent (after_entry seen.Fresh (entry (Put octets) now)) now
 unfolding after_entry

@@ -1,7 +1,6 @@
 -- What has become due follows the record.
-use Rattle.std.proofs.Common.{◌≡◌, ℕ, ◌≤◌, ◌⊎◌, inl, inr, List, [], ◌∷◌, length, Bool, true, false, cond, Option, Some, None, refl, sym, ◌∙◌, ap, subst, arith}
-use Rattle.std.specs.Prelude.{not, ◌&&◌, ◌||◌, if◌then◌else◌, nat_le}
-use Rattle.std.proofs.lemmas.Bool.Decides.{nat_tests}
+use Rattle.std.proofs.Common.{◌≡◌, ℕ, ◌≤◌, ◌⊎◌, inl, inr, List, [], ◌∷◌, Bool, true, false, cond, Some, None, refl, sym, ◌∙◌, ap, subst, arith}
+use Rattle.std.specs.Prelude.{◌&&◌, ◌||◌}
 use Rattle.knx_model.specs.declared.frames.ip.IpFrame.TheVariants.{StateRequest}
 use Rattle.knx_model.specs.KnxNetIp.{Written}
 use Rattle.knx_model.specs.Connection.{has_passed}
@@ -16,11 +15,11 @@ use Rattle.line_model.specs.ClientView as seen
 use Rattle.line_model.specs.ClientView.{ClientChannel, channel, Nothing, deed}
 use Rattle.line_model.specs.Renews.{last_beat}
 use Rattle.line_model.specs.Sendings.{last_request}
-use Rattle.line_model.specs.ClientEnd.{OpenEnd, ClientEnd, Idle, Seeking, Open, Leaving, JustLost, Outstanding, lost, is_given_up, is_dead, is_over, repeat_due, repeat_or_beat, open_expired, channel_expired, after_expired, repeated, beaten, most_unanswered}
-use Rattle.tunnel_channel.specs.Fits.{end_of, outstanding_of, octets_of, IsSentRightly, IsOutstanding, Knows, KnowsOpen, IsBehind, IsUnanswered, HasNone, FitsChannel, Fits}
+use Rattle.line_model.specs.ClientEnd.{OpenEnd, ClientEnd, Idle, Seeking, Open, Leaving, JustLost, is_given_up, is_dead, repeat_due, repeat_or_beat, open_expired, channel_expired, after_expired, repeated, beaten}
+use Rattle.tunnel_channel.specs.Fits.{end_of, outstanding_of, octets_of, IsSentRightly, IsOutstanding, Knows, KnowsOpen, IsBehind, IsUnanswered, HasNone, Fits}
 use Rattle.tunnel_channel.specs.Follows.{Sends, TellsLapse, Expires, ExpireFollows, IsCurrent, sent_by, is_told_over, is_up_or_sought}
 use Rattle.tunnel_channel.proofs.Times.{over_later, passed_later, passed_alike, same_given_up, same_dead}
-use Rattle.tunnel_channel.proofs.Rows.{up, fits_up, with_up, lost_up}
+use Rattle.tunnel_channel.proofs.Rows.{up, with_up, lost_up}
 use Rattle.tunnel_channel.proofs.Given.{repeat_sends, repeat_deed, beat_sends, beat_deed}
 
 abbrev pub Due : ClientEnd → ℕ → List Entry → ChannelExpired → Type 0
@@ -126,14 +125,14 @@ module _ (left : Bool) (c : ℕ) (l r : List Entry) (now : ℕ) (at : channel r 
       let o : IsOutstanding c (own c l).number (last_request c l) = subst (λ (s : List ℕ). IsSentRightly c (own c l).number s (last_request c l)) once k.sendings in
       let same : (octets_of (last_request c l) ≡ o.octets) = ap octets_of o.is in
       subst (λ (x : List ℕ). Due (up left (end_of c l)) now r (due.Repeat x)) (sym same)
-        (told_sent (due.Repeat o.octets) o.octets refl (record { given_up = sym (given_up_is ∙ p); dead = rw (given_up_is, p, dead_is, q) refl }) refl
-          (rw (with_up (repeated now) left (end_of c l)) (repeat_sends left c l r now at k t o once passed)) (repeat_deed left c l r now at k t o once))
+      (told_sent (due.Repeat o.octets) o.octets refl (record { given_up = sym (given_up_is ∙ p); dead = rw (given_up_is, p, dead_is, q) refl }) refl
+      (rw (with_up (repeated now) left (end_of c l)) (repeat_sends left c l r now at k t o once passed)) (repeat_deed left c l r now at k t o once))
 
   told_beat : has_passed heartbeat_pause (last_beat c l) now ≡ true → is_given_up (end_of c l).request now ≡ false → is_dead (end_of c l) now ≡ false → Due (up left (end_of c l)) now r (due.Beat (Written (StateRequest c)))
   unfolding after_expired
   told_beat passed p q =
       told_sent (due.Beat (Written (StateRequest c))) (Written (StateRequest c)) refl (record { given_up = sym (given_up_is ∙ p); dead = rw (given_up_is, p, dead_is, q) refl }) refl
-        (rw (with_up (beaten now) left (end_of c l)) (beat_sends left c l r now at k passed (passed_alike answer_wait heartbeat_pause (last_beat c l) now (omega arith) passed) q)) (beat_deed left c l r now at k)
+      (rw (with_up (beaten now) left (end_of c l)) (beat_sends left c l r now at k passed (passed_alike answer_wait heartbeat_pause (last_beat c l) now (omega arith) passed) q)) (beat_deed left c l r now at k)
 
   told_beat_if : (b : Bool) → has_passed heartbeat_pause (last_beat c l) now ≡ b → is_given_up (end_of c l).request now ≡ false → is_dead (end_of c l) now ≡ false → Due (up left (end_of c l)) now r (repeat_or_beat None (end_of c l) now)
   told_beat_if true b p q = rw b (told_beat b p q)
@@ -166,8 +165,8 @@ open_due left e r now k fits =
     let g : Bool = is_given_up (end_of k.c k.l).request now in
     let d : Bool = is_dead (end_of k.c k.l) now in
     subst (λ (d : OpenEnd). Due (up left d) now r (channel_expired (up left d) now)) (sym same)
-      (subst (λ (told : ChannelExpired). Due (up left (end_of k.c k.l)) now r told) (sym (expired_up left (end_of k.c k.l) now ∙ told_by (end_of k.c k.l) now g d refl refl))
-        (told_known left k.c k.l r now k.is knows so g d refl refl))
+    (subst (λ (told : ChannelExpired). Due (up left (end_of k.c k.l)) now r told) (sym (expired_up left (end_of k.c k.l) now ∙ told_by (end_of k.c k.l) now g d refl refl))
+    (told_known left k.c k.l r now k.is knows so g d refl refl))
 
 module _ (left : Bool) (e : OpenEnd) (r : List Entry) (now : ℕ) (lost_is : channel r ≡ seen.Lost e.channel) where
   behind_told : (told : ChannelExpired) → sent_by told ≡ None → is_told_over told ≡ true → after_expired (up left e) now told ≡ JustLost e.channel → is_up_or_sought (up left e) ≡ true → Due (up left e) now r told
@@ -204,7 +203,7 @@ up_due : (left : Bool) (e : OpenEnd) (r : List Entry) (now : ℕ) → KnowsOpen 
 up_due left e r now (inl k) le fits = open_due left e r now k fits
 up_due left e r now (inr b) le fits =
     subst (λ (told : ChannelExpired). Due (up left e) now r told) (sym (expired_up left e now ∙ told_by e now (is_given_up e.request now) (is_dead e now) refl refl))
-      (behind_due left e r now b.lost (is_given_up e.request now) (is_dead e now) (over_later e (newest_time r) now le b.over))
+    (behind_due left e r now b.lost (is_given_up e.request now) (is_dead e now) (over_later e (newest_time r) now le b.over))
 
 sought_due : (r : List Entry) (since now : ℕ) → channel r ≡ seen.Sought since → (t : Bool) → has_passed answer_wait since now ≡ t → Due (Seeking since) now r (channel_expired (Seeking since) now)
 unfolding channel_expired after_expired

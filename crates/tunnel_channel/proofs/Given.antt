@@ -1,28 +1,25 @@
 -- What this end gives to be sent is what the client may send, and leaves it knowing what the record says.
-use Rattle.std.proofs.Common.{◌≡◌, ℕ, ◌≤◌, ◌⊎◌, inl, inr, List, [], ◌∷◌, length, Bool, true, false, cond, Option, Some, None, refl, sym, ◌∙◌, ap, subst, arith}
-use Rattle.std.specs.Prelude.{◌&&◌, ◌==◌, if◌then◌else◌, nat_le}
+use Rattle.std.proofs.Common.{◌≡◌, ℕ, inl, inr, List, [], ◌∷◌, length, Bool, true, false, Some, refl, sym, ◌∙◌, subst, arith}
+use Rattle.std.specs.Prelude.{◌&&◌, ◌==◌, nat_le}
 use Rattle.std.proofs.lemmas.Bool.Decides.{nat_tests}
-use Rattle.knx_model.specs.declared.frames.ip.IpFrame.{IpFrame}
-use Rattle.knx_model.specs.declared.frames.ip.IpFrame.TheVariants.{ConnectRequest, StateRequest, DisconnectRequest, TunnellingRequest}
+use Rattle.knx_model.specs.declared.frames.ip.IpFrame.TheVariants.{StateRequest, TunnellingRequest}
 use Rattle.knx_model.specs.KnxNetIp.{Written}
 use Rattle.knx_model.specs.Connection.{has_passed}
 use Rattle.line_model.specs.Gateway.{acknowledgement_wait}
 use Rattle.line_model.specs.Reading.{datagram_in}
 use Rattle.line_model.specs.Record.{Put, Entry, entry}
-use Rattle.line_model.specs.LinkStory.{newest_time}
-use Rattle.line_model.specs.ChannelLost as lapse
-use Rattle.line_model.specs.ChannelLost.{answer_wait, heartbeat_pause, own, beats, is_none}
+use Rattle.line_model.specs.ChannelLost.{answer_wait, heartbeat_pause, own, beats}
 use Rattle.line_model.specs.ClientView as seen
 use Rattle.line_model.specs.ClientView.{ClientChannel, channel, Puts, Nothing, after_entry, deed}
 use Rattle.line_model.specs.Renews.{last_beat}
 use Rattle.line_model.specs.Sendings.{last_request}
-use Rattle.line_model.specs.ClientEnd.{Once, Again, OpenEnd, ClientEnd, Open, is_over, is_free, with_channel, with_request, repeated, beaten, after_put, most_unanswered}
-use Rattle.tunnel_channel.specs.Fits.{end_of, outstanding_of, IsOutstanding, IsBeatenRightly, Knows, KnowsOpen, FitsChannel, Fits}
-use Rattle.tunnel_channel.specs.Follows.{Sends, PutsRequest}
-use Rattle.tunnel_channel.proofs.Frames.{beat_read, request_read}
-use Rattle.tunnel_channel.proofs.Readings.{Readings, readings, KnowsBy, knows_by, knows}
-use Rattle.tunnel_channel.proofs.Rows.{up, fits_up, with_up}
-use Rattle.tunnel_channel.proofs.Puts.{put_readings, opened_put, lost_put}
+use Rattle.line_model.specs.ClientEnd.{OpenEnd, with_request, repeated, beaten, most_unanswered}
+use Rattle.tunnel_channel.specs.Fits.{end_of, IsOutstanding, IsBeatenRightly, Knows, FitsChannel, Fits}
+use Rattle.tunnel_channel.specs.Follows.{Sends}
+use Rattle.tunnel_channel.proofs.Frames.{beat_read}
+use Rattle.tunnel_channel.proofs.Readings.{Readings, readings, KnowsBy, knows}
+use Rattle.tunnel_channel.proofs.Rows.{up, fits_up}
+use Rattle.tunnel_channel.proofs.Puts.{put_readings, opened_put}
 
 pub same_number : (c : ℕ) → (c == c) ≡ true
 same_number c = grind (arith, nat_tests)
@@ -32,7 +29,7 @@ pub put_fits : (e : OpenEnd) (left : Bool) (c : ℕ) (l r : List Entry) (octets 
     → Fits (up left e) (entry (Put octets) now ∷ r)
 put_fits e left c l r octets now m at is k =
     subst (λ (ch : ClientChannel). FitsChannel (up left e) now ch) (sym (opened_put r octets now c l at))
-      (fits_up left e now (seen.Open c (entry (Put octets) now ∷ l)) (inl (record { c = c; l = entry (Put octets) now ∷ l; is = refl; knows = knows e left c (entry (Put octets) now) l m is k })))
+    (fits_up left e now (seen.Open c (entry (Put octets) now ∷ l)) (inl (record { c = c; l = entry (Put octets) now ∷ l; is = refl; knows = knows e left c (entry (Put octets) now) l m is k })))
 
 module _ (left : Bool) (c : ℕ) (l r : List Entry) (now : ℕ) (at : channel r ≡ seen.Open c l) (k : Knows (end_of c l) left c l) where
   -- ---- a request

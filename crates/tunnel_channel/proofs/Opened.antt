@@ -1,11 +1,11 @@
 -- What a frame that was got does to an open channel, by the readings of the channel's entries.
-use Rattle.std.proofs.Common.{◌≡◌, ℕ, List, [], ◌∷◌, Bool, true, false, cond, Option, Some, None, refl, sym, ◌∙◌, ap}
-use Rattle.std.specs.Prelude.{not, ◌&&◌, ◌||◌, ◌==◌, if◌then◌else◌}
+use Rattle.std.proofs.Common.{◌≡◌, ℕ, List, ◌∷◌, Bool, true, false, cond, Some, None, refl}
+use Rattle.std.specs.Prelude.{not, ◌&&◌, ◌||◌, ◌==◌}
 use Rattle.knx_model.specs.declared.frames.ip.IpFrame.{IpFrame}
 use Rattle.knx_model.specs.declared.frames.ip.IpFrame.TheVariants.{ConnectRequest, ConnectResponse, StateRequest, StateResponse, DisconnectRequest, DisconnectResponse, TunnellingRequest, TunnellingAck}
-use Rattle.line_model.specs.Reading.{datagram_in, request_in, state_response_in, disconnect_request_in, disconnect_response_in}
+use Rattle.line_model.specs.Reading.{datagram_in, request_in}
 use Rattle.line_model.specs.Record.{Got, Entry, entry}
-use Rattle.line_model.specs.ChannelLost.{expected, beats, has_left, delivers, answers_beat, has_lapsed, is_ended_by, is_lost}
+use Rattle.line_model.specs.ChannelLost.{expected, has_left, delivers, answers_beat, has_lapsed, is_ended_by, is_lost}
 use Rattle.line_model.specs.ClientView as seen
 use Rattle.line_model.specs.ClientView.{channel, Deed, Takes, Loses, deed_of, after_entry, deed}
 use Rattle.line_model.specs.Dropped.{is_dropped, drops_in}

@@ -1,16 +1,16 @@
 -- What the client's datagrams make of an open channel's readings.
-use Rattle.std.proofs.Common.{◌≡◌, ℕ, ◌⊎◌, inl, inr, List, [], ◌∷◌, Bool, true, false, cond, Option, Some, None, refl, sym, ◌∙◌, ap, subst}
-use Rattle.std.specs.Prelude.{◌&&◌, ◌||◌, ◌==◌, if◌then◌else◌}
+use Rattle.std.proofs.Common.{◌≡◌, ℕ, inl, inr, List, [], ◌∷◌, Bool, true, false, Some, refl, sym, ◌∙◌, subst}
+use Rattle.std.specs.Prelude.{◌||◌, ◌==◌, if◌then◌else◌}
 use Rattle.knx_model.specs.declared.frames.ip.IpFrame.{IpFrame}
 use Rattle.knx_model.specs.declared.frames.ip.IpFrame.TheVariants.{ConnectRequest, ConnectResponse, StateRequest, StateResponse, DisconnectRequest, DisconnectResponse, TunnellingRequest, TunnellingAck}
 use Rattle.line_model.specs.Reading.{datagram_in}
 use Rattle.line_model.specs.Record.{Put, Entry, entry}
-use Rattle.line_model.specs.ChannelLost.{Own, own, is_none}
+use Rattle.line_model.specs.ChannelLost.{is_none}
 use Rattle.line_model.specs.ClientView as seen
 use Rattle.line_model.specs.ClientView.{ClientChannel, channel, after_entry}
 use Rattle.line_model.specs.ClientEnd.{OpenEnd, ClientEnd, Idle, Seeking, Open, Leaving, JustLost}
-use Rattle.tunnel_channel.specs.Fits.{HasBegun, Knows, KnowsOpen, IsBehind, IsUnanswered, FitsChannel}
-use Rattle.tunnel_channel.proofs.Readings.{Readings, readings, KnowsBy, knows_by, knows}
+use Rattle.tunnel_channel.specs.Fits.{HasBegun, Knows, KnowsOpen, FitsChannel}
+use Rattle.tunnel_channel.proofs.Readings.{Readings, readings, knows_by, knows}
 
 abbrev pub after_put : ℕ → List ℕ → IpFrame → ℕ → Readings → Readings
 after_put c octets ConnectRequest now r = r

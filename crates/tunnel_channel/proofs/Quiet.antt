@@ -1,14 +1,14 @@
 -- A poll that gets nothing, or a datagram that doesn't read, leaves what this end knows.
-use Rattle.std.proofs.Common.{◌≡◌, ℕ, ◌≤◌, ◌⊎◌, inl, inr, List, [], ◌∷◌, Bool, true, false, Option, Some, None, refl, sym, ◌∙◌, ap, subst}
-use Rattle.std.specs.Prelude.{◌&&◌, ◌||◌, if◌then◌else◌}
+use Rattle.std.proofs.Common.{◌≡◌, ℕ, ◌≤◌, ◌⊎◌, inl, inr, List, ◌∷◌, Bool, true, false, None, refl, sym, ◌∙◌, subst}
+use Rattle.std.specs.Prelude.{◌&&◌}
 use Rattle.knx_model.specs.Connection.{has_passed}
 use Rattle.line_model.specs.Record.{Item, Put, Renewed, Got, Quiet, Entry, entry, got_in, is_poll}
 use Rattle.line_model.specs.LinkStory.{newest_time}
 use Rattle.line_model.specs.ChannelLost.{answer_wait, acknowledged, confirmed, is_unconfirmed, has_left, has_lapsed}
 use Rattle.line_model.specs.ClientView as seen
 use Rattle.line_model.specs.ClientView.{ClientChannel, channel, after_entry}
-use Rattle.line_model.specs.ClientEnd.{OpenEnd, ClientEnd, Idle, Seeking, Open, Leaving, JustLost, is_over}
-use Rattle.tunnel_channel.specs.Fits.{end_of, Knows, KnowsOpen, IsBehind, IsUnanswered, HasNone, FitsChannel, Fits}
+use Rattle.line_model.specs.ClientEnd.{OpenEnd, Idle, Seeking, Open, Leaving, JustLost, is_over}
+use Rattle.tunnel_channel.specs.Fits.{end_of, Knows, KnowsOpen, IsBehind, IsUnanswered, HasNone, Fits}
 use Rattle.tunnel_channel.specs.Follows.{QuietFollows, is_confirmation_late}
 use Rattle.tunnel_channel.proofs.Times.{over_later, passed_later}
 use Rattle.tunnel_channel.proofs.Readings.{readings, knows_by, knows, quiet_readings}
@@ -94,7 +94,7 @@ module _ (r : List Entry) (what : Item) (now : ℕ) (n : got_in what ≡ None) w
   up_fits left e (inl k) le u p =
       let same : (e ≡ end_of k.c k.l) = k.knows.is in
       subst (λ (d : OpenEnd). Fits (up left d) (entry what now ∷ r)) (sym same)
-        (known_fits left k.c k.l k.is (subst (λ (d : OpenEnd). Knows d left k.c k.l) same k.knows) (subst (λ (ch : ClientChannel). is_confirmation_late ch now ≡ false) k.is u) p (is_over (Open (end_of k.c k.l)) now) refl)
+      (known_fits left k.c k.l k.is (subst (λ (d : OpenEnd). Knows d left k.c k.l) same k.knows) (subst (λ (ch : ClientChannel). is_confirmation_late ch now ≡ false) k.is u) p (is_over (Open (end_of k.c k.l)) now) refl)
   up_fits left e (inr b) le u p =
       fits_up left e now (channel (entry what now ∷ r)) (inr (record { lost = none_stays (seen.Lost e.channel) tt b.lost p; over = over_later e (newest_time r) now le b.over }))
 

@@ -1,16 +1,16 @@
 -- The readings of an open channel's entries, as one value, and what an entry makes of them.
-use Rattle.std.proofs.Common.{◌≡◌, ℕ, List, [], ◌∷◌, length, Bool, true, false, cond, Option, Some, None, refl, sym, ◌∙◌, ap}
-use Rattle.std.specs.Prelude.{not, ◌&&◌, ◌||◌, ◌==◌, if◌then◌else◌}
+use Rattle.std.proofs.Common.{◌≡◌, ℕ, List, [], ◌∷◌, length, Bool, true, false, Option, Some, None, refl}
+use Rattle.std.specs.Prelude.{if◌then◌else◌}
 use Rattle.knx_model.specs.declared.frames.ip.IpFrame.{IpFrame}
 use Rattle.knx_model.specs.declared.frames.ip.IpFrame.TheVariants.{ConnectRequest, ConnectResponse, StateRequest, StateResponse, DisconnectRequest, DisconnectResponse, TunnellingRequest, TunnellingAck}
 use Rattle.line_model.specs.Gateway.{next_number}
-use Rattle.line_model.specs.Reading.{datagram_in, request_in, ack_in, state_response_in}
+use Rattle.line_model.specs.Reading.{datagram_in}
 use Rattle.line_model.specs.Record.{Item, Put, Renewed, Got, Quiet, Entry, entry, got_in, is_poll}
-use Rattle.line_model.specs.ChannelLost.{Own, expected, own, beats, has_left, delivers, acknowledges, answers_beat, is_none}
+use Rattle.line_model.specs.ChannelLost.{Own, expected, own, beats, has_left, delivers, acknowledges, answers_beat}
 use Rattle.line_model.specs.Renews.{last_beat}
 use Rattle.line_model.specs.Sendings.{last_request}
 use Rattle.line_model.specs.ClientEnd.{OpenEnd}
-use Rattle.tunnel_channel.specs.Fits.{outstanding_of, end_of, IsSentRightly, IsBeatenRightly, HasBegun, Knows}
+use Rattle.tunnel_channel.specs.Fits.{outstanding_of, IsSentRightly, IsBeatenRightly, HasBegun, Knows}
 
 pub record Readings : Type 0 where
   pub expects : ℕ

@@ -1,7 +1,7 @@
 -- What this end answers in an open channel is what the record says of the frame.
-use Rattle.std.proofs.Common.{◌≡◌, ℕ, ◌⊎◌, inl, inr, List, [], ◌∷◌, length, Bool, true, false, cond, Option, Some, None, refl, sym, ◌∙◌, ap, subst, arith}
+use Rattle.std.proofs.Common.{◌≡◌, ℕ, ◌⊎◌, inl, inr, List, [], ◌∷◌, Bool, true, false, cond, Option, Some, None, refl, sym, ◌∙◌, subst, arith}
 use Rattle.std.proofs.lemmas.Bool.Decides.{nat_tests}
-use Rattle.std.specs.Prelude.{not, ◌&&◌, ◌||◌, ◌==◌, if◌then◌else◌, option_map}
+use Rattle.std.specs.Prelude.{not, ◌&&◌, ◌==◌, option_map}
 use Rattle.knx_model.specs.declared.address.IndAddr.{IndAddr}
 use Rattle.knx_model.specs.declared.frames.ip.IpFrame.{IpFrame}
 use Rattle.knx_model.specs.declared.frames.ip.IpFrame.TheVariants.{ConnectRequest, ConnectResponse, StateRequest, StateResponse, DisconnectRequest, DisconnectResponse, TunnellingRequest, TunnellingAck}
@@ -22,7 +22,7 @@ use Rattle.line_model.specs.ClientEnd.{OpenEnd, ClientEnd, Idle, Open, Leaving, 
 use Rattle.tunnel_channel.specs.Fits.{end_of, HasBegun, Knows, KnowsOpen, IsBehind, FitsChannel}
 use Rattle.tunnel_channel.specs.Follows.{is_told_dropped, cemi_in, taken_in, acknowledgement_in, answer_in}
 use Rattle.tunnel_channel.proofs.Times.{same_awaited, same_free}
-use Rattle.tunnel_channel.proofs.Readings.{Readings, readings, end_by, KnowsBy, knows_by, knows, after_got, got_readings}
+use Rattle.tunnel_channel.proofs.Readings.{Readings, readings, KnowsBy, knows_by, knows, after_got, got_readings}
 use Rattle.tunnel_channel.proofs.Opened.{ended_by}
 
 -- ---- an end with a channel, whose end was asked for or not

@@ -1,31 +1,26 @@
 -- A frame that is taken follows the record.
-use Rattle.std.proofs.Common.{◌≡◌, ℕ, ◌≤◌, ◌⊎◌, inl, inr, List, [], ◌∷◌, Bool, true, false, cond, Option, Some, None, refl, sym, ◌∙◌, ap, subst}
-use Rattle.std.specs.Prelude.{not, ◌&&◌, ◌||◌, ◌==◌, if◌then◌else◌, option_map}
-use Rattle.knx_model.specs.declared.address.IndAddr.{IndAddr}
+use Rattle.std.proofs.Common.{◌≡◌, ℕ, ◌⊎◌, inl, inr, List, ◌∷◌, Bool, true, false, Option, Some, None, refl, sym, ◌∙◌, ap, subst}
+use Rattle.std.specs.Prelude.{◌||◌, option_map}
 use Rattle.knx_model.specs.declared.frames.ip.IpFrame.{IpFrame}
-use Rattle.knx_model.specs.declared.frames.ip.IpFrame.TheVariants.{ConnectRequest, ConnectResponse, StateRequest, StateResponse, DisconnectRequest, DisconnectResponse, TunnellingRequest, TunnellingAck}
+use Rattle.knx_model.specs.declared.frames.ip.IpFrame.TheVariants.{DisconnectRequest, DisconnectResponse, TunnellingAck}
 use Rattle.knx_model.specs.KnxNetIp.{Written}
-use Rattle.knx_model.specs.Connection.{has_passed}
 use Rattle.line_model.specs.declared.client_end.ChannelTook.{ChannelTook}
 use Rattle.line_model.specs.declared.client_end.ChannelTook.TheVariants as took
-use Rattle.line_model.specs.Reading.{datagram_in, request_in}
+use Rattle.line_model.specs.Reading.{datagram_in}
 use Rattle.line_model.specs.Record.{Put, Got, Entry, entry}
-use Rattle.line_model.specs.LinkStory.{newest_time}
-use Rattle.line_model.specs.ChannelLost as lapse
-use Rattle.line_model.specs.ChannelLost.{answer_wait, own, acknowledged, confirmed, beats, is_unconfirmed, has_lapsed}
+use Rattle.line_model.specs.ChannelLost.{own, acknowledged, confirmed, beats, is_unconfirmed, has_lapsed}
 use Rattle.line_model.specs.ClientView as seen
 use Rattle.line_model.specs.ClientView.{ClientChannel, channel, Deed, Nothing, Loses, after_entry, deed}
 use Rattle.line_model.specs.Dropped.{is_dropped}
 use Rattle.line_model.specs.Renews.{IsOwed, owed}
 use Rattle.line_model.specs.Sendings.{last_request}
-use Rattle.line_model.specs.ClientEnd.{OpenEnd, ClientEnd, Idle, Seeking, Open, Leaving, JustLost, is_over, is_given_up, is_dead, took_in_time, channel_took, after_took}
-use Rattle.tunnel_channel.specs.Fits.{end_of, outstanding_of, Knows, KnowsOpen, IsBehind, IsUnanswered, HasNone, FitsChannel, Fits}
-use Rattle.tunnel_channel.specs.Follows.{Sends, TakesFrame, is_confirmation_late, answer_in, taken_in}
+use Rattle.line_model.specs.ClientEnd.{OpenEnd, ClientEnd, Open, is_over, is_given_up, is_dead}
+use Rattle.tunnel_channel.specs.Fits.{end_of, outstanding_of, Knows, HasNone, FitsChannel, Fits}
+use Rattle.tunnel_channel.specs.Follows.{Sends, TakesFrame, answer_in, taken_in}
 use Rattle.tunnel_channel.proofs.Frames.{ack_read, left_read}
 use Rattle.tunnel_channel.proofs.Times.{same_given_up, same_dead}
-use Rattle.tunnel_channel.proofs.Readings.{readings}
-use Rattle.tunnel_channel.proofs.Opened.{ended_by, OpenGot, open_got}
-use Rattle.tunnel_channel.proofs.Rows.{up, fits_up, told_up, took_up, IsAck, IsEnd, Row, row}
+use Rattle.tunnel_channel.proofs.Opened.{OpenGot}
+use Rattle.tunnel_channel.proofs.Rows.{up, IsAck, IsEnd, Row}
 use Rattle.tunnel_channel.proofs.Puts.{same_knows, opened_put, lost_put, still_fits}
 
 -- ---- the time has lapsed by the record exactly where it has for this end
@@ -51,7 +46,7 @@ module _ (after : ClientEnd) (told : ChannelTook) (r : List Entry) (octets : Lis
           may = rw read owes;
           fits = subst (λ (ch : ClientChannel). FitsChannel after now ch) (sym (opened_put (entry (Got octets) now ∷ r) answer now c (entry (Got octets) now ∷ l) g.after))
               (still_fits after now now c (entry (Got octets) now ∷ l) (entry (Put answer) now ∷ entry (Got octets) now ∷ l)
-                (λ (e : OpenEnd) (left : Bool). same_knows e left c (entry (Got octets) now ∷ l) answer (TunnellingAck a.ch a.number 0) now read refl) fits);
+              (λ (e : OpenEnd) (left : Bool). same_knows e left c (entry (Got octets) now ∷ l) answer (TunnellingAck a.ch a.number 0) now read refl) fits);
         },
         subst (λ (o : Option IpFrame). IsOwed o (entry (Put answer) now)) (sym owes) read,
       )

@@ -1,11 +1,11 @@
 -- What has passed stays so; and this end's tests of the time are those of the record.
-use Rattle.std.proofs.Common.{◌≡◌, ℕ, ◌-◌, ◌≤◌, List, [], ◌∷◌, length, Bool, true, false, Option, Some, None, refl, arith}
+use Rattle.std.proofs.Common.{◌≡◌, ℕ, ◌≤◌, List, [], ◌∷◌, length, Bool, true, false, Option, refl, arith}
 use Rattle.std.specs.Prelude.{not, ◌&&◌, ◌||◌, ◌==◌, nat_le}
 use Rattle.std.proofs.lemmas.Bool.Decides.{nat_tests}
 use Rattle.knx_model.specs.Connection.{has_passed}
 use Rattle.line_model.specs.ChannelLost as lapse
 use Rattle.line_model.specs.ChannelLost.{answer_wait, is_none}
-use Rattle.line_model.specs.ClientEnd.{Outstanding, Free, Once, Again, OpenEnd, ClientEnd, Seeking, Open, is_given_up, is_dead, is_over, is_free, is_awaited, most_unanswered}
+use Rattle.line_model.specs.ClientEnd.{Outstanding, Free, Once, Again, OpenEnd, Open, is_given_up, is_dead, is_over, is_free, most_unanswered}
 use Rattle.tunnel_channel.specs.Fits.{outstanding_of, IsSentRightly, IsBeatenRightly}
 
 pub passed_later : (wait since t now : ℕ) → t ≤ now → has_passed wait since t ≡ true → has_passed wait since now ≡ true
@@ -30,9 +30,9 @@ both_later false b d g h = h
 pub over_later : (e : OpenEnd) (t now : ℕ) → t ≤ now → is_over (Open e) t ≡ true → is_over (Open e) now ≡ true
 over_later e t now le h =
     either_later (is_given_up e.request t) (is_dead e t) (is_given_up e.request now) (is_dead e now)
-      (given_up_later e.request t now le)
-      (both_later (nat_le most_unanswered e.unanswered) (has_passed answer_wait e.beat t) (has_passed answer_wait e.beat now) (passed_later answer_wait e.beat t now le))
-      h
+    (given_up_later e.request t now le)
+    (both_later (nat_le most_unanswered e.unanswered) (has_passed answer_wait e.beat t) (has_passed answer_wait e.beat now) (passed_later answer_wait e.beat t now le))
+    h
 
 -- ---- the same tests
 
