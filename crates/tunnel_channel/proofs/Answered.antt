@@ -14,7 +14,8 @@ use Rattle.line_model.specs.ChannelLost.{answer_wait, acknowledged, confirmed, i
 use Rattle.line_model.specs.ClientView as seen
 use Rattle.line_model.specs.ClientView.{ClientChannel, channel, after_entry, deed}
 use Rattle.line_model.specs.Dropped.{drops_sought}
-use Rattle.line_model.specs.ClientEnd.{OpenEnd, ClientEnd, Idle, Seeking, Open, Leaving, JustLost, is_over, seeking_took, channel_took, after_took, HasTunnelIfUp}
+use Rattle.line_model.specs.ClientEnd.{OpenEnd, ClientEnd, Idle, Seeking, Open, Leaving, JustLost, is_over}
+use Rattle.line_model.specs.ClientFrames.{seeking_took, channel_took, after_took, HasTunnelIfUp}
 use Rattle.tunnel_channel.specs.Fits.{end_of, Knows, KnowsOpen, IsBehind, IsUnanswered, HasNone, FitsChannel, Fits}
 use Rattle.tunnel_channel.specs.Follows.{TakesFrame, TakeFollows, is_confirmation_late}
 use Rattle.tunnel_channel.proofs.Times.{over_later, passed_later}

@@ -18,7 +18,8 @@ use Rattle.line_model.specs.ClientView.{ClientChannel, Takes, Loses, deed_of}
 use Rattle.line_model.specs.Dropped.{drops_in}
 use Rattle.line_model.specs.Renews.{calls_for}
 use Rattle.line_model.specs.Sendings.{last_request}
-use Rattle.line_model.specs.ClientEnd.{OpenEnd, ClientEnd, Idle, Open, Leaving, JustLost, with_channel, lost, open_took, took_in_time, after_took, acknowledged, delivered, answered}
+use Rattle.line_model.specs.ClientEnd.{OpenEnd, ClientEnd, Idle, Open, Leaving, JustLost, with_channel, lost}
+use Rattle.line_model.specs.ClientFrames.{open_took, took_in_time, after_took, acknowledged, delivered, answered}
 use Rattle.tunnel_channel.specs.Fits.{end_of, HasBegun, Knows, KnowsOpen, IsBehind, FitsChannel}
 use Rattle.tunnel_channel.specs.Follows.{is_told_dropped, cemi_in, taken_in, acknowledgement_in, answer_in}
 use Rattle.tunnel_channel.proofs.Times.{same_awaited, same_free}

@@ -20,7 +20,8 @@ use Rattle.line_model.specs.ClientView.{ClientChannel, channel, Deed, Puts, Take
 use Rattle.line_model.specs.Dropped.{is_dropped}
 use Rattle.line_model.specs.Renews.{RenewsSo, MayLeave, IsOwed, owed, is_just_renewed, is_left}
 use Rattle.line_model.specs.Sendings.{IsRightItem}
-use Rattle.line_model.specs.ClientEnd.{ClientEnd, Idle, Seeking, Open, Leaving, JustLost, open_end, is_over, channel_put, after_put, channel_took, after_took, channel_expired, after_expired, channel_left, after_leave, lost}
+use Rattle.line_model.specs.ClientEnd.{ClientEnd, Idle, Seeking, Open, Leaving, JustLost, open_end, is_over, channel_put, after_put, channel_expired, after_expired, channel_left, after_leave, lost}
+use Rattle.line_model.specs.ClientFrames.{channel_took, after_took}
 use Rattle.tunnel_channel.specs.Fits.{Fits}
 
 -- the datagram is one that the client may send, and the end then knows what the record says

@@ -4,7 +4,8 @@ ghost use Rattle.std.specs.Prelude.{◌≡◌, true, is_some};
 ghost use Rattle.std.specs.Result.{result_ok, result_err};
 ghost use Rattle.knx_model.specs.KnxNetIp.{Written};
 ghost use Rattle.knx_model.specs.declared.frames.ip.IpFrame.TheVariants.{ConnectRequest};
-ghost use Rattle.line_model.specs.ClientEnd.{Idle, Seeking, MayConnect, IsCemi, HasTunnelIfUp, open_end, channel_put, put_refused, after_put, channel_took, after_took, channel_expired, after_expired, channel_deadline, channel_left, after_leave, lost};
+ghost use Rattle.line_model.specs.ClientEnd.{Idle, Seeking, MayConnect, IsCemi, open_end, channel_put, put_refused, after_put, channel_expired, after_expired, channel_deadline, channel_left, after_leave, lost};
+ghost use Rattle.line_model.specs.ClientFrames.{HasTunnelIfUp, channel_took, after_took};
 ghost use Rattle.tunnel_channel.specs.Follows.{NewFollows, ConnectFollows, PutFollows, TakeFollows, ExpireFollows, LostFollows, LeaveFollows};
 
 use crate::state::State;

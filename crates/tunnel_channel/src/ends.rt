@@ -4,7 +4,8 @@ ghost use Rattle.std.specs.Prelude.{◌≡◌, ◌<◌, ◌||◌, Some};
 ghost use Rattle.std.specs.Result.{result_ok, result_err};
 ghost use Rattle.knx_model.specs.declared.frames.ip.IpFrame.TheVariants.{StateRequest, DisconnectRequest};
 ghost use Rattle.knx_model.specs.KnxNetIp.{Written};
-ghost use Rattle.line_model.specs.ClientEnd.{new_channel, is_given_up, is_dead, open_expired, repeat_or_beat, earlier_of, beat_end, request_end, is_awaited, is_acknowledged, acknowledged, delivered, answered, repeated, beaten, most_unanswered, put_octets, put_in_channel, with_request, IsCemi};
+ghost use Rattle.line_model.specs.ClientEnd.{new_channel, is_given_up, is_dead, open_expired, repeat_or_beat, earlier_of, beat_end, request_end, repeated, beaten, most_unanswered, put_octets, put_in_channel, with_request, IsCemi};
+ghost use Rattle.line_model.specs.ClientFrames.{is_awaited, is_acknowledged, acknowledged, delivered, answered};
 
 use crate::request::Request;
 use crate::wait::{HEARTBEAT_PAUSE_MS, HEARTBEAT_WAIT_MS, earlier, end_of, has_passed};

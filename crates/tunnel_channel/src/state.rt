@@ -1,7 +1,8 @@
 //! Where the client's end of a tunnel is, and where it goes.
 
 ghost use Rattle.std.specs.Prelude.{◌≡◌};
-ghost use Rattle.line_model.specs.ClientEnd.{is_over, channel_took, after_took, channel_expired, after_expired, channel_deadline, with_channel, acknowledged, delivered, answered, repeated, beaten, lost, gone, channel_given, channel_left, after_leave};
+ghost use Rattle.line_model.specs.ClientEnd.{is_over, channel_expired, after_expired, channel_deadline, with_channel, repeated, beaten, lost, channel_left, after_leave};
+ghost use Rattle.line_model.specs.ClientFrames.{channel_took, after_took, acknowledged, delivered, answered, gone, channel_given};
 ghost use Rattle.tunnel_channel.specs.Ends.{client_end, MayBeat};
 
 use crate::ends::{Ends, disconnect_request};
@@ -55,7 +56,7 @@ impl State {
     }
 
     /// The answer to a frame of the gateway.
-    #[tactic(auto, unfolding(line_model::specs::ClientEnd::channel_took))]
+    #[tactic(auto, unfolding(line_model::specs::ClientFrames::channel_took))]
     pub fn took(&self, frame: &IpFrame, now: u64) -> ChannelTook
         ensures { result ≡ channel_took (client_end self.now) frame.now now }
     {
@@ -71,7 +72,7 @@ impl State {
     }
 
     /// Goes on after this answer to a frame.
-    #[tactic(auto, unfolding(line_model::specs::ClientEnd::after_took))]
+    #[tactic(auto, unfolding(line_model::specs::ClientFrames::after_took))]
     pub fn after(&mut self, frame: &IpFrame, now: u64, took: &ChannelTook)
         ensures { client_end self.new ≡ after_took (client_end self.old) frame.now now took.now }
     {

@@ -2,7 +2,7 @@
 
 ghost use Rattle.std.specs.Prelude.{◌≡◌};
 ghost use Rattle.knx_model.specs.KnxNetIp.{Written};
-ghost use Rattle.line_model.specs.ClientEnd.{seeking_took, open_took, leaving_took, state_took, request_took, acknowledgement};
+ghost use Rattle.line_model.specs.ClientFrames.{seeking_took, open_took, leaving_took, state_took, request_took, acknowledgement};
 
 use crate::ends::Ends;
 use knx_model::{Datagram, IpFrame};
