@@ -1,6 +1,6 @@
 -- What has become due follows the record.
 use Rattle.std.proofs.Common.{◌≡◌, ℕ, ◌≤◌, ◌⊎◌, inl, inr, List, [], ◌∷◌, Bool, true, false, cond, Some, None, refl, sym, ◌∙◌, ap, subst, arith}
-use Rattle.std.specs.Prelude.{◌&&◌, ◌||◌}
+use Rattle.std.specs.Prelude.{not, ◌&&◌, ◌||◌}
 use Rattle.knx_model.specs.declared.frames.ip.IpFrame.TheVariants.{StateRequest}
 use Rattle.knx_model.specs.KnxNetIp.{Written}
 use Rattle.knx_model.specs.Connection.{has_passed}
@@ -13,11 +13,11 @@ use Rattle.line_model.specs.ChannelLost as lapse
 use Rattle.line_model.specs.ChannelLost.{answer_wait, heartbeat_pause, own, acknowledged, confirmed, beats, is_unconfirmed, has_lapsed}
 use Rattle.line_model.specs.ClientView as seen
 use Rattle.line_model.specs.ClientView.{ClientChannel, channel, Nothing, deed}
-use Rattle.line_model.specs.Renews.{last_beat}
+use Rattle.line_model.specs.Renews.{last_beat, is_repeat_due, is_beat_due}
 use Rattle.line_model.specs.Sendings.{last_request}
 use Rattle.line_model.specs.ClientEnd.{OpenEnd, ClientEnd, Idle, Seeking, Open, Leaving, JustLost, is_given_up, is_dead, repeat_due, repeat_or_beat, open_expired, channel_expired, after_expired, repeated, beaten}
 use Rattle.tunnel_channel.specs.Fits.{end_of, outstanding_of, octets_of, IsSentRightly, IsOutstanding, Knows, KnowsOpen, IsBehind, IsUnanswered, HasNone, Fits}
-use Rattle.tunnel_channel.specs.Follows.{Sends, TellsLapse, Expires, ExpireFollows, IsCurrent, sent_by, is_told_over, is_up_or_sought}
+use Rattle.tunnel_channel.specs.Follows.{Sends, TellsDue, Expires, ExpireFollows, IsCurrent, sent_by, is_told_over, is_told_lost, is_told_dead, is_told_repeat, is_told_beat, is_up_or_sought}
 use Rattle.tunnel_channel.proofs.Times.{over_later, passed_later, passed_alike, same_given_up, same_dead}
 use Rattle.tunnel_channel.proofs.Rows.{up, with_up, lost_up}
 use Rattle.tunnel_channel.proofs.Given.{repeat_sends, repeat_deed, beat_sends, beat_deed}
@@ -51,12 +51,21 @@ module _ (left : Bool) (c : ℕ) (l r : List Entry) (now : ℕ) (at : channel r 
   dead_is = sym (same_dead (beats c l) (last_beat c l) now k.heartbeats)
 
   -- the loss is told by its cause
-  tells : (told : ChannelExpired) → TellsLapse told now c l → (d : ℕ) (m : List Entry) → channel r ≡ seen.Open d m → TellsLapse told now d m
+  tells : (told : ChannelExpired) → TellsDue told now c l → (d : ℕ) (m : List Entry) → channel r ≡ seen.Open d m → TellsDue told now d m
   tells told t d m is =
       let same : (seen.Open c l ≡ seen.Open d m) = sym at ∙ is in
       let one : (c ≡ d) = (cc) in
       let all : (l ≡ m) = (cc) in
-      subst (λ (z : ℕ). TellsLapse told now z m) one (subst (λ (n : List Entry). TellsLapse told now c n) all t)
+      subst (λ (z : ℕ). TellsDue told now z m) one (subst (λ (n : List Entry). TellsDue told now c n) all t)
+
+  by_tests : (told : ChannelExpired) (g d a b : Bool) → is_given_up (end_of c l).request now ≡ g → is_dead (end_of c l) now ≡ d → is_repeat_due (own c l).sent now ≡ a → is_beat_due c l now ≡ b
+      → is_told_lost told ≡ g → is_told_dead told ≡ (not g && d) → is_told_repeat told ≡ (not (g || d) && a) → is_told_beat told ≡ (not (g || d || a) && b) → TellsDue told now c l
+  by_tests told g d a b p q u v one two three four = record {
+    given_up = rw (given_up_is, p) one;
+    dead = rw (given_up_is, p, dead_is, q) two;
+    repeat_due = rw (given_up_is, p, dead_is, q, u) three;
+    beat_due = rw (given_up_is, p, dead_is, q, u, v) four;
+  }
 
   lapses : (g d : Bool) → is_given_up (end_of c l).request now ≡ g → is_dead (end_of c l) now ≡ d → (g || d) ≡ true → has_lapsed c l now ≡ true
   lapses true d p q o = rw (given_up_is, p) refl
@@ -78,7 +87,7 @@ module _ (left : Bool) (c : ℕ) (l r : List Entry) (now : ℕ) (at : channel r 
     sends = λ octets h. absurd (cc);
     no_deed = λ octets h. absurd (cc);
     rests = λ n h. absurd (not_current true (is_dead (end_of c l) now) p refl refl h);
-    lapses = tells due.Lost (record { given_up = sym (given_up_is ∙ p); dead = rw (given_up_is, p) refl });
+    by_cause = tells due.Lost (by_tests due.Lost true (is_dead (end_of c l) now) (is_repeat_due (own c l).sent now) (is_beat_due c l now) p refl refl refl refl refl refl refl);
     unanswered = λ since is. absurd (let same : (seen.Open c l ≡ seen.Sought since) = sym at ∙ is in cc);
     over = λ h. absurd (not_current true (is_dead (end_of c l) now) p refl refl h);
   }
@@ -88,29 +97,29 @@ module _ (left : Bool) (c : ℕ) (l r : List Entry) (now : ℕ) (at : channel r 
     sends = λ octets h. absurd (cc);
     no_deed = λ octets h. absurd (cc);
     rests = λ n h. absurd (not_current false true p q refl h);
-    lapses = tells due.Dead (record { given_up = sym (given_up_is ∙ p); dead = rw (given_up_is, p, dead_is, q) refl });
+    by_cause = tells due.Dead (by_tests due.Dead false true (is_repeat_due (own c l).sent now) (is_beat_due c l now) p q refl refl refl refl refl refl);
     unanswered = λ since is. absurd (let same : (seen.Open c l ≡ seen.Sought since) = sym at ∙ is in cc);
     over = λ h. absurd (not_current false true p q refl h);
   }
 
-  told_nothing : is_given_up (end_of c l).request now ≡ false → is_dead (end_of c l) now ≡ false → Due (up left (end_of c l)) now r due.Nothing
+  told_nothing : is_given_up (end_of c l).request now ≡ false → is_dead (end_of c l) now ≡ false → is_repeat_due (own c l).sent now ≡ false → is_beat_due c l now ≡ false → Due (up left (end_of c l)) now r due.Nothing
   unfolding after_expired
-  told_nothing p q = record {
+  told_nothing p q a b = record {
     sends = λ octets h. absurd (cc);
     no_deed = λ octets h. absurd (cc);
     rests = λ n h. fits;
-    lapses = tells due.Nothing (record { given_up = sym (given_up_is ∙ p); dead = rw (given_up_is, p, dead_is, q) refl });
+    by_cause = tells due.Nothing (by_tests due.Nothing false false false false p q a b refl refl refl refl);
     unanswered = λ since is. absurd (let same : (seen.Open c l ≡ seen.Sought since) = sym at ∙ is in cc);
     over = λ h. rw at (and_false (is_up_or_sought (up left (end_of c l))));
   }
 
-  told_sent : (told : ChannelExpired) (octets : List ℕ) → sent_by told ≡ Some octets → TellsLapse told now c l → is_told_over told ≡ false → Sends (after_expired (up left (end_of c l)) now told) octets now r
+  told_sent : (told : ChannelExpired) (octets : List ℕ) → sent_by told ≡ Some octets → TellsDue told now c l → is_told_over told ≡ false → Sends (after_expired (up left (end_of c l)) now told) octets now r
       → deed (channel r) (entry (Put octets) now) ≡ Nothing → Due (up left (end_of c l)) now r told
   told_sent told octets s t o sends none = record {
     sends = λ other h. subst (λ (x : List ℕ). Sends (after_expired (up left (end_of c l)) now told) x now r) (same other h) sends;
     no_deed = λ other h. subst (λ (x : List ℕ). deed (channel r) (entry (Put x) now) ≡ Nothing) (same other h) none;
     rests = λ n h. absurd (cc);
-    lapses = tells told t;
+    by_cause = tells told t;
     unanswered = λ since is. absurd (let one : (seen.Open c l ≡ seen.Sought since) = sym at ∙ is in cc);
     over = λ h. rw (o, at) (and_false (is_up_or_sought (up left (end_of c l))));
   }
@@ -125,29 +134,29 @@ module _ (left : Bool) (c : ℕ) (l r : List Entry) (now : ℕ) (at : channel r 
       let o : IsOutstanding c (own c l).number (last_request c l) = subst (λ (s : List ℕ). IsSentRightly c (own c l).number s (last_request c l)) once k.sendings in
       let same : (octets_of (last_request c l) ≡ o.octets) = ap octets_of o.is in
       subst (λ (x : List ℕ). Due (up left (end_of c l)) now r (due.Repeat x)) (sym same)
-      (told_sent (due.Repeat o.octets) o.octets refl (record { given_up = sym (given_up_is ∙ p); dead = rw (given_up_is, p, dead_is, q) refl }) refl
+      (told_sent (due.Repeat o.octets) o.octets refl (by_tests (due.Repeat o.octets) false false true (is_beat_due c l now) p q (rw once passed) refl refl refl refl refl) refl
       (rw (with_up (repeated now) left (end_of c l)) (repeat_sends left c l r now at k t o once passed)) (repeat_deed left c l r now at k t o once))
 
-  told_beat : has_passed heartbeat_pause (last_beat c l) now ≡ true → is_given_up (end_of c l).request now ≡ false → is_dead (end_of c l) now ≡ false → Due (up left (end_of c l)) now r (due.Beat (Written (StateRequest c)))
+  told_beat : has_passed heartbeat_pause (last_beat c l) now ≡ true → is_given_up (end_of c l).request now ≡ false → is_dead (end_of c l) now ≡ false → is_repeat_due (own c l).sent now ≡ false → Due (up left (end_of c l)) now r (due.Beat (Written (StateRequest c)))
   unfolding after_expired
-  told_beat passed p q =
-      told_sent (due.Beat (Written (StateRequest c))) (Written (StateRequest c)) refl (record { given_up = sym (given_up_is ∙ p); dead = rw (given_up_is, p, dead_is, q) refl }) refl
+  told_beat passed p q a =
+      told_sent (due.Beat (Written (StateRequest c))) (Written (StateRequest c)) refl (by_tests (due.Beat (Written (StateRequest c))) false false false true p q a passed refl refl refl refl) refl
       (rw (with_up (beaten now) left (end_of c l)) (beat_sends left c l r now at k passed (passed_alike answer_wait heartbeat_pause (last_beat c l) now (omega arith) passed) q)) (beat_deed left c l r now at k)
 
-  told_beat_if : (b : Bool) → has_passed heartbeat_pause (last_beat c l) now ≡ b → is_given_up (end_of c l).request now ≡ false → is_dead (end_of c l) now ≡ false → Due (up left (end_of c l)) now r (repeat_or_beat None (end_of c l) now)
-  told_beat_if true b p q = rw b (told_beat b p q)
-  told_beat_if false b p q = rw b (told_nothing p q)
+  told_beat_if : (b : Bool) → has_passed heartbeat_pause (last_beat c l) now ≡ b → is_given_up (end_of c l).request now ≡ false → is_dead (end_of c l) now ≡ false → is_repeat_due (own c l).sent now ≡ false → Due (up left (end_of c l)) now r (repeat_or_beat None (end_of c l) now)
+  told_beat_if true b p q a = rw b (told_beat b p q a)
+  told_beat_if false b p q a = rw b (told_nothing p q a b)
 
   told_repeat_if : (t : ℕ) → (own c l).sent ≡ t ∷ [] → (a : Bool) → has_passed acknowledgement_wait t now ≡ a → is_given_up (end_of c l).request now ≡ false → is_dead (end_of c l) now ≡ false
       → Due (up left (end_of c l)) now r (repeat_or_beat (cond (has_passed acknowledgement_wait t now) (Some (octets_of (last_request c l))) None) (end_of c l) now)
   told_repeat_if t once true a p q = rw a (told_repeat t once a p q)
-  told_repeat_if t once false a p q = rw a (told_beat_if (has_passed heartbeat_pause (last_beat c l) now) refl p q)
+  told_repeat_if t once false a p q = rw a (told_beat_if (has_passed heartbeat_pause (last_beat c l) now) refl p q (rw once a))
 
   told_rest : (s : List ℕ) → (own c l).sent ≡ s → is_given_up (end_of c l).request now ≡ false → is_dead (end_of c l) now ≡ false
       → Due (up left (end_of c l)) now r (repeat_or_beat (repeat_due (outstanding_of s (last_request c l)) now) (end_of c l) now)
-  told_rest [] e p q = told_beat_if (has_passed heartbeat_pause (last_beat c l) now) refl p q
+  told_rest [] e p q = told_beat_if (has_passed heartbeat_pause (last_beat c l) now) refl p q (rw e refl)
   told_rest (t ∷ []) e p q = told_repeat_if t e (has_passed acknowledgement_wait t now) refl p q
-  told_rest (s ∷ t ∷ ts) e p q = told_beat_if (has_passed heartbeat_pause (last_beat c l) now) refl p q
+  told_rest (s ∷ t ∷ ts) e p q = told_beat_if (has_passed heartbeat_pause (last_beat c l) now) refl p q (rw e refl)
 
   told_known : (g d : Bool) → is_given_up (end_of c l).request now ≡ g → is_dead (end_of c l) now ≡ d
       → Due (up left (end_of c l)) now r (cond g due.Lost (cond d due.Dead (repeat_or_beat (repeat_due (end_of c l).request now) (end_of c l) now)))
@@ -174,7 +183,7 @@ module _ (left : Bool) (e : OpenEnd) (r : List Entry) (now : ℕ) (lost_is : cha
     sends = λ octets h. absurd (cc);
     no_deed = λ octets h. absurd (cc);
     rests = λ n h. rw after lost_is;
-    lapses = λ c l is. absurd (let same : (seen.Lost e.channel ≡ seen.Open c l) = sym lost_is ∙ is in cc);
+    by_cause = λ c l is. absurd (let same : (seen.Lost e.channel ≡ seen.Open c l) = sym lost_is ∙ is in cc);
     unanswered = λ since is. absurd (let same : (seen.Lost e.channel ≡ seen.Sought since) = sym lost_is ∙ is in cc);
     over = λ h. rw (lost_is, o, u) refl;
   }
@@ -211,7 +220,7 @@ sought_due r since now at true q = rw q (record {
   sends = λ octets h. absurd (cc);
   no_deed = λ octets h. absurd (cc);
   rests = λ n h. absurd (let current : (has_passed answer_wait since now ≡ false) = subst (λ (ch : ClientChannel). IsCurrent ch now) at h in cc);
-  lapses = λ c l is. absurd (let same : (seen.Sought since ≡ seen.Open c l) = sym at ∙ is in cc);
+  by_cause = λ c l is. absurd (let same : (seen.Sought since ≡ seen.Open c l) = sym at ∙ is in cc);
   unanswered = λ other is. (let same : (since ≡ other) = (let e : (seen.Sought since ≡ seen.Sought other) = sym at ∙ is in cc) in subst (λ (t : ℕ). true ≡ has_passed answer_wait t now) same (sym q));
   over = λ h. absurd (let current : (has_passed answer_wait since now ≡ false) = subst (λ (ch : ClientChannel). IsCurrent ch now) at h in cc);
 })
@@ -219,7 +228,7 @@ sought_due r since now at false q = rw q (record {
   sends = λ octets h. absurd (cc);
   no_deed = λ octets h. absurd (cc);
   rests = λ n h. inl at;
-  lapses = λ c l is. absurd (let same : (seen.Sought since ≡ seen.Open c l) = sym at ∙ is in cc);
+  by_cause = λ c l is. absurd (let same : (seen.Sought since ≡ seen.Open c l) = sym at ∙ is in cc);
   unanswered = λ other is. (let same : (since ≡ other) = (let e : (seen.Sought since ≡ seen.Sought other) = sym at ∙ is in cc) in subst (λ (t : ℕ). false ≡ has_passed answer_wait t now) same (sym q));
   over = λ h. rw at refl;
 })
@@ -230,7 +239,7 @@ unanswered_due r since now at q = rw q (record {
   sends = λ octets h. absurd (cc);
   no_deed = λ octets h. absurd (cc);
   rests = λ n h. rw at tt;
-  lapses = λ c l is. absurd (let same : (seen.Unanswered ≡ seen.Open c l) = sym at ∙ is in cc);
+  by_cause = λ c l is. absurd (let same : (seen.Unanswered ≡ seen.Open c l) = sym at ∙ is in cc);
   unanswered = λ other is. absurd (let same : (seen.Unanswered ≡ seen.Sought other) = sym at ∙ is in cc);
   over = λ h. rw at refl;
 })
@@ -245,7 +254,7 @@ none_due end r now n u none fits = rw n (record {
   sends = λ octets h. absurd (cc);
   no_deed = λ octets h. absurd (cc);
   rests = λ n h. fits;
-  lapses = λ c l is. absurd (rw is at none);
+  by_cause = λ c l is. absurd (rw is at none);
   unanswered = λ other is. absurd (rw is at none);
   over = λ h. rw u refl;
 })

@@ -1,7 +1,7 @@
 -- Each call of the client's end of a tunnel follows the link's record: where the end fits the record before the call, what it knows then fits
 -- the record with the entry that the call brings, and what it gives to be sent is a datagram that the client may send. No link is named: it
 -- holds of every record. The times of the record aren't greater than that of the call.
-use Rattle.std.specs.Prelude.{◌≡◌, ◌≢◌, ℕ, ◌≤◌, Bool, true, false, not, ◌&&◌, is_none, is_some, List, [], ◌∷◌, option_map, Option, Some, None}
+use Rattle.std.specs.Prelude.{◌≡◌, ◌≢◌, ℕ, ◌≤◌, Bool, true, false, not, ◌&&◌, ◌||◌, is_none, is_some, List, [], ◌∷◌, option_map, Option, Some, None}
 use Rattle.knx_model.specs.declared.frames.ip.IpFrame.{IpFrame}
 use Rattle.knx_model.specs.declared.frames.ip.IpFrame.TheVariants.{ConnectRequest}
 use Rattle.knx_model.specs.KnxNetIp.{Written}
@@ -13,12 +13,11 @@ use Rattle.line_model.specs.declared.client_end.ChannelExpired.TheVariants as du
 use Rattle.line_model.specs.Reading.{datagram_in, ldata_in}
 use Rattle.line_model.specs.Record.{Item, Put, Renewed, Got, Entry, entry, got_in, is_poll}
 use Rattle.line_model.specs.LinkStory.{newest_time}
-use Rattle.line_model.specs.ChannelLost as lapse
-use Rattle.line_model.specs.ChannelLost.{answer_wait, own, acknowledged, confirmed, beats, is_unconfirmed, has_lapsed}
+use Rattle.line_model.specs.ChannelLost.{answer_wait, own, acknowledged, confirmed, beats, is_given_up, is_unconfirmed, is_dead, has_lapsed}
 use Rattle.line_model.specs.ClientView as seen
 use Rattle.line_model.specs.ClientView.{ClientChannel, channel, Deed, Puts, Takes, Loses, Nothing, deed}
 use Rattle.line_model.specs.Dropped.{is_dropped}
-use Rattle.line_model.specs.Renews.{RenewsSo, MayLeave, IsOwed, owed, is_just_renewed, is_left}
+use Rattle.line_model.specs.Renews.{RenewsSo, MayLeave, IsOwed, owed, is_just_renewed, is_repeat_due, is_beat_due, is_left}
 use Rattle.line_model.specs.Sendings.{IsRightItem}
 use Rattle.line_model.specs.ClientEnd.{ClientEnd, Idle, Seeking, Open, Leaving, JustLost, open_end, is_over, channel_put, after_put, channel_expired, after_expired, channel_left, after_leave, lost}
 use Rattle.line_model.specs.ClientFrames.{channel_took, after_took}
@@ -120,6 +119,14 @@ abbrev pub is_told_dead : ChannelExpired → Bool
 is_told_dead due.Dead = true
 is_told_dead _ = false
 
+abbrev pub is_told_repeat : ChannelExpired → Bool
+is_told_repeat (due.Repeat octets) = true
+is_told_repeat _ = false
+
+abbrev pub is_told_beat : ChannelExpired → Bool
+is_told_beat (due.Beat octets) = true
+is_told_beat _ = false
+
 abbrev pub is_told_unanswered : ChannelExpired → Bool
 is_told_unanswered due.NoAnswer = true
 is_told_unanswered _ = false
@@ -139,18 +146,20 @@ is_up_or_sought (Open e) = true
 is_up_or_sought (Leaving e) = true
 is_up_or_sought (JustLost c) = false
 
--- where the record shows the channel open, this end tells its loss exactly by the cause
-pub record TellsLapse (told : ChannelExpired) (now c : ℕ) (l : List Entry) : Type 0 where
-  pub given_up : is_told_lost told ≡ lapse.is_given_up (own c l).sent now
-  pub dead : is_told_dead told ≡ (not (lapse.is_given_up (own c l).sent now) && lapse.is_dead (beats c l) now)
+-- where the record shows the channel open, each answer comes exactly by its cause there, of several that are due the first
+pub record TellsDue (told : ChannelExpired) (now c : ℕ) (l : List Entry) : Type 0 where
+  pub given_up : is_told_lost told ≡ is_given_up (own c l).sent now
+  pub dead : is_told_dead told ≡ (not (is_given_up (own c l).sent now) && is_dead (beats c l) now)
+  pub repeat_due : is_told_repeat told ≡ (not (is_given_up (own c l).sent now || is_dead (beats c l) now) && is_repeat_due (own c l).sent now)
+  pub beat_due : is_told_beat told ≡ (not (is_given_up (own c l).sent now || is_dead (beats c l) now || is_repeat_due (own c l).sent now) && is_beat_due c l now)
 
--- a repeat and a heartbeat are sent, and put nothing new; a loss is told, by its cause, where the record has it; where the record has come to
--- this time, exactly where it has it
+-- a repeat and a heartbeat are sent, and put nothing new; where the record has come to this time, a loss and a failed try are told exactly
+-- where it has them
 pub record Expires (end after : ClientEnd) (told : ChannelExpired) (now : ℕ) (r : List Entry) : Type 0 where
   pub sends : (octets : List ℕ) → sent_by told ≡ Some octets → Sends after octets now r
   pub no_deed : (octets : List ℕ) → sent_by told ≡ Some octets → deed (channel r) (entry (Put octets) now) ≡ Nothing
   pub rests : sent_by told ≡ None → IsCurrent (channel r) now → Fits after r
-  pub lapses : (c : ℕ) (l : List Entry) → channel r ≡ seen.Open c l → TellsLapse told now c l
+  pub by_cause : (c : ℕ) (l : List Entry) → channel r ≡ seen.Open c l → TellsDue told now c l
   pub unanswered : (since : ℕ) → channel r ≡ seen.Sought since → is_told_unanswered told ≡ has_passed answer_wait since now
   pub over : IsCurrent (channel r) now → is_told_over told ≡ (is_up_or_sought end && is_left (channel r))
 

@@ -5,11 +5,16 @@ ghost use Rattle.knx_model.specs.Connection.{last_time};
 ghost use Rattle.knx_model.specs.ConnectionLaws.{Reached};
 ghost use Rattle.line_model.specs.declared.client_end.ChannelExpired.TheVariants as due;
 ghost use Rattle.line_model.specs.ClientEnd.{ClientEnd, channel_expired, channel_deadline};
-ghost use Rattle.tunnel_channel.specs.Follows.{QuietFollows, PollsAreCurrent, SendingsStayCurrent};
+ghost use Rattle.tunnel_channel.specs.Follows.{QuietFollows, RenewalFollows, PollsAreCurrent, SendingsStayCurrent};
 
-/// A poll that gets nothing, or a datagram that doesn't read, changes nothing that the client's end knows.
+/// A poll that gets nothing, or a datagram that doesn't read, leaves the client's end knowing what the record says.
 pub fn quiet_polls_change_nothing()
     ensures { QuietFollows }
+{}
+
+/// On a new endpoint there is no channel.
+pub fn new_endpoints_have_no_channel()
+    ensures { RenewalFollows }
 {}
 
 /// After a poll the record has come to its time: what has lapsed by then is lost there. A sending at that time leaves it so.
