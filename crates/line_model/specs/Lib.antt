@@ -15,6 +15,8 @@ pub mod Record
 pub mod ChannelLost
 pub mod ClientView
 pub mod Dropped
+pub mod ClientEnd
+pub mod ClientFrames
 -- 4. What is told
 pub mod Log
 pub mod Moments

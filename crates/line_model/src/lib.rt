@@ -1,6 +1,7 @@
 //! The whole line: network, gateway, bus and devices, the client's view of it, and what is promised of it.
 #![tactic(auto)]
 
+mod client_end;
 mod fault;
 mod gateway_end;
 mod group;
@@ -10,6 +11,7 @@ mod outside;
 mod put_refused;
 mod runs;
 
+pub use client_end::{ChannelExpired, ChannelTook};
 pub use fault::{HubFault, Try};
 pub use gateway_end::{GatewayExpired, GatewayTook};
 pub use group::{GroupTurn, Indication};

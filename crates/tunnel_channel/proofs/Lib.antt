@@ -1,0 +1,14 @@
+mod Frames
+mod Times
+mod Readings
+mod Opened
+mod Rows
+mod Puts
+mod Take
+mod Answered
+mod Given
+mod Expired
+mod Calls
+mod Current
+mod Quiet
+mod Deadline

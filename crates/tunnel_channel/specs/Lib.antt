@@ -1,0 +1,4 @@
+pub mod Request
+pub mod Ends
+pub mod Fits
+pub mod Follows
