@@ -22,7 +22,7 @@ pub record IsIndexOf (addr assoc : List ℕ) (pairs : List (ℕ × ℕ)) : Type 
   pub exactly : (group object : ℕ) → is_paired pairs group object ≡ is_linked_in addr assoc group object
 
 -- how many object numbers a set holds
-abbrev pub how_many : List Bool → ℕ
+unfoldable pub how_many : List Bool → ℕ
 how_many set = count_by (holds set) (range_with_len 0 256)
 
 -- a search by halves over so many pairs, and one step for each object found and one for the end

@@ -1,10 +1,11 @@
 //! An index of the objects that the tables of a running device link to each group.
 
-ghost use Rattle.std.specs.Prelude.{◌≡◌, ℕ, ◌+◌, ◌-◌, ◌*◌, ◌^◌, ◌<◌, ◌≤◌, ◌||◌, ◌&&◌, [], length, slice_index_or, IfOk, vec_len, vec_capacity};
+ghost use Rattle.std.specs.Prelude.{◌≡◌, ℕ, ◌+◌, ◌-◌, ◌*◌, ◌^◌, ◌<◌, ◌≤◌, ◌||◌, ◌&&◌, [], length, slice_index_or, false, IsTrue, IfOk, vec_len, vec_capacity};
+ghost use Rattle.std.specs.List.{AllPairs};
 ghost use Rattle.knx_model.specs.declared.config.Image.{Image};
 ghost use Rattle.knx_model.specs.Acts.{addresses, pairs, is_pair_of, is_object_number, is_linked_in, is_written, answerer};
 ghost use Rattle.device_tables.specs.Objects.{holds};
-ghost use Rattle.device_tables.specs.Index.{IsIndexOf, IsSearch, is_paired, how_many};
+ghost use Rattle.device_tables.specs.Index.{StandsBefore, IsIndexOf, IsSearch, is_paired, how_many};
 
 use crate::objects::{Acts, Objects};
 use crate::steps::Steps;
@@ -57,14 +58,34 @@ impl TableIndex {
         self.pairs.dedup();
     }
 
+    /// How many pairs there are.
+    fn len(&self) -> usize
+        ensures { result ≡ length self.now }
+    {
+        self.pairs.len()
+    }
+
     /// The pair at a place. To look at it is a step.
     fn look<L: Ledger>(&self, at: usize, steps: &mut Steps<L>) -> (u16, u8)
         requires { at < length self.now }
         ensures pair { result ≡ slice_index_or self.now at result }
+        ensures ascending { AllPairs StandsBefore self.now }
         ensures step { steps.new ≡ steps.old + 1 }
     {
         steps.take();
         self.pairs[at]
+    }
+
+    /// Whether the group of the pair at a place, and so of each pair before it, is below this one.
+    #[tactic(auto, using(crate::proofs::Search::below_to, crate::proofs::Search::not_below_from))]
+    fn is_below<L: Ledger>(&self, at: usize, group: GroupAddr, steps: &mut Steps<L>) -> bool
+        requires { at < length self.now }
+        ensures below { IsTrue result → (k : ℕ) (d : ℕ × ℕ) → k ≤ at → (slice_index_or self.now k d).0 < group.raw }
+        ensures from { result ≡ false → (k : ℕ) (d : ℕ × ℕ) → at ≤ k → k < length self.now → group.raw ≤ (slice_index_or self.now k d).0 }
+        ensures step { steps.new ≡ steps.old + 1 }
+    {
+        let (of, _) = self.look(at, steps);
+        of < group.raw
     }
 
     /// The place of the first pair whose group isn't below this one, by halves.
@@ -76,11 +97,10 @@ impl TableIndex {
         ensures halves { 2 ^ (steps.new - steps.old) ≤ 2 * length self.now + 1 }
     {
         let mut low = 0;
-        let mut high = self.pairs.len();
+        let mut high = self.len();
         while low < high {
             let middle = low + (high - low) / 2;
-            let (of, _) = self.look(middle, steps);
-            if of < group.raw {
+            if self.is_below(middle, group, steps) {
                 low = middle + 1;
             } else {
                 high = middle;
@@ -104,7 +124,7 @@ impl TableIndex {
     {
         let mut objects = Objects::none();
         let mut at = first;
-        while at < self.pairs.len() {
+        while at < self.len() {
             let (of, object) = self.look(at, steps);
             if of != group.raw {
                 return objects;
