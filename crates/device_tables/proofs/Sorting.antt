@@ -45,12 +45,6 @@ ascend ps sorted = sorted_pairs (dedup pair_eq ps) (IsStrictlySortedBy-dedup pai
 -- ---- the same pairs
 
 module _ {X : Type 0} (same : X → X → Bool) (p : X → Bool) (told : (x y : X) → same x y ≡ true → p x ≡ p y) where
-  once : (a b : Bool) → a ≡ b → (b || (a || false)) ≡ b
-  once true true e = refl
-  once false false e = refl
-  once true false e = e
-  once false true e = refl
-
   any_from : (xs : List X) (k : X) → list_any p (dedup_from same k xs) ≡ (p k || list_any p xs)
   any_from [] k = refl
   any_from (x ∷ xs) k = elim (cases_Bool (same x k)) as (λ _. list_any p (dedup_from same k (x ∷ xs)) ≡ (p k || list_any p (x ∷ xs))) [

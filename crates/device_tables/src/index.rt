@@ -3,7 +3,7 @@
 ghost use Rattle.std.specs.Prelude.{◌≡◌, ℕ, ◌+◌, ◌-◌, ◌*◌, ◌^◌, ◌<◌, ◌≤◌, ◌||◌, ◌&&◌, [], length, slice_index_or, false, IsTrue, IfOk, vec_len, vec_capacity};
 ghost use Rattle.std.specs.List.{AllPairs};
 ghost use Rattle.knx_model.specs.declared.config.Image.{Image};
-ghost use Rattle.knx_model.specs.Acts.{addresses, pairs, is_pair_of, is_object_number, is_linked_in, is_written, answerer};
+ghost use Rattle.knx_model.specs.Acts.{addresses, is_pair_of, is_object_number, is_linked_in, is_written, answerer};
 ghost use Rattle.device_tables.specs.Objects.{holds};
 ghost use Rattle.device_tables.specs.Index.{StandsBefore, IsIndexOf, IsSearch, is_paired, how_many};
 
@@ -29,12 +29,13 @@ impl Model for TableIndex {
     ghost use Rattle.std.specs.Prelude.{List, ℕ, ◌≤◌, vec_capacity};
     ghost use Rattle.std.specs.List.{AllPairs};
     ghost use Rattle.device_tables.specs.Index.{StandsBefore};
+    ghost use Rattle.device_tables.specs.declared.index.TheConstants.{MOST_PAIRS};
 
     ghost Value = { List (ℕ × ℕ) };
 
     ghost view = { λ t. t.pairs.items };
 
-    ghost invariant = { λ t. AllPairs StandsBefore t.pairs.items × (2047 ≤ vec_capacity t.pairs) };
+    ghost invariant = { λ t. AllPairs StandsBefore t.pairs.items × (MOST_PAIRS ≤ vec_capacity t.pairs) };
 }
 
 impl TableIndex {
@@ -77,7 +78,7 @@ impl TableIndex {
     }
 
     /// Whether the group of the pair at a place, and so of each pair before it, is below this one.
-    #[tactic(auto, using(crate::proofs::Search::below_to, crate::proofs::Search::not_below_from))]
+    #[tactic(auto, using(crate::proofs::Search::not_below_from))]
     fn is_below<L: Ledger>(&self, at: usize, group: GroupAddr, steps: &mut Steps<L>) -> bool
         requires { at < length self.now }
         ensures below { IsTrue result → (k : ℕ) (d : ℕ × ℕ) → k ≤ at → (slice_index_or self.now k d).0 < group.raw }
@@ -186,7 +187,7 @@ fn put(index: &mut Vec<(u16, u8)>, addr: &[u8], pair: (u16, u16))
 /// Puts what each pair of the association table links behind the others, of which there are none yet.
 fn collect(index: &mut Vec<(u16, u8)>, addr: &[u8], assoc: &[u8])
     requires empty { index.old.items ≡ [] }
-    requires room { 2047 ≤ vec_capacity index.old }
+    requires room { MOST_PAIRS ≤ vec_capacity index.old }
     requires len { length assoc.now ≤ 8192 }
     ensures exactly { (g o : ℕ) → is_paired index.new.items g o ≡ is_linked_in addr.now assoc.now g o }
     ensures capacity { vec_capacity index.old ≤ vec_capacity index.new }
