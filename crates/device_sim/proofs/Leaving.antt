@@ -1,6 +1,5 @@
 -- What a frame leaves of what a device keeps.
-use Rattle.std.proofs.Common.{ℕ, ◌≡◌, ◌-◌, List, length, Bool, true, false, not, ◌&&◌, Option, Some, None, refl, sym, ap, ◌∙◌, if◌then◌else◌}
-use Rattle.std.proofs.lemmas.Bool.{false≢true}
+use Rattle.std.proofs.Common.{ℕ, ◌≡◌, ◌-◌, List, length, Bool, true, false, not, ◌&&◌, Option, Some, None, refl, ap, ◌∙◌, if◌then◌else◌}
 use Rattle.knx_model.specs.declared.connection.DeviceTook.{DeviceTook}
 use Rattle.knx_model.specs.declared.connection.DeviceTook.TheVariants as took
 use Rattle.knx_model.specs.declared.device.Took.{Took}

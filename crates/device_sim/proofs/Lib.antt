@@ -9,3 +9,4 @@ pub mod Leaving
 pub mod Telegrams
 pub mod Waiting
 pub mod Sendings
+pub mod WhileLoaded

@@ -13,8 +13,8 @@ use Rattle.knx_model.specs.declared.script.GroupService.{GroupService}
 use Rattle.knx_model.specs.declared.script.GroupService.TheVariants.{Read, Write, Response}
 use Rattle.knx_model.specs.Acts.{answerer}
 use Rattle.knx_model.specs.ApduReading.{service_in}
-use Rattle.knx_model.specs.DeviceConnection.{DeviceEnd, Closed, device_after}
-use Rattle.knx_model.specs.Device.{NonVolatile, Effect, Nothing, runs, effect_in, answer_in}
+use Rattle.knx_model.specs.DeviceConnection.{Closed, device_after}
+use Rattle.knx_model.specs.Device.{NonVolatile, Nothing, runs, effect_in, answer_in}
 use Rattle.knx_model.specs.DeviceState.{DeviceState, moved, cut, zero_values, value_of}
 use Rattle.knx_model.specs.DeviceFrames.{Outcome, Whole, Torn, Worn, took_of, takes, takes_so, after_outcome, after_frame, taken_alone, taken_group, acted, queued_to, connection_took, sender, is_taken, effect_delivered, effect_of_frame, kept_after, group_service, telegram_acted, telegram_taken, answered_by, with_response}
 use Rattle.device_sim.specs.Sending.{and_frame, answered_end, answered_frame}

@@ -1,11 +1,9 @@
 -- What a group telegram does to the values of a device, and what a device answers to it.
-use Rattle.std.proofs.Common.{ℕ, ◌≡◌, ◌<◌, List, [], ◌∷◌, ◌++◌, length, map, Bool, true, false, ◌&&◌, Option, Some, None, refl, sym, ap, ◌∙◌, if◌then◌else◌, zero-add}
+use Rattle.std.proofs.Common.{ℕ, ◌≡◌, ◌<◌, List, [], ◌∷◌, ◌++◌, length, Bool, true, false, ◌&&◌, Option, Some, None, refl, sym, ap, ◌∙◌, if◌then◌else◌, zero-add}
 use Rattle.std.specs.Option.{option_map_or}
-use Rattle.std.specs.List.{range_with_len}
 use Rattle.std.proofs.lemmas.List.FromFn.{get_or-map-range_with_len, fill_by_all}
 use Rattle.knx_model.specs.declared.config.Image.{Image}
 use Rattle.knx_model.specs.declared.config.ObjSpec.{ObjSpec}
-use Rattle.knx_model.specs.declared.device.Took.{Took}
 use Rattle.knx_model.specs.declared.device.Took.TheVariants.{Taken}
 use Rattle.knx_model.specs.declared.frames.cemi.Ldata.{Ldata}
 use Rattle.knx_model.specs.declared.frames.value.Value.{Value}

@@ -1,6 +1,6 @@
 -- What a frame leaves of the frames that wait and, where it is for the device alone, of the values.
-use Rattle.std.proofs.Common.{ℕ, ◌≡◌, List, [], ◌∷◌, ◌++◌, append-nil, append_assoc, Bool, true, false, ◌&&◌, ◌==◌, Option, Some, None, refl, sym, ap, ◌∙◌, if◌then◌else◌}
-use Rattle.std.proofs.lemmas.Bool.{and_from, false≢true}
+use Rattle.std.proofs.Common.{ℕ, ◌≡◌, List, [], ◌∷◌, ◌++◌, append-nil, append_assoc, Bool, true, false, Option, Some, None, refl, sym, ap, ◌∙◌, if◌then◌else◌}
+use Rattle.std.proofs.lemmas.Bool.{and_from}
 use Rattle.knx_model.specs.declared.address.IndAddr.{IndAddr}
 use Rattle.knx_model.specs.declared.connection.DeviceTook.{DeviceTook}
 use Rattle.knx_model.specs.declared.connection.DeviceTook.TheVariants as took
@@ -15,7 +15,7 @@ use Rattle.knx_model.specs.declared.script.GroupService.{GroupService}
 use Rattle.knx_model.specs.declared.script.GroupService.TheVariants.{Read, Write, Response}
 use Rattle.knx_model.specs.Acts.{answerer}
 use Rattle.knx_model.specs.ApduReading.{service_in}
-use Rattle.knx_model.specs.DeviceConnection.{DeviceEnd, device_after}
+use Rattle.knx_model.specs.DeviceConnection.{device_after}
 use Rattle.knx_model.specs.Device.{NonVolatile, runs, effect_in, answer_in}
 use Rattle.knx_model.specs.DeviceState.{DeviceState, moved, zero_values, same_state, same_states, value_of}
 use Rattle.knx_model.specs.DeviceFrames.{Whole, own_frame, took_of, takes, takes_so, taken_alone, taken_group, acted, queued_to, connection_took, sender, kept_after, group_service, telegram_acted, telegram_taken, answered_by, with_response}

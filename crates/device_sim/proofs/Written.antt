@@ -9,7 +9,7 @@ use Rattle.knx_model.specs.declared.frames.cemi.Ldata.{Ldata}
 use Rattle.knx_model.specs.Device.{NonVolatile, Effect, Nothing, torn, is_write}
 use Rattle.knx_model.specs.DeviceState.{DeviceState, cut}
 use Rattle.knx_model.specs.DeviceFrames.{Outcome, Torn, Worn, took_of, takes, takes_so, after_outcome, after_frame, taken_alone, connection_took, is_taken, effect_delivered, effect_of_frame, write_kind, would_write, worn_octets}
-use Rattle.device_sim.proofs.Taken.{Fixed, alone_fixed, after_alone, cut_is}
+use Rattle.device_sim.proofs.Taken.{alone_fixed, after_alone, cut_is}
 
 -- nothing is no write
 written_taken : (nv : NonVolatile) (taken : Bool) (effect : Effect) → is_some (if is_write nv (if taken then effect else Nothing) then write_kind (if taken then effect else Nothing) else None) ≡ true → taken ≡ true

@@ -1,5 +1,6 @@
 pub mod Delivery
 pub mod Effects
+pub mod Indexed
 pub mod Sending
 pub mod States
 pub mod Telegrams

@@ -1,14 +1,18 @@
 //! The simulated device: what it is, its power, and what it runs.
 
-ghost use Rattle.std.specs.Prelude.{◌≡◌, true, IfOk};
-ghost use Rattle.knx_model.specs.Device.{Fits, HasCapacities, NonVolatile, all_loaded, runs};
+ghost use Rattle.std.specs.Prelude.{◌≡◌, true, nat_lt, IfOk};
+ghost use Rattle.knx_model.specs.Device.{Fits, HasCapacities, NonVolatile, all_loaded, runs, torn, written_front};
 ghost use Rattle.knx_model.specs.declared.device.FrameSupport.TheVariants.{Standard};
 ghost use Rattle.knx_model.specs.DeviceState.{IsDevice, blank, loaded_with, device_with, framed, at_rest, cut, switched_on};
 ghost use Rattle.knx_model.specs.DeviceConnection.{device_deadline};
+ghost use Rattle.device_sim.specs.Effects.{meant};
 
+use crate::effect::Effect;
 use crate::kept::Kept;
 use crate::loadable::Loadable;
+use crate::running::index_tables;
 use crate::values::Values;
+use device_tables::TableIndex;
 use knx_model::{FrameSupport, Image, IndAddr, Ldata, LoadableObject, NoMemory, Octets};
 use std::alloc::Global;
 use std::collections::VecDeque;
@@ -17,6 +21,7 @@ use transport_conn::DeviceConn;
 
 /// A device of System B on a line: its individual address, which frames it takes, what it keeps without power, whether it has power,
 /// and what it has only while it has: its connection, its objects' values, the frames that it has to send, and the one that it got last.
+/// While it runs its index is one of its tables, so that a group telegram finds its objects.
 #[derive(Drop)]
 pub struct Device {
     pub(crate) address: IndAddr,
@@ -27,17 +32,19 @@ pub struct Device {
     pub(crate) values: Values,
     pub(crate) unsent: VecDeque<Ldata>,
     pub(crate) last: Option<Ldata>,
+    pub(crate) index: TableIndex,
 }
 
 impl Model for Device {
     ghost use Rattle.knx_model.specs.Device.{HasCapacities};
     ghost use Rattle.knx_model.specs.DeviceState.{DeviceState};
+    ghost use Rattle.device_sim.specs.Indexed.{IsIndexed};
 
     ghost Value = { DeviceState };
 
     ghost view = { λ d. record { address = d.address; frames = d.frames; kept = d.kept; power = d.power; connection = d.connection; values = d.values; unsent = d.unsent.items; last = d.last } };
 
-    ghost invariant = { λ d. HasCapacities d.kept };
+    ghost invariant = { λ d. HasCapacities d.kept × IsIndexed d.kept d.index };
 }
 
 impl Device {
@@ -51,7 +58,7 @@ impl Device {
             group_objects: Loadable::blank(alloc, LoadableObject::GroupObjects.capacity())?,
             application: Loadable::blank(alloc, LoadableObject::Application.capacity())?,
         };
-        Ok(Device::at_rest(alloc, address, kept))
+        Device::at_rest(alloc, address, kept)
     }
 
     /// A device with power that is loaded with an image.
@@ -81,7 +88,7 @@ impl Device {
                 image.params.as_slice(),
             )?,
         };
-        Ok(Device::at_rest(alloc, address, kept))
+        Device::at_rest(alloc, address, kept)
     }
 
     /// It takes standard frames alone.
@@ -107,11 +114,13 @@ impl Device {
     }
 
     /// A device with power that has nothing but what it keeps without.
-    fn at_rest(alloc: Global, address: IndAddr, kept: Kept) -> Device
+    fn at_rest(alloc: Global, address: IndAddr, kept: Kept) -> Result<Device, NoMemory>
         requires { HasCapacities kept }
-        ensures { result ≡ device_with address kept }
+        ensures { IfOk result (λ made. made ≡ device_with address kept) }
     {
-        Device {
+        let mut index = TableIndex::room(alloc)?;
+        index_tables(&mut index, &kept, false);
+        Ok(Device {
             address,
             frames: FrameSupport::Extended,
             kept,
@@ -120,7 +129,8 @@ impl Device {
             values: Values::zero(alloc),
             unsent: VecDeque::new(alloc),
             last: None,
-        }
+            index,
+        })
     }
 
     /// What it has only while it has power is lost.
@@ -131,6 +141,16 @@ impl Device {
         self.values.reset();
         self.unsent.clear();
         self.last = None;
+    }
+
+    /// Power is cut while an effect is taken, after the first `k` octets that it writes.
+    pub(crate) fn tear(&mut self, effect: &Effect, k: u32)
+        ensures { self.new ≡ cut (record self.old { kept = torn self.old.kept (meant effect.now) (nat_lt 0 k) (written_front (meant effect.now) k) }) }
+    {
+        let ran = self.runs();
+        self.kept.take_torn(effect, k);
+        index_tables(&mut self.index, &self.kept, ran);
+        self.cut();
     }
 
     /// Power is cut.

@@ -112,6 +112,7 @@ impl Device {
                     self.frames,
                     &mut self.kept,
                     &mut self.values,
+                    &mut self.index,
                     apdu.as_slice(),
                     memory,
                 );
@@ -166,8 +167,7 @@ impl Device {
         ensures { self.new ≡ takes self.old frame.now _now (Torn (nat_lt 0 k) (written_front (effect_of_frame self.old frame.now) k)) }
     {
         let effect = self.effect_of_frame(frame);
-        self.kept.take_torn(&effect, k);
-        self.cut();
+        self.tear(&effect, k);
     }
 
     /// The frame is taken, and worn memory keeps the complement of each octet that it writes. At `Err` nothing has changed.

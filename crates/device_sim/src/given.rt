@@ -1,18 +1,21 @@
 //! The device on a bench, where services are given to it by themselves.
 
 ghost use Rattle.std.specs.Prelude.{◌≡◌, true, nat_lt, IfSome, if◌then◌else◌};
-ghost use Rattle.knx_model.specs.Device.{is_write, effect_in, answer_in, written_front};
+ghost use Rattle.knx_model.specs.Device.{HasCapacities, is_write, effect_in, answer_in, written_front};
 ghost use Rattle.knx_model.specs.Connection.{IsApdu};
 ghost use Rattle.knx_model.specs.DeviceState.{same_states, zero_values};
 ghost use Rattle.knx_model.specs.DeviceFrames.{given, given_torn, answer_given};
+ghost use Rattle.device_sim.specs.Indexed.{IsIndexed};
 ghost use Rattle.device_sim.specs.States.{has_states};
 ghost use Rattle.device_sim.specs.Wear.{served_kept};
 
 use crate::device::Device;
 use crate::kept::{Kept, LoadStates};
+use crate::running::index_tables;
 use crate::service::effect_in;
 use crate::values::Values;
 use crate::worn::Memory;
+use device_tables::TableIndex;
 use knx_model::{ApduOctets, FrameSupport};
 
 impl Device {
@@ -30,6 +33,7 @@ impl Device {
             self.frames,
             &mut self.kept,
             &mut self.values,
+            &mut self.index,
             apdu,
             Memory::Sound,
         )
@@ -49,28 +53,33 @@ impl Device {
         ensures { self.new ≡ given_torn self.old apdu.now (nat_lt 0 k) (written_front (effect_in apdu.now) k) }
     {
         if self.power {
-            self.kept.take_torn(&effect_in(apdu), k);
-            self.cut();
+            self.tear(&effect_in(apdu), k);
         }
     }
 }
 
-/// Takes a service, and answers it. A change of a load state makes all values zero.
+/// Takes a service, and answers it. A change of a load state makes all values zero, and a device that begins to run is indexed.
 pub fn serve(
     frames: FrameSupport,
     kept: &mut Kept,
     values: &mut Values,
+    index: &mut TableIndex,
     octets: &[u8],
     memory: Memory,
 ) -> Option<ApduOctets>
+    requires capacities { HasCapacities kept.old }
+    requires index { IsIndexed kept.old index.old }
     ensures next { kept.new ≡ served_kept kept.old octets.now memory }
     ensures values { values.new ≡ (if same_states kept.old (served_kept kept.old octets.now memory) then values.old else zero_values) }
     ensures answer { result ≡ answer_in frames kept.old octets.now }
     ensures apdu { IfSome result IsApdu }
+    ensures index { IsIndexed kept.new index.new }
 {
     let before = kept.load_states();
+    let ran = kept.runs();
     let answer = kept.serve(frames, octets, memory);
     zero_where_changed(values, kept, before);
+    index_tables(index, kept, ran);
     answer
 }
 

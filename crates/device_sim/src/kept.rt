@@ -4,6 +4,7 @@ ghost use Rattle.std.specs.Prelude.{◌≡◌, ◌≤◌, ℕ, true, List, lengt
 ghost use Rattle.knx_model.specs.Device.{loadable as content, whole, torn, taken_over, is_write, all_loaded, Loads, Stores, range_octets, written_front, front_of_load};
 ghost use Rattle.knx_model.specs.Apdu.{most_octets};
 ghost use Rattle.knx_model.specs.DeviceState.{same_state};
+ghost use Rattle.knx_model.specs.Loading.{octets_of};
 ghost use Rattle.knx_model.specs.DeviceFrames.{complements, worn_octets};
 ghost use Rattle.device_sim.specs.Effects.{meant};
 ghost use Rattle.device_sim.specs.States.{states_of, has_states};
@@ -80,6 +81,13 @@ impl Kept {
             LoadableObject::GroupObjects => &self.group_objects,
             LoadableObject::Application => &self.application,
         }
+    }
+
+    /// The octets of the segment of one of its four objects.
+    pub fn octets(&self, object: LoadableObject) -> &[u8]
+        ensures { result.now ≡ octets_of (content self.now object) }
+    {
+        self.object(object).octets()
     }
 
     fn load(&mut self, object: LoadableObject, event: LoadEvent)

@@ -12,6 +12,7 @@ mod kept;
 mod laws;
 mod loadable;
 mod places;
+mod running;
 mod sending;
 mod service;
 mod telegram;

@@ -1,18 +1,22 @@
 //! Group telegrams.
 
-ghost use Rattle.std.specs.Prelude.{◌≡◌, IfSome, OnOk, OnErr};
+ghost use Rattle.std.specs.Prelude.{◌≡◌, ℕ, true, IfSome, OnOk, OnErr};
 ghost use Rattle.knx_model.specs.Apdu.{IsValueInRange};
 ghost use Rattle.knx_model.specs.ApduReading.{service_in};
-ghost use Rattle.knx_model.specs.Acts.{answerer};
+ghost use Rattle.knx_model.specs.Acts.{is_written, answerer};
+ghost use Rattle.knx_model.specs.Device.{all_loaded, segments};
 ghost use Rattle.knx_model.specs.DeviceState.{value_of};
 ghost use Rattle.knx_model.specs.DeviceFrames.{group_service, taken_group, telegram_acted, answered_by, response_octets};
+ghost use Rattle.device_tables.specs.Objects.{holds};
 ghost use Rattle.device_sim.specs.Telegrams.{IsServiceInRange};
 
 use crate::device::Device;
 use crate::sending::frame_to_group;
 use apdu_frames::{service_in, service_octets};
-use device_tables::{acts, object_in_table};
-use knx_model::{Apdu, ApduOctets, GroupAddr, GroupService, Image, Ldata, NoMemory, Value};
+use device_tables::{Acts, object_in_table};
+use knx_model::{
+    Apdu, ApduOctets, GroupAddr, GroupService, Ldata, LoadableObject, NoMemory, Value,
+};
 use std::alloc::Global;
 
 impl Device {
@@ -33,31 +37,41 @@ impl Device {
         ensures next { OnOk result (self.new ≡ taken_group self.old frame.now) }
         ensures err { OnErr result (self.new ≡ self.old) }
     {
-        let Some(image) = self.image(alloc)? else {
+        if !self.runs() {
             return Ok(());
-        };
+        }
         let Some(service) = telegram_in(frame.tpdu.as_slice()) else {
             return Ok(());
         };
         let group = GroupAddr {
             raw: frame.destination,
         };
-        self.tell(alloc, &image, group, &service)
+        self.tell(alloc, group, &service)
     }
 
-    /// A device that runs this image is told a telegram.
+    /// What a device that runs does at a telegram, by the index of its tables.
+    fn acts(&self, group: GroupAddr, service: &GroupService) -> Acts
+        requires { all_loaded self.now.kept ≡ true }
+        ensures written { (o : ℕ) → holds result.written o ≡ is_written (segments self.now.kept) group.raw service.now o }
+        ensures answers { result.answers ≡ answerer (segments self.now.kept) group.raw service.now }
+    {
+        let objs = self.kept.octets(LoadableObject::GroupObjects);
+        self.index.acts(objs, group, service)
+    }
+
+    /// A device that runs is told a telegram.
     fn tell(
         &mut self,
         alloc: Global,
-        image: &Image,
         group: GroupAddr,
         service: &GroupService,
     ) -> Result<(), NoMemory>
-        requires { IsServiceInRange service.now }
-        ensures next { OnOk result (self.new ≡ telegram_acted self.old image.now group.raw service.now) }
+        requires runs { all_loaded self.old.kept ≡ true }
+        requires service { IsServiceInRange service.now }
+        ensures next { OnOk result (self.new ≡ telegram_acted self.old (segments self.old.kept) group.raw service.now) }
         ensures err { OnErr result (self.new ≡ self.old) }
     {
-        let acts = acts(image, group, service);
+        let acts = self.acts(group, service);
         match service {
             GroupService::Read => self.respond(group, acts.answers),
             GroupService::Write(value) | GroupService::Response(value) => {

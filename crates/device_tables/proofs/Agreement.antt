@@ -134,21 +134,21 @@ few_pairs config image s =
     subst (λ (y : ℕ × ℕ). Contains (map (pair_of s.groups) config.links) y) is (contains_map (pair_of s.groups) config.links h.link h.member) in
     omega (arith, at_most (IsBefore s.groups config.links) (not_before s.groups config.links) s.pairs (map (pair_of s.groups) config.links) s.pairs_ascend to, length-map config.links (pair_of s.groups))
 
-alike : (a b : Bool) → (a ≡ true → b ≡ true) → (b ≡ true → a ≡ true) → a ≡ b
+pub alike : (a b : Bool) → (a ≡ true → b ≡ true) → (b ≡ true → a ≡ true) → a ≡ b
 alike true true to from = refl
 alike true false to from = sym (to refl)
 alike false true to from = from refl
 alike false false to from = refl
 
 -- what a test finds
-found : {X : Type 0} (p : X → Bool) (xs : List X) → list_any p xs ≡ true → (x : X) × Contains xs x × (p x ≡ true)
+pub found : {X : Type 0} (p : X → Bool) (xs : List X) → list_any p xs ≡ true → (x : X) × Contains xs x × (p x ≡ true)
 found p [] e = absurd (cc)
 found p (x ∷ xs) e = elim (or_cases (p x) (list_any p xs) e) [
   | inl here ↦ (x, (0, omega arith, refl), here)
   | inr later ↦ let h = found p xs later in (h.0, (suc h.1.0, omega (arith, h.1.1), h.1.2), h.2)
 ]
 
-finds : {X : Type 0} (p : X → Bool) (xs : List X) (x : X) → Contains xs x → p x ≡ true → list_any p xs ≡ true
+pub finds : {X : Type 0} (p : X → Bool) (xs : List X) (x : X) → Contains xs x → p x ≡ true → list_any p xs ≡ true
 finds p xs x c e = list_any_at p xs c.0 x c.1 (ap p c.2 ∙ e)
 
 -- the address that a pair's place names

@@ -4,3 +4,6 @@ pub mod Counting
 pub mod Agreement
 pub mod Pigeonhole
 pub mod Lowest
+pub mod Search
+pub mod Found
+pub mod Sorting

@@ -2,17 +2,21 @@
 //! objects after System B): which objects take its value, and which one answers it. All is total: a table is any octets.
 #![tactic(auto)]
 
+mod index;
 mod laws;
 mod links;
 mod objects;
+mod steps;
 mod table;
 mod telegram;
 mod value;
 
+pub use index::TableIndex;
 pub use knx_model::{GroupAddr, GroupService, Image, LongValue, NoMemory, ObjSpec, Octets, Value};
 pub use laws::{agrees, linked_exactly, the_lowest_answers};
 pub use links::linked;
 pub use objects::{Acts, Objects};
+pub use steps::Steps;
 pub use table::object_in_table;
 pub use telegram::acts;
 pub use value::{takes_form, zero_value};

@@ -1,7 +1,7 @@
 //! What a group telegram acts on.
 
 ghost use Rattle.std.specs.Prelude.{◌≡◌, ℕ, find};
-ghost use Rattle.knx_model.specs.Acts.{has_flag, accepts, can_answer, writes, may_answer, object_numbers, object_in_table, is_written, answerer};
+ghost use Rattle.knx_model.specs.Acts.{has_flag, accepts, can_answer, writes, may_answer, lowest_answering, object_numbers, object_in_table, is_written, answerer};
 ghost use Rattle.device_tables.specs.Objects.{holds};
 
 use crate::links::linked;
@@ -82,6 +82,20 @@ fn lowest_answering(linked: &Objects, objs: &[u8]) -> Option<u8>
     None
 }
 
+/// What a telegram acts on where these objects are linked to its group.
+pub fn acts_of(linked: &Objects, objs: &[u8], service: &GroupService) -> Acts
+    ensures written { (o : ℕ) → holds result.written o ≡ writes (holds linked.now) (object_in_table objs.now) service.now o }
+    ensures answers { result.answers ≡ lowest_answering (holds linked.now) (object_in_table objs.now) service.now }
+{
+    Acts {
+        written: written(linked, objs, service),
+        answers: match service {
+            GroupService::Read => lowest_answering(linked, objs),
+            _ => None,
+        },
+    }
+}
+
 /// What a device that runs the image does at a group telegram: a write goes to each linked object with communicate and write that
 /// takes the value's form, a response to those with communicate and update; the lowest linked object with communicate and read
 /// answers a read.
@@ -90,12 +104,5 @@ pub fn acts(image: &Image, group: GroupAddr, service: &GroupService) -> Acts
     ensures answers { result.answers ≡ answerer image.now group.raw service.now }
 {
     let linked = linked(image.addr.as_slice(), image.assoc.as_slice(), group);
-    let objs = image.objs.as_slice();
-    Acts {
-        written: written(&linked, objs, service),
-        answers: match service {
-            GroupService::Read => lowest_answering(&linked, objs),
-            _ => None,
-        },
-    }
+    acts_of(&linked, image.objs.as_slice(), service)
 }

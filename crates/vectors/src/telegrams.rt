@@ -2,6 +2,8 @@
 
 ghost use Rattle.std.specs.Prelude.{◌≤◌};
 
+mod indexed;
+
 use device_tables::{
     Acts, GroupAddr, GroupService, Image, LongValue, NoMemory, ObjSpec, Objects, Octets, Value,
     acts, linked, object_in_table, takes_form, zero_value,

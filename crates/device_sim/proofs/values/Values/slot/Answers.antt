@@ -2,7 +2,7 @@ use Rattle.std.proofs.Common.{◌≡◌, List, Option, None, ap, sym, ◌∙◌,
 use Rattle.std.proofs.lemmas.Grind.{common_steps}
 use Rattle.knx_model.specs.declared.frames.value.Value.{Value}
 use Rattle.knx_model.specs.DeviceState.{slot}
-use Rattle.device_sim.proofs.Slots.{padded, slot_of_padded}
+use Rattle.device_sim.proofs.Slots.{slot_of_padded}
 use Rattle.device_sim.proofs.values.Values.slot.Goals as goal
 
 pub returns-then-object-len-clause-value : goal.returns-then-object-len-clause-value
