@@ -7,6 +7,8 @@ mod ends;
 mod laws;
 mod request;
 mod state;
+#[cfg(test)]
+mod tests;
 mod took;
 mod wait;
 
