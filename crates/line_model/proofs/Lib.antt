@@ -14,3 +14,4 @@ mod Channels
 pub mod Projection
 pub mod Turns
 pub mod Prints
+mod Lapses

@@ -1,5 +1,5 @@
 -- Each of the other lines of a script has its event, and a device begins as the script says.
-use Rattle.std.proofs.Common.{◌≡◌, ℕ, [], ◌∷◌, true, false, not, inl, inr, refl, ap}
+use Rattle.std.proofs.Common.{◌≡◌, ℕ, [], ◌∷◌, not, inl, inr, refl, ap}
 use Rattle.knx_model.specs.declared.script.ScriptWhat.TheVariants.{LoseUp, RepeatDown, LoseFrom, CloseAfter, Refuse, DropChannel}
 use Rattle.knx_model.specs.ApduReading.{apdu_in, tpdu_in, service_in}
 use Rattle.knx_model.specs.Connection.{frame_in}

@@ -1,13 +1,11 @@
 -- A worker waits for the confirmation of its T_Connect, and a poll lasts its longest; once it has come, the worker has an operation to send.
-use Rattle.std.proofs.Common.{ℕ, zero, suc, ◌≡◌, ◌<◌, ◌≤◌, ◌+◌, ◌-◌, ◌==◌, Bool, false, List, [], ◌∷◌, length, Option, Some, None, refl, sym, subst, arith, inl, inr}
-use Rattle.std.specs.Prelude.{Contains, slice_index_or}
-use Rattle.knx_model.specs.declared.plan.Expect.TheVariants.{Is}
+use Rattle.std.proofs.Common.{ℕ, zero, suc, ◌≡◌, ◌≤◌, ◌-◌, ◌==◌, false, [], ◌∷◌, Some, None, refl, sym, subst, arith, inl, inr}
+use Rattle.std.specs.Prelude.{Contains}
 use Rattle.knx_model.specs.ApduReading.{apdu_in, tpdu_in, service_in}
 use Rattle.knx_model.specs.ClientConnection.{after_confirmed, client_sent, after_send, client_took, client_after, client_expired, after_overdue, client_deadline}
 use Rattle.knx_model.specs.Connection.{frame_in}
 use Rattle.knx_model.specs.Device.{NonVolatile}
 use Rattle.knx_model.specs.DeviceConnection.{device_took, device_after, device_answered, after_answer}
-use Rattle.knx_model.specs.Plans.{Over}
 use Rattle.line_model.specs.Asks.{HasPlace}
 use Rattle.line_model.specs.ClientView.{channel, after_entry, deed}
 use Rattle.line_model.specs.Gateway.{gateway_took}
@@ -16,7 +14,7 @@ use Rattle.line_model.specs.Reading.{datagram_in, ldata_in}
 use Rattle.line_model.specs.Record.{placed, entries}
 use Rattle.line_model.specs.Runs.{begin, connecting, connected, job, told_taken}
 use Rattle.line_model.proofs.Tests.{is_unequal}
-use Rattle.line_model.specs.Waiting.{attempts_of, attempt_deadline, NextIsSending, TurnWaits, HasWork, IsDeadline, OfChannel, OfJob, OfClosing, HasToSend, ToAsk, PollsSo}
+use Rattle.line_model.specs.Waiting.{attempts_of, attempt_deadline, NextIsSending, TurnWaits, HasWork, IsDeadline, OfChannel, OfJob, OfClosing, ToAsk, PollsSo}
 
 pub waits : (kept : NonVolatile) → TurnWaits (job ∷ []) [] told_taken (placed (begin kept) connecting) 5 0 1 0
 unfolding datagram_in ldata_in gateway_took frame_in device_took device_after device_answered after_answer apdu_in tpdu_in service_in after_entry deed after_confirmed client_sent after_send client_took client_after client_expired after_overdue

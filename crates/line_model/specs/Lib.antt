@@ -13,6 +13,7 @@ pub mod Fresh
 -- 3. What the client sees of it
 pub mod Record
 pub mod ChannelLost
+pub mod Lapses
 pub mod ClientView
 pub mod Dropped
 pub mod ClientEnd

@@ -1,8 +1,8 @@
 -- What is printed of a run over the line (this project's own): a line for each job, each group telegram and each group telegram that was heard; for
 -- the simulated line a line for each device with its values; how many that were heard are left out; the log, where it is asked for, and how many
 -- datagrams were dropped; and why the run ended without its end. A job whose device isn't on the tunnel's line is told alone.
-use Rattle.std.specs.Prelude.{◌≡◌, ℕ, Bool, true, false, not, ◌==◌, codes, List, [], ◌∷◌, ◌++◌, map, Option, Some, None, if◌then◌else◌}
-use Rattle.std.specs.List.{flat_map, filter, filter_map, list_all, enumerate_from, range_with_len}
+use Rattle.std.specs.Prelude.{ℕ, Bool, true, false, ◌==◌, codes, List, [], ◌∷◌, ◌++◌, map, Option, Some, None, if◌then◌else◌}
+use Rattle.std.specs.List.{flat_map, filter_map, list_all, enumerate_from, range_with_len}
 use Rattle.std.specs.Fmt.{decimal}
 use Rattle.knx_model.specs.declared.address.IndAddr.{IndAddr}
 use Rattle.knx_model.specs.declared.frames.value.Value.{Value}

@@ -7,7 +7,7 @@ use Rattle.line_model.specs.declared.group.GroupTurn.{GroupTurn}
 use Rattle.line_model.specs.declared.log.LogEntry.{LogEntry}
 use Rattle.line_model.specs.declared.log.LogWhat.{LogWhat}
 use Rattle.line_model.specs.Gateway.{acknowledgement_wait}
-use Rattle.line_model.specs.Record.{Entry, Placed, entries}
+use Rattle.line_model.specs.Record.{Placed, entries}
 use Rattle.line_model.specs.ChannelLost.{answer_wait, confirmation_wait, heartbeat_pause, own, acknowledged, confirmed, beats}
 use Rattle.line_model.specs.ClientView.{ClientChannel, Sought, Open, Loses, channel}
 use Rattle.line_model.specs.Moments.{Moment, moments, between}

@@ -9,13 +9,14 @@ ghost use Rattle.knx_model.specs.Meaning.{Installation};
 ghost use Rattle.knx_model.specs.declared.frames.cemi.Ldata.{Ldata};
 ghost use Rattle.knx_model.specs.declared.frames.ip.IpFrame.{IpFrame};
 ghost use Rattle.knx_model.specs.declared.frames.ip.IpFrame.TheVariants.{ConnectResponse, DisconnectRequest, DisconnectResponse, TunnellingAck};
-ghost use Rattle.line_model.specs.ChannelLost.{Own, expected, acknowledges};
+ghost use Rattle.line_model.specs.ChannelLost.{Own, acknowledges, expected, is_lost};
+ghost use Rattle.line_model.specs.Lapses.{IsLostSo};
 ghost use Rattle.line_model.specs.Gateway.{Gateway, Channel, Request, Nothing, Closing, number_of, next_number, names, connects, took, answers, next_put, channel_expired, closed};
 ghost use Rattle.line_model.specs.Legal.{IsLegal};
 ghost use Rattle.line_model.specs.Lines.{Script, is_off, is_standard};
 ghost use Rattle.line_model.specs.Network.{Sent, MayArrive, new_datagram};
 ghost use Rattle.line_model.specs.Reading.{RequestFrame, AckFrame, datagram_in, ldata_in};
-ghost use Rattle.line_model.specs.Record.{Entry, record_of, tunnel_record};
+ghost use Rattle.line_model.specs.Record.{Entry, is_poll, record_of, tunnel_record};
 ghost use Rattle.line_model.specs.Renews.{calls_for};
 ghost use Rattle.line_model.specs.StartOf.{BeginsAs, frames_for};
 ghost use Rattle.line_model.specs.Tunnel.{Mode, IsLegal as IsLegalInTunnel, replay as tunnel_replay};
@@ -90,4 +91,11 @@ pub fn a_gateway_keeps_its_channel()
 pub fn a_client_counts_what_it_gets()
     ensures again { (c : ℕ) (l : List Entry) (r : RequestFrame) → r.channel ≡ c → next_number r.number ≡ expected c l → calls_for c l (Some r) ≡ Some (TunnellingAck r.channel r.number 0) }
     ensures agreed { (c : ℕ) (o : Own) (ack : AckFrame) → acknowledges c o (Some ack) ≡ true → ack.status ≡ 0 }
+{}
+
+/// The client's channel is lost exactly at a poll by which one of these holds: a disconnect request for it was got; an awaited state response with a
+/// status other than 0 was got; the response to the client's own disconnect request was got; a request was sent twice and 1,000 ms passed after
+/// each; 3,000 ms passed after an acknowledgement without the confirmation; three heartbeats in turn had 10,000 ms each.
+pub fn a_channel_is_lost_in_its_ways()
+    ensures { (c : ℕ) (l : List Entry) (x : Entry) → (is_lost c l x ≡ true) ↔ ((is_poll x.what ≡ true) × IsLostSo c l x) }
 {}

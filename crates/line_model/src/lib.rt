@@ -16,9 +16,10 @@ pub use fault::{HubFault, Try};
 pub use gateway_end::{GatewayExpired, GatewayTook};
 pub use group::{GroupTurn, Indication};
 pub use laws::{
-    a_client_counts_what_it_gets, a_cut_ends_the_connection, a_gateway_keeps_its_channel,
-    channel_numbers_come_again, confirmations_are_true, datagrams_arrive,
-    devices_begin_as_the_script_says, frames_are_read, the_tunnel_runs_in_the_line,
+    a_channel_is_lost_in_its_ways, a_client_counts_what_it_gets, a_cut_ends_the_connection,
+    a_gateway_keeps_its_channel, channel_numbers_come_again, confirmations_are_true,
+    datagrams_arrive, devices_begin_as_the_script_says, frames_are_read,
+    the_tunnel_runs_in_the_line,
 };
 pub use log::{LogEntry, LogWhat, Report};
 pub use outside::{DialFailed, Dialer, Gate, Link, LinkFault, Polled, Port, PortFault, PortPolled};
