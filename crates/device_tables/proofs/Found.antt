@@ -8,7 +8,7 @@ use Rattle.std.proofs.lemmas.List.Sums.{sum_by-cons}
 use Rattle.device_tables.specs.Objects.{holds}
 use Rattle.device_tables.specs.Index.{StandsBefore, is_of, is_paired, how_many}
 use Rattle.device_tables.proofs.Counting.{any_more}
-use Rattle.device_tables.proofs.Search.{groups_rise}
+use Rattle.device_tables.proofs.Halves.{groups_rise}
 
 read_at : {X : Type 0} (xs : List X) (i : ℕ) (d : X) → i < length xs → slice_get xs i ≡ Some (get_or xs i d)
 read_at [] i d lt = absurd (omega arith)

@@ -4,6 +4,6 @@ pub mod Counting
 pub mod Agreement
 pub mod Pigeonhole
 pub mod Lowest
-pub mod Search
+pub mod Halves
 pub mod Found
 pub mod Sorting

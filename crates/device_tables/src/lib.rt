@@ -6,6 +6,7 @@ mod index;
 mod laws;
 mod links;
 mod objects;
+mod search;
 mod steps;
 mod table;
 mod telegram;

@@ -2,13 +2,18 @@
 
 ghost use Rattle.std.specs.Prelude.{◌≡◌, ℕ, find};
 ghost use Rattle.knx_model.specs.Acts.{has_flag, accepts, can_answer, writes, may_answer, lowest_answering, object_numbers, object_in_table, is_written, answerer};
+ghost use Rattle.knx_model.specs.declared.config.Image.{Image};
 ghost use Rattle.device_tables.specs.Objects.{holds};
+ghost use Rattle.device_tables.specs.Index.{IsIndexOf};
 
+use crate::index::TableIndex;
 use crate::links::linked;
 use crate::objects::{Acts, Objects};
 use crate::table::object_in_table;
 use crate::value::takes_form;
 use knx_model::{COMMUNICATE, GroupAddr, GroupService, Image, ObjSpec, READ, UPDATE, WRITE};
+use std::marker::Brand;
+use std::sync::ledger::Blank;
 
 fn has_flag(object: ObjSpec, flag: u8) -> bool
     ensures { result ≡ has_flag object flag }
@@ -83,7 +88,7 @@ fn lowest_answering(linked: &Objects, objs: &[u8]) -> Option<u8>
 }
 
 /// What a telegram acts on where these objects are linked to its group.
-pub fn acts_of(linked: &Objects, objs: &[u8], service: &GroupService) -> Acts
+fn acts_of(linked: &Objects, objs: &[u8], service: &GroupService) -> Acts
     ensures written { (o : ℕ) → holds result.written o ≡ writes (holds linked.now) (object_in_table objs.now) service.now o }
     ensures answers { result.answers ≡ lowest_answering (holds linked.now) (object_in_table objs.now) service.now }
 {
@@ -105,4 +110,16 @@ pub fn acts(image: &Image, group: GroupAddr, service: &GroupService) -> Acts
 {
     let linked = linked(image.addr.as_slice(), image.assoc.as_slice(), group);
     acts_of(&linked, image.objs.as_slice(), service)
+}
+
+impl TableIndex {
+    /// What a device that runs an image with the tables of this index, and with these group objects, does at a group telegram: the
+    /// same as `acts` of the image.
+    pub fn acts(&self, objs: &[u8], group: GroupAddr, service: &GroupService) -> Acts
+        ensures written { (image : Image) → IsIndexOf image.addr image.assoc self.now → image.objs ≡ objs.now → (o : ℕ) → holds result.written o ≡ is_written image group.raw service.now o }
+        ensures answers { (image : Image) → IsIndexOf image.addr image.assoc self.now → image.objs ≡ objs.now → result.answers ≡ answerer image group.raw service.now }
+    {
+        let linked = self.linked_uncounted::<Brand>(group, Blank::new(1));
+        acts_of(&linked, objs, service)
+    }
 }

@@ -1,5 +1,5 @@
 use Rattle.std.proofs.Common.{◌≡◌, ◌+◌, ◌-◌, ℕ, length, refl, arith}
-use Rattle.device_tables.proofs.Search.{narrows, few}
+use Rattle.device_tables.proofs.Halves.{narrows, few}
 use Rattle.device_tables.proofs.index.TableIndex.first_of.Goals as goal
 
 pub loop-low-preserved-then-is_below : goal.loop-low-preserved-then-is_below

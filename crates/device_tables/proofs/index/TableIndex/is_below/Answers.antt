@@ -1,5 +1,5 @@
 use Rattle.std.proofs.lemmas.Bool.{ltb-true}
-use Rattle.device_tables.proofs.Search.{below_to}
+use Rattle.device_tables.proofs.Halves.{below_to}
 use Rattle.device_tables.proofs.index.TableIndex.is_below.Goals as goal
 
 pub returns-clause-below : goal.returns-clause-below
