@@ -1,6 +1,7 @@
 //! The client's end of a tunnel, call by call (ISO 22510, Core and Tunnelling). The channel has the number 7.
 
-ghost use Rattle.std.specs.Prelude.{◌≤◌};
+ghost use Rattle.std.specs.Prelude.{◌≡◌, ◌≤◌, true, is_some};
+ghost use Rattle.line_model.specs.ClientEnd.{Seeking, open_end};
 ghost use Rattle.line_model.specs.ClientFrames.{HasTunnelIfUp};
 
 use crate::{Channel, ChannelExpired, ChannelTook, PutRefused};
@@ -80,9 +81,10 @@ fn again(number: u8) -> ChannelTook {
 
 /// The request with this number.
 fn request(number: u8) -> Datagram {
-    let mut datagram = octets([0x06, 0x10, 0x04, 0x20, 0x00, 0x14, 0x04, 0x07, number, 0x00]);
-    datagram.extend(&CEMI);
-    datagram
+    octets([
+        0x06, 0x10, 0x04, 0x20, 0x00, 0x14, 0x04, 0x07, number, 0x00, 0x11, 0x00, 0xB0, 0x60, 0x00,
+        0x00, 0x11, 0x05, 0x00, 0x80,
+    ])
 }
 
 fn heartbeat() -> Datagram {
@@ -124,15 +126,25 @@ enum At {
     Lost,
 }
 
-fn seeking() -> Channel {
+fn seeking() -> Channel
+    ensures { result ≡ Seeking 0 }
+{
     let mut channel = Channel::new();
     let _ = channel.connect(0);
     channel
 }
 
-fn open() -> Channel {
+#[tactic(auto, unfolding(line_model::specs::ClientFrames::channel_took, line_model::specs::ClientFrames::after_took))]
+fn open() -> Channel
+    ensures { is_some (open_end result) ≡ true }
+{
     let mut channel = seeking();
-    let _ = channel.take(&frame(From::Response(0)), 0);
+    let response = IpFrame::ConnectResponse {
+        channel: 7,
+        status: 0,
+        tunnel: Some(TUNNEL),
+    };
+    let _ = channel.take(&response, 0);
     channel
 }
 
@@ -301,8 +313,10 @@ fn each_state_puts_and_leaves(rt: HostRuntime) {
         };
         assert_eq!(rt; channel.leave(), request, "in {at:?}");
     }
-    let mut lost = channel(At::Lost);
-    let _ = lost.leave();
+    let mut lost = open();
+    lost.lost();
+    assert_eq!(rt; lost.deadline(), None);
+    assert_eq!(rt; lost.leave(), Some(disconnect_request()));
     assert_eq!(rt; lost.leave(), None);
 }
 
