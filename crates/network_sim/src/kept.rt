@@ -16,9 +16,11 @@
 ghost use Rattle.std.specs.Prelude.{◌≡◌, ◌≤◌, length};
 ghost use Rattle.line_model.specs.Network.{new_datagram, once_more, gone};
 ghost use Rattle.network_sim.specs.Arriving.{can_come, goes_first, goes_once_more};
-ghost use Rattle.network_sim.specs.Window.{IsDeliverable, is_waiting, came_once, readable};
+ghost use Rattle.network_sim.specs.Readable.{readable};
+ghost use Rattle.network_sim.specs.Window.{IsDeliverable, is_waiting, came_once};
 
 use crate::place::Reach;
+use crate::readable::readable;
 use knx_model::Datagram;
 use std::marker::Model;
 
@@ -32,7 +34,7 @@ pub enum Fate {
     Lost { delivered: u8 },
 }
 
-/// A datagram that was sent: its octets, where it has at most 300; the endpoint of the client that it comes from or goes to; how many channels
+/// A datagram that was sent: its octets, so far as it is read; the endpoint of the client that it comes from or goes to; how many channels
 /// the gateway had made by then; and what became of it.
 #[derive(Drop)]
 pub struct Sending {
@@ -65,7 +67,7 @@ impl Sending {
         }
     }
 
-    /// Its octets; none where it has more than 300, since it is no frame then.
+    /// Its octets. Where it has more than 300 they are those of its frame, or none where it is no frame.
     pub fn octets(&self) -> &[u8]
         ensures value { result.now ≡ self.now.octets }
         ensures fits { length result.now ≤ 300 }
@@ -142,16 +144,5 @@ impl Sending {
             Fate::UnderWay { delivered } => self.fate = Fate::Lost { delivered },
             Fate::Lost { .. } => {}
         }
-    }
-}
-
-/// The octets of a datagram that may be a frame.
-fn readable(octets: &[u8]) -> Datagram
-    ensures { result ≡ readable octets.now }
-{
-    if octets.len() <= Datagram::CAPACITY {
-        Datagram::from_slice(octets)
-    } else {
-        Datagram::new()
     }
 }
