@@ -58,8 +58,8 @@ again_young : (reach : Reach) (made : ℕ) (sent : List Sent) (w : Window) (age 
     → goes_again (passes reach made) age (slice_get w.kept age) ≡ goes_again (passes reach made) age (slice_get sent age)
 again_young reach made sent w age same = elim (cases_lt age 128) [
   inl young ↦ ap (goes_again (passes reach made) age) (got_kept sent age w same young) ∙ again_kept reach made age (slice_get sent age)
-| inr old ↦ never_old reach made age (slice_get w.kept age) old ∙ sym (never_old reach made age (slice_get sent age) old)
-]
+  | inr old ↦ never_old reach made age (slice_get w.kept age) old ∙ sym (never_old reach made age (slice_get sent age) old)
+  ]
 
 one_again : (reach : Reach) (made : ℕ) (sent : List Sent) (w : Window) (a b : ℕ) → window_of sent ≡ w → AreAlike a b
     → goes_again (passes reach made) a (slice_get w.kept a) ≡ goes_again (passes reach made) b (slice_get sent b)

@@ -1,7 +1,7 @@
 -- When all that was sent is over: where none goes first.
 use Rattle.std.proofs.Common.{◌≡◌, ℕ, zero, suc, ◌+◌, ◌<◌, ◌≤◌, ◌⊎◌, Bool, true, false, not, ◌&&◌, ◌==◌, List, [], ◌∷◌, refl, sym, ap, subst, ◌∙◌, inl, inr, arith, Option, Some, None, if◌then◌else◌}
-use Rattle.std.specs.Prelude.{nat_lt, slice_get, ◌↔◌}
-use Rattle.std.proofs.lemmas.Bool.{cases_eq, cases_Bool}
+use Rattle.std.specs.Prelude.{nat_lt, slice_get, is_some}
+use Rattle.std.proofs.lemmas.Bool.{cases_eq}
 use Rattle.line_model.specs.Deliveries.{is_under_way, or_here, oldest}
 use Rattle.line_model.specs.Fresh.{IsOver}
 use Rattle.line_model.specs.Network.{Sent, IsUnderWay, OfSent, MayArrive, MayReach}
@@ -88,10 +88,10 @@ first_fails false b p e = refl
 is_over : (reach : Reach) (made : ℕ) (sent : List Sent) (age : ℕ) (s : Sent) → slice_get sent age ≡ Some s → goes (passes reach made) age s ≡ false → IsOver (MayCome reach made sent age) s
 is_over reach made sent age s there fails = elim (cases_eq s.delivered 0) [
   inl never ↦
-  let zero_times : (s.delivered == 0) ≡ true = grind arith in
-  inr (inr (λ may. true_isnt_false _ (is_passed reach made sent age s there may) (first_fails _ _ zero_times fails)))
-| inr once ↦ inl (omega arith)
-]
+    let zero_times : (s.delivered == 0) ≡ true = grind arith in
+    inr (inr (λ may. true_isnt_false _ (is_passed reach made sent age s there may) (first_fails _ _ zero_times fails)))
+  | inr once ↦ inl (omega arith)
+  ]
 
 pub all_over : (reach : Reach) (made : ℕ) (sent : List Sent) → oldest (passes reach made) 0 sent ≡ None → AllOver reach made sent
 all_over reach made sent none age s there =
@@ -113,3 +113,17 @@ pub none_over : (reach : Reach) (made : ℕ) (sent : List Sent) → AllOver reac
 none_over reach made sent over =
     none_oldest (passes reach made) 0 sent (λ k s there.
     subst (λ (n : ℕ). goes (passes reach made) n s ≡ false) (omega arith) (fails_over reach made sent k s (goes (passes reach made) k s) refl there (over k s there)))
+
+is_nothing : (r : Option ℕ) (b : Bool) → is_some r ≡ not b → b ≡ true → r ≡ None
+is_nothing None b e t = refl
+is_nothing (Some n) true e t = cc
+is_nothing (Some n) false e t = cc
+
+nothing_is : (r : Option ℕ) (b : Bool) → is_some r ≡ not b → r ≡ None → b ≡ true
+nothing_is r true e none = refl
+nothing_is None false e none = cc
+nothing_is (Some n) false e none = cc
+
+pub over_exactly : (reach : Reach) (made : ℕ) (sent : List Sent) (r : Option ℕ) (b : Bool) → r ≡ oldest (passes reach made) 0 sent → is_some r ≡ not b
+    → (b ≡ true → AllOver reach made sent) × (AllOver reach made sent → b ≡ true)
+over_exactly reach made sent r b e told = (λ t. all_over reach made sent (sym e ∙ is_nothing r b told t), λ over. nothing_is r b told (e ∙ none_over reach made sent over))
