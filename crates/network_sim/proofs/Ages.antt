@@ -1,5 +1,5 @@
 -- Numbers and ages of datagrams, whole and where their count stands still.
-use Rattle.std.proofs.Common.{◌≡◌, ℕ, zero, suc, ◌+◌, ◌-◌, ◌^◌, ◌<◌, ◌≤◌, ◌⊎◌, min, Bool, true, false, not, ◌&&◌, ◌==◌, List, map, take, length, refl, sym, ap, subst, ◌∙◌, inl, inr, arith, Option, Some, None, if◌then◌else◌}
+use Rattle.std.proofs.Common.{◌≡◌, ℕ, ◌-◌, ◌^◌, ◌<◌, ◌≤◌, ◌⊎◌, min, false, List, take, length, refl, sym, ap, subst, ◌∙◌, inl, inr, arith, Option, Some, None, if◌then◌else◌}
 use Rattle.std.specs.Prelude.{nat_lt, slice_get, option_map}
 use Rattle.std.proofs.lemmas.Bool.{cases_lt}
 use Rattle.std.proofs.lemmas.List.{length-take, length-map}
@@ -11,7 +11,7 @@ use Rattle.network_sim.specs.declared.place.Reach.{Reach}
 use Rattle.network_sim.specs.declared.place.Reach.TheVariants.{Every, To}
 use Rattle.network_sim.specs.Arriving.{passes}
 use Rattle.network_sim.specs.Window.{Window, window_of, kept_of, kept_age, age_while_kept}
-use Rattle.network_sim.proofs.Windows.{got_kept, none_kept}
+use Rattle.network_sim.proofs.Windows.{got_kept}
 
 -- two ages that are one, or of which neither is kept
 abbrev pub AreAlike : ℕ → ℕ → Type 0
@@ -57,9 +57,9 @@ never_old (To endpoint) made age (Some s) old = grind arith
 again_young : (reach : Reach) (made : ℕ) (sent : List Sent) (w : Window) (age : ℕ) → window_of sent ≡ w
     → goes_again (passes reach made) age (slice_get w.kept age) ≡ goes_again (passes reach made) age (slice_get sent age)
 again_young reach made sent w age same = elim (cases_lt age 128) [
-  inl young ↦ ap (goes_again (passes reach made) age) (got_kept sent age w same young) ∙ again_kept reach made age (slice_get sent age)
+  | inl young ↦ ap (goes_again (passes reach made) age) (got_kept sent age w same young) ∙ again_kept reach made age (slice_get sent age)
   | inr old ↦ never_old reach made age (slice_get w.kept age) old ∙ sym (never_old reach made age (slice_get sent age) old)
-  ]
+]
 
 one_again : (reach : Reach) (made : ℕ) (sent : List Sent) (w : Window) (a b : ℕ) → window_of sent ≡ w → AreAlike a b
     → goes_again (passes reach made) a (slice_get w.kept a) ≡ goes_again (passes reach made) b (slice_get sent b)

@@ -1,9 +1,9 @@
 -- Which datagram is the oldest one that goes, in a whole list and in what is kept of it.
-use Rattle.std.proofs.Common.{◌≡◌, ℕ, zero, suc, ◌+◌, ◌<◌, ◌≤◌, Bool, true, false, not, ◌&&◌, ◌==◌, List, [], ◌∷◌, map, take, length, refl, sym, ap, subst, ◌∙◌, inl, inr, arith, Option, Some, None, if◌then◌else◌}
+use Rattle.std.proofs.Common.{◌≡◌, ℕ, zero, suc, ◌+◌, ◌<◌, ◌≤◌, Bool, true, false, not, ◌&&◌, ◌==◌, List, [], ◌∷◌, map, take, length, refl, sym, ap, subst, ◌∙◌, inl, inr, arith, Option, Some, None}
 use Rattle.std.specs.Prelude.{nat_lt, slice_get, IfSome, IfNone}
 use Rattle.std.proofs.lemmas.Bool.{cases_lt}
 use Rattle.std.proofs.lemmas.Option.{same_Some, slice_get_within}
-use Rattle.line_model.specs.Deliveries.{is_under_way, or_here, oldest, goes_down, next_down}
+use Rattle.line_model.specs.Deliveries.{or_here, oldest, goes_down, next_down}
 use Rattle.line_model.specs.Network.{Sent}
 use Rattle.line_model.specs.Tunnel.{Mode, Commissions, Serves, made}
 use Rattle.line_model.specs.World.{World}
@@ -92,8 +92,8 @@ one_at test base (x ∷ rest) zero s there here older =
     rw (none, now) (ap (λ (n : ℕ). Some n) (omega arith))
 one_at test base (x ∷ rest) (suc age) s there here older =
     let one : oldest test (suc base) rest ≡ Some (suc base + age) =
-      one_at test (suc base) rest age s there (subst (λ (n : ℕ). goes test n s ≡ true) (omega arith) here)
-          (λ k t more e. subst (λ (n : ℕ). goes test n t ≡ false) (omega arith) (older (suc k) t (omega arith) e)) in
+    one_at test (suc base) rest age s there (subst (λ (n : ℕ). goes test n s ≡ true) (omega arith) here)
+    (λ k t more e. subst (λ (n : ℕ). goes test n t ≡ false) (omega arith) (older (suc k) t (omega arith) e)) in
     rw one (ap (λ (n : ℕ). Some n) (omega arith))
 
 -- ---- in what is kept, where none waits from an age on
@@ -113,7 +113,7 @@ none_first : (reach : Reach) (made : ℕ) (kept : List Sent) (waiting from : ℕ
 none_first reach made kept waiting from h none k s past there =
     let young : k < 128 = omega (arith, h.few, slice_get_within kept k s there) in
     let first : at_sent (goes_first reach made) (slice_get kept k) ≡ false =
-      elim (cases_lt k waiting) [ inl less ↦ none k past less | inr more ↦ not_first reach made (slice_get kept k) (h.none k more) ] in
+    elim (cases_lt k waiting) [ inl less ↦ none k past less | inr more ↦ not_first reach made (slice_get kept k) (h.none k more) ] in
     goes_kept reach made k s young ∙ said (goes_first reach made) false (slice_get kept k) s there first
 
 pub next_none : (reach : Reach) (made : ℕ) (kept : List Sent) (waiting : ℕ) → Kept kept waiting
@@ -127,8 +127,8 @@ next_some reach made kept waiting age h here older =
     let f : (s : Sent) × (slice_get kept age ≡ Some s) × (goes_first reach made s ≡ true) = found (goes_first reach made) (slice_get kept age) here in
     let young : age < 128 = omega (arith, h.few, slice_get_within kept age f.0 f.1) in
     let one : oldest (passes reach made) 0 kept ≡ Some (0 + age) =
-      one_at (passes reach made) 0 kept age f.0 f.1 (subst (λ (n : ℕ). goes (passes reach made) n f.0 ≡ true) (omega arith) (goes_kept reach made age f.0 young ∙ f.2))
-          (λ k t more e. subst (λ (n : ℕ). goes (passes reach made) n t ≡ false) (omega arith) (none_first reach made kept waiting (suc age) h (λ j p l. older j (omega arith) l) k t (omega arith) e)) in
+    one_at (passes reach made) 0 kept age f.0 f.1 (subst (λ (n : ℕ). goes (passes reach made) n f.0 ≡ true) (omega arith) (goes_kept reach made age f.0 young ∙ f.2))
+    (λ k t more e. subst (λ (n : ℕ). goes (passes reach made) n t ≡ false) (omega arith) (none_first reach made kept waiting (suc age) h (λ j p l. older j (omega arith) l) k t (omega arith) e)) in
     one ∙ ap (λ (n : ℕ). Some n) (omega arith)
 
 pub next_is : (reach : Reach) (made : ℕ) (kept : List Sent) (waiting : ℕ) → Kept kept waiting → (r : Option ℕ)

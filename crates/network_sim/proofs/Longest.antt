@@ -1,5 +1,5 @@
 -- A datagram of more than 300 octets is a connect response with an error, or no frame. So it reads as what is kept of it.
-use Rattle.std.proofs.Common.{◌≡◌, ◌≢◌, ℕ, ◌+◌, ◌<◌, ◌≤◌, Bool, true, false, ◌&&◌, ◌==◌, List, [], ◌∷◌, length, drop, refl, sym, subst, arith, Option, Some, None, if◌then◌else◌, length-drop, length-append}
+use Rattle.std.proofs.Common.{◌≡◌, ℕ, ◌<◌, ◌≤◌, Bool, true, false, ◌&&◌, ◌==◌, List, [], length, drop, refl, sym, arith, Option, Some, None, if◌then◌else◌, length-drop}
 use Rattle.std.specs.Prelude.{nat_le, slice_index, ◌↔◌, Result, Ok, Err, IfOk}
 use Rattle.std.specs.Result.{result_ok}
 use Rattle.knx_model.specs.declared.frames.ip.IpFrame.{IpFrame}

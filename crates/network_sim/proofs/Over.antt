@@ -1,10 +1,10 @@
 -- When all that was sent is over: where none goes first.
-use Rattle.std.proofs.Common.{◌≡◌, ℕ, zero, suc, ◌+◌, ◌<◌, ◌≤◌, ◌⊎◌, Bool, true, false, not, ◌&&◌, ◌==◌, List, [], ◌∷◌, refl, sym, ap, subst, ◌∙◌, inl, inr, arith, Option, Some, None, if◌then◌else◌}
+use Rattle.std.proofs.Common.{◌≡◌, ℕ, zero, suc, ◌+◌, ◌<◌, Bool, true, false, not, ◌&&◌, ◌==◌, List, [], ◌∷◌, refl, sym, subst, ◌∙◌, inl, inr, arith, Option, Some, None}
 use Rattle.std.specs.Prelude.{nat_lt, slice_get, is_some}
 use Rattle.std.proofs.lemmas.Bool.{cases_eq}
 use Rattle.line_model.specs.Deliveries.{is_under_way, or_here, oldest}
 use Rattle.line_model.specs.Fresh.{IsOver}
-use Rattle.line_model.specs.Network.{Sent, IsUnderWay, OfSent, MayArrive, MayReach}
+use Rattle.line_model.specs.Network.{Sent, IsUnderWay, OfSent}
 use Rattle.network_sim.specs.declared.place.Reach.{Reach}
 use Rattle.network_sim.specs.declared.place.Reach.TheVariants.{Every, To}
 use Rattle.network_sim.specs.Arriving.{passes, MayCome, AllOver}
@@ -87,11 +87,11 @@ first_fails false b p e = refl
 
 is_over : (reach : Reach) (made : ℕ) (sent : List Sent) (age : ℕ) (s : Sent) → slice_get sent age ≡ Some s → goes (passes reach made) age s ≡ false → IsOver (MayCome reach made sent age) s
 is_over reach made sent age s there fails = elim (cases_eq s.delivered 0) [
-  inl never ↦
-    let zero_times : (s.delivered == 0) ≡ true = grind arith in
-    inr (inr (λ may. true_isnt_false _ (is_passed reach made sent age s there may) (first_fails _ _ zero_times fails)))
+  | inl never ↦
+      let zero_times : (s.delivered == 0) ≡ true = grind arith in
+      inr (inr (λ may. true_isnt_false _ (is_passed reach made sent age s there may) (first_fails _ _ zero_times fails)))
   | inr once ↦ inl (omega arith)
-  ]
+]
 
 pub all_over : (reach : Reach) (made : ℕ) (sent : List Sent) → oldest (passes reach made) 0 sent ≡ None → AllOver reach made sent
 all_over reach made sent none age s there =

@@ -1,5 +1,5 @@
 -- What is kept of a list after a sending and after a change of one datagram.
-use Rattle.std.proofs.Common.{◌≡◌, ℕ, zero, suc, ◌+◌, ◌-◌, ◌^◌, min, Bool, true, false, not, ◌&&◌, ◌==◌, ◌<◌, ◌≤◌, List, [], ◌∷◌, map, take, length, refl, sym, ap, ◌∙◌, inl, inr, arith, Option, Some, None}
+use Rattle.std.proofs.Common.{◌≡◌, ℕ, zero, suc, ◌+◌, ◌-◌, ◌^◌, min, Bool, true, false, not, ◌&&◌, ◌==◌, ◌<◌, ◌≤◌, List, [], ◌∷◌, map, take, length, refl, sym, ap, ◌∙◌, inl, inr, arith, Some, None}
 use Rattle.std.specs.Prelude.{slice_get, slice_set, option_map}
 use Rattle.std.proofs.lemmas.Bool.{cases_lt}
 use Rattle.std.proofs.lemmas.List.{take-take, take-map, length-take, length-map}
@@ -113,12 +113,16 @@ still_kept : (change : Sent → Sent) → ((s : Sent) → is_waiting s ≡ false
 still_kept change law b after age waiting fewer h changed less none =
     let items : after.items ≡ changed_at age change b.items = ap (λ (x : Buffer Sent). x.items) changed in
     let room : after.capacity ≡ b.capacity = ap (λ (x : Buffer Sent). x.capacity) changed in
-    let as_many : length after.items ≡ length b.items = ap length items ∙ length-changed age change b.items in
-    (room ∙ h.0, omega (arith, h.1), omega (arith, h.2), λ k past.
-    elim (cases_lt k waiting) [
-      inl younger ↦ none k past younger
-    | inr older ↦ ap (λ (all : List Sent). at_sent is_waiting (slice_get all k)) items ∙ still_none change law b.items age k (h.3 k older)
-    ])
+    let as_many : length after.items ≡ length b.items = ap length items ∙ length-changed age change b.items in (
+      room ∙ h.0,
+      omega (arith, h.1),
+      omega (arith, h.2),
+      λ k past.
+          elim (cases_lt k waiting) [
+            | inl younger ↦ none k past younger
+            | inr older ↦ ap (λ (all : List Sent). at_sent is_waiting (slice_get all k)) items ∙ still_none change law b.items age k (h.3 k older)
+          ],
+    )
 
 pub still_kept_delivered : (b after : Buffer Sent) (age waiting fewer : ℕ) → IsKept b waiting → after ≡ buffer (changed_at age once_more b.items) b.capacity → fewer ≤ waiting
     → ((k : ℕ) → fewer ≤ k → k < waiting → at_sent is_waiting (slice_get after.items k) ≡ false) → IsKept after fewer

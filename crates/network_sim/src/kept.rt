@@ -56,7 +56,7 @@ impl Model for Sending {
 
 impl Sending {
     /// A datagram that is sent now.
-    pub fn new(octets: &[u8], endpoint: u32, made: u64) -> Sending
+    pub(crate) fn new(octets: &[u8], endpoint: u32, made: u64) -> Sending
         ensures { result ≡ new_datagram (readable octets.now) endpoint made }
     {
         Sending {
@@ -83,7 +83,7 @@ impl Sending {
     }
 
     /// Whether it was neither delivered nor lost.
-    pub fn is_waiting(&self) -> bool
+    pub(crate) fn is_waiting(&self) -> bool
         ensures { result ≡ is_waiting self.now }
     {
         matches!(self.fate, Fate::UnderWay { delivered: 0 })
@@ -108,21 +108,21 @@ impl Sending {
     }
 
     /// Whether it may be delivered for the first time.
-    pub fn goes_first(&self, reach: Reach, made: u64) -> bool
+    pub(crate) fn goes_first(&self, reach: Reach, made: u64) -> bool
         ensures { result ≡ goes_first reach made self.now }
     {
         self.is_waiting() && self.can_come(reach, made)
     }
 
     /// Whether it may be delivered for the second time.
-    pub fn goes_once_more(&self, reach: Reach, made: u64) -> bool
+    pub(crate) fn goes_once_more(&self, reach: Reach, made: u64) -> bool
         ensures { result ≡ goes_once_more reach made self.now }
     {
         self.came_once() && self.can_come(reach, made)
     }
 
     /// It is delivered.
-    pub fn deliver(&mut self)
+    pub(crate) fn deliver(&mut self)
         requires { IsDeliverable self.old }
         ensures { self.new ≡ once_more self.old }
     {
@@ -137,7 +137,7 @@ impl Sending {
     }
 
     /// It is lost.
-    pub fn lose(&mut self)
+    pub(crate) fn lose(&mut self)
         ensures { self.new ≡ gone self.old }
     {
         match self.fate {

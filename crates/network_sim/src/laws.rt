@@ -24,7 +24,7 @@ pub fn the_youngest_are_enough()
     ensures older_at { (present made : ℕ) (sent : List Sent) (age : ℕ) → oldest_age ≤ age → ¬ MayReach present made sent age }
 {}
 
-/// Where all is over that was sent up and down, no datagram is under way in a settled world's sense.
+/// Where all that was sent up is over, and all that was sent down, nothing is under way that keeps a world from being settled.
 pub fn a_settled_network_is_over()
     ensures up { (w : World) → AllOver Every (made w.tunnel) w.tunnel.network.up → (age : ℕ) (s : Sent) → slice_get w.tunnel.network.up age ≡ Some s → IsOver (MayComeUp w age) s }
     ensures down { (mode : Mode) (w : World) → AllOver (reach_down mode w.tunnel.present) (made w.tunnel) w.tunnel.network.down

@@ -12,10 +12,8 @@ mod sender;
 #[cfg(test)]
 mod tests;
 
-pub use kept::{Fate, Sending};
+pub use kept::Sending;
 pub use knx_model::NoMemory;
-pub use laws::{
-    a_settled_network_is_over, the_youngest_are_enough, what_is_kept_reads_alike,
-};
+pub use laws::{a_settled_network_is_over, the_youngest_are_enough, what_is_kept_reads_alike};
 pub use place::Reach;
 pub use sender::Sendings;

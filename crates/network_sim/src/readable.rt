@@ -34,11 +34,13 @@ fn shortened(frame: Option<IpFrame>) -> Datagram
     ensures { result ≡ shortened frame }
 {
     match frame {
-        Some(IpFrame::ConnectResponse {
-            channel,
-            status,
-            tunnel: None,
-        }) => refusal(channel, status),
+        Some(
+            IpFrame::ConnectResponse {
+                channel,
+                status,
+                tunnel: None,
+            },
+        ) => refusal(channel, status),
         _ => Datagram::new(),
     }
 }

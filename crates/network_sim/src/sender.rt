@@ -1,6 +1,6 @@
 //! The datagrams of one sender.
 
-ghost use Rattle.std.specs.Prelude.{◌≡◌, ℕ, ◌-◌, ◌<◌, ◌≤◌, ◌↔◌, List, [], ◌∷◌, IfOk, IfSome, IsTrue, Some, None, if◌then◌else◌, nat_lt, length, slice_get, option_copied, option_map};
+ghost use Rattle.std.specs.Prelude.{◌≡◌, ℕ, ◌-◌, ◌^◌, ◌<◌, ◌≤◌, ◌↔◌, List, [], ◌∷◌, IfOk, IfSome, IsTrue, Some, None, if◌then◌else◌, nat_lt, length, slice_get, option_copied, option_map};
 ghost use Rattle.line_model.specs.Counts.{number_at};
 ghost use Rattle.line_model.specs.Deliveries.{oldest};
 ghost use Rattle.line_model.specs.Network.{Sent, OfSent, new_datagram, once_more, gone, changed_at, oldest_age};
@@ -35,7 +35,7 @@ pub struct Sendings {
 impl Model for Sendings {
     ghost use Rattle.std.specs.Prelude.{◌≡◌, ◌≤◌, ℕ, false, length, slice_get};
     ghost use Rattle.network_sim.specs.Readable.{readable};
-ghost use Rattle.network_sim.specs.Window.{Window, at_sent, is_waiting};
+    ghost use Rattle.network_sim.specs.Window.{Window, at_sent, is_waiting};
 
     ghost Value = { Window };
 
@@ -97,6 +97,7 @@ impl Sendings {
     pub fn number_of(&self, age: usize) -> u64
         ensures value { result ≡ self.now.count - age }
         ensures simulates { (sent : List Sent) → window_of sent ≡ self.now → age < oldest_age → IsAlikeToScripts result (number_at sent age) }
+        ensures exact { (sent : List Sent) → window_of sent ≡ self.now → length sent < 2 ^ 64 → result ≡ number_at sent age }
     {
         self.count.saturating_sub(age as u64)
     }

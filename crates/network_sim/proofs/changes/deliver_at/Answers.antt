@@ -1,7 +1,7 @@
-use Rattle.std.proofs.Common.{◌≡◌, sym, ap, ◌∙◌, Option, Some, None}
+use Rattle.std.proofs.Common.{◌≡◌, sym, Some}
 use Rattle.std.specs.Prelude.{slice_get, slice_set}
 use Rattle.line_model.specs.Network.{once_more, changed_at}
-use Rattle.network_sim.proofs.Windows.{set_delivered, none_delivered}
+use Rattle.network_sim.proofs.Windows.{set_delivered}
 use Rattle.network_sim.proofs.changes.deliver_at.Goals as goal
 
 pub returns-in-Some : goal.returns-in-Some

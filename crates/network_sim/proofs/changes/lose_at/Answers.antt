@@ -1,4 +1,4 @@
-use Rattle.std.proofs.Common.{◌≡◌, sym, ap, ◌∙◌, List, Some, None}
+use Rattle.std.proofs.Common.{◌≡◌, sym, ap, List, Some, None}
 use Rattle.std.specs.Prelude.{slice_get, slice_set}
 use Rattle.circular_buffer.specs.Buffer.{buffer}
 use Rattle.line_model.specs.Network.{Sent, gone, changed_at}

@@ -1,4 +1,4 @@
-use Rattle.std.proofs.Common.{◌≡◌, ◌∙◌}
+use Rattle.std.proofs.Common.{◌∙◌}
 use Rattle.network_sim.proofs.Longest.{decoded}
 use Rattle.network_sim.proofs.readable.frame_of.Goals as goal
 

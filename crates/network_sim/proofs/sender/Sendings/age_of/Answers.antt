@@ -1,4 +1,4 @@
-use Rattle.std.proofs.Common.{◌≡◌, ℕ, ◌-◌, ◌∙◌, ap, arith, Some, None, if◌then◌else◌}
+use Rattle.std.proofs.Common.{ℕ, ◌-◌, ◌∙◌, ap, arith, Some, None, if◌then◌else◌}
 use Rattle.std.specs.Prelude.{nat_lt}
 use Rattle.network_sim.specs.Window.{Window, kept_age}
 use Rattle.network_sim.proofs.Ages.{age_kept}

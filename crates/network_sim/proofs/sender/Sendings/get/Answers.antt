@@ -1,4 +1,4 @@
-use Rattle.std.proofs.Common.{◌≡◌, ◌∙◌, ap}
+use Rattle.std.proofs.Common.{◌∙◌, ap}
 use Rattle.std.specs.Prelude.{slice_get}
 use Rattle.network_sim.specs.Window.{Window}
 use Rattle.network_sim.proofs.Windows.{got_kept, none_kept}

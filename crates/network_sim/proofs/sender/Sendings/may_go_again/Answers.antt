@@ -1,4 +1,4 @@
-use Rattle.std.proofs.Common.{◌≡◌, ◌∙◌, arith}
+use Rattle.std.proofs.Common.{◌∙◌, arith}
 use Rattle.network_sim.proofs.Ages.{goes_again_kept}
 use Rattle.network_sim.proofs.sender.Sendings.may_go_again.Goals as goal
 
