@@ -16,21 +16,21 @@ pub struct Chains {
     pub first: Bits,
 }
 
-/// Puts a job behind the one before it of its device, or into the set of the first ones.
-fn link(next: &mut [Option<u32>], first: &mut Bits, before: Option<u32>, job: u32)
-    requires behind { IfSome before (λ b. (1 ≤ b) × (b ≤ length next.old)) }
-    requires room { job < 64 * length first.old }
-    ensures next { next.new ≡ linked next.old before job }
-    ensures limit { length first.new ≡ length first.old }
-    ensures first { (n : ℕ) → holds first.new n ≡ (holds first.old n || (is_none before && n == job)) }
-{
-    match before {
-        Some(before) => next[before as usize - 1] = Some(job),
-        None => first.insert(job as usize),
-    }
-}
-
 impl Chains {
+    /// Puts a job behind the one before it of its device, or into the set of the first ones.
+    fn link(&mut self, before: Option<u32>, job: u32)
+        requires behind { IfSome before (λ b. (1 ≤ b) × (b ≤ length self.old.next.items)) }
+        requires room { job < 64 * length self.old.first }
+        ensures next { self.new.next.items ≡ linked self.old.next.items before job }
+        ensures limit { length self.new.first ≡ length self.old.first }
+        ensures first { (n : ℕ) → holds self.new.first n ≡ (holds self.old.first n || (is_none before && n == job)) }
+    {
+        match before {
+            Some(before) => self.next[before as usize - 1] = Some(job),
+            None => self.first.insert(job as usize),
+        }
+    }
+
     /// The chains of the devices' jobs.
     pub fn of(alloc: Global, devices: &[IndAddr]) -> Result<Chains, NoMemory>
         requires { length devices.now < 4294967296 }
@@ -39,14 +39,16 @@ impl Chains {
         ensures first_are { IfOk result (λ chains. (job : ℕ) → holds chains.first job ≡ true → IsFirst devices.now job) }
         ensures are_first { IfOk result (λ chains. (job : ℕ) → IsFirst devices.now job → holds chains.first job ≡ true) }
     {
-        let mut next = Vec::from_elem(alloc, None, devices.len())?;
-        let mut first = Bits::none(alloc, devices.len() + 1)?;
+        let mut chains = Chains {
+            next: Vec::from_elem(alloc, None, devices.len())?,
+            first: Bits::none(alloc, devices.len() + 1)?,
+        };
         let mut last = BTreeMap::new(alloc);
         for (index, device) in devices.iter().enumerate() {
             let job = index as u32 + 1;
             let before = last.insert(device.raw, job)?;
-            link(&mut next, &mut first, before, job);
+            chains.link(before, job);
         }
-        Ok(Chains { next, first })
+        Ok(chains)
     }
 }
