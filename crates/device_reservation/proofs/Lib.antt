@@ -3,3 +3,7 @@ pub mod Numbered
 pub mod Chained
 pub mod Stages
 pub mod Taking
+pub mod Finishing
+pub mod Waiting
+pub mod Beginning
+pub mod Logged

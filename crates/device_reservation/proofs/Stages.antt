@@ -22,7 +22,7 @@ one_on (Some a) None c e f = absurd e
 one_on (Some a) (Some b) None e f = absurd f
 one_on (Some a) (Some b) (Some c) e f = e ∙ f
 
-left_there : (a b : Option IndAddr) → AreOneDevice a b → (device : IndAddr) × (a ≡ Some device)
+pub left_there : (a b : Option IndAddr) → AreOneDevice a b → (device : IndAddr) × (a ≡ Some device)
 left_there None b e = absurd e
 left_there (Some a) b e = (a, λ i. Some a)
 
