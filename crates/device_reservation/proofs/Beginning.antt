@@ -1,15 +1,13 @@
 -- A reservation in which no job was taken: the first job of each device is free.
-use Rattle.std.proofs.Common.{◌≡◌, ◌≢◌, ℕ, ◌*◌, ◌<◌, ◌≤◌, Bool, true, List, length, replicate, Option, Some, None, cond, sym, ap, ◌∙◌, arith}
-use Rattle.std.specs.List.{count_by}
+use Rattle.std.proofs.Common.{◌≡◌, ℕ, ◌*◌, ◌<◌, ◌≤◌, true, List, length, Option, Some, cond, arith}
 use Rattle.std.proofs.lemmas.List.{length-replicate}
 use Rattle.std.proofs.lemmas.List.Folds.{sum_by-replicate}
 use Rattle.knx_model.specs.declared.address.IndAddr.{IndAddr}
-use Rattle.device_reservation.specs.declared.stage.Stage.{Stage}
-use Rattle.device_reservation.specs.declared.stage.Stage.TheVariants.{Untaken, Held, Over}
+use Rattle.device_reservation.specs.declared.stage.Stage.TheVariants.{Untaken, Held}
 use Rattle.device_reservation.specs.Bits.{holds}
-use Rattle.device_reservation.specs.Chains.{OneDevice, IsFirst, AreNext}
+use Rattle.device_reservation.specs.Chains.{IsFirst, AreNext}
 use Rattle.device_reservation.specs.Kept.{IsKept, is_untaken}
-use Rattle.device_reservation.specs.Reservation.{device_of, stage_of, AreOneDevice, SameDevice, IsFree, none_taken}
+use Rattle.device_reservation.specs.Reservation.{device_of, stage_of, SameDevice, IsFree, none_taken}
 use Rattle.device_reservation.proofs.Numbered.{from_1, within, of_all, of_all_there}
 use Rattle.device_reservation.proofs.Stages.{back, left_there}
 

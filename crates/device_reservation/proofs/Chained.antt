@@ -1,5 +1,5 @@
 -- The chains of the jobs of each device, one job further.
-use Rattle.std.proofs.Common.{◌≡◌, ◌≢◌, ℕ, ◌+◌, ◌-◌, ◌*◌, ◌<◌, ◌≤◌, inl, inr, Bool, true, false, ◌||◌, ◌&&◌, eqb, List, length, get_or, set, replicate, cond, Option, Some, None, refl, sym, ap, subst, ◌∙◌, arith}
+use Rattle.std.proofs.Common.{◌≡◌, ◌≢◌, ℕ, ◌+◌, ◌-◌, ◌*◌, ◌<◌, ◌≤◌, inl, inr, Bool, true, false, ◌||◌, ◌&&◌, eqb, List, length, get_or, set, replicate, Option, Some, None, refl, sym, ap, subst, ◌∙◌, arith}
 use Rattle.std.specs.Prelude.{is_none, IfSome, slice_get}
 use Rattle.std.specs.Ordering.{nat_cmp}
 use Rattle.std.specs.BTreeMap.{is_at}
@@ -210,13 +210,14 @@ first_one devices n q next first first' last last' c new before same kept now ot
     | inl held ↦ let old : IsFirst devices job × (job ≤ n) = c.first_is job held in (old.0, omega (arith, old.1))
     | inr is ↦
         let this : job ≡ n + 1 = eqb-true job (n + 1) is in
-        let here : raw_of devices job ≡ Some q = ap (λ k. raw_of devices k) this ∙ new in
-        ( record {
+        let here : raw_of devices job ≡ Some q = ap (λ k. raw_of devices k) this ∙ new in (
+          record {
             from_1 = omega arith;
             within = job_within devices job q here;
             none_before = λ other lt one. c.none_is q before other (omega arith) (one_to devices job other q one here);
           },
-          omega arith )
+          omega arith,
+        )
   ];
   is_first = λ job f le. elim (cases_eq job (n + 1)) [
     | inl is ↦ kept job ∙ or_right (holds first job) (eqb job (n + 1)) (eq-eqb job (n + 1) is)

@@ -1,15 +1,14 @@
 -- A reservation after a held job ended: the next job of its device is free.
-use Rattle.std.proofs.Common.{◌≡◌, ◌≢◌, ℕ, ◌+◌, ◌-◌, ◌*◌, ◌<◌, ◌≤◌, inl, inr, Bool, true, false, List, length, get_or, set, Option, Some, None, cond, refl, sym, ap, subst, ◌∙◌, arith}
+use Rattle.std.proofs.Common.{◌≡◌, ◌≢◌, ℕ, ◌+◌, ◌-◌, ◌*◌, ◌<◌, ◌≤◌, inl, inr, true, List, length, get_or, Option, Some, None, refl, sym, ap, subst, ◌∙◌, arith}
 use Rattle.std.specs.List.{count_by}
 use Rattle.std.proofs.lemmas.Bool.{cases_eq, cases_order}
 use Rattle.std.proofs.lemmas.List.{length-set}
 use Rattle.line_model.specs.Log.{numbered_from_one}
-use Rattle.device_reservation.specs.declared.stage.Stage.{Stage}
 use Rattle.device_reservation.specs.declared.stage.Stage.TheVariants.{Untaken, Held, Over}
 use Rattle.device_reservation.specs.Bits.{holds}
 use Rattle.device_reservation.specs.Chains.{IsNext, IsLast}
 use Rattle.device_reservation.specs.Kept.{IsKept, is_untaken}
-use Rattle.device_reservation.specs.Reservation.{Reservation, device_of, stage_of, SameDevice, IsFree, with_stage, job_ended, EarlierAreOver}
+use Rattle.device_reservation.specs.Reservation.{Reservation, stage_of, SameDevice, IsFree, job_ended, EarlierAreOver}
 use Rattle.device_reservation.proofs.Stages.{back, on, HasStage, has_stage, else_untaken, stage_there, stage_elsewhere}
 use Rattle.std.proofs.lemmas.Option.{slice_get_read}
 use Rattle.device_reservation.proofs.Numbered.{by_place, from_1, within}
@@ -38,9 +37,9 @@ later_untaken : (r : Reservation) (job worker : ℕ) → Ending r job worker →
 later_untaken r job worker e k lt same =
     let s : HasStage r k = has_stage r k job e.alike (back r job k same) in
     else_untaken (stage_of r k) s.stage s.is (λ begun.
-      let over : stage_of r job ≡ Some Over = e.in_order k job lt same begun in
-      let held : stage_of r job ≡ Some (Held worker) = e.held in
-      absurd (cc))
+    let over : stage_of r job ≡ Some Over = e.in_order k job lt same begun in
+    let held : stage_of r job ≡ Some (Held worker) = e.held in
+    absurd (cc))
 
 pub in_order_after : (r : Reservation) (job worker : ℕ) → Ending r job worker → EarlierAreOver (job_ended job r)
 in_order_after r job worker e j other lt same begun = elim (cases_eq other job) [

@@ -1,5 +1,5 @@
 -- A reservation and the log of what was taken and ended through it.
-use Rattle.std.proofs.Common.{◌≡◌, ◌≢◌, ◌↔◌, ℕ, zero, suc, ◌+◌, ◌-◌, ◌<◌, ◌≤◌, inl, inr, Bool, true, false, eqb, List, [], ◌∷◌, length, map, Option, Some, None, cond, refl, sym, ap, subst, ◌∙◌, arith}
+use Rattle.std.proofs.Common.{◌≡◌, ◌≢◌, ℕ, zero, suc, ◌-◌, ◌<◌, ◌≤◌, inl, inr, eqb, List, [], ◌∷◌, length, map, Option, Some, None, refl, sym, ap, subst, ◌∙◌, arith}
 use Rattle.std.specs.Prelude.{slice_get, if◌then◌else◌}
 use Rattle.std.proofs.lemmas.Bool.{cases_eq, eq-eqb, ne_eqb}
 use Rattle.std.proofs.lemmas.List.{length-set, length-replicate}
@@ -11,7 +11,7 @@ use Rattle.line_model.specs.Log as logs
 use Rattle.line_model.specs.Log.{Job, JobState, job_of, state_of, numbered_from_one, takes_it, ends_it, TakesFree, OneDownloaderPerDevice}
 use Rattle.device_reservation.specs.declared.stage.Stage.{Stage}
 use Rattle.device_reservation.specs.declared.stage.Stage.TheVariants.{Untaken, Held, Over}
-use Rattle.device_reservation.specs.Reservation.{Reservation, device_of, stage_of, AreOneDevice, SameDevice, IsFree, IsFirstFree, IsHeld, with_stage, none_taken}
+use Rattle.device_reservation.specs.Reservation.{Reservation, device_of, stage_of, AreOneDevice, SameDevice, IsFree, IsHeld, with_stage, none_taken}
 use Rattle.device_reservation.specs.Reserved.{IsReserved, MayEnter, after_entry, reservation_after, device_of_job}
 use Rattle.device_reservation.proofs.Numbered.{by_place, from_1, within, of_all_there}
 use Rattle.device_reservation.proofs.Stages.{stage_there, stage_elsewhere}

@@ -1,17 +1,15 @@
 -- A reservation after its free job was taken.
-use Rattle.std.proofs.Common.{◌≡◌, ◌≢◌, ℕ, ◌+◌, ◌-◌, ◌*◌, ◌<◌, ◌≤◌, inl, inr, Bool, true, false, List, length, get_or, set, Option, Some, None, cond, sym, ap, subst, ◌∙◌, arith}
-use Rattle.std.specs.Prelude.{slice_get}
-use Rattle.std.specs.List.{count_by, sum_by}
+use Rattle.std.proofs.Common.{◌≡◌, ◌≢◌, ℕ, ◌+◌, ◌-◌, ◌≤◌, inl, inr, true, false, List, length, get_or, Option, Some, cond, sym, ap, subst, ◌∙◌, arith}
+use Rattle.std.specs.List.{count_by}
 use Rattle.std.proofs.lemmas.Bool.{cases_eq, cases_order}
 use Rattle.std.proofs.lemmas.List.{length-set}
 use Rattle.std.proofs.lemmas.List.Sums.{sum_by-set}
 use Rattle.std.proofs.lemmas.Option.{get_or_from_slice_get}
-use Rattle.line_model.specs.Log.{numbered_from_one}
 use Rattle.device_reservation.specs.declared.stage.Stage.{Stage}
 use Rattle.device_reservation.specs.declared.stage.Stage.TheVariants.{Untaken, Held, Over}
 use Rattle.device_reservation.specs.Bits.{holds}
 use Rattle.device_reservation.specs.Kept.{IsKept, is_untaken}
-use Rattle.device_reservation.specs.Reservation.{Reservation, device_of, stage_of, SameDevice, IsFree, with_stage, job_taken, EarlierAreOver}
+use Rattle.device_reservation.specs.Reservation.{Reservation, stage_of, SameDevice, IsFree, with_stage, job_taken, EarlierAreOver}
 use Rattle.device_reservation.proofs.Numbered.{by_place, from_1, within}
 use Rattle.device_reservation.proofs.Stages.{back, HasStage, has_stage, else_over, stage_there, stage_elsewhere}
 

@@ -1,5 +1,5 @@
 -- The jobs of one device, in their order: the first one, and of each the next.
-use Rattle.std.specs.Prelude.{◌≡◌, ◌≢◌, ℕ, ◌-◌, ◌<◌, ◌≤◌, ◌↔◌, ◌==◌, ◌||◌, ◌&&◌, Bool, true, false, List, Option, Some, None, is_none, length, slice_set}
+use Rattle.std.specs.Prelude.{◌≡◌, ℕ, ◌-◌, ◌<◌, ◌≤◌, List, Option, Some, None, length, slice_set}
 use Rattle.knx_model.specs.declared.address.IndAddr.{IndAddr}
 use Rattle.line_model.specs.Log.{numbered_from_one}
 use Rattle.device_reservation.specs.Reservation.{AreOneDevice}

@@ -1,7 +1,6 @@
 -- How a reservation is kept: each job's stage, the next job of its device, the free jobs as a set, and how many are untaken.
-use Rattle.std.specs.Prelude.{◌≡◌, ℕ, ◌+◌, ◌*◌, ◌<◌, ◌≤◌, Bool, true, false, List, Option, length}
+use Rattle.std.specs.Prelude.{◌≡◌, ℕ, ◌*◌, ◌<◌, Bool, true, false, List, Option, length}
 use Rattle.std.specs.List.{count_by}
-use Rattle.knx_model.specs.declared.address.IndAddr.{IndAddr}
 use Rattle.device_reservation.specs.declared.stage.Stage.{Stage}
 use Rattle.device_reservation.specs.declared.stage.Stage.TheVariants.{Untaken, Held, Over}
 use Rattle.device_reservation.specs.Bits.{holds}

@@ -1,6 +1,6 @@
 -- Which job may begin (this project's own). Jobs are numbered from 1, each is of one device, and each is untaken, held by a worker, or over. A
 -- device is held while one of its jobs is, and the earlier job of a device goes before the later one.
-use Rattle.std.specs.Prelude.{◌≡◌, ◌≢◌, ◌⊎◌, ℕ, ◌-◌, ◌<◌, ◌≤◌, List, Option, Some, None, length, replicate, slice_set}
+use Rattle.std.specs.Prelude.{◌≡◌, ◌≢◌, ◌⊎◌, ℕ, ◌-◌, ◌<◌, List, Option, Some, length, replicate, slice_set}
 use Rattle.knx_model.specs.declared.address.IndAddr.{IndAddr}
 use Rattle.line_model.specs.Log.{numbered_from_one}
 use Rattle.device_reservation.specs.declared.stage.Stage.{Stage}

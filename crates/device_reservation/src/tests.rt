@@ -22,7 +22,7 @@ fn run(rt: &impl Abort, alloc: Global, devices: &[u16], calls: &[Call]) -> Resul
     for number in devices {
         addresses.push(IndAddr { raw: *number })?;
     }
-    assert!(rt; devices.len() < 100);
+    assert!(rt; addresses.len() < 100);
     let mut jobs = Jobs::new(alloc, &addresses)?;
     for call in calls {
         match *call {

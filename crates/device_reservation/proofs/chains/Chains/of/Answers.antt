@@ -1,7 +1,6 @@
-use Rattle.std.proofs.Common.{◌≡◌, ◌≢◌, ℕ, ◌+◌, ◌*◌, ◌<◌, ◌≤◌, Bool, length, get_or, true, false, ap, subst, Option, List, rules, arith, nat_cmp}
+use Rattle.std.proofs.Common.{ℕ, get_or, ap, subst, rules, arith, nat_cmp}
 use Rattle.std.specs.BTreeMap.{get, is_at}
 use Rattle.std.specs.Map.{lookup}
-use Rattle.device_reservation.specs.Chains.{AreNext}
 use Rattle.device_reservation.proofs.Chained.{Chained, none_chained, one_more, all_chained, raw_at, may_link, another_key}
 use Rattle.device_reservation.proofs.chains.Chains.of.Goals as goal
 
@@ -20,7 +19,7 @@ pub loop-index-preserved : goal.loop-index-preserved
 loop-index-preserved c =
     let device : ℕ = (get_or c.args.devices.now c.loop-index.index (record { raw = 0 })).raw in
     one_more c.args.devices.now c.loop-index.index device c.in_ok-before.before _ _ _ _ (λ q. get nat_cmp c.loop-index.last q) (λ q. get nat_cmp c.insert.new.self q) c.loop-index.invariant (raw_at c.args.devices.now c.loop-index.index (omega arith))
-      c.in_ok-before.ensures.old c.link.ensures.next c.link.ensures.limit c.link.ensures.first c.in_ok-before.ensures.updates.1 (λ r apart. c.in_ok-before.ensures.updates.2 r (another_key device r apart))
+    c.in_ok-before.ensures.old c.link.ensures.next c.link.ensures.limit c.link.ensures.first c.in_ok-before.ensures.updates.1 (λ r apart. c.in_ok-before.ensures.updates.2 r (another_key device r apart))
 
 pub returns-clause-next : goal.returns-clause-next
 returns-clause-next c =

@@ -1,4 +1,4 @@
-use Rattle.std.proofs.Common.{◌≡◌, ℕ, Option, Some, None, ap, subst, sym, ◌∙◌}
+use Rattle.std.proofs.Common.{◌≡◌, Some, None, ap, subst, sym, ◌∙◌}
 use Rattle.line_model.specs.Log.{numbered_from_one}
 use Rattle.device_reservation.specs.Reservation.{Reservation, IsHeld}
 use Rattle.device_reservation.proofs.Finishing.{kept_after_next, kept_after_last, next_at, next_within}

@@ -1,4 +1,4 @@
-use Rattle.std.proofs.Common.{◌≡◌, ℕ, length, replicate, List, sym, ap, subst, ◌∙◌, rules, arith}
+use Rattle.std.proofs.Common.{◌≡◌, ℕ, length, replicate, subst, rules, arith}
 use Rattle.device_reservation.specs.declared.stage.Stage.TheVariants.{Untaken}
 use Rattle.device_reservation.specs.Kept.{IsKept}
 use Rattle.device_reservation.specs.Reservation.{Reservation, none_taken}

@@ -1,4 +1,4 @@
-use Rattle.std.proofs.Common.{◌≡◌, ℕ, length, refl, ap, subst, sym, ◌∙◌, arith}
+use Rattle.std.proofs.Common.{◌≡◌, length, refl, ap, subst, ◌∙◌}
 use Rattle.device_reservation.specs.declared.taken.Taken.TheVariants.{Job}
 use Rattle.device_reservation.specs.Bits.{holds}
 use Rattle.device_reservation.specs.Reservation.{Reservation, IsFirstFree, AllWait, AllTaken}
@@ -9,7 +9,7 @@ use Rattle.device_reservation.proofs.jobs.Jobs.take.Goals as goal
 pub invariant_of-self : goal.invariant_of-self
 invariant_of-self c =
     kept_after_take _ _ c.self.inside.free _ _ c.in-Some.job c.args.worker c.self.invariant c.in-Some.ensures.least.itself (c.remove.ensures.limit ∙ ap length c.first.ensures.same) c.remove.ensures.itself
-      (λ n apart. c.remove.ensures.others n apart ∙ ap (λ words. holds words n) c.first.ensures.same)
+    (λ n apart. c.remove.ensures.others n apart ∙ ap (λ words. holds words n) c.first.ensures.same)
 
 pub overflow_sub-self : goal.overflow_sub-self
 overflow_sub-self c = some_untaken _ _ c.self.inside.free _ c.in-Some.job c.self.invariant c.in-Some.ensures.least.itself
