@@ -1,0 +1,9 @@
+pub mod Words
+pub mod Numbered
+pub mod Chained
+pub mod Stages
+pub mod Taking
+pub mod Finishing
+pub mod Waiting
+pub mod Beginning
+pub mod Logged

@@ -1,0 +1,11 @@
+use Rattle.device_reservation.proofs.Logged.{one_downloader, free_in_log, there_in_log, waits_in_log, free_from_log}
+use Rattle.device_reservation.proofs.laws.one_downloader_per_device.Goals as goal
+
+pub returns-clause-alone : goal.returns-clause-alone
+returns-clause-alone c = λ jobs log reserved. one_downloader jobs log reserved
+
+pub returns-clause-free : goal.returns-clause-free
+returns-clause-free c = λ jobs log job reserved. (
+  λ free. (there_in_log jobs log job free, waits_in_log jobs log job reserved free, free_in_log jobs log job reserved free),
+  λ all. free_from_log jobs log job reserved all.0 all.1 all.2,
+)
