@@ -21,7 +21,7 @@ use Rattle.session_law.specs.World.{World, fresh}
 use Rattle.session_law.specs.Device.{Comes}
 use Rattle.session_law.specs.Events.{Event, Connects, Takes, Joins, Bus, DevSend, MayHappen, replay, IsLegal}
 use Rattle.session_law.proofs.Apdus.{answer_is_apdu}
-use Rattle.session_law.proofs.Device.{and_octets}
+use Rattle.session_law.proofs.Taken.{and_octets}
 use Rattle.session_law.proofs.Frames.{connect_read}
 use Rattle.load_law.specs.Download.{Went, NotBegun, Acknowledged, Answered, IsNext, MayAsk, Follows, IsDone}
 use Rattle.load_law.specs.Undisturbed.{opening, acknowledged, operation, operations, undisturbed, FitsInto, AllFit}

@@ -11,7 +11,7 @@ use Rattle.knx_model.specs.DeviceFrames.{Outcome}
 use Rattle.knx_model.specs.GoodPlan.{Beginning, WholeRun, kept_by, IsNotTorn, OldStoppedOrImage, IsSendable, awaits_answer}
 use Rattle.knx_model.specs.Plans.{Plan, Over, Asks as Operation, Suits}
 use Rattle.knx_model.proofs.Leads.{Leads, Leads-by_runs, Leads-weaker}
-use Rattle.session_law.proofs.Device.{and_octets}
+use Rattle.session_law.proofs.Taken.{and_octets}
 use Rattle.load_law.specs.Download.{Went, NotBegun, Acknowledged, Answered}
 use Rattle.load_law.proofs.Answers.{Texts, no_answer, one_if, want, want_more}
 

@@ -14,7 +14,7 @@ use Rattle.knx_model.specs.declared.connection.ClientExpired.{ClientExpired}
 use Rattle.knx_model.specs.declared.connection.ClientExpired.TheVariants as over
 use Rattle.knx_model.specs.Apdu.{Written}
 use Rattle.knx_model.specs.Connection.{frame_in, disconnect}
-use Rattle.knx_model.specs.ClientConnection.{ClientEnd, Asked, Ended, device_of, client_sent, after_send, client_took, client_after, client_expired, after_overdue, client_confirmed, after_confirmed}
+use Rattle.knx_model.specs.ClientConnection.{Asked, Ended, device_of, client_sent, after_send, client_took, client_after, client_expired, after_overdue, client_confirmed, after_confirmed}
 use Rattle.knx_model.specs.DeviceFrames.{own_frame}
 use Rattle.session_law.specs.World.{Message, Con, Ind, Client, World}
 
