@@ -1,5 +1,5 @@
 -- A download that nothing disturbs, operation by operation.
-use Rattle.std.proofs.Common.{◌≡◌, ℕ, zero, suc, ◌+◌, ◌*◌, ◌%◌, ◌<◌, ◌≤◌, List, [], ◌∷◌, ◌++◌, length, Bool, true, false, Option, Some, None, refl, sym, ◌∙◌, ap, subst, arith}
+use Rattle.std.proofs.Common.{◌≡◌, ℕ, ◌+◌, ◌*◌, ◌<◌, ◌≤◌, List, [], ◌∷◌, length, true, false, Option, Some, None, refl, arith}
 use Rattle.std.specs.Prelude.{◌==◌, nat_lt}
 use Rattle.std.proofs.lemmas.Grind.{common_steps}
 use Rattle.std.proofs.lemmas.Bool.{eq-eqb}
@@ -7,11 +7,7 @@ use Rattle.knx_model.specs.declared.address.IndAddr.{IndAddr}
 use Rattle.knx_model.specs.declared.device.FrameSupport.{FrameSupport}
 use Rattle.knx_model.specs.declared.device.FrameSupport.TheVariants.{Standard, Extended}
 use Rattle.knx_model.specs.declared.frames.cemi.Ldata.{Ldata}
-use Rattle.knx_model.specs.declared.frames.tpdu.Tpdu.TheVariants as tpdu
 use Rattle.knx_model.specs.declared.frames.value.Value.{Value}
-use Rattle.knx_model.specs.declared.plan.Expect.{Expect}
-use Rattle.knx_model.specs.declared.plan.Expect.TheVariants.{AckOnly, Is, Note}
-use Rattle.knx_model.specs.Apdu.{Written}
 use Rattle.knx_model.specs.Connection.{IsApdu, next_number, numbered_data}
 use Rattle.knx_model.specs.ClientConnection.{has_answer, Up, Awaiting, client_confirmed, after_confirmed, client_sent, after_send, client_took, client_after}
 use Rattle.knx_model.specs.DeviceConnection.{Idle, Answering, device_took, device_after, device_answered, after_answer}
@@ -22,7 +18,7 @@ use Rattle.session_law.specs.World.{World}
 use Rattle.session_law.specs.Events.{Event, Takes, Bus, Replies, DevSend, replay, IsLegal}
 use Rattle.session_law.specs.Device.{Comes}
 use Rattle.session_law.proofs.Frames.{numbered_read, ack_read}
-use Rattle.load_law.specs.Undisturbed.{acknowledged, operation, FitsInto}
+use Rattle.load_law.specs.Undisturbed.{acknowledged, FitsInto}
 use Rattle.load_law.proofs.Answers.{Texts}
 
 -- a connection that is up, with nothing on its way

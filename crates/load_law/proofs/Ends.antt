@@ -1,32 +1,25 @@
 -- A download that nothing disturbs may happen, follows the plan, and ends done.
-use Rattle.std.proofs.Common.{◌≡◌, ℕ, suc, ◌+◌, ◌%◌, ◌<◌, ◌≤◌, List, [], ◌∷◌, ◌++◌, Bool, true, false, Option, Some, None, refl, sym, ◌∙◌, ap, subst, arith, append_assoc}
-use Rattle.std.proofs.lemmas.Bool.{false≢true}
-use Rattle.std.specs.List.{AllByRecursion}
+use Rattle.std.proofs.Common.{◌≡◌, ℕ, ◌<◌, List, [], ◌∷◌, ◌++◌, true, false, Option, Some, None, refl, sym, ◌∙◌, ap, subst, arith, append_assoc}
 use Rattle.knx_model.specs.declared.address.IndAddr.{IndAddr}
 use Rattle.knx_model.specs.declared.frames.cemi.Ldata.{Ldata}
-use Rattle.knx_model.specs.declared.frames.tpdu.Tpdu.TheVariants as tpdu
 use Rattle.knx_model.specs.declared.frames.value.Value.{Value}
 use Rattle.knx_model.specs.declared.plan.Expect.{Expect}
 use Rattle.knx_model.specs.declared.plan.Expect.TheVariants.{AckOnly, Is, Note}
-use Rattle.knx_model.specs.Apdu.{Written}
 use Rattle.knx_model.specs.Connection.{IsApdu, next_number}
 use Rattle.knx_model.specs.ClientConnection.{has_answer, client_confirmed, after_confirmed}
 use Rattle.knx_model.specs.DeviceConnection.{device_took, device_after}
 use Rattle.knx_model.specs.Device.{NonVolatile, whole, effect_in, answer_in}
-use Rattle.knx_model.specs.DeviceState.{DeviceState, zero_values}
-use Rattle.knx_model.specs.DeviceFrames.{Whole, own_frame}
-use Rattle.knx_model.specs.GoodPlan.{AnswersAll, IsSendable, services_given}
+use Rattle.knx_model.specs.DeviceState.{DeviceState}
+use Rattle.knx_model.specs.GoodPlan.{AnswersAll, IsSendable}
 use Rattle.knx_model.specs.Plans.{Plan, Over, Asks as Operation, Suits}
 use Rattle.session_law.specs.World.{World, fresh}
-use Rattle.session_law.specs.Device.{Comes}
-use Rattle.session_law.specs.Events.{Event, Connects, Takes, Joins, Bus, DevSend, MayHappen, replay, IsLegal}
+use Rattle.session_law.specs.Events.{Event, MayHappen, replay, IsLegal}
 use Rattle.session_law.proofs.Apdus.{answer_is_apdu}
-use Rattle.session_law.proofs.Taken.{and_octets}
 use Rattle.session_law.proofs.Frames.{connect_read}
-use Rattle.load_law.specs.Download.{Went, NotBegun, Acknowledged, Answered, IsNext, MayAsk, Follows, IsDone}
+use Rattle.load_law.specs.Download.{Went, NotBegun, Acknowledged, Answered, MayAsk, Follows, IsDone}
 use Rattle.load_law.specs.Undisturbed.{opening, acknowledged, operation, operations, undisturbed, FitsInto, AllFit}
-use Rattle.load_law.proofs.Answers.{Texts, no_answer}
-use Rattle.load_law.proofs.Calm.{calm, same, Ends, short_control, goes_without, legal_without, Waits, answering, waits, answered, legal_answering}
+use Rattle.load_law.proofs.Answers.{Texts}
+use Rattle.load_law.proofs.Calm.{calm, same, Ends, short_control, goes_without, legal_without, answering, waits, answered, legal_answering}
 
 -- ---- one run after another
 

@@ -1,17 +1,17 @@
 -- Each event of a client that goes through a plan, and what this promises.
-use Rattle.std.proofs.Common.{◌≡◌, ℕ, suc, ◌+◌, ◌≤◌, List, [], ◌∷◌, ◌++◌, length, Bool, true, false, cond, Option, Some, None, refl, sym, ◌∙◌, ap, subst, arith, inl, inr}
+use Rattle.std.proofs.Common.{◌≡◌, ℕ, suc, ◌≤◌, List, [], ◌∷◌, length, Bool, true, false, cond, Option, Some, None, refl, sym, ◌∙◌, ap, subst, arith, inl, inr}
 use Rattle.std.proofs.lemmas.Bool.{false≢true}
 use Rattle.knx_model.specs.declared.address.IndAddr.{IndAddr}
 use Rattle.knx_model.specs.declared.config.Image.{Image}
 use Rattle.knx_model.specs.declared.device.FrameSupport.{FrameSupport}
 use Rattle.knx_model.specs.declared.frames.cemi.Ldata.{Ldata}
 use Rattle.knx_model.specs.declared.connection.TransportFrame.{TransportFrame}
-use Rattle.knx_model.specs.declared.connection.TransportFrame.TheVariants.{Connect, Other}
+use Rattle.knx_model.specs.declared.connection.TransportFrame.TheVariants.{Other}
 use Rattle.knx_model.specs.declared.connection.ClientExpired.{ClientExpired}
 use Rattle.knx_model.specs.declared.connection.ClientExpired.TheVariants as over
-use Rattle.knx_model.specs.Connection.{frame_in, Session}
+use Rattle.knx_model.specs.Connection.{frame_in}
 use Rattle.knx_model.specs.ClientConnection.{ClientEnd, Asked, Up, Asking, Awaiting, Ended, awaits_nothing, client_sent, client_expired}
-use Rattle.knx_model.specs.Device.{NonVolatile, runs}
+use Rattle.knx_model.specs.Device.{NonVolatile}
 use Rattle.knx_model.specs.DeviceState.{DeviceState}
 use Rattle.knx_model.specs.DeviceFrames.{Outcome, Whole, took_of, is_taken}
 use Rattle.knx_model.specs.Plans.{Plan, Over, Asks as Operation}
@@ -19,7 +19,6 @@ use Rattle.session_law.specs.World.{Message, Con, Ind, World, fresh}
 use Rattle.session_law.specs.Client.{asks_so, waits_so, replies_so, takes_oldest}
 use Rattle.session_law.specs.Device.{took_alone, gets, carries, carries_lost, gets_again}
 use Rattle.session_law.specs.Events.{Event, Connects, Asks, Waits, Replies, Leaves, Takes, Loses, Joins, Drops, Bus, BusLost, BusAgain, Group, Elsewhere, DevSend, DevRepeat, DevClose, GwAgain, Cut, On as PowerOn, Pass, step, MayHappen, replay, IsLegal, AtEveryMoment}
-use Rattle.session_law.specs.Promises.{IsFirstOf}
 use Rattle.session_law.proofs.Arrivals.{Arrival, transport_if}
 use Rattle.session_law.proofs.Seen.{Seen}
 use Rattle.session_law.proofs.Taken.{seen_of, Got, GNot, GWhole, GTorn, HOpens, GotIs, got_mine, got_group, or_anew}
@@ -28,11 +27,11 @@ use Rattle.session_law.proofs.Invariant.{Side, InSession, LastIs, FlyIs, PhaseIs
 use Rattle.session_law.proofs.Sides.{fly_ready}
 use Rattle.session_law.proofs.Heard.{tail_same}
 use Rattle.session_law.proofs.Books.{Books, empty, asks_book, carries_book, again_book, gets_book, books_after, books}
-use Rattle.session_law.proofs.Steps.{items, FlyMine, WorldInv, step_kept, fly_small, ready_small, transport_alone, fresh_inv, always}
-use Rattle.load_law.specs.Download.{Went, MayAsk, Follows, IsDone, IsRight}
+use Rattle.session_law.proofs.Steps.{items, FlyMine, WorldInv, fly_small, ready_small, transport_alone, fresh_inv, always}
+use Rattle.load_law.specs.Download.{Went, MayAsk, Follows, IsRight}
 use Rattle.load_law.proofs.Answers.{Texts, want}
 use Rattle.load_law.proofs.Walked.{AllGoodFor, Trail, On, count, few, walked}
-use Rattle.load_law.proofs.Loads.{Spoiled, InStep, IsCase, Load, got_load, shut_load, spoke_load}
+use Rattle.load_law.proofs.Loads.{InStep, Load, got_load, shut_load, spoke_load}
 
 -- a frame that comes again opens only where nothing was delivered
 pub again_opens : (me : IndAddr) (outcome : Outcome) (s : TransportFrame) (o : Seen) (asked : Texts) (b taken : Bool) (n : Seen) → LastIs (Some s) asked o.delivered o.given → Got me outcome s o b taken n → b ≡ true → (o.delivered ≡ []) × (o.given ≡ [])

@@ -1,16 +1,15 @@
 -- Jobs whose plans are good: one good plan, and the loads and checks of an image.
-use Rattle.std.proofs.Common.{◌≡◌, ◌⊎◌, ℕ, List, [], ◌∷◌, ◌++◌, true, Option, Some, refl, sym, ◌∙◌, ap, subst, inl, inr}
+use Rattle.std.proofs.Common.{◌≡◌, ℕ, List, [], ◌∷◌, ◌++◌, true, Some, refl, sym, ◌∙◌, ap, subst, inl, inr}
 use Rattle.knx_model.specs.declared.address.IndAddr.{IndAddr}
 use Rattle.knx_model.specs.declared.config.Image.{Image}
-use Rattle.knx_model.specs.declared.device.FrameSupport.{FrameSupport}
 use Rattle.knx_model.specs.Device.{NonVolatile, Fits, HasCapacities, answer_in, effect_in, runs, whole}
 use Rattle.knx_model.specs.DeviceFrames.{Outcome, Whole}
 use Rattle.knx_model.specs.DeviceState.{DeviceState}
 use Rattle.knx_model.specs.GoodPlan.{Answering, WholeRun, AtEnd, Goes, GoodPlan, AnswersAll, IsSendable, kept_by}
 use Rattle.knx_model.specs.LoadPlan.{load_plan, check_plan}
-use Rattle.knx_model.specs.Plans.{Plan, Over, Asks as Operation, Suits}
+use Rattle.knx_model.specs.Plans.{Plan, Suits}
 use Rattle.knx_model.proofs.Leads.{Leads}
-use Rattle.session_law.specs.World.{World, fresh}
+use Rattle.session_law.specs.World.{fresh}
 use Rattle.session_law.specs.Events.{Event, replay, IsLegal, AtEveryMoment}
 use Rattle.download_plan.proofs.Plans.{plan_good, load_sendable, plan_answers, check_sendable, check_stays, check_runs, check_leads}
 use Rattle.load_law.specs.Download.{Follows, IsDone, IsRight, IsGood, AllGood, IsAmong, IsOnly, IsLoad, IsLoadOrCheck, AsksNothing}

@@ -1,5 +1,5 @@
 -- What the device keeps while a client goes through a plan: what happens to the device.
-use Rattle.std.proofs.Common.{◌≡◌, ℕ, suc, ◌+◌, ◌%◌, ◌≤◌, ◌⊎◌, List, [], ◌∷◌, length, Bool, true, false, Option, Some, None, refl, sym, ◌∙◌, ap, subst, arith, inl, inr}
+use Rattle.std.proofs.Common.{◌≡◌, ℕ, suc, ◌%◌, ◌⊎◌, List, [], ◌∷◌, length, Bool, true, false, Option, Some, None, refl, sym, ◌∙◌, ap, subst, arith, inl, inr}
 use Rattle.std.proofs.lemmas.Bool.{false≢true}
 use Rattle.knx_model.specs.declared.address.IndAddr.{IndAddr}
 use Rattle.knx_model.specs.declared.config.Image.{Image}
@@ -10,7 +10,7 @@ use Rattle.knx_model.specs.declared.connection.TransportFrame.TheVariants.{Numbe
 use Rattle.knx_model.specs.DeviceConnection.{DeviceEnd, Closed, Idle}
 use Rattle.knx_model.specs.Device.{NonVolatile, effect_in, answer_in}
 use Rattle.knx_model.specs.DeviceFrames.{Outcome, Whole, Torn, Worn, kept_after}
-use Rattle.knx_model.specs.GoodPlan.{kept_by, IsNotTorn}
+use Rattle.knx_model.specs.GoodPlan.{IsNotTorn}
 use Rattle.knx_model.specs.Plans.{Plan, Asks as Operation}
 use Rattle.session_law.proofs.Arrivals.{Arrival}
 use Rattle.session_law.proofs.Seen.{Seen, extra}

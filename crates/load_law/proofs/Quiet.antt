@@ -1,6 +1,5 @@
 -- From a done attempt on, what the device keeps stays until a service is sent.
 use Rattle.std.proofs.Common.{◌≡◌, ℕ, suc, ◌%◌, List, [], ◌∷◌, ◌++◌, length, Bool, true, false, cond, Option, Some, None, refl, sym, ◌∙◌, ap, subst, arith, inl, inr, if◌then◌else◌}
-use Rattle.std.proofs.lemmas.Bool.{false≢true}
 use Rattle.knx_model.specs.declared.address.IndAddr.{IndAddr}
 use Rattle.knx_model.specs.declared.config.Image.{Image}
 use Rattle.knx_model.specs.declared.frames.cemi.Ldata.{Ldata}
@@ -18,7 +17,7 @@ use Rattle.session_law.specs.World.{Message, Con, Ind, World, fresh}
 use Rattle.session_law.specs.Client.{waits_so, replies_so, takes_oldest}
 use Rattle.session_law.specs.Device.{gets, carries, carries_lost, gets_again}
 use Rattle.session_law.specs.Events.{Event, Connects, Asks, Waits, Replies, Leaves, Takes, Loses, Joins, Drops, Bus, BusLost, BusAgain, Group, Elsewhere, DevSend, DevRepeat, DevClose, GwAgain, Cut, On, Pass, step, MayHappen, replay, IsLegal}
-use Rattle.session_law.proofs.Arrivals.{Arrival, transport_if}
+use Rattle.session_law.proofs.Arrivals.{transport_if}
 use Rattle.session_law.proofs.Seen.{Seen}
 use Rattle.session_law.proofs.Taken.{seen_of, Hears, HOpens, HDelivers, HAnswers, HAgain, HSpeaks, HAcked, HCloses, Got, GNot, GWhole, GTorn, GotIs, got_mine, got_group}
 use Rattle.session_law.proofs.Spoken.{Shuts, ShSame, ShCloses, ShCut, LastMine, shut_seen, on_seen}
