@@ -109,7 +109,7 @@ pub load_right : (image : Image) (me : IndAddr) (d : DeviceState) (events : List
 load_right image me d events fits legal follows = plan_right (load_plan image) image me d events (plan_good image fits) (load_sendable image) legal follows
 
 pub load_ends : (image : Image) (me : IndAddr) (d : DeviceState) → Fits image → HasCapacities d.kept → d.power ≡ true → EndsDone (IsLoad image) (load_plan image) (fresh me d) (undisturbed (answer_in d.frames) (load_plan image) d.kept)
-load_ends image me d fits has power = ends (IsLoad image) (load_plan image) refl me d (load_sendable image) power (plan_answers image fits d.frames d.kept has) (load_fits d.frames image d.kept)
+load_ends image me d fits has power = ends (IsLoad image) (load_plan image) me d refl (load_sendable image) power (plan_answers image fits d.frames d.kept has) (load_fits d.frames image d.kept)
 
 -- the last of all moments
 last_moment : (P : List Event → Type 0) (events : List Event) → AtEveryMoment P events → P events
