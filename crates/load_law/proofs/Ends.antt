@@ -49,7 +49,7 @@ pub record EndsDone (IsJob : Plan → Type 0) (plan : Plan) (w : World) (events 
   pub follows : Follows IsJob w events
   pub done : IsDone plan (replay w events)
 
-then_done : (IsJob : Plan → Type 0) (plan : Plan) (w : World) (l k : List Event) → IsLegal w k → Follows IsJob w k → EndsDone IsJob plan (replay w k) l → EndsDone IsJob plan w (l ++ k)
+pub then_done : (IsJob : Plan → Type 0) (plan : Plan) (w : World) (l k : List Event) → IsLegal w k → Follows IsJob w k → EndsDone IsJob plan (replay w k) l → EndsDone IsJob plan w (l ++ k)
 then_done IsJob plan w l k legal f h = record { legal = legal_more w l k h.legal legal; follows = follows_more IsJob w l k h.follows f; done = subst (λ (x : World). IsDone plan x) (sym (replay_more w l k)) h.done }
 
 abbrev answers_of : DeviceState → NonVolatile → List ℕ → Option (List ℕ)

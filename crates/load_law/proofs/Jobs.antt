@@ -95,7 +95,7 @@ job_sendable : (image : Image) (plan : Plan) → IsLoadOrCheck image plan → Is
 job_sendable image plan (inl e) = subst IsSendable (sym e) (load_sendable image)
 job_sendable image plan (inr e) = subst IsSendable (sym e) (check_sendable image)
 
-jobs_good : (image : Image) → Fits image → AllGoodFor (IsLoadOrCheck image) HasCapacities image
+pub jobs_good : (image : Image) → Fits image → AllGoodFor (IsLoadOrCheck image) HasCapacities image
 jobs_good image fits = record { kept = has_kept; good = λ plan job. job_good image plan fits job; sendable = λ plan job. job_sendable image plan job }
 
 pub jobs_right : (image : Image) (me : IndAddr) (d : DeviceState) (events : List Event) → Fits image → HasCapacities d.kept → IsLegal (fresh me d) events → Follows (IsLoadOrCheck image) (fresh me d) events
