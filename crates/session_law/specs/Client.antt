@@ -99,7 +99,7 @@ owed_after heard.Acked owed = owed
 owed_after (heard.Answer apdu ack) owed = owed ++ ack ∷ []
 owed_after (heard.Again ack) owed = owed ++ ack ∷ []
 owed_after (heard.Nak nak) owed = owed ++ nak ∷ []
-owed_after (heard.Closed disconnect) owed = []
+owed_after (heard.Closed answer) owed = []
 
 abbrev pub and_answer : ClientTook → List (List ℕ) → List (List ℕ)
 and_answer (heard.Answer apdu ack) answers = apdu ∷ answers
