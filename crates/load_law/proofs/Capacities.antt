@@ -1,5 +1,5 @@
 -- Whatever is done to a device, each object's memory keeps its capacity.
-use Rattle.std.proofs.Common.{ℕ, ◌≡◌, ◌-◌, ◌≤◌, Bool, true, false, List, ◌++◌, length, length-append, length-drop, take, drop, replicate, Some, None, refl, sym, ap, subst, ◌∙◌, arith, if◌then◌else◌}
+use Rattle.std.proofs.Common.{ℕ, ◌≡◌, ◌-◌, ◌≤◌, Bool, true, false, List, ◌++◌, length, length-append, length-drop, take, drop, replicate, Some, None, refl, ◌∙◌, arith, if◌then◌else◌}
 use Rattle.std.proofs.lemmas.List.{length-replicate}
 use Rattle.std.proofs.lemmas.Grind.{common_steps}
 use Rattle.knx_model.specs.declared.loading.LoadState.TheVariants.{Loading, Error}
@@ -8,7 +8,7 @@ use Rattle.knx_model.specs.declared.loading.LoadEvent.TheVariants.{NoOperation, 
 use Rattle.knx_model.specs.declared.loading.LoadableObject.{LoadableObject}
 use Rattle.knx_model.specs.declared.loading.LoadableObject.TheVariants.{AddressTable, AssociationTable, GroupObjects, Application}
 use Rattle.knx_model.specs.Loading.{Loadable, capacity_of, with_state, with_memory, allocated, allocates, load_step, load_torn, old_or_new, takes_write, memory_written, memory_torn, overlaid}
-use Rattle.knx_model.specs.Device.{NonVolatile, Effect, Loads, Stores, Nothing, loadable, with_loadable, segment_base, object_at, at_address, whole, torn, effect_in, HasCapacities}
+use Rattle.knx_model.specs.Device.{NonVolatile, Effect, Loads, Stores, Nothing, loadable, with_loadable, segment_base, object_at, at_address, whole, torn, HasCapacities}
 use Rattle.knx_model.specs.DeviceFrames.{Outcome, Whole, Torn, Worn, kept_after}
 
 length-overlaid : (old : List ℕ) (at : ℕ) (octets : List ℕ) → length (overlaid old at octets) ≡ length old

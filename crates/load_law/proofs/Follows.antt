@@ -1,17 +1,17 @@
 -- Each event of a client that goes through a plan, and what this promises.
-use Rattle.std.proofs.Common.{◌≡◌, ℕ, suc, ◌+◌, ◌≤◌, List, [], ◌∷◌, ◌++◌, length, Bool, true, false, cond, Option, Some, None, refl, sym, ◌∙◌, ap, subst, arith, inl, inr}
+use Rattle.std.proofs.Common.{◌≡◌, ℕ, suc, ◌≤◌, List, [], ◌∷◌, length, Bool, true, false, cond, Option, Some, None, refl, sym, ◌∙◌, ap, subst, arith, inl, inr}
 use Rattle.std.proofs.lemmas.Bool.{false≢true}
 use Rattle.knx_model.specs.declared.address.IndAddr.{IndAddr}
 use Rattle.knx_model.specs.declared.config.Image.{Image}
 use Rattle.knx_model.specs.declared.device.FrameSupport.{FrameSupport}
 use Rattle.knx_model.specs.declared.frames.cemi.Ldata.{Ldata}
 use Rattle.knx_model.specs.declared.connection.TransportFrame.{TransportFrame}
-use Rattle.knx_model.specs.declared.connection.TransportFrame.TheVariants.{Connect, Other}
+use Rattle.knx_model.specs.declared.connection.TransportFrame.TheVariants.{Other}
 use Rattle.knx_model.specs.declared.connection.ClientExpired.{ClientExpired}
 use Rattle.knx_model.specs.declared.connection.ClientExpired.TheVariants as over
-use Rattle.knx_model.specs.Connection.{frame_in, Session}
+use Rattle.knx_model.specs.Connection.{frame_in}
 use Rattle.knx_model.specs.ClientConnection.{ClientEnd, Asked, Up, Asking, Awaiting, Ended, awaits_nothing, client_sent, client_expired}
-use Rattle.knx_model.specs.Device.{NonVolatile, runs}
+use Rattle.knx_model.specs.Device.{NonVolatile}
 use Rattle.knx_model.specs.DeviceState.{DeviceState}
 use Rattle.knx_model.specs.DeviceFrames.{Outcome, Whole, took_of, is_taken}
 use Rattle.knx_model.specs.Plans.{Plan, Over, Asks as Operation}
@@ -19,18 +19,19 @@ use Rattle.session_law.specs.World.{Message, Con, Ind, World, fresh}
 use Rattle.session_law.specs.Client.{asks_so, waits_so, replies_so, takes_oldest}
 use Rattle.session_law.specs.Device.{took_alone, gets, carries, carries_lost, gets_again}
 use Rattle.session_law.specs.Events.{Event, Connects, Asks, Waits, Replies, Leaves, Takes, Loses, Joins, Drops, Bus, BusLost, BusAgain, Group, Elsewhere, DevSend, DevRepeat, DevClose, GwAgain, Cut, On as PowerOn, Pass, step, MayHappen, replay, IsLegal, AtEveryMoment}
-use Rattle.session_law.specs.Promises.{IsFirstOf}
-use Rattle.session_law.proofs.Signs.{Sign, opt_sign}
+use Rattle.session_law.proofs.Arrivals.{Arrival, transport_if}
 use Rattle.session_law.proofs.Seen.{Seen}
-use Rattle.session_law.proofs.Device.{seen_of, Got, GNot, GWhole, GTorn, HOpens, GotIs, got_mine, got_group, LastMine, or_anew, pops_seen, repeats_seen, shut_seen, cut_is, on_seen}
-use Rattle.session_law.proofs.Session.{Side, Sess, LastIs, FlyIs, PhaseIs, fly_ready, tail_length}
+use Rattle.session_law.proofs.Taken.{seen_of, Got, GNot, GWhole, GTorn, HOpens, GotIs, got_mine, got_group, or_anew}
+use Rattle.session_law.proofs.Spoken.{LastMine, pops_seen, repeats_seen, shut_seen, cut_is, on_seen}
+use Rattle.session_law.proofs.Invariant.{Side, InSession, LastIs, FlyIs, PhaseIs, tail_length}
+use Rattle.session_law.proofs.Sides.{fly_ready}
 use Rattle.session_law.proofs.Heard.{tail_same}
 use Rattle.session_law.proofs.Books.{Books, empty, asks_book, carries_book, again_book, gets_book, books_after, books}
-use Rattle.session_law.proofs.Steps.{items, FlyMine, WorldInv, step_kept, fly_small, ready_small, sign_alone, fresh_inv, always}
-use Rattle.load_law.specs.Download.{Went, MayAsk, Follows, IsDone, IsRight}
+use Rattle.session_law.proofs.Steps.{items, FlyMine, WorldInv, fly_small, ready_small, transport_alone, fresh_inv, always}
+use Rattle.load_law.specs.Download.{Went, MayAsk, Follows, IsRight}
 use Rattle.load_law.proofs.Answers.{Texts, want}
 use Rattle.load_law.proofs.Walked.{AllGoodFor, Trail, On, count, few, walked}
-use Rattle.load_law.proofs.Loads.{Spoiled, InStep, IsCase, Load, got_load, shut_load, spoke_load}
+use Rattle.load_law.proofs.Loads.{InStep, Load, got_load, shut_load, spoke_load}
 
 -- a frame that comes again opens only where nothing was delivered
 pub again_opens : (me : IndAddr) (outcome : Outcome) (s : TransportFrame) (o : Seen) (asked : Texts) (b taken : Bool) (n : Seen) → LastIs (Some s) asked o.delivered o.given → Got me outcome s o b taken n → b ≡ true → (o.delivered ≡ []) × (o.given ≡ [])
@@ -57,8 +58,8 @@ module _ (IsJob : Plan → Type 0) (Holds : NonVolatile → Type 0) (image : Ima
   abbrev Loaded : Texts → Seen → Type 0
   Loaded = Load IsJob Holds image frames first good
 
-  session_over : (me : IndAddr) (asked : Texts) (fly : Option TransportFrame) (coming : List Sign) (owed : Texts) (number expected : ℕ) (sent accepted : Texts) (o : Seen) (plan rest : Plan) → IsJob plan → Side me asked fly o → Loaded asked o
-      → Sess asked fly coming owed false number expected sent accepted o → Went plan sent accepted rest → AllOver sent accepted asked o
+  session_over : (me : IndAddr) (asked : Texts) (fly : Option TransportFrame) (coming : List Arrival) (owed : Texts) (number expected : ℕ) (sent accepted : Texts) (o : Seen) (plan rest : Plan) → IsJob plan → Side me asked fly o → Loaded asked o
+      → InSession asked fly coming owed false number expected sent accepted o → Went plan sent accepted rest → AllOver sent accepted asked o
   session_over me asked fly coming owed number expected sent accepted o plan rest job side load ss went =
       let wait : length sent ≡ ss.done = ss.waiting in
       let told : ss.done ≤ length o.delivered = ss.told in
@@ -72,7 +73,7 @@ module _ (IsJob : Plan → Type 0) (Holds : NonVolatile → Type 0) (image : Ima
       record { sent_is = ss.same; delivered_is = same ∙ ss.same; given_is = sym (tail_same accepted o.given o.given ss.heard_is ([], refl) (omega arith)) }
 
   -- a client that awaits nothing
-  pub over_by : (me : IndAddr) (asked : Texts) (fly : Option TransportFrame) (coming : List Sign) (o : Seen) (end : ClientEnd) (joined pending : Bool) (owed sent accepted : Texts) (plan rest : Plan) → IsJob plan → Side me asked fly o → Loaded asked o
+  pub over_by : (me : IndAddr) (asked : Texts) (fly : Option TransportFrame) (coming : List Arrival) (o : Seen) (end : ClientEnd) (joined pending : Bool) (owed sent accepted : Texts) (plan rest : Plan) → IsJob plan → Side me asked fly o → Loaded asked o
       → PhaseIs end joined pending owed sent accepted asked fly coming o → awaits_nothing end ≡ true → Went plan sent accepted rest → AllOver sent accepted asked o
   over_by me asked fly coming o (Asked device) joined pending owed sent accepted plan rest job side load h up went = absurd (false≢true up)
   over_by me asked fly coming o (Up s) joined pending owed sent accepted plan rest job side load h up went = session_over me asked fly coming owed s.number s.expected sent accepted o plan rest job side load h.1 went
@@ -85,7 +86,7 @@ module _ (IsJob : Plan → Type 0) (Holds : NonVolatile → Type 0) (image : Ima
 
   pub over_at : (w : World) (b : Books) (plan rest : Plan) → IsJob plan → WorldInv w b → LoadInv w b → awaits_nothing w.client.end ≡ true → Went plan w.client.sent w.client.accepted rest → AllOver w.client.sent w.client.accepted b.asked (seen_of w.device b.delivered b.given)
   over_at w b plan rest job h l up went =
-      over_by w.me b.asked (opt_sign w.flying) (items w) (seen_of w.device b.delivered b.given) w.client.end w.client.joined w.client.pending w.client.owed w.client.sent w.client.accepted plan rest job h.inv.side l h.inv.phase up went
+      over_by w.me b.asked (transport_if w.flying) (items w) (seen_of w.device b.delivered b.given) w.client.end w.client.joined w.client.pending w.client.owed w.client.sent w.client.accepted plan rest job h.inv.side l h.inv.phase up went
 
   -- what it keeps is then what it kept after the last service
   latest_is : (asked : Texts) (o : Seen) (sent accepted : Texts) → AllOver sent accepted asked o → (l : Loaded asked o) → l.latest ≡ o.kept
@@ -151,9 +152,9 @@ module _ (IsJob : Plan → Type 0) (Holds : NonVolatile → Type 0) (image : Ima
       let mine : (frame.group ≡ false) × (frame.source ≡ w.me.raw) = subst (λ (z : Option Ldata). FlyMine w.me z) e h.flying in
       let o : Seen = seen_of w.device b.delivered b.given in
       let s : TransportFrame = frame_in frame.tpdu in
-      let at : opt_sign w.flying ≡ Some s = ap opt_sign e ∙ ap (λ (z : TransportFrame). Some z) (sign_alone frame mine.0) in
+      let at : transport_if w.flying ≡ Some s = ap transport_if e ∙ ap (λ (z : TransportFrame). Some z) (transport_alone frame mine.0) in
       let fly : FlyIs (Some s) b.asked = subst (λ (z : Option TransportFrame). FlyIs z b.asked) at h.inv.side.fly_is in
-      let got : GotIs w.me w.device frame w.now outcome b.delivered b.given s = got_mine w.me w.device frame w.now outcome b.delivered b.given mine.0 mine.1 (fly_small s b.asked fly) h.inv.side.conn in
+      let got : GotIs w.me w.device frame w.now outcome b.delivered b.given s = got_mine w.me w.device frame w.now outcome b.delivered b.given mine.0 mine.1 (fly_small s b.asked fly) h.inv.side.connection in
       let asked' : Texts = or_anew (took_alone w.device frame) b.asked in
       got_load IsJob Holds image frames first good w.me b.asked asked' s o _ got.0 (is_taken (took_of w.device frame)) (fly_ready s b.asked b.delivered h.inv.side.prefix h.inv.side.one fly)
       (anew_same got.0 b.asked asked' (got.2 b.asked)) (anew_step got.0 b.asked asked' (got.2 b.asked)) l got.1
@@ -165,7 +166,7 @@ module _ (IsJob : Plan → Type 0) (Holds : NonVolatile → Type 0) (image : Ima
   group_load : (w : World) (b : Books) (frame : Ldata) → frame.group ≡ true → WorldInv w b → LoadInv w b → LoadInv (gets w frame Whole) (gets_book w b frame Whole)
   group_load w b frame g h l =
       let o : Seen = seen_of w.device b.delivered b.given in
-      let got : GotIs w.me w.device frame w.now Whole b.delivered b.given Other = got_group w.me w.device frame w.now b.delivered b.given g h.inv.side.conn in
+      let got : GotIs w.me w.device frame w.now Whole b.delivered b.given Other = got_group w.me w.device frame w.now b.delivered b.given g h.inv.side.connection in
       got_load IsJob Holds image frames first good w.me b.asked b.asked Other o _ got.0 (is_taken (took_of w.device frame)) tt (λ z. refl) (λ z. absurd (opens_other w.me Whole o got.0 (is_taken (took_of w.device frame)) _ got.1 z)) l got.1
 
   again_load : (w : World) (b : Books) (r : Option Ldata) → w.device.last ≡ r → LastMine w.me r → WorldInv w b → LoadInv w b → LoadInv (gets_again w r) (again_book w b r)
@@ -174,9 +175,9 @@ module _ (IsJob : Plan → Type 0) (Holds : NonVolatile → Type 0) (image : Ima
   again_load w b (Some frame) e (inr mine) h l =
       let o : Seen = seen_of w.device b.delivered b.given in
       let s : TransportFrame = frame_in frame.tpdu in
-      let at : opt_sign w.device.last ≡ Some s = ap opt_sign e ∙ ap (λ (z : TransportFrame). Some z) (sign_alone frame mine.0) in
+      let at : transport_if w.device.last ≡ Some s = ap transport_if e ∙ ap (λ (z : TransportFrame). Some z) (transport_alone frame mine.0) in
       let last : LastIs (Some s) b.asked b.delivered b.given = subst (λ (z : Option TransportFrame). LastIs z b.asked b.delivered b.given) at h.inv.side.last_is in
-      let got : GotIs w.me w.device frame w.now Whole b.delivered b.given s = got_mine w.me w.device frame w.now Whole b.delivered b.given mine.0 mine.1 (ready_small s b.asked b.delivered last.0) h.inv.side.conn in
+      let got : GotIs w.me w.device frame w.now Whole b.delivered b.given s = got_mine w.me w.device frame w.now Whole b.delivered b.given mine.0 mine.1 (ready_small s b.asked b.delivered last.0) h.inv.side.connection in
       let opens : got.0 ≡ true → InStep IsJob b.asked [] [] = λ z.
       let none = again_opens w.me Whole s o b.asked got.0 (is_taken (took_of w.device frame)) _ last got.1 z in
       subst (λ (x : Texts). InStep IsJob b.asked x []) none.0 (subst (λ (y : Texts). InStep IsJob b.asked b.delivered y) none.1 l.in_step) in
@@ -198,7 +199,7 @@ module _ (IsJob : Plan → Type 0) (Holds : NonVolatile → Type 0) (image : Ima
   step_load w b (Group frame) may al h l = group_load w b frame may h l
   step_load w b Elsewhere may al h l = l
   step_load w b (DevSend gateway) may al h l = spoke_load IsJob Holds image frames first good w.me b.asked (seen_of w.device b.delivered b.given) _ _ l (pops_seen w.me w.device b.delivered b.given)
-  step_load w b (DevRepeat gateway) may al h l = spoke_load IsJob Holds image frames first good w.me b.asked (seen_of w.device b.delivered b.given) _ _ l (repeats_seen w.me w.device w.now b.delivered b.given may h.inv.side.conn)
+  step_load w b (DevRepeat gateway) may al h l = spoke_load IsJob Holds image frames first good w.me b.asked (seen_of w.device b.delivered b.given) _ _ l (repeats_seen w.me w.device w.now b.delivered b.given may h.inv.side.connection)
   step_load w b DevClose may al h l = shut_load IsJob Holds image frames first good b.asked (seen_of w.device b.delivered b.given) _ l (shut_seen w.device b.delivered b.given)
   step_load w b GwAgain may al h l = l
   step_load w b Cut may al h l = shut_load IsJob Holds image frames first good b.asked (seen_of w.device b.delivered b.given) _ l (cut_is w.device b.delivered b.given)

@@ -1,16 +1,15 @@
 -- Jobs whose plans are good: one good plan, and the loads and checks of an image.
-use Rattle.std.proofs.Common.{◌≡◌, ◌⊎◌, ℕ, List, [], ◌∷◌, ◌++◌, true, Option, Some, refl, sym, ◌∙◌, ap, subst, inl, inr}
+use Rattle.std.proofs.Common.{◌≡◌, ℕ, List, [], ◌∷◌, ◌++◌, true, Some, refl, sym, ◌∙◌, ap, subst, inl, inr}
 use Rattle.knx_model.specs.declared.address.IndAddr.{IndAddr}
 use Rattle.knx_model.specs.declared.config.Image.{Image}
-use Rattle.knx_model.specs.declared.device.FrameSupport.{FrameSupport}
 use Rattle.knx_model.specs.Device.{NonVolatile, Fits, HasCapacities, answer_in, effect_in, runs, whole}
 use Rattle.knx_model.specs.DeviceFrames.{Outcome, Whole}
 use Rattle.knx_model.specs.DeviceState.{DeviceState}
 use Rattle.knx_model.specs.GoodPlan.{Answering, WholeRun, AtEnd, Goes, GoodPlan, AnswersAll, IsSendable, kept_by}
 use Rattle.knx_model.specs.LoadPlan.{load_plan, check_plan}
-use Rattle.knx_model.specs.Plans.{Plan, Over, Asks as Operation, Suits}
+use Rattle.knx_model.specs.Plans.{Plan, Suits}
 use Rattle.knx_model.proofs.Leads.{Leads}
-use Rattle.session_law.specs.World.{World, fresh}
+use Rattle.session_law.specs.World.{fresh}
 use Rattle.session_law.specs.Events.{Event, replay, IsLegal, AtEveryMoment}
 use Rattle.download_plan.proofs.Plans.{plan_good, load_sendable, plan_answers, check_sendable, check_stays, check_runs, check_leads}
 use Rattle.load_law.specs.Download.{Follows, IsDone, IsRight, IsGood, AllGood, IsAmong, IsOnly, IsLoad, IsLoadOrCheck, AsksNothing}
@@ -96,7 +95,7 @@ job_sendable : (image : Image) (plan : Plan) → IsLoadOrCheck image plan → Is
 job_sendable image plan (inl e) = subst IsSendable (sym e) (load_sendable image)
 job_sendable image plan (inr e) = subst IsSendable (sym e) (check_sendable image)
 
-jobs_good : (image : Image) → Fits image → AllGoodFor (IsLoadOrCheck image) HasCapacities image
+pub jobs_good : (image : Image) → Fits image → AllGoodFor (IsLoadOrCheck image) HasCapacities image
 jobs_good image fits = record { kept = has_kept; good = λ plan job. job_good image plan fits job; sendable = λ plan job. job_sendable image plan job }
 
 pub jobs_right : (image : Image) (me : IndAddr) (d : DeviceState) (events : List Event) → Fits image → HasCapacities d.kept → IsLegal (fresh me d) events → Follows (IsLoadOrCheck image) (fresh me d) events
@@ -110,7 +109,7 @@ pub load_right : (image : Image) (me : IndAddr) (d : DeviceState) (events : List
 load_right image me d events fits legal follows = plan_right (load_plan image) image me d events (plan_good image fits) (load_sendable image) legal follows
 
 pub load_ends : (image : Image) (me : IndAddr) (d : DeviceState) → Fits image → HasCapacities d.kept → d.power ≡ true → EndsDone (IsLoad image) (load_plan image) (fresh me d) (undisturbed (answer_in d.frames) (load_plan image) d.kept)
-load_ends image me d fits has power = ends (IsLoad image) (load_plan image) refl me d (load_sendable image) power (plan_answers image fits d.frames d.kept has) (load_fits d.frames image d.kept)
+load_ends image me d fits has power = ends (IsLoad image) (load_plan image) me d refl (load_sendable image) power (plan_answers image fits d.frames d.kept has) (load_fits d.frames image d.kept)
 
 -- the last of all moments
 last_moment : (P : List Event → Type 0) (events : List Event) → AtEveryMoment P events → P events

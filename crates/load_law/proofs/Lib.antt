@@ -8,3 +8,4 @@ mod Calm
 mod Ends
 mod Capacities
 mod Jobs
+mod Always

@@ -1,5 +1,5 @@
 -- What the device keeps while a client goes through a plan: what happens to the device.
-use Rattle.std.proofs.Common.{◌≡◌, ℕ, suc, ◌+◌, ◌%◌, ◌≤◌, ◌⊎◌, List, [], ◌∷◌, length, Bool, true, false, Option, Some, None, refl, sym, ◌∙◌, ap, subst, arith, inl, inr}
+use Rattle.std.proofs.Common.{◌≡◌, ℕ, suc, ◌%◌, ◌⊎◌, List, [], ◌∷◌, length, Bool, true, false, Option, Some, None, refl, sym, ◌∙◌, ap, subst, arith, inl, inr}
 use Rattle.std.proofs.lemmas.Bool.{false≢true}
 use Rattle.knx_model.specs.declared.address.IndAddr.{IndAddr}
 use Rattle.knx_model.specs.declared.config.Image.{Image}
@@ -10,19 +10,21 @@ use Rattle.knx_model.specs.declared.connection.TransportFrame.TheVariants.{Numbe
 use Rattle.knx_model.specs.DeviceConnection.{DeviceEnd, Closed, Idle}
 use Rattle.knx_model.specs.Device.{NonVolatile, effect_in, answer_in}
 use Rattle.knx_model.specs.DeviceFrames.{Outcome, Whole, Torn, Worn, kept_after}
-use Rattle.knx_model.specs.GoodPlan.{kept_by, IsNotTorn}
+use Rattle.knx_model.specs.GoodPlan.{IsNotTorn}
 use Rattle.knx_model.specs.Plans.{Plan, Asks as Operation}
-use Rattle.session_law.proofs.Signs.{Sign}
+use Rattle.session_law.proofs.Arrivals.{Arrival}
 use Rattle.session_law.proofs.Seen.{Seen, extra}
-use Rattle.session_law.proofs.Device.{is_torn, and_octets, Hears, HOpens, HDelivers, HAnswers, HAgain, HSpeaks, HAcked, HCloses, Got, GNot, GWhole, GTorn, torn_seen, Speaks, SShift, SAgain, SNothing, Shuts, ShSame, ShCloses, ShCut}
-use Rattle.session_law.proofs.Session.{Ready, next_one, ready_numbered}
+use Rattle.session_law.proofs.Taken.{is_torn, and_octets, Hears, HOpens, HDelivers, HAnswers, HAgain, HSpeaks, HAcked, HCloses, Got, GNot, GWhole, GTorn, torn_seen}
+use Rattle.session_law.proofs.Spoken.{Speaks, SShift, SAgain, SNothing, Shuts, ShSame, ShCloses, ShCut}
+use Rattle.session_law.proofs.Invariant.{Ready}
+use Rattle.session_law.proofs.Sides.{next_one, ready_numbered}
 use Rattle.load_law.specs.Download.{Went}
 use Rattle.load_law.proofs.Answers.{Texts}
 use Rattle.load_law.proofs.Walked.{AllGoodFor, Trail, Case, On, walked}
 
 -- a power cut tore the next one
 abbrev pub Spoiled : Texts → Texts → DeviceEnd → Type 0
-Spoiled asked delivered conn = (length asked ≡ suc (length delivered)) × (conn ≡ Closed)
+Spoiled asked delivered connection = (length asked ≡ suc (length delivered)) × (connection ≡ Closed)
 
 whole_not_torn : (outcome : Outcome) → is_torn outcome ≡ false → IsNotTorn outcome
 whole_not_torn Whole h = tt
@@ -56,7 +58,7 @@ module _ (IsJob : Plan → Type 0) (Holds : NonVolatile → Type 0) (image : Ima
     pub began : IsCase start
     pub held : Holds start
     pub trail : Trail frames start o.delivered o.given latest
-    pub reached : (latest ≡ o.kept) ⊎ Spoiled asked o.delivered o.conn
+    pub reached : (latest ≡ o.kept) ⊎ Spoiled asked o.delivered o.connection
 
   -- the next operation leads on from what the device keeps
   pub record Next (apdu : List ℕ) (kept : NonVolatile) : Type 0 where
@@ -64,10 +66,10 @@ module _ (IsJob : Plan → Type 0) (Holds : NonVolatile → Type 0) (image : Ima
     pub next : Option (List ℕ) → Plan
     pub on : On image frames first (Operation apdu expect next) kept
 
-  not_closed : (o : Seen) → extra o.conn ≡ 0 → o.conn ≡ Closed → ⊥
-  not_closed o ex e = let h : extra o.conn ≡ 1 = ap extra e in omega arith
+  not_closed : (o : Seen) → extra o.connection ≡ 0 → o.connection ≡ Closed → ⊥
+  not_closed o ex e = let h : extra o.connection ≡ 1 = ap extra e in omega arith
 
-  latest_kept : (asked : Texts) (o : Seen) → extra o.conn ≡ 0 → (h : Load asked o) → h.latest ≡ o.kept
+  latest_kept : (asked : Texts) (o : Seen) → extra o.connection ≡ 0 → (h : Load asked o) → h.latest ≡ o.kept
   latest_kept asked o ex h = elim h.reached [ inl e ↦ e | inr s ↦ absurd (not_closed o ex s.1) ]
 
   next_by : (asked : Texts) (apdu : List ℕ) (delivered given : Texts) (start kept : NonVolatile) → asked ≡ apdu ∷ delivered → InStep IsJob asked delivered given → IsCase start → Holds start → Trail frames start delivered given kept → Next apdu kept
@@ -77,7 +79,7 @@ module _ (IsJob : Plan → Type 0) (Holds : NonVolatile → Type 0) (image : Ima
       record { expect = s.0.expect; next = s.0.next; on = walked image frames first Holds s.0.plan (all.good s.0.plan s.0.job) (all.sendable s.0.plan s.0.job) (Operation apdu s.0.expect s.0.next) delivered s.0.accepted start kept case held s.0.went (subst (λ (z : Texts). Trail frames start delivered z kept) same t) }
 
   -- the service that is delivered is the next operation
-  delivers : (asked : Texts) (s : TransportFrame) (o : Seen) (apdu : List ℕ) → Ready s asked o.delivered → Load asked o → extra o.conn ≡ 0 → s ≡ Numbered (length o.delivered % 16) apdu → (asked ≡ apdu ∷ o.delivered) × Next apdu o.kept
+  delivers : (asked : Texts) (s : TransportFrame) (o : Seen) (apdu : List ℕ) → Ready s asked o.delivered → Load asked o → extra o.connection ≡ 0 → s ≡ Numbered (length o.delivered % 16) apdu → (asked ≡ apdu ∷ o.delivered) × Next apdu o.kept
   delivers asked s o apdu r h ex se =
       let e : asked ≡ apdu ∷ o.delivered = next_one asked o.delivered apdu (ready_numbered s _ apdu asked o.delivered se r) in
       let t : Trail frames h.start o.delivered o.given o.kept = subst (λ (z : NonVolatile). Trail frames h.start o.delivered o.given z) (latest_kept asked o ex h) h.trail in
@@ -92,12 +94,12 @@ module _ (IsJob : Plan → Type 0) (Holds : NonVolatile → Type 0) (image : Ima
       let s : InStep IsJob (apdu ∷ delivered) delivered given = subst (λ (z : Texts). InStep IsJob z delivered given) e step in
       subst (λ (z : Texts). InStep IsJob z (apdu ∷ delivered) given') (sym e) (s.0, λ len. absurd (omega (arith, len)))
 
-  same_reached : (latest kept : NonVolatile) (asked : Texts) (o : Seen) (conn : DeviceEnd) → (o.conn ≡ Closed → conn ≡ Closed) → (latest ≡ kept) ⊎ Spoiled asked o.delivered o.conn → (latest ≡ kept) ⊎ Spoiled asked o.delivered conn
-  same_reached latest kept asked o conn st (inl w) = inl w
-  same_reached latest kept asked o conn st (inr s) = inr (s.0, st s.1)
+  same_reached : (latest kept : NonVolatile) (asked : Texts) (o : Seen) (connection : DeviceEnd) → (o.connection ≡ Closed → connection ≡ Closed) → (latest ≡ kept) ⊎ Spoiled asked o.delivered o.connection → (latest ≡ kept) ⊎ Spoiled asked o.delivered connection
+  same_reached latest kept asked o connection st (inl w) = inl w
+  same_reached latest kept asked o connection st (inr s) = inr (s.0, st s.1)
 
   -- it takes one more
-  takes_one : (outcome : Outcome) (asked : Texts) (s : TransportFrame) (o n : Seen) (apdu : List ℕ) (a : Option (List ℕ)) → is_torn outcome ≡ false → Ready s asked o.delivered → Load asked o → extra o.conn ≡ 0 → s ≡ Numbered (length o.delivered % 16) apdu
+  takes_one : (outcome : Outcome) (asked : Texts) (s : TransportFrame) (o n : Seen) (apdu : List ℕ) (a : Option (List ℕ)) → is_torn outcome ≡ false → Ready s asked o.delivered → Load asked o → extra o.connection ≡ 0 → s ≡ Numbered (length o.delivered % 16) apdu
       → answer_in o.frames o.kept apdu ≡ a → n.frames ≡ o.frames → n.delivered ≡ apdu ∷ o.delivered → n.given ≡ and_octets a o.given → n.kept ≡ kept_after o.kept (effect_in apdu) outcome → Load asked n
   takes_one outcome asked s o n apdu a wh r h ex se ai fe de ge ke =
       let d = delivers asked s o apdu r h ex se in
@@ -133,14 +135,14 @@ module _ (IsJob : Plan → Type 0) (Holds : NonVolatile → Type 0) (image : Ima
       record { same_frames = h.same_frames; case = h.case; holds = h.holds; in_step = h.in_step; start = h.start; latest = h.latest; began = h.began; held = h.held; trail = h.trail; reached = same_reached h.latest o.kept asked o Closed (λ z. refl) h.reached }
 
   -- a power cut tears it
-  torn_one : (outcome : Outcome) (asked : Texts) (s : TransportFrame) (o : Seen) (fs : FrameSupport) (apdu : List ℕ) → fs ≡ o.frames → Ready s asked o.delivered → Load asked o → extra o.conn ≡ 0 → s ≡ Numbered (length o.delivered % 16) apdu
-      → Load asked (record { frames = fs; conn = Closed; us = []; last = None; delivered = o.delivered; given = o.given; kept = kept_after o.kept (effect_in apdu) outcome })
+  torn_one : (outcome : Outcome) (asked : Texts) (s : TransportFrame) (o : Seen) (fs : FrameSupport) (apdu : List ℕ) → fs ≡ o.frames → Ready s asked o.delivered → Load asked o → extra o.connection ≡ 0 → s ≡ Numbered (length o.delivered % 16) apdu
+      → Load asked (record { frames = fs; connection = Closed; unsent = []; last = None; delivered = o.delivered; given = o.given; kept = kept_after o.kept (effect_in apdu) outcome })
   torn_one outcome asked s o fs apdu fe r h ex se =
       let d = delivers asked s o apdu r h ex se in
       record { same_frames = fe ∙ h.same_frames; case = taken_case apdu o.kept outcome d.1; holds = all.kept o.kept apdu outcome h.holds; in_step = h.in_step; start = h.start; latest = h.latest; began = h.began; held = h.held; trail = h.trail; reached = inr (ap (λ (z : Texts). length z) d.0, refl) }
 
-  closes : (asked : Texts) (o : Seen) (us : List Sign) (last : Option TransportFrame) → Load asked o → Load asked (record { frames = o.frames; conn = Closed; us = us; last = last; delivered = o.delivered; given = o.given; kept = o.kept })
-  closes asked o us last h =
+  closes : (asked : Texts) (o : Seen) (unsent : List Arrival) (last : Option TransportFrame) → Load asked o → Load asked (record { frames = o.frames; connection = Closed; unsent = unsent; last = last; delivered = o.delivered; given = o.given; kept = o.kept })
+  closes asked o unsent last h =
       record { same_frames = h.same_frames; case = h.case; holds = h.holds; in_step = h.in_step; start = h.start; latest = h.latest; began = h.began; held = h.held; trail = h.trail; reached = same_reached h.latest o.kept asked o Closed (λ z. refl) h.reached }
 
   pub torn_load : {outcome : Outcome} → (me : IndAddr) (asked : Texts) (s : TransportFrame) (o n : Seen) → Ready s asked o.delivered → Load asked o → Hears me outcome s o false n → Load asked (torn_seen false o n)
@@ -171,7 +173,7 @@ module _ (IsJob : Plan → Type 0) (Holds : NonVolatile → Type 0) (image : Ima
   shut_load asked o n h (ShCloses k l pl le) = closes asked o l o.last h
   shut_load asked o n h ShCut = closes asked o [] None h
 
-  pub spoke_load : (me : IndAddr) (asked : Texts) (o n : Seen) (k : List Sign) → Load asked o → Speaks me o n k → Load asked n
+  pub spoke_load : (me : IndAddr) (asked : Texts) (o n : Seen) (k : List Arrival) → Load asked o → Speaks me o n k → Load asked n
   spoke_load me asked o n k h (SShift x rest q e) = record { same_frames = h.same_frames; case = h.case; holds = h.holds; in_step = h.in_step; start = h.start; latest = h.latest; began = h.began; held = h.held; trail = h.trail; reached = h.reached }
   spoke_load me asked o n k h (SAgain c v older bare ge ex ci st) =
       record { same_frames = h.same_frames; case = h.case; holds = h.holds; in_step = h.in_step; start = h.start; latest = h.latest; began = h.began; held = h.held; trail = h.trail; reached = same_reached h.latest o.kept asked o c st h.reached }

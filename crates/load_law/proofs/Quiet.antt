@@ -1,6 +1,5 @@
 -- From a done attempt on, what the device keeps stays until a service is sent.
 use Rattle.std.proofs.Common.{◌≡◌, ℕ, suc, ◌%◌, List, [], ◌∷◌, ◌++◌, length, Bool, true, false, cond, Option, Some, None, refl, sym, ◌∙◌, ap, subst, arith, inl, inr, if◌then◌else◌}
-use Rattle.std.proofs.lemmas.Bool.{false≢true}
 use Rattle.knx_model.specs.declared.address.IndAddr.{IndAddr}
 use Rattle.knx_model.specs.declared.config.Image.{Image}
 use Rattle.knx_model.specs.declared.frames.cemi.Ldata.{Ldata}
@@ -18,12 +17,14 @@ use Rattle.session_law.specs.World.{Message, Con, Ind, World, fresh}
 use Rattle.session_law.specs.Client.{waits_so, replies_so, takes_oldest}
 use Rattle.session_law.specs.Device.{gets, carries, carries_lost, gets_again}
 use Rattle.session_law.specs.Events.{Event, Connects, Asks, Waits, Replies, Leaves, Takes, Loses, Joins, Drops, Bus, BusLost, BusAgain, Group, Elsewhere, DevSend, DevRepeat, DevClose, GwAgain, Cut, On, Pass, step, MayHappen, replay, IsLegal}
-use Rattle.session_law.proofs.Signs.{Sign, opt_sign}
+use Rattle.session_law.proofs.Arrivals.{transport_if}
 use Rattle.session_law.proofs.Seen.{Seen}
-use Rattle.session_law.proofs.Device.{seen_of, Hears, HOpens, HDelivers, HAnswers, HAgain, HSpeaks, HAcked, HCloses, Got, GNot, GWhole, GTorn, Shuts, ShSame, ShCloses, ShCut, GotIs, got_mine, got_group, LastMine, shut_seen, on_seen}
-use Rattle.session_law.proofs.Session.{LastIs, Ready, FlyIs, fly_ready, next_one, ready_numbered}
+use Rattle.session_law.proofs.Taken.{seen_of, Hears, HOpens, HDelivers, HAnswers, HAgain, HSpeaks, HAcked, HCloses, Got, GNot, GWhole, GTorn, GotIs, got_mine, got_group}
+use Rattle.session_law.proofs.Spoken.{Shuts, ShSame, ShCloses, ShCut, LastMine, shut_seen, on_seen}
+use Rattle.session_law.proofs.Invariant.{LastIs, Ready, FlyIs}
+use Rattle.session_law.proofs.Sides.{fly_ready, next_one, ready_numbered}
 use Rattle.session_law.proofs.Books.{Books, empty, carries_book, gets_book, again_book, books_after, books}
-use Rattle.session_law.proofs.Steps.{FlyMine, WorldInv, fly_small, ready_small, sign_alone, fresh_inv, always}
+use Rattle.session_law.proofs.Steps.{FlyMine, WorldInv, fly_small, ready_small, transport_alone, fresh_inv, always}
 use Rattle.load_law.specs.Download.{Follows, IsDone, IsSilent, AsksNothing}
 use Rattle.load_law.proofs.Answers.{Texts}
 use Rattle.load_law.proofs.Walked.{AllGoodFor}
@@ -92,9 +93,9 @@ bus_quiet w b (Some frame) outcome e h q =
     let mine : (frame.group ≡ false) × (frame.source ≡ w.me.raw) = subst (λ (z : Option Ldata). FlyMine w.me z) e h.flying in
     let o : Seen = seen_of w.device b.delivered b.given in
     let s : TransportFrame = frame_in frame.tpdu in
-    let at : opt_sign w.flying ≡ Some s = ap opt_sign e ∙ ap (λ (z : TransportFrame). Some z) (sign_alone frame mine.0) in
+    let at : transport_if w.flying ≡ Some s = ap transport_if e ∙ ap (λ (z : TransportFrame). Some z) (transport_alone frame mine.0) in
     let fly : FlyIs (Some s) b.asked = subst (λ (z : Option TransportFrame). FlyIs z b.asked) at h.inv.side.fly_is in
-    let got : GotIs w.me w.device frame w.now outcome b.delivered b.given s = got_mine w.me w.device frame w.now outcome b.delivered b.given mine.0 mine.1 (fly_small s b.asked fly) h.inv.side.conn in
+    let got : GotIs w.me w.device frame w.now outcome b.delivered b.given s = got_mine w.me w.device frame w.now outcome b.delivered b.given mine.0 mine.1 (fly_small s b.asked fly) h.inv.side.connection in
     let t = still_got w.me b.asked s o (fly_ready s b.asked b.delivered h.inv.side.prefix h.inv.side.one fly) q got.0 (is_taken (took_of w.device frame)) _ got.1 in
     record { quiet = got.2 b.asked ∙ both_anew got.0 b.asked b.delivered q ∙ sym t.ds; kept = t.kept }
 
@@ -110,7 +111,7 @@ opened_none false ds n e f = sym e
 group_quiet : (w : World) (b : Books) (frame : Ldata) → frame.group ≡ true → WorldInv w b → IsQuiet b → Quiet w (gets w frame Whole) (gets_book w b frame Whole)
 group_quiet w b frame g h q =
     let o : Seen = seen_of w.device b.delivered b.given in
-    let got : GotIs w.me w.device frame w.now Whole b.delivered b.given Other = got_group w.me w.device frame w.now b.delivered b.given g h.inv.side.conn in
+    let got : GotIs w.me w.device frame w.now Whole b.delivered b.given Other = got_group w.me w.device frame w.now b.delivered b.given g h.inv.side.connection in
     let t = still_got w.me b.asked Other o tt q got.0 (is_taken (took_of w.device frame)) _ got.1 in
     record { quiet = q ∙ opened_none got.0 b.delivered _ t.ds (λ z. absurd (opens_other w.me Whole o got.0 _ _ got.1 z)); kept = t.kept }
 
@@ -120,9 +121,9 @@ again_quiet w b (Some frame) e (inl g) h q = group_quiet w b frame g h q
 again_quiet w b (Some frame) e (inr mine) h q =
     let o : Seen = seen_of w.device b.delivered b.given in
     let s : TransportFrame = frame_in frame.tpdu in
-    let at : opt_sign w.device.last ≡ Some s = ap opt_sign e ∙ ap (λ (z : TransportFrame). Some z) (sign_alone frame mine.0) in
+    let at : transport_if w.device.last ≡ Some s = ap transport_if e ∙ ap (λ (z : TransportFrame). Some z) (transport_alone frame mine.0) in
     let last : LastIs (Some s) b.asked b.delivered b.given = subst (λ (z : Option TransportFrame). LastIs z b.asked b.delivered b.given) at h.inv.side.last_is in
-    let got : GotIs w.me w.device frame w.now Whole b.delivered b.given s = got_mine w.me w.device frame w.now Whole b.delivered b.given mine.0 mine.1 (ready_small s b.asked b.delivered last.0) h.inv.side.conn in
+    let got : GotIs w.me w.device frame w.now Whole b.delivered b.given s = got_mine w.me w.device frame w.now Whole b.delivered b.given mine.0 mine.1 (ready_small s b.asked b.delivered last.0) h.inv.side.connection in
     let t = still_got w.me b.asked s o last.0 q got.0 (is_taken (took_of w.device frame)) _ got.1 in
     record { quiet = q ∙ opened_none got.0 b.delivered _ t.ds (λ z. (again_opens w.me Whole s o b.asked got.0 (is_taken (took_of w.device frame)) _ last got.1 z).0); kept = t.kept }
 

@@ -1,5 +1,5 @@
 -- The services of a load plan fit into the frames that the device takes.
-use Rattle.std.proofs.Common.{◌≡◌, ℕ, zero, suc, ◌+◌, ◌≤◌, List, [], ◌∷◌, ◌++◌, length, map, Option, Some, None, refl, sym, ap, subst, arith}
+use Rattle.std.proofs.Common.{◌≡◌, ℕ, zero, suc, ◌+◌, ◌≤◌, List, [], ◌∷◌, ◌++◌, length, map, refl, sym, subst, arith}
 use Rattle.std.specs.List.{AllByRecursion, range_with_len}
 use Rattle.knx_model.specs.declared.config.Image.{Image}
 use Rattle.knx_model.specs.declared.device.FrameSupport.{FrameSupport}
@@ -12,13 +12,12 @@ use Rattle.knx_model.specs.declared.loading.LoadEvent.TheVariants.{StartLoading,
 use Rattle.knx_model.specs.declared.loading.LoadableObject.{LoadableObject}
 use Rattle.knx_model.specs.declared.loading.LoadableObject.TheVariants.{AddressTable, AssociationTable, GroupObjects, Application}
 use Rattle.knx_model.specs.declared.plan.PieceSize.{PieceSize}
-use Rattle.knx_model.specs.declared.plan.PieceSize.TheVariants.{Twelve, Sixty}
+use Rattle.knx_model.specs.declared.plan.PieceSize.TheVariants.{Twelve}
 use Rattle.knx_model.specs.ApduReading.{apdu_in, tpdu_in, service_in, apdu_octets}
 use Rattle.knx_model.specs.Device.{NonVolatile, answer_in, whole, effect_in}
 use Rattle.knx_model.specs.GoodPlan.{Answering, services_given}
 use Rattle.knx_model.specs.LoadPlan.{list_of, each_object, size_by, noting, load_operations, load_plan}
-use Rattle.knx_model.specs.Operations.{Operation, listed, event_then, reads_base, piece_count, piece, writes_piece, reads_piece, each_piece, filling, loading}
-use Rattle.knx_model.specs.Plans.{Plan, Over, Asks}
+use Rattle.knx_model.specs.Operations.{Operation, listed, event_then, piece_count, piece, writes_piece, reads_piece, each_piece, filling, loading}
 use Rattle.download_plan.proofs.Steps.{length_load}
 use Rattle.download_plan.proofs.Pieces.{piece_few}
 use Rattle.load_law.specs.Undisturbed.{FitsInto, AllFit}

@@ -1,6 +1,5 @@
 -- What a device keeps leads on, after it took and answered the services of a plan as far as a client went through it.
-use Rattle.std.proofs.Common.{◌≡◌, ℕ, suc, ◌+◌, ◌≤◌, ◌⊎◌, List, [], ◌∷◌, length, Bool, true, false, Option, Some, None, refl, sym, ◌∙◌, ap, subst, arith, inl, inr}
-use Rattle.std.proofs.lemmas.Bool.{false≢true}
+use Rattle.std.proofs.Common.{◌≡◌, ℕ, suc, ◌≤◌, List, [], ◌∷◌, length, true, Option, Some, None, refl, sym, ◌∙◌, ap, subst, arith, inl, inr}
 use Rattle.knx_model.specs.declared.config.Image.{Image}
 use Rattle.knx_model.specs.declared.device.FrameSupport.{FrameSupport}
 use Rattle.knx_model.specs.declared.plan.Expect.{Expect}
@@ -9,9 +8,9 @@ use Rattle.knx_model.specs.ClientConnection.{has_answer}
 use Rattle.knx_model.specs.Device.{NonVolatile, runs, answer_in}
 use Rattle.knx_model.specs.DeviceFrames.{Outcome}
 use Rattle.knx_model.specs.GoodPlan.{Beginning, WholeRun, kept_by, IsNotTorn, OldStoppedOrImage, IsSendable, awaits_answer}
-use Rattle.knx_model.specs.Plans.{Plan, Over, Asks as Operation, Suits}
+use Rattle.knx_model.specs.Plans.{Plan, Asks as Operation, Suits}
 use Rattle.knx_model.proofs.Leads.{Leads, Leads-by_runs, Leads-weaker}
-use Rattle.session_law.proofs.Device.{and_octets}
+use Rattle.session_law.proofs.Taken.{and_octets}
 use Rattle.load_law.specs.Download.{Went, NotBegun, Acknowledged, Answered}
 use Rattle.load_law.proofs.Answers.{Texts, no_answer, one_if, want, want_more}
 

@@ -1,6 +1,6 @@
 -- A client that goes through the plan of one of its jobs in each session, and what this promises of the device. Histories have their newest element
 -- first.
-use Rattle.std.specs.Prelude.{◌≡◌, ◌⊎◌, ℕ, Bool, true, List, [], ◌∷◌, Option, Some, None}
+use Rattle.std.specs.Prelude.{◌≡◌, ◌⊎◌, ℕ, true, List, [], ◌∷◌, Option, Some, None}
 use Rattle.std.specs.List.{AllByRecursion}
 use Rattle.knx_model.specs.declared.config.Image.{Image}
 use Rattle.knx_model.specs.declared.device.FrameSupport.{FrameSupport}
@@ -12,7 +12,7 @@ use Rattle.knx_model.specs.GoodPlan.{Beginning, WholeRun, OldStoppedOrImage, IsS
 use Rattle.knx_model.specs.LoadPlan.{load_plan, check_plan}
 use Rattle.knx_model.specs.Plans.{Plan, Over, Asks as Operation, Suits}
 use Rattle.session_law.specs.World.{World}
-use Rattle.session_law.specs.Events.{Event, Asks, replay}
+use Rattle.session_law.specs.Events.{Event, Asks, replay, IsLegal}
 
 -- The services that were sent are operations of the plan, each was answered as wanted, and this is left of the plan.
 pub data Went (plan : Plan) : List (List ℕ) → List (List ℕ) → Plan → Type 0 where
@@ -41,6 +41,13 @@ Follows IsJob start (e ∷ events) = MayAsk IsJob (replay start events) e × Fol
 pub record IsDone (plan : Plan) (w : World) : Type 0 where
   pub over : awaits_nothing w.client.end ≡ true
   pub all : Went plan w.client.sent w.client.accepted Over
+
+-- some events, in which the client goes through the jobs' plans, lead to a done attempt of this plan
+pub record CanEndDone (IsJob : Plan → Type 0) (plan : Plan) (w : World) : Type 0 where
+  pub events : List Event
+  pub legal : IsLegal w events
+  pub follows : Follows IsJob w events
+  pub done : IsDone plan (replay w events)
 
 -- what the device keeps is as it was, or it is stopped, or it runs the image; and where an attempt of a job is done it runs the image
 pub record IsRight (IsJob : Plan → Type 0) (image : Image) (first : NonVolatile) (w : World) : Type 0 where

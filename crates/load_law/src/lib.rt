@@ -12,7 +12,7 @@ ghost use Rattle.knx_model.specs.LoadPlan.{load_plan};
 ghost use Rattle.knx_model.specs.Plans.{Plan};
 ghost use Rattle.session_law.specs.World.{fresh};
 ghost use Rattle.session_law.specs.Events.{Event, replay, IsLegal, AtEveryMoment};
-ghost use Rattle.load_law.specs.Download.{Follows, IsRight, IsDone, AllGood, IsAmong, IsOnly, IsLoad, IsLoadOrCheck, AsksNothing};
+ghost use Rattle.load_law.specs.Download.{Follows, IsRight, IsDone, CanEndDone, AllGood, IsAmong, IsOnly, IsLoad, IsLoadOrCheck, AsksNothing};
 ghost use Rattle.load_law.specs.Undisturbed.{undisturbed, AllFit};
 
 /// While the client goes through good plans, the device is at every moment as it was, or stopped, or runs the image, whatever is lost, repeated, cut,
@@ -52,10 +52,12 @@ pub fn each_load_is_right()
 {}
 
 /// And whatever a device with power and memory holds, and whichever frames it takes, a load that nothing disturbs ends done, and the device runs the
-/// image.
+/// image. So at every moment of every run, whatever was lost, cut or torn before, a load can still end done.
 pub fn each_load_can_end_done()
     ensures legal { (image : Image) (me : Address) (d : DeviceState) → Fits image → HasCapacities d.kept → d.power ≡ true → IsLegal (fresh me d) (undisturbed (answer_in d.frames) (load_plan image) d.kept) }
     ensures follows { (image : Image) (me : Address) (d : DeviceState) → Fits image → HasCapacities d.kept → d.power ≡ true → Follows (IsLoad image) (fresh me d) (undisturbed (answer_in d.frames) (load_plan image) d.kept) }
     ensures done { (image : Image) (me : Address) (d : DeviceState) → Fits image → HasCapacities d.kept → d.power ≡ true → IsDone (load_plan image) (replay (fresh me d) (undisturbed (answer_in d.frames) (load_plan image) d.kept)) }
     ensures runs { (image : Image) (me : Address) (d : DeviceState) → Fits image → HasCapacities d.kept → d.power ≡ true → runs (replay (fresh me d) (undisturbed (answer_in d.frames) (load_plan image) d.kept)).device.kept ≡ Some image }
+    ensures always { (image : Image) (me : Address) (d : DeviceState) (events : List Event) → Fits image → HasCapacities d.kept → IsLegal (fresh me d) events → Follows (IsLoadOrCheck image) (fresh me d) events
+        → AtEveryMoment (λ past. CanEndDone (IsLoadOrCheck image) (load_plan image) (replay (fresh me d) past)) events }
 {}

@@ -8,12 +8,11 @@ use Rattle.knx_model.specs.declared.frames.tpdu.Tpdu.{Tpdu}
 use Rattle.knx_model.specs.declared.frames.tpdu.Tpdu.TheVariants as tpdu
 use Rattle.knx_model.specs.declared.loading.LoadableObject.{LoadableObject}
 use Rattle.knx_model.specs.declared.device.FrameSupport.{FrameSupport}
-use Rattle.knx_model.specs.declared.device.FrameSupport.TheVariants.{Standard, Extended}
 use Rattle.knx_model.specs.Apdu.{service, low, code_of, word, most_memory_octets, most_property_octets}
 use Rattle.knx_model.specs.ApduReading.{where_it, option_map, bare, word_in, value_in, addressed, of_property, descriptor_in, apdu_in, tpdu_in, unnumbered, service_in, apdu_octets}
 use Rattle.knx_model.specs.Connection.{IsApdu}
 use Rattle.knx_model.specs.Loading.{octets_of, has_range}
-use Rattle.knx_model.specs.Device.{NonVolatile, loadable, object_at, segment_base, read_octets, reads_at_once, greatest_length, object_of_index, object_type, load_state, table_reference, is_load_control, property_value, property_response, where_one, range_octets, effect_of, whole, answer_at, answer_in}
+use Rattle.knx_model.specs.Device.{NonVolatile, loadable, object_at, segment_base, read_octets, reads_at_once, object_of_index, object_type, load_state, table_reference, is_load_control, property_value, property_response, where_one, range_octets, effect_of, whole, answer_at, answer_in}
 
 -- a memory read that octets ask for has at most 60 octets
 abbrev Small : Option Apdu → Type 0

@@ -6,7 +6,7 @@ use Rattle.knx_model.specs.DeviceFrames.{Outcome, Whole}
 use Rattle.session_law.specs.World.{World}
 use Rattle.session_law.specs.Device.{took_alone}
 use Rattle.session_law.specs.Events.{Event, Asks, Bus, BusAgain, Group, replay}
-use Rattle.session_law.proofs.Device.{is_torn, and_delivered, and_given, or_anew}
+use Rattle.session_law.proofs.Taken.{is_torn, and_delivered, and_given, or_anew}
 
 pub record Books : Type 0 where
   pub asked : List (List ℕ)  -- the services that the client sent since the last T_Connect that the device got over the bus

@@ -21,10 +21,10 @@ use Rattle.knx_model.specs.DeviceFrames.{Outcome, Whole, Torn, Worn, acted, conn
 use Rattle.knx_model.specs.DeviceSending.{shut_from}
 use Rattle.session_law.specs.World.{Message, Con, Ind, World}
 use Rattle.session_law.specs.Client.{asks_so, waits_so, replies_so, takes_oldest}
-use Rattle.session_law.specs.Device.{took_alone, service_of, gets, carries, carries_lost, gets_again}
+use Rattle.session_law.specs.Device.{took_alone, service_of, carries, carries_lost, gets_again}
 use Rattle.session_law.specs.Events.{Event, Connects, Asks, Waits, Replies, Leaves, Takes, Loses, Joins, Drops, Bus, BusLost, BusAgain, Group, Elsewhere, DevSend, DevRepeat, DevClose, GwAgain, Cut, On, Pass, step, replay}
 use Rattle.session_law.specs.Promises.{service_in_frame, acts_on, frame_by, is_connected, connects_by, TakesNoConnect, ActsOnNothing}
-use Rattle.session_law.proofs.Device.{tells_if}
+use Rattle.session_law.proofs.Taken.{tells_if}
 
 abbrev IsClosed : DeviceState → Type 0
 IsClosed d = ◌≡◌ {A = DeviceEnd} d.connection Closed

@@ -1,5 +1,5 @@
 -- Runs that compute.
-use Rattle.std.proofs.Common.{◌≡◌, ℕ, List, [], ◌∷◌, ◌++◌, true, false, refl, arith}
+use Rattle.std.proofs.Common.{◌≡◌, ℕ, List, [], ◌∷◌, ◌++◌, true, refl, arith}
 use Rattle.knx_model.specs.ApduReading.{apdu_in, tpdu_in, service_in}
 use Rattle.knx_model.specs.Connection.{frame_in}
 use Rattle.knx_model.specs.ClientConnection.{Up, client_confirmed, after_confirmed, client_sent, after_send, client_took, client_after, client_expired, after_overdue}

@@ -1,24 +1,22 @@
 -- What is counted since the client's session began, against what the device counts since its own.
-use Rattle.std.proofs.Common.{◌≡◌, ℕ, ◌⊎◌, List, [], ◌∷◌, ◌++◌, Bool, true, false, not, ◌&&◌, Option, Some, None, refl, sym, ◌∙◌, ap, subst, inl, inr, append-nil, if◌then◌else◌}
+use Rattle.std.proofs.Common.{◌≡◌, ℕ, ◌⊎◌, List, [], ◌∷◌, ◌++◌, Bool, true, false, Option, Some, None, refl, sym, ◌∙◌, ap, subst, inl, inr, append-nil}
 use Rattle.std.proofs.lemmas.Bool.{false≢true}
-use Rattle.knx_model.specs.declared.address.IndAddr.{IndAddr}
 use Rattle.knx_model.specs.declared.connection.ClientTook.{ClientTook}
 use Rattle.knx_model.specs.declared.connection.ClientTook.TheVariants as brought
 use Rattle.knx_model.specs.declared.connection.DeviceTook.{DeviceTook}
 use Rattle.knx_model.specs.declared.connection.DeviceTook.TheVariants as took
 use Rattle.knx_model.specs.declared.connection.TransportFrame.{TransportFrame}
-use Rattle.knx_model.specs.ClientConnection.{ClientEnd, Asked, Up, Asking, Awaiting, Ended, Question, client_took, client_after, client_confirmed, after_confirmed, client_sent, after_send, after_overdue}
-use Rattle.knx_model.specs.Connection.{Session}
+use Rattle.knx_model.specs.ClientConnection.{ClientEnd, Asked, Up, Asking, Awaiting, Ended, client_took, client_after, client_confirmed, after_confirmed, client_sent}
 use Rattle.knx_model.specs.Device.{answer_in}
 use Rattle.knx_model.specs.DeviceState.{DeviceState}
 use Rattle.knx_model.specs.DeviceFrames.{Outcome, Whole, Torn, Worn}
 use Rattle.session_law.specs.Client.{since, and_answer}
 use Rattle.session_law.specs.Device.{service_of, answer_of, counted}
 use Rattle.session_law.specs.Promises.{IsFirstOf}
-use Rattle.session_law.proofs.Signs.{Sign, Conf}
+use Rattle.session_law.proofs.Arrivals.{Arrival, Confirmation}
 use Rattle.session_law.proofs.Seen.{Seen}
-use Rattle.session_law.proofs.Device.{is_torn, and_delivered, and_given, and_octets}
-use Rattle.session_law.proofs.Session.{PhaseIs, AskedIs, Fresh, Opened}
+use Rattle.session_law.proofs.Taken.{is_torn, and_delivered, and_given, and_octets}
+use Rattle.session_law.proofs.Invariant.{PhaseIs, AskedIs}
 
 abbrev pub Texts : Type 0
 Texts = List (List ℕ)
@@ -130,18 +128,18 @@ module _ (d : DeviceState) (end : ClientEnd) (sent accepted delivered given aske
 -- ---- the client takes a message
 
 -- the session begins: nothing was asked, delivered or given
-begun : (error : Bool) (asked : Texts) (fly : Option TransportFrame) (rest : List Sign) (o : Seen) → error ≡ false → AskedIs asked fly (Conf error ∷ rest) o → (asked ≡ []) × (o.delivered ≡ []) × (o.given ≡ [])
+begun : (error : Bool) (asked : Texts) (fly : Option TransportFrame) (rest : List Arrival) (o : Seen) → error ≡ false → AskedIs asked fly (Confirmation error ∷ rest) o → (asked ≡ []) × (o.delivered ≡ []) × (o.given ≡ [])
 begun error asked fly rest o e (inl h) = absurd h.1.0
 begun error asked fly rest o e (inr (inr h)) = absurd h.1.0
 begun error asked fly rest o e (inr (inl (false, newer, f, split, fresh))) = (fresh.none, fresh.ds, fresh.gs)
 begun error asked fly rest o e (inr (inl (true, newer, f, split, opened))) = absurd (false≢true (sym e ∙ split.0))
 
-module _ (joined pending : Bool) (owed sent accepted delivered given asked : Texts) (fly : Option TransportFrame) (rest : List Sign) (o : Seen) (now : ℕ) where
+module _ (joined pending : Bool) (owed sent accepted delivered given asked : Texts) (fly : Option TransportFrame) (rest : List Arrival) (o : Seen) (now : ℕ) where
   abbrev Confirms : ClientEnd → Bool → Type 0
   Confirms end error =
       Counts (after_confirmed end error now) (since (client_confirmed end error) sent) (since (client_confirmed end error) accepted) (since (client_confirmed end error) delivered) (since (client_confirmed end error) given) asked o.delivered o.given
 
-  pub confirms : (end : ClientEnd) (error : Bool) → PhaseIs end joined pending owed sent accepted asked fly (Conf error ∷ rest) o → Counts end sent accepted delivered given asked o.delivered o.given → Confirms end error
+  pub confirms : (end : ClientEnd) (error : Bool) → PhaseIs end joined pending owed sent accepted asked fly (Confirmation error ∷ rest) o → Counts end sent accepted delivered given asked o.delivered o.given → Confirms end error
   unfolding client_confirmed after_confirmed
   confirms (Asked device) true h c = record { delivered_first = c.delivered_first; accepted_first = c.accepted_first; which = elim c.which [ inl w ↦ inl w | inr w ↦ inr w ] }
   confirms (Asked device) false h c = let b = begun false asked fly rest o refl h.2 in record { delivered_first = ([], refl); accepted_first = ([], refl); which = inl (b.1, b.2) }
@@ -151,7 +149,7 @@ module _ (joined pending : Bool) (owed sent accepted delivered given asked : Tex
   confirms Ended error h c = c
 
 -- the answers that it accepted are those that were given, in a session
-module _ (joined pending : Bool) (owed sent accepted delivered given asked : Texts) (fly : Option TransportFrame) (rest : List Sign) (o : Seen) (now : ℕ) where
+module _ (joined pending : Bool) (owed sent accepted delivered given asked : Texts) (fly : Option TransportFrame) (rest : List Arrival) (o : Seen) (now : ℕ) where
   abbrev After : ClientEnd → ClientTook → Type 0
   After end k = Counts (client_after end now k) sent (and_answer k accepted) delivered given asked o.delivered o.given
 

@@ -13,12 +13,12 @@ use Rattle.knx_model.specs.Apdu.{Written}
 use Rattle.knx_model.specs.Connection.{frame_in, next_number, is_before, disconnect, Session, new_session, at_time, advanced, acknowledged, is_with}
 use Rattle.knx_model.specs.DeviceConnection.{Outstanding, DeviceEnd, Closed, Idle, Answering, device_took, device_after, idle_took, answering_took, device_went_on, device_left}
 use Rattle.knx_model.specs.Device.{NonVolatile}
-use Rattle.session_law.proofs.Signs.{Sign, IsntConnect}
+use Rattle.session_law.proofs.Arrivals.{Arrival, IsntConnect}
 
 pub record Seen : Type 0 where
   pub frames : FrameSupport
-  pub conn : DeviceEnd
-  pub us : List Sign  -- its unsent frames
+  pub connection : DeviceEnd
+  pub unsent : List Arrival  -- its unsent frames
   pub last : Option TransportFrame  -- what it got last
   pub delivered : List (List ℕ)
   pub given : List (List ℕ)

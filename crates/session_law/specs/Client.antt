@@ -14,7 +14,7 @@ use Rattle.knx_model.specs.declared.connection.ClientExpired.{ClientExpired}
 use Rattle.knx_model.specs.declared.connection.ClientExpired.TheVariants as over
 use Rattle.knx_model.specs.Apdu.{Written}
 use Rattle.knx_model.specs.Connection.{frame_in, disconnect}
-use Rattle.knx_model.specs.ClientConnection.{ClientEnd, Asked, Ended, device_of, client_sent, after_send, client_took, client_after, client_expired, after_overdue, client_confirmed, after_confirmed}
+use Rattle.knx_model.specs.ClientConnection.{Asked, Ended, device_of, client_sent, after_send, client_took, client_after, client_expired, after_overdue, client_confirmed, after_confirmed}
 use Rattle.knx_model.specs.DeviceFrames.{own_frame}
 use Rattle.session_law.specs.World.{Message, Con, Ind, Client, World}
 
@@ -99,7 +99,7 @@ owed_after heard.Acked owed = owed
 owed_after (heard.Answer apdu ack) owed = owed ++ ack ∷ []
 owed_after (heard.Again ack) owed = owed ++ ack ∷ []
 owed_after (heard.Nak nak) owed = owed ++ nak ∷ []
-owed_after (heard.Closed disconnect) owed = []
+owed_after (heard.Closed answer) owed = []
 
 abbrev pub and_answer : ClientTook → List (List ℕ) → List (List ℕ)
 and_answer (heard.Answer apdu ack) answers = apdu ∷ answers

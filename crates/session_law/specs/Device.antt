@@ -6,7 +6,7 @@ use Rattle.knx_model.specs.declared.connection.DeviceTook.TheVariants as took
 use Rattle.knx_model.specs.declared.frames.cemi.Ldata.{Ldata}
 use Rattle.knx_model.specs.Device.{answer_in}
 use Rattle.knx_model.specs.DeviceState.{DeviceState}
-use Rattle.knx_model.specs.DeviceFrames.{Outcome, Whole, Torn, Worn, took_of, is_taken, connection_took, takes}
+use Rattle.knx_model.specs.DeviceFrames.{Outcome, Whole, Torn, took_of, is_taken, connection_took, takes}
 use Rattle.session_law.specs.World.{Message, Con, Ind, World}
 
 -- ---- what it delivers

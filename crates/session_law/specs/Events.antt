@@ -1,7 +1,7 @@
 -- What may happen to one numbered connection over the line. An event carries its outcome, so a start and a list of events give one world at each
 -- moment. The events of bus and device are those of the whole line, as this device sees them. Which frames may be torn or worn, and which events
 -- have nothing to do, makes no difference here, so the premises are fewer than the line's.
-use Rattle.std.specs.Prelude.{◌≡◌, ℕ, ◌+◌, true, false, List, [], ◌∷◌, drop, Option, Some, None}
+use Rattle.std.specs.Prelude.{◌≡◌, ℕ, ◌+◌, true, false, List, [], ◌∷◌, drop}
 use Rattle.std.specs.List.{AllByRecursion}
 use Rattle.knx_model.specs.declared.frames.cemi.Ldata.{Ldata}
 use Rattle.knx_model.specs.Connection.{IsApdu}

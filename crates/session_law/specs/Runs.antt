@@ -1,6 +1,5 @@
 -- Two runs, which show that legal events lead somewhere, and that a client must put one frame at a time. The newest event first.
-use Rattle.std.specs.Prelude.{ℕ, List, [], ◌∷◌, ◌++◌}
-use Rattle.knx_model.specs.declared.address.IndAddr.{IndAddr}
+use Rattle.std.specs.Prelude.{ℕ, List, [], ◌∷◌}
 use Rattle.knx_model.specs.Device.{NonVolatile}
 use Rattle.knx_model.specs.DeviceState.{device_with}
 use Rattle.knx_model.specs.DeviceFrames.{Whole}

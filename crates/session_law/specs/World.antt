@@ -5,7 +5,6 @@ use Rattle.std.specs.Prelude.{ℕ, Bool, false, List, [], Option, None}
 use Rattle.knx_model.specs.declared.address.IndAddr.{IndAddr}
 use Rattle.knx_model.specs.declared.frames.cemi.Ldata.{Ldata}
 use Rattle.knx_model.specs.ClientConnection.{ClientEnd, Ended}
-use Rattle.knx_model.specs.DeviceConnection.{Closed}
 use Rattle.knx_model.specs.DeviceState.{DeviceState, at_rest}
 
 -- what is on its way to the client: L_Data.con of its own frame, with error or without, and L_Data.ind of the device's frames

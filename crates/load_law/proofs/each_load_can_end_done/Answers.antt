@@ -1,4 +1,5 @@
 use Rattle.load_law.proofs.each_load_can_end_done.Goals as goal
+use Rattle.load_law.proofs.Always.{can_always}
 use Rattle.load_law.proofs.Jobs.{load_ends, load_runs}
 
 pub returns-clause-legal : goal.returns-clause-legal
@@ -12,3 +13,6 @@ returns-clause-done c = λ image me d fits has power. (load_ends image me d fits
 
 pub returns-clause-runs : goal.returns-clause-runs
 returns-clause-runs c = load_runs
+
+pub returns-clause-always : goal.returns-clause-always
+returns-clause-always c = can_always

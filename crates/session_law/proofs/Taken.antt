@@ -1,42 +1,41 @@
--- What a frame, a sending, a closing and a power cut leave of a device, as far as a session sees it.
-use Rattle.std.proofs.Common.{◌≡◌, ℕ, ◌+◌, ◌%◌, ◌<◌, List, [], ◌∷◌, ◌++◌, length, drop, Bool, true, false, not, ◌&&◌, cond, Option, Some, None, refl, sym, ◌∙◌, ap, subst, arith, append-nil, ◌⊎◌, if◌then◌else◌}
+-- What a frame that comes leaves of a device, as far as a session sees it.
+use Rattle.knx_model.specs.declared.frames.tpdu.Tpdu.TheVariants as tpdu
+use Rattle.knx_model.specs.declared.connection.DeviceTook.TheVariants as took
+use Rattle.std.proofs.Common.{◌≡◌, ℕ, ◌+◌, ◌%◌, ◌<◌, List, [], ◌∷◌, ◌++◌, length, Bool, true, false, not, ◌&&◌, Option, Some, None, refl, sym, ◌∙◌, ap, subst, arith, append-nil, if◌then◌else◌}
 use Rattle.knx_model.specs.declared.address.IndAddr.{IndAddr}
 use Rattle.knx_model.specs.declared.device.FrameSupport.{FrameSupport}
 use Rattle.knx_model.specs.declared.config.Image.{Image}
 use Rattle.knx_model.specs.declared.frames.cemi.Ldata.{Ldata}
-use Rattle.knx_model.specs.declared.frames.tpdu.Tpdu.TheVariants as tpdu
 use Rattle.knx_model.specs.declared.frames.value.Value.{Value}
 use Rattle.knx_model.specs.declared.script.GroupService.{GroupService}
 use Rattle.knx_model.specs.declared.script.GroupService.TheVariants.{Read, Write, Response}
 use Rattle.knx_model.specs.declared.connection.TransportFrame.{TransportFrame}
 use Rattle.knx_model.specs.declared.connection.TransportFrame.TheVariants.{Connect, Disconnect, Ack, Nak, Numbered, Other}
 use Rattle.knx_model.specs.declared.connection.DeviceTook.{DeviceTook}
-use Rattle.knx_model.specs.declared.connection.DeviceTook.TheVariants as took
 use Rattle.knx_model.specs.declared.device.Took.{Took}
 use Rattle.knx_model.specs.declared.device.Took.TheVariants.{NotMine, TooLong, Taken, Off}
 use Rattle.knx_model.specs.Acts.{answerer}
 use Rattle.knx_model.specs.Apdu.{Written}
 use Rattle.knx_model.specs.ApduReading.{service_in}
 use Rattle.knx_model.specs.Connection.{frame_in, numbered_data, disconnect, Session, at_time}
-use Rattle.knx_model.specs.DeviceConnection.{Outstanding, DeviceEnd, Closed, Idle, Answering, partner_of, device_after, device_answered, after_answer, first_answer, device_repeated}
+use Rattle.knx_model.specs.DeviceConnection.{Outstanding, DeviceEnd, Closed, Idle, Answering, device_after, device_answered, after_answer, first_answer}
 use Rattle.knx_model.specs.Device.{NonVolatile, runs, effect_in, answer_in}
-use Rattle.knx_model.specs.DeviceState.{DeviceState, cut, switched_on, moved, value_of}
+use Rattle.knx_model.specs.DeviceState.{DeviceState, cut, moved, value_of}
 use Rattle.knx_model.specs.DeviceFrames.{Outcome, Whole, Torn, Worn, own_frame, queued_to, with_answer, acted, kept_after, taken_alone, taken_group, telegram_acted, telegram_taken, answered_by, with_response, took_of, takes_so, takes, is_taken, connection_took, sender, group_service}
-use Rattle.knx_model.specs.DeviceSending.{first_frame, waiting_frame, pops, outstanding_frame, repeat_frame, repeats, shut, shut_from}
 use Rattle.session_law.specs.Device.{took_alone}
-use Rattle.session_law.proofs.Signs.{Sign, Frame, sign, opt_sign, opt_list, unsent_signs, unsent_append, Plain, NotConf, IsntConnect}
+use Rattle.session_law.proofs.Arrivals.{Arrival, Frame, transport, transport_if, unsent_arrivals, unsent_append, Plain, IsntConnect}
 use Rattle.session_law.proofs.Frames.{numbered_read, disconnect_read, ack_read, nak_read}
 use Rattle.session_law.proofs.Apdus.{answer_is_apdu}
 use Rattle.session_law.proofs.Seen.{Seen, ConnIs, extra, EndHears, EOpens, EDelivers, EAgain, ENak, EAcked, EDrops, ECloses, EClosesBy, Stays, end_hears}
 
 abbrev pub seen_as : DeviceState → Option TransportFrame → List (List ℕ) → List (List ℕ) → Seen
-seen_as d last ds gs = record { frames = d.frames; conn = d.connection; us = unsent_signs d.unsent; last = last; delivered = ds; given = gs; kept = d.kept }
+seen_as d last ds gs = record { frames = d.frames; connection = d.connection; unsent = unsent_arrivals d.unsent; last = last; delivered = ds; given = gs; kept = d.kept }
 
 abbrev pub seen_of : DeviceState → List (List ℕ) → List (List ℕ) → Seen
-seen_of d ds gs = seen_as d (opt_sign d.last) ds gs
+seen_of d ds gs = seen_as d (transport_if d.last) ds gs
 
 abbrev pub cut_seen : Seen → Seen
-cut_seen n = record { frames = n.frames; conn = Closed; us = []; last = None; delivered = n.delivered; given = n.given; kept = n.kept }
+cut_seen n = record { frames = n.frames; connection = Closed; unsent = []; last = None; delivered = n.delivered; given = n.given; kept = n.kept }
 
 -- ---- what the device delivered and gave since its own last T_Connect
 
@@ -76,25 +75,25 @@ IsSmall Other = Unit {0}
 
 -- what a frame that is taken leaves, and whether it opened the connection
 pub data Hears (me : IndAddr) (outcome : Outcome) (s : TransportFrame) (o : Seen) : Bool → Seen → Type 0 where
-  HOpens : (t : Session) → s ≡ Connect → ConnIs me (Idle t) [] [] → Hears me outcome s o true (record { frames = o.frames; conn = Idle t; us = []; last = Some s; delivered = []; given = []; kept = o.kept })
-  HDelivers : (u : Session) (apdu : List ℕ) (l : List Sign) → extra o.conn ≡ 0 → s ≡ Numbered (length o.delivered % 16) apdu → ConnIs me (Idle u) (apdu ∷ o.delivered) o.given → l ≡ o.us ++ Frame (Ack (length o.delivered % 16)) ∷ []
+  HOpens : (t : Session) → s ≡ Connect → ConnIs me (Idle t) [] [] → Hears me outcome s o true (record { frames = o.frames; connection = Idle t; unsent = []; last = Some s; delivered = []; given = []; kept = o.kept })
+  HDelivers : (u : Session) (apdu : List ℕ) (l : List Arrival) → extra o.connection ≡ 0 → s ≡ Numbered (length o.delivered % 16) apdu → ConnIs me (Idle u) (apdu ∷ o.delivered) o.given → l ≡ o.unsent ++ Frame (Ack (length o.delivered % 16)) ∷ []
       → answer_in o.frames o.kept apdu ≡ None
-      → Hears me outcome s o false (record { frames = o.frames; conn = Idle u; us = l; last = Some s; delivered = apdu ∷ o.delivered; given = o.given; kept = kept_after o.kept (effect_in apdu) outcome })
-  HAnswers : (u : Session) (a : Outstanding) (apdu v : List ℕ) (l : List Sign) → extra o.conn ≡ 0 → s ≡ Numbered (length o.delivered % 16) apdu → ConnIs me (Answering u a) (apdu ∷ o.delivered) (v ∷ o.given)
-      → l ≡ (o.us ++ Frame (Ack (length o.delivered % 16)) ∷ []) ++ Frame (Numbered (length o.given % 16) v) ∷ []
+      → Hears me outcome s o false (record { frames = o.frames; connection = Idle u; unsent = l; last = Some s; delivered = apdu ∷ o.delivered; given = o.given; kept = kept_after o.kept (effect_in apdu) outcome })
+  HAnswers : (u : Session) (a : Outstanding) (apdu v : List ℕ) (l : List Arrival) → extra o.connection ≡ 0 → s ≡ Numbered (length o.delivered % 16) apdu → ConnIs me (Answering u a) (apdu ∷ o.delivered) (v ∷ o.given)
+      → l ≡ (o.unsent ++ Frame (Ack (length o.delivered % 16)) ∷ []) ++ Frame (Numbered (length o.given % 16) v) ∷ []
       → answer_in o.frames o.kept apdu ≡ Some v
-      → Hears me outcome s o false (record { frames = o.frames; conn = Answering u a; us = l; last = Some s; delivered = apdu ∷ o.delivered; given = v ∷ o.given; kept = kept_after o.kept (effect_in apdu) outcome })
-  HAgain : (c : DeviceEnd) (n : ℕ) (apdu : List ℕ) (l : List Sign) → s ≡ Numbered n apdu → (n ≡ length o.delivered % 16 → ⊥) → (n + 1) % 16 ≡ length o.delivered % 16 → extra c ≡ extra o.conn → ConnIs me c o.delivered o.given → l ≡ o.us ++ Frame (Ack n) ∷ []
-      → Stays o.conn c → Hears me outcome s o false (record { frames = o.frames; conn = c; us = l; last = Some s; delivered = o.delivered; given = o.given; kept = o.kept })
-  HSpeaks : (c : DeviceEnd) (k l : List Sign) → IsntConnect s → Plain k → extra c ≡ extra o.conn → ConnIs me c o.delivered o.given → l ≡ o.us ++ k → Stays o.conn c
-      → Hears me outcome s o false (record { frames = o.frames; conn = c; us = l; last = Some s; delivered = o.delivered; given = o.given; kept = o.kept })
-  HAcked : (u : Session) (v : List ℕ) (older : List (List ℕ)) → extra o.conn ≡ 1 → o.given ≡ v ∷ older → s ≡ Ack (length older % 16) → ConnIs me (Idle u) o.delivered o.given → (o.conn ≡ Closed → ⊥)
-      → Hears me outcome s o false (record { frames = o.frames; conn = Idle u; us = o.us; last = Some s; delivered = o.delivered; given = o.given; kept = o.kept })
-  HCloses : (k l : List Sign) → IsntConnect s → Plain k → l ≡ o.us ++ k → Hears me outcome s o false (record { frames = o.frames; conn = Closed; us = l; last = Some s; delivered = o.delivered; given = o.given; kept = o.kept })
+      → Hears me outcome s o false (record { frames = o.frames; connection = Answering u a; unsent = l; last = Some s; delivered = apdu ∷ o.delivered; given = v ∷ o.given; kept = kept_after o.kept (effect_in apdu) outcome })
+  HAgain : (c : DeviceEnd) (n : ℕ) (apdu : List ℕ) (l : List Arrival) → s ≡ Numbered n apdu → (n ≡ length o.delivered % 16 → ⊥) → (n + 1) % 16 ≡ length o.delivered % 16 → extra c ≡ extra o.connection → ConnIs me c o.delivered o.given → l ≡ o.unsent ++ Frame (Ack n) ∷ []
+      → Stays o.connection c → Hears me outcome s o false (record { frames = o.frames; connection = c; unsent = l; last = Some s; delivered = o.delivered; given = o.given; kept = o.kept })
+  HSpeaks : (c : DeviceEnd) (k l : List Arrival) → IsntConnect s → Plain k → extra c ≡ extra o.connection → ConnIs me c o.delivered o.given → l ≡ o.unsent ++ k → Stays o.connection c
+      → Hears me outcome s o false (record { frames = o.frames; connection = c; unsent = l; last = Some s; delivered = o.delivered; given = o.given; kept = o.kept })
+  HAcked : (u : Session) (v : List ℕ) (older : List (List ℕ)) → extra o.connection ≡ 1 → o.given ≡ v ∷ older → s ≡ Ack (length older % 16) → ConnIs me (Idle u) o.delivered o.given → (o.connection ≡ Closed → ⊥)
+      → Hears me outcome s o false (record { frames = o.frames; connection = Idle u; unsent = o.unsent; last = Some s; delivered = o.delivered; given = o.given; kept = o.kept })
+  HCloses : (k l : List Arrival) → IsntConnect s → Plain k → l ≡ o.unsent ++ k → Hears me outcome s o false (record { frames = o.frames; connection = Closed; unsent = l; last = Some s; delivered = o.delivered; given = o.given; kept = o.kept })
 
 -- a power cut leaves what is kept, and nothing is counted
 abbrev pub torn_seen : Bool → Seen → Seen → Seen
-torn_seen opens o n = record { frames = n.frames; conn = Closed; us = []; last = None; delivered = if opens then [] else o.delivered; given = if opens then [] else o.given; kept = n.kept }
+torn_seen opens o n = record { frames = n.frames; connection = Closed; unsent = []; last = None; delivered = if opens then [] else o.delivered; given = if opens then [] else o.given; kept = n.kept }
 
 -- whether it opened the connection, and whether it was taken
 pub data Got (me : IndAddr) (outcome : Outcome) (s : TransportFrame) (o : Seen) : Bool → Bool → Seen → Type 0 where
@@ -105,8 +104,8 @@ pub data Got (me : IndAddr) (outcome : Outcome) (s : TransportFrame) (o : Seen) 
 extra_is : (e c : DeviceEnd) (n : ℕ) → e ≡ c → extra c ≡ n → extra e ≡ n
 extra_is e c n h k = ap extra h ∙ k
 
-one_more : (l : List Ldata) (f : Ldata) (t : TransportFrame) → sign f ≡ t → unsent_signs (l ++ f ∷ []) ≡ unsent_signs l ++ Frame t ∷ []
-one_more l f t h = unsent_append l (f ∷ []) ∙ ap (λ (z : TransportFrame). unsent_signs l ++ Frame z ∷ []) h
+pub one_more : (l : List Ldata) (f : Ldata) (t : TransportFrame) → transport f ≡ t → unsent_arrivals (l ++ f ∷ []) ≡ unsent_arrivals l ++ Frame t ∷ []
+one_more l f t h = unsent_append l (f ∷ []) ∙ ap (λ (z : TransportFrame). unsent_arrivals l ++ Frame z ∷ []) h
 
 -- a service that is delivered
 delivers_by : (me from : IndAddr) (d : DeviceState) (t u : Session) (apdu : List ℕ) (ds gs : List (List ℕ)) (now : ℕ) (outcome : Outcome) (s : TransportFrame) (o : Option (List ℕ)) → answer_in d.frames d.kept apdu ≡ o
@@ -118,11 +117,11 @@ delivers_by me from d t u apdu ds gs now outcome s None is e se c =
 delivers_by me from d t u apdu ds gs now outcome s (Some v) is e se c =
     let small : u.number < 16 = omega (arith, c.2) in
     let read : frame_in (numbered_data u.number v) ≡ Numbered (length gs % 16) v = numbered_read u.number v small (answer_is_apdu d.frames d.kept apdu v is) ∙ ap (λ (k : ℕ). Numbered k v) c.2 in
-    let first : unsent_signs (d.unsent ++ own_frame d.address false from.raw (Written (tpdu.Ack (length ds % 16))) ∷ []) ≡ unsent_signs d.unsent ++ Frame (Ack (length ds % 16)) ∷ []
+    let first : unsent_arrivals (d.unsent ++ own_frame d.address false from.raw (Written (tpdu.Ack (length ds % 16))) ∷ []) ≡ unsent_arrivals d.unsent ++ Frame (Ack (length ds % 16)) ∷ []
     = one_more d.unsent (own_frame d.address false from.raw (Written (tpdu.Ack (length ds % 16)))) (Ack (length ds % 16)) (ack_read (length ds % 16) (omega arith)) in
     HAnswers (at_time u now) (first_answer (numbered_data u.number v) now) apdu v _ (ap extra e) se (c.0, c.1, c.2, read)
     (one_more (d.unsent ++ own_frame d.address false from.raw (Written (tpdu.Ack (length ds % 16))) ∷ []) (own_frame d.address false from.raw (numbered_data u.number v)) (Numbered (length gs % 16) v) read
-    ∙ ap (λ (z : List Sign). z ++ Frame (Numbered (length gs % 16) v) ∷ []) first) is
+    ∙ ap (λ (z : List Arrival). z ++ Frame (Numbered (length gs % 16) v) ∷ []) first) is
 
 abbrev pub Anew : DeviceTook → Bool → Type 0
 Anew k opens = (log : List (List ℕ)) → or_anew k log ≡ (if opens then [] else log)
@@ -142,8 +141,8 @@ hears_by me from d c ds gs now outcome s k small is (EAgain b n apdu se ne nx ex
 hears_by me from d c ds gs now outcome s k small is (ENak b n apdu se ex st ci) =
     (false, HSpeaks b (Frame (Nak n) ∷ []) _ (not_connect s n apdu se) ((tt, tt, tt), tt) ex ci (one_more d.unsent (own_frame d.address false from.raw (Written (tpdu.Nak n))) (Nak n) (nak_read n (number_of s n apdu se small))) st, λ log. refl)
 hears_by me from d c ds gs now outcome s k small is (EAcked t u a v older ce ge se ci) = (false, HAcked u v older (ap extra ce) ge se ci (λ z. let q : Answering t a ≡ Closed = sym ce ∙ z in cc), λ log. refl)
-hears_by me from d c ds gs now outcome s k small is (EDrops sc) = (false, HSpeaks d.connection [] _ sc tt refl is (sym (append-nil (unsent_signs d.unsent))) (λ z. z), λ log. refl)
-hears_by me from d c ds gs now outcome s k small is (ECloses sc) = (false, HCloses [] _ sc tt (sym (append-nil (unsent_signs d.unsent))), λ log. refl)
+hears_by me from d c ds gs now outcome s k small is (EDrops sc) = (false, HSpeaks d.connection [] _ sc tt refl is (sym (append-nil (unsent_arrivals d.unsent))) (λ z. z), λ log. refl)
+hears_by me from d c ds gs now outcome s k small is (ECloses sc) = (false, HCloses [] _ sc tt (sym (append-nil (unsent_arrivals d.unsent))), λ log. refl)
 hears_by me from d c ds gs now outcome s k small is (EClosesBy sc) =
     (false, HCloses (Frame Disconnect ∷ []) _ sc ((tt, tt, tt), tt) (one_more d.unsent (own_frame d.address false from.raw disconnect) Disconnect disconnect_read), λ log. refl)
 
@@ -200,10 +199,10 @@ got_mine me d frame now outcome ds gs g f small is = got_mine_so me d frame now 
 
 -- the connection stays, and at most a group telegram joins
 abbrev pub Leaves : DeviceState → DeviceState → Type 0
-Leaves d e = (◌≡◌ {A = DeviceEnd} e.connection d.connection) × (◌≡◌ {A = NonVolatile} e.kept d.kept) × ((k : List Sign) × Plain k × (unsent_signs e.unsent ≡ unsent_signs d.unsent ++ k)) × (◌≡◌ {A = FrameSupport} e.frames d.frames)
+Leaves d e = (◌≡◌ {A = DeviceEnd} e.connection d.connection) × (◌≡◌ {A = NonVolatile} e.kept d.kept) × ((k : List Arrival) × Plain k × (unsent_arrivals e.unsent ≡ unsent_arrivals d.unsent ++ k)) × (◌≡◌ {A = FrameSupport} e.frames d.frames)
 
-stays : (d : DeviceState) → (k : List Sign) × Plain k × (unsent_signs d.unsent ≡ unsent_signs d.unsent ++ k)
-stays d = ([], tt, sym (append-nil (unsent_signs d.unsent)))
+stays : (d : DeviceState) → (k : List Arrival) × Plain k × (unsent_arrivals d.unsent ≡ unsent_arrivals d.unsent ++ k)
+stays d = ([], tt, sym (append-nil (unsent_arrivals d.unsent)))
 
 responds : (d : DeviceState) (group : ℕ) (value : Option Value) → Leaves d (with_response d group value)
 responds d group None = (refl, refl, stays d, refl)
@@ -226,7 +225,7 @@ tells_if d group (Some image) (Some service) = tells d image group service
 got_group_so : (me : IndAddr) (d : DeviceState) (frame : Ldata) (now : ℕ) (ds gs : List (List ℕ)) → frame.group ≡ true → ConnIs me d.connection ds gs → (t : Took) → GotSo me d frame now Whole ds gs Other t
 got_group_so me d frame now ds gs g is Taken =
     let h : Leaves d (taken_group d frame) = tells_if d frame.destination (runs d.kept) (group_service (service_in frame.tpdu)) in
-    let P : FrameSupport → NonVolatile → Type 0 = λ y z. Hears me Whole Other (seen_of d ds gs) false (record { frames = y; conn = (taken_group d frame).connection; us = unsent_signs (taken_group d frame).unsent; last = Some Other; delivered = ds; given = gs; kept = z }) in
+    let P : FrameSupport → NonVolatile → Type 0 = λ y z. Hears me Whole Other (seen_of d ds gs) false (record { frames = y; connection = (taken_group d frame).connection; unsent = unsent_arrivals (taken_group d frame).unsent; last = Some Other; delivered = ds; given = gs; kept = z }) in
     rw g (false, GWhole false _ (subst (λ (y : FrameSupport). P y (taken_group d frame).kept) (sym h.3) (subst (P d.frames) (sym h.1) (HSpeaks (taken_group d frame).connection h.2.0 _ tt h.2.1 (ap extra h.0) (subst (λ (c : DeviceEnd). ConnIs me c ds gs) (sym h.0) is) h.2.2 (λ z. h.0 ∙ z)))) refl, λ log. refl)
 got_group_so me d frame now ds gs g is NotMine = (false, GNot, λ log. refl)
 got_group_so me d frame now ds gs g is TooLong = (false, GNot, λ log. refl)
@@ -234,96 +233,3 @@ got_group_so me d frame now ds gs g is Off = (false, GNot, λ log. refl)
 
 pub got_group : (me : IndAddr) (d : DeviceState) (frame : Ldata) (now : ℕ) (ds gs : List (List ℕ)) → frame.group ≡ true → ConnIs me d.connection ds gs → GotIs me d frame now Whole ds gs Other
 got_group me d frame now ds gs g is = got_group_so me d frame now ds gs g is (took_of d frame)
-
--- ---- what it sends
-
-pub data Speaks (me : IndAddr) (o : Seen) : Seen → List Sign → Type 0 where
-  SShift : (x : Sign) (rest : List Sign) → NotConf x → o.us ≡ x ∷ rest → Speaks me o (record { frames = o.frames; conn = o.conn; us = rest; last = o.last; delivered = o.delivered; given = o.given; kept = o.kept }) (x ∷ [])
-  SAgain : (c : DeviceEnd) (v : List ℕ) (older : List (List ℕ)) → o.us ≡ [] → o.given ≡ v ∷ older → extra c ≡ extra o.conn → ConnIs me c o.delivered o.given → Stays o.conn c
-      → Speaks me o (record { frames = o.frames; conn = c; us = o.us; last = o.last; delivered = o.delivered; given = o.given; kept = o.kept }) (Frame (Numbered (length older % 16) v) ∷ [])
-  SNothing : Speaks me o o []
-
-pops_by : (me : IndAddr) (d : DeviceState) (ds gs : List (List ℕ)) (l : List Ldata) → d.unsent ≡ l
-    → Speaks me (seen_of d ds gs) (record { frames = d.frames; conn = d.connection; us = unsent_signs (drop 1 l); last = opt_sign d.last; delivered = ds; given = gs; kept = d.kept }) (opt_list (opt_sign (first_frame l)))
-pops_by me d ds gs [] e = subst (λ (z : List Sign). Speaks me (seen_of d ds gs) (record { frames = d.frames; conn = d.connection; us = z; last = opt_sign d.last; delivered = ds; given = gs; kept = d.kept }) []) (ap unsent_signs e) SNothing
-pops_by me d ds gs (f ∷ fs) e = SShift (Frame (sign f)) (unsent_signs fs) tt (ap unsent_signs e)
-
--- its oldest unsent frame
-pub pops_seen : (me : IndAddr) (d : DeviceState) (ds gs : List (List ℕ)) → Speaks me (seen_of d ds gs) (seen_of (pops d) ds gs) (opt_list (opt_sign (waiting_frame d)))
-pops_seen me d ds gs = pops_by me d ds gs d.unsent refl
-
-repeats_by : (me : IndAddr) (d : DeviceState) (e : DeviceEnd) (now : ℕ) (ds gs : List (List ℕ)) → d.unsent ≡ [] → ConnIs me e ds gs
-    → Speaks me (record { frames = d.frames; conn = e; us = unsent_signs d.unsent; last = opt_sign d.last; delivered = ds; given = gs; kept = d.kept })
-    (record { frames = d.frames; conn = device_repeated e now; us = unsent_signs d.unsent; last = opt_sign d.last; delivered = ds; given = gs; kept = d.kept }) (opt_list (opt_sign (outstanding_frame d.address e)))
-repeats_by me d Closed now ds gs bare is = SNothing
-repeats_by me d (Idle t) now ds gs bare is = SNothing
-repeats_by me d (Answering t a) now ds [] bare is = absurd is
-repeats_by me d (Answering t a) now ds (v ∷ gs) bare is =
-    let o : Seen = record { frames = d.frames; conn = Answering t a; us = unsent_signs d.unsent; last = opt_sign d.last; delivered = ds; given = v ∷ gs; kept = d.kept } in
-    let n : Seen = record { frames = d.frames; conn = device_repeated (Answering t a) now; us = unsent_signs d.unsent; last = opt_sign d.last; delivered = ds; given = v ∷ gs; kept = d.kept } in
-    let P : TransportFrame → Type 0 = λ z. Speaks me o n (Frame z ∷ []) in
-    subst P (sym is.3) (SAgain (device_repeated (Answering t a) now) v gs (ap unsent_signs bare) refl refl is (λ z. absurd (let q : Answering t a ≡ Closed = z in cc)))
-
--- its outstanding answer again
-pub repeats_seen : (me : IndAddr) (d : DeviceState) (now : ℕ) (ds gs : List (List ℕ)) → d.unsent ≡ [] → ConnIs me d.connection ds gs
-    → Speaks me (seen_of d ds gs) (seen_of (repeats d now) ds gs) (opt_list (opt_sign (repeat_frame d)))
-repeats_seen me d now ds gs bare is = repeats_by me d d.connection now ds gs bare is
-
--- ---- closing, and power
-
-pub data Shuts (o : Seen) : Seen → Type 0 where
-  ShSame : Shuts o o
-  ShCloses : (k l : List Sign) → Plain k → l ≡ o.us ++ k → Shuts o (record { frames = o.frames; conn = Closed; us = l; last = o.last; delivered = o.delivered; given = o.given; kept = o.kept })
-  ShCut : Shuts o (cut_seen o)
-
-shuts_by : (d : DeviceState) (p : Option IndAddr) (ds gs : List (List ℕ)) → Shuts (seen_of d ds gs) (seen_of (shut_from d p) ds gs)
-shuts_by d None ds gs = ShSame
-shuts_by d (Some to) ds gs = ShCloses (Frame Disconnect ∷ []) _ ((tt, tt, tt), tt) (one_more d.unsent (own_frame d.address false to.raw disconnect) Disconnect disconnect_read)
-
-pub shut_seen : (d : DeviceState) (ds gs : List (List ℕ)) → Shuts (seen_of d ds gs) (seen_of (shut d) ds gs)
-shut_seen d ds gs = shuts_by d (partner_of d.connection) ds gs
-
-pub cut_is : (d : DeviceState) (ds gs : List (List ℕ)) → Shuts (seen_of d ds gs) (seen_of (cut d) ds gs)
-cut_is d ds gs = ShCut
-
-on_by : (d e : DeviceState) (ds gs : List (List ℕ)) (b : Bool) → seen_of e ds gs ≡ cut_seen (seen_of d ds gs) → Shuts (seen_of d ds gs) (seen_of (cond b d e) ds gs)
-on_by d e ds gs true h = ShSame
-on_by d e ds gs false h = subst (λ (z : Seen). Shuts (seen_of d ds gs) z) (sym h) ShCut
-
-pub on_seen : (d : DeviceState) (ds gs : List (List ℕ)) → Shuts (seen_of d ds gs) (seen_of (switched_on d) ds gs)
-on_seen d ds gs = on_by d _ ds gs d.power refl
-
--- ---- whose its last frame is
-
--- a group telegram, or a frame of the client
-abbrev pub IsMine : IndAddr → Ldata → Type 0
-IsMine me frame = (frame.group ≡ true) ⊎ ((frame.group ≡ false) × (frame.source ≡ me.raw))
-
-abbrev pub LastMine : IndAddr → Option Ldata → Type 0
-LastMine me None = Unit {0}
-LastMine me (Some frame) = IsMine me frame
-
-last_so : (me : IndAddr) (d : DeviceState) (frame : Ldata) (now : ℕ) (outcome : Outcome) → IsMine me frame → LastMine me d.last → (t : Took) → LastMine me (takes_so d frame now outcome t).last
-last_so me d frame now Whole f h Taken = f
-last_so me d frame now (Torn fresh octets) f h Taken = tt
-last_so me d frame now (Worn octets) f h Taken = f
-last_so me d frame now outcome f h NotMine = h
-last_so me d frame now outcome f h TooLong = h
-last_so me d frame now outcome f h Off = h
-
-pub last_mine : (me : IndAddr) (d : DeviceState) (frame : Ldata) (now : ℕ) (outcome : Outcome) → IsMine me frame → LastMine me d.last → LastMine me (takes d frame now outcome).last
-last_mine me d frame now outcome f h = last_so me d frame now outcome f h (took_of d frame)
-
-shut_last_by : (me : IndAddr) (d : DeviceState) (p : Option IndAddr) → LastMine me d.last → LastMine me (shut_from d p).last
-shut_last_by me d None h = h
-shut_last_by me d (Some to) h = h
-
-pub shut_last : (me : IndAddr) (d : DeviceState) → LastMine me d.last → LastMine me (shut d).last
-shut_last me d h = shut_last_by me d (partner_of d.connection) h
-
-on_last_by : (me : IndAddr) (d e : DeviceState) (b : Bool) → LastMine me d.last → LastMine me e.last → LastMine me (cond {A = DeviceState} b d e).last
-on_last_by me d e true h k = h
-on_last_by me d e false h k = k
-
-pub on_last : (me : IndAddr) (d : DeviceState) → LastMine me d.last → LastMine me (switched_on d).last
-on_last me d h = on_last_by me d _ d.power h tt
