@@ -1,5 +1,5 @@
 -- What this end answers to a frame, in each of its states.
-use Rattle.std.proofs.Common.{◌≡◌, ℕ, ◌≤◌, ◌⊎◌, inl, inr, List, [], ◌∷◌, Bool, true, false, cond, Some, None, refl, sym, ◌∙◌, subst}
+use Rattle.std.proofs.Common.{◌≡◌, ℕ, ◌≤◌, ◌⊎◌, inl, inr, List, [], ◌∷◌, Bool, true, false, cond, Some, None, refl, sym, ◌∙◌, subst, ap}
 use Rattle.std.specs.Prelude.{◌==◌}
 use Rattle.knx_model.specs.declared.address.IndAddr.{IndAddr}
 use Rattle.knx_model.specs.declared.frames.ip.IpFrame.{IpFrame}
@@ -17,14 +17,22 @@ use Rattle.line_model.specs.Dropped.{drops_sought}
 use Rattle.line_model.specs.ClientEnd.{OpenEnd, ClientEnd, Idle, Seeking, Open, Leaving, JustLost, is_over}
 use Rattle.line_model.specs.ClientFrames.{seeking_took, channel_took, after_took, HasTunnelIfUp}
 use Rattle.tunnel_channel.specs.Fits.{end_of, Knows, KnowsOpen, IsBehind, IsUnanswered, HasNone, FitsChannel, Fits}
-use Rattle.tunnel_channel.specs.Follows.{TakesFrame, TakeFollows, is_confirmation_late}
+use Rattle.tunnel_channel.specs.Follows.{TakesFrame, TakeFollows, is_confirmation_late, Stays, change}
 use Rattle.tunnel_channel.proofs.Times.{over_later, passed_later}
 use Rattle.tunnel_channel.proofs.Opened.{open_got}
 use Rattle.tunnel_channel.proofs.Rows.{up, fits_up, told_up, took_up, row}
 use Rattle.tunnel_channel.proofs.Take.{lapsed_alike, by_row, NothingGot, unheard, lapsed_got, none_got_by}
 
 abbrev pub Answers : ClientEnd → IpFrame → ℕ → List ℕ → List Entry → ChannelTook → Type 0
-Answers end frame now octets r told = TakesFrame (after_took end frame now told) told octets now r
+Answers end frame now octets r told = TakesFrame (after_took end frame now told) told (is_over end now) octets now r
+
+none_changes : (ch : ClientChannel) → HasNone ch → change ch ch ≡ Stays
+none_changes seen.Fresh n = refl
+none_changes (seen.Sought since) n = absurd n
+none_changes (seen.RefusedBy status) n = refl
+none_changes seen.Unanswered n = refl
+none_changes (seen.Open c l) n = absurd n
+none_changes (seen.Lost c) n = refl
 
 -- ---- an end with a channel
 
@@ -41,7 +49,7 @@ dropped_up : (left : Bool) (e : OpenEnd) (frame : IpFrame) (now : ℕ) (octets :
     → Answers (up left e) frame now octets r took.Dropped
 unfolding after_took
 dropped_up left e frame now octets r n lost over =
-    unheard (up left e) r octets now n (subst (λ (ch : ClientChannel). FitsChannel (up left e) now ch) (sym lost) (fits_up left e now (seen.Lost e.channel) (inr (record { lost = refl; over = over }))))
+    unheard (up left e) r octets now (is_over (up left e) now) (λ o. absurd (let passed : (is_over (up left e) now ≡ true) = over_up left e now ∙ over in cc)) n (subst (λ (ch : ClientChannel). FitsChannel (up left e) now ch) (sym lost) (fits_up left e now (seen.Lost e.channel) (inr (record { lost = refl; over = over }))))
 
 module _ (r : List Entry) (octets : List ℕ) (frame : IpFrame) (now : ℕ) (is : datagram_in octets ≡ Some frame) where
   known_takes : (left : Bool) (c : ℕ) (l : List Entry) → channel r ≡ seen.Open c l → Knows (end_of c l) left c l → is_unconfirmed (acknowledged c l) (confirmed c l) now ≡ false → (t : Bool) → is_over (Open (end_of c l)) now ≡ t
@@ -50,7 +58,7 @@ module _ (r : List Entry) (octets : List ℕ) (frame : IpFrame) (now : ℕ) (is 
       let g = lapsed_got r octets frame now c l at (lapsed_alike c l left now k u ∙ q) is in
       dropped_up left (end_of c l) frame now octets r g.0 g.1 q
   known_takes left c l at k u false q =
-      by_row (after_took (up left (end_of c l)) frame now (told_up left (end_of c l) now frame)) (told_up left (end_of c l) now frame) r octets frame now c l _ (open_got r octets frame now c l at (lapsed_alike c l left now k u ∙ q) is) is (row left c l octets now k frame is)
+      by_row (after_took (up left (end_of c l)) frame now (told_up left (end_of c l) now frame)) (told_up left (end_of c l) now frame) r octets frame now c l (is_over (up left (end_of c l)) now) _ at (open_got r octets frame now c l at (lapsed_alike c l left now k u ∙ q) is) is (row left c l octets now k frame is)
 
   open_takes : (left : Bool) (e : OpenEnd) (k : KnowsOpen e left (channel r)) → is_confirmation_late (channel r) now ≡ false → Answers (up left e) frame now octets r (channel_took (up left e) frame now)
   open_takes left e k u =
@@ -81,7 +89,7 @@ module _ (r : List Entry) (octets : List ℕ) (frame : IpFrame) (now : ℕ) (is 
   none_takes end drops none fits later =
       let g = none_got_by (channel r) r octets frame now (none (channel r) fits) refl is in
       subst (λ (told : ChannelTook). Answers end frame now octets r told) (sym (drops frame))
-      (unheard end r octets now g.0 (subst (λ (ch : ClientChannel). FitsChannel end now ch) (sym g.1) (later (channel r) fits)))
+      (unheard end r octets now (is_over end now) (λ o. ap (λ (ch : ClientChannel). change (channel r) ch) g.1 ∙ none_changes (channel r) (none (channel r) fits)) g.0 (subst (λ (ch : ClientChannel). FitsChannel end now ch) (sym g.1) (later (channel r) fits)))
 
 -- ---- an end that seeks one
 
@@ -151,19 +159,20 @@ module _ (r : List Entry) (octets : List ℕ) (now since : ℕ) (at : channel r 
   unfolding channel_took after_took
   late_takes frame is q =
       let g = late_got r octets frame now since at q is in
-      rw q (unheard (Seeking since) r octets now g.0 (rw g.1 (inr (record { unanswered = refl; over = q }))))
+      rw q (unheard (Seeking since) r octets now true (λ o. absurd (cc)) g.0 (rw g.1 (inr (record { unanswered = refl; over = q }))))
 
   other_takes : (frame : IpFrame) → IsOther frame → datagram_in octets ≡ Some frame → has_passed answer_wait since now ≡ false → Answers (Seeking since) frame now octets r (channel_took (Seeking since) frame now)
   unfolding channel_took after_took
   other_takes frame o is q =
       let g = other_got r octets frame now since at q is o in
-      rw (q, other_told frame o) (unheard (Seeking since) r octets now g.0 (rw g.1 (inl refl)))
+      rw (q, other_told frame o) (unheard (Seeking since) r octets now false (λ p. ap (λ (ch : ClientChannel). change ch (channel (entry (Got octets) now ∷ r))) at ∙ ap (λ (ch : ClientChannel). change (seen.Sought since) ch) g.1) g.0 (rw g.1 (inl refl)))
 
   opened : (ch status : ℕ) (tunnel : IndAddr) → datagram_in octets ≡ Some (ConnectResponse ch status (Some tunnel)) → has_passed answer_wait since now ≡ false → (status == 0) ≡ true
       → Answers (Seeking since) (ConnectResponse ch status (Some tunnel)) now octets r (channel_took (Seeking since) (ConnectResponse ch status (Some tunnel)) now)
   unfolding channel_took after_took after_entry deed
   opened ch status tunnel is q z = rw q (record {
     fits = rw (at, q, is, z) (inl (record { c = ch; l = entry (Got octets) now ∷ []; is = refl; knows = record { begun = tt; is = rw is refl; sendings = rw is tt; heartbeats = rw is tt; asked = refl } }));
+    changes = λ o. rw (at, q, is, z) refl;
     drops = rw (at, is, q) refl;
     gives = rw at refl;
     acknowledges = rw at refl;
@@ -176,6 +185,7 @@ module _ (r : List Entry) (octets : List ℕ) (now since : ℕ) (at : channel r 
   unfolding channel_took after_took after_entry deed
   refused ch status is q z = rw q (record {
     fits = rw (at, q, is, z) tt;
+    changes = λ o. rw (at, q, is, z) refl;
     drops = rw (at, is, q) refl;
     gives = rw at refl;
     acknowledges = rw at refl;
@@ -204,7 +214,7 @@ unfolding channel_took after_took
 unanswered_takes r octets frame now since u le is =
     let over : (has_passed answer_wait since now ≡ true) = passed_later answer_wait since (newest_time r) now le u.over in
     let g = none_got_by seen.Unanswered r octets frame now tt u.unanswered is in
-    rw over (unheard (Seeking since) r octets now g.0 (rw g.1 (inr (record { unanswered = refl; over = over }))))
+    rw over (unheard (Seeking since) r octets now true (λ o. absurd (cc)) g.0 (rw g.1 (inr (record { unanswered = refl; over = over }))))
 
 seeking_takes : (r : List Entry) (octets : List ℕ) (frame : IpFrame) (now since : ℕ) → (channel r ≡ seen.Sought since) ⊎ IsUnanswered since (newest_time r) (channel r) → newest_time r ≤ now → HasTunnelIfUp frame → datagram_in octets ≡ Some frame
     → Answers (Seeking since) frame now octets r (channel_took (Seeking since) frame now)

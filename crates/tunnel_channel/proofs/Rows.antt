@@ -21,7 +21,7 @@ use Rattle.line_model.specs.Sendings.{last_request}
 use Rattle.line_model.specs.ClientEnd.{OpenEnd, ClientEnd, Idle, Open, Leaving, JustLost, with_channel, lost}
 use Rattle.line_model.specs.ClientFrames.{open_took, took_in_time, after_took, acknowledged, delivered, answered}
 use Rattle.tunnel_channel.specs.Fits.{end_of, HasBegun, Knows, KnowsOpen, IsBehind, FitsChannel}
-use Rattle.tunnel_channel.specs.Follows.{is_told_dropped, cemi_in, taken_in, acknowledgement_in, answer_in}
+use Rattle.tunnel_channel.specs.Follows.{is_told_dropped, cemi_in, taken_in, acknowledgement_in, answer_in, Ends, Stays, change_told}
 use Rattle.tunnel_channel.proofs.Times.{same_awaited, same_free}
 use Rattle.tunnel_channel.proofs.Readings.{Readings, readings, KnowsBy, knows_by, knows, after_got, got_readings}
 use Rattle.tunnel_channel.proofs.Opened.{ended_by}
@@ -93,6 +93,7 @@ pub record IsEnd (told : ChannelTook) (after : ClientEnd) (ends : Bool) (c : ℕ
 
 pub record Row (after : ClientEnd) (told : ChannelTook) (ends : Bool) (c : ℕ) (l : List Entry) (octets : List ℕ) (frame : IpFrame) (now : ℕ) : Type 0 where
   pub fits : FitsChannel after now (cond ends (seen.Lost c) (seen.Open c (entry (Got octets) now ∷ l)))
+  pub tells : change_told told ≡ cond ends Ends Stays
   pub drops : drops_in c l now frame ≡ is_told_dropped told
   pub gives : taken_in (cond ends Loses (deed_of Takes (delivers c (expected c l) (request_in (Some frame))) (request_in (Some frame)))) ≡ cemi_in told
   pub acknowledges : option_map Written (cond ends None (calls_for c l (request_in (Some frame)))) ≡ acknowledgement_in told
@@ -115,15 +116,15 @@ unmoved left c l octets frame now k is same = stays (end_of c l) left c l octets
 module _ (left : Bool) (c : ℕ) (l : List Entry) (octets : List ℕ) (now : ℕ) (k : Knows (end_of c l) left c l) where
   row_connect : datagram_in octets ≡ Some ConnectRequest → RowAt left c l octets ConnectRequest now
   unfolding after_took
-  row_connect is = record { fits = unmoved left c l octets ConnectRequest now k is refl; drops = refl; gives = refl; acknowledges = refl; reply = inl refl }
+  row_connect is = record { fits = unmoved left c l octets ConnectRequest now k is refl; tells = refl; drops = refl; gives = refl; acknowledges = refl; reply = inl refl }
 
   row_response : (ch status : ℕ) (tunnel : Option IndAddr) → datagram_in octets ≡ Some (ConnectResponse ch status tunnel) → RowAt left c l octets (ConnectResponse ch status tunnel) now
   unfolding after_took
-  row_response ch status tunnel is = record { fits = unmoved left c l octets (ConnectResponse ch status tunnel) now k is refl; drops = refl; gives = refl; acknowledges = refl; reply = inl refl }
+  row_response ch status tunnel is = record { fits = unmoved left c l octets (ConnectResponse ch status tunnel) now k is refl; tells = refl; drops = refl; gives = refl; acknowledges = refl; reply = inl refl }
 
   row_beat : (ch : ℕ) → datagram_in octets ≡ Some (StateRequest ch) → RowAt left c l octets (StateRequest ch) now
   unfolding after_took
-  row_beat ch is = record { fits = unmoved left c l octets (StateRequest ch) now k is refl; drops = refl; gives = refl; acknowledges = refl; reply = inl refl }
+  row_beat ch is = record { fits = unmoved left c l octets (StateRequest ch) now k is refl; tells = refl; drops = refl; gives = refl; acknowledges = refl; reply = inl refl }
 
   row_state : (ch status : ℕ) → datagram_in octets ≡ Some (StateResponse ch status) → (t z : Bool) → ((ch == c) && lapse.is_awaited (beats c l) now) ≡ t → (status == 0) ≡ z
       → RowAt left c l octets (StateResponse ch status) now
@@ -131,6 +132,7 @@ module _ (left : Bool) (c : ℕ) (l : List Entry) (octets : List ℕ) (now : ℕ
   row_state ch status is true true q z = rw (same_awaited (beats c l) (end_of c l).beat now k.heartbeats, q, z) (record {
     fits = rw (with_up answered left (end_of c l)) (stays (answered (end_of c l)) left c l octets (StateResponse ch status) now (record (readings c l) { unanswered = [] }) k.begun is (rw q refl)
         (record { is = refl; sendings = k.sendings; heartbeats = tt; asked = k.asked }));
+    tells = refl;
     drops = rw q refl;
     gives = refl;
     acknowledges = refl;
@@ -138,6 +140,7 @@ module _ (left : Bool) (c : ℕ) (l : List Entry) (octets : List ℕ) (now : ℕ
   })
   row_state ch status is true false q z = rw (same_awaited (beats c l) (end_of c l).beat now k.heartbeats, q, z) (record {
     fits = rw (lost_up left (end_of c l)) refl;
+    tells = refl;
     drops = rw q refl;
     gives = refl;
     acknowledges = refl;
@@ -145,6 +148,7 @@ module _ (left : Bool) (c : ℕ) (l : List Entry) (octets : List ℕ) (now : ℕ
   })
   row_state ch status is false z q y = rw (same_awaited (beats c l) (end_of c l).beat now k.heartbeats, q) (record {
     fits = unmoved left c l octets (StateResponse ch status) now k is (rw q refl);
+    tells = refl;
     drops = rw q refl;
     gives = refl;
     acknowledges = refl;
@@ -155,22 +159,23 @@ module _ (left : Bool) (c : ℕ) (l : List Entry) (octets : List ℕ) (now : ℕ
   unfolding after_took
   row_end ch is true q = rw q (record {
     fits = tt;
+    tells = refl;
     drops = rw q refl;
     gives = refl;
     acknowledges = refl;
     reply = inr (inr (record { ch = ch; gives = refl; its_own = grind (arith, nat_tests); asked = refl; closed = refl; idle = refl }));
   })
-  row_end ch is false q = rw q (record { fits = unmoved left c l octets (DisconnectRequest ch) now k is refl; drops = rw q refl; gives = refl; acknowledges = refl; reply = inl refl })
+  row_end ch is false q = rw q (record { fits = unmoved left c l octets (DisconnectRequest ch) now k is refl; tells = refl; drops = rw q refl; gives = refl; acknowledges = refl; reply = inl refl })
 
   left_open : (ch status : ℕ) → datagram_in octets ≡ Some (DisconnectResponse ch status) → (z : Bool) → left ≡ z → FitsChannel (up z (end_of c l)) now (seen.Open c (entry (Got octets) now ∷ l))
   left_open ch status is z y = subst (λ (b : Bool). FitsChannel (up b (end_of c l)) now (seen.Open c (entry (Got octets) now ∷ l))) y (unmoved left c l octets (DisconnectResponse ch status) now k is refl)
 
   row_left : (ch status : ℕ) → datagram_in octets ≡ Some (DisconnectResponse ch status) → (t z : Bool) → (ch == c) ≡ t → has_left c l ≡ z → left ≡ z → RowAt left c l octets (DisconnectResponse ch status) now
   unfolding after_took
-  row_left ch status is true true q h y = rw (q, h, y) (record { fits = tt; drops = rw (q, h) refl; gives = refl; acknowledges = refl; reply = inl refl })
-  row_left ch status is true false q h y = rw (q, h, y) (record { fits = left_open ch status is _ y; drops = rw (q, h) refl; gives = refl; acknowledges = refl; reply = inl refl })
-  row_left ch status is false true q h y = rw (q, h, y) (record { fits = left_open ch status is _ y; drops = rw q refl; gives = refl; acknowledges = refl; reply = inl refl })
-  row_left ch status is false false q h y = rw (q, h, y) (record { fits = left_open ch status is _ y; drops = rw q refl; gives = refl; acknowledges = refl; reply = inl refl })
+  row_left ch status is true true q h y = rw (q, h, y) (record { fits = tt; tells = refl; drops = rw (q, h) refl; gives = refl; acknowledges = refl; reply = inl refl })
+  row_left ch status is true false q h y = rw (q, h, y) (record { fits = left_open ch status is _ y; tells = refl; drops = rw (q, h) refl; gives = refl; acknowledges = refl; reply = inl refl })
+  row_left ch status is false true q h y = rw (q, h, y) (record { fits = left_open ch status is _ y; tells = refl; drops = rw q refl; gives = refl; acknowledges = refl; reply = inl refl })
+  row_left ch status is false false q h y = rw (q, h, y) (record { fits = left_open ch status is _ y; tells = refl; drops = rw q refl; gives = refl; acknowledges = refl; reply = inl refl })
 
   row_request : (ch number : ℕ) (cemi : List ℕ) → datagram_in octets ≡ Some (TunnellingRequest ch number cemi) → (t n b : Bool) → (ch == c) ≡ t → (number == expected c l) ≡ n → (next_number number == expected c l) ≡ b
       → RowAt left c l octets (TunnellingRequest ch number cemi) now
@@ -178,6 +183,7 @@ module _ (left : Bool) (c : ℕ) (l : List Entry) (octets : List ℕ) (now : ℕ
   row_request ch number cemi is true true b q n p = rw (q, n) (record {
     fits = rw (with_up delivered left (end_of c l)) (stays (delivered (end_of c l)) left c l octets (TunnellingRequest ch number cemi) now (record (readings c l) { expects = next_number (expected c l) }) k.begun is (rw (q, n) refl)
         (record { is = refl; sendings = k.sendings; heartbeats = k.heartbeats; asked = k.asked }));
+    tells = refl;
     drops = rw (q, n) refl;
     gives = rw (q, n) refl;
     acknowledges = rw (q, n) refl;
@@ -185,6 +191,7 @@ module _ (left : Bool) (c : ℕ) (l : List Entry) (octets : List ℕ) (now : ℕ
   })
   row_request ch number cemi is true false true q n p = rw (q, n, p) (record {
     fits = unmoved left c l octets (TunnellingRequest ch number cemi) now k is (rw (q, n) refl);
+    tells = refl;
     drops = rw (q, n, p) refl;
     gives = rw (q, n) refl;
     acknowledges = rw (q, n, p) refl;
@@ -192,6 +199,7 @@ module _ (left : Bool) (c : ℕ) (l : List Entry) (octets : List ℕ) (now : ℕ
   })
   row_request ch number cemi is true false false q n p = rw (q, n, p) (record {
     fits = unmoved left c l octets (TunnellingRequest ch number cemi) now k is (rw (q, n) refl);
+    tells = refl;
     drops = rw (q, n, p) refl;
     gives = rw (q, n) refl;
     acknowledges = rw (q, n, p) refl;
@@ -199,6 +207,7 @@ module _ (left : Bool) (c : ℕ) (l : List Entry) (octets : List ℕ) (now : ℕ
   })
   row_request ch number cemi is false n b q m p = rw q (record {
     fits = unmoved left c l octets (TunnellingRequest ch number cemi) now k is (rw q refl);
+    tells = refl;
     drops = rw q refl;
     gives = rw q refl;
     acknowledges = rw q refl;
@@ -211,6 +220,7 @@ module _ (left : Bool) (c : ℕ) (l : List Entry) (octets : List ℕ) (now : ℕ
   row_ack ch number status is true q = rw (same_free (own c l).sent (last_request c l), q) (record {
     fits = rw (with_up acknowledged left (end_of c l)) (stays (acknowledged (end_of c l)) left c l octets (TunnellingAck ch number status) now (record (readings c l) { owns = record { number = next_number (own c l).number; sent = [] } }) k.begun is (rw q refl)
         (record { is = refl; sendings = tt; heartbeats = k.heartbeats; asked = k.asked }));
+    tells = refl;
     drops = rw q refl;
     gives = refl;
     acknowledges = refl;
@@ -218,6 +228,7 @@ module _ (left : Bool) (c : ℕ) (l : List Entry) (octets : List ℕ) (now : ℕ
   })
   row_ack ch number status is false q = rw (same_free (own c l).sent (last_request c l), q) (record {
     fits = unmoved left c l octets (TunnellingAck ch number status) now k is (rw q refl);
+    tells = refl;
     drops = rw q refl;
     gives = refl;
     acknowledges = refl;

@@ -1,5 +1,5 @@
 -- A frame that is taken follows the record.
-use Rattle.std.proofs.Common.{◌≡◌, ℕ, ◌⊎◌, inl, inr, List, ◌∷◌, Bool, true, false, Option, Some, None, refl, sym, ◌∙◌, ap, subst}
+use Rattle.std.proofs.Common.{◌≡◌, ℕ, ◌⊎◌, inl, inr, List, ◌∷◌, Bool, true, false, Option, Some, None, refl, sym, ◌∙◌, ap, subst, cond}
 use Rattle.std.specs.Prelude.{◌||◌, option_map}
 use Rattle.knx_model.specs.declared.frames.ip.IpFrame.{IpFrame}
 use Rattle.knx_model.specs.declared.frames.ip.IpFrame.TheVariants.{DisconnectRequest, DisconnectResponse, TunnellingAck}
@@ -16,7 +16,7 @@ use Rattle.line_model.specs.Renews.{IsOwed, owed}
 use Rattle.line_model.specs.Sendings.{last_request}
 use Rattle.line_model.specs.ClientEnd.{OpenEnd, ClientEnd, Open, is_over, is_given_up, is_dead}
 use Rattle.tunnel_channel.specs.Fits.{end_of, outstanding_of, Knows, HasNone, FitsChannel, Fits}
-use Rattle.tunnel_channel.specs.Follows.{Sends, TakesFrame, answer_in, taken_in}
+use Rattle.tunnel_channel.specs.Follows.{Sends, TakesFrame, answer_in, taken_in, Ends, Stays, change}
 use Rattle.tunnel_channel.proofs.Frames.{ack_read, left_read}
 use Rattle.tunnel_channel.proofs.Times.{same_given_up, same_dead}
 use Rattle.tunnel_channel.proofs.Opened.{OpenGot}
@@ -82,9 +82,15 @@ module _ (after : ClientEnd) (told : ChannelTook) (r : List Entry) (octets : Lis
       reply_open (inr (inl a)) = ack_sent g w.fits a answer h
       reply_open (inr (inr a)) = absurd (let e = a.closed in cc)
 
-  pub by_row : (ends : Bool) → OpenGot r octets frame now c l ends → datagram_in octets ≡ Some frame → Row after told ends c l octets frame now → TakesFrame after told octets now r
-  by_row ends g is w = record {
+  changed : (ends : Bool) → change (seen.Open c l) (cond ends (seen.Lost c) (seen.Open c (entry (Got octets) now ∷ l))) ≡ cond ends Ends Stays
+  changed true = refl
+  changed false = refl
+
+  pub by_row : (over ends : Bool) → channel r ≡ seen.Open c l → OpenGot r octets frame now c l ends → datagram_in octets ≡ Some frame → Row after told ends c l octets frame now → TakesFrame after told over octets now r
+  by_row over ends at g is w = record {
     fits = subst (λ (ch : ClientChannel). FitsChannel after now ch) (sym g.after) w.fits;
+    changes = λ o.
+        ap (λ (ch : ClientChannel). change ch (channel (entry (Got octets) now ∷ r))) at ∙ ap (λ (ch : ClientChannel). change (seen.Open c l) ch) g.after ∙ changed ends ∙ sym w.tells;
     drops = g.drops ∙ w.drops;
     gives = ap taken_in g.did ∙ w.gives;
     acknowledges = ap (option_map Written) g.owes ∙ w.acknowledges;
@@ -99,9 +105,10 @@ pub record NothingGot (r : List Entry) (octets : List ℕ) (now : ℕ) : Type 0 
   pub owes : owed (entry (Got octets) now ∷ r) ≡ None
   pub drops : is_dropped r (entry (Got octets) now) ≡ true
 
-pub unheard : (end : ClientEnd) (r : List Entry) (octets : List ℕ) (now : ℕ) → NothingGot r octets now → Fits end (entry (Got octets) now ∷ r) → TakesFrame end took.Dropped octets now r
-unheard end r octets now n fits = record {
+pub unheard : (end : ClientEnd) (r : List Entry) (octets : List ℕ) (now : ℕ) (over : Bool) → (over ≡ false → change (channel r) (channel (entry (Got octets) now ∷ r)) ≡ Stays) → NothingGot r octets now → Fits end (entry (Got octets) now ∷ r) → TakesFrame end took.Dropped over octets now r
+unheard end r octets now over same n fits = record {
   fits = fits;
+  changes = same;
   drops = n.drops;
   gives = n.did;
   acknowledges = ap (option_map Written) n.owes;

@@ -85,8 +85,29 @@ is_told_dropped took.Dropped = true
 is_told_dropped (took.Cemi octets ack) = is_none (ldata_in octets)
 is_told_dropped _ = false
 
-pub record TakesFrame (after : ClientEnd) (told : ChannelTook) (octets : List ℕ) (now : ℕ) (r : List Entry) : Type 0 where
+-- what a frame changed: a channel came up, the gateway refused one with this status, the channel ended, or nothing of these
+pub data Change : Type 0 where
+  Opens : Change
+  Refuses : ℕ → Change
+  Ends : Change
+  Stays : Change
+
+abbrev pub change : ClientChannel → ClientChannel → Change
+change (seen.Sought since) (seen.Open c l) = Opens
+change (seen.Sought since) (seen.RefusedBy status) = Refuses status
+change (seen.Open c l) (seen.Lost d) = Ends
+change _ _ = Stays
+
+abbrev pub change_told : ChannelTook → Change
+change_told (took.Up tunnel) = Opens
+change_told (took.RefusedBy status) = Refuses status
+change_told (took.Gone answer) = Ends
+change_told _ = Stays
+
+-- where the time hasn't ended the channel or the wait for one, the answer tells what changed
+pub record TakesFrame (after : ClientEnd) (told : ChannelTook) (over : Bool) (octets : List ℕ) (now : ℕ) (r : List Entry) : Type 0 where
   pub fits : Fits after (entry (Got octets) now ∷ r)
+  pub changes : over ≡ false → change (channel r) (channel (entry (Got octets) now ∷ r)) ≡ change_told told
   pub drops : is_dropped r (entry (Got octets) now) ≡ is_told_dropped told
   pub gives : taken_in (deed (channel r) (entry (Got octets) now)) ≡ cemi_in told
   pub acknowledges : option_map Written (owed (entry (Got octets) now ∷ r)) ≡ acknowledgement_in told
@@ -96,7 +117,7 @@ pub record TakesFrame (after : ClientEnd) (told : ChannelTook) (octets : List �
 abbrev pub TakeFollows : ClientEnd → IpFrame → ℕ → Type 0
 TakeFollows end frame now =
     (r : List Entry) (octets : List ℕ) → Fits end r → newest_time r ≤ now → is_confirmation_late (channel r) now ≡ false → datagram_in octets ≡ Some frame
-    → TakesFrame (after_took end frame now (channel_took end frame now)) (channel_took end frame now) octets now r
+    → TakesFrame (after_took end frame now (channel_took end frame now)) (channel_took end frame now) (is_over end now) octets now r
 
 -- ---- the time
 
