@@ -49,10 +49,7 @@ fn frames_of(lines: &[ScriptLine]) -> FrameSupport
 }
 
 /// The conditions that the lines say; none at all where one says what the bench doesn't have.
-pub fn bench_conditions(
-    alloc: Global,
-    lines: &[ScriptLine],
-) -> Result<Option<Conditions>, NoMemory>
+pub fn bench_conditions(alloc: Global, lines: &[ScriptLine]) -> Result<Option<Conditions>, NoMemory>
     ensures { IfOk result (λ conditions. conditions ≡ bench_conditions lines.now) }
 {
     if !are_of_bench(lines) {
