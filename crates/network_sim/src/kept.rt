@@ -27,10 +27,12 @@ use std::marker::Model;
 /// While so many channels are made, their numbers don't come again.
 const CHANNEL_NUMBERS: u64 = 255;
 
-/// What became of a datagram: under way it may still arrive.
+/// What became of a datagram, and how often it was delivered.
 #[derive(Clone, Copy, Drop)]
 pub enum Fate {
+    /// It isn't lost.
     UnderWay { delivered: u8 },
+    /// It doesn't arrive any more.
     Lost { delivered: u8 },
 }
 

@@ -34,7 +34,6 @@ pub struct Sendings {
 
 impl Model for Sendings {
     ghost use Rattle.std.specs.Prelude.{◌≡◌, ◌≤◌, ℕ, false, length, slice_get};
-    ghost use Rattle.network_sim.specs.Readable.{readable};
     ghost use Rattle.network_sim.specs.Window.{Window, at_sent, is_waiting};
 
     ghost Value = { Window };
@@ -57,7 +56,8 @@ impl Sendings {
         })
     }
 
-    /// A datagram is sent from an endpoint or to it, while the gateway has made so many channels.
+    /// A datagram is sent from an endpoint or to it, when the gateway has made so many channels. Of more than 300 octets those of the frame
+    /// that they are read as are kept.
     pub fn push(&mut self, octets: &[u8], endpoint: u32, made: u64)
         ensures value { self.new ≡ sent_too (new_datagram (readable octets.now) endpoint made) self.old }
         ensures simulates { (sent : List Sent) → window_of sent ≡ self.old → window_of (new_datagram octets.now endpoint made ∷ sent) ≡ self.new }
@@ -93,7 +93,7 @@ impl Sendings {
         self.next(reach, made).is_none()
     }
 
-    /// The number of the datagram of an age, from 1.
+    /// The number of the datagram of an age, from 1. Where too many were sent to count, it is greater than each number of a script.
     pub fn number_of(&self, age: usize) -> u64
         ensures value { result ≡ self.now.count - age }
         ensures simulates { (sent : List Sent) → window_of sent ≡ self.now → age < oldest_age → IsAlikeToScripts result (number_at sent age) }
@@ -131,7 +131,7 @@ impl Sendings {
         }
     }
 
-    /// The datagram of an age is delivered.
+    /// The datagram of an age is delivered: one that isn't lost and wasn't delivered twice.
     pub fn deliver(&mut self, age: usize)
         requires { OfSent IsDeliverable (slice_get self.old.kept age) }
         ensures value { self.new ≡ changed_there age once_more self.old }
