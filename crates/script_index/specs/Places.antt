@@ -1,0 +1,40 @@
+-- The places that lines of a script name, each with its kind, its device and its number, and 0 where the kind has none; a cut has the number of
+-- octets that are new beside its place. Refused connect requests and group telegrams are no places.
+use Rattle.std.specs.Prelude.{◌≡◌, ℕ, Bool, ◌==◌, ◌&&◌, List, [], ◌∷◌, Option, Some, None, if◌then◌else◌}
+use Rattle.knx_model.specs.declared.script.ScriptWhat.{ScriptWhat}
+use Rattle.knx_model.specs.declared.script.ScriptWhat.TheVariants.{LoseUp, LoseDown, RepeatUp, RepeatDown, LoseTo, LoseFrom, RepeatTo, Cut, Worn, CloseAfter, Refuse, DropChannel, Off, Standard, Group}
+use Rattle.line_model.specs.Lines.{Script, or_later}
+use Rattle.script_index.specs.declared.place.Place.{Place}
+
+abbrev pub place : ℕ → ℕ → ℕ → Place
+place kind device n = record { kind = kind; device = device; n = n }
+
+-- the place of a line, and what is said beside it
+abbrev pub placed : ScriptWhat → Option (Place × ℕ)
+placed (LoseUp n) = Some (place 0 0 n, 0)
+placed (LoseDown n) = Some (place 1 0 n, 0)
+placed (RepeatUp n) = Some (place 2 0 n, 0)
+placed (RepeatDown n) = Some (place 3 0 n, 0)
+placed (DropChannel n) = Some (place 4 0 n, 0)
+placed (LoseTo d n) = Some (place 5 d.raw n, 0)
+placed (LoseFrom d n) = Some (place 6 d.raw n, 0)
+placed (RepeatTo d n) = Some (place 7 d.raw n, 0)
+placed (Worn d n) = Some (place 8 d.raw n, 0)
+placed (CloseAfter d n) = Some (place 9 d.raw n, 0)
+placed (Cut d n octets) = Some (place 10 d.raw n, octets)
+placed (Off d) = Some (place 11 d.raw 0, 0)
+placed (Standard d) = Some (place 12 d.raw 0, 0)
+placed (Refuse n status) = None
+placed (Group after group service) = None
+
+abbrev pub same_place : Place → Place → Bool
+same_place p q = (p.kind == q.kind) && ((p.device == q.device) && (p.n == q.n))
+
+-- what the script says of a place: the earliest line that names it
+abbrev pub value_in : Place → Option (Place × ℕ) → Option ℕ
+value_in q None = None
+value_in q (Some p) = if same_place p.0 q then Some p.1 else None
+
+abbrev pub value_at : Place → Script → Option ℕ
+value_at q [] = None
+value_at q (line ∷ script) = or_later (value_in q (placed line)) (value_at q script)
