@@ -4,26 +4,44 @@ use Rattle.std.specs.Prelude.{◌≡◌, ℕ, Bool, ◌==◌, ◌&&◌, List, []
 use Rattle.knx_model.specs.declared.script.ScriptWhat.{ScriptWhat}
 use Rattle.knx_model.specs.declared.script.ScriptWhat.TheVariants.{LoseUp, LoseDown, RepeatUp, RepeatDown, LoseTo, LoseFrom, RepeatTo, Cut, Worn, CloseAfter, Refuse, DropChannel, Off, Standard, Group}
 use Rattle.line_model.specs.Lines.{Script, or_later}
+use Rattle.script_index.specs.declared.place.Kind.{Kind}
+use Rattle.script_index.specs.declared.place.Kind.TheVariants as kinds
 use Rattle.script_index.specs.declared.place.Place.{Place}
 
-abbrev pub place : ℕ → ℕ → ℕ → Place
-place kind device n = record { kind = kind; device = device; n = n }
+-- the order of the kinds
+abbrev pub number_of : Kind → ℕ
+number_of kinds.LoseUp = 0
+number_of kinds.LoseDown = 1
+number_of kinds.RepeatUp = 2
+number_of kinds.RepeatDown = 3
+number_of kinds.DropChannel = 4
+number_of kinds.LoseTo = 5
+number_of kinds.LoseFrom = 6
+number_of kinds.RepeatTo = 7
+number_of kinds.Worn = 8
+number_of kinds.CloseAfter = 9
+number_of kinds.Cut = 10
+number_of kinds.Off = 11
+number_of kinds.Standard = 12
+
+abbrev pub place : Kind → ℕ → ℕ → Place
+place kind device n = record { kind = number_of kind; device = device; n = n }
 
 -- the place of a line, and what is said beside it
 abbrev pub placed : ScriptWhat → Option (Place × ℕ)
-placed (LoseUp n) = Some (place 0 0 n, 0)
-placed (LoseDown n) = Some (place 1 0 n, 0)
-placed (RepeatUp n) = Some (place 2 0 n, 0)
-placed (RepeatDown n) = Some (place 3 0 n, 0)
-placed (DropChannel n) = Some (place 4 0 n, 0)
-placed (LoseTo d n) = Some (place 5 d.raw n, 0)
-placed (LoseFrom d n) = Some (place 6 d.raw n, 0)
-placed (RepeatTo d n) = Some (place 7 d.raw n, 0)
-placed (Worn d n) = Some (place 8 d.raw n, 0)
-placed (CloseAfter d n) = Some (place 9 d.raw n, 0)
-placed (Cut d n octets) = Some (place 10 d.raw n, octets)
-placed (Off d) = Some (place 11 d.raw 0, 0)
-placed (Standard d) = Some (place 12 d.raw 0, 0)
+placed (LoseUp n) = Some (place kinds.LoseUp 0 n, 0)
+placed (LoseDown n) = Some (place kinds.LoseDown 0 n, 0)
+placed (RepeatUp n) = Some (place kinds.RepeatUp 0 n, 0)
+placed (RepeatDown n) = Some (place kinds.RepeatDown 0 n, 0)
+placed (DropChannel n) = Some (place kinds.DropChannel 0 n, 0)
+placed (LoseTo d n) = Some (place kinds.LoseTo d.raw n, 0)
+placed (LoseFrom d n) = Some (place kinds.LoseFrom d.raw n, 0)
+placed (RepeatTo d n) = Some (place kinds.RepeatTo d.raw n, 0)
+placed (Worn d n) = Some (place kinds.Worn d.raw n, 0)
+placed (CloseAfter d n) = Some (place kinds.CloseAfter d.raw n, 0)
+placed (Cut d n octets) = Some (place kinds.Cut d.raw n, octets)
+placed (Off d) = Some (place kinds.Off d.raw 0, 0)
+placed (Standard d) = Some (place kinds.Standard d.raw 0, 0)
 placed (Refuse n status) = None
 placed (Group after group service) = None
 

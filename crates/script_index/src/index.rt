@@ -29,10 +29,13 @@ fn enter_place(
 ) -> Result<(), NoMemory>
     ensures { OnOk result ((q : Place) → get place_cmp places.new q ≡ or_later (value_in q said) (get place_cmp places.old q)) }
 {
-    if let Some((place, value)) = said {
-        places.insert(place, value)?;
+    match said {
+        Some((place, value)) => {
+            places.insert(place, value)?;
+            Ok(())
+        }
+        None => Ok(()),
     }
-    Ok(())
 }
 
 /// Enters the connect request that a line refuses over what a later line says of it.
