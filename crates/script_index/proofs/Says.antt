@@ -1,9 +1,9 @@
 -- What is found at a place is what the script says of it.
-use Rattle.std.proofs.Common.{◌≡◌, ℕ, Bool, true, false, ◌&&◌, ◌||◌, eqb, List, [], ◌∷◌, Option, Some, None, cond, refl, sym, ap, ◌∙◌}
+use Rattle.std.proofs.Common.{◌≡◌, ℕ, Bool, true, false, ◌&&◌, ◌||◌, eqb, [], ◌∷◌, Option, Some, None, cond, refl, ◌∙◌}
 use Rattle.std.specs.Prelude.{is_some}
 use Rattle.std.specs.List.{list_any}
 use Rattle.knx_model.specs.declared.script.ScriptWhat.{ScriptWhat}
-use Rattle.knx_model.specs.declared.script.ScriptWhat.TheVariants.{LoseUp, LoseDown, RepeatUp, RepeatDown, LoseTo, LoseFrom, RepeatTo, Cut, Worn, CloseAfter, Refuse, DropChannel, Off, Standard, Group}
+use Rattle.knx_model.specs.declared.script.ScriptWhat.TheVariants.{LoseUp, LoseDown, RepeatUp, RepeatDown, LoseTo, LoseFrom, RepeatTo, Cut, Worn, CloseAfter, DropChannel, Off, Standard}
 use Rattle.line_model.specs.Lines as lines
 use Rattle.line_model.specs.Lines.{Script, or_later, first_said, cut_at}
 use Rattle.script_index.specs.declared.place.Kind.TheVariants as kinds

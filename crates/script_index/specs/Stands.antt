@@ -1,5 +1,5 @@
 -- An index stands for a script where each of its maps has what the script says of each place and of each connect request.
-use Rattle.std.specs.Prelude.{◌≡◌, ℕ, Option}
+use Rattle.std.specs.Prelude.{◌≡◌, ℕ}
 use Rattle.std.specs.Ordering.{nat_cmp, ordering_then}
 use Rattle.std.specs.declared.cmp.Ordering.{Ordering}
 use Rattle.std.specs.BTreeMap.{get}
