@@ -84,76 +84,77 @@ impl ScriptIndex {
         Ok(ScriptIndex { places, refused })
     }
 
+    /// Whether some line names the place.
     fn is_said(&self, place: Place) -> bool
         ensures { (script : Script) → StandsFor self.now script → result ≡ is_some (value_at place script) }
     {
         self.places.contains_key(&place)
     }
 
-    /// The n-th datagram that the client sends is lost.
+    /// Whether the n-th datagram that the client sends is lost.
     pub fn loses_up(&self, n: u32) -> bool
         ensures { (script : Script) → StandsFor self.now script → result ≡ loses_up script n }
     {
         self.is_said(Place::new(Kind::LoseUp, 0, n))
     }
 
-    /// The n-th datagram that the gateway sends is lost.
+    /// Whether the n-th datagram that the gateway sends is lost.
     pub fn loses_down(&self, n: u32) -> bool
         ensures { (script : Script) → StandsFor self.now script → result ≡ loses_down script n }
     {
         self.is_said(Place::new(Kind::LoseDown, 0, n))
     }
 
-    /// The n-th datagram that the client sends is delivered twice in a row.
+    /// Whether the n-th datagram that the client sends is delivered twice in a row.
     pub fn repeats_up(&self, n: u32) -> bool
         ensures { (script : Script) → StandsFor self.now script → result ≡ repeats_up script n }
     {
         self.is_said(Place::new(Kind::RepeatUp, 0, n))
     }
 
-    /// The n-th datagram that the gateway sends is delivered twice in a row.
+    /// Whether the n-th datagram that the gateway sends is delivered twice in a row.
     pub fn repeats_down(&self, n: u32) -> bool
         ensures { (script : Script) → StandsFor self.now script → result ≡ repeats_down script n }
     {
         self.is_said(Place::new(Kind::RepeatDown, 0, n))
     }
 
-    /// The gateway closes the channel after the n-th tunnelling request that it acted on.
+    /// Whether the gateway closes the channel after the n-th tunnelling request that it acted on.
     pub fn drops(&self, n: u32) -> bool
         ensures { (script : Script) → StandsFor self.now script → result ≡ drops script n }
     {
         self.is_said(Place::new(Kind::DropChannel, 0, n))
     }
 
-    /// The n-th frame on the bus for the device alone is lost for it.
+    /// Whether the n-th frame on the bus for the device alone is lost for it.
     pub fn loses_to(&self, device: IndAddr, n: u32) -> bool
         ensures { (script : Script) → StandsFor self.now script → result ≡ loses_to script device.raw n }
     {
         self.is_said(Place::new(Kind::LoseTo, device.raw, n))
     }
 
-    /// The n-th frame that the device sends is lost for the gateway.
+    /// Whether the n-th frame that the device sends is lost for the gateway.
     pub fn loses_from(&self, device: IndAddr, n: u32) -> bool
         ensures { (script : Script) → StandsFor self.now script → result ≡ loses_from script device.raw n }
     {
         self.is_said(Place::new(Kind::LoseFrom, device.raw, n))
     }
 
-    /// The device gets the n-th frame for it alone twice in a row.
+    /// Whether the device gets the n-th frame for it alone twice in a row.
     pub fn repeats_to(&self, device: IndAddr, n: u32) -> bool
         ensures { (script : Script) → StandsFor self.now script → result ≡ repeats_to script device.raw n }
     {
         self.is_said(Place::new(Kind::RepeatTo, device.raw, n))
     }
 
-    /// The device's n-th write is worn.
+    /// Whether the device's n-th write is worn.
     pub fn wears(&self, device: IndAddr, n: u32) -> bool
         ensures { (script : Script) → StandsFor self.now script → result ≡ wears script device.raw n }
     {
         self.is_said(Place::new(Kind::Worn, device.raw, n))
     }
 
-    /// The device closes its connection after the n-th frame for it alone that it took.
+    /// Whether the device closes its connection after the n-th frame for it alone that it took.
     pub fn closes(&self, device: IndAddr, n: u32) -> bool
         ensures { (script : Script) → StandsFor self.now script → result ≡ closes script device.raw n }
     {
@@ -169,14 +170,14 @@ impl ScriptIndex {
             .copied()
     }
 
-    /// The device is without power for the whole run.
+    /// Whether the device is without power for the whole run.
     pub fn is_off(&self, device: IndAddr) -> bool
         ensures { (script : Script) → StandsFor self.now script → result ≡ is_off script device.raw }
     {
         self.is_said(Place::new(Kind::Off, device.raw, 0))
     }
 
-    /// The device takes no extended frame.
+    /// Whether the device takes no extended frame.
     pub fn is_standard(&self, device: IndAddr) -> bool
         ensures { (script : Script) → StandsFor self.now script → result ≡ is_standard script device.raw }
     {
