@@ -10,9 +10,8 @@ use Rattle.knx_model.specs.declared.address.IndAddr.{IndAddr}
 use Rattle.line_model.specs.Log.{numbered_from_one}
 use Rattle.device_reservation.specs.Bits.{holds}
 use Rattle.device_reservation.specs.Chains.{OneDevice, IsFirst, IsNext, AreNext, linked}
-use Rattle.device_reservation.specs.Reservation.{AreOneDevice}
 use Rattle.device_reservation.proofs.Raws.{raw_in, raw_of, OfOne, of_one, as_one, job_from_1, job_within, one_to, one_from}
-use Rattle.device_reservation.proofs.Numbered.{by_place, from_1, within, written, unwritten, of_all}
+use Rattle.device_reservation.proofs.Numbered.{by_place, written, unwritten, of_all}
 
 -- ---- the chains of the first n jobs
 
