@@ -1,5 +1,6 @@
 pub mod Words
 pub mod Numbered
+pub mod Raws
 pub mod Chained
 pub mod Stages
 pub mod Taking
