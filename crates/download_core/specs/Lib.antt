@@ -1,0 +1,5 @@
+pub mod JobPlans
+pub mod Attempt
+pub mod Calls
+pub mod Steps
+pub mod Keeps
