@@ -62,6 +62,7 @@ impl Run {
     }
 
     /// After a confirmation.
+    #[tactic(auto, using(crate::proofs::Numbers::confirmed_number))]
     pub fn confirmed(mut self, error: bool, now: u64) -> Phase
         ensures next { (left : ℕ → Plan) → phase_of left result ≡ attempt_confirmed (attempt_of left self) self.flight error now }
         ensures keeps { (left : ℕ → Plan) → KeepsRun left self → KeepsPhase left result }
@@ -83,6 +84,7 @@ impl Run {
     }
 
     /// After a frame of the device.
+    #[tactic(auto, using(crate::proofs::Numbers::heard_keeps))]
     pub fn heard(mut self, plan: &mut JobPlan, tpdu: &[u8], now: u64) -> Phase
         requires { KeepsRun (job_left plan.old) self }
         ensures next { phase_of (job_left plan.new) result ≡ phase_heard (Running (attempt_of (job_left plan.old) self)) (frame_in tpdu.now) now }

@@ -48,6 +48,7 @@ impl Run {
         }
     }
 
+    #[tactic(auto, using(crate::proofs::Numbers::sends_number, crate::proofs::Sendable::question_sendable))]
     fn standing_did(&self, plan: &JobPlan) -> Did
         requires keeps { KeepsRun (job_left plan.now) self.now }
         requires up { awaits_nothing self.now.conn ≡ true }
@@ -100,7 +101,8 @@ impl Run {
     }
 
     fn free_sent(self, plan: &JobPlan, now: u64) -> Phase
-        requires { KeepsRun (job_left plan.now) self }
+        requires keeps { KeepsRun (job_left plan.now) self }
+        requires up { awaits_nothing self.conn ≡ true }
         ensures next { phase_of (job_left plan.now) result ≡ free_sent (attempt_of (job_left plan.now) self) self.wrong now }
         ensures keeps { KeepsPhase (job_left plan.now) result }
     {
@@ -110,8 +112,10 @@ impl Run {
         }
     }
 
+    #[tactic(auto, using(crate::proofs::Sendable::question_sendable))]
     fn standing_sent(self, plan: &JobPlan, now: u64) -> Phase
-        requires { KeepsRun (job_left plan.now) self }
+        requires keeps { KeepsRun (job_left plan.now) self }
+        requires up { awaits_nothing self.conn ≡ true }
         ensures next { phase_of (job_left plan.now) result ≡ standing_sent (attempt_of (job_left plan.now) self) (standing_of (job_left plan.now) self.position) now }
         ensures keeps { KeepsPhase (job_left plan.now) result }
     {
@@ -125,6 +129,7 @@ impl Run {
     }
 
     /// After the outstanding operation was put again, where it was due.
+    #[tactic(auto, using(crate::proofs::Numbers::repeated_number))]
     fn due_sent(mut self, now: u64) -> Run
         ensures next { (left : ℕ → Plan) → attempt_of left result ≡ due_sent (attempt_of left self) (client_expired self.conn now) now }
         ensures keeps { (left : ℕ → Plan) → KeepsRun left self → KeepsRun left result }
@@ -143,6 +148,7 @@ impl Run {
     }
 
     /// After an operation was put for the first time.
+    #[tactic(auto, using(crate::proofs::Numbers::asked_number))]
     fn asked(mut self, question: Question, now: u64) -> Run
         requires number { IsNumber self.number }
         requires sendable { IsApdu question.apdu }
