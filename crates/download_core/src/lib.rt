@@ -16,6 +16,8 @@ mod run;
 mod sending;
 mod signs;
 mod suits;
+#[cfg(test)]
+mod tests;
 
 pub use did::Did;
 pub use download_plan::{CheckPlan, LoadPlan};
