@@ -1,2 +1,6 @@
 pub mod Numbers
 pub mod Sendable
+pub mod Ends
+pub mod Told
+pub mod Confirmed
+pub mod Expired

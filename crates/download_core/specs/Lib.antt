@@ -3,3 +3,5 @@ pub mod Attempt
 pub mod Calls
 pub mod Steps
 pub mod Keeps
+pub mod Fits
+pub mod Follows
