@@ -44,7 +44,7 @@ running_expired signs a now due.Nothing u h f = f
 running_expired signs a now (due.Repeat frame) u h f = f
 running_expired signs a now (due.Silent ms) u h f = by_test signs a f.0 now ms ((ms == ack_wait) || has_passed ms a.put now) u h f
 
-expired_at : (signs : Signs) (phase : Phase) (now later : ℕ) (t : Attempts) → now ≤ later → FitsPhase signs phase now t → FitsPhase signs (phase_expired phase later) later t
+pub expired_at : (signs : Signs) (phase : Phase) (now later : ℕ) (t : Attempts) → now ≤ later → FitsPhase signs phase now t → FitsPhase signs (phase_expired phase later) later t
 expired_at signs Resting now later t l f = f
 expired_at signs (Running a) now later t l f = running_expired signs a later (client_expired a.conn later) t refl f
 expired_at signs (Closing conn flight outcome) now later t l f = (f.0, f.1, closes_later conn flight f.0 now later l f.2)

@@ -4,3 +4,5 @@ pub mod Ends
 pub mod Told
 pub mod Confirmed
 pub mod Expired
+pub mod Goes
+pub mod Sent
