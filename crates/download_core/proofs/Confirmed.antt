@@ -102,12 +102,12 @@ running_confirmed signs a x Reply error now s f k = reply_confirmed signs a x er
 abbrev Lapsed : line.Attempt → Type 0
 Lapsed x = (x.lapsed ≡ true) ⊎ IsBroken x
 
-or_lapsed : (x y : Bool) → x ≡ true → (x || y) ≡ true
+pub or_lapsed : (x y : Bool) → x ≡ true → (x || y) ≡ true
 or_lapsed true y h = refl
 or_lapsed false y h = absurd (cc h)
 
 -- once it is older it has lapsed
-lapsed_older : (conn : ClientEnd) (flight : Flight) (now later : ℕ) (x : line.Attempt) → now ≤ later → Closes conn flight now x → Lapsed (older later x)
+pub lapsed_older : (conn : ClientEnd) (flight : Flight) (now later : ℕ) (x : line.Attempt) → now ≤ later → Closes conn flight now x → Lapsed (older later x)
 lapsed_older conn flight now later x l k = elim (k.why) [
   | inl h ↦ inl (still_silent x now later l h)
   | inr b ↦ inr (record { end = b.end; owes_nothing = b.owes_nothing; closing = b.closing })

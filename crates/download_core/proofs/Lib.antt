@@ -6,3 +6,5 @@ pub mod Confirmed
 pub mod Expired
 pub mod Goes
 pub mod Sent
+pub mod Heard
+pub mod Hears

@@ -1,4 +1,5 @@
 use Rattle.download_core.proofs.Confirmed.{confirmed_follows}
+use Rattle.download_core.proofs.Hears.{heard_follows}
 use Rattle.download_core.proofs.Sent.{sends_rightly, sent_follows}
 use Rattle.download_core.proofs.laws.follows_the_line.Goals as goal
 
@@ -10,3 +11,6 @@ returns-clause-sends c = sends_rightly
 
 pub returns-clause-sent : goal.returns-clause-sent
 returns-clause-sent c = sent_follows
+
+pub returns-clause-heard : goal.returns-clause-heard
+returns-clause-heard c = heard_follows
