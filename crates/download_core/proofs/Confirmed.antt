@@ -1,15 +1,12 @@
 -- A confirmation, in the downloader and in the line's view.
-use Rattle.std.proofs.Common.{◌≡◌, ◌≤◌, ◌⊎◌, inl, inr, ◌||◌, ℕ, suc, Bool, true, false, List, Option, Some, None, refl, ap, sym, subst, ◌∙◌, if◌then◌else◌}
+use Rattle.std.proofs.Common.{◌≡◌, ◌≤◌, ◌⊎◌, inl, inr, ◌||◌, ℕ, suc, Bool, true, false, List, Option, Some, None, refl, ap, sym, subst, ◌∙◌}
 use Rattle.knx_model.specs.declared.address.IndAddr.{IndAddr}
 use Rattle.knx_model.specs.declared.connection.TransportFrame.{TransportFrame}
 use Rattle.knx_model.specs.declared.connection.TransportFrame.TheVariants as frame
-use Rattle.knx_model.specs.declared.connection.ClientConfirmed.{ClientConfirmed}
-use Rattle.knx_model.specs.declared.connection.ClientConfirmed.TheVariants as tells
-use Rattle.knx_model.specs.ClientConnection.{ClientEnd, Asked, Up, Asking, Awaiting, Ended as NoConnection, IsClientEnd, client_confirmed, after_confirmed, client_expired}
+use Rattle.knx_model.specs.ClientConnection.{ClientEnd, Asked, Up, Asking, Awaiting, Ended as NoConnection, client_confirmed, after_confirmed, client_expired}
 use Rattle.knx_model.specs.ConnectionLaws.{Confirms}
 use Rattle.knx_model.specs.Plans.{Plan}
 use Rattle.transport_conn.proofs.Numbers.{client_numbers}
-use Rattle.line_model.specs.Moments.{Moment}
 use Rattle.line_model.specs.Attempts as line
 use Rattle.line_model.specs.Attempts.{Attempts, confirmed_attempt, confirmed_so, heard_so, aged, landed as line_landed, is_silent}
 use Rattle.download_core.specs.declared.flight.Flight.{Flight}
@@ -18,7 +15,7 @@ use Rattle.download_core.specs.declared.outcome.Outcome.{Outcome}
 use Rattle.download_core.specs.declared.signs.Signs.{Signs}
 use Rattle.download_core.specs.Attempt.{Attempt, Phase, Resting, Running, Closing, Leaving, Ended}
 use Rattle.download_core.specs.Calls.{landed, connected, attempt_confirmed, closing_confirmed, phase_confirmed}
-use Rattle.download_core.specs.Fits.{Knows, Closes, Leaves, IsBroken, IsFrame, IsReply, IsAck, IsNak, IsFlight, StandsWith, IsEnd, IsConnected, FitsPhase, OfLast, earlier}
+use Rattle.download_core.specs.Fits.{Knows, Closes, Leaves, IsBroken, IsFrame, IsReply, IsAck, IsNak, IsFlight, StandsWith, IsConnected, FitsPhase, OfLast, earlier}
 use Rattle.download_core.specs.Follows.{ConfirmedFollows}
 use Rattle.download_core.proofs.Ends.{end_confirmed, awaits_confirmed, connected_confirmed}
 use Rattle.download_core.proofs.Told.{told, line_told, older, knows_older, still_silent, leaves_older}

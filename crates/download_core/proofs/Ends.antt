@@ -1,13 +1,7 @@
 -- What the client's end of a connection keeps in its calls: its numbers, what it would send again, and whether an answer is awaited.
-use Rattle.std.proofs.Common.{◌≡◌, ◌≤◌, ℕ, Bool, true, false, not, List, Option, Some, None, refl, ap, sym, if◌then◌else◌, arith}
+use Rattle.std.proofs.Common.{◌≡◌, ◌≤◌, ℕ, Bool, true, false, Option, Some, None, refl, arith}
 use Rattle.std.proofs.lemmas.Grind.{common_steps}
-use Rattle.knx_model.specs.declared.connection.ClientTook.{ClientTook}
-use Rattle.knx_model.specs.declared.connection.ClientTook.TheVariants as heard
-use Rattle.knx_model.specs.declared.connection.ClientExpired.{ClientExpired}
-use Rattle.knx_model.specs.declared.connection.ClientExpired.TheVariants as due
-use Rattle.knx_model.specs.declared.connection.TransportFrame.TheVariants as frame
-use Rattle.knx_model.specs.Connection.{Session, acknowledged, has_passed}
-use Rattle.knx_model.specs.ClientConnection.{ClientEnd, Asked, Up, Asking, Awaiting, Ended, Question, after_confirmed, client_after, client_expired, after_overdue, question_expired}
+use Rattle.knx_model.specs.ClientConnection.{ClientEnd, Asked, Up, Asking, Awaiting, Ended, Question, after_confirmed, client_expired, question_expired}
 use Rattle.line_model.specs.Attempts.{awaits, is_silent}
 use Rattle.download_core.specs.Fits.{IsEnd, IsConnected}
 

@@ -1,13 +1,11 @@
 -- The time, in the downloader and in the line's view.
-use Rattle.std.proofs.Common.{◌≡◌, ◌≤◌, ◌⊎◌, inl, inr, ◌||◌, ◌==◌, ℕ, suc, Bool, true, false, Option, Some, None, refl, ap, sym, subst, ◌∙◌, if◌then◌else◌}
-use Rattle.knx_model.specs.declared.log.Sign.TheVariants as sign
+use Rattle.std.proofs.Common.{◌≡◌, ◌≤◌, inl, ◌||◌, ◌==◌, ℕ, Bool, true, false, Some, None, refl, ap, ◌∙◌, if◌then◌else◌}
 use Rattle.knx_model.specs.declared.connection.ClientExpired.{ClientExpired}
 use Rattle.knx_model.specs.declared.connection.ClientExpired.TheVariants as due
 use Rattle.knx_model.specs.Connection.{has_passed, ack_wait}
 use Rattle.knx_model.specs.ClientConnection.{ClientEnd, Asked, Up, Asking, Awaiting, Ended as NoConnection, client_expired}
 use Rattle.line_model.specs.Attempts as line
 use Rattle.line_model.specs.Attempts.{Attempts, is_silent}
-use Rattle.download_core.specs.declared.outcome.Outcome.TheVariants.{Failed}
 use Rattle.download_core.specs.declared.signs.Signs.{Signs}
 use Rattle.download_core.specs.Attempt.{Attempt, Phase, Resting, Running, Closing, Leaving, Ended}
 use Rattle.download_core.specs.Calls.{silence, silenced, phase_expired}

@@ -1,9 +1,7 @@
 -- What a downloader gives to be sent may be put, and is then what the line's view has of it.
-use Rattle.std.proofs.Common.{◌≡◌, ◌≤◌, ◌<◌, ◌⊎◌, inl, inr, ◌||◌, ◌+◌, ℕ, suc, Bool, true, false, is_some, List, [], ◌∷◌, map, drop, Option, Some, None, refl, ap, sym, subst, ◌∙◌, if◌then◌else◌, arith}
+use Rattle.std.proofs.Common.{◌≡◌, ◌<◌, ◌⊎◌, inl, inr, ℕ, suc, Bool, true, false, is_some, List, [], ◌∷◌, map, drop, Option, Some, None, refl, ap, sym, subst, ◌∙◌, arith}
 use Rattle.std.proofs.lemmas.Grind.{common_steps}
 use Rattle.knx_model.specs.declared.address.IndAddr.{IndAddr}
-use Rattle.knx_model.specs.declared.log.Sign.{Sign}
-use Rattle.knx_model.specs.declared.frames.tpdu.Tpdu.TheVariants as tpdu
 use Rattle.knx_model.specs.declared.connection.TransportFrame.{TransportFrame}
 use Rattle.knx_model.specs.declared.connection.TransportFrame.TheVariants as frame
 use Rattle.knx_model.specs.declared.connection.ClientExpired.{ClientExpired}
@@ -12,25 +10,20 @@ use Rattle.knx_model.specs.declared.plan.Expect.{Expect}
 use Rattle.knx_model.specs.declared.plan.Expect.TheVariants.{AckOnly, Is, Note}
 use Rattle.knx_model.specs.Connection.{Session, frame_in, numbered_data, disconnect, IsApdu, IsNumber}
 use Rattle.knx_model.specs.ConnectionLaws.{Sends, Waits}
-use Rattle.knx_model.specs.ClientConnection.{ClientEnd, Asked, Up, Asking, Awaiting, Ended as NoConnection, Question, IsClientEnd, has_answer, awaits_nothing, client_sent, after_send, client_expired, after_overdue, question_expired}
-use Rattle.knx_model.specs.Plans.{Plan, Over, Asks}
-use Rattle.knx_model.specs.GoodPlan.{IsSendable, awaits_answer}
+use Rattle.knx_model.specs.ClientConnection.{ClientEnd, Asked, Up, Asking, Awaiting, Ended as NoConnection, Question, IsClientEnd, awaits_nothing, client_sent, after_send, client_expired, after_overdue, question_expired}
+use Rattle.knx_model.specs.Plans.{Plan, Asks}
+use Rattle.knx_model.specs.GoodPlan.{IsSendable}
 use Rattle.transport_conn.proofs.Carried.{frame_read}
 use Rattle.transport_conn.proofs.Numbers.{client_numbers}
 use Rattle.line_model.specs.Attempts as line
 use Rattle.line_model.specs.Attempts.{Attempts, MayPut, MayAsk, IsNext, IsRepeat, IsOver, IsDone, is_asking, is_silent, awaits, sent_of, sends_numbered, put_attempt, first, most_attempts}
-use Rattle.download_core.specs.declared.did.Did.{Did}
 use Rattle.download_core.specs.declared.did.Did.TheVariants as did
-use Rattle.download_core.specs.declared.flight.Flight.{Flight}
-use Rattle.download_core.specs.declared.flight.Flight.TheVariants.{Nothing, Frame, Reply}
-use Rattle.download_core.specs.declared.outcome.Refusal.{Refusal}
+use Rattle.download_core.specs.declared.flight.Flight.TheVariants.{Frame}
 use Rattle.download_core.specs.declared.outcome.Outcome.{Outcome}
-use Rattle.download_core.specs.declared.outcome.Outcome.TheVariants.{Failed, Done, Refused}
 use Rattle.download_core.specs.declared.signs.Signs.{Signs}
-use Rattle.download_core.specs.declared.signs.Signs.TheVariants.{Zero, One, Two}
-use Rattle.download_core.specs.Attempt.{Standing, Next, AnswerOf, Attempt, Phase, Resting, Running, Closing, Leaving, Ended, DownloaderState, first_attempt, with_sign}
-use Rattle.download_core.specs.Steps.{connect, phase_did, attempt_did, paid_did, free_did, standing_did, due_did, phase_sent, paid_sent, free_sent, standing_sent, due_sent, replied, asked, stands_after, closing_did, sends}
-use Rattle.download_core.specs.Fits.{Knows, Closes, Leaves, IsBroken, IsFrame, IsReply, IsAck, IsNak, IsFlight, AreReplies, one_octet, plan_of, HasAnswer, StandsWith, IsEnd, FitsPhase, OfLast, earlier}
+use Rattle.download_core.specs.Attempt.{Attempt, Phase, Running, Leaving, first_attempt}
+use Rattle.download_core.specs.Steps.{connect, replied, asked, stands_after}
+use Rattle.download_core.specs.Fits.{Knows, Leaves, IsFrame, IsReply, IsAck, IsNak, AreReplies, one_octet, plan_of, StandsWith, IsEnd, FitsPhase, earlier}
 use Rattle.download_core.proofs.Told.{told, older, knows_older}
 
 pub record Goes (device : IndAddr) (plan : Plan) (signs : Signs) (phase : Phase) (now : ℕ) (tpdu : List ℕ) (t : Attempts) (f : TransportFrame) : Type 0 where
@@ -125,7 +118,7 @@ leaves_by device plan signs outcome x now tpdu c m =
     (subst (Goes device plan signs (Leaving outcome) now disconnect (line.Running (suc (earlier signs)) x)) (sym disconnect_read)
     (record { may = m; fits = (put_attempt (older now x) now frame.Disconnect, refl, leaves_so (older now x) now) }))
 
-not_asking : (conn : ClientEnd) → awaits_nothing conn ≡ true → is_asking conn ≡ false
+pub not_asking : (conn : ClientEnd) → awaits_nothing conn ≡ true → is_asking conn ≡ false
 not_asking (Asked d) h = refl
 not_asking (Up s) h = refl
 not_asking (Asking s q) h = absurd (cc h)

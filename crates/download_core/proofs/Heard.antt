@@ -1,7 +1,6 @@
 -- A frame of the device, in the downloader and in the line's view.
-use Rattle.std.proofs.Common.{◌≡◌, ◌≤◌, ◌<◌, ◌⊎◌, inl, inr, ◌||◌, ◌&&◌, ◌==◌, ◌+◌, ◌*◌, ◌-◌, nat_le, ℕ, suc, Bool, true, false, is_some, List, [], ◌∷◌, ◌++◌, length, map, Option, Some, None, refl, ap, sym, subst, ◌∙◌, if◌then◌else◌, bytes_eq, arith}
+use Rattle.std.proofs.Common.{◌≡◌, ◌<◌, inl, inr, ◌&&◌, ◌==◌, ◌+◌, ◌*◌, ◌-◌, ℕ, Bool, true, false, is_some, List, [], ◌∷◌, ◌++◌, length, map, Option, Some, None, refl, ap, sym, subst, ◌∙◌, if◌then◌else◌, arith}
 use Rattle.std.proofs.lemmas.Grind.{common_steps}
-use Rattle.knx_model.specs.declared.address.IndAddr.{IndAddr}
 use Rattle.knx_model.specs.declared.frames.tpdu.Tpdu.TheVariants as tpdu
 use Rattle.knx_model.specs.declared.connection.TransportFrame.{TransportFrame}
 use Rattle.knx_model.specs.declared.connection.TransportFrame.TheVariants as frame
@@ -9,14 +8,13 @@ use Rattle.knx_model.specs.declared.connection.ClientTook.{ClientTook}
 use Rattle.knx_model.specs.declared.connection.ClientTook.TheVariants as heard
 use Rattle.knx_model.specs.declared.plan.Expect.{Expect}
 use Rattle.knx_model.specs.declared.plan.Expect.TheVariants.{AckOnly, Is, Note}
-use Rattle.knx_model.specs.Apdu.{Written, most_octets}
-use Rattle.knx_model.specs.Connection.{Session, frame_in, IsNumber, HasNumber, acknowledged, is_before}
-use Rattle.knx_model.specs.ConnectionLaws.{Hearing, Carries}
-use Rattle.knx_model.specs.ClientConnection.{ClientEnd, Asked, Up, Asking, Awaiting, Ended as NoConnection, IsClientEnd, client_took, client_after, up_took, asking_took, answer_heard, ack_heard, client_expired}
+use Rattle.knx_model.specs.Apdu.{Written}
+use Rattle.knx_model.specs.Connection.{Session, frame_in, HasNumber, acknowledged, is_before}
+use Rattle.knx_model.specs.ConnectionLaws.{Carries}
+use Rattle.knx_model.specs.ClientConnection.{ClientEnd, Asked, Up, Asking, Awaiting, Ended as NoConnection, client_took, client_after, up_took, asking_took}
 use Rattle.knx_model.specs.Plans.{Plan, Over, Asks, followed}
 use Rattle.knx_model.specs.GoodPlan.{IsSendable}
 use Rattle.transport_conn.proofs.Carried.{frame_read, carried}
-use Rattle.transport_conn.proofs.Numbers.{client_numbers}
 use Rattle.line_model.specs.Progress.{suits}
 use Rattle.line_model.specs.Attempts as line
 use Rattle.line_model.specs.Attempts.{Attempts, awaits}
@@ -24,7 +22,7 @@ use Rattle.download_core.specs.declared.flight.Flight.{Flight}
 use Rattle.download_core.specs.declared.flight.Flight.TheVariants.{Nothing, Frame, Reply}
 use Rattle.download_core.specs.declared.outcome.Refusal.{Refusal}
 use Rattle.download_core.specs.Attempt.{Standing, Next, AnswerOf, Attempt, with_reply, suits_expect, or_else, wanted_of, gone_wrong, answered, answered_at}
-use Rattle.download_core.specs.Fits.{Knows, IsFrame, IsReply, IsAck, IsNak, IsFlight, AreReplies, one_octet, plan_of, HasAnswer, StandsWith, IsEnd}
+use Rattle.download_core.specs.Fits.{Knows, IsFrame, IsReply, IsAck, IsNak, IsFlight, AreReplies, one_octet, plan_of, StandsWith, IsEnd}
 
 -- ---- the connection
 

@@ -1,7 +1,6 @@
 -- A frame of the device, in the downloader and in the line's view: whatever its connection makes of it.
-use Rattle.std.proofs.Common.{◌≡◌, ◌≤◌, ◌<◌, ◌⊎◌, inl, inr, ◌||◌, ◌&&◌, ℕ, suc, Bool, true, false, is_some, List, [], ◌∷◌, ◌++◌, length, map, Option, Some, None, refl, ap, sym, subst, ◌∙◌, if◌then◌else◌}
+use Rattle.std.proofs.Common.{◌≡◌, ◌≤◌, ◌<◌, ◌⊎◌, inl, inr, ◌&&◌, ℕ, suc, Bool, true, false, List, [], length, map, Option, Some, None, refl, ap, sym, subst, ◌∙◌, if◌then◌else◌}
 use Rattle.knx_model.specs.declared.address.IndAddr.{IndAddr}
-use Rattle.knx_model.specs.declared.log.Sign.TheVariants as sign
 use Rattle.knx_model.specs.declared.connection.TransportFrame.{TransportFrame}
 use Rattle.knx_model.specs.declared.connection.ClientTook.{ClientTook}
 use Rattle.knx_model.specs.declared.connection.ClientTook.TheVariants as heard
@@ -11,20 +10,19 @@ use Rattle.knx_model.specs.ClientConnection.{ClientEnd, Asked, Up, Asking, Await
 use Rattle.knx_model.specs.Plans.{Plan, followed}
 use Rattle.transport_conn.proofs.Numbers.{client_numbers}
 use Rattle.line_model.specs.Progress.{suits}
-use Rattle.line_model.specs.Moments.{Moment}
 use Rattle.line_model.specs.Attempts as line
 use Rattle.line_model.specs.Attempts.{Attempts, awaits, heard_attempt, is_silent}
 use Rattle.download_core.specs.declared.flight.Flight.{Flight}
 use Rattle.download_core.specs.declared.flight.Flight.TheVariants.{Nothing, Frame, Reply}
 use Rattle.download_core.specs.declared.outcome.Outcome.{Outcome}
 use Rattle.download_core.specs.declared.signs.Signs.{Signs}
-use Rattle.download_core.specs.Attempt.{Standing, Attempt, Phase, Resting, Running, Closing, Leaving, Ended, answered, comes_to}
+use Rattle.download_core.specs.Attempt.{Attempt, Phase, Resting, Running, Closing, Leaving, Ended, answered}
 use Rattle.download_core.specs.Calls.{owing, attempt_heard, closing_heard, phase_heard}
-use Rattle.download_core.specs.Fits.{Knows, Closes, Leaves, IsBroken, AreReplies, one_octet, IsFlight, IsFrame, IsConnected, IsEnd, StandsWith, FitsPhase, OfLast, earlier}
+use Rattle.download_core.specs.Fits.{Knows, Closes, Leaves, IsBroken, AreReplies, one_octet, IsFlight, IsFrame, IsConnected, StandsWith, FitsPhase, OfLast, earlier}
 use Rattle.download_core.specs.Follows.{HeardFollows, HasRoom}
 use Rattle.download_core.proofs.Told.{told, line_told, older, knows_older, leaves_older}
 use Rattle.download_core.proofs.Confirmed.{lapsed_older, or_lapsed}
-use Rattle.download_core.proofs.Heard.{IsHeard, flight_heard, end_heard, awaits_acked, awaits_answered, awaits_again, awaits_nak, awaits_dropped, IsOwed, OwesReply, took_owes, has_number, owed_more, replies_owed, Learns, learns}
+use Rattle.download_core.proofs.Heard.{IsHeard, flight_heard, end_heard, awaits_acked, awaits_answered, awaits_again, awaits_nak, IsOwed, OwesReply, took_owes, has_number, owed_more, replies_owed, Learns, learns}
 
 -- ---- an attempt that runs
 

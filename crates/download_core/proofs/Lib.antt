@@ -8,3 +8,4 @@ pub mod Goes
 pub mod Sent
 pub mod Heard
 pub mod Hears
+pub mod Results

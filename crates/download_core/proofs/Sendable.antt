@@ -1,14 +1,13 @@
 -- Each operation that is left of a job's plan can be sent, whatever was noted.
-use Rattle.std.proofs.Common.{◌≡◌, ℕ, zero, suc, List, [], ◌∷◌, drop, ◌+◌, None, refl, subst, sym}
-use Rattle.knx_model.specs.declared.config.Image.{Image}
+use Rattle.std.proofs.Common.{ℕ, zero, suc, List, [], ◌∷◌, drop, ◌+◌, None, subst}
 use Rattle.knx_model.specs.declared.plan.Expect.{Expect}
 use Rattle.knx_model.specs.declared.plan.Expect.TheVariants.{AckOnly, Is, Note}
 use Rattle.knx_model.specs.declared.plan.Op.TheVariants.{Send}
 use Rattle.knx_model.specs.declared.plan.PieceSize.{PieceSize}
 use Rattle.knx_model.specs.Connection.{IsApdu}
-use Rattle.knx_model.specs.LoadPlan.{load_operations, check_operations, load_plan, check_plan}
-use Rattle.knx_model.specs.Operations.{Operation, listed}
-use Rattle.knx_model.specs.Plans.{Plan, Asks, IsHead}
+use Rattle.knx_model.specs.LoadPlan.{load_operations, check_operations}
+use Rattle.knx_model.specs.Operations.{Operation}
+use Rattle.knx_model.specs.Plans.{Plan, IsHead}
 use Rattle.knx_model.specs.GoodPlan.{IsSendable}
 use Rattle.download_plan.specs.Left.{Listening, left_of, load_left, check_left}
 use Rattle.download_plan.proofs.Octets.{AllWritable, octets_sendable}

@@ -1,5 +1,5 @@
 -- What a downloader gives to be sent may be put, whatever phase it is in, and then it fits the line's view again.
-use Rattle.std.proofs.Common.{◌≡◌, ◌≤◌, ◌<◌, ◌⊎◌, inl, inr, ℕ, suc, Bool, true, false, is_some, List, [], ◌∷◌, Option, Some, None, refl, ap, sym, subst, ◌∙◌, if◌then◌else◌, arith}
+use Rattle.std.proofs.Common.{◌≡◌, ◌≤◌, inl, inr, ℕ, suc, Bool, true, false, is_some, List, [], ◌∷◌, Option, Some, None, refl, ap, sym, subst, ◌∙◌, if◌then◌else◌, arith}
 use Rattle.knx_model.specs.declared.address.IndAddr.{IndAddr}
 use Rattle.knx_model.specs.declared.log.Sign.{Sign}
 use Rattle.knx_model.specs.declared.connection.ClientExpired.{ClientExpired}
@@ -8,10 +8,8 @@ use Rattle.knx_model.specs.Connection.{Session, frame_in, numbered_data, disconn
 use Rattle.knx_model.specs.ClientConnection.{ClientEnd, Asked, Up, Asking, Awaiting, Ended as NoConnection, awaits_nothing, client_sent, client_expired}
 use Rattle.knx_model.specs.Plans.{Plan, Over, Asks}
 use Rattle.knx_model.specs.GoodPlan.{IsSendable}
-use Rattle.line_model.specs.Moments.{Moment}
 use Rattle.line_model.specs.Attempts as line
 use Rattle.line_model.specs.Attempts.{Attempts, MayPut, is_asking}
-use Rattle.download_core.specs.declared.did.Did.{Did}
 use Rattle.download_core.specs.declared.did.Did.TheVariants as did
 use Rattle.download_core.specs.declared.flight.Flight.{Flight}
 use Rattle.download_core.specs.declared.flight.Flight.TheVariants.{Nothing, Frame, Reply}
@@ -22,14 +20,14 @@ use Rattle.download_core.specs.declared.signs.Signs.{Signs}
 use Rattle.download_core.specs.declared.signs.Signs.TheVariants.{Zero, One, Two}
 use Rattle.download_core.specs.Attempt.{Standing, Next, AnswerOf, Attempt, Phase, Resting, Running, Closing, Leaving, Ended, DownloaderState}
 use Rattle.download_core.specs.Calls.{expired, phase_expired}
-use Rattle.download_core.specs.Steps.{connect, phase_did, attempt_did, paid_did, free_did, standing_did, due_did, phase_sent, ended_did, ended_sent, closing_did, paid_sent, free_sent, standing_sent, due_sent, failed_did, sends, next_did, sent, stepped, is_send}
-use Rattle.download_core.specs.Fits.{Knows, Closes, FitsPhase, OfLast, plan_of, AreReplies, IsReply, earlier}
-use Rattle.download_core.specs.Follows.{IsMoment, SendsRightly, SentFollows}
+use Rattle.download_core.specs.Steps.{connect, phase_did, attempt_did, paid_did, free_did, standing_did, due_did, phase_sent, ended_sent, closing_did, paid_sent, free_sent, standing_sent, due_sent, failed_did, sends, next_did, sent, stepped, is_send}
+use Rattle.download_core.specs.Fits.{Knows, Closes, FitsPhase, plan_of, AreReplies, earlier}
+use Rattle.download_core.specs.Follows.{SendsRightly, SentFollows}
 use Rattle.download_core.proofs.Told.{told, line_told}
 use Rattle.download_core.proofs.Expired.{expired_at}
 use Rattle.download_core.proofs.Goes.{Goes, is_sent, begins_with, reply_goes, leaves_by, over_by, ask_goes, repeat_goes}
 
-up_of : (conn : ClientEnd) → awaits_nothing conn ≡ true → (s : Session) × (conn ≡ Up s)
+pub up_of : (conn : ClientEnd) → awaits_nothing conn ≡ true → (s : Session) × (conn ≡ Up s)
 up_of (Asked d) h = absurd (cc h)
 up_of (Up s) h = (s, refl)
 up_of (Asking s q) h = absurd (cc h)

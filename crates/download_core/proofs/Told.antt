@@ -1,6 +1,5 @@
 -- What the line's view tells of a moment, by what the moment is to the device; and what is nothing to it.
-use Rattle.std.proofs.Common.{◌≡◌, ◌≤◌, ◌⊎◌, inl, inr, ℕ, suc, Bool, true, false, ◌||◌, List, Option, Some, None, refl, ap, sym, subst, ◌∙◌, if◌then◌else◌, arith}
-use Rattle.std.proofs.lemmas.Grind.{common_steps}
+use Rattle.std.proofs.Common.{◌≡◌, ◌≤◌, inl, inr, ℕ, Bool, true, false, ◌||◌, Option, None, refl, ap, sym, subst, ◌∙◌, if◌then◌else◌}
 use Rattle.std.proofs.lemmas.Bool.{or_cases}
 use Rattle.knx_model.specs.declared.address.IndAddr.{IndAddr}
 use Rattle.knx_model.specs.declared.connection.TransportFrame.{TransportFrame}
@@ -11,10 +10,10 @@ use Rattle.line_model.specs.Attempts as line
 use Rattle.line_model.specs.Attempts.{Attempts, attempts_after, aged, put_so, confirmed_so, heard_so, begun, is_silent}
 use Rattle.download_core.specs.declared.flight.Flight.{Flight}
 use Rattle.download_core.specs.declared.signs.Signs.{Signs}
-use Rattle.download_core.specs.Attempt.{Attempt, Phase, Resting, Running, Closing, Leaving, Ended, DownloaderState}
+use Rattle.download_core.specs.Attempt.{Attempt, Phase, Resting, Running, Closing, Leaving, Ended}
 use Rattle.download_core.specs.Calls.{phase_lost}
-use Rattle.download_core.specs.Fits.{Knows, Closes, Leaves, IsBroken, FitsPhase, OfLast, Fits, earlier}
-use Rattle.download_core.specs.Follows.{IsMoment, AsideFollows, LostFollows, line_after}
+use Rattle.download_core.specs.Fits.{Knows, Closes, Leaves, FitsPhase}
+use Rattle.download_core.specs.Follows.{IsMoment, BeginsRightly, AsideFollows, LostFollows}
 use Rattle.download_core.proofs.Ends.{stays_silent}
 
 -- after what was put, confirmed and heard
@@ -109,3 +108,8 @@ lost_at signs (Ended outcome) now later t f = ap (λ (u : Attempts). line.Restin
 
 pub lost_follows : LostFollows
 lost_follows s now m t f h = subst (FitsPhase s.signs (phase_lost s.phase) m.now) (sym (line_lost s.device s.plan m t h)) (lost_at s.signs s.phase now m.now t f)
+
+-- ---- a job of which nothing is done
+
+pub begins_rightly : BeginsRightly
+begins_rightly device plan now = (refl, refl)

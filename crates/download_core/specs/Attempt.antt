@@ -19,7 +19,7 @@ use Rattle.knx_model.specs.declared.plan.Expect.{Expect}
 use Rattle.knx_model.specs.declared.plan.Expect.TheVariants.{AckOnly, Is, Note}
 use Rattle.knx_model.specs.Apdu.{most_octets}
 use Rattle.knx_model.specs.ClientConnection.{ClientEnd, Asked, awaits_nothing}
-use Rattle.knx_model.specs.Plans.{Plan, Over, Asks, is_fitting, followed}
+use Rattle.knx_model.specs.Plans.{Plan, Over, Asks, is_fitting}
 use Rattle.download_core.specs.declared.flight.Flight.{Flight}
 use Rattle.download_core.specs.declared.flight.Flight.TheVariants.{Frame}
 use Rattle.download_core.specs.declared.outcome.Refusal.{Refusal}

@@ -9,7 +9,7 @@ use Rattle.knx_model.specs.declared.connection.ClientExpired.{ClientExpired}
 use Rattle.knx_model.specs.declared.connection.ClientExpired.TheVariants as due
 use Rattle.knx_model.specs.declared.connection.TransportFrame.{TransportFrame}
 use Rattle.knx_model.specs.Connection.{frame_in, has_passed, ack_wait}
-use Rattle.knx_model.specs.ClientConnection.{ClientEnd, Ended as NoConnection, client_confirmed, after_confirmed, client_took, client_after, client_expired, client_deadline}
+use Rattle.knx_model.specs.ClientConnection.{ClientEnd, client_confirmed, after_confirmed, client_took, client_after, client_expired, client_deadline}
 use Rattle.download_core.specs.declared.flight.Flight.{Flight}
 use Rattle.download_core.specs.declared.flight.Flight.TheVariants.{Nothing, Frame, Reply}
 use Rattle.download_core.specs.declared.outcome.Outcome.{Outcome}

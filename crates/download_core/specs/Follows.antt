@@ -5,7 +5,9 @@ use Rattle.knx_model.specs.declared.address.IndAddr.{IndAddr}
 use Rattle.knx_model.specs.declared.connection.TransportFrame.{TransportFrame}
 use Rattle.knx_model.specs.Apdu.{most_octets}
 use Rattle.knx_model.specs.Connection.{frame_in}
+use Rattle.knx_model.specs.Plans.{Plan}
 use Rattle.knx_model.specs.GoodPlan.{IsSendable}
+use Rattle.download_core.specs.declared.signs.Signs.TheVariants.{Zero}
 use Rattle.line_model.specs.Moments.{Moment, is_loss, put_to, heard_from, confirmation_in}
 use Rattle.line_model.specs.Attempts as line
 use Rattle.line_model.specs.Attempts.{Attempts, attempts_after, MayPut, OfRunning}
@@ -24,6 +26,10 @@ pub record IsMoment (device : IndAddr) (put heard : Option TransportFrame) (conf
 
 abbrev pub line_after : DownloaderState → Moment → Attempts → Attempts
 line_after s m t = attempts_after s.device s.plan m t
+
+-- a job of which nothing is done
+abbrev pub BeginsRightly : Type 0
+BeginsRightly = (device : IndAddr) (plan : Plan) (now : ℕ) → Fits (record { device = device; plan = plan; signs = Zero; phase = Resting }) now (line.Resting 0)
 
 -- what is nothing to the device changes nothing
 abbrev pub AsideFollows : Type 0

@@ -5,3 +5,4 @@ pub mod Steps
 pub mod Keeps
 pub mod Fits
 pub mod Follows
+pub mod Results

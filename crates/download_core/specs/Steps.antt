@@ -1,7 +1,6 @@
 -- What a downloader does next, and what it knows once that is done. It puts nothing while a frame of it has no confirmation; what is owed to the
 -- device goes first, then an operation that is due again, then the next one; and T_Disconnect where the attempt is done or refused.
 use Rattle.std.specs.Prelude.{ℕ, ◌+◌, Bool, true, false, List, [], ◌∷◌, drop, Option, Some, None, if◌then◌else◌}
-use Rattle.knx_model.specs.declared.address.IndAddr.{IndAddr}
 use Rattle.knx_model.specs.declared.frames.tpdu.Tpdu.TheVariants as tpdu
 use Rattle.knx_model.specs.declared.plan.Expect.TheVariants.{AckOnly}
 use Rattle.knx_model.specs.declared.connection.ClientExpired.{ClientExpired}
@@ -18,7 +17,7 @@ use Rattle.download_core.specs.declared.outcome.Refusal.{Refusal}
 use Rattle.download_core.specs.declared.outcome.Outcome.{Outcome}
 use Rattle.download_core.specs.declared.outcome.Outcome.TheVariants.{Failed, Done, Refused}
 use Rattle.download_core.specs.declared.signs.Signs.{Signs}
-use Rattle.download_core.specs.declared.signs.Signs.TheVariants.{Zero, One, Two}
+use Rattle.download_core.specs.declared.signs.Signs.TheVariants.{Two}
 use Rattle.knx_model.specs.declared.log.Sign.{Sign}
 use Rattle.download_core.specs.Attempt.{Standing, Next, AnswerOf, Attempt, Phase, Resting, Running, Closing, Leaving, Ended, DownloaderState, first_attempt, with_sign}
 use Rattle.download_core.specs.Calls.{in_phase, expired}

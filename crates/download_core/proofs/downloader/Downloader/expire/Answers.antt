@@ -1,4 +1,4 @@
-use Rattle.std.proofs.Common.{◌≡◌, subst, sym}
+use Rattle.std.proofs.Common.{subst, sym}
 use Rattle.download_core.specs.JobPlans.{job_left}
 use Rattle.download_core.specs.Keeps.{KeepsPhase}
 use Rattle.download_core.proofs.downloader.Downloader.expire.Goals as goal
