@@ -9,3 +9,4 @@ pub mod Sent
 pub mod Heard
 pub mod Hears
 pub mod Results
+pub mod Causes

@@ -6,3 +6,4 @@ pub mod Keeps
 pub mod Fits
 pub mod Follows
 pub mod Results
+pub mod Causes

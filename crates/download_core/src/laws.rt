@@ -6,6 +6,7 @@ ghost use Rattle.std.specs.Prelude.{ℕ};
 ghost use Rattle.knx_model.specs.GoodPlan.{IsSendable};
 ghost use Rattle.download_core.specs.declared.job_plan.JobPlan.{JobPlan};
 ghost use Rattle.download_core.specs.JobPlans.{job_left};
+ghost use Rattle.download_core.specs.Causes.{FailuresHaveCauses};
 ghost use Rattle.download_core.specs.Results.{ResultsAreRight, ResultsStay};
 
 /// What is nothing to its device changes nothing. A confirmation, the time and the loss of the channel are taken in as the line's view has them.
@@ -26,6 +27,11 @@ pub fn follows_the_line()
 pub fn results_are_right()
     ensures right { ResultsAreRight }
     ensures stay { ResultsStay }
+{}
+
+/// An attempt fails only for the cause that its sign says, in the line's view.
+pub fn failures_have_causes()
+    ensures { FailuresHaveCauses }
 {}
 
 /// Each operation that is left of a job's plan can be sent, and expects an answer exactly where its service has one, whatever was noted.

@@ -25,6 +25,8 @@ pub use download_plan::{CheckPlan, LoadPlan};
 pub use downloader::Downloader;
 pub use flight::Flight;
 pub use job_plan::JobPlan;
-pub use laws::{each_operation_can_be_sent, follows_the_line, results_are_right};
+pub use laws::{
+    each_operation_can_be_sent, failures_have_causes, follows_the_line, results_are_right,
+};
 pub use outcome::{Outcome, Refusal};
 pub use signs::Signs;
