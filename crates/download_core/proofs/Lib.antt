@@ -1,0 +1,12 @@
+pub mod Numbers
+pub mod Sendable
+pub mod Ends
+pub mod Told
+pub mod Confirmed
+pub mod Expired
+pub mod Goes
+pub mod Sent
+pub mod Heard
+pub mod Hears
+pub mod Results
+pub mod Causes

@@ -1,0 +1,32 @@
+//! The downloader of one job: three attempts, each over a numbered connection (ISO/IEC 14543-3-2, transport layer), and each through the
+//! job's plan from its first operation on. It is a value that is told frames, confirmations and times, and that answers what is to be sent.
+#![tactic(auto)]
+
+mod did;
+mod downloader;
+mod flight;
+mod frame;
+mod job_plan;
+mod laws;
+mod outcome;
+mod owed;
+mod phase;
+mod position;
+mod question;
+mod run;
+mod sending;
+mod signs;
+mod suits;
+#[cfg(test)]
+mod tests;
+
+pub use did::Did;
+pub use download_plan::{CheckPlan, LoadPlan};
+pub use downloader::Downloader;
+pub use flight::Flight;
+pub use job_plan::JobPlan;
+pub use laws::{
+    each_operation_can_be_sent, failures_have_causes, follows_the_line, results_are_right,
+};
+pub use outcome::{Outcome, Refusal};
+pub use signs::Signs;
