@@ -1,5 +1,5 @@
 -- A whole call, from what was read to what was written.
-use Rattle.std.proofs.Common.{ℕ, ◌≡◌, ◌≢◌, List, [], ◌∷◌, Option, Some, None, Result, Ok, Err, ◌⊎◌, refl, sym, ap, ◌∙◌, subst, inl, inr}
+use Rattle.std.proofs.Common.{ℕ, ◌≡◌, ◌≢◌, List, Option, Some, None, Result, Ok, Err, ◌⊎◌, refl, subst, inl, inr}
 use Rattle.frame_text.specs.FrameText.{IsFrameText, hex_word}
 use Rattle.knx_model.specs.declared.command.Stop.{Stop}
 use Rattle.knx_model.specs.declared.command.Stop.TheVariants as stop
@@ -11,11 +11,11 @@ use Rattle.knx_model.specs.Meaning.{Installation}
 use Rattle.knx_model.specs.Outside.{FileContent}
 use Rattle.knx_top.specs.Moments.{AtEveryMoment}
 use Rattle.knx_top.specs.Command.{Command, Check, Tables, Sim, Decode, ProjectWords, SimWords, asked}
-use Rattle.knx_top.specs.Call.{Does, TellsText, TellsOf, TellsOfProject, TellsOfFrame, RunsScript, HasRunOf, IsAsBefore, HasRun, IsCountsText, IsTablesText, AtMostOneRose, Replies, Writes, octets_or_usage, outcome_status, outcome_text}
+use Rattle.knx_top.specs.Call.{Does, TellsText, TellsOf, TellsOfProject, TellsOfFrame, RunsScript, HasRunOf, IsAsBefore, HasRun, IsCountsText, IsTablesText, AtMostOneRose, Replies, Writes, octets_or_usage, outcome_status}
 use Rattle.knx_top.specs.Ended.{IsTextOf, wanting}
 use Rattle.knx_top.specs.Input.{ProjectIsRead, SimIsRead, OnlyRose, failed_of_project, failed_of_sim, first_some}
 use Rattle.knx_top.specs.Judged.{judged, judged_project}
-use Rattle.knx_top.specs.Ran.{Outcome, Stops, Tells, BreaksOff, Reports, StopsFor, Runs, Commissions, Began}
+use Rattle.knx_top.specs.Ran.{Outcome, Stops, Tells, BreaksOff, Reports, StopsFor, Runs, Commissions}
 use Rattle.knx_top.specs.Stops.{Commission, project_tests, project_told, sim_tests, commission_told}
 use Rattle.knx_top.specs.declared.input.ProjectTexts.{ProjectTexts}
 use Rattle.knx_top.specs.declared.input.SimTexts.{SimTexts}

@@ -6,6 +6,7 @@ use Rattle.knx_model.specs.declared.address.IndAddr.{IndAddr}
 use Rattle.knx_model.specs.declared.command.Stop.{Stop}
 use Rattle.knx_model.specs.declared.command.Stop.TheVariants as stop
 use Rattle.knx_model.specs.declared.config.Image.{Image}
+use Rattle.knx_model.specs.declared.device.FrameSupport.{FrameSupport}
 use Rattle.knx_model.specs.declared.log.JobKind.TheVariants.{Load}
 use Rattle.knx_model.specs.declared.log.JobWord.{JobWord}
 use Rattle.knx_model.specs.declared.log.LogEntry.{LogEntry}
@@ -21,6 +22,7 @@ use Rattle.knx_model.specs.LoadPlan.{load_plan}
 use Rattle.knx_model.specs.Promises.{StartOf, BeginsLoaded, BeginsBlank, OldStoppedOrNew, RunsProject, IsJobOf, DoneIsTrue, OldUntilTaken, StaysFromDone}
 use Rattle.knx_top.specs.Script.{Follows}
 use Rattle.knx_model.specs.Tables.{StandsFor}
+use Rattle.knx_top.specs.declared.conditions.Conditions.{Conditions}
 use Rattle.knx_top.specs.declared.judge.Order.{Order}
 use Rattle.knx_top.specs.declared.commission.Ended.{Ended}
 use Rattle.knx_top.specs.declared.download.JobEnd.{JobEnd}
@@ -29,7 +31,7 @@ use Rattle.knx_top.specs.Stops.{Commission}
 use Rattle.knx_top.specs.Order.{OrderFor, IsOrder, IsBefore}
 use Rattle.knx_top.specs.Attempts.{KeptToPlan}
 use Rattle.knx_top.specs.Ran.{Commissions, Stops, BreaksOff, Reports, Outcome, Began, Ran, IsOver, IsDone, HasFailed, entry}
-use Rattle.knx_top.specs.Start.{start_with}
+use Rattle.knx_top.specs.Start.{blank_or_loaded, start_with}
 use Rattle.knx_top.specs.Ended.{end_of, log_of, run_outcome, HasLoaded, HasEnded, Reported}
 
 -- ---- where the call stops before a run
@@ -85,11 +87,11 @@ begun_run t bench start lent begun = some_trace t (record { start = start; event
     some_trace : (one other : Trace) → Some one ≡ Some other → one ≡ other
     some_trace one other e = cc
 
-pub start_power : (device : IndAddr) (before : Option Image) → (start_with device before).power ≡ true
-start_power device None = refl
-start_power device (Some image) = refl
+pub start_power : (device : IndAddr) (before : Option Image) (frames : FrameSupport) → (start_with device before frames).power ≡ true
+start_power device None frames = refl
+start_power device (Some image) frames = refl
 
-start_for : (project : Installation) (device : IndAddr) (before : Option Image) → IsBefore project device before → StartOf project device (start_with device before)
+start_for : (project : Installation) (device : IndAddr) (before : Option Image) → IsBefore project device before → StartOf project device (blank_or_loaded device before)
 start_for project device None b = BeginsBlank b refl
 start_for project device (Some image) b = BeginsLoaded b.0 image b.1.stands refl
 
@@ -111,10 +113,10 @@ image_case c image start nv stands h = elim h as (λ _. OldStoppedOrNew c.projec
   | inr r ↦ elim r as (λ _. OldStoppedOrNew c.project c.device start nv) [ inl e ↦ inr (inl e) | inr e ↦ inr (inr (record { image = image; runs_it = e; stands = stands })) ]
 ]
 
-begun : (c : Commission) (order : Order) (t : Trace) → IsOrder c order → t.start ≡ start_with order.device order.before → HasLoaded order.image order.cuts t → Began c t
+begun : (c : Commission) (order : Order) (t : Trace) → IsOrder c order → t.start ≡ start_with order.device order.before order.conditions.frames → HasLoaded order.image order.conditions.cuts t → Began c t
 begun c order t o start h = record {
-  start = subst (StartOf c.before c.device) (sym (start ∙ ap (λ (d : IndAddr). start_with d order.before) o.device)) (start_for c.before c.device order.before o.before);
-  follows = subst (λ (cuts : List Cut). Follows cuts t.start 0 t.events) o.cuts h.follows;
+  start = record { loaded = blank_or_loaded c.device order.before; start = start_for c.before c.device order.before o.before; is = rw (← o.device, ← o.conditions) start };
+  follows = subst (λ (conditions : Conditions). Follows conditions.cuts t.start 0 t.events) o.conditions h.follows;
   old_stopped_or_new = λ k l. image_case c order.image t.start.kept (moment t k).kept o.image.stands (h.moments k l);
   image = order.image;
   stands = o.image.stands;
@@ -180,7 +182,7 @@ over_for : (c : Commission) (order : Order) (t : Trace) (end : JobEnd) → IsOrd
 over_for c order t Done o h = IsDone order.image o.image.stands (h.got_through refl)
 over_for c order t Failed o h = HasFailed order.image o.image.stands (h.failed refl)
 
-ran : (c : Commission) (order : Order) (t : Trace) (ended : Ended) → IsOrder c order → t.start ≡ start_with order.device order.before → HasLoaded order.image order.cuts t → Reported order.image order.device t ended → Ran c t ended.report (ended.job ∷ []) (ended.device ∷ [])
+ran : (c : Commission) (order : Order) (t : Trace) (ended : Ended) → IsOrder c order → t.start ≡ start_with order.device order.before order.conditions.frames → HasLoaded order.image order.conditions.cuts t → Reported order.image order.device t ended → Ran c t ended.report (ended.job ∷ []) (ended.device ∷ [])
 ran c order t ended o start loaded r =
     let own : JobWord = record { device = c.device; kind = Load } in
     let is_own : ended.job ≡ own = rw (r.reported.job, o.device) refl in
@@ -207,14 +209,14 @@ ran c order t ended o start loaded r =
 
 -- ---- the whole run
 
-decided_wanting : (c : Commission) (order : Order) (before : Option Trace) (t : Trace) → IsOrder c order → t.start ≡ start_with order.device order.before → HasLoaded order.image order.cuts t → Commissions (Ok c) before (Some t) BreaksOff
+decided_wanting : (c : Commission) (order : Order) (before : Option Trace) (t : Trace) → IsOrder c order → t.start ≡ start_with order.device order.before order.conditions.frames → HasLoaded order.image order.conditions.cuts t → Commissions (Ok c) before (Some t) BreaksOff
 decided_wanting c order before t o start h = (t, (refl, begun c order t o start h))
 
-pub decided_ran : (c : Commission) (order : Order) (before : Option Trace) (t : Trace) (ended : Ended) → IsOrder c order → t.start ≡ start_with order.device order.before → HasLoaded order.image order.cuts t → Reported order.image order.device t ended → Commissions (Ok c) before (Some t) (Reports ended.report (ended.job ∷ []) (ended.device ∷ []))
+pub decided_ran : (c : Commission) (order : Order) (before : Option Trace) (t : Trace) (ended : Ended) → IsOrder c order → t.start ≡ start_with order.device order.before order.conditions.frames → HasLoaded order.image order.conditions.cuts t → Reported order.image order.device t ended → Commissions (Ok c) before (Some t) (Reports ended.report (ended.job ∷ []) (ended.device ∷ []))
 decided_ran c order before t ended o start h r = (t, (refl, ran c order t ended o start h r))
 
 pub decided_all : (c : Commission) (order : Order) (before after : Option Trace) (t : Trace) (image : Image) (cuts : List Cut) (result : Result Ended NoMemory)
-    → IsOrder c order → image ≡ order.image → cuts ≡ order.cuts → t.start ≡ start_with order.device order.before → after ≡ Some t
+    → IsOrder c order → image ≡ order.image → cuts ≡ order.conditions.cuts → t.start ≡ start_with order.device order.before order.conditions.frames → after ≡ Some t
     → HasLoaded image cuts t → IfOk result (λ ended. Reported image order.device t ended) → Commissions (Ok c) before after (run_outcome result)
 decided_all c order before after t image cuts (Ok ended) o i l start a h r =
     rw a (decided_ran c order before t ended o start (rw (i, l) at h) (rw i at r))

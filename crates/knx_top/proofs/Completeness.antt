@@ -1,18 +1,19 @@
 -- Valid input is told whole, or there was no memory.
-use Rattle.std.proofs.Common.{ℕ, ◌≡◌, ◌≢◌, Bool, true, false, List, [], ◌∷◌, take, Option, Some, None, Ok, Err, refl, sym, ap, ◌∙◌, subst, inl, inr, ◌⊎◌}
+use Rattle.std.proofs.Common.{ℕ, ◌≡◌, Bool, true, false, List, [], ◌∷◌, Option, Some, None, Ok, Err, refl, sym, ap, ◌∙◌, subst, inl, inr, ◌⊎◌}
+use Rattle.frame_text.specs.FrameText.{IsFrameText, hex_word}
 use Rattle.knx_model.specs.declared.command.Stop.{Stop}
 use Rattle.knx_model.specs.declared.command.Stop.TheVariants as stop
 use Rattle.knx_model.specs.declared.outside.files.FileFault.TheVariants as fault
 use Rattle.knx_model.specs.declared.status.Status.{Status}
 use Rattle.knx_model.specs.declared.status.Status.TheVariants as status
 use Rattle.knx_model.specs.Meaning.{Installation}
-use Rattle.knx_model.specs.Outside.{FileContent, Untold, Absent, Holds, MayRead, Rose, Wrote}
+use Rattle.knx_model.specs.Outside.{FileContent, Untold, Absent, Holds, MayRead, Rose}
 use Rattle.knx_model.specs.ReportText.{stop_status}
 use Rattle.knx_top.specs.Command.{ProjectWords}
-use Rattle.knx_top.specs.Input.{limit, goes_on, IsRead, ProjectIsRead, failed, first_some, OnlyRose, failed_of_project, fault_in}
+use Rattle.knx_top.specs.Input.{limit, goes_on, IsRead, failed, first_some, OnlyRose, failed_of_project, fault_in}
 use Rattle.knx_top.specs.Stops.{project_tests, project_told}
 use Rattle.knx_top.specs.Ran.{Outcome, Stops, Tells, BreaksOff, Reports, StopsFor}
-use Rattle.knx_top.specs.Call.{TellsText, TellsOfProject, Replies, outcome_status}
+use Rattle.knx_top.specs.Call.{TellsText, TellsOf, TellsOfProject, TellsOfFrame, octets_or_usage, Replies, outcome_status}
 use Rattle.knx_top.specs.Complete.{reading_told, named_told, texts_told, IsValid, NoneRose, IsToldWhole}
 use Rattle.knx_top.specs.declared.input.ProjectTexts.{ProjectTexts}
 use Rattle.knx_top.specs.declared.input.Reading.{Reading}
@@ -133,3 +134,9 @@ complete IsText words file faults faults' sink sink' taken taken' ending valid s
     by_readings IsText words file faults faults' sink sink' taken taken' ending valid still.out t
     (named_read file words.catalogue t.texts.catalogue valid.catalogue t.is_read.catalogue (first_none _ _ none))
     (λ on. one_read file (goes_on t.texts.catalogue) words.project t.texts.project on valid.project t.is_read.project (second_none _ _ none))
+
+-- ---- `decode`
+
+pub decoded : (word octets : List ℕ) (sink sink' : ℕ) (taken taken' : Option (List ℕ)) (ending : Status) → hex_word word ≡ Some octets → ¬ Rose sink sink' → TellsOfFrame word (Replies sink sink' taken taken' ending) → IsToldWhole (IsFrameText octets) taken taken' ending
+decoded word octets sink sink' taken taken' ending is still t =
+    told_whole (IsFrameText octets) t.outcome sink sink' taken taken' ending still (subst (λ (found : Option (List ℕ)). TellsOf IsFrameText (octets_or_usage found) t.outcome) is t.tells) t.replied

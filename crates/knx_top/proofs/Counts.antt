@@ -1,7 +1,5 @@
 -- The counts of faults over the reads of a call: only the read that failed is counted.
-use Rattle.std.proofs.Common.{ℕ, ◌≡◌, ◌≢◌, Bool, true, false, List, [], ◌∷◌, Option, Some, None, Ok, Err, refl, sym, ap, ◌∙◌, subst, inl, inr, ◌⊎◌}
-use Rattle.knx_model.specs.declared.outside.files.FileFault.{FileFault}
-use Rattle.knx_model.specs.declared.outside.files.FileFault.TheVariants as fault
+use Rattle.std.proofs.Common.{ℕ, ◌≡◌, Bool, true, false, List, [], ◌∷◌, Option, Some, None, Ok, Err, refl, sym, ◌∙◌, subst, inl, inr, ◌⊎◌}
 use Rattle.knx_model.specs.Outside.{FileContent, MayRead, Rose}
 use Rattle.knx_top.specs.Command.{ProjectWords, SimWords}
 use Rattle.knx_top.specs.Input.{limit, goes_on, IsRead, failed, first_some, OnlyRose, failed_of_project, failed_of_sim, ProjectIsRead, SimIsRead}

@@ -1,11 +1,10 @@
 -- What words ask for is just the command that they spell.
 use Rattle.std.proofs.Common.{ℕ, ◌≡◌, ◌↔◌, Bool, true, false, codes, List, [], ◌∷◌, ◌++◌, take, drop, Option, Some, None, refl, sym, ap, ◌∙◌, subst}
-use Rattle.std.specs.Prelude.{bytes_eq, nat_eq, if◌then◌else◌}
-use Rattle.std.specs.List.{starts_with}
+use Rattle.std.specs.Prelude.{bytes_eq, if◌then◌else◌}
 use Rattle.std.specs.Option.{option_map}
 use Rattle.std.proofs.lemmas.List.{take-append-drop}
 use Rattle.std.proofs.lemmas.Slice.Eq.{bytes_eq-Decides}
-use Rattle.knx_top.specs.Command.{Command, Check, Tables, Sim, Decode, ProjectWords, SimWords, SpellsOption, NoOption, CatalogueOption, SpellsCommand, SpellsCheck, SpellsTables, SpellsSim, SpellsDecode, catalogue_name, options, project_words, sim_words, decode_word, asked}
+use Rattle.knx_top.specs.Command.{Command, Check, Tables, Sim, Decode, ProjectWords, SimWords, SpellsOption, NoOption, CatalogueOption, SpellsCommand, SpellsCheck, SpellsTables, SpellsSim, SpellsDecode, options, project_words, sim_words, decode_word, asked}
 
 -- ---- from the words that spell it
 

@@ -1,5 +1,5 @@
 -- The tests one after another come to the first of the list that fails.
-use Rattle.std.proofs.Common.{ℕ, ◌≡◌, Bool, true, false, List, [], ◌∷◌, ◌++◌, Option, Some, None, Result, Ok, Err, refl, sym, ap, ◌∙◌, subst}
+use Rattle.std.proofs.Common.{ℕ, ◌≡◌, Bool, true, false, List, [], ◌∷◌, ◌++◌, Option, Some, None, Result, Ok, Err, refl, ap, ◌∙◌}
 use Rattle.std.specs.Prelude.{if◌then◌else◌, unwrap_or}
 use Rattle.std.specs.List.{list_all}
 use Rattle.std.specs.Option.{option_map}
@@ -11,19 +11,16 @@ use Rattle.knx_model.specs.declared.command.InputFile.{InputFile}
 use Rattle.knx_model.specs.declared.command.InputFile.TheVariants as file
 use Rattle.knx_model.specs.declared.command.Stop.{Stop}
 use Rattle.knx_model.specs.declared.command.Stop.TheVariants as stop
-use Rattle.knx_model.specs.declared.project.Statement.{Statement}
 use Rattle.knx_model.specs.declared.refusal.Refused.{Refused}
-use Rattle.knx_model.specs.declared.script.Cut.{Cut}
 use Rattle.knx_model.specs.declared.script.ScriptLine.{ScriptLine}
 use Rattle.knx_model.specs.Answers.{◌>>=◌}
-use Rattle.knx_model.specs.Meaning.{Installation}
 use Rattle.knx_model.specs.Rules.{first_broken, devices_of}
-use Rattle.knx_model.specs.ScriptText.{cuts_of, script_reading, is_cut, first_stranger}
+use Rattle.knx_model.specs.ScriptText.{script_reading, first_stranger}
 use Rattle.knx_model.specs.Statements.{reading}
 use Rattle.knx_top.specs.Command.{ProjectWords, SimWords}
 use Rattle.knx_top.specs.Input.{fault_in, octets_of, first_some}
-use Rattle.knx_top.specs.Judged.{read_of, models_or, models_of, unless_refused, unless_broken, sound, installed, project_of_models, project_of_text, project_of_catalogue, project_of, judged_project, built, with_at_most, just_cuts, known_cuts, own_cuts, script_cuts, with_cuts, with_begins, with_device, with_before, with_old, with_project, with_new, with_models, after_script, after_old, after_new, after_catalogue, judged}
-use Rattle.knx_top.specs.Stops.{refusal_of, given_or, catalogue_refused, models_in, text_refused, project_in, rule_broken, project_told, project_tests, Commission, the_device, has_at_most, not_built, unless_built, device_in, lines_in, commission_told, is_some_device, sim_tests}
+use Rattle.knx_top.specs.Judged.{read_of, models_or, models_of, unless_refused, unless_broken, sound, installed, project_of_models, project_of_text, project_of_catalogue, project_of, judged_project, built, with_at_most, known_conditions, own_conditions, script_conditions, with_conditions, with_begins, with_device, with_before, with_old, with_project, with_new, with_models, after_script, after_old, after_new, after_catalogue, judged}
+use Rattle.knx_top.specs.Stops.{refusal_of, given_or, catalogue_refused, models_in, text_refused, rule_broken, project_told, project_tests, Commission, the_device, has_at_most, unless_built, lines_in, commission_told, is_some_device, sim_tests, is_of_bench, conditions_of}
 use Rattle.knx_top.specs.declared.input.ProjectTexts.{ProjectTexts}
 use Rattle.knx_top.specs.declared.input.Reading.{Reading}
 use Rattle.knx_top.specs.declared.input.Reading.TheVariants as read
@@ -112,15 +109,15 @@ judged_project_is words texts =
 -- ---- `sim`
 
 script_is : (device : IndAddr) (octets : List ℕ) → let ls : List ScriptLine = given_or [] (script_reading octets) in
-    script_cuts device octets ≡ unless_stopped (text_refused file.Script (script_reading octets) ∷ option_map (λ refused. let s : Stop = stop.Refused file.Script refused in s) (first_stranger (device ∷ []) ls) ∷ unless_built file.Script (list_all is_cut ls) ∷ []) (cuts_of ls)
+    script_conditions device octets ≡ unless_stopped (text_refused file.Script (script_reading octets) ∷ option_map (λ refused. let s : Stop = stop.Refused file.Script refused in s) (first_stranger (device ∷ []) ls) ∷ unless_built file.Script (list_all is_of_bench ls) ∷ []) (conditions_of ls)
 script_is device octets =
     let ls : List ScriptLine = given_or [] (script_reading octets) in
     let t1 : Option Stop = text_refused file.Script (script_reading octets) in
     let t2 : Option Stop = option_map (λ refused. let s : Stop = stop.Refused file.Script refused in s) (first_stranger (device ∷ []) ls) in
-    let t3 : Option Stop = unless_built file.Script (list_all is_cut ls) in
-    step (t1 ∷ []) (t2 ∷ t3 ∷ []) (unless_refused file.Script (script_reading octets)) ls (own_cuts device) (cuts_of ls) (text_step file.Script [] (script_reading octets))
-    (step (t2 ∷ []) (t3 ∷ []) (unless_broken file.Script (first_stranger (device ∷ []) ls) ls) ls known_cuts (cuts_of ls) (broken_step file.Script (first_stranger (device ∷ []) ls) ls)
-    (if_step file.Script (list_all is_cut ls) (cuts_of ls)))
+    let t3 : Option Stop = unless_built file.Script (list_all is_of_bench ls) in
+    step (t1 ∷ []) (t2 ∷ t3 ∷ []) (unless_refused file.Script (script_reading octets)) ls (own_conditions device) (conditions_of ls) (text_step file.Script [] (script_reading octets))
+    (step (t2 ∷ []) (t3 ∷ []) (unless_broken file.Script (first_stranger (device ∷ []) ls) ls) ls known_conditions (conditions_of ls) (broken_step file.Script (first_stranger (device ∷ []) ls) ls)
+    (if_step file.Script (list_all is_of_bench ls) (conditions_of ls)))
 
 pub judged_is : (words : SimWords) (texts : SimTexts) → judged words texts ≡ unless_stopped (sim_tests words texts) (commission_told texts)
 judged_is words texts =
@@ -143,7 +140,7 @@ judged_is words texts =
     let t11 : Option Stop = unless_built file.Old (has_at_most c.device (devices_of c.before.statements)) in
     let t12 : Option Stop = text_refused file.Script (script_reading script) in
     let t13 : Option Stop = option_map (λ refused. let s : Stop = stop.Refused file.Script refused in s) (first_stranger (c.device ∷ []) ls) in
-    let t14 : Option Stop = unless_built file.Script (list_all is_cut ls) in
+    let t14 : Option Stop = unless_built file.Script (list_all is_of_bench ls) in
     step (t1 ∷ []) (t2 ∷ t3 ∷ t4 ∷ t5 ∷ t6 ∷ t7 ∷ t8 ∷ t9 ∷ t10 ∷ t11 ∷ t12 ∷ t13 ∷ t14 ∷ []) (read_of words.catalogue texts.catalogue) (octets_of texts.catalogue) (after_catalogue words texts) c (read_step words.catalogue texts.catalogue)
     (step (t2 ∷ []) (t3 ∷ t4 ∷ t5 ∷ t6 ∷ t7 ∷ t8 ∷ t9 ∷ t10 ∷ t11 ∷ t12 ∷ t13 ∷ t14 ∷ []) (read_of (Some words.new) texts.new) new (after_new words texts) c (read_step (Some words.new) texts.new)
     (step (t3 ∷ []) (t4 ∷ t5 ∷ t6 ∷ t7 ∷ t8 ∷ t9 ∷ t10 ∷ t11 ∷ t12 ∷ t13 ∷ t14 ∷ []) (read_of (Some words.old) texts.old) old (after_old words texts new) c (read_step (Some words.old) texts.old)
@@ -155,4 +152,4 @@ judged_is words texts =
     (step (t9 ∷ []) (t10 ∷ t11 ∷ t12 ∷ t13 ∷ t14 ∷ []) (sound file.Old c.before) c.before (with_before script c.project) c (broken_step file.Old (first_broken c.before.catalogue c.before.statements) c.before)
     (step (t10 ∷ []) (t11 ∷ t12 ∷ t13 ∷ t14 ∷ []) (built file.New (the_device (devices_of c.project.statements))) c.device (with_device script c.project c.before) c (device_step file.New (the_device (devices_of c.project.statements)))
     (step (t11 ∷ []) (t12 ∷ t13 ∷ t14 ∷ []) (built file.Old (with_at_most c.device c.before)) c.before (with_begins script c.project c.device) c (if_step file.Old (has_at_most c.device (devices_of c.before.statements)) c.before)
-    (step (t12 ∷ t13 ∷ t14 ∷ []) [] (script_cuts c.device script) c.cuts (with_cuts c.project c.device c.before) c (script_is c.device script) refl)))))))))))
+    (step (t12 ∷ t13 ∷ t14 ∷ []) [] (script_conditions c.device script) c.conditions (with_conditions c.project c.device c.before) c (script_is c.device script) refl)))))))))))

@@ -1,5 +1,5 @@
--- What valid input comes to: where the files of `check` or `tables` are told and no count rose, the whole text is written with status 0, or
--- there was no memory.
+-- What valid input comes to: where the files of `check` or `tables` are told, or the word of `decode` is one of octets, and no count rose, the
+-- whole text is written with status 0, or there was no memory.
 use Rattle.std.specs.Prelude.{ℕ, ◌≡◌, ◌⊎◌, true, List, take, Option, Some, None}
 use Rattle.knx_model.specs.declared.status.Status.{Status}
 use Rattle.knx_model.specs.declared.status.Status.TheVariants as status

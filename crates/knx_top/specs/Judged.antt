@@ -11,16 +11,16 @@ use Rattle.knx_model.specs.declared.command.Stop.{Stop}
 use Rattle.knx_model.specs.declared.command.Stop.TheVariants as stop
 use Rattle.knx_model.specs.declared.project.Statement.{Statement}
 use Rattle.knx_model.specs.declared.refusal.Refused.{Refused}
-use Rattle.knx_model.specs.declared.script.Cut.{Cut}
 use Rattle.knx_model.specs.declared.script.ScriptLine.{ScriptLine}
 use Rattle.knx_model.specs.Answers.{◌>>=◌, AnswersUnless}
 use Rattle.knx_model.specs.Meaning.{Installation}
 use Rattle.knx_model.specs.Rules.{first_broken, devices_of}
-use Rattle.knx_model.specs.ScriptText.{cuts_of, script_reading, is_cut, first_stranger}
+use Rattle.knx_model.specs.ScriptText.{script_reading, first_stranger}
 use Rattle.knx_model.specs.Statements.{reading}
 use Rattle.knx_top.specs.Command.{ProjectWords, SimWords}
 use Rattle.knx_top.specs.Input.{fault_told}
-use Rattle.knx_top.specs.Stops.{Commission, the_device, has_at_most, not_built}
+use Rattle.knx_top.specs.Stops.{Commission, the_device, has_at_most, not_built, is_of_bench, conditions_of}
+use Rattle.knx_top.specs.declared.conditions.Conditions.{Conditions}
 use Rattle.knx_top.specs.declared.input.ProjectTexts.{ProjectTexts}
 use Rattle.knx_top.specs.declared.input.Reading.{Reading}
 use Rattle.knx_top.specs.declared.input.Reading.TheVariants as read
@@ -85,25 +85,25 @@ built place (Some x) = Ok x
 abbrev pub with_at_most : IndAddr → Installation → Option Installation
 with_at_most device i = if has_at_most device (devices_of i.statements) then Some i else None
 
--- each line is a `cut` line
-abbrev pub just_cuts : List ScriptLine → Option (List Cut)
-just_cuts ls = if list_all is_cut ls then Some (cuts_of ls) else None
+-- each line is one that the bench has
+abbrev pub bench_conditions : List ScriptLine → Option Conditions
+bench_conditions ls = if list_all is_of_bench ls then Some (conditions_of ls) else None
 
-abbrev pub known_cuts : List ScriptLine → Result (List Cut) Stop
-known_cuts known = built file.Script (just_cuts known)
+abbrev pub known_conditions : List ScriptLine → Result Conditions Stop
+known_conditions known = built file.Script (bench_conditions known)
 
-abbrev pub own_cuts : IndAddr → List ScriptLine → Result (List Cut) Stop
-own_cuts device ls = unless_broken file.Script (first_stranger (device ∷ []) ls) ls >>= known_cuts
+abbrev pub own_conditions : IndAddr → List ScriptLine → Result Conditions Stop
+own_conditions device ls = unless_broken file.Script (first_stranger (device ∷ []) ls) ls >>= known_conditions
 
--- a script that reads, names no device but this one and has `cut` lines alone
-abbrev pub script_cuts : IndAddr → List ℕ → Result (List Cut) Stop
-script_cuts device octets = unless_refused file.Script (script_reading octets) >>= own_cuts device
+-- a script that reads, names no device but this one and has lines that the bench has
+abbrev pub script_conditions : IndAddr → List ℕ → Result Conditions Stop
+script_conditions device octets = unless_refused file.Script (script_reading octets) >>= own_conditions device
 
-abbrev pub with_cuts : Installation → IndAddr → Installation → List Cut → Result Commission Stop
-with_cuts project device before cuts = Ok (record { project = project; device = device; before = before; cuts = cuts })
+abbrev pub with_conditions : Installation → IndAddr → Installation → Conditions → Result Commission Stop
+with_conditions project device before conditions = Ok (record { project = project; device = device; before = before; conditions = conditions })
 
 abbrev pub with_begins : List ℕ → Installation → IndAddr → Installation → Result Commission Stop
-with_begins script project device before = script_cuts device script >>= with_cuts project device before
+with_begins script project device before = script_conditions device script >>= with_conditions project device before
 
 abbrev pub with_device : List ℕ → Installation → Installation → IndAddr → Result Commission Stop
 with_device script project before device = built file.Old (with_at_most device before) >>= with_begins script project device

@@ -1,5 +1,5 @@
 -- What holds at every moment of a run on the bench.
-use Rattle.std.specs.Prelude.{ℕ, ◌≡◌, ◌≤◌, length}
+use Rattle.std.specs.Prelude.{ℕ, ◌≤◌, length}
 use Rattle.knx_model.specs.declared.address.IndAddr.{IndAddr}
 use Rattle.knx_model.specs.Meaning.{Installation}
 use Rattle.knx_model.specs.Promises.{OldStoppedOrNew}

@@ -24,7 +24,7 @@ pub record IsOrder (c : Commission) (order : Order) : Type 0 where
   pub device : order.device ≡ c.device
   pub image : IsImage c.project c.device order.image
   pub before : IsBefore c.before c.device order.before
-  pub cuts : order.cuts ≡ c.cuts
+  pub conditions : order.conditions ≡ c.conditions
 
 -- what was judged was compiled
 abbrev pub OrderFor : Result Commission Stop → Order → Type 0

@@ -14,6 +14,7 @@ use Rattle.knx_model.specs.declared.log.Report.{Report}
 use Rattle.knx_model.specs.declared.log.Sign.TheVariants.{Closed}
 use Rattle.knx_top.specs.Bench.{Trace, now, moment}
 use Rattle.knx_model.specs.Meaning.{meaning}
+use Rattle.knx_model.specs.DeviceState.{DeviceState, framed}
 use Rattle.knx_model.specs.LoadPlan.{load_plan}
 use Rattle.knx_model.specs.Promises.{StartOf, IsCase, DoneIsTrue, OldUntilTaken, StaysFromDone}
 use Rattle.knx_top.specs.Moments.{AtEveryMoment}
@@ -24,11 +25,17 @@ use Rattle.knx_top.specs.Stops.{Commission}
 
 -- ---- a run
 
+-- the device begins as the project before says, and takes the frames that the script says
+pub record BeginsAs (c : Commission) (d : DeviceState) : Type 0 where
+  pub loaded : DeviceState
+  pub start : StartOf c.before c.device loaded
+  pub is : d ≡ framed c.conditions.frames loaded
+
 -- A run that has begun, whether it ends or memory is wanting on the way: its start is the one that is stated, its events follow the
 -- script and keep to the load plan of the project's image, and each moment is old, stopped or new.
 pub record Began (c : Commission) (t : Trace) : Type 0 where
-  pub start : StartOf c.before c.device t.start
-  pub follows : Follows c.cuts t.start 0 t.events
+  pub start : BeginsAs c t.start
+  pub follows : Follows c.conditions.cuts t.start 0 t.events
   pub old_stopped_or_new : AtEveryMoment c.project c.device t
   pub image : Image
   pub stands : StandsFor image (meaning c.project c.device)

@@ -1,6 +1,6 @@
 -- Where a call stops: a list of tests, in the order in which they are made. The first that fails is told.
-use Rattle.std.specs.Prelude.{ℕ, Bool, true, false, ◌==◌, List, [], ◌∷◌, Option, Some, None, unwrap_or, Result, Ok, Err, if◌then◌else◌}
-use Rattle.std.specs.List.{list_all}
+use Rattle.std.specs.Prelude.{Bool, true, false, ◌||◌, ◌==◌, List, [], ◌∷◌, Option, Some, None, unwrap_or, Result, Ok, Err, if◌then◌else◌}
+use Rattle.std.specs.List.{list_all, list_any}
 use Rattle.std.specs.Option.{option_map}
 use Rattle.catalogue.specs.Catalogue.{catalogue_of}
 use Rattle.knx_model.specs.declared.address.IndAddr.{IndAddr}
@@ -9,16 +9,20 @@ use Rattle.knx_model.specs.declared.command.InputFile.{InputFile}
 use Rattle.knx_model.specs.declared.command.InputFile.TheVariants as file
 use Rattle.knx_model.specs.declared.command.Stop.{Stop}
 use Rattle.knx_model.specs.declared.command.Stop.TheVariants as stop
+use Rattle.knx_model.specs.declared.device.FrameSupport.{FrameSupport}
+use Rattle.knx_model.specs.declared.device.FrameSupport.TheVariants.{Standard, Extended}
 use Rattle.knx_model.specs.declared.refusal.Refused.{Refused}
 use Rattle.knx_model.specs.declared.refusal.Why.TheVariants.{NotBuilt}
-use Rattle.knx_model.specs.declared.script.Cut.{Cut}
 use Rattle.knx_model.specs.declared.script.ScriptLine.{ScriptLine}
+use Rattle.knx_model.specs.declared.script.ScriptWhat.{ScriptWhat}
+use Rattle.knx_model.specs.declared.script.ScriptWhat.TheVariants as line
 use Rattle.knx_model.specs.Meaning.{Installation}
 use Rattle.knx_model.specs.Rules.{first_broken, devices_of}
 use Rattle.knx_model.specs.ScriptText.{cuts_of, script_reading, is_cut, first_stranger}
 use Rattle.knx_model.specs.Statements.{reading}
 use Rattle.knx_top.specs.Command.{ProjectWords, SimWords}
 use Rattle.knx_top.specs.Input.{fault_in, octets_of}
+use Rattle.knx_top.specs.declared.conditions.Conditions.{Conditions}
 use Rattle.knx_top.specs.declared.input.ProjectTexts.{ProjectTexts}
 use Rattle.knx_top.specs.declared.input.Reading.{Reading}
 use Rattle.knx_top.specs.declared.input.Reading.TheVariants as read
@@ -74,12 +78,31 @@ project_tests words texts =
 
 -- ---- `sim`
 
--- what a run is begun with: NEW and its one device, OLD, and the script's cuts
+-- what a run is begun with: NEW and its one device, OLD, and what the script says
 pub record Commission : Type 0 where
   pub project : Installation
   pub device : IndAddr
   pub before : Installation
-  pub cuts : List Cut
+  pub conditions : Conditions
+
+-- a line says that its device takes standard frames alone
+abbrev pub is_standard : ScriptWhat → Bool
+is_standard (line.Standard device) = true
+is_standard _ = false
+
+abbrev pub says_standard : ScriptLine → Bool
+says_standard l = is_standard l.what
+
+-- a bench has power cuts and devices of either kind, and no other disturbance
+abbrev pub is_of_bench : ScriptLine → Bool
+is_of_bench l = is_cut l || says_standard l
+
+abbrev pub frames_of : List ScriptLine → FrameSupport
+frames_of ls = if list_any says_standard ls then Standard else Extended
+
+-- where power is cut, and which frames the one device takes
+abbrev pub conditions_of : List ScriptLine → Conditions
+conditions_of ls = record { cuts = cuts_of ls; frames = frames_of ls }
 
 -- NEW has just one device
 abbrev pub the_device : List IndAddr → Option IndAddr
@@ -112,7 +135,7 @@ commission_told texts = record {
   project = project_in texts.catalogue texts.new;
   device = device_in (project_in texts.catalogue texts.new);
   before = project_in texts.catalogue texts.old;
-  cuts = cuts_of (lines_in texts.script);
+  conditions = conditions_of (lines_in texts.script);
 }
 
 abbrev pub is_some_device : Option IndAddr → Bool
@@ -135,5 +158,5 @@ sim_tests words texts =
     ∷ unless_built file.Old (has_at_most c.device (devices_of c.before.statements))
     ∷ text_refused file.Script (script_reading (octets_of texts.script))
     ∷ option_map (λ refused. let s : Stop = stop.Refused file.Script refused in s) (first_stranger (c.device ∷ []) (lines_in texts.script))
-    ∷ unless_built file.Script (list_all is_cut (lines_in texts.script))
+    ∷ unless_built file.Script (list_all is_of_bench (lines_in texts.script))
     ∷ []

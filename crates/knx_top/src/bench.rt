@@ -4,7 +4,7 @@ ghost use Rattle.std.specs.Prelude.{◌≡◌, [], None, Some, true, length, IfO
 ghost use Rattle.std.specs.Borrow.{sem};
 ghost use Rattle.std.specs.Option.{option_map};
 ghost use Rattle.knx_model.specs.Device.{effect_in, is_write, runs, Fits};
-ghost use Rattle.knx_model.specs.DeviceState.{IsDevice, blank, loaded_with};
+ghost use Rattle.knx_model.specs.DeviceState.{IsDevice};
 ghost use Rattle.knx_top.specs.declared.event.BenchEvent.TheVariants.{Give, On};
 ghost use Rattle.knx_top.specs.Bench.{now, after, answered, cut_after};
 ghost use Rattle.knx_top.specs.Start.{start_with};
@@ -12,7 +12,7 @@ ghost use Rattle.knx_top.specs.Lending.{LendsRun};
 
 use crate::event::BenchEvent;
 use device_sim::{Device, written_front};
-use knx_model::{ApduOctets, Image, IndAddr, NoMemory};
+use knx_model::{ApduOctets, FrameSupport, Image, IndAddr, NoMemory};
 use std::alloc::Global;
 use std::marker::Model;
 
@@ -35,39 +35,42 @@ impl Model for Run {
     ghost invariant = { λ r. r.device ≡ replay r.start r.events.items };
 }
 
+/// The device as a run begins.
+fn device_begun(
+    alloc: Global,
+    address: IndAddr,
+    before: &Option<Image>,
+    frames: FrameSupport,
+) -> Result<Device, NoMemory>
+    requires { IfSome before.now Fits }
+    ensures { IfOk result (λ device. device ≡ start_with address before.now frames) }
+{
+    let mut device = match before {
+        Some(image) => Device::loaded(alloc, address, image)?,
+        None => Device::blank(alloc, address)?,
+    };
+    if let FrameSupport::Standard = frames {
+        device.set_standard();
+    }
+    Ok(device)
+}
+
 impl Run {
-    /// A blank device to which nothing was done.
-    fn blank(alloc: Global, address: IndAddr) -> Result<Run, NoMemory>
-        ensures { IfOk result (λ made. made ≡ record { start = blank address; events = [] }) }
-    {
-        Ok(Run {
-            start: Device::blank(alloc, address)?,
-            events: Vec::new(alloc),
-            device: Device::blank(alloc, address)?,
-        })
-    }
-
-    /// A device that is loaded with an image.
-    fn loaded(alloc: Global, address: IndAddr, image: &Image) -> Result<Run, NoMemory>
-        requires { Fits image.now }
-        ensures { IfOk result (λ made. made ≡ record { start = loaded_with address image.now; events = [] }) }
-    {
-        Ok(Run {
-            start: Device::loaded(alloc, address, image)?,
-            events: Vec::new(alloc),
-            device: Device::loaded(alloc, address, image)?,
-        })
-    }
-
-    /// The device as a run begins: loaded with an image where there is one, else blank.
-    fn begun(alloc: Global, address: IndAddr, before: &Option<Image>) -> Result<Run, NoMemory>
+    /// A device to which nothing was done: loaded with an image where there is one, else blank.
+    fn begun(
+        alloc: Global,
+        address: IndAddr,
+        before: &Option<Image>,
+        frames: FrameSupport,
+    ) -> Result<Run, NoMemory>
         requires { IfSome before.now Fits }
-        ensures { IfOk result (λ made. made ≡ record { start = start_with address before.now; events = [] }) }
+        ensures { IfOk result (λ made. made ≡ record { start = start_with address before.now frames; events = [] }) }
     {
-        match before {
-            Some(image) => Run::loaded(alloc, address, image),
-            None => Run::blank(alloc, address),
-        }
+        Ok(Run {
+            start: device_begun(alloc, address, before, frames)?,
+            events: Vec::new(alloc),
+            device: device_begun(alloc, address, before, frames)?,
+        })
     }
 
     /// The image that the device runs; none where it doesn't run.
@@ -177,12 +180,13 @@ impl Bench {
         alloc: Global,
         address: IndAddr,
         before: &Option<Image>,
+        frames: FrameSupport,
     ) -> Result<(), NoMemory>
         requires { IfSome before.now Fits }
-        ensures begun { OnOk result (self.new ≡ Some (record { start = start_with address before.now; events = [] })) }
+        ensures begun { OnOk result (self.new ≡ Some (record { start = start_with address before.now frames; events = [] })) }
         ensures err { OnErr result (self.new ≡ self.old) }
     {
-        let run = Run::begun(alloc, address, before)?;
+        let run = Run::begun(alloc, address, before, frames)?;
         self.run = Some(run);
         Ok(())
     }

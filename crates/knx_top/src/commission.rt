@@ -148,12 +148,12 @@ fn commission_order(alloc: Global, order: Order, sim: &mut Bench) -> Result<Ende
         device,
         image,
         before,
-        cuts,
+        conditions,
     } = order;
-    sim.begin(alloc, device, &before)?;
+    sim.begin(alloc, device, &before, conditions.frames)?;
     let mut plan = LoadPlan::of(image);
     match sim.run() {
-        Some(run) => unless_broken_off(load(alloc, run, &mut plan, device, cuts.as_slice())),
+        Some(run) => unless_broken_off(load(alloc, run, &mut plan, device, conditions.cuts.as_slice())),
         None => unreachable!(),
     }
 }

@@ -3,30 +3,29 @@
 ghost use Rattle.std.specs.Prelude.{◌≡◌, ◌≢◌, Err, IfOk, IfErr};
 ghost use Rattle.knx_model.specs.declared.command.InputFile.TheVariants.{New, Old};
 ghost use Rattle.knx_model.specs.declared.command.Stop.TheVariants.{NoMemory as OutOfMemory};
-ghost use Rattle.std.specs.List.{list_all};
 ghost use Rattle.knx_model.specs.Rules.{devices_of};
-ghost use Rattle.knx_model.specs.ScriptText.{is_cut};
-ghost use Rattle.knx_top.specs.Judged.{Gives, built, judged, just_cuts, script_cuts, with_at_most};
+ghost use Rattle.knx_top.specs.Judged.{Gives, built, judged, script_conditions, with_at_most};
 ghost use Rattle.knx_top.specs.Names.{sim_words_of};
 ghost use Rattle.knx_top.specs.Stops.{the_device};
 ghost use Rattle.knx_top.specs.Order.{IsBefore, IsImage, OrderFor};
 
 use crate::command::SimNames;
+use crate::conditions::{Conditions, bench_conditions};
 use crate::input::SimTexts;
 use crate::project::{models_in, not_built, project_in, read_of, refusal, sound_in};
-use knx_model::{Cut, Image, IndAddr, InputFile, List, NoMemory, ScriptLine, Stop};
+use knx_model::{Image, IndAddr, InputFile, Stop};
 use project_check::Checked;
-use script_text::{cuts_of, first_stranger, is_cut, read_script};
+use script_text::{first_stranger, read_script};
 use std::alloc::Global;
 use table_compiler::compile;
 
-/// All that a run needs: NEW's device and image, OLD's image of it, and the script's cuts.
+/// All that a run needs: NEW's device and image, OLD's image of it, and what the script says.
 #[derive(Drop)]
 pub struct Order {
     pub device: IndAddr,
     pub image: Image,
     pub before: Option<Image>,
-    pub cuts: List<Cut>,
+    pub conditions: Conditions,
 }
 
 /// NEW's device, where it has just one.
@@ -50,27 +49,9 @@ fn has_at_most(device: IndAddr, old: &Checked<'_, '_>) -> Result<(), Stop>
     }
 }
 
-/// Whether all lines are `cut` lines.
-fn are_cuts(lines: &[ScriptLine]) -> bool
-    ensures { result ≡ list_all is_cut lines.now }
-{
-    lines.iter().all(|line| is_cut(line))
-}
-
-/// The cuts of lines that are all `cut` lines; none at all for others.
-fn just_cuts(alloc: Global, lines: &[ScriptLine]) -> Result<Option<List<Cut>>, NoMemory>
-    ensures { IfOk result (λ cuts. cuts ≡ just_cuts lines.now) }
-{
-    if !are_cuts(lines) {
-        return Ok(None);
-    }
-    let cuts = cuts_of(alloc, lines)?;
-    Ok(Some(cuts))
-}
-
-/// The cuts of a script, where it reads, names no other device than this one and has `cut` lines alone.
-fn cuts_in(alloc: Global, octets: &[u8], device: IndAddr) -> Result<List<Cut>, Stop>
-    ensures { Gives (λ cuts. cuts) result (script_cuts device octets.now) }
+/// The conditions of a script, where it reads, names no other device than this one and has no line but those that the bench has.
+fn conditions_in(alloc: Global, octets: &[u8], device: IndAddr) -> Result<Conditions, Stop>
+    ensures { Gives (λ conditions. conditions) result (script_conditions device octets.now) }
 {
     let script = match read_script(alloc, octets) {
         Ok(script) => script,
@@ -80,10 +61,7 @@ fn cuts_in(alloc: Global, octets: &[u8], device: IndAddr) -> Result<List<Cut>, S
     if let Some(refused) = first_stranger(&[device], lines) {
         return Err(refusal(InputFile::Script, refused));
     }
-    match just_cuts(alloc, lines)? {
-        Some(cuts) => Ok(cuts),
-        None => Err(not_built(InputFile::Script)),
-    }
+    bench_conditions(alloc, lines)?.ok_or(not_built(InputFile::Script))
 }
 
 /// The image of a device of a project.
@@ -127,13 +105,13 @@ pub fn judge(alloc: Global, names: SimNames<'_>, texts: &SimTexts) -> Result<Ord
     let old = sound_in(alloc, InputFile::Old, &old, &models)?;
     let device = the_device(&new)?;
     has_at_most(device, &old)?;
-    let cuts = cuts_in(alloc, script, device)?;
+    let conditions = conditions_in(alloc, script, device)?;
     let image = image_of(alloc, &new, device)?;
     let before = image_before(alloc, &old, device)?;
     Ok(Order {
         device,
         image,
         before,
-        cuts,
+        conditions,
     })
 }

@@ -2,9 +2,9 @@
 use Rattle.std.proofs.Common.{ap, ◌∙◌, ◌≡◌, ℕ, ◌+◌, ◌<◌, ◌≤◌, Bool, true, false, ◌&&◌, ◌||◌, ◌==◌, refl, arith, List, [], ◌∷◌, Some, None}
 use Rattle.knx_model.specs.Connection.{has_passed}
 use Rattle.knx_model.specs.declared.frames.cemi.Ldata.{Ldata}
-use Rattle.knx_model.specs.declared.frames.ip.IpFrame.TheVariants.{ConnectResponse, DisconnectRequest, TunnellingAck}
+use Rattle.knx_model.specs.declared.frames.ip.IpFrame.TheVariants.{ConnectResponse, DisconnectRequest, DisconnectResponse, TunnellingAck}
 use Rattle.line_model.specs.ChannelLost.{Own, expected, acknowledges}
-use Rattle.line_model.specs.Gateway.{Gateway, Channel, Request, Nothing, Closing, is_put, next_number, connects, answers, next_put, request_expired, channel_expired, client_wait, closed, closed_if_open}
+use Rattle.line_model.specs.Gateway.{Gateway, Channel, Request, Nothing, Closing, is_put, next_number, connects, answers, next_put, request_expired, channel_expired, client_wait, closed, closed_if_open, names, took}
 use Rattle.line_model.specs.Reading.{RequestFrame, AckFrame}
 use Rattle.line_model.specs.Record.{Entry}
 use Rattle.line_model.specs.Renews.{is_acknowledged, calls_for}
@@ -29,8 +29,11 @@ waits c now none early = is_right (has_passed client_wait c.heard now) _ _ (not_
 pub closes : (c : Channel) (now : ℕ) → c.heard + 120000 ≤ now → channel_expired (Some c) now ≡ Closing (DisconnectRequest c.number)
 closes c now late = is_left (has_passed client_wait c.heard now) _ _ (passed c.heard now late)
 
-pub drops : (g : Gateway) (c : Channel) → g.channel ≡ Some c → (closed g).waiting ≡ []
-drops g c e = ap (λ ch. (closed_if_open g ch).waiting) e
+pub drops : (g : Gateway) (c : Channel) → g.channel ≡ Some c → ((closed g).bus ≡ []) × ((closed g).waiting ≡ [])
+drops g c e = (ap (λ ch. (closed_if_open g ch).bus) e, ap (λ ch. (closed_if_open g ch).waiting) e)
+
+pub unknown : (g : Gateway) (from now number : ℕ) → names from number g.channel ≡ false → took g from now (DisconnectRequest number) ≡ answers (DisconnectResponse number 0x21) g
+unknown g from now number h = is_right (names from number g.channel) _ _ h
 
 either : (a b d : Bool) → a ≡ true → d ≡ true → (a && (b || d)) ≡ true
 either true true d p q = refl

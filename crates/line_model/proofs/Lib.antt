@@ -12,3 +12,5 @@ mod Begins
 mod Networks
 mod Channels
 pub mod Projection
+pub mod Turns
+pub mod Prints

@@ -22,12 +22,14 @@ pub mod Signs
 pub mod Progress
 pub mod Told
 pub mod Faults
+pub mod Printed
 -- 5. What the client keeps to
 pub mod Renews
 pub mod Sendings
 pub mod Attempts
 pub mod Asks
 pub mod Closing
+pub mod Waiting
 -- 6. The outside: what a link, a port and a dialer tell
 pub mod LinkStory
 pub mod Polled

@@ -8,9 +8,9 @@ ghost use Rattle.knx_model.specs.KnxNetIp.{Reads as ReadsDatagram};
 ghost use Rattle.knx_model.specs.Meaning.{Installation};
 ghost use Rattle.knx_model.specs.declared.frames.cemi.Ldata.{Ldata};
 ghost use Rattle.knx_model.specs.declared.frames.ip.IpFrame.{IpFrame};
-ghost use Rattle.knx_model.specs.declared.frames.ip.IpFrame.TheVariants.{ConnectResponse, DisconnectRequest, TunnellingAck};
+ghost use Rattle.knx_model.specs.declared.frames.ip.IpFrame.TheVariants.{ConnectResponse, DisconnectRequest, DisconnectResponse, TunnellingAck};
 ghost use Rattle.line_model.specs.ChannelLost.{Own, expected, acknowledges};
-ghost use Rattle.line_model.specs.Gateway.{Gateway, Channel, Request, Nothing, Closing, number_of, next_number, connects, answers, next_put, channel_expired, closed};
+ghost use Rattle.line_model.specs.Gateway.{Gateway, Channel, Request, Nothing, Closing, number_of, next_number, names, connects, took, answers, next_put, channel_expired, closed};
 ghost use Rattle.line_model.specs.Legal.{IsLegal};
 ghost use Rattle.line_model.specs.Lines.{Script, is_off, is_standard};
 ghost use Rattle.line_model.specs.Network.{Sent, MayArrive, new_datagram};
@@ -74,13 +74,15 @@ pub fn devices_begin_as_the_script_says()
 {}
 
 /// The gateway answers another connect request of its client with the channel that is open, and puts no request while one is outstanding. It closes
-/// when 120,000 ms have passed without a datagram of its client, not before, and what waits for the client is dropped then.
+/// when 120,000 ms have passed without a datagram of its client, not before, and what waits for the bus and for the client is dropped then. A
+/// disconnect request of no open channel is answered with status 21 (hexadecimal).
 pub fn a_gateway_keeps_its_channel()
     ensures same { (g : Gateway) (c : Channel) (now : ℕ) → connects g c.endpoint now (Some c) ≡ answers (ConnectResponse c.number 0 (Some g.tunnel)) g }
     ensures one { (c : Channel) (r : Request) (frames : List Ldata) → c.outstanding ≡ Some r → next_put (Some c) frames ≡ None }
     ensures waits { (c : Channel) (now : ℕ) → c.outstanding ≡ None → now < c.heard + 120000 → channel_expired (Some c) now ≡ Nothing }
     ensures closes { (c : Channel) (now : ℕ) → c.heard + 120000 ≤ now → channel_expired (Some c) now ≡ Closing (DisconnectRequest c.number) }
-    ensures drops { (g : Gateway) (c : Channel) → g.channel ≡ Some c → (closed g).waiting ≡ [] }
+    ensures drops { (g : Gateway) (c : Channel) → g.channel ≡ Some c → ((closed g).bus ≡ []) × ((closed g).waiting ≡ []) }
+    ensures unknown { (g : Gateway) (from now number : ℕ) → names from number g.channel ≡ false → took g from now (DisconnectRequest number) ≡ answers (DisconnectResponse number 0x21) g }
 {}
 
 /// The client's own acknowledgement is called for by a request with the number before the expected one too; that of the gateway counts only

@@ -1,6 +1,6 @@
 //! Laws that show what the definitions allow: runs of the line, each a function without a body whose contract says what holds of the run.
 
-ghost use Rattle.std.specs.Prelude.{◌≡◌, List, [], ◌∷◌};
+ghost use Rattle.std.specs.Prelude.{◌≡◌, true, List, [], ◌∷◌, None};
 ghost use Rattle.knx_model.specs.Device.{NonVolatile};
 ghost use Rattle.knx_model.specs.declared.script.ScriptWhat.TheVariants.{LoseUp, LoseDown, LoseTo, LoseFrom, RepeatUp, RepeatDown, RepeatTo, Cut, Worn, CloseAfter, Refuse, DropChannel};
 ghost use Rattle.knx_model.specs.Cemi.{Written as cemi_octets};
@@ -13,12 +13,14 @@ ghost use Rattle.line_model.specs.Headline.{IsDisciplined};
 ghost use Rattle.line_model.specs.Legal.{MayHappen, IsLegal};
 ghost use Rattle.line_model.specs.Moments.{moments, between};
 ghost use Rattle.line_model.specs.OldStoppedOrNew.{RunsWhereDone};
+ghost use Rattle.line_model.specs.Printed.{line_report_text};
 ghost use Rattle.line_model.specs.Record.{Entry, placed, entries, record_of};
 ghost use Rattle.line_model.specs.Renews.{RenewsRightly};
-ghost use Rattle.line_model.specs.Runs.{device, begin, whole, job, other_job, reading, nearly, load, loads, told_done, told_refused, unheard, told_failed, nobody, turn, telegram_sent, told_sent, torn, filling, worn, response_lost, comes_twice, second, quiet_until, to_device, request_lost, try_refused, response_twice, confirmation_twice, channel_dropped, connection_closed, answer_lost, quiet_minute, beat_answered};
+ghost use Rattle.line_model.specs.Runs.{device, begin, connecting, connected, whole, job, other_job, reading, nearly, load, loads, told_taken, told_done, told_refused, unheard, told_failed, nobody, turn, telegram_sent, told_sent, torn, filling, worn, response_lost, comes_twice, second, quiet_until, to_device, request_lost, try_refused, response_twice, confirmation_twice, channel_dropped, connection_closed, answer_lost, quiet_minute, beat_answered, report, job_words, shown, printed};
 ghost use Rattle.line_model.specs.Sendings.{SendsRightly};
 ghost use Rattle.line_model.specs.Told.{ToldTruly};
 ghost use Rattle.line_model.specs.Tunnel.{Commissions};
+ghost use Rattle.line_model.specs.Waiting.{TurnWaits, PollsSo};
 ghost use Rattle.line_model.specs.World.{Up, replay};
 
 /// A line with one device, whatever that keeps, is a fresh start, and settled.
@@ -36,6 +38,13 @@ pub fn a_session_reads_the_descriptor()
     ensures refused { (kept : NonVolatile) → ToldTruly (other_job ∷ []) [] (placed (begin kept) whole) told_refused }
 {}
 
+/// A worker whose T_Connect has no confirmation waits, and a poll lasts 100 ms; once that is confirmed, it has an operation to send, and waits no more.
+pub fn a_worker_waits_for_its_confirmation()
+    ensures waits { (kept : NonVolatile) → TurnWaits (job ∷ []) [] told_taken (placed (begin kept) connecting) 5 0 1 0 }
+    ensures polls { (kept : NonVolatile) → PollsSo (job ∷ []) [] told_taken (placed (begin kept) connecting) 5 0 None (λ k. 0) 100 }
+    ensures goes_on { (kept : NonVolatile) → ¬ TurnWaits (job ∷ []) [] told_taken (placed (begin kept) connected) 11 0 1 0 }
+{}
+
 /// The last operation of a load, for a device to which all else is loaded: legal, undisturbed and disciplined; it is told done, and the device
 /// runs the job's image.
 pub fn a_load_ends_done()
@@ -51,6 +60,11 @@ pub fn a_job_fails_by_three_signs()
     ensures follows { (kept : NonVolatile) → Follows (LoseTo device 1 ∷ LoseTo device 2 ∷ LoseTo device 3 ∷ []) Commissions (begin kept) unheard }
     ensures told { (kept : NonVolatile) → ToldTruly (job ∷ []) [] (placed (begin kept) unheard) told_failed }
     ensures spent { (kept : NonVolatile) → attempts device reading (between 4 25 (moments (placed (begin kept) unheard))) ≡ Resting 3 }
+{}
+
+/// A report with entries of all kinds, as it is printed.
+pub fn a_report_is_printed()
+    ensures { line_report_text report job_words 3 (shown ∷ []) true ≡ printed }
 {}
 
 /// A group telegram is put, confirmed and told sent.

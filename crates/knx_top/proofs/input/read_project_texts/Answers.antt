@@ -1,7 +1,5 @@
 use Rattle.std.proofs.Common.{◌∙◌}
-use Rattle.knx_top.specs.Input.{ProjectIsRead}
 use Rattle.knx_top.specs.Names.{project_words_of}
-use Rattle.knx_top.specs.declared.input.ProjectTexts.{ProjectTexts}
 use Rattle.knx_top.proofs.Counts.{project_rose, read_still}
 use Rattle.knx_top.proofs.input.read_project_texts.Goals as goal
 

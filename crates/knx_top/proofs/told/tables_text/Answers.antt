@@ -1,4 +1,4 @@
-use Rattle.std.proofs.Common.{List, ℕ, ap, ◌∙◌}
+use Rattle.std.proofs.Common.{List, ap, ◌∙◌}
 use Rattle.std.specs.List.{flat_map, zip}
 use Rattle.knx_model.specs.declared.config.Image.{Image}
 use Rattle.knx_model.specs.ReportText.{tables_lines}

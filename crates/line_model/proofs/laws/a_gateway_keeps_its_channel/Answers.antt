@@ -1,5 +1,5 @@
 use Rattle.line_model.proofs.laws.a_gateway_keeps_its_channel.Goals as goal
-use Rattle.line_model.proofs.Channels.{same, one, waits, closes, drops}
+use Rattle.line_model.proofs.Channels.{same, one, waits, closes, drops, unknown}
 
 pub returns-clause-same : goal.returns-clause-same
 returns-clause-same c = same
@@ -15,3 +15,6 @@ returns-clause-closes c = closes
 
 pub returns-clause-drops : goal.returns-clause-drops
 returns-clause-drops c = drops
+
+pub returns-clause-unknown : goal.returns-clause-unknown
+returns-clause-unknown c = unknown
