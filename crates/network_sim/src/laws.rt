@@ -1,0 +1,36 @@
+//! The laws of what is kept of the datagrams that were sent (UDP over IPv4).
+
+ghost use Rattle.std.specs.Prelude.{◌≡◌, ℕ, ◌≤◌, ◌<◌, List, length, None, Some, slice_get};
+ghost use Rattle.line_model.specs.Deliveries.{oldest, goes_up, goes_down, next_up, next_down};
+ghost use Rattle.line_model.specs.Fresh.{IsOver, MayComeUp, MayComeDown};
+ghost use Rattle.line_model.specs.Network.{Sent, MayArrive, MayReach, oldest_age};
+ghost use Rattle.line_model.specs.Reading.{datagram_in};
+ghost use Rattle.line_model.specs.Tunnel.{Mode, made};
+ghost use Rattle.line_model.specs.World.{World};
+ghost use Rattle.network_sim.specs.declared.place.Reach.TheVariants.{Every};
+ghost use Rattle.network_sim.specs.Arriving.{AllOver, passes, reach_down};
+ghost use Rattle.network_sim.specs.Window.{Window, window_of, readable};
+
+/// Which datagram is delivered next is read off the youngest 128: a datagram with 128 younger ones arrives no more.
+pub fn the_youngest_are_enough()
+    ensures up { (w : World) (kept : Window) → window_of w.tunnel.network.up ≡ kept → next_up w ≡ oldest (goes_up w) 0 kept.kept }
+    ensures down { (mode : Mode) (w : World) (kept : Window) → window_of w.tunnel.network.down ≡ kept → next_down mode w ≡ oldest (goes_down mode w) 0 kept.kept }
+    ensures one_way_up { (w : World) → next_up w ≡ oldest (passes Every (made w.tunnel)) 0 w.tunnel.network.up }
+    ensures one_way_down { (mode : Mode) (w : World) → next_down mode w ≡ oldest (passes (reach_down mode w.tunnel.present) (made w.tunnel)) 0 w.tunnel.network.down }
+    ensures older { (made : ℕ) (sent : List Sent) (age : ℕ) → oldest_age ≤ age → ¬ MayArrive made sent age }
+    ensures older_at { (present made : ℕ) (sent : List Sent) (age : ℕ) → oldest_age ≤ age → ¬ MayReach present made sent age }
+{}
+
+/// Where all is over that was sent up and down, no datagram is under way in a settled world's sense.
+pub fn a_settled_network_is_over()
+    ensures up { (w : World) → AllOver Every (made w.tunnel) w.tunnel.network.up → (age : ℕ) (s : Sent) → slice_get w.tunnel.network.up age ≡ Some s → IsOver (MayComeUp w age) s }
+    ensures down { (mode : Mode) (w : World) → AllOver (reach_down mode w.tunnel.present) (made w.tunnel) w.tunnel.network.down
+        → (age : ℕ) (s : Sent) → slice_get w.tunnel.network.down age ≡ Some s → IsOver (MayComeDown mode w age) s }
+{}
+
+/// A datagram of more than 300 octets is no frame, so what is kept of octets reads as they do; up to 300 all are kept.
+pub fn a_datagram_that_is_too_long_is_no_frame()
+    ensures reads { (octets : List ℕ) → datagram_in (readable octets) ≡ datagram_in octets }
+    ensures long { (octets : List ℕ) → 300 < length octets → datagram_in octets ≡ None }
+    ensures whole { (octets : List ℕ) → length octets ≤ 300 → readable octets ≡ octets }
+{}

@@ -1,0 +1,19 @@
+//! The network between a client and its gateway, simulated (UDP over IPv4): the datagrams of one sender, of which any may be lost, repeated or
+//! late. It keeps the youngest 128, since an older one never arrives, and takes its memory once, when it is made.
+#![tactic(auto)]
+
+mod kept;
+mod laws;
+mod oldest;
+mod place;
+mod sender;
+#[cfg(test)]
+mod tests;
+
+pub use kept::{Fate, Sending};
+pub use knx_model::NoMemory;
+pub use laws::{
+    a_datagram_that_is_too_long_is_no_frame, a_settled_network_is_over, the_youngest_are_enough,
+};
+pub use place::Reach;
+pub use sender::Sendings;
