@@ -13,4 +13,5 @@ pub use device_sim::Device;
 pub use devices::{Came, Devices};
 pub use gateway::Due;
 pub use knx_model::{Datagram, IndAddr, Ldata, NoMemory, Sending, WriteKind};
-pub use line::{AtGateway, Line};
+pub use line::Line;
+pub use tunnel::AtGateway;

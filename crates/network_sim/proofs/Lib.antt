@@ -1,0 +1,5 @@
+pub mod Deliveries
+pub mod Windows
+pub mod Ages
+pub mod Over
+pub mod Longest

@@ -1,3 +1,4 @@
 pub mod Fates
+pub mod Readable
 pub mod Window
 pub mod Arriving

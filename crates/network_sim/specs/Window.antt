@@ -1,21 +1,16 @@
 -- What is kept of all datagrams that one sender sent (UDP over IPv4): how many there are, and the youngest 128, since none arrives once 128
--- younger ones were sent. Of a datagram of more than 300 octets none are kept, since it is no frame of KNXnet/IP (ISO 22510, Core and Tunnelling),
--- nor are no octets. What is kept is said of each whole list that it is of.
-use Rattle.std.specs.Prelude.{◌≡◌, ℕ, suc, ◌-◌, ◌^◌, ◌<◌, Bool, false, not, ◌&&◌, ◌==◌, nat_lt, nat_le, List, [], ◌∷◌, map, take, length, if◌then◌else◌, Option, Some, None}
+-- younger ones were sent. Of each its octets are kept so far as it is read. What is kept is said of each whole list that it is of.
+use Rattle.std.specs.Prelude.{◌≡◌, ℕ, suc, ◌-◌, ◌^◌, ◌<◌, Bool, false, not, ◌&&◌, ◌==◌, nat_lt, List, ◌∷◌, map, take, length, min, if◌then◌else◌, Option, Some, None}
+use Rattle.line_model.specs.Counts.{age_of}
 use Rattle.line_model.specs.LinkStory.{capped}
 use Rattle.line_model.specs.Network.{Sent, oldest_age, most_deliveries, changed_at}
+use Rattle.network_sim.specs.Readable.{readable}
 
 pub record Window : Type 0 where
   pub count : ℕ  -- how many were sent in all; a number of 64 bits, which stands still at its greatest
   pub kept : List Sent  -- the youngest ones, the youngest first
 
 -- ---- what is kept
-
-abbrev pub most_readable : ℕ
-most_readable = 300
-
-abbrev pub readable : List ℕ → List ℕ
-readable octets = if nat_le (length octets) most_readable then octets else []
 
 abbrev pub kept_of : Sent → Sent
 kept_of s = record s { octets = readable s.octets }
@@ -37,6 +32,9 @@ changed_there age change w = record w { kept = changed_at age change w.kept }
 -- the age of the datagram of a number, where it is kept
 abbrev pub kept_age : Window → ℕ → Option ℕ
 kept_age w number = if nat_lt (w.count - number) (length w.kept) then Some (w.count - number) else None
+
+abbrev pub age_while_kept : List Sent → ℕ → Option ℕ
+age_while_kept sent number = if nat_lt (age_of sent number) (min oldest_age (length sent)) then Some (age_of sent number) else None
 
 -- a script counts with numbers of 32 bits: none of them tells the two apart
 abbrev pub IsAlikeToScripts : ℕ → ℕ → Type 0

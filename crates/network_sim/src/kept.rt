@@ -16,9 +16,11 @@
 ghost use Rattle.std.specs.Prelude.{◌≡◌, ◌≤◌, length};
 ghost use Rattle.line_model.specs.Network.{new_datagram, once_more, gone};
 ghost use Rattle.network_sim.specs.Arriving.{can_come, goes_first, goes_once_more};
-ghost use Rattle.network_sim.specs.Window.{IsDeliverable, is_waiting, came_once, readable};
+ghost use Rattle.network_sim.specs.Readable.{readable};
+ghost use Rattle.network_sim.specs.Window.{IsDeliverable, is_waiting, came_once};
 
 use crate::place::Reach;
+use crate::readable::readable;
 use knx_model::Datagram;
 use std::marker::Model;
 
@@ -32,7 +34,7 @@ pub enum Fate {
     Lost { delivered: u8 },
 }
 
-/// A datagram that was sent: its octets, where it has at most 300; the endpoint of the client that it comes from or goes to; how many channels
+/// A datagram that was sent: its octets, so far as it is read; the endpoint of the client that it comes from or goes to; how many channels
 /// the gateway had made by then; and what became of it.
 #[derive(Drop)]
 pub struct Sending {
@@ -54,7 +56,7 @@ impl Model for Sending {
 
 impl Sending {
     /// A datagram that is sent now.
-    pub fn new(octets: &[u8], endpoint: u32, made: u64) -> Sending
+    pub(crate) fn new(octets: &[u8], endpoint: u32, made: u64) -> Sending
         ensures { result ≡ new_datagram (readable octets.now) endpoint made }
     {
         Sending {
@@ -65,7 +67,7 @@ impl Sending {
         }
     }
 
-    /// Its octets; none where it has more than 300, since it is no frame then.
+    /// Its octets. Where it has more than 300 they are those of its frame, or none where it is no frame.
     pub fn octets(&self) -> &[u8]
         ensures value { result.now ≡ self.now.octets }
         ensures fits { length result.now ≤ 300 }
@@ -81,7 +83,7 @@ impl Sending {
     }
 
     /// Whether it was neither delivered nor lost.
-    pub fn is_waiting(&self) -> bool
+    pub(crate) fn is_waiting(&self) -> bool
         ensures { result ≡ is_waiting self.now }
     {
         matches!(self.fate, Fate::UnderWay { delivered: 0 })
@@ -106,21 +108,21 @@ impl Sending {
     }
 
     /// Whether it may be delivered for the first time.
-    pub fn goes_first(&self, reach: Reach, made: u64) -> bool
+    pub(crate) fn goes_first(&self, reach: Reach, made: u64) -> bool
         ensures { result ≡ goes_first reach made self.now }
     {
         self.is_waiting() && self.can_come(reach, made)
     }
 
     /// Whether it may be delivered for the second time.
-    pub fn goes_once_more(&self, reach: Reach, made: u64) -> bool
+    pub(crate) fn goes_once_more(&self, reach: Reach, made: u64) -> bool
         ensures { result ≡ goes_once_more reach made self.now }
     {
         self.came_once() && self.can_come(reach, made)
     }
 
     /// It is delivered.
-    pub fn deliver(&mut self)
+    pub(crate) fn deliver(&mut self)
         requires { IsDeliverable self.old }
         ensures { self.new ≡ once_more self.old }
     {
@@ -135,23 +137,12 @@ impl Sending {
     }
 
     /// It is lost.
-    pub fn lose(&mut self)
+    pub(crate) fn lose(&mut self)
         ensures { self.new ≡ gone self.old }
     {
         match self.fate {
             Fate::UnderWay { delivered } => self.fate = Fate::Lost { delivered },
             Fate::Lost { .. } => {}
         }
-    }
-}
-
-/// The octets of a datagram that may be a frame.
-fn readable(octets: &[u8]) -> Datagram
-    ensures { result ≡ readable octets.now }
-{
-    if octets.len() <= Datagram::CAPACITY {
-        Datagram::from_slice(octets)
-    } else {
-        Datagram::new()
     }
 }

@@ -1,6 +1,8 @@
 //! The laws of what is kept of the datagrams that were sent (UDP over IPv4).
 
-ghost use Rattle.std.specs.Prelude.{◌≡◌, ℕ, ◌≤◌, ◌<◌, List, length, None, Some, slice_get};
+ghost use Rattle.std.specs.Prelude.{◌≡◌, ℕ, ◌≤◌, List, length, Some, slice_get};
+ghost use Rattle.knx_model.specs.declared.frames.ip.IpFrame.{IpFrame as Frame};
+ghost use Rattle.knx_model.specs.KnxNetIp.{IsInRange, Written};
 ghost use Rattle.line_model.specs.Deliveries.{oldest, goes_up, goes_down, next_up, next_down};
 ghost use Rattle.line_model.specs.Fresh.{IsOver, MayComeUp, MayComeDown};
 ghost use Rattle.line_model.specs.Network.{Sent, MayArrive, MayReach, oldest_age};
@@ -9,7 +11,8 @@ ghost use Rattle.line_model.specs.Tunnel.{Mode, made};
 ghost use Rattle.line_model.specs.World.{World};
 ghost use Rattle.network_sim.specs.declared.place.Reach.TheVariants.{Every};
 ghost use Rattle.network_sim.specs.Arriving.{AllOver, passes, reach_down};
-ghost use Rattle.network_sim.specs.Window.{Window, window_of, readable};
+ghost use Rattle.network_sim.specs.Readable.{readable};
+ghost use Rattle.network_sim.specs.Window.{Window, window_of};
 
 /// Which datagram is delivered next is read off the youngest 128: a datagram with 128 younger ones arrives no more.
 pub fn the_youngest_are_enough()
@@ -21,16 +24,17 @@ pub fn the_youngest_are_enough()
     ensures older_at { (present made : ℕ) (sent : List Sent) (age : ℕ) → oldest_age ≤ age → ¬ MayReach present made sent age }
 {}
 
-/// Where all is over that was sent up and down, no datagram is under way in a settled world's sense.
+/// Where all that was sent up is over, and all that was sent down, nothing is under way that keeps a world from being settled.
 pub fn a_settled_network_is_over()
     ensures up { (w : World) → AllOver Every (made w.tunnel) w.tunnel.network.up → (age : ℕ) (s : Sent) → slice_get w.tunnel.network.up age ≡ Some s → IsOver (MayComeUp w age) s }
     ensures down { (mode : Mode) (w : World) → AllOver (reach_down mode w.tunnel.present) (made w.tunnel) w.tunnel.network.down
         → (age : ℕ) (s : Sent) → slice_get w.tunnel.network.down age ≡ Some s → IsOver (MayComeDown mode w age) s }
 {}
 
-/// A datagram of more than 300 octets is no frame, so what is kept of octets reads as they do; up to 300 all are kept.
-pub fn a_datagram_that_is_too_long_is_no_frame()
+/// What is kept of octets reads as they do; up to 300 all are kept, as of each that the gateway sends.
+pub fn what_is_kept_reads_alike()
     ensures reads { (octets : List ℕ) → datagram_in (readable octets) ≡ datagram_in octets }
-    ensures long { (octets : List ℕ) → 300 < length octets → datagram_in octets ≡ None }
     ensures whole { (octets : List ℕ) → length octets ≤ 300 → readable octets ≡ octets }
+    ensures fits { (octets : List ℕ) → length (readable octets) ≤ 300 }
+    ensures written { (frame : Frame) → IsInRange frame → readable (Written frame) ≡ Written frame }
 {}

@@ -2,18 +2,18 @@
 //! late. It keeps the youngest 128, since an older one never arrives, and takes its memory once, when it is made.
 #![tactic(auto)]
 
+mod changes;
 mod kept;
 mod laws;
 mod oldest;
 mod place;
+mod readable;
 mod sender;
 #[cfg(test)]
 mod tests;
 
-pub use kept::{Fate, Sending};
+pub use kept::Sending;
 pub use knx_model::NoMemory;
-pub use laws::{
-    a_datagram_that_is_too_long_is_no_frame, a_settled_network_is_over, the_youngest_are_enough,
-};
+pub use laws::{a_settled_network_is_over, the_youngest_are_enough, what_is_kept_reads_alike};
 pub use place::Reach;
 pub use sender::Sendings;

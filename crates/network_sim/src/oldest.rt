@@ -1,7 +1,7 @@
 //! The oldest datagram of those that are kept, the youngest first.
 
 ghost use Rattle.std.specs.Prelude.{◌≡◌, ℕ, ◌<◌, ◌≤◌, true, false, IfSome, IfNone, slice_get};
-ghost use Rattle.network_sim.specs.Arriving.{goes_first};
+ghost use Rattle.network_sim.specs.Arriving.{goes_first, goes_once_more};
 ghost use Rattle.network_sim.specs.Window.{at_sent, is_waiting};
 
 use crate::kept::Sending;
@@ -14,6 +14,21 @@ fn goes_first(kept: &HeapCircularBuffer<Sending>, age: usize, reach: Reach, made
 {
     match kept.get(age) {
         Some(sending) => sending.goes_first(reach, made),
+        None => false,
+    }
+}
+
+/// Whether the datagram of an age is there and may be delivered for the second time.
+pub fn goes_once_more(
+    kept: &HeapCircularBuffer<Sending>,
+    age: usize,
+    reach: Reach,
+    made: u64,
+) -> bool
+    ensures { result ≡ at_sent (goes_once_more reach made) (slice_get kept.now.items age) }
+{
+    match kept.get(age) {
+        Some(sending) => sending.goes_once_more(reach, made),
         None => false,
     }
 }

@@ -1,15 +1,17 @@
 //! The datagrams of one sender.
 
-ghost use Rattle.std.specs.Prelude.{◌≡◌, ℕ, ◌-◌, ◌<◌, ◌≤◌, ◌↔◌, List, [], ◌∷◌, IfOk, IfSome, IsTrue, Some, None, length, slice_get, option_copied, option_map};
-ghost use Rattle.line_model.specs.Counts.{number_at, age_of};
+ghost use Rattle.std.specs.Prelude.{◌≡◌, ℕ, ◌-◌, ◌^◌, ◌<◌, ◌≤◌, ◌↔◌, List, [], ◌∷◌, IfOk, IfSome, IsTrue, Some, None, if◌then◌else◌, nat_lt, length, slice_get, option_copied, option_map};
+ghost use Rattle.line_model.specs.Counts.{number_at};
 ghost use Rattle.line_model.specs.Deliveries.{oldest};
 ghost use Rattle.line_model.specs.Network.{Sent, OfSent, new_datagram, once_more, gone, changed_at, oldest_age};
 ghost use Rattle.line_model.specs.Owed.{goes_again, passes_again};
 ghost use Rattle.network_sim.specs.Arriving.{passes, AllOver};
-ghost use Rattle.network_sim.specs.Window.{IsDeliverable, IsAlikeToScripts, window_of, sent_too, changed_there, kept_age, kept_of, readable};
+ghost use Rattle.network_sim.specs.Readable.{readable};
+ghost use Rattle.network_sim.specs.Window.{IsDeliverable, IsAlikeToScripts, window_of, sent_too, changed_there, kept_age, age_while_kept, kept_of};
 
+use crate::changes::{deliver_at, lose_at};
 use crate::kept::Sending;
-use crate::oldest::{oldest_first, up_to_oldest_waiting};
+use crate::oldest::{goes_once_more, oldest_first, up_to_oldest_waiting};
 use crate::place::Reach;
 use circular_buffer::HeapCircularBuffer;
 use knx_model::NoMemory;
@@ -32,6 +34,7 @@ pub struct Sendings {
 
 impl Model for Sendings {
     ghost use Rattle.std.specs.Prelude.{◌≡◌, ◌≤◌, ℕ, false, length, slice_get};
+    ghost use Rattle.network_sim.specs.Readable.{readable};
     ghost use Rattle.network_sim.specs.Window.{Window, at_sent, is_waiting};
 
     ghost Value = { Window };
@@ -94,6 +97,7 @@ impl Sendings {
     pub fn number_of(&self, age: usize) -> u64
         ensures value { result ≡ self.now.count - age }
         ensures simulates { (sent : List Sent) → window_of sent ≡ self.now → age < oldest_age → IsAlikeToScripts result (number_at sent age) }
+        ensures exact { (sent : List Sent) → window_of sent ≡ self.now → length sent < 2 ^ 64 → result ≡ number_at sent age }
     {
         self.count.saturating_sub(age as u64)
     }
@@ -101,15 +105,9 @@ impl Sendings {
     /// The age of the datagram of a number, where it is kept.
     pub fn age_of(&self, number: u32) -> Option<usize>
         ensures value { result ≡ kept_age self.now number }
-        ensures simulates { (sent : List Sent) → window_of sent ≡ self.now → IfSome result (λ age. age ≡ age_of sent number) }
-        ensures kept { IfSome result (λ age. age < length self.now.kept) }
+        ensures simulates { (sent : List Sent) → window_of sent ≡ self.now → result ≡ age_while_kept sent number }
     {
-        let age = self.count.saturating_sub(u64::from(number));
-        if age < self.kept.len() as u64 {
-            Some(age as usize)
-        } else {
-            None
-        }
+        kept_age(self.count, self.kept.len(), number)
     }
 
     /// Whether the datagram of a number was delivered once and may be delivered once more.
@@ -118,11 +116,17 @@ impl Sendings {
         ensures simulates { (sent : List Sent) → window_of sent ≡ self.now → result ≡ passes_again (passes reach made) sent number }
         ensures deliverable { IsTrue result → OfSent IsDeliverable (slice_get self.now.kept (self.now.count - number)) }
     {
-        let Some(age) = self.age_of(number) else {
-            return false;
-        };
-        match self.kept.get(age) {
-            Some(sending) => sending.goes_once_more(reach, made),
+        self.goes_again(number, reach, made)
+    }
+
+    /// The same, of what is kept.
+    fn goes_again(&self, number: u32, reach: Reach, made: u64) -> bool
+        ensures value { result ≡ goes_again (passes reach made) (self.now.count - number) (slice_get self.now.kept (self.now.count - number)) }
+        ensures deliverable { IsTrue result → OfSent IsDeliverable (slice_get self.now.kept (self.now.count - number)) }
+        ensures few { length self.now.kept ≤ 128 }
+    {
+        match self.age_of(number) {
+            Some(age) => goes_once_more(&self.kept, age, reach, made),
             None => false,
         }
     }
@@ -133,9 +137,7 @@ impl Sendings {
         ensures value { self.new ≡ changed_there age once_more self.old }
         ensures simulates { (sent : List Sent) → window_of sent ≡ self.old → window_of (changed_at age once_more sent) ≡ self.new }
     {
-        if let Some(sending) = self.kept.get_mut(age) {
-            sending.deliver();
-        }
+        deliver_at(&mut self.kept, age);
         self.waiting = up_to_oldest_waiting(&self.kept, self.waiting);
     }
 
@@ -144,9 +146,19 @@ impl Sendings {
         ensures value { self.new ≡ changed_there age gone self.old }
         ensures simulates { (sent : List Sent) → window_of sent ≡ self.old → window_of (changed_at age gone sent) ≡ self.new }
     {
-        if let Some(sending) = self.kept.get_mut(age) {
-            sending.lose();
-        }
+        lose_at(&mut self.kept, age);
         self.waiting = up_to_oldest_waiting(&self.kept, self.waiting);
+    }
+}
+
+/// The age of the datagram of a number, where so many were sent and so many are kept.
+fn kept_age(count: u64, kept: usize, number: u32) -> Option<usize>
+    ensures { result ≡ (if nat_lt (count - number) kept then Some (count - number) else None) }
+{
+    let age = count.saturating_sub(u64::from(number));
+    if age < kept as u64 {
+        Some(age as usize)
+    } else {
+        None
     }
 }

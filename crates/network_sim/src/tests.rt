@@ -15,6 +15,7 @@ const LEFT: u32 = 6;
 enum First {
     Waits,
     IsDelivered,
+    IsDeliveredTwice,
     IsLost,
 }
 
@@ -41,15 +42,41 @@ const fn to_client(first: First, others: u32, next: Option<u64>, again: bool) ->
     }
 }
 
+fn deliver_next(sent: &mut Sendings) {
+    if let Some(age) = sent.next(Reach::Every, 0) {
+        sent.deliver(age);
+    }
+}
+
+fn deliver_again(sent: &mut Sendings) {
+    if sent.may_go_again(1, Reach::Every, 0) {
+        if let Some(age) = sent.age_of(1) {
+            sent.deliver(age);
+        }
+    }
+}
+
+fn become_of(sent: &mut Sendings, first: First) {
+    match first {
+        First::Waits => {}
+        First::IsDelivered => deliver_next(sent),
+        First::IsDeliveredTwice => {
+            deliver_next(sent);
+            deliver_again(sent);
+        }
+        First::IsLost => {
+            if let Some(age) = sent.next(Reach::Every, 0) {
+                sent.lose(age);
+            }
+        }
+    }
+}
+
 fn seen(alloc: Global, row: &Row) -> Result<(Option<u64>, bool), NoMemory> {
     let reach = Reach::To(CLIENT);
     let mut sent = Sendings::new(alloc)?;
     sent.push(&FIRST, row.to, 0);
-    match (row.first, sent.next(Reach::Every, 0)) {
-        (First::IsDelivered, Some(age)) => sent.deliver(age),
-        (First::IsLost, Some(age)) => sent.lose(age),
-        _ => {}
-    }
+    become_of(&mut sent, row.first);
     for _ in 0..row.others {
         sent.push(&[], CLIENT, 0);
     }
@@ -69,6 +96,7 @@ fn datagrams_arrive(rt: HostRuntime) -> Result<(), Fail> {
         to_client(First::IsDelivered, 0, None, true),
         to_client(First::IsDelivered, 127, Some(2), true),
         to_client(First::IsDelivered, 128, Some(2), false),
+        to_client(First::IsDeliveredTwice, 0, None, false),
         to_client(First::IsLost, 0, None, false),
         to_client(First::IsLost, 3, Some(2), false),
         Row {
