@@ -20,7 +20,7 @@ pub record TunnelNow : Type 0 where
   pub now : ℕ
 
 abbrev pub tunnel_now : HeldTunnel → TunnelNow
-tunnel_now t = record { present = t.present; up = t.up; down = t.down; gateway = gateway_now t.gateway; now = t.now }
+tunnel_now t = record { present = t.present; up = t.up; down = t.down; gateway = gateway_now t.gateway; now = t.time }
 
 -- ---- of which tunnels it is a picture
 

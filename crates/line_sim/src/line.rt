@@ -134,7 +134,7 @@ impl Line {
             return Ok(Came::ToAll);
         };
         self.tunnel.gateway.waiting.reserve(1)?;
-        let taking = self.devices.take(alloc, &frame, self.tunnel.now, lost);
+        let taking = self.devices.take(alloc, &frame, self.tunnel.time, lost);
         self.tunnel.carried(confirmation(frame, taking.taken));
         self.echo = None;
         Ok(taking.came)
@@ -151,7 +151,7 @@ impl Line {
             return Ok(());
         };
         self.tunnel.gateway.waiting.reserve(1)?;
-        self.devices.take_torn(&frame, k, self.tunnel.now);
+        self.devices.take_torn(&frame, k, self.tunnel.time);
         self.tunnel.carried(confirmation(frame, true));
         self.echo = None;
         Ok(())
@@ -168,7 +168,7 @@ impl Line {
             return Ok(());
         };
         self.tunnel.gateway.waiting.reserve(1)?;
-        self.devices.take_worn(alloc, &frame, self.tunnel.now)?;
+        self.devices.take_worn(alloc, &frame, self.tunnel.time)?;
         self.tunnel.carried(confirmation(frame, true));
         self.echo = None;
         Ok(())
@@ -179,7 +179,7 @@ impl Line {
         ensures next { OnOk result ((w : World) → IsNow self.old w → IsNow self.new (step w (BusAgain device))) }
         ensures err { OnErr result (self.new ≡ self.old) }
     {
-        self.devices.take_again(alloc, device, self.tunnel.now)?;
+        self.devices.take_again(alloc, device, self.tunnel.time)?;
         self.tunnel.elsewhere();
         Ok(())
     }
@@ -210,7 +210,7 @@ impl Line {
         ensures err { OnErr result (self.new ≡ self.old) }
     {
         self.tunnel.gateway.waiting.reserve(1)?;
-        let Some(frame) = self.devices.repeat(device, self.tunnel.now) else {
+        let Some(frame) = self.devices.repeat(device, self.tunnel.time) else {
             self.tunnel.elsewhere();
             return Ok(());
         };
@@ -314,7 +314,7 @@ impl Line {
     pub fn next_sending(&self, address: u16) -> Option<Sending>
         ensures { (w : World) → IsNow self.now w → result ≡ sending_at (w.devices address) w.tunnel.now }
     {
-        self.devices.get(address)?.next_sending(self.tunnel.now)
+        self.devices.get(address)?.next_sending(self.tunnel.time)
     }
 
     /// The age of the client's datagram that is delivered next.
@@ -341,7 +341,7 @@ impl Line {
     pub fn now(&self) -> u64
         ensures { result ≡ self.now.tunnel.now }
     {
-        self.tunnel.now
+        self.tunnel.time
     }
 
     /// How many channels the gateway made.
@@ -367,7 +367,7 @@ impl Line {
     {
         if frame.group {
             self.devices
-                .take(alloc, frame, self.tunnel.now, Some(device))
+                .take(alloc, frame, self.tunnel.time, Some(device))
                 .came
         } else {
             Came::ToAll

@@ -1,11 +1,11 @@
 //! The tunnel: the client's endpoint, the network, the gateway and the time (ISO 22510, Core and Tunnelling; UDP over IPv4).
 
-ghost use Rattle.std.specs.Prelude.{◌≡◌, ◌≢◌, ◌-◌, ◌<◌, min, None, Some, IfOk, OnOk, OnErr, option_map, slice_get};
+ghost use Rattle.std.specs.Prelude.{◌≡◌, ◌≢◌, ◌-◌, ◌<◌, [], ◌∷◌, min, Option, None, Some, IfOk, OnOk, OnErr, option_map, slice_get};
 ghost use Rattle.std.specs.VecDeque.{deque_len, deque_capacity};
 ghost use Rattle.knx_model.specs.declared.frames.ip.IpFrame.{IpFrame as Frame};
 ghost use Rattle.knx_model.specs.KnxNetIp.{Written};
-ghost use Rattle.line_model.specs.Network.{OfSent, oldest_age};
-ghost use Rattle.line_model.specs.Tunnel.{Tunnel as Known, TunnelEvent, Send, From, Renew, Up, UpRefused, Down, LoseUp, LoseDown, Carried, Repeat, Close, Pass, Elsewhere, fresh, step, puts_next, sends_down, takes_sent};
+ghost use Rattle.line_model.specs.Network.{OfSent, changed_at, once_more};
+ghost use Rattle.line_model.specs.Tunnel.{Tunnel as Known, TunnelEvent, Send, From, Renew, Up, UpRefused, Down, LoseUp, LoseDown, Carried, Heard, Repeat, Close, Pass, Elsewhere, closes, fresh, step, puts_next, refuses, sends_down, sends_down_if, takes_sent, with_up};
 ghost use Rattle.line_model.specs.Gateway.{gateway_expired};
 ghost use Rattle.line_model.specs.World.{heard};
 ghost use Rattle.line_sim.specs.Gateways.{CanCount, due_of, gateway_now, greatest_count};
@@ -16,8 +16,9 @@ use crate::frames::datagram_in;
 use crate::gateway::{Due, Expired, Gateway};
 use knx_model::{Datagram, IndAddr, IpFrame, Ldata, NoMemory};
 use knxnetip_frames::encode;
-use network_sim::Sendings;
+use network_sim::{Sendings, what_is_kept_reads_alike};
 use std::alloc::Global;
+use tunnel_gateway::what_is_due_happens_in_the_tunnel;
 
 /// Whether the gateway hears a device's frame.
 #[derive(Clone, Copy, Debug, Drop, PartialEq, Eq)]
@@ -33,7 +34,7 @@ pub struct Tunnel {
     pub up: Sendings,
     pub down: Sendings,
     pub gateway: Gateway,
-    pub now: u64,
+    pub time: u64,
 }
 
 impl Tunnel {
@@ -46,7 +47,7 @@ impl Tunnel {
             up: Sendings::new(alloc)?,
             down: Sendings::new(alloc)?,
             gateway: Gateway::new(alloc, address),
-            now: 0,
+            time: 0,
         })
     }
 
@@ -82,8 +83,7 @@ impl Tunnel {
         ensures next { OnOk result ((t : Known) → IsTunnel (tunnel_now self.old) t → CanCount (gateway_now self.old.gateway) → IsTunnel (tunnel_now self.new) (step t (Up age))) }
         ensures err { OnErr result (tunnel_now self.new ≡ tunnel_now self.old) }
     {
-        self.take(age)?;
-        self.up.deliver(age);
+        self.arrive(age)?;
         self.put_next();
         Ok(())
     }
@@ -94,16 +94,27 @@ impl Tunnel {
         requires status { status ≢ 0 }
         ensures { (t : Known) → IsTunnel (tunnel_now self.old) t → IsTunnel (tunnel_now self.new) (step t (UpRefused age status)) }
     {
-        if let Some(from) = self.sender(age) {
-            self.up.deliver(age);
+        self.refuse(age, status);
+        self.put_next();
+    }
+
+    /// The gateway answers with a status other than 0.
+    fn refuse(&mut self, age: usize, status: u8)
+        requires deliverable { OfSent IsDeliverable (slice_get self.old.up.kept age) }
+        requires status { status ≢ 0 }
+        ensures { (t : Known) → IsTunnel (tunnel_now self.old) t → IsTunnel (tunnel_now self.new) (refuses (with_up t (changed_at age once_more t.network.up)) status (slice_get t.network.up age)) }
+    {
+        let from = self.sender(age);
+        self.up.deliver(age);
+        if let Some(from) = from {
             self.post(from, &refusal(status));
         }
-        self.put_next();
     }
 
     /// The endpoint that the client's datagram of an age comes from, where it is kept.
     fn sender(&self, age: usize) -> Option<u32>
-        ensures { result ≡ option_map (λ s. s.endpoint) (slice_get self.now.up.kept age) }
+        requires { OfSent IsDeliverable (slice_get self.now.up.kept age) }
+        ensures { (t : Known) → IsTunnel (tunnel_now self.now) t → result ≡ option_map (λ s. s.endpoint) (slice_get t.network.up age) }
     {
         Some(self.up.get(age)?.endpoint())
     }
@@ -141,11 +152,11 @@ impl Tunnel {
 
     /// So many milliseconds pass, but none beyond the greatest time; how many passed.
     pub fn pass(&mut self, ms: u64) -> u64
-        ensures value { result ≡ min ms (greatest_count - self.old.now) }
+        ensures value { result ≡ min ms (greatest_count - self.old.time) }
         ensures next { (t : Known) → IsTunnel (tunnel_now self.old) t → IsTunnel (tunnel_now self.new) (step t (Pass result)) }
     {
-        let passed = ms.min(u64::MAX - self.now);
-        self.now += passed;
+        let passed = ms.min(u64::MAX - self.time);
+        self.time += passed;
         self.put_next();
         passed
     }
@@ -165,9 +176,17 @@ impl Tunnel {
         ensures { (t : Known) → IsTunnel (tunnel_now self.old) t → IsTunnel (tunnel_now self.new) (step t (heard (at_gateway at) (Some frame))) }
     {
         match at {
-            AtGateway::Comes => self.gateway.heard(frame),
-            AtGateway::IsLost => {}
+            AtGateway::Comes => self.heard(frame),
+            AtGateway::IsLost => self.elsewhere(),
         }
+    }
+
+    /// A frame of a device comes to the gateway. There is room for it.
+    fn heard(&mut self, frame: Ldata)
+        requires { deque_len self.old.gateway.waiting < deque_capacity self.old.gateway.waiting }
+        ensures { (t : Known) → IsTunnel (tunnel_now self.old) t → IsTunnel (tunnel_now self.new) (step t (Heard (frame ∷ []))) }
+    {
+        self.gateway.heard(frame);
         self.put_next();
     }
 
@@ -185,7 +204,8 @@ impl Tunnel {
         ensures repeats { result ≡ Due.Repeat → (t : Known) → IsTunnel (tunnel_now self.old) t → IsTunnel (tunnel_now self.new) (step t Repeat) }
         ensures closes { result ≡ Due.Closed → (t : Known) → IsTunnel (tunnel_now self.old) t → IsTunnel (tunnel_now self.new) (step t Close) }
     {
-        match self.gateway.expire(self.now) {
+        what_is_due_happens_in_the_tunnel();
+        match self.gateway.expire(self.time) {
             Expired::Nothing => Due::Nothing,
             Expired::Repeat(letter) => {
                 self.post(letter.to, &letter.octets);
@@ -204,31 +224,50 @@ impl Tunnel {
     pub fn close(&mut self)
         ensures { (t : Known) → IsTunnel (tunnel_now self.old) t → IsTunnel (tunnel_now self.new) (step t Close) }
     {
-        if let Some(letter) = self.gateway.shut() {
-            self.post(letter.to, &letter.octets);
-        }
+        self.say_farewell();
         self.put_next();
     }
 
+    /// The gateway closes its channel, where one is open, and tells its client.
+    fn say_farewell(&mut self)
+        ensures { (t : Known) → IsTunnel (tunnel_now self.old) t → IsTunnel (tunnel_now self.new) (closes t t.gateway.channel) }
+    {
+        if let Some(letter) = self.gateway.shut() {
+            self.post(letter.to, &letter.octets);
+        }
+    }
+
     /// The gateway takes the client's datagram of an age, and answers it. At `Err` nothing has changed.
-    fn take(&mut self, age: usize) -> Result<(), NoMemory>
-        ensures next { OnOk result ((t : Known) → IsTunnel (tunnel_now self.old) t → age < oldest_age → CanCount (gateway_now self.old.gateway) → IsTunnel (tunnel_now self.new) (takes_sent t (slice_get t.network.up age))) }
-        ensures up { self.new.up ≡ self.old.up }
+    fn arrive(&mut self, age: usize) -> Result<(), NoMemory>
+        requires { OfSent IsDeliverable (slice_get self.old.up.kept age) }
+        ensures next { OnOk result ((t : Known) → IsTunnel (tunnel_now self.old) t → CanCount (gateway_now self.old.gateway) → IsTunnel (tunnel_now self.new) (takes_sent (with_up t (changed_at age once_more t.network.up)) (slice_get t.network.up age))) }
         ensures err { OnErr result (tunnel_now self.new ≡ tunnel_now self.old) }
     {
         let Some((from, frame)) = self.arrival(age) else {
+            self.up.deliver(age);
             return Ok(());
         };
-        if let Some(answer) = self.gateway.take(from, &frame, self.now)? {
-            self.post(from, &answer);
-        }
+        let send = self.gateway.take(from, &frame, self.time)?;
+        self.up.deliver(age);
+        self.answer(from, &send);
         Ok(())
+    }
+
+    /// The gateway sends what it answers, where it answers.
+    fn answer(&mut self, to: u32, send: &Option<Datagram>)
+        ensures { (t : Known) (frame : Option Frame) → IsTunnel (tunnel_now self.old) t → send.now ≡ option_map Written frame → IsTunnel (tunnel_now self.new) (sends_down_if t to frame) }
+    {
+        if let Some(octets) = send {
+            self.post(to, octets);
+        }
     }
 
     /// The client's datagram of an age: its endpoint and the frame that it is.
     fn arrival(&self, age: usize) -> Option<(u32, IpFrame)>
-        ensures { (t : Known) → IsTunnel (tunnel_now self.now) t → age < oldest_age → result ≡ arrival_of (slice_get t.network.up age) }
+        requires { OfSent IsDeliverable (slice_get self.now.up.kept age) }
+        ensures { (t : Known) → IsTunnel (tunnel_now self.now) t → result ≡ arrival_of (slice_get t.network.up age) }
     {
+        what_is_kept_reads_alike();
         let sending = self.up.get(age)?;
         Some((sending.endpoint(), datagram_in(sending.octets())?))
     }
@@ -237,7 +276,7 @@ impl Tunnel {
     fn put_next(&mut self)
         ensures { (t : Known) → IsTunnel (tunnel_now self.old) t → IsTunnel (tunnel_now self.new) (puts_next t) }
     {
-        if let Some(letter) = self.gateway.put(self.now) {
+        if let Some(letter) = self.gateway.put(self.time) {
             self.post(letter.to, &letter.octets);
         }
     }
