@@ -1,3 +1,4 @@
 pub mod Readings
 pub mod Taking
 pub mod Tunnels
+pub mod Places

@@ -1,5 +1,5 @@
 -- What is held of a tunnel after each part of an event.
-use Rattle.std.proofs.Common.{◌≡◌, ℕ, zero, suc, ◌+◌, ◌≤◌, Bool, true, false, List, [], ◌∷◌, length, drop, slice_get, Option, Some, None, option_map, refl, ap, sym, subst, ◌∙◌, arith}
+use Rattle.std.proofs.Common.{◌≡◌, ℕ, zero, suc, ◌+◌, ◌<◌, ◌≤◌, Bool, true, false, List, [], ◌∷◌, length, drop, slice_get, Option, Some, None, option_map, refl, ap, sym, subst, ◌∙◌, arith}
 use Rattle.knx_model.specs.declared.frames.cemi.Ldata.{Ldata}
 use Rattle.knx_model.specs.declared.frames.ip.IpFrame.{IpFrame}
 use Rattle.knx_model.specs.declared.frames.ip.IpFrame.TheVariants.{ConnectResponse, DisconnectRequest}
@@ -7,7 +7,7 @@ use Rattle.knx_model.specs.Cemi.{Written as cemi_octets}
 use Rattle.knx_model.specs.KnxNetIp.{Written}
 use Rattle.line_model.specs.Gateway.{Gateway, Channel, GatewayExpired, Nothing, Repeat, Closing, next_put, put_after, request_of, gateway_expired, channel_expired, gateway_took, closed, closed_if_open}
 use Rattle.line_model.specs.GatewayEnd.{after_due}
-use Rattle.line_model.specs.Network.{Sent, new_datagram, changed_at, once_more, gone}
+use Rattle.line_model.specs.Network.{Sent, new_datagram, changed_at, oldest_age}
 use Rattle.line_model.specs.Tunnel.{Tunnel, Repeat as RepeatEvent, Close as CloseEvent, after, answers, puts, closes, refuses, sends_down, sends_down_if, takes_frame, takes_sent, with_gateway}
 use Rattle.line_model.specs.Reading.{datagram_in}
 use Rattle.line_sim.specs.declared.gateway.Due.{Due}
@@ -17,7 +17,8 @@ use Rattle.line_sim.specs.declared.gateway.Expired.TheVariants as expired
 use Rattle.line_sim.specs.declared.gateway.Letter.{Letter}
 use Rattle.line_sim.specs.Gateways.{GatewayNow, IsGateway, put_gateway, put_letter, letter, told_letter, farewell_letter, due_of}
 use Rattle.line_sim.specs.Tunnels.{TunnelNow, IsTunnel, AreShort, arrival_of, from_endpoint}
-use Rattle.network_sim.specs.Window.{Window, window_of}
+use Rattle.network_sim.specs.Readable.{readable}
+use Rattle.network_sim.specs.Window.{Window, window_of, kept_of}
 
 -- ---- datagrams
 
@@ -120,9 +121,9 @@ arrives_so m t s (Some other) from frame e h =
     let same : (from, frame) ≡ (s.endpoint, other) = cc in
     subst (λ (p : ℕ × IpFrame). IsTunnel m (answers t p.0 (gateway_took t.gateway p.0 t.now p.1))) same h
 
-pub arrives : (m : TunnelNow) (t : Tunnel) (o : Option Sent) (from : ℕ) (frame : IpFrame) → Some (from, frame) ≡ arrival_of o → IsTunnel m (answers t from (gateway_took t.gateway from t.now frame)) → IsTunnel m (takes_sent t o)
-arrives m t None from frame e h = cc
-arrives m t (Some s) from frame e h = arrives_so m t s (datagram_in s.octets) from frame e h
+pub arrives : (m : TunnelNow) (t : Tunnel) (k : ℕ) (o : Option Sent) (from : ℕ) (frame : IpFrame) → Some (from, frame) ≡ arrival_of o → t.now ≡ k → IsTunnel m (answers t from (gateway_took t.gateway from k frame)) → IsTunnel m (takes_sent t o)
+arrives m t k None from frame e at h = cc
+arrives m t k (Some s) from frame e at h = arrives_so m t s (datagram_in s.octets) from frame e (subst (λ (x : ℕ). IsTunnel m (answers t from (gateway_took t.gateway from x frame))) (sym at) h)
 
 is_no_frame : (m : TunnelNow) (t : Tunnel) (s : Sent) (d : Option IpFrame) → None ≡ from_endpoint s.endpoint d → IsTunnel m t → IsTunnel m (takes_frame t s.endpoint d)
 is_no_frame m t s None e h = h
@@ -145,13 +146,27 @@ unanswered n to t (Some frame) is e = cc
 
 -- ---- a refusal
 
-pub refused : (n m : TunnelNow) (from status : ℕ) (t : Tunnel) (o : Option Sent) → IsTunnel n t → Some from ≡ option_map (λ (s : Sent). s.endpoint) o
+pub refused : (m : TunnelNow) (from status : ℕ) (t : Tunnel) (o : Option Sent) → Some from ≡ option_map (λ (s : Sent). s.endpoint) o
     → IsTunnel m (sends_down t from (ConnectResponse 0 status None)) → IsTunnel m (refuses t status o)
-refused n m from status t None is e h = cc
-refused n m from status t (Some s) is e h =
+refused m from status t None e h = cc
+refused m from status t (Some s) e h =
     let same : from ≡ s.endpoint = cc in
     subst (λ (k : ℕ). IsTunnel m (sends_down t k (ConnectResponse 0 status None))) same h
 
 pub refused_not : (n : TunnelNow) (status : ℕ) (t : Tunnel) (o : Option Sent) → IsTunnel n t → None ≡ option_map (λ (s : Sent). s.endpoint) o → IsTunnel n (refuses t status o)
 refused_not n status t None is e = is
 refused_not n status t (Some s) is e = cc
+
+-- ---- what is kept of a datagram that arrives
+
+pub young : (age : ℕ) (s : Sent) → (oldest_age ≤ age → Some s ≡ None) → age < oldest_age
+young age s older = grind arith
+
+pub arrived : ((octets : List ℕ) → datagram_in (readable octets) ≡ datagram_in octets) → (o : Option Sent) (k : Sent) (endpoint : ℕ) (frame : IpFrame)
+    → Some k ≡ option_map kept_of o → endpoint ≡ k.endpoint → Some frame ≡ datagram_in k.octets → Some (endpoint, frame) ≡ arrival_of o
+arrived reads None k endpoint frame e at f = cc
+arrived reads (Some s) k endpoint frame e at f =
+    let same : k ≡ kept_of s = cc in
+    let read : Some frame ≡ datagram_in s.octets = f ∙ ap (λ (x : Sent). datagram_in x.octets) same ∙ reads s.octets in
+    let to : endpoint ≡ s.endpoint = at ∙ ap (λ (x : Sent). x.endpoint) same in
+    ap (λ (x : ℕ). Some (x, frame)) to ∙ ap (from_endpoint s.endpoint) read

@@ -1,6 +1,6 @@
 //! The devices of one line, in 256 places by the device part of their address (ISO/IEC 14543-3-4).
 
-ghost use Rattle.std.specs.Prelude.{◌≡◌, ℕ, ◌+◌, ◌<◌, ◌≤◌, ◌==◌, Some, None, IfOk, IfSome, OnOk, OnErr, is_some, length, option_copied, true, nat_lt, if◌then◌else◌};
+ghost use Rattle.std.specs.Prelude.{◌≡◌, ℕ, ◌+◌, ◌<◌, ◌≤◌, ◌==◌, ◌||◌, Some, None, IfOk, IfSome, OnOk, OnErr, is_some, length, option_copied, true, nat_lt, if◌then◌else◌};
 ghost use Rattle.knx_model.specs.Device.{written_front};
 ghost use Rattle.knx_model.specs.DeviceState.{cut, switched_on};
 ghost use Rattle.knx_model.specs.DeviceFrames.{Torn, Worn, taken_again, worn_octets};
@@ -60,7 +60,7 @@ impl Devices {
         ensures empty { IfOk result (λ made. AreDevices made (λ address. None)) }
     {
         let mut places = Vec::with_capacity(alloc, PLACES)?;
-        for _ in 0..PLACES {
+        for _part in 0..PLACES {
             places.push(None)?;
         }
         Ok(Devices {
@@ -75,8 +75,10 @@ impl Devices {
         ensures line { self.new.line ≡ self.old.line }
         ensures next { (devices : Known) → AreDevices self.old devices → AreDevices self.new (with_device device devices) }
     {
-        let part = (device.address().raw % 256) as usize;
-        self.places[part] = Some(device);
+        let Some(place) = self.place(device.address().raw) else {
+            return;
+        };
+        self.places[place] = Some(device);
     }
 
     /// The place of an address on this line.
@@ -177,7 +179,7 @@ impl Devices {
         requires { is_some (write_of (device_at self.old frame.now.destination) (Some frame.now)) ≡ true }
         ensures line { self.new.line ≡ self.old.line }
         ensures next { (devices : Known) → AreDevices self.old devices
-            → AreDevices self.new (one_takes now (Torn (nat_lt 0 k) (written_front (effect_at (device_at self.old frame.now.destination) frame.now) k)) (Some frame.now) devices) }
+            → AreDevices self.new (one_takes now (Torn (nat_lt 0 k) (written_front (effect_at (devices frame.now.destination) frame.now) k)) (Some frame.now) devices) }
     {
         let Some(place) = self.place(frame.destination) else {
             return;
@@ -192,7 +194,7 @@ impl Devices {
         requires { write_of (device_at self.old frame.now.destination) (Some frame.now) ≡ Some Kind.Memory }
         ensures line { self.new.line ≡ self.old.line }
         ensures next { OnOk result ((devices : Known) → AreDevices self.old devices
-            → AreDevices self.new (one_takes now (Worn (worn_octets (effect_at (device_at self.old frame.now.destination) frame.now))) (Some frame.now) devices)) }
+            → AreDevices self.new (one_takes now (Worn (worn_octets (effect_at (devices frame.now.destination) frame.now))) (Some frame.now) devices)) }
         ensures err { OnErr result (self.new ≡ self.old) }
     {
         let Some(place) = self.place(frame.destination) else {
@@ -229,7 +231,7 @@ impl Devices {
         let mut taken = false;
         for part in 0..PLACES {
             match self.take_at(alloc, part, frame, now, without) {
-                Ok(one) => taken = taken || one,
+                Ok(one) => taken = either(taken, one),
                 Err(why) => {
                     let part = part as u8;
                     let came = Came::Below { part, why };
@@ -281,4 +283,10 @@ fn get_again(alloc: Global, device: &mut Device, now: u64) -> Result<(), NoMemor
         device.take(alloc, &frame, now)?;
     }
     Ok(())
+}
+
+fn either(one: bool, other: bool) -> bool
+    ensures { result ≡ (one || other) }
+{
+    one || other
 }

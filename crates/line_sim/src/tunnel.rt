@@ -125,13 +125,22 @@ impl Tunnel {
         ensures next { (t : Known) → IsTunnel (tunnel_now self.old) t → IsTunnel (tunnel_now self.new) (step t (Down age)) }
         ensures got { (t : Known) → IsTunnel (tunnel_now self.old) t → OfSent (λ s. s.octets ≡ result) (slice_get t.network.down age) }
     {
-        let octets = match self.down.get(age) {
-            Some(sending) => Datagram::from_slice(sending.octets()),
-            None => Datagram::new(),
-        };
+        let octets = self.octets(age);
         self.down.deliver(age);
         self.put_next();
         octets
+    }
+
+    /// The octets of the gateway's datagram of an age.
+    fn octets(&self, age: usize) -> Datagram
+        requires { OfSent IsDeliverable (slice_get self.now.down.kept age) }
+        ensures { (t : Known) → IsTunnel (tunnel_now self.now) t → OfSent (λ s. s.octets ≡ result) (slice_get t.network.down age) }
+    {
+        what_is_kept_reads_alike();
+        match self.down.get(age) {
+            Some(sending) => Datagram::from_slice(sending.octets()),
+            None => Datagram::new(),
+        }
     }
 
     /// The client's datagram of an age is lost.

@@ -12,5 +12,5 @@ returns-in-Repeat-clause-repeats c e t is = c.put_next.ensures (after t Repeat) 
     (c.expire.ensures.next t.gateway is.gateway) (c.in-Repeat.ensures.answer t.gateway is.gateway) c.post.ensures)
 
 pub returns-in-Closed-clause-closes : goal.returns-in-Closed-clause-closes
-returns-in-Closed-clause-closes c e t is = c.put_next.ensures (after t Close) (closing_posts _ _ _ _ t t.gateway.channel (gateway_expired t.gateway _) c.what_is_due_happens_in_the_tunnel.ensures.closes refl refl is
-    (c.expire.ensures.next t.gateway is.gateway) (c.in-Closed.ensures.answer t.gateway is.gateway) c.post.ensures)
+returns-in-Closed-clause-closes c e t is = c.put_next-in-Closed.ensures (after t Close) (closing_posts _ _ _ _ t t.gateway.channel (gateway_expired t.gateway _) c.what_is_due_happens_in_the_tunnel.ensures.closes refl refl is
+    (c.expire.ensures.next t.gateway is.gateway) (c.in-Closed.ensures.answer t.gateway is.gateway) c.post-in-Closed.ensures)

@@ -1,7 +1,7 @@
-use Rattle.std.proofs.Common.{◌≡◌, ℕ, suc, ◌+◌, [], ◌∷◌, List, Option, Some, None, refl, ap, sym, arith}
+use Rattle.std.proofs.Common.{◌≡◌, ℕ, suc, ◌+◌, [], ◌∷◌, List, length, slice_get, Option, Some, None, refl, ap, sym, ◌∙◌, arith}
 use Rattle.line_model.specs.Tunnel.{after, with_gateway, carried, heard, Send}
 use Rattle.line_sim.proofs.Tunnels.{pushed}
 use Rattle.line_sim.proofs.tunnel.Tunnel.send.Goals as goal
 
 pub returns : goal.returns
-returns c t is = c.put_next.ensures (after t (Send c.args.octets.now)) (record { present = is.present; now = is.now; up = pushed _ _ _ _ _ _ _ is.present is.gateway.made (c.push.ensures.simulates t.network.up is.up); down = is.down; short = is.short; gateway = is.gateway })
+returns c t is = c.put_next.ensures (after t (Send c.args.octets.now)) (record { present = is.present; now = is.now; up = pushed t.network.up c.args.octets.now t.present c.args.self.now.present (length t.gateway.makers) c.args.self.now.gateway.made _ is.present is.gateway.made (c.push.ensures.simulates t.network.up is.up); down = is.down; short = is.short; gateway = is.gateway })
