@@ -2,3 +2,4 @@ pub mod Readings
 pub mod Taking
 pub mod Tunnels
 pub mod Places
+pub mod Lines

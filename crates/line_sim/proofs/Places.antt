@@ -1,10 +1,13 @@
 -- A frame that comes to the devices one by one comes to all but those that are left out.
-use Rattle.std.proofs.Common.{◌≡◌, ◌≢◌, ℕ, zero, suc, ◌+◌, ◌-◌, ◌*◌, ◌/◌, ◌%◌, ◌<◌, ◌≤◌, ◌==◌, Bool, true, false, not, ◌&&◌, ◌||◌, List, [], ◌∷◌, ◌++◌, Option, Some, None, option_map, slice_index_or, refl, ap, sym, subst, ◌∙◌, arith, if◌then◌else◌}
+use Rattle.std.proofs.Common.{◌≡◌, ◌≢◌, ℕ, zero, suc, ◌+◌, ◌-◌, ◌*◌, ◌/◌, ◌%◌, ◌<◌, ◌≤◌, ◌==◌, Bool, true, false, not, ◌&&◌, ◌||◌, List, [], ◌∷◌, ◌++◌, Option, Some, None, slice_index_or, length, refl, ap, sym, subst, ◌∙◌, arith, if◌then◌else◌}
 use Rattle.knx_model.specs.declared.frames.cemi.Ldata.{Ldata}
+use Rattle.std.proofs.Math.ListN.{set}
+use Rattle.std.proofs.lemmas.List.{get_or-set_same, get_or-set_other}
+use Rattle.knx_model.specs.ApduReading.{option_map}
 use Rattle.knx_model.specs.DeviceState.{DeviceState}
 use Rattle.knx_model.specs.DeviceFrames.{Whole, takes}
 use Rattle.line_model.specs.World.{Devices, all_take, changed, is_among, takes_it}
-use Rattle.line_sim.specs.Places.{DevicesNow, AreDevices, ComesTo, ComesAt, device_at, line_part, device_part, parts_from, and_one, is_one, is_taken_by, is_taken_at}
+use Rattle.line_sim.specs.Places.{DevicesNow, AreDevices, ComesTo, ComesAt, with_device, device_at, line_part, device_part, parts_from, and_one, is_one, is_taken_by, is_taken_at}
 
 -- ---- tests
 
@@ -78,8 +81,10 @@ away n w a e = choose (line_part a == n.line) _ _ None (λ on. absurd (both (sec
   where
     from : a / 256 ≡ n.line → n.line * 256 + 0 ≤ a
     from h = omega arith
+
     up_to : a / 256 ≡ n.line → a < n.line * 256 + (0 + 256)
     up_to h = omega arith
+
     both : (is_one w a || is_among (parts_from n.line 256 0) a) ≡ true → ⊥
     both h = let f = sym (among w (parts_from n.line 256 0) a) ∙ e in cc
 
@@ -125,7 +130,7 @@ comes_so now w frame line p m devices a false e =
     let pick : Bool → Option DeviceState = λ b. if b then devices a else option_map (λ d. takes d frame now Whole) (devices a) in
     sym (choose (a == line * 256 + p) _ _ _
     (λ at. let it : (line * 256 + p == a) ≡ true = turned (line * 256 + p) a ∙ at in
-        ap (λ (b : Bool). option_map (λ (d : DeviceState). takes d frame now Whole) (pick b)) (before_it w line p m a it) ∙ sym (ap pick (after_it w line p m a it ∙ one_at w (line * 256 + p) a it ∙ e)))
+    ap (λ (b : Bool). option_map (λ (d : DeviceState). takes d frame now Whole) (pick b)) (before_it w line p m a it) ∙ sym (ap pick (after_it w line p m a it ∙ one_at w (line * 256 + p) a it ∙ e)))
     (λ off. sym (ap pick (another w line p m a (turned (line * 256 + p) a ∙ off)))))
 
 -- a function into devices at an address, whichever it is
@@ -147,19 +152,74 @@ pub taken_more : (old mid : DevicesNow) (now : ℕ) (w : Option ℕ) (frame : Ld
     → (taken || one) ≡ is_taken_by old (and_one w (parts_from old.line m (suc p))) frame
 taken_more old mid now w frame p m taken one same before was is = decide ((taken || one) ≡ is_taken_by old (and_one w (parts_from old.line m (suc p))) frame) (old.line * 256 + p == frame.destination)
     (λ e.
-        let x : ℕ = old.line * 256 + p in
-        let there : x ≡ frame.destination = same_number x frame.destination e in
-        let not_yet : taken ≡ false = was ∙ ap (λ (b : Bool). not b && takes_it frame (device_at old frame.destination)) (before_it w old.line p m frame.destination e) in
-        let now_it : one ≡ (not (is_one w x) && ((x == frame.destination) && takes_it frame (device_at mid x))) = is ∙ ap (λ (line : ℕ). not (is_one w (line * 256 + p)) && ((line * 256 + p == frame.destination) && takes_it frame (device_at mid (line * 256 + p)))) same in
-        let by_name : one ≡ (not (is_one w x) && takes_it frame (device_at mid x)) = now_it ∙ ap (λ (b : Bool). not (is_one w x) && (b && takes_it frame (device_at mid x))) e in
-        let as_before : one ≡ (not (is_one w frame.destination) && takes_it frame (device_at old frame.destination))
-            = by_name ∙ ap (λ (k : ℕ). not (is_one w k) && takes_it frame (device_at mid k)) there
-            ∙ ap (λ (o : Option DeviceState). not (is_one w frame.destination) && takes_it frame o) (untouched old mid now _ frame frame.destination before (before_it w old.line p m frame.destination e)) in
-        ap (λ (b : Bool). b || one) not_yet ∙ as_before ∙ sym (ap (λ (b : Bool). not b && takes_it frame (device_at old frame.destination)) (after_it w old.line p m frame.destination e)))
+    let x : ℕ = old.line * 256 + p in
+    let there : x ≡ frame.destination = same_number x frame.destination e in
+    let not_yet : taken ≡ false = was ∙ ap (λ (b : Bool). not b && takes_it frame (device_at old frame.destination)) (before_it w old.line p m frame.destination e) in
+    let now_it : one ≡ (not (is_one w x) && ((x == frame.destination) && takes_it frame (device_at mid x))) = is ∙ ap (λ (line : ℕ). not (is_one w (line * 256 + p)) && ((line * 256 + p == frame.destination) && takes_it frame (device_at mid (line * 256 + p)))) same in
+    let by_name : one ≡ (not (is_one w x) && takes_it frame (device_at mid x)) = now_it ∙ ap (λ (b : Bool). not (is_one w x) && (b && takes_it frame (device_at mid x))) e in
+    let as_before : one ≡ (not (is_one w frame.destination) && takes_it frame (device_at old frame.destination))
+    = by_name ∙ ap (λ (k : ℕ). not (is_one w k) && takes_it frame (device_at mid k)) there
+    ∙ ap (λ (o : Option DeviceState). not (is_one w frame.destination) && takes_it frame o) (untouched old mid now _ frame frame.destination before (before_it w old.line p m frame.destination e)) in
+    ap (λ (b : Bool). b || one) not_yet ∙ as_before ∙ sym (ap (λ (b : Bool). not b && takes_it frame (device_at old frame.destination)) (after_it w old.line p m frame.destination e)))
     (λ e.
-        let none : one ≡ false = is ∙ ap (λ (line : ℕ). not (is_one w (line * 256 + p)) && ((line * 256 + p == frame.destination) && takes_it frame (device_at mid (line * 256 + p)))) same
-            ∙ ap (λ (b : Bool). not (is_one w (old.line * 256 + p)) && (b && takes_it frame (device_at mid (old.line * 256 + p)))) e ∙ and_false _ in
-        ap (λ (b : Bool). taken || b) none ∙ or_false taken ∙ was ∙ sym (ap (λ (b : Bool). not b && takes_it frame (device_at old frame.destination)) (another w old.line p m frame.destination e)))
+    let none : one ≡ false = is ∙ ap (λ (line : ℕ). not (is_one w (line * 256 + p)) && ((line * 256 + p == frame.destination) && takes_it frame (device_at mid (line * 256 + p)))) same
+    ∙ ap (λ (b : Bool). not (is_one w (old.line * 256 + p)) && (b && takes_it frame (device_at mid (old.line * 256 + p)))) e ∙ and_false _ in
+    ap (λ (b : Bool). taken || b) none ∙ or_false taken ∙ was ∙ sym (ap (λ (b : Bool). not b && takes_it frame (device_at old frame.destination)) (another w old.line p m frame.destination e)))
+
+-- ---- as the loop counts
+
+counts : (p : ℕ) → p < 256 → 256 - p ≡ suc (256 - (p + 1))
+counts p h = omega arith
+
+pub comes_next : (old mid new : DevicesNow) (now : ℕ) (w : Option ℕ) (frame : Ldata) (p : ℕ) → p < 256 → mid.line ≡ old.line
+    → ComesTo old now (and_one w (parts_from old.line (256 - p) p)) frame mid → ComesAt mid now w frame p new → ComesTo old now (and_one w (parts_from old.line (256 - (p + 1)) (p + 1))) frame new
+comes_next old mid new now w frame p h same before at =
+    let next : suc p ≡ p + 1 = omega arith in
+    subst (λ (q : ℕ). ComesTo old now (and_one w (parts_from old.line (256 - (p + 1)) q)) frame new) next
+    (comes_more old mid new now w frame p (256 - (p + 1)) same (subst (λ (k : ℕ). ComesTo old now (and_one w (parts_from old.line k p)) frame mid) (counts p h) before) at)
+
+pub taken_next : (old mid : DevicesNow) (now : ℕ) (w : Option ℕ) (frame : Ldata) (p : ℕ) (taken one : Bool) → p < 256 → mid.line ≡ old.line
+    → ComesTo old now (and_one w (parts_from old.line (256 - p) p)) frame mid → taken ≡ is_taken_by old (and_one w (parts_from old.line (256 - p) p)) frame → one ≡ is_taken_at mid w frame p
+    → (taken || one) ≡ is_taken_by old (and_one w (parts_from old.line (256 - (p + 1)) (p + 1))) frame
+taken_next old mid now w frame p taken one h same before was is =
+    let next : suc p ≡ p + 1 = omega arith in
+    subst (λ (q : ℕ). (taken || one) ≡ is_taken_by old (and_one w (parts_from old.line (256 - (p + 1)) q)) frame) next
+    (taken_more old mid now w frame p (256 - (p + 1)) taken one same (subst (λ (k : ℕ). ComesTo old now (and_one w (parts_from old.line k p)) frame mid) (counts p h) before)
+    (was ∙ ap (λ (k : ℕ). is_taken_by old (and_one w (parts_from old.line k p)) frame) (counts p h)) is)
+
+-- ---- one device more on the line
+
+parts_name : (a b : ℕ) → a / 256 ≡ b / 256 → a % 256 ≡ b % 256 → a ≡ b
+parts_name a b same part = omega arith
+
+pub placed : (line : ℕ) (places : List (Option DeviceState)) (d : DeviceState) (devices : Devices) → length places ≡ 256 → line_part d.address.raw ≡ line → AreDevices (record { line = line; places = places }) devices
+    → (a : ℕ) → with_device d devices a ≡ device_at (record { line = line; places = set places (device_part d.address.raw) (Some d) }) a
+placed line places d devices long on are a = choose (a == d.address.raw) _ _ _
+    (λ e.
+    let at : a ≡ d.address.raw = same_number a d.address.raw e in
+    let part : device_part d.address.raw < length places = omega (arith, long) in
+    sym (choose (line_part a == line) _ _ (Some d)
+    (λ h. ap (λ (k : ℕ). slice_index_or (set places (device_part d.address.raw) (Some d)) (device_part k) None) at ∙ get_or-set_same places (device_part d.address.raw) (Some d) None part)
+    (λ h. absurd (no_other (ap line_part at ∙ on) h))))
+    (λ e. are a ∙ choose (line_part a == line) _ _ _
+    (λ h. sym (choose (line_part a == line) _ _ _ (λ g. get_or-set_other places (device_part d.address.raw) (device_part a) (Some d) None (apart e (same_number (line_part a) line h))) (λ g. absurd (clash h g))))
+    (λ h. sym (choose (line_part a == line) _ _ _ (λ g. absurd (clash g h)) (λ g. refl))))
+  where
+    no_other : line_part a ≡ line → (line_part a == line) ≡ false → ⊥
+    no_other h g = let t = is_same (line_part a) line h in cc
+
+    clash : (line_part a == line) ≡ true → (line_part a == line) ≡ false → ⊥
+    clash h g = cc
+
+    apart : (a == d.address.raw) ≡ false → line_part a ≡ line → device_part a ≢ device_part d.address.raw
+    apart e h same = away_from (parts_name a d.address.raw (h ∙ sym on) same) e
+      where
+        away_from : a ≡ d.address.raw → (a == d.address.raw) ≡ false → ⊥
+        away_from q g = let t = is_same a d.address.raw q in cc
+
+pub place_is : (t : Bool) (k part : ℕ) → Some k ≡ (if t then Some part else None) → k ≡ part
+place_is true k part e = cc
+place_is false k part e = cc
 
 -- ---- no devices
 

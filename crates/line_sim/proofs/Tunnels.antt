@@ -89,7 +89,7 @@ repeat_posts n m gn l t (Some c) (Repeat frame) law channel what is held e post 
     let g : Gateway = after_due t.gateway t.now (Repeat frame) in
     let exact : IsGateway gn g = subst (λ (k : ℕ). IsGateway gn (after_due t.gateway k (Repeat frame))) (sym is.now) held in
     let posted : IsTunnel m (sends_down (with_gateway t g) c.endpoint frame) = subst (λ (to : ℕ). IsTunnel m (sends_down (with_gateway t g) to frame)) (ap (λ (x : Letter). x.to) same)
-        (post (with_gateway t g) frame (gateway_changes n gn t g is exact) (ap (λ (x : Letter). x.octets) same)) in
+    (post (with_gateway t g) frame (gateway_changes n gn t g is exact) (ap (λ (x : Letter). x.octets) same)) in
     subst (λ (u : Tunnel). IsTunnel m u) (sym (law t c frame channel (ap (gateway_expired t.gateway) is.now ∙ what))) posted
 
 pub closing_posts : (n m : TunnelNow) (gn : GatewayNow) (l : Letter) (t : Tunnel) (o : Option Channel) (d : GatewayExpired) → Closes → t.gateway.channel ≡ o → gateway_expired t.gateway n.now ≡ d
@@ -102,7 +102,7 @@ closing_posts n m gn l t (Some c) (Closing frame) law channel what is held e pos
     let same : l ≡ letter c.endpoint frame = cc in
     let g : Gateway = after_due t.gateway t.now (Closing frame) in
     let posted : IsTunnel m (sends_down (with_gateway t g) c.endpoint frame) = subst (λ (to : ℕ). IsTunnel m (sends_down (with_gateway t g) to frame)) (ap (λ (x : Letter). x.to) same)
-        (post (with_gateway t g) frame (gateway_changes n gn t g is held) (ap (λ (x : Letter). x.octets) same)) in
+    (post (with_gateway t g) frame (gateway_changes n gn t g is held) (ap (λ (x : Letter). x.octets) same)) in
     subst (λ (u : Tunnel). IsTunnel m u) (sym (law t c frame channel (ap (gateway_expired t.gateway) is.now ∙ what))) posted
 
 -- nothing is due where no letter comes

@@ -1,9 +1,10 @@
 -- The line as it is held: the tunnel, the devices, and the bus's last frame where a device sent it; and of which worlds it is a picture.
-use Rattle.std.specs.Prelude.{◌≡◌, ℕ, Bool, not, ◌||◌, Option, Some, None, option_map}
+use Rattle.std.specs.Prelude.{◌≡◌, ℕ, Bool, not, ◌||◌, Option, Some, None}
 use Rattle.knx_model.specs.declared.device.Sending.{Sending}
 use Rattle.knx_model.specs.declared.device.WriteKind.{WriteKind}
 use Rattle.knx_model.specs.declared.frames.cemi.Ldata.{Ldata}
 use Rattle.knx_model.specs.declared.frames.cemi.LdataCode.TheVariants.{Con}
+use Rattle.knx_model.specs.ApduReading.{option_map}
 use Rattle.knx_model.specs.Device.{Effect, Nothing}
 use Rattle.knx_model.specs.DeviceState.{DeviceState}
 use Rattle.knx_model.specs.DeviceSending.{first_frame, next_sending}

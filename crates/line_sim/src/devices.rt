@@ -55,6 +55,7 @@ pub struct Taking {
 
 impl Devices {
     /// No devices, on the line of an address.
+    #[tactic(auto, using(crate::proofs::Places::none_more, crate::proofs::Places::no_devices))]
     pub fn none(alloc: Global, on: IndAddr) -> Result<Devices, NoMemory>
         ensures line { IfOk result (λ made. made.line ≡ line_part on.raw) }
         ensures empty { IfOk result (λ made. AreDevices made (λ address. None)) }
@@ -186,23 +187,6 @@ impl Devices {
         };
         if let Some(device) = &mut self.places[place] {
             device.take_torn(frame, k, now);
-        }
-    }
-
-    /// The device that the frame is for takes it, and worn memory keeps the complement of each octet that it writes. At `Err` nothing has changed.
-    pub fn take_worn(&mut self, alloc: Global, frame: &Ldata, now: u64) -> Result<(), NoMemory>
-        requires { write_of (device_at self.old frame.now.destination) (Some frame.now) ≡ Some Kind.Memory }
-        ensures line { self.new.line ≡ self.old.line }
-        ensures next { OnOk result ((devices : Known) → AreDevices self.old devices
-            → AreDevices self.new (one_takes now (Worn (worn_octets (effect_at (devices frame.now.destination) frame.now))) (Some frame.now) devices)) }
-        ensures err { OnErr result (self.new ≡ self.old) }
-    {
-        let Some(place) = self.place(frame.destination) else {
-            return Ok(());
-        };
-        match &mut self.places[place] {
-            Some(device) => device.take_worn(alloc, frame, now),
-            None => Ok(()),
         }
     }
 

@@ -5,6 +5,7 @@ ghost use Rattle.std.specs.VecDeque.{deque_len, deque_capacity};
 ghost use Rattle.knx_model.specs.KnxNetIp.{Written};
 ghost use Rattle.line_model.specs.Gateway.{Gateway as Known, gateway_took, gateway_expired, next_put, at_rest, closed};
 ghost use Rattle.line_model.specs.GatewayEnd.{after_due};
+ghost use Rattle.knx_model.specs.ApduReading.{option_map as mapped};
 ghost use Rattle.knx_model.specs.DeviceSending.{first_frame};
 ghost use Rattle.line_model.specs.Tunnel.{carried, heard};
 ghost use Rattle.line_model.specs.World.{on_bus};
@@ -156,8 +157,8 @@ impl Gateway {
 
     /// The client's frame that goes over the bus next, as the bus carries it; None exactly where none waits.
     pub fn frame_due(&self) -> Option<Ldata>
-        ensures value { result ≡ option_map (on_bus self.now.address) (first_frame self.now.bus.items) }
-        ensures simulates { (g : Known) → IsGateway (gateway_now self.now) g → result ≡ option_map (on_bus g.tunnel) (first_frame g.bus) }
+        ensures value { result ≡ mapped (on_bus self.now.address) (first_frame self.now.bus.items) }
+        ensures simulates { (g : Known) → IsGateway (gateway_now self.now) g → result ≡ mapped (on_bus g.tunnel) (first_frame g.bus) }
     {
         Some(on_bus(self.address, self.bus.front()?))
     }

@@ -95,7 +95,8 @@ impl Line {
         ensures next { OnOk result ((w : World) → IsNow self.old w → CanCount self.old.tunnel.gateway → IsNow self.new (step w (Up age))) }
         ensures err { OnErr result (self.new ≡ self.old) }
     {
-        self.tunnel.up(age)
+        self.tunnel.up(age)?;
+        Ok(())
     }
 
     /// The gateway answers the connect request of an age with a status other than 0.
@@ -140,50 +141,6 @@ impl Line {
         Ok(taking.came)
     }
 
-    /// The client's frame goes over the bus, and the device that it is for loses its power in the write that it is, after so many octets. At
-    /// `Err` nothing has changed.
-    pub fn bus_torn(&mut self, k: u32) -> Result<(), NoMemory>
-        requires { is_some (write_due self.old) ≡ true }
-        ensures next { OnOk result ((w : World) → IsNow self.old w → IsNow self.new (step w (BusTorn (nat_lt 0 k) (written_front (effect_due self.old) k)))) }
-        ensures err { OnErr result (self.new ≡ self.old) }
-    {
-        let Some(frame) = self.tunnel.gateway.frame_due() else {
-            return Ok(());
-        };
-        self.tunnel.gateway.waiting.reserve(1)?;
-        self.devices.take_torn(&frame, k, self.tunnel.time);
-        self.tunnel.carried(confirmation(frame, true));
-        self.echo = None;
-        Ok(())
-    }
-
-    /// The client's frame goes over the bus, and the device that it is for keeps the complement of each octet that it writes. At `Err` nothing
-    /// has changed.
-    pub fn bus_worn(&mut self, alloc: Global) -> Result<(), NoMemory>
-        requires { write_due self.old ≡ Some Kind.Memory }
-        ensures next { OnOk result ((w : World) → IsNow self.old w → IsNow self.new (step w (BusWorn (worn_octets (effect_due self.old))))) }
-        ensures err { OnErr result (self.new ≡ self.old) }
-    {
-        let Some(frame) = self.tunnel.gateway.frame_due() else {
-            return Ok(());
-        };
-        self.tunnel.gateway.waiting.reserve(1)?;
-        self.devices.take_worn(alloc, &frame, self.tunnel.time)?;
-        self.tunnel.carried(confirmation(frame, true));
-        self.echo = None;
-        Ok(())
-    }
-
-    /// A device takes again the frame that it got last. At `Err` nothing has changed.
-    pub fn bus_again(&mut self, alloc: Global, device: u16) -> Result<(), NoMemory>
-        ensures next { OnOk result ((w : World) → IsNow self.old w → IsNow self.new (step w (BusAgain device))) }
-        ensures err { OnErr result (self.new ≡ self.old) }
-    {
-        self.devices.take_again(alloc, device, self.tunnel.time)?;
-        self.tunnel.elsewhere();
-        Ok(())
-    }
-
     // ---- the devices
 
     /// A device's oldest unsent frame goes over the bus; where it is to a group, the others take it, but those for which there is no memory. At
@@ -197,26 +154,10 @@ impl Line {
             self.tunnel.elsewhere();
             return Ok(Came::ToAll);
         };
-        let came = self.to_others(alloc, &frame, device);
+        let came = to_others(&mut self.devices, alloc, &frame, self.tunnel.time, device);
         self.tunnel.hear(at, frame.copied());
         self.echo = Some(frame);
         Ok(came)
-    }
-
-    /// A device's outstanding answer, which is due again, goes over the bus once more. At `Err` nothing has changed.
-    pub fn dev_repeat(&mut self, device: u16, at: AtGateway) -> Result<(), NoMemory>
-        requires { IsDue self.old.devices device self.old.tunnel.now }
-        ensures next { OnOk result ((w : World) → IsNow self.old w → IsNow self.new (step w (DevRepeat device (at_gateway at)))) }
-        ensures err { OnErr result (self.new ≡ self.old) }
-    {
-        self.tunnel.gateway.waiting.reserve(1)?;
-        let Some(frame) = self.devices.repeat(device, self.tunnel.time) else {
-            self.tunnel.elsewhere();
-            return Ok(());
-        };
-        self.tunnel.hear(at, frame.copied());
-        self.echo = Some(frame);
-        Ok(())
     }
 
     /// A device closes its connection. At `Err` nothing has changed.
@@ -357,21 +298,17 @@ impl Line {
     {
         self.tunnel.gateway.acted
     }
+}
 
-    /// A device's frame to a group comes to the other devices.
-    fn to_others(&mut self, alloc: Global, frame: &Ldata, device: u16) -> Came
-        ensures tunnel { self.new.tunnel ≡ self.old.tunnel }
-        ensures echo { self.new.echo ≡ self.old.echo }
-        ensures devices { (known : Known) → AreDevices self.old.devices known
-            → AreDevices self.new.devices (others_take self.old.tunnel.now (and_one (Some device) (missed self.old.devices.line result)) (Some frame.now) known) }
-    {
-        if frame.group {
-            self.devices
-                .take(alloc, frame, self.tunnel.time, Some(device))
-                .came
-        } else {
-            Came::ToAll
-        }
+/// A device's frame to a group comes to the other devices.
+fn to_others(devices: &mut Devices, alloc: Global, frame: &Ldata, now: u64, device: u16) -> Came
+    ensures { (known : Known) → AreDevices devices.old known
+        → AreDevices devices.new (others_take now (and_one (Some device) (missed devices.old.line result)) (Some frame.now) known) }
+{
+    if frame.group {
+        devices.take(alloc, frame, now, Some(device)).came
+    } else {
+        Came::ToAll
     }
 }
 

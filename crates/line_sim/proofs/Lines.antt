@@ -1,0 +1,110 @@
+-- What is held of the line after each event.
+use Rattle.std.proofs.Common.{◌≡◌, ℕ, ◌==◌, Bool, true, false, not, ◌&&◌, ◌||◌, List, [], ◌∷◌, Option, Some, None, refl, ap, sym, subst, ◌∙◌, arith, if◌then◌else◌}
+use Rattle.knx_model.specs.ApduReading.{option_map}
+use Rattle.knx_model.specs.declared.frames.cemi.Ldata.{Ldata}
+use Rattle.knx_model.specs.declared.frames.cemi.LdataCode.TheVariants.{Con}
+use Rattle.knx_model.specs.DeviceState.{DeviceState}
+use Rattle.knx_model.specs.DeviceFrames.{Whole, takes}
+use Rattle.knx_model.specs.DeviceSending.{pops, waiting_frame}
+use Rattle.line_model.specs.Tunnel as tunnel
+use Rattle.line_model.specs.Tunnel.{Tunnel, Carried, Heard, Elsewhere}
+use Rattle.line_model.specs.World.{World, Event, AtGateway, Comes, IsLost, Devices, Bus, DevSend, all_take, carried, changed, confirmation, echo_after, frame_by, heard, is_among, next_frame, none_if, or_before, others_take, step, takes_it, waiting_at}
+use Rattle.line_sim.specs.Line.{LineNow, IsNow, confirmed}
+use Rattle.line_sim.specs.Places.{DevicesNow, AreDevices, ComesTo, device_at, is_taken_by}
+use Rattle.line_sim.specs.Tunnels.{TunnelNow, IsTunnel}
+
+-- ---- a frame of the client
+
+-- none goes over the bus
+pub bus_nothing : (n m : LineNow) (w : World) (left_out : List ℕ) → None ≡ next_frame w → IsNow n w → ((t : Tunnel) → IsTunnel n.tunnel t → IsTunnel m.tunnel (tunnel.step t Elsewhere)) → m.devices ≡ n.devices → m.echo ≡ n.echo
+    → IsNow m (step w (Bus left_out))
+bus_nothing n m w left_out none is goes devices echo = record {
+  tunnel = subst (λ (f : Option Ldata). IsTunnel m.tunnel (tunnel.step w.tunnel (carried w left_out f))) none (goes w.tunnel is.tunnel);
+  devices = subst (λ (f : Option Ldata). AreDevices m.devices (all_take w.tunnel.now left_out f w.devices)) none (subst (λ (d : DevicesNow). AreDevices d w.devices) (sym devices) is.devices);
+  echo = subst (λ (f : Option Ldata). none_if f w.echo ≡ m.echo) none (is.echo ∙ sym echo);
+}
+
+-- what the confirmation says
+confirms : (n : LineNow) (w : World) (left_out : List ℕ) (frame : Ldata) (taken : Bool) → IsNow n w → taken ≡ is_taken_by n.devices left_out frame → confirmed frame taken ≡ confirmation w left_out frame
+confirms n w left_out frame taken is e =
+    let taken_so : taken ≡ (not (is_among left_out frame.destination) && takes_it frame (w.devices frame.destination))
+    = e ∙ ap (λ (o : Option DeviceState). not (is_among left_out frame.destination) && takes_it frame o) (sym (is.devices frame.destination)) in
+    ap (confirmed frame) taken_so
+
+pub bus_carries : (n m : LineNow) (w : World) (left_out : List ℕ) (frame : Ldata) (taken : Bool) → Some frame ≡ next_frame w → IsNow n w
+    → ((t : Tunnel) → IsTunnel n.tunnel t → IsTunnel m.tunnel (tunnel.step t (Carried (confirmed frame taken)))) → ComesTo n.devices n.tunnel.now left_out frame m.devices → taken ≡ is_taken_by n.devices left_out frame → m.echo ≡ None
+    → IsNow m (step w (Bus left_out))
+bus_carries n m w left_out frame taken due is goes comes e echo = record {
+  tunnel = subst (λ (f : Option Ldata). IsTunnel m.tunnel (tunnel.step w.tunnel (carried w left_out f))) due
+      (subst (λ (con : Ldata). IsTunnel m.tunnel (tunnel.step w.tunnel (Carried con))) (confirms n w left_out frame taken is e) (goes w.tunnel is.tunnel));
+  devices = subst (λ (f : Option Ldata). AreDevices m.devices (all_take w.tunnel.now left_out f w.devices)) due
+      (subst (λ (k : ℕ). AreDevices m.devices (all_take k left_out (Some frame) w.devices)) (sym is.tunnel.now) (comes w.devices is.devices));
+  echo = subst (λ (f : Option Ldata). none_if f w.echo ≡ m.echo) due (sym echo);
+}
+
+-- ---- a frame of a device
+
+choose : {X : Type 0} (t : Bool) (x y z : X) → (t ≡ true → x ≡ z) → (t ≡ false → y ≡ z) → (if t then x else y) ≡ z
+choose true x y z this that = this refl
+choose false x y z this that = that refl
+
+-- the sender doesn't take its own frame, so that it sends first doesn't matter
+apart : (now device : ℕ) (others : List ℕ) (frame : Ldata) (devices : Devices) (a : ℕ)
+    → changed device pops (all_take now (device ∷ others) (Some frame) devices) a ≡ all_take now (device ∷ others) (Some frame) (changed device pops devices) a
+apart now device others frame devices a = apart_so (a == device) (device == a) refl (turned a device)
+  where
+    turned : (x y : ℕ) → (x == y) ≡ (y == x)
+    turned x y = grind arith
+
+    apart_so : (s t : Bool) → (a == device) ≡ s → s ≡ t → (if s then option_map pops (if t || is_among others a then devices a else option_map (λ d. takes d frame now Whole) (devices a)) else (if t || is_among others a then devices a else option_map (λ d. takes d frame now Whole) (devices a)))
+        ≡ (if t || is_among others a then (if s then option_map pops (devices a) else devices a) else option_map (λ d. takes d frame now Whole) (if s then option_map pops (devices a) else devices a))
+    apart_so true true e same = refl
+    apart_so false false e same = refl
+    apart_so true false e same = cc
+    apart_so false true e same = cc
+
+others_apart : (now device : ℕ) (others : List ℕ) (frame : Ldata) (devices : Devices) (a : ℕ) (g : Bool)
+    → changed device pops (if g then all_take now (device ∷ others) (Some frame) devices else devices) a ≡ (if g then all_take now (device ∷ others) (Some frame) (changed device pops devices) else changed device pops devices) a
+others_apart now device others frame devices a true = apart now device others frame devices a
+others_apart now device others frame devices a false = refl
+
+pub sends_nothing : (n m : LineNow) (w : World) (device : ℕ) (at : AtGateway) (left_out : List ℕ) → None ≡ frame_by waiting_frame (device_at n.devices device) → IsNow n w
+    → ((t : Tunnel) → IsTunnel n.tunnel t → IsTunnel m.tunnel (tunnel.step t Elsewhere)) → ((devices : Devices) → AreDevices n.devices devices → AreDevices m.devices (changed device pops devices)) → m.echo ≡ n.echo
+    → IsNow m (step w (DevSend device at left_out))
+sends_nothing n m w device at left_out none is goes leaves echo =
+    let here : None ≡ waiting_at w device = none ∙ ap (frame_by waiting_frame) (sym (is.devices device)) in
+    record {
+      tunnel = subst (λ (f : Option Ldata). IsTunnel m.tunnel (tunnel.step w.tunnel (heard at f))) here (elsewhere at);
+      devices = subst (λ (f : Option Ldata). AreDevices m.devices (changed device pops (others_take w.tunnel.now (device ∷ left_out) f w.devices))) here (leaves w.devices is.devices);
+      echo = subst (λ (f : Option Ldata). or_before f w.echo ≡ m.echo) here (is.echo ∙ sym echo);
+    }
+  where
+    elsewhere : (at : AtGateway) → IsTunnel m.tunnel (tunnel.step w.tunnel (heard at None))
+    elsewhere Comes = goes w.tunnel is.tunnel
+    elsewhere IsLost = goes w.tunnel is.tunnel
+
+pub sends : (n mid m : LineNow) (w : World) (device : ℕ) (at : AtGateway) (left_out : List ℕ) (frame : Ldata) → Some frame ≡ frame_by waiting_frame (device_at n.devices device) → IsNow n w
+    → ((t : Tunnel) → IsTunnel n.tunnel t → IsTunnel m.tunnel (tunnel.step t (heard at (Some frame)))) → ((devices : Devices) → AreDevices n.devices devices → AreDevices mid.devices (changed device pops devices))
+    → ((devices : Devices) → AreDevices mid.devices devices → AreDevices m.devices (others_take n.tunnel.now (device ∷ left_out) (Some frame) devices)) → m.echo ≡ Some frame
+    → IsNow m (step w (DevSend device at left_out))
+sends n mid m w device at left_out frame due is goes leaves comes echo =
+    let here : Some frame ≡ waiting_at w device = due ∙ ap (frame_by waiting_frame) (sym (is.devices device)) in
+    let after : AreDevices m.devices (others_take w.tunnel.now (device ∷ left_out) (Some frame) (changed device pops w.devices))
+    = subst (λ (k : ℕ). AreDevices m.devices (others_take k (device ∷ left_out) (Some frame) (changed device pops w.devices))) (sym is.tunnel.now) (comes (changed device pops w.devices) (leaves w.devices is.devices)) in
+    record {
+      tunnel = subst (λ (f : Option Ldata). IsTunnel m.tunnel (tunnel.step w.tunnel (heard at f))) here (goes w.tunnel is.tunnel);
+      devices = subst (λ (f : Option Ldata). AreDevices m.devices (changed device pops (others_take w.tunnel.now (device ∷ left_out) f w.devices))) here
+          (λ a. others_apart w.tunnel.now device left_out frame w.devices a frame.group ∙ after a);
+      echo = subst (λ (f : Option Ldata). or_before f w.echo ≡ m.echo) here (sym echo);
+    }
+
+-- room was taken for more frames
+pub roomy : (n : TunnelNow) (frames : List Ldata) (t : Tunnel) → frames ≡ n.gateway.waiting → IsTunnel n t → IsTunnel (record n { gateway = record n.gateway { waiting = frames } }) t
+roomy n frames t same is = record {
+  present = is.present;
+  now = is.now;
+  up = is.up;
+  down = is.down;
+  short = is.short;
+  gateway = record { address = is.gateway.address; end = is.gateway.end; bus = is.gateway.bus; waiting = is.gateway.waiting ∙ sym same; made = is.gateway.made; acted = is.gateway.acted };
+}
