@@ -4,11 +4,11 @@ use Rattle.knx_model.specs.ApduReading.{option_map}
 use Rattle.knx_model.specs.declared.frames.cemi.Ldata.{Ldata}
 use Rattle.knx_model.specs.declared.frames.cemi.LdataCode.TheVariants.{Con}
 use Rattle.knx_model.specs.DeviceState.{DeviceState}
-use Rattle.knx_model.specs.DeviceFrames.{Whole, takes}
-use Rattle.knx_model.specs.DeviceSending.{pops, waiting_frame}
+use Rattle.knx_model.specs.DeviceFrames.{Whole, takes, taken_again}
+use Rattle.knx_model.specs.DeviceSending.{pops, waiting_frame, repeat_frame, repeats}
 use Rattle.line_model.specs.Tunnel as tunnel
 use Rattle.line_model.specs.Tunnel.{Tunnel, Carried, Heard, Elsewhere}
-use Rattle.line_model.specs.World.{World, Event, AtGateway, Comes, IsLost, Devices, Bus, DevSend, all_take, carried, changed, confirmation, echo_after, frame_by, heard, is_among, next_frame, none_if, or_before, others_take, step, takes_it, waiting_at}
+use Rattle.line_model.specs.World.{World, Event, AtGateway, Comes, IsLost, Devices, Bus, BusAgain, DevSend, DevRepeat, all_take, carried, changed, confirmation, echo_after, frame_by, heard, is_among, next_frame, none_if, or_before, others_take, step, takes_it, repeat_at, waiting_at}
 use Rattle.line_sim.specs.Line.{LineNow, IsNow, confirmed}
 use Rattle.line_sim.specs.Places.{DevicesNow, AreDevices, ComesTo, device_at, is_taken_by}
 use Rattle.line_sim.specs.Tunnels.{TunnelNow, IsTunnel}
@@ -108,3 +108,35 @@ roomy n frames t same is = record {
   short = is.short;
   gateway = record { address = is.gateway.address; end = is.gateway.end; bus = is.gateway.bus; waiting = is.gateway.waiting ∙ sym same; made = is.gateway.made; acted = is.gateway.acted };
 }
+
+-- ---- a device takes again the frame that it got last
+
+pub takes_again : (n m : LineNow) (w : World) (device : ℕ) → IsNow n w → ((t : Tunnel) → IsTunnel n.tunnel t → IsTunnel m.tunnel (tunnel.step t Elsewhere))
+    → ((devices : Devices) → AreDevices n.devices devices → AreDevices m.devices (changed device (λ d. taken_again d n.tunnel.now) devices)) → m.echo ≡ n.echo → IsNow m (step w (BusAgain device))
+takes_again n m w device is goes takes echo = record {
+  tunnel = goes w.tunnel is.tunnel;
+  devices = subst (λ (k : ℕ). AreDevices m.devices (changed device (λ d. taken_again d k) w.devices)) (sym is.tunnel.now) (takes w.devices is.devices);
+  echo = is.echo ∙ sym echo;
+}
+
+-- ---- a device sends its answer again
+
+nothing_heard : (m : TunnelNow) (t : Tunnel) (at : AtGateway) → IsTunnel m (tunnel.step t Elsewhere) → IsTunnel m (tunnel.step t (heard at None))
+nothing_heard m t Comes is = is
+nothing_heard m t IsLost is = is
+
+pub repeats_so : (n m : LineNow) (w : World) (device : ℕ) (at : AtGateway) (f : Option Ldata) → f ≡ frame_by repeat_frame (device_at n.devices device) → IsNow n w
+    → ((t : Tunnel) → IsTunnel n.tunnel t → IsTunnel m.tunnel (tunnel.step t (heard at f))) → ((devices : Devices) → AreDevices n.devices devices → AreDevices m.devices (changed device (λ d. repeats d n.tunnel.now) devices))
+    → or_before f n.echo ≡ m.echo → IsNow m (step w (DevRepeat device at))
+repeats_so n m w device at f due is goes sends echo =
+    let here : f ≡ repeat_at w device = due ∙ ap (frame_by repeat_frame) (sym (is.devices device)) in
+    record {
+      tunnel = subst (λ (o : Option Ldata). IsTunnel m.tunnel (tunnel.step w.tunnel (heard at o))) here (goes w.tunnel is.tunnel);
+      devices = subst (λ (k : ℕ). AreDevices m.devices (changed device (λ d. repeats d k) w.devices)) (sym is.tunnel.now) (sends w.devices is.devices);
+      echo = subst (λ (o : Option Ldata). or_before o w.echo ≡ m.echo) here (ap (or_before f) is.echo ∙ echo);
+    }
+
+pub repeats_nothing : (n m : LineNow) (w : World) (device : ℕ) (at : AtGateway) → None ≡ frame_by repeat_frame (device_at n.devices device) → IsNow n w
+    → ((t : Tunnel) → IsTunnel n.tunnel t → IsTunnel m.tunnel (tunnel.step t Elsewhere)) → ((devices : Devices) → AreDevices n.devices devices → AreDevices m.devices (changed device (λ d. repeats d n.tunnel.now) devices))
+    → n.echo ≡ m.echo → IsNow m (step w (DevRepeat device at))
+repeats_nothing n m w device at due is goes sends echo = repeats_so n m w device at None due is (λ t held. nothing_heard m.tunnel t at (goes t held)) sends echo

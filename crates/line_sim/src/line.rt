@@ -141,6 +141,16 @@ impl Line {
         Ok(taking.came)
     }
 
+    /// A device takes again the frame that it got last. At `Err` nothing has changed.
+    pub fn bus_again(&mut self, alloc: Global, device: u16) -> Result<(), NoMemory>
+        ensures next { OnOk result ((w : World) → IsNow self.old w → IsNow self.new (step w (BusAgain device))) }
+        ensures err { OnErr result (self.new ≡ self.old) }
+    {
+        self.devices.take_again(alloc, device, self.tunnel.time)?;
+        self.tunnel.elsewhere();
+        Ok(())
+    }
+
     // ---- the devices
 
     /// A device's oldest unsent frame goes over the bus; where it is to a group, the others take it, but those for which there is no memory. At
@@ -158,6 +168,22 @@ impl Line {
         self.tunnel.hear(at, frame.copied());
         self.echo = Some(frame);
         Ok(came)
+    }
+
+    /// A device's outstanding answer, which is due again, goes over the bus once more. At `Err` nothing has changed.
+    pub fn dev_repeat(&mut self, device: u16, at: AtGateway) -> Result<(), NoMemory>
+        requires { IsDue self.old.devices device self.old.tunnel.now }
+        ensures next { OnOk result ((w : World) → IsNow self.old w → IsNow self.new (step w (DevRepeat device (at_gateway at)))) }
+        ensures err { OnErr result (self.new ≡ self.old) }
+    {
+        self.tunnel.gateway.waiting.reserve(1)?;
+        let Some(frame) = self.devices.repeat(device, self.tunnel.time) else {
+            self.tunnel.elsewhere();
+            return Ok(());
+        };
+        self.tunnel.hear(at, frame.copied());
+        self.echo = Some(frame);
+        Ok(())
     }
 
     /// A device closes its connection. At `Err` nothing has changed.
