@@ -1,15 +1,19 @@
 -- What is held of the line after each event.
-use Rattle.std.proofs.Common.{◌≡◌, ℕ, ◌==◌, Bool, true, false, not, ◌&&◌, ◌||◌, List, [], ◌∷◌, Option, Some, None, refl, ap, sym, subst, ◌∙◌, arith, if◌then◌else◌}
+use Rattle.std.proofs.Common.{◌≡◌, ℕ, ◌==◌, Bool, true, false, not, ◌&&◌, ◌||◌, is_some, nat_lt, List, [], ◌∷◌, Option, Some, None, refl, ap, sym, subst, ◌∙◌, arith, if◌then◌else◌}
 use Rattle.knx_model.specs.ApduReading.{option_map}
 use Rattle.knx_model.specs.declared.frames.cemi.Ldata.{Ldata}
 use Rattle.knx_model.specs.declared.frames.cemi.LdataCode.TheVariants.{Con}
+use Rattle.knx_model.specs.declared.device.WriteKind.{WriteKind}
+use Rattle.knx_model.specs.Device.{Effect, Nothing, is_write, written_front}
 use Rattle.knx_model.specs.DeviceState.{DeviceState}
-use Rattle.knx_model.specs.DeviceFrames.{Whole, takes, taken_again}
+use Rattle.knx_model.specs.DeviceFrames.{Whole, Torn, connection_took, effect_delivered, effect_of_frame, is_taken, takes, taken_again, took_of, would_write, write_kind}
 use Rattle.knx_model.specs.DeviceSending.{pops, waiting_frame, repeat_frame, repeats}
+use Rattle.line_model.specs.Counts.{write_of}
+use Rattle.line_model.specs.Deliveries.{effect_at}
 use Rattle.line_model.specs.Tunnel as tunnel
 use Rattle.line_model.specs.Tunnel.{Tunnel, Carried, Heard, Elsewhere}
-use Rattle.line_model.specs.World.{World, Event, AtGateway, Comes, IsLost, Devices, Bus, BusAgain, DevSend, DevRepeat, all_take, carried, changed, confirmation, echo_after, frame_by, heard, is_among, next_frame, none_if, or_before, others_take, step, takes_it, repeat_at, waiting_at}
-use Rattle.line_sim.specs.Line.{LineNow, IsNow, confirmed}
+use Rattle.line_model.specs.World.{World, Event, AtGateway, Comes, IsLost, Devices, Bus, BusAgain, BusTorn, DevSend, DevRepeat, all_take, carried, changed, confirmation, echo_after, frame_by, heard, is_among, next_frame, none_if, one_takes, or_before, others_take, step, takes_it, repeat_at, waiting_at}
+use Rattle.line_sim.specs.Line.{LineNow, IsNow, confirmed, effect_due, effect_on, frame_due, write_at, write_due}
 use Rattle.line_sim.specs.Places.{DevicesNow, AreDevices, ComesTo, device_at, is_taken_by}
 use Rattle.line_sim.specs.Tunnels.{TunnelNow, IsTunnel}
 
@@ -140,3 +144,48 @@ pub repeats_nothing : (n m : LineNow) (w : World) (device : ℕ) (at : AtGateway
     → ((t : Tunnel) → IsTunnel n.tunnel t → IsTunnel m.tunnel (tunnel.step t Elsewhere)) → ((devices : Devices) → AreDevices n.devices devices → AreDevices m.devices (changed device (λ d. repeats d n.tunnel.now) devices))
     → n.echo ≡ m.echo → IsNow m (step w (DevRepeat device at))
 repeats_nothing n m w device at due is goes sends echo = repeats_so n m w device at None due is (λ t held. nothing_heard m.tunnel t at (goes t held)) sends echo
+
+-- ---- a write is torn
+
+either_way : (t : Bool) (o : Option WriteKind) → is_some o ≡ false → is_some (if t then o else o) ≡ false
+either_way true o e = e
+either_way false o e = e
+
+-- only a frame that the device takes would be a write
+write_is_taken : (d : DeviceState) (frame : Ldata) (t : Bool) → is_taken (took_of d frame) ≡ t → is_some (would_write d frame) ≡ true → t ≡ true
+write_is_taken d frame true e h = refl
+write_is_taken d frame false e h =
+    let nothing : effect_of_frame d frame ≡ Nothing = ap (λ (b : Bool). if b && not frame.group then effect_delivered (connection_took d frame) else Nothing) e in
+    let none : is_some (would_write d frame) ≡ false = ap (λ (x : Effect). is_some (if is_write d.kept x then write_kind x else None)) nothing ∙ either_way (is_write d.kept Nothing) None refl in
+    cc
+
+taken_so : (o : Option DeviceState) (frame : Ldata) → is_some (write_of o (Some frame)) ≡ true → takes_it frame o ≡ true
+taken_so None frame h = cc
+taken_so (Some d) frame h = write_is_taken d frame (is_taken (took_of d frame)) refl h
+
+or_true : (s : Bool) → (s || true) ≡ true
+or_true true = refl
+or_true false = refl
+
+-- the write of a frame that is due
+of_due : (n : LineNow) (frame : Ldata) (o : Option Ldata) → Some frame ≡ o → is_some (write_at n.devices o) ≡ true → is_some (write_of (device_at n.devices frame.destination) (Some frame)) ≡ true
+of_due n frame o e h = subst (λ (x : Option Ldata). is_some (write_at n.devices x) ≡ true) (sym e) h
+
+pub torn : (n m : LineNow) (w : World) (frame : Ldata) (k : ℕ) → Some frame ≡ next_frame w → Some frame ≡ frame_due n → is_some (write_due n) ≡ true → IsNow n w
+    → ((t : Tunnel) → IsTunnel n.tunnel t → IsTunnel m.tunnel (tunnel.step t (Carried (confirmed frame true))))
+    → ((devices : Devices) → AreDevices n.devices devices → AreDevices m.devices (one_takes n.tunnel.now (Torn (nat_lt 0 k) (written_front (effect_at (devices frame.destination) frame) k)) (Some frame) devices))
+    → m.echo ≡ None → IsNow m (step w (BusTorn (nat_lt 0 k) (written_front (effect_due n) k)))
+torn n m w frame k due own write is goes takes echo =
+    let taken : takes_it frame (w.devices frame.destination) ≡ true
+    = ap (takes_it frame) (is.devices frame.destination) ∙ taken_so (device_at n.devices frame.destination) frame (of_due n frame (frame_due n) own write) in
+    let confirms_it : confirmed frame true ≡ confirmation w [] frame = sym (ap (confirmed frame) taken) in
+    let effect : effect_at (w.devices frame.destination) frame ≡ effect_due n = ap (λ (o : Option DeviceState). effect_at o frame) (is.devices frame.destination) ∙ ap (effect_on n.devices) own in
+    let octets : List ℕ = written_front (effect_due n) k in
+    record {
+      tunnel = subst (λ (f : Option Ldata). IsTunnel m.tunnel (tunnel.step w.tunnel (carried w [] f))) due
+          (subst (λ (con : Ldata). IsTunnel m.tunnel (tunnel.step w.tunnel (Carried con))) confirms_it (goes w.tunnel is.tunnel));
+      devices = subst (λ (f : Option Ldata). AreDevices m.devices (one_takes w.tunnel.now (Torn (nat_lt 0 k) octets) f w.devices)) due
+          (subst (λ (x : ℕ). AreDevices m.devices (one_takes x (Torn (nat_lt 0 k) octets) (Some frame) w.devices)) (sym is.tunnel.now)
+          (subst (λ (x : Effect). AreDevices m.devices (one_takes n.tunnel.now (Torn (nat_lt 0 k) (written_front x k)) (Some frame) w.devices)) effect (takes w.devices is.devices)));
+      echo = subst (λ (f : Option Ldata). none_if f w.echo ≡ m.echo) due (sym echo);
+    }

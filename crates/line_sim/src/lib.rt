@@ -7,6 +7,8 @@ mod devices;
 mod frames;
 mod gateway;
 mod line;
+#[cfg(test)]
+mod tests;
 mod tunnel;
 
 pub use device_sim::Device;

@@ -141,6 +141,23 @@ impl Line {
         Ok(taking.came)
     }
 
+    /// The client's frame goes over the bus, and the device that it is for loses its power in the write that it is, after so many octets. At
+    /// `Err` nothing has changed.
+    pub fn bus_torn(&mut self, k: u32) -> Result<(), NoMemory>
+        requires { is_some (write_due self.old) ≡ true }
+        ensures next { OnOk result ((w : World) → IsNow self.old w → IsNow self.new (step w (BusTorn (nat_lt 0 k) (written_front (effect_due self.old) k)))) }
+        ensures err { OnErr result (self.new ≡ self.old) }
+    {
+        let Some(frame) = self.tunnel.gateway.frame_due() else {
+            return Ok(());
+        };
+        self.tunnel.gateway.waiting.reserve(1)?;
+        self.devices.take_torn(&frame, k, self.tunnel.time);
+        self.tunnel.carried(confirmation(frame, true));
+        self.echo = None;
+        Ok(())
+    }
+
     /// A device takes again the frame that it got last. At `Err` nothing has changed.
     pub fn bus_again(&mut self, alloc: Global, device: u16) -> Result<(), NoMemory>
         ensures next { OnOk result ((w : World) → IsNow self.old w → IsNow self.new (step w (BusAgain device))) }
