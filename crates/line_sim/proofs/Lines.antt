@@ -2,7 +2,6 @@
 use Rattle.std.proofs.Common.{◌≡◌, ℕ, ◌==◌, Bool, true, false, not, ◌&&◌, ◌||◌, is_some, nat_lt, List, [], ◌∷◌, Option, Some, None, refl, ap, sym, subst, ◌∙◌, arith, if◌then◌else◌}
 use Rattle.knx_model.specs.ApduReading.{option_map}
 use Rattle.knx_model.specs.declared.frames.cemi.Ldata.{Ldata}
-use Rattle.knx_model.specs.declared.frames.cemi.LdataCode.TheVariants.{Con}
 use Rattle.knx_model.specs.declared.device.WriteKind.{WriteKind}
 use Rattle.knx_model.specs.Device.{Effect, Nothing, is_write, written_front}
 use Rattle.knx_model.specs.DeviceState.{DeviceState}
@@ -12,7 +11,7 @@ use Rattle.line_model.specs.Counts.{write_of}
 use Rattle.line_model.specs.Deliveries.{effect_at}
 use Rattle.line_model.specs.Tunnel as tunnel
 use Rattle.line_model.specs.Tunnel.{Tunnel, Carried, Heard, Elsewhere}
-use Rattle.line_model.specs.World.{World, Event, AtGateway, Comes, IsLost, Devices, Bus, BusAgain, BusTorn, DevSend, DevRepeat, all_take, carried, changed, confirmation, echo_after, frame_by, heard, is_among, next_frame, none_if, one_takes, or_before, others_take, step, takes_it, repeat_at, waiting_at}
+use Rattle.line_model.specs.World.{World, AtGateway, Comes, IsLost, Devices, Bus, BusAgain, BusTorn, DevSend, DevRepeat, all_take, carried, changed, confirmation, frame_by, heard, is_among, next_frame, none_if, one_takes, or_before, others_take, step, takes_it, repeat_at, waiting_at}
 use Rattle.line_sim.specs.Line.{LineNow, IsNow, confirmed, effect_due, effect_on, frame_due, write_at, write_due}
 use Rattle.line_sim.specs.Places.{DevicesNow, AreDevices, ComesTo, device_at, is_taken_by}
 use Rattle.line_sim.specs.Tunnels.{TunnelNow, IsTunnel}

@@ -1,11 +1,11 @@
 -- What a frame of the client leaves of the gateway's queues and counts, told by the channel's endpoint before and after.
-use Rattle.std.proofs.Common.{◌≡◌, ℕ, suc, ◌+◌, ◌-◌, ◌^◌, ◌<◌, ◌==◌, Bool, true, false, not, ◌&&◌, is_some, List, [], ◌∷◌, ◌++◌, length, Option, Some, None, option_map, refl, ap, sym, subst, ◌∙◌, arith, if◌then◌else◌}
+use Rattle.std.proofs.Common.{◌≡◌, ℕ, ◌-◌, ◌^◌, ◌<◌, ◌==◌, Bool, true, false, not, ◌&&◌, is_some, List, [], length, Option, Some, None, refl, ap, sym, subst, ◌∙◌, arith, if◌then◌else◌}
 use Rattle.knx_model.specs.declared.frames.cemi.Ldata.{Ldata}
 use Rattle.knx_model.specs.declared.frames.ip.IpFrame.{IpFrame}
 use Rattle.knx_model.specs.declared.frames.ip.IpFrame.TheVariants.{ConnectRequest, ConnectResponse, StateRequest, StateResponse, DisconnectRequest, DisconnectResponse, TunnellingRequest, TunnellingAck}
 use Rattle.line_model.specs.declared.gateway_end.GatewayTook.{GatewayTook as Answer}
-use Rattle.line_model.specs.Gateway.{Gateway, GatewayTook, Channel, next_number, took, hears, gateway_took, request_took, acknowledged, settles, connects, names, drops, answers, makes, closed_if_open, is_put}
-use Rattle.line_model.specs.GatewayEnd.{GatewayEnd, TookAs, end_of, endpoint_of, told}
+use Rattle.line_model.specs.Gateway.{Gateway, GatewayTook, Channel, next_number, took, hears, gateway_took, request_took, acknowledged, connects, names, drops, answers, makes, closed_if_open, is_put}
+use Rattle.line_model.specs.GatewayEnd.{GatewayEnd, TookAs, endpoint_of}
 use Rattle.line_model.specs.LinkStory.{capped}
 use Rattle.line_sim.specs.Gateways.{GatewayNow, IsGateway, CanCount, and_one, is_another, is_left, makes_one, dropped_if, joined}
 

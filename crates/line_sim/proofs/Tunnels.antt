@@ -1,18 +1,16 @@
 -- What is held of a tunnel after each part of an event.
-use Rattle.std.proofs.Common.{◌≡◌, ℕ, zero, suc, ◌+◌, ◌<◌, ◌≤◌, Bool, true, false, List, [], ◌∷◌, length, drop, slice_get, Option, Some, None, option_map, refl, ap, sym, subst, ◌∙◌, arith}
+use Rattle.std.proofs.Common.{◌≡◌, ℕ, zero, suc, ◌<◌, ◌≤◌, List, [], ◌∷◌, length, drop, Option, Some, None, option_map, refl, ap, sym, subst, ◌∙◌, arith}
 use Rattle.knx_model.specs.declared.frames.cemi.Ldata.{Ldata}
 use Rattle.knx_model.specs.declared.frames.ip.IpFrame.{IpFrame}
 use Rattle.knx_model.specs.declared.frames.ip.IpFrame.TheVariants.{ConnectResponse, DisconnectRequest}
 use Rattle.knx_model.specs.Cemi.{Written as cemi_octets}
 use Rattle.knx_model.specs.KnxNetIp.{Written}
-use Rattle.line_model.specs.Gateway.{Gateway, Channel, GatewayExpired, Nothing, Repeat, Closing, next_put, put_after, request_of, gateway_expired, channel_expired, gateway_took, closed, closed_if_open}
+use Rattle.line_model.specs.Gateway.{Gateway, Channel, GatewayExpired, Nothing, Repeat, Closing, put_after, request_of, gateway_expired, channel_expired, gateway_took, closed, closed_if_open}
 use Rattle.line_model.specs.GatewayEnd.{after_due}
 use Rattle.line_model.specs.Network.{Sent, new_datagram, changed_at, oldest_age}
 use Rattle.line_model.specs.Tunnel.{Tunnel, Repeat as RepeatEvent, Close as CloseEvent, after, answers, puts, closes, refuses, sends_down, sends_down_if, takes_frame, takes_sent, with_gateway}
 use Rattle.line_model.specs.Reading.{datagram_in}
-use Rattle.line_sim.specs.declared.gateway.Due.{Due}
 use Rattle.line_sim.specs.declared.gateway.Due.TheVariants as due
-use Rattle.line_sim.specs.declared.gateway.Expired.{Expired}
 use Rattle.line_sim.specs.declared.gateway.Expired.TheVariants as expired
 use Rattle.line_sim.specs.declared.gateway.Letter.{Letter}
 use Rattle.line_sim.specs.Gateways.{GatewayNow, IsGateway, put_gateway, put_letter, letter, told_letter, farewell_letter, due_of}

@@ -1,4 +1,4 @@
-use Rattle.std.proofs.Common.{◌≡◌, refl, sym, ◌∙◌}
+use Rattle.std.proofs.Common.{refl, ◌∙◌}
 use Rattle.line_sim.proofs.Places.{comes_first, comes_next, taken_first, taken_next}
 use Rattle.line_sim.proofs.devices.Devices.take.Goals as goal
 

@@ -1,4 +1,4 @@
-use Rattle.std.proofs.Common.{◌≡◌, ℕ, ◌-◌}
+use Rattle.std.proofs.Common.{◌≡◌, ◌-◌}
 use Rattle.line_sim.specs.Places.{ComesTo, and_one, is_taken_by, parts_from}
 use Rattle.line_sim.proofs.devices.Devices.take.Given as goal
 

@@ -1,12 +1,3 @@
-use Rattle.std.proofs.Common.{rules, ◌≡◌, ℕ, ◌+◌, ◌<◌, ◌≤◌, ◌∷◌, ◌++◌, [], option_map, option_to_list, OnOk, OnErr, IfOk, MatchOption, ◌-◌, ◌*◌, length, ◌/◌, ◌%◌, Bool, true, false, nat_eq, nat_lt, List, slice_index_or, slice_set, bit_and, bit_or, Fits, w8, w32, w64, Bor, MutBor}
-use Rattle.std.specs.VecDeque.{deque_len, deque_capacity}
-use Rattle.knx_model.specs.KnxNetIp.{Written}
-use Rattle.line_model.specs.Gateway.{Gateway as Known}
-use Rattle.line_model.specs.Gateway.{gateway_took, gateway_expired, next_put, at_rest, closed}
-use Rattle.line_model.specs.GatewayEnd.{after_due}
-use Rattle.line_model.specs.Tunnel.{carried, heard}
-use Rattle.line_model.specs.LinkStory.{capped}
-use Rattle.line_sim.specs.Gateways.{IsGateway, CanCount, gateway_now, and_one, is_another, is_left, makes_one, dropped_if, joined, put_letter, put_gateway}
 use Rattle.line_sim.proofs.Taking.{takes}
 use Rattle.line_sim.proofs.gateway.Gateway.take.Goals as goal
 

@@ -1,9 +1,7 @@
-use Rattle.std.proofs.Common.{◌≡◌, ℕ, List, Option, Some, None, refl, ap, sym, subst, ◌∙◌}
-use Rattle.knx_model.specs.declared.frames.cemi.Ldata.{Ldata}
-use Rattle.line_model.specs.Tunnel as tunnel
-use Rattle.line_model.specs.World.{World, BusAgain, DevRepeat, heard, step}
+use Rattle.std.proofs.Common.{◌≡◌, refl, subst}
+use Rattle.line_model.specs.World.{World, BusAgain, step}
 use Rattle.line_sim.specs.Line.{LineNow, IsNow}
-use Rattle.line_sim.specs.Tunnels.{IsTunnel, at_gateway, tunnel_now}
+use Rattle.line_sim.specs.Tunnels.{tunnel_now}
 use Rattle.line_sim.proofs.Lines.{takes_again}
 use Rattle.line_sim.proofs.line.Line.bus_again.Goals as goal
 

@@ -1,4 +1,4 @@
-use Rattle.std.proofs.Common.{◌≡◌, ℕ, Bool, true, is_some, nat_lt, List, Option, Some, None, refl, ap, sym, subst, ◌∙◌}
+use Rattle.std.proofs.Common.{◌≡◌, true, is_some, nat_lt, None, refl, ap, subst, ◌∙◌}
 use Rattle.knx_model.specs.Device.{written_front}
 use Rattle.knx_model.specs.declared.frames.cemi.Ldata.{Ldata}
 use Rattle.line_model.specs.Tunnel as tunnel

@@ -1,10 +1,10 @@
-use Rattle.std.proofs.Common.{◌≡◌, ℕ, List, ◌∷◌, Option, Some, None, refl, ap, sym, subst, ◌∙◌}
+use Rattle.std.proofs.Common.{◌≡◌, ℕ, ◌∷◌, Some, refl, subst}
 use Rattle.knx_model.specs.declared.frames.cemi.Ldata.{Ldata}
 use Rattle.line_model.specs.Tunnel as tunnel
 use Rattle.line_model.specs.Tunnel.{Tunnel, Carried}
-use Rattle.line_model.specs.World.{World, Devices, Bus, DevSend, heard, others_take, step}
+use Rattle.line_model.specs.World.{World, DevSend, heard, others_take, step}
 use Rattle.line_sim.specs.Line.{LineNow, IsNow}
-use Rattle.line_sim.specs.Places.{AreDevices, and_one, missed}
+use Rattle.line_sim.specs.Places.{AreDevices, missed}
 use Rattle.line_sim.specs.Tunnels.{IsTunnel, at_gateway, tunnel_now}
 use Rattle.line_sim.specs.declared.devices.Came.TheVariants.{ToAll}
 use Rattle.line_sim.proofs.Lines.{sends_nothing, sends, roomy}

@@ -1,4 +1,4 @@
-use Rattle.std.proofs.Common.{◌≡◌, ℕ, suc, ◌+◌, [], ◌∷◌, List, length, slice_get, Option, Some, None, refl, ap, sym, ◌∙◌, arith}
+use Rattle.std.proofs.Common.{slice_get, ap, ◌∙◌}
 use Rattle.line_model.specs.Reading.{datagram_in}
 use Rattle.line_sim.proofs.Tunnels.{arrived, young}
 use Rattle.line_sim.proofs.tunnel.Tunnel.arrival.Goals as goal

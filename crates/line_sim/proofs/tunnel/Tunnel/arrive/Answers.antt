@@ -1,4 +1,4 @@
-use Rattle.std.proofs.Common.{◌≡◌, ℕ, suc, ◌+◌, [], ◌∷◌, List, length, slice_get, Option, Some, None, refl, ap, sym, ◌∙◌, arith}
+use Rattle.std.proofs.Common.{slice_get}
 use Rattle.line_model.specs.Gateway.{GatewayTook, gateway_took}
 use Rattle.line_model.specs.Network.{changed_at, once_more}
 use Rattle.line_model.specs.Tunnel.{with_up, with_gateway}

@@ -1,5 +1,5 @@
-use Rattle.std.proofs.Common.{◌≡◌, ℕ, suc, ◌+◌, [], ◌∷◌, List, Option, Some, None, refl, ap, sym, arith}
-use Rattle.line_model.specs.Tunnel.{after, with_gateway, carried, heard, Down}
+use Rattle.std.proofs.Common.{refl}
+use Rattle.line_model.specs.Tunnel.{after, Down}
 use Rattle.line_model.specs.Network.{once_more}
 use Rattle.line_sim.proofs.Tunnels.{short_changed}
 use Rattle.line_sim.proofs.tunnel.Tunnel.down.Goals as goal

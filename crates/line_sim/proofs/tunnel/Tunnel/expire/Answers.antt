@@ -1,5 +1,5 @@
-use Rattle.std.proofs.Common.{◌≡◌, ℕ, suc, ◌+◌, [], ◌∷◌, List, Option, Some, None, refl, ap, sym, arith}
-use Rattle.line_model.specs.Tunnel.{after, with_gateway, carried, heard, Repeat, Close}
+use Rattle.std.proofs.Common.{refl}
+use Rattle.line_model.specs.Tunnel.{after, Repeat, Close}
 use Rattle.line_model.specs.Gateway.{gateway_expired}
 use Rattle.line_sim.proofs.Tunnels.{repeat_posts, closing_posts, nothing_due}
 use Rattle.line_sim.proofs.tunnel.Tunnel.expire.Goals as goal

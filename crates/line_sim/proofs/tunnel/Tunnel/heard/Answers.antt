@@ -1,5 +1,5 @@
-use Rattle.std.proofs.Common.{◌≡◌, ℕ, suc, ◌+◌, [], ◌∷◌, List, Option, Some, None, refl, ap, sym, arith}
-use Rattle.line_model.specs.Tunnel.{after, with_gateway, carried, heard, Heard}
+use Rattle.std.proofs.Common.{[], ◌∷◌}
+use Rattle.line_model.specs.Tunnel.{after, Heard}
 use Rattle.line_sim.proofs.tunnel.Tunnel.heard.Goals as goal
 
 pub returns : goal.returns

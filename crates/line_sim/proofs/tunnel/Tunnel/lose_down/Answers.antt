@@ -1,5 +1,5 @@
-use Rattle.std.proofs.Common.{◌≡◌, ℕ, suc, ◌+◌, [], ◌∷◌, List, Option, Some, None, refl, ap, sym, arith}
-use Rattle.line_model.specs.Tunnel.{after, with_gateway, carried, heard, LoseDown}
+use Rattle.std.proofs.Common.{refl}
+use Rattle.line_model.specs.Tunnel.{after, LoseDown}
 use Rattle.line_model.specs.Network.{gone}
 use Rattle.line_sim.proofs.Tunnels.{short_changed}
 use Rattle.line_sim.proofs.tunnel.Tunnel.lose_down.Goals as goal

@@ -1,5 +1,5 @@
-use Rattle.std.proofs.Common.{◌≡◌, ℕ, suc, ◌+◌, [], ◌∷◌, List, Option, Some, None, refl, ap, sym, arith}
-use Rattle.line_model.specs.Tunnel.{after, with_gateway, carried, heard, Pass}
+use Rattle.std.proofs.Common.{arith}
+use Rattle.line_model.specs.Tunnel.{after, Pass}
 use Rattle.line_sim.proofs.tunnel.Tunnel.pass.Goals as goal
 
 pub returns-clause-next : goal.returns-clause-next

@@ -1,4 +1,3 @@
-use Rattle.std.proofs.Common.{◌≡◌, ℕ, suc, ◌+◌, [], ◌∷◌, List, Option, Some, None, refl, ap, sym, arith}
 use Rattle.line_model.specs.Gateway.{next_put}
 use Rattle.line_sim.proofs.Tunnels.{put_posts}
 use Rattle.line_sim.proofs.tunnel.Tunnel.put_next.Goals as goal

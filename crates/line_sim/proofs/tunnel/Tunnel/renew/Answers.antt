@@ -1,5 +1,5 @@
-use Rattle.std.proofs.Common.{◌≡◌, ℕ, suc, ◌+◌, [], ◌∷◌, List, Option, Some, None, refl, ap, sym, arith}
-use Rattle.line_model.specs.Tunnel.{after, with_gateway, carried, heard, Renew}
+use Rattle.std.proofs.Common.{arith}
+use Rattle.line_model.specs.Tunnel.{after, Renew}
 use Rattle.line_sim.proofs.tunnel.Tunnel.renew.Goals as goal
 
 pub returns : goal.returns

@@ -1,4 +1,4 @@
-use Rattle.std.proofs.Common.{◌≡◌, ℕ, suc, ◌+◌, [], ◌∷◌, List, Option, Some, None, refl, ap, sym, arith}
+use Rattle.std.proofs.Common.{refl}
 use Rattle.line_sim.proofs.Tunnels.{farewell_posts, no_farewell}
 use Rattle.line_sim.proofs.tunnel.Tunnel.say_farewell.Goals as goal
 

@@ -1,5 +1,5 @@
-use Rattle.std.proofs.Common.{◌≡◌, ℕ, suc, ◌+◌, [], ◌∷◌, List, length, slice_get, Option, Some, None, refl, ap, sym, ◌∙◌, arith}
-use Rattle.line_model.specs.Tunnel.{after, with_gateway, carried, heard, Send}
+use Rattle.std.proofs.Common.{length}
+use Rattle.line_model.specs.Tunnel.{after, Send}
 use Rattle.line_sim.proofs.Tunnels.{pushed}
 use Rattle.line_sim.proofs.tunnel.Tunnel.send.Goals as goal
 

@@ -1,5 +1,5 @@
-use Rattle.std.proofs.Common.{◌≡◌, ℕ, suc, ◌+◌, [], ◌∷◌, List, length, slice_get, Option, Some, None, refl, ap, sym, ◌∙◌, arith}
-use Rattle.line_model.specs.Tunnel.{after, with_gateway, carried, heard, From}
+use Rattle.std.proofs.Common.{length, refl}
+use Rattle.line_model.specs.Tunnel.{after, From}
 use Rattle.line_sim.proofs.Tunnels.{pushed}
 use Rattle.line_sim.proofs.tunnel.Tunnel.send_from.Goals as goal
 

@@ -1,5 +1,4 @@
-use Rattle.std.proofs.Common.{◌≡◌, ℕ, suc, ◌+◌, [], ◌∷◌, List, Option, Some, None, refl, ap, sym, arith}
-use Rattle.line_model.specs.Tunnel.{after, with_gateway, carried, heard, UpRefused}
+use Rattle.line_model.specs.Tunnel.{after, UpRefused}
 use Rattle.line_sim.proofs.tunnel.Tunnel.up_refused.Goals as goal
 
 pub returns : goal.returns
