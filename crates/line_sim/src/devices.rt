@@ -3,9 +3,8 @@
 ghost use Rattle.std.specs.Prelude.{◌≡◌, ℕ, ◌+◌, ◌<◌, ◌≤◌, ◌==◌, ◌||◌, Some, None, IfOk, IfSome, OnOk, OnErr, is_some, length, option_copied, true, nat_lt, if◌then◌else◌};
 ghost use Rattle.knx_model.specs.Device.{written_front};
 ghost use Rattle.knx_model.specs.DeviceState.{cut, switched_on};
-ghost use Rattle.knx_model.specs.DeviceFrames.{Torn, Worn, taken_again, worn_octets};
+ghost use Rattle.knx_model.specs.DeviceFrames.{Torn, taken_again};
 ghost use Rattle.knx_model.specs.DeviceSending.{waiting_frame, pops, repeat_frame, repeats, shut};
-ghost use Rattle.knx_model.specs.declared.device.WriteKind.{WriteKind as Kind};
 ghost use Rattle.line_model.specs.Counts.{write_of};
 ghost use Rattle.line_model.specs.Deliveries.{effect_at};
 ghost use Rattle.line_model.specs.World.{Devices as Known, changed, one_takes, frame_by};

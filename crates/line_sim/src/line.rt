@@ -1,14 +1,12 @@
 //! The line: one call for each event.
 
 ghost use Rattle.std.specs.Prelude.{◌≡◌, ◌≢◌, ◌-◌, ◌<◌, [], Some, None, IfOk, IfSome, OnOk, OnErr, is_some, min, nat_lt, option_copied, option_map, slice_get, true};
-ghost use Rattle.knx_model.specs.declared.device.WriteKind.{WriteKind as Kind};
 ghost use Rattle.knx_model.specs.Device.{written_front};
-ghost use Rattle.knx_model.specs.DeviceFrames.{worn_octets};
 ghost use Rattle.line_model.specs.Deliveries.{next_up, next_down};
 ghost use Rattle.line_model.specs.Gateway.{gateway_expired};
 ghost use Rattle.line_model.specs.Network.{OfSent};
 ghost use Rattle.line_model.specs.Tunnel.{Commissions, fresh};
-ghost use Rattle.line_model.specs.World.{World, Devices as Known, Send, From, Renew, Up, UpRefused, Down, LoseUp, LoseDown, Bus, BusTorn, BusWorn, BusAgain, DevSend, DevRepeat, DevClose, GwAgain, GwRepeat, GwClose, Cut, On, Pass, next_frame, others_take, step};
+ghost use Rattle.line_model.specs.World.{World, Devices as Known, Send, From, Renew, Up, UpRefused, Down, LoseUp, LoseDown, Bus, BusTorn, BusAgain, DevSend, DevRepeat, DevClose, GwAgain, GwRepeat, GwClose, Cut, On, Pass, next_frame, others_take, step};
 ghost use Rattle.line_sim.specs.Gateways.{CanCount, due_of, greatest_count};
 ghost use Rattle.line_sim.specs.Line.{IsNow, confirmed, effect_due, frame_due, sending_at, write_due};
 ghost use Rattle.line_sim.specs.Places.{AreDevices, IsDue, and_one, device_at, missed};
