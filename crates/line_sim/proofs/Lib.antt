@@ -1,0 +1,5 @@
+pub mod Readings
+pub mod Taking
+pub mod Tunnels
+pub mod Places
+pub mod Lines

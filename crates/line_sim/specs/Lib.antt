@@ -1,0 +1,4 @@
+pub mod Gateways
+pub mod Tunnels
+pub mod Places
+pub mod Line

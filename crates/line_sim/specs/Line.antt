@@ -1,0 +1,54 @@
+-- The line as it is held: the tunnel, the devices, and the bus's last frame where a device sent it; and of which worlds it is a picture.
+use Rattle.std.specs.Prelude.{◌≡◌, ℕ, Bool, not, ◌||◌, Option, Some, None}
+use Rattle.knx_model.specs.declared.device.Sending.{Sending}
+use Rattle.knx_model.specs.declared.device.WriteKind.{WriteKind}
+use Rattle.knx_model.specs.declared.frames.cemi.Ldata.{Ldata}
+use Rattle.knx_model.specs.declared.frames.cemi.LdataCode.TheVariants.{Con}
+use Rattle.knx_model.specs.ApduReading.{option_map}
+use Rattle.knx_model.specs.Device.{Effect, Nothing}
+use Rattle.knx_model.specs.DeviceState.{DeviceState}
+use Rattle.knx_model.specs.DeviceSending.{first_frame, next_sending}
+use Rattle.line_model.specs.Counts.{write_of}
+use Rattle.line_model.specs.Deliveries.{effect_at}
+use Rattle.line_model.specs.World.{World, on_bus}
+use Rattle.line_sim.specs.Places.{DevicesNow, AreDevices, device_at}
+use Rattle.line_sim.specs.Tunnels.{TunnelNow, IsTunnel}
+
+pub record LineNow : Type 0 where
+  pub tunnel : TunnelNow
+  pub devices : DevicesNow
+  pub echo : Option Ldata
+
+pub record IsNow (n : LineNow) (w : World) : Type 0 where
+  pub tunnel : IsTunnel n.tunnel w.tunnel
+  pub devices : AreDevices n.devices w.devices
+  pub echo : w.echo ≡ n.echo
+
+-- ---- the client's next frame
+
+abbrev pub frame_due : LineNow → Option Ldata
+frame_due n = option_map (on_bus n.tunnel.gateway.address) (first_frame n.tunnel.gateway.bus)
+
+-- the write that a frame would be now at the device that it is for, and what it does there
+abbrev pub write_at : DevicesNow → Option Ldata → Option WriteKind
+write_at devices None = None
+write_at devices (Some frame) = write_of (device_at devices frame.destination) (Some frame)
+
+abbrev pub effect_on : DevicesNow → Option Ldata → Effect
+effect_on devices None = Nothing
+effect_on devices (Some frame) = effect_at (device_at devices frame.destination) frame
+
+abbrev pub write_due : LineNow → Option WriteKind
+write_due n = write_at n.devices (frame_due n)
+
+abbrev pub effect_due : LineNow → Effect
+effect_due n = effect_on n.devices (frame_due n)
+
+-- a frame's confirmation, where the device that it is for took it or not
+abbrev pub confirmed : Ldata → Bool → Ldata
+confirmed frame taken = record frame { code = Con; error = not (frame.group || taken) }
+
+-- what a device sends next
+abbrev pub sending_at : Option DeviceState → ℕ → Option Sending
+sending_at None now = None
+sending_at (Some d) now = next_sending d now
