@@ -31,25 +31,25 @@ impl<'a, R: rt::Files> Disk<'a, R> {
     }
 }
 
-/// Want of memory, where an error is of this kind.
-pub fn memory_of(kind: ErrorKind) -> Option<NoMemory>
-    ensures { IsSome result ↔ (kind ≡ ErrorKind.OutOfMemory) }
+/// Want of memory, where an error is that.
+pub fn memory_of(error: &io::Error) -> Option<NoMemory>
+    ensures { IsSome result ↔ (error_kind error.now ≡ ErrorKind.OutOfMemory) }
 {
-    match kind {
+    match error.kind() {
         // the system tells of the refused growth without handing it over
         ErrorKind::OutOfMemory => Some(NoMemory::from(AllocError)),
         _ => None,
     }
 }
 
-/// The fault that an error of this kind is.
-fn fault_of(kind: ErrorKind) -> FileFault
-    ensures { result ≡ fault_of kind }
+/// The fault that an error is.
+fn fault_of(error: &io::Error) -> FileFault
+    ensures { result ≡ fault_of (error_kind error.now) }
 {
-    if let Some(want) = memory_of(kind) {
+    if let Some(want) = memory_of(error) {
         return FileFault::NoMemory(want);
     }
-    match kind {
+    match error.kind() {
         ErrorKind::NotFound | ErrorKind::NotADirectory => FileFault::NotThere,
         _ => FileFault::Failed,
     }
@@ -83,7 +83,7 @@ fn read_opened<F: Read + Drop>(
     };
     match read {
         Ok(octets) => Ok(Octets::from_vec(octets)),
-        Err(error) => Err(fault_of(error.kind())),
+        Err(error) => Err(fault_of(&error)),
     }
 }
 

@@ -1,6 +1,6 @@
 //! How the program ends.
 
-ghost use Rattle.std.specs.Prelude.{◌≡◌, ◌≢◌, ℕ, List, None, Some, map, string_bytes};
+ghost use Rattle.std.specs.Prelude.{◌≡◌, ◌≢◌, ℕ, IfErr, IfOk, List, None, Some, map, string_bytes};
 ghost use Rattle.knx_model.specs.declared.command.Stop.TheVariants.{Usage, NoMemory as Wanting};
 ghost use Rattle.knx_model.specs.Outside.{one_more};
 ghost use Rattle.knx_model.specs.Refusal.{status_number};
@@ -10,12 +10,12 @@ ghost use Rattle.knx_top.specs.Moments.{AtEveryMoment};
 ghost use Rattle.knx_top.specs.Ran.{Stops};
 ghost use Rattle.knx_cli.specs.Exit.{status_of};
 
-use knx_model::{Files, Sink, Status};
+use knx_model::{Files, NoMemory, Sink, Status};
 use knx_top::{Bench, NO_MEMORY, knx};
 use std::alloc::Global;
 
 /// The exit status of a call: its status by its number.
-pub fn ended<F: Files, K: Sink>(
+fn ended<F: Files, K: Sink>(
     alloc: Global,
     words: &[String],
     files: &mut F,
@@ -39,7 +39,7 @@ pub fn ended<F: Files, K: Sink>(
 }
 
 /// The exit status where memory is wanting for the words.
-pub fn ended_without_words<K: Sink>(out: &mut K) -> u8
+fn ended_without_words<K: Sink>(out: &mut K) -> u8
     ensures numbered { result ≡ status_number (status_of result) }
     ensures told { Replies (K.faults out.old) (K.faults out.new) (K.taken out.old) (K.taken out.new) (status_of result) (Stops (Wanting tt)) }
     ensures written { K.writes out.new ≡ one_more (K.writes out.old) }
@@ -47,5 +47,30 @@ pub fn ended_without_words<K: Sink>(out: &mut K) -> u8
     match out.write(NO_MEMORY) {
         Ok(()) => Status::NoMemory.number(),
         Err(_) => Status::Write.number(),
+    }
+}
+
+/// The exit status of the program: that of the call with its words, or where memory is wanting for them, that.
+pub fn status_of<F: Files, K: Sink>(
+    alloc: Global,
+    words: &Result<Vec<String>, NoMemory>,
+    files: &mut F,
+    out: &mut K,
+    sim: &mut Bench,
+) -> u8
+    ensures numbered { result ≡ status_number (status_of result) }
+    ensures usage { IfOk words.now (λ words. asked (map string_bytes words.items) ≡ None → Replies (K.faults out.old) (K.faults out.new) (K.taken out.old) (K.taken out.new) (status_of result) (Stops Usage)) }
+    ensures check { IfOk words.now (λ words. (names : ProjectWords) → asked (map string_bytes words.items) ≡ Some (AskedCheck names) → TellsOfProject IsCountsText names (F.file files.old) (F.faults files.old) (F.faults files.new) (Replies (K.faults out.old) (K.faults out.new) (K.taken out.old) (K.taken out.new) (status_of result))) }
+    ensures tables { IfOk words.now (λ words. (names : ProjectWords) → asked (map string_bytes words.items) ≡ Some (AskedTables names) → TellsOfProject IsTablesText names (F.file files.old) (F.faults files.old) (F.faults files.new) (Replies (K.faults out.old) (K.faults out.new) (K.taken out.old) (K.taken out.new) (status_of result))) }
+    ensures decode { IfOk words.now (λ words. (word : List ℕ) → asked (map string_bytes words.items) ≡ Some (AskedDecode word) → TellsOfFrame word (Replies (K.faults out.old) (K.faults out.new) (K.taken out.old) (K.taken out.new) (status_of result))) }
+    ensures sim { IfOk words.now (λ words. (names : SimWords) → asked (map string_bytes words.items) ≡ Some (AskedSim names) → RunsScript names (F.file files.old) (F.faults files.old) (F.faults files.new) sim.old sim.new (Replies (K.faults out.old) (K.faults out.new) (K.taken out.old) (K.taken out.new) (status_of result))) }
+    ensures old_stopped_or_new { IfOk words.now (λ words. HasRunOf (λ c t. AtEveryMoment c.project c.device t) (map string_bytes words.items) (F.file files.old) sim.old sim.new) }
+    // where memory is wanting for the words, that is told
+    ensures wanting { IfErr words.now (λ _. Replies (K.faults out.old) (K.faults out.new) (K.taken out.old) (K.taken out.new) (status_of result) (Stops (Wanting tt))) }
+    ensures written { K.writes out.new ≡ one_more (K.writes out.old) }
+{
+    match words {
+        Ok(words) => ended(alloc, words.as_slice(), files, out, sim),
+        Err(_) => ended_without_words(out),
     }
 }

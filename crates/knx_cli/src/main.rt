@@ -8,21 +8,18 @@ mod output;
 mod words;
 
 use crate::disk::Disk;
-use crate::ended::{ended, ended_without_words};
+use crate::ended::status_of;
 use crate::output::Output;
 use crate::words::words_of;
 use knx_top::Bench;
-use std::io;
 use std::process::ExitCode;
+use std::{env, io};
 
 fn main(rt: HostRuntime) -> ExitCode {
     let alloc = rt.alloc();
     let mut files = Disk::new(alloc, &rt);
     let mut out = Output::new(io::writer(&rt));
     let mut sim = Bench::empty(alloc);
-    let status = match words_of(&rt, alloc) {
-        Ok(words) => ended(alloc, words.as_slice(), &mut files, &mut out, &mut sim),
-        Err(_) => ended_without_words(&mut out),
-    };
-    ExitCode::from(status)
+    let words = words_of(alloc, env::args(&rt));
+    ExitCode::from(status_of(alloc, &words, &mut files, &mut out, &mut sim))
 }

@@ -1,10 +1,11 @@
 //! An output: what it took is what its writer took, and it counts its writes and those that failed.
 
+ghost use Rattle.std.specs.IoError.{error_kind};
 ghost use Rattle.std.specs.Prelude.{◌≡◌, ◌≤◌, ℕ, IfOk, OnErr, OnOk, length, take};
 ghost use Rattle.std.specs.Io.KnownBytes.{Appends, WriteAppends};
 
 use knx_model::{Sink, SinkFailed};
-use std::io::{ErrorKind, Printer, Write};
+use std::io::{self, ErrorKind, Printer, Write};
 
 /// A writer that tells either always or never what it took.
 pub trait Steady: Write + Drop {
@@ -39,7 +40,17 @@ impl<W: Steady> Output<W> {
     }
 }
 
-/// One write, which takes a front of the octets. It takes none where a signal interrupted it; it is then to be tried again.
+/// A write that a signal interrupted took nothing, and is to be tried again; any other error is a failure.
+fn unless_interrupted(error: &io::Error) -> Result<usize, SinkFailed>
+    ensures { IfOk result (λ count. (count ≡ 0) × (error_kind error.now ≡ ErrorKind.Interrupted)) }
+{
+    match error.kind() {
+        ErrorKind::Interrupted => Ok(0),
+        _ => Err(SinkFailed),
+    }
+}
+
+/// One write, which takes a front of the octets.
 fn write_some<W: Write>(writer: &mut W, octets: &[u8]) -> Result<usize, SinkFailed>
     ensures within { IfOk result (λ count. count ≤ length octets.now) }
     ensures front { WriteAppends (W.contents writer.old) (W.contents writer.new) result octets.now }
@@ -47,10 +58,7 @@ fn write_some<W: Write>(writer: &mut W, octets: &[u8]) -> Result<usize, SinkFail
     match writer.write(octets) {
         Ok(0) => Err(SinkFailed),
         Ok(count) => Ok(count),
-        Err(error) => match error.kind() {
-            ErrorKind::Interrupted => Ok(0),
-            _ => Err(SinkFailed),
-        },
+        Err(error) => unless_interrupted(&error),
     }
 }
 
@@ -99,10 +107,52 @@ mod tests {
         ghost steady = { λ before after silent. silent };
     }
 
+    /// Takes seven octets at a time, is interrupted once, and then fails.
+    #[derive(Drop)]
+    struct Trickle {
+        room: usize,
+        interrupted: bool,
+    }
+
+    impl Write for Trickle {
+        fn write(&mut self, octets: &[u8]) -> io::Result<usize> {
+            if !self.interrupted {
+                self.interrupted = true;
+                return Err(io::Error::from(ErrorKind::Interrupted));
+            }
+            if self.room == 0 {
+                return Err(io::Error::from(ErrorKind::BrokenPipe));
+            }
+            let count = octets.len().min(7).min(self.room);
+            self.room -= count;
+            Ok(count)
+        }
+
+        fn flush(&mut self) -> io::Result<()> {
+            Ok(())
+        }
+    }
+
+    impl Steady for Trickle {
+        ghost steady = { λ before after silent. silent };
+    }
+
+    #[test]
+    fn a_writer_that_takes_little_is_written_to_its_end(rt: HostRuntime) {
+        let text = b"an output of more than seven octets".as_slice();
+        for (room, written) in [(35, Ok(())), (34, Err(SinkFailed)), (0, Err(SinkFailed))] {
+            let mut out = Output::new(Trickle {
+                room,
+                interrupted: false,
+            });
+            assert_eq!(rt; out.write(text), written, "{room}");
+        }
+    }
+
     #[test]
     fn what_is_written_whole_is_read_whole(rt: HostRuntime) -> Result<(), Fail> {
         let alloc = rt.alloc();
-        let long: Vec<u8> = (0..300_000u32).map(|i| (i % 251) as u8).collect(alloc)?;
+        let long: Vec<u8> = (0..4_194_306u32).map(|i| (i % 251) as u8).collect(alloc)?;
         // two names that differ by a blank
         let texts = [("edge.txt", long.as_slice()), ("edge.txt ", b"short")];
         let mut disk = Disk::new(alloc, &rt);
@@ -115,7 +165,8 @@ mod tests {
             let front = disk.read(alloc, name, 3).ok();
             fs::remove_file(&rt, name)?;
             let absent = disk.read(alloc, name, 3).err();
-            assert_eq!(rt; whole.ok_or("whole")?.as_slice(), text);
+            let most = text.len().min(4_194_305);
+            assert!(rt; whole.ok_or("whole")?.as_slice() == &text[..most]);
             let front = front.ok_or("front")?;
             assert_eq!(rt; front.len(), 3);
             assert!(rt; text.starts_with(front.as_slice()));
