@@ -3,7 +3,7 @@
 -- that was put is in flight until the next confirmation. Where an answer differs from the expected one, or a wrong T_ACK closed the connection,
 -- the attempt comes to its end; where a wait passed, it may. It has ended once its T_Disconnect is confirmed, the device sent one, the
 -- T_Connect was confirmed with error, or the channel is lost.
-use Rattle.std.specs.Prelude.{◌≡◌, ◌<◌, ◌⊎◌, ℕ, suc, Bool, true, false, ◌&&◌, ◌||◌, List, [], ◌∷◌, ◌++◌, drop, if◌then◌else◌, Option, Some, None}
+use Rattle.std.specs.Prelude.{◌≡◌, ◌<◌, ◌⊎◌, ℕ, suc, Bool, true, false, ◌&&◌, ◌||◌, List, [], ◌∷◌, ◌++◌, length, drop, nat_lt, if◌then◌else◌, Option, Some, None}
 use Rattle.knx_model.specs.declared.address.IndAddr.{IndAddr}
 use Rattle.knx_model.specs.declared.connection.ClientTook.{ClientTook}
 use Rattle.knx_model.specs.declared.connection.ClientTook.TheVariants as heard
@@ -13,7 +13,7 @@ use Rattle.knx_model.specs.declared.connection.TransportFrame.{TransportFrame}
 use Rattle.knx_model.specs.declared.connection.TransportFrame.TheVariants.{Connect, Disconnect, Ack, Nak, Numbered, Other}
 use Rattle.knx_model.specs.declared.plan.Expect.{Expect}
 use Rattle.knx_model.specs.declared.plan.Expect.TheVariants.{AckOnly}
-use Rattle.knx_model.specs.ClientConnection.{ClientEnd, Asked, Up, Asking, Awaiting, Ended, client_sent, after_send, client_took, client_after, client_expired, after_overdue, after_confirmed}
+use Rattle.knx_model.specs.ClientConnection.{ClientEnd, Asked, Up, Asking, Awaiting, Ended, client_sent, after_send, client_took, client_after, client_stayed, client_expired, after_overdue, after_confirmed}
 use Rattle.knx_model.specs.Connection.{Session}
 use Rattle.knx_model.specs.Plans.{Plan, Over, Asks, followed}
 use Rattle.line_model.specs.Moments.{Moment, is_loss, confirmation_in, put_to, heard_from}
@@ -40,7 +40,7 @@ first device plan = record { end = Asked device; left = plan; owed = []; flying 
 
 -- ---- what was put
 
--- an operation without answer is over for the plan once it is sent
+-- A T_ACK or T_NAK begins the wait for an answer anew. An operation without answer is over for the plan once it is sent
 abbrev pub sent_of : Plan → Plan
 sent_of (Asks apdu AckOnly next) = next None
 sent_of plan = plan
@@ -52,8 +52,8 @@ sends_numbered a apdu now (Some frame) = record a { end = after_send a.end apdu 
 abbrev pub put_attempt : Attempt → ℕ → TransportFrame → Attempt
 put_attempt a now Connect = a
 put_attempt a now Disconnect = record a { end = Ended; owed = []; closing = true; flying = Some Disconnect }
-put_attempt a now (Ack n) = record a { owed = drop 1 a.owed; flying = Some (Ack n) }
-put_attempt a now (Nak n) = record a { owed = drop 1 a.owed; flying = Some (Nak n) }
+put_attempt a now (Ack n) = record a { end = client_stayed a.end now; owed = drop 1 a.owed; flying = Some (Ack n) }
+put_attempt a now (Nak n) = record a { end = client_stayed a.end now; owed = drop 1 a.owed; flying = Some (Nak n) }
 put_attempt a now (Numbered n apdu) = record (sends_numbered a apdu now (client_sent a.end apdu)) { flying = Some (Numbered n apdu) }
 put_attempt a now Other = a
 
@@ -97,8 +97,15 @@ awaits Ended = false
 abbrev pub answered : Attempt → List ℕ → Attempt
 answered a got = if awaits a.end && suits a.left got then record a { left = followed a.left got } else record a { closing = true }
 
+-- so many are owed at most; one more is none, and the device sends its frame again
+abbrev pub most_owed : ℕ
+most_owed = 64
+
+abbrev pub with_reply : List (List ℕ) → List ℕ → List (List ℕ)
+with_reply owed reply = if nat_lt (length owed) most_owed then owed ++ reply ∷ [] else owed
+
 abbrev pub owing : Attempt → ℕ → ClientTook → List ℕ → Attempt
-owing a now taken reply = record a { end = client_after a.end now taken; owed = a.owed ++ reply ∷ [] }
+owing a now taken reply = record a { end = client_after a.end now taken; owed = with_reply a.owed reply }
 
 abbrev pub heard_attempt : ℕ → Attempt → ℕ → ClientTook → Attempts
 heard_attempt k a now heard.Dropped = Running k a

@@ -1,10 +1,10 @@
 -- What the record says of frames of the link layer (KNX standard 3/6/3, common EMI, and ISO/IEC 14543-3-2, transport layer): what each entry
 -- put, took or lost, with its time and its place; and of one device, which of its frames were taken and which were put to it. Since at most
 -- one request is on its way, the first confirmation that is taken after a request was put is its own. The newest moment first.
-use Rattle.std.specs.Prelude.{ℕ, suc, ◌%◌, List, [], ◌∷◌, length, Bool, true, false, not, ◌&&◌, ◌==◌, nat_lt, nat_le, if◌then◌else◌, Option, Some, None}
+use Rattle.std.specs.Prelude.{ℕ, suc, ◌%◌, List, [], ◌∷◌, length, Bool, true, false, not, ◌&&◌, ◌||◌, ◌==◌, nat_lt, nat_le, if◌then◌else◌, Option, Some, None}
 use Rattle.std.specs.List.{filter}
 use Rattle.knx_model.specs.declared.connection.TransportFrame.{TransportFrame}
-use Rattle.knx_model.specs.declared.connection.TransportFrame.TheVariants.{Connect, Ack, Numbered}
+use Rattle.knx_model.specs.declared.connection.TransportFrame.TheVariants.{Connect, Disconnect, Ack, Numbered}
 use Rattle.knx_model.specs.declared.frames.cemi.Ldata.{Ldata}
 use Rattle.knx_model.specs.Connection.{frame_in, next_number}
 use Rattle.line_model.specs.Reading.{ldata_in, is_req, is_con, is_ind}
@@ -89,41 +89,7 @@ abbrev pub stretches : ℕ → List Moment → List (List Moment)
 stretches device [] = []
 stretches device (m ∷ l) = if is_connect (put_to device m.what) then [] ∷ stretches device l else grown m (stretches device l)
 
--- ---- what came of the T_Connect of a stretch: its confirmation, what came after that, and that the channel was lost, after which nothing counts
-
-pub data Course : Type 0 where
-  Unconfirmed : Course
-  WithError : Course
-  InSession : List Moment → Course
-  Left : List Moment → Course
-
-abbrev pub course_from : Option Bool → Course
-course_from None = Unconfirmed
-course_from (Some true) = WithError
-course_from (Some false) = InSession []
-
-abbrev pub is_loss : Deed → Bool
-is_loss Loses = true
-is_loss _ = false
-
-abbrev pub course_after : Moment → Course → Course
-course_after m Unconfirmed = if is_loss m.what then Left [] else course_from (confirmation_in m.what)
-course_after m WithError = WithError
-course_after m (InSession s) = if is_loss m.what then Left (m ∷ s) else InSession (m ∷ s)
-course_after m (Left s) = Left s
-
-abbrev pub course : List Moment → Course
-course [] = Unconfirmed
-course (m ∷ l) = course_after m (course l)
-
--- the moments of the session, the newest first
-abbrev pub session : Course → List Moment
-session Unconfirmed = []
-session WithError = []
-session (InSession s) = s
-session (Left s) = s
-
--- ---- in a session: the client's number, outstanding or the next one; how many of its services were acknowledged; the answers accepted
+-- ---- in a session: the client's number, outstanding or the next one
 
 pub data Number : Type 0 where
   Next : ℕ → Number
@@ -140,6 +106,62 @@ number_heard _ o = o
 abbrev pub number : ℕ → List Moment → Number
 number device [] = Next 0
 number device (m ∷ l) = number_heard (heard_from device m.what) (number_put (put_to device m.what) (number device l))
+
+-- ---- what ends a session: the loss of the channel, a T_Disconnect of either end, and a T_ACK of a number that is neither expected nor ignored
+
+abbrev pub is_disconnect : Option TransportFrame → Bool
+is_disconnect (Some Disconnect) = true
+is_disconnect _ = false
+
+-- its own number is expected where one is outstanding, and the number before is ignored
+abbrev pub is_wrong : ℕ → Number → Bool
+is_wrong k (Next n) = not (next_number k == n)
+is_wrong k (Outstanding n) = not (k == n) && not (next_number k == n)
+
+abbrev pub closes_by : Option TransportFrame → Number → Bool
+closes_by (Some Disconnect) o = true
+closes_by (Some (Ack k)) o = is_wrong k o
+closes_by _ o = false
+
+abbrev pub is_loss : Deed → Bool
+is_loss Loses = true
+is_loss _ = false
+
+-- of the session's moments before this one
+abbrev pub ends_session : ℕ → Moment → List Moment → Bool
+ends_session device m s = is_loss m.what || is_disconnect (put_to device m.what) || closes_by (heard_from device m.what) (number device s)
+
+-- ---- what came of the T_Connect of a stretch: its confirmation, and what came after that up to the end of the session, after which nothing counts
+
+pub data Course : Type 0 where
+  Unconfirmed : Course
+  WithError : Course
+  InSession : List Moment → Course
+  Left : List Moment → Course
+
+abbrev pub course_from : Option Bool → Course
+course_from None = Unconfirmed
+course_from (Some true) = WithError
+course_from (Some false) = InSession []
+
+abbrev pub course_after : ℕ → Moment → Course → Course
+course_after device m Unconfirmed = if is_loss m.what then Left [] else course_from (confirmation_in m.what)
+course_after device m WithError = WithError
+course_after device m (InSession s) = if ends_session device m s then Left (m ∷ s) else InSession (m ∷ s)
+course_after device m (Left s) = Left s
+
+abbrev pub course : ℕ → List Moment → Course
+course device [] = Unconfirmed
+course device (m ∷ l) = course_after device m (course device l)
+
+-- the moments of the session, the one that ended it with them, the newest first
+abbrev pub session : Course → List Moment
+session Unconfirmed = []
+session WithError = []
+session (InSession s) = s
+session (Left s) = s
+
+-- ---- in a session: how many of the client's services were acknowledged; the answers accepted; the services put
 
 abbrev pub is_acknowledged : Option TransportFrame → Number → Bool
 is_acknowledged (Some (Ack k)) (Outstanding n) = k == n

@@ -51,8 +51,8 @@ begin kept = record { tunnel = fresh tunnel; devices = one_device kept; echo = N
 abbrev pub to_device : List ℕ → Ldata
 to_device tpdu = record { code = Req; error = false; group = false; priority = 3; hops = 6; source = 0; destination = 0x1105; tpdu = tpdu }
 
-abbrev pub request : ℕ → ℕ → List ℕ → Event
-request channel number tpdu = Send (Written (TunnellingRequest channel number (cemi_octets (to_device tpdu))))
+abbrev pub tunnelled : ℕ → ℕ → List ℕ → Event
+tunnelled channel number tpdu = Send (Written (TunnellingRequest channel number (cemi_octets (to_device tpdu))))
 
 abbrev pub ack : ℕ → Event
 ack number = Send (Written (TunnellingAck 1 number 0))
@@ -65,7 +65,7 @@ up = Down 0 ∷ Up 0 ∷ Send (Written ConnectRequest) ∷ Renew ∷ []
 
 -- the T_Connect is sent
 abbrev pub connecting : List Event
-connecting = request 1 0 (0x80 ∷ []) ∷ up
+connecting = tunnelled 1 0 (0x80 ∷ []) ∷ up
 
 -- and confirmed
 abbrev pub connected : List Event
@@ -73,7 +73,7 @@ connected = Up 0 ∷ ack 0 ∷ Down 0 ∷ Down 1 ∷ Bus [] ∷ Up 0 ∷ connect
 
 -- the descriptor is asked for; the T_ACK and the answer are on their way
 abbrev pub asked : List Event
-asked = Up 0 ∷ ack 1 ∷ Down 0 ∷ Down 1 ∷ Bus [] ∷ Up 0 ∷ request 1 1 (0x43 ∷ 0x00 ∷ []) ∷ connected
+asked = Up 0 ∷ ack 1 ∷ Down 0 ∷ Down 1 ∷ Bus [] ∷ Up 0 ∷ tunnelled 1 1 (0x43 ∷ 0x00 ∷ []) ∷ connected
 
 -- the client has taken both
 abbrev pub answered : List Event
@@ -81,7 +81,7 @@ answered = Up 0 ∷ ack 3 ∷ Down 0 ∷ DevSend 0x1105 Comes [] ∷ Up 0 ∷ ac
 
 -- and acknowledged the answer
 abbrev pub whole : List Event
-whole = Up 0 ∷ ack 4 ∷ Down 0 ∷ Down 1 ∷ Bus [] ∷ Up 0 ∷ request 1 2 (0xC2 ∷ []) ∷ answered
+whole = Up 0 ∷ ack 4 ∷ Down 0 ∷ Down 1 ∷ Bus [] ∷ Up 0 ∷ tunnelled 1 2 (0xC2 ∷ []) ∷ answered
 
 -- the plan that reads the descriptor, a job of it, and what is told
 abbrev pub reading : Plan
@@ -129,17 +129,17 @@ abbrev pub load : Job
 load = record job { plan = completing; kind = Load }
 
 abbrev pub completed : List Event
-completed = Up 0 ∷ ack 1 ∷ Down 0 ∷ Down 1 ∷ Bus [] ∷ Up 0 ∷ request 1 1 (0x43 ∷ completion) ∷ connected
+completed = Up 0 ∷ ack 1 ∷ Down 0 ∷ Down 1 ∷ Bus [] ∷ Up 0 ∷ tunnelled 1 1 (0x43 ∷ completion) ∷ connected
 
 abbrev pub loads : List Event
 loads =
-    Up 0 ∷ ack 4 ∷ Down 0 ∷ Down 1 ∷ Bus [] ∷ Up 0 ∷ request 1 2 (0xC2 ∷ []) ∷ Up 0 ∷ ack 3 ∷ Down 0 ∷ DevSend 0x1105 Comes [] ∷ Up 0 ∷ ack 2 ∷ Down 0
+    Up 0 ∷ ack 4 ∷ Down 0 ∷ Down 1 ∷ Bus [] ∷ Up 0 ∷ tunnelled 1 2 (0xC2 ∷ []) ∷ Up 0 ∷ ack 3 ∷ Down 0 ∷ DevSend 0x1105 Comes [] ∷ Up 0 ∷ ack 2 ∷ Down 0
     ∷ DevSend 0x1105 Comes [] ∷ completed
 
 -- ---- a device that gets no T_Connect: three attempts, each confirmed with error
 
 abbrev pub missed : ℕ → List Event → List Event
-missed number past = Up 0 ∷ ack number ∷ Down 0 ∷ Down 1 ∷ Bus (0x1105 ∷ []) ∷ Up 0 ∷ request 1 number (0x80 ∷ []) ∷ past
+missed number past = Up 0 ∷ ack number ∷ Down 0 ∷ Down 1 ∷ Bus (0x1105 ∷ []) ∷ Up 0 ∷ tunnelled 1 number (0x80 ∷ []) ∷ past
 
 abbrev pub unheard : List Event
 unheard = missed 2 (missed 1 (missed 0 up))
@@ -167,7 +167,7 @@ told_sent = record { at = 11; worker = 0; what = Sent 1 } ∷ []
 -- ---- writes: the application is unloaded, and power goes in that
 
 abbrev pub unloads : List Event
-unloads = Up 0 ∷ request 1 1 (0x43 ∷ 0xD7 ∷ 4 ∷ 5 ∷ 0x10 ∷ 1 ∷ 4 ∷ 0 ∷ 0 ∷ 0 ∷ 0 ∷ 0 ∷ 0 ∷ 0 ∷ 0 ∷ 0 ∷ []) ∷ connected
+unloads = Up 0 ∷ tunnelled 1 1 (0x43 ∷ 0xD7 ∷ 4 ∷ 5 ∷ 0x10 ∷ 1 ∷ 4 ∷ 0 ∷ 0 ∷ 0 ∷ 0 ∷ 0 ∷ 0 ∷ 0 ∷ 0 ∷ 0 ∷ []) ∷ connected
 
 abbrev pub torn : List Event
 torn = On 0x1105 ∷ BusTorn true [] ∷ unloads
@@ -186,7 +186,7 @@ filling = record {
 
 -- two octets are written to its memory, which is worn
 abbrev pub writes : List Event
-writes = Up 0 ∷ request 1 1 (0x42 ∷ 0x82 ∷ 0x80 ∷ 0x00 ∷ 1 ∷ 2 ∷ []) ∷ connected
+writes = Up 0 ∷ tunnelled 1 1 (0x42 ∷ 0x82 ∷ 0x80 ∷ 0x00 ∷ 1 ∷ 2 ∷ []) ∷ connected
 
 abbrev pub worn : List Event
 worn = BusWorn (254 ∷ 253 ∷ []) ∷ writes
@@ -197,7 +197,7 @@ abbrev pub response_lost : List Event
 response_lost = LoseDown 0 ∷ Up 0 ∷ Send (Written ConnectRequest) ∷ Renew ∷ []
 
 abbrev pub comes_twice : List Event
-comes_twice = BusAgain 0x1105 ∷ Bus [] ∷ Up 0 ∷ Up 0 ∷ request 1 0 (0x80 ∷ []) ∷ up
+comes_twice = BusAgain 0x1105 ∷ Bus [] ∷ Up 0 ∷ Up 0 ∷ tunnelled 1 0 (0x80 ∷ []) ∷ up
 
 -- ---- the other lines of a script: a request lost, a try refused, a response that comes twice, a channel and a connection that close, and a
 -- device's frame that is lost for the gateway
@@ -213,13 +213,13 @@ response_twice = Down 0 ∷ up
 
 -- it is acknowledged between
 abbrev pub confirmation_twice : List Event
-confirmation_twice = ack 0 ∷ Down 0 ∷ ack 0 ∷ Down 0 ∷ Down 1 ∷ Bus [] ∷ Up 0 ∷ request 1 0 (0x80 ∷ []) ∷ up
+confirmation_twice = ack 0 ∷ Down 0 ∷ ack 0 ∷ Down 0 ∷ Down 1 ∷ Bus [] ∷ Up 0 ∷ tunnelled 1 0 (0x80 ∷ []) ∷ up
 
 abbrev pub channel_dropped : List Event
-channel_dropped = GwClose ∷ Up 0 ∷ request 1 0 (0x80 ∷ []) ∷ up
+channel_dropped = GwClose ∷ Up 0 ∷ tunnelled 1 0 (0x80 ∷ []) ∷ up
 
 abbrev pub connection_closed : List Event
-connection_closed = DevClose 0x1105 ∷ Bus [] ∷ Up 0 ∷ request 1 0 (0x80 ∷ []) ∷ up
+connection_closed = DevClose 0x1105 ∷ Bus [] ∷ Up 0 ∷ tunnelled 1 0 (0x80 ∷ []) ∷ up
 
 abbrev pub answer_lost : List Event
 answer_lost = DevSend 0x1105 IsLost [] ∷ asked
@@ -230,7 +230,7 @@ abbrev pub again : List Event
 again = Down 0 ∷ Up 0 ∷ Send (Written ConnectRequest) ∷ Renew ∷ Send (Written (DisconnectResponse 1 0)) ∷ Down 0 ∷ GwClose ∷ connected
 
 abbrev pub second : List Event
-second = Up 0 ∷ request 2 0 (0x80 ∷ []) ∷ again
+second = Up 0 ∷ tunnelled 2 0 (0x80 ∷ []) ∷ again
 
 -- ---- a minute passes in which nothing is under way, and a heartbeat is answered
 

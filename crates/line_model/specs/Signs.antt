@@ -3,13 +3,13 @@
 -- client's end closes after 6,000 ms only while it awaits an answer, and which T_ACK it ignores, is this project's own.
 use Rattle.std.specs.Prelude.{◌≡◌, ◌≢◌, ℕ, zero, suc, ◌-◌, ◌≤◌, ◌⊎◌, List, [], ◌∷◌, ◌++◌, length, reverse, Bool, true, false, ◌==◌, Option, Some, None}
 use Rattle.knx_model.specs.declared.connection.TransportFrame.{TransportFrame}
-use Rattle.knx_model.specs.declared.connection.TransportFrame.TheVariants.{Connect, Disconnect, Ack, Nak, Numbered, Other}
+use Rattle.knx_model.specs.declared.connection.TransportFrame.TheVariants.{Connect, Ack, Nak, Numbered, Other}
 use Rattle.knx_model.specs.declared.log.Sign.{Sign}
 use Rattle.knx_model.specs.declared.log.Sign.TheVariants.{Silent, Closed, NoCon, TunnelLost}
 use Rattle.knx_model.specs.ClientConnection.{has_answer}
 use Rattle.knx_model.specs.Connection.{next_number, ack_wait, idle_wait}
 use Rattle.line_model.specs.ClientView.{Loses}
-use Rattle.line_model.specs.Moments.{Moment, time, confirmation_in, put_to, heard_from, stretches, WithError, course, session, Number, Next, Outstanding, number, answers}
+use Rattle.line_model.specs.Moments.{Moment, time, confirmation_in, put_to, heard_from, stretches, WithError, course, session, Next, number, answers, closes_by}
 
 abbrev pub Every : (Moment → Type 0) → List Moment → Type 0
 Every P [] = Unit {0}
@@ -101,18 +101,9 @@ pub record Unanswered (device : ℕ) (l : List Moment) : Type 0 where
 
 -- ---- a T_Disconnect of the device, or a T_ACK of a number that is neither expected nor ignored
 
-abbrev pub IsWrong : ℕ → Number → Type 0
-IsWrong k (Next n) = next_number k ≢ n
-IsWrong k (Outstanding n) = (k ≢ n) × (next_number k ≢ n)
-
-abbrev pub ClosesBy : Option TransportFrame → Number → Type 0
-ClosesBy (Some Disconnect) o = Unit {0}
-ClosesBy (Some (Ack k)) o = IsWrong k o
-ClosesBy _ o = ⊥
-
 abbrev pub ClosesNow : ℕ → List Moment → Type 0
 ClosesNow device [] = ⊥
-ClosesNow device (m ∷ l) = ClosesBy (heard_from device m.what) (number device l)
+ClosesNow device (m ∷ l) = closes_by (heard_from device m.what) (number device l) ≡ true
 
 abbrev pub LostNow : List Moment → Type 0
 LostNow [] = ⊥
@@ -125,9 +116,9 @@ abbrev pub SilentFor : ℕ → ℕ → List Moment → Type 0
 SilentFor device ms l = ((ms ≡ ack_wait) × FourTimes device l) ⊎ ((ms ≡ idle_wait) × Unanswered device l)
 
 abbrev pub Holds : ℕ → Sign → List Moment → Type 0
-Holds device (Silent ms) stretch = Once (SilentFor device ms) (session (course stretch))
-Holds device Closed stretch = Once (ClosesNow device) (session (course stretch))
-Holds device NoCon stretch = course stretch ≡ WithError
+Holds device (Silent ms) stretch = Once (SilentFor device ms) (session (course device stretch))
+Holds device Closed stretch = Once (ClosesNow device) (session (course device stretch))
+Holds device NoCon stretch = course device stretch ≡ WithError
 Holds device TunnelLost stretch = Once LostNow stretch
 
 -- the signs and the stretches, both the newest first

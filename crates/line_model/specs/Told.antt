@@ -29,7 +29,7 @@ last_stretch (s ∷ older) = s
 
 -- the moments of the session, the newest first
 abbrev pub session_since : ℕ → ℕ → ℕ → List Placed → List Moment
-session_since device since upto places = session (course (last_stretch (stretches device (between since upto (moments places)))))
+session_since device since upto places = session (course device (last_stretch (stretches device (between since upto (moments places)))))
 
 -- ---- done
 
