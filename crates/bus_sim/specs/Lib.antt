@@ -1,0 +1,4 @@
+pub mod Kept
+pub mod Begun
+pub mod Counted
+pub mod Run

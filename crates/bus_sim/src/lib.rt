@@ -1,0 +1,12 @@
+//! The simulated line as a link: a whole line in memory, gateway, bus and devices, that loses, repeats, tears, wears, closes and cuts just where a
+//! script says so, and that a hub drives as it drives a socket.
+#![tactic(auto)]
+
+mod beginning;
+mod counts;
+mod events;
+mod happened;
+
+pub use beginning::Beginning;
+pub use counts::Counts;
+pub use events::Events;
