@@ -37,8 +37,8 @@ and_met m c = record { to = and_if m.to c.to; from = and_if m.from c.from; taken
 abbrev pub added : ℕ → Met → CountsNow → CountsNow
 added address m n = if line_of address == n.line then record n { places = slice_set n.places (address % 256) (and_met m (counts_in n.places (address % 256))) } else n
 
-abbrev pub connected : CountsNow → CountsNow
-connected n = record n { connects = capped (suc n.connects) }
+abbrev pub connected : Bool → CountsNow → CountsNow
+connected more n = record n { connects = and_if more n.connects }
 
 -- ---- what is counted is what the events count
 

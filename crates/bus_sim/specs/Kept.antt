@@ -1,6 +1,6 @@
 -- The events as they are kept: each in a few octets, and the octets of datagrams and of torn and worn writes behind one another, in the order of
 -- the events. So an event and the octets that are its own are an event of the line.
-use Rattle.std.specs.Prelude.{◌≡◌, ℕ, ◌+◌, ◌-◌, List, [], ◌∷◌, length, take, drop, reverse, option_to_list, Option, Some, None}
+use Rattle.std.specs.Prelude.{◌≡◌, ℕ, ◌+◌, ◌-◌, true, false, List, [], ◌∷◌, length, take, drop, reverse, option_to_list, slice_index, Option, Some, None}
 use Rattle.std.specs.Vec.{vec_len, vec_capacity}
 use Rattle.line_model.specs.World as world
 use Rattle.line_model.specs.World.{Event}
@@ -11,7 +11,9 @@ use Rattle.bus_sim.specs.declared.happened.Happened.TheVariants as kept
 -- how many octets are its own
 abbrev pub octets_of : Happened → ℕ
 octets_of (kept.Send n) = n
-octets_of (kept.BusTorn fresh n) = n
+octets_of (kept.UpRefused age) = 1
+octets_of (kept.BusTornOld n) = n
+octets_of (kept.BusTornNew n) = n
 octets_of (kept.BusWorn n) = n
 octets_of _ = 0
 
@@ -19,12 +21,13 @@ abbrev pub event_of : Happened → List ℕ → Event
 event_of (kept.Send n) octets = world.Send octets
 event_of kept.Renew octets = world.Renew
 event_of (kept.Up age) octets = world.Up age
-event_of (kept.UpRefused age status) octets = world.UpRefused age status
+event_of (kept.UpRefused age) octets = world.UpRefused age (slice_index octets 0)
 event_of (kept.Down age) octets = world.Down age
 event_of (kept.LoseUp age) octets = world.LoseUp age
 event_of (kept.LoseDown age) octets = world.LoseDown age
 event_of (kept.Bus lost) octets = world.Bus (option_to_list lost)
-event_of (kept.BusTorn fresh n) octets = world.BusTorn fresh octets
+event_of (kept.BusTornOld n) octets = world.BusTorn false octets
+event_of (kept.BusTornNew n) octets = world.BusTorn true octets
 event_of (kept.BusWorn n) octets = world.BusWorn octets
 event_of (kept.BusAgain device) octets = world.BusAgain device
 event_of (kept.DevSend device at) octets = world.DevSend device (at_gateway at) []

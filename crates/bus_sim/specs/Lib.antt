@@ -1,4 +1,7 @@
 pub mod Kept
 pub mod Begun
 pub mod Counted
-pub mod Run
+pub mod Owing
+pub mod RunNow
+pub mod Held
+pub mod Went

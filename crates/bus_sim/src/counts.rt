@@ -79,11 +79,11 @@ impl Counts {
         self.connects
     }
 
-    /// One more connect request reached it.
-    pub fn connect(&mut self)
-        ensures { self.new ≡ connected self.old }
+    /// One more connect request reached it, where there is one.
+    pub fn connect_if(&mut self, more: bool)
+        ensures { self.new ≡ connected more self.old }
     {
-        self.connects = self.connects.saturating_add(1);
+        self.connects = counted(more, self.connects);
     }
 
     /// An event is so much of the device at an address.

@@ -2,7 +2,7 @@
 
 use line_sim::AtGateway;
 
-/// An event of the line. The octets that it has are kept apart: here is only how many they are.
+/// An event of the line, in 16 octets. The octets that it has are kept apart: here is only how many they are.
 #[derive(Clone, Copy, Debug, Drop, PartialEq, Eq)]
 pub enum Happened {
     /// The client sent a datagram of so many octets.
@@ -10,21 +10,23 @@ pub enum Happened {
     /// The client took the next endpoint.
     Renew,
     /// The gateway took the client's datagram of this age: how many younger ones there were.
-    Up(u32),
-    /// It answered the connect request of this age with a status.
-    UpRefused { age: u32, status: u8 },
+    Up(u64),
+    /// It answered the connect request of this age with a status, which is its one octet.
+    UpRefused(u64),
     /// The client got the gateway's datagram of this age.
-    Down(u32),
+    Down(u64),
     /// The client's datagram of this age was lost.
-    LoseUp(u32),
+    LoseUp(u64),
     /// The gateway's datagram of this age was lost.
-    LoseDown(u32),
+    LoseDown(u64),
     /// The client's frame went over the bus, lost for one device or for none.
     Bus(Option<u16>),
-    /// The device that it is for took it torn, with the new load state and length or not, and so many new octets.
-    BusTorn { fresh: bool, octets: u32 },
-    /// That device took it over worn memory, which kept so many octets.
-    BusWorn(u32),
+    /// The device that it is for took it torn, with the old load state and length, and so many new octets.
+    BusTornOld(u64),
+    /// It took it torn, with the new load state and length, and so many new octets.
+    BusTornNew(u64),
+    /// It took it over worn memory, which kept so many octets.
+    BusWorn(u64),
     /// A device took again the frame that it got last.
     BusAgain(u16),
     /// A device's oldest unsent frame went over the bus.

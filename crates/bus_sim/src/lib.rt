@@ -3,10 +3,13 @@
 #![tactic(auto)]
 
 mod beginning;
+mod client;
 mod counts;
 mod events;
 mod happened;
+mod limits;
+mod owed;
+mod run;
 
 pub use beginning::Beginning;
-pub use counts::Counts;
-pub use events::Events;
+pub use run::Run;

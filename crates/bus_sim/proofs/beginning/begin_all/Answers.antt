@@ -3,6 +3,8 @@ use Rattle.knx_model.specs.Device.{Fits}
 use Rattle.line_model.specs.Lines.{Script}
 use Rattle.line_model.specs.StartOf.{line_of}
 use Rattle.script_index.specs.Stands.{StandsFor}
+use Rattle.line_sim.specs.Places.{AreDevices}
+use Rattle.bus_sim.specs.Begun.{device_begun}
 use Rattle.bus_sim.proofs.Begins.{can_at, one_put}
 use Rattle.bus_sim.proofs.beginning.begin_all.Goals as goal
 
@@ -22,5 +24,5 @@ loop-at-preserved c =
       within = omega (arith, c.loop-at.invariant.within);
       line = c.put.ensures.line ∙ c.loop-at.invariant.line;
       devices = λ script stands. one_put script c.args.devices.now (c.loop-at.at - 1) c.index-devices-at.result c.in_ok-device_of.field-0 c.put.new.self below c.index-devices-at.is (c.in_ok-device_of.ensures.begins script stands)
-          (c.put.ensures.next _ (subst (λ (k : ℕ). (address : ℕ) → _) next (c.loop-at.invariant.devices script stands)));
+          (c.put.ensures.next _ (subst (λ (k : ℕ). AreDevices c.loop-at.made (device_begun script (drop k c.args.devices.now))) (sym next) (c.loop-at.invariant.devices script stands)));
     }

@@ -50,12 +50,3 @@ pub record Keeps (r : RunNow) : Type 0 where
 pub record IsRight (r : RunNow) (e : Event) : Type 0 where
   pub may : MayHappen Commissions (world r) e
   pub next : IsNext (script r) Commissions (start r) r.events (owed_in r) e
-
--- ---- one turn of the line: something happens, which takes no time; or time passes
-
-pub record Goes (old new : RunNow) : Type 0 where
-  pub event : Event
-  pub foreign : IsForeign event ≡ true
-  pub right : IsRight old event
-  pub so : new ≡ happened old event
-  pub timeless : time new ≡ time old

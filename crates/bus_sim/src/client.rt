@@ -1,0 +1,36 @@
+//! What the client does.
+
+use crate::happened::Happened;
+use crate::room::make_room;
+use crate::run::Run;
+use knx_model::NoMemory;
+
+impl Run {
+    ghost use Rattle.std.specs.Prelude.{OnOk, OnErr};
+    ghost use Rattle.line_model.specs.World.{Send, Renew};
+    ghost use Rattle.bus_sim.specs.Went.{Stays, Went};
+
+    /// The client sends a datagram. At `Err` nothing has happened.
+    pub fn send(&mut self, octets: &[u8]) -> Result<(), NoMemory>
+        ensures went { OnOk result (Went self.old (Send octets.now) self.new) }
+        ensures err { OnErr result (Stays self.old self.new) }
+    {
+        make_room(self.alloc, &mut self.events, &mut self.owed, octets.len())?;
+        self.line.send(octets);
+        self.owed.wait(&self.line);
+        self.events.push(Happened::Send(octets.len() as u64), octets);
+        Ok(())
+    }
+
+    /// The client takes the next endpoint. At `Err` nothing has happened.
+    pub fn renew(&mut self) -> Result<(), NoMemory>
+        ensures went { OnOk result (Went self.old Renew self.new) }
+        ensures err { OnErr result (Stays self.old self.new) }
+    {
+        make_room(self.alloc, &mut self.events, &mut self.owed, 0)?;
+        self.line.renew();
+        self.owed.wait(&self.line);
+        self.events.push(Happened::Renew, &[]);
+        Ok(())
+    }
+}

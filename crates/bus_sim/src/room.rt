@@ -1,0 +1,34 @@
+//! Memory for what comes next, taken before anything changes.
+
+ghost use Rattle.std.specs.Prelude.{◌≡◌, ◌≤◌, ◌^◌, ◌<◌, ◌+◌, length, OnOk};
+
+use crate::events::Events;
+use crate::limits::past_all_memory;
+use crate::owed::Owing;
+use knx_model::NoMemory;
+use std::alloc::Global;
+
+/// A run has fewer events than this.
+const MOST_EVENTS: u64 = 1 << 62;
+
+/// Takes memory for one more event, so many octets of its own, and what it may call for.
+pub fn make_room(
+    alloc: Global,
+    events: &mut Events,
+    owed: &mut Owing,
+    octets: usize,
+) -> Result<(), NoMemory>
+    ensures events { events.new.list ≡ events.old.list }
+    ensures owed { owed.new.list ≡ owed.old.list }
+    ensures room { OnOk result (1 ≤ events.new.room) }
+    ensures octets_room { OnOk result (octets ≤ events.new.octets_room) }
+    ensures owed_room { OnOk result (3 ≤ owed.new.room) }
+    ensures few { OnOk result (length events.old.list + 1 < 2 ^ 62) }
+{
+    if events.len() >= MOST_EVENTS - 1 {
+        return Err(past_all_memory(alloc));
+    }
+    events.reserve(octets)?;
+    owed.reserve()?;
+    Ok(())
+}
