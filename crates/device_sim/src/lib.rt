@@ -16,6 +16,7 @@ mod running;
 mod sending;
 mod service;
 mod telegram;
+mod turns;
 mod values;
 mod worn;
 
