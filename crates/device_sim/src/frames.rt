@@ -72,19 +72,14 @@ impl Device {
         ensures next { OnOk result (self.new ≡ after_frame self.old frame.now now Whole) }
         ensures err { OnErr result (self.new ≡ self.old) }
     {
-        self.act(alloc, frame, now)?;
-        self.last = Some(frame.copied());
-        Ok(())
-    }
-
-    fn act(&mut self, alloc: Global, frame: &Ldata, now: u64) -> Result<(), NoMemory>
-        ensures next { OnOk result (self.new ≡ (if frame.now.group then taken_group self.old frame.now else taken_alone self.old frame.now now Whole)) }
-        ensures err { OnErr result (self.new ≡ self.old) }
-    {
         if frame.group {
-            self.take_telegram(alloc, frame)
+            let brought = self.telegram(alloc, frame)?;
+            self.bring(frame, brought);
+            Ok(())
         } else {
-            self.take_alone(frame, now, Memory::Sound)
+            self.take_alone(frame, now, Memory::Sound)?;
+            self.last = Some(frame.copied());
+            Ok(())
         }
     }
 
