@@ -13,6 +13,7 @@ mod group;
 mod taking;
 
 use crate::parts::Parts;
+pub use due::nearer;
 use device_sim::Device;
 use knx_model::{IndAddr, Ldata, NoMemory};
 use std::alloc::Global;
@@ -133,6 +134,13 @@ impl Devices {
             }
             None => Ok(()),
         }
+    }
+
+    /// The frame that a device sends next of those that wait.
+    pub fn waiting(&self, address: u16) -> Option<Ldata>
+        ensures { result ≡ frame_by waiting_frame (device_at self.now address) }
+    {
+        self.get(address)?.waiting()
     }
 
     /// It sends the frame that waits longest.

@@ -4,7 +4,7 @@ ghost use Rattle.std.specs.Prelude.{◌≡◌, [], ◌||◌, IfOk, OnOk, OnErr, 
 ghost use Rattle.knx_model.specs.declared.device.WriteKind.TheVariants.{Memory};
 ghost use Rattle.knx_model.specs.Device.{written_front};
 ghost use Rattle.knx_model.specs.DeviceFrames.{Torn, Worn, taken_again, worn_octets};
-ghost use Rattle.line_model.specs.Counts.{write_of};
+ghost use Rattle.line_model.specs.Counts.{takes_alone, write_of};
 ghost use Rattle.line_model.specs.Deliveries.{effect_at};
 ghost use Rattle.line_model.specs.World.{Devices as Known, changed, one_takes, takes_it};
 ghost use Rattle.line_sim.specs.Places.{AreDevices, ComesTo, device_at, is_taken_by};
@@ -20,6 +20,16 @@ impl Devices {
         ensures { result ≡ write_of (device_at self.now frame.now.destination) (Some frame.now) }
     {
         self.get(frame.destination)?.would_write(frame)
+    }
+
+    /// Whether a frame is for one device alone, and the device at an address would take it.
+    pub fn takes_alone(&self, address: u16, frame: &Ldata) -> bool
+        ensures { result ≡ takes_alone (device_at self.now address) (Some frame.now) }
+    {
+        match self.get(address) {
+            Some(device) => !frame.group && matches!(device.took(frame), Took::Taken),
+            None => false,
+        }
     }
 
     /// A frame comes to every device but the one left out, whole. Whether it is to a group, or the device that it is for took it. At `Err`

@@ -1,24 +1,26 @@
-//! The line: one call for each event.
+//! The line: one call for each event. A call asks only for what its work needs; what else the event needs, so that it may happen, is told by
+//! the questions of a line, and by the law `what_is_allowed_may_happen`.
 
-ghost use Rattle.std.specs.Prelude.{◌≡◌, ◌≢◌, ◌-◌, ◌<◌, [], Some, None, IfOk, IfSome, OnOk, OnErr, is_some, min, nat_lt, option_copied, option_map, slice_get, true};
-ghost use Rattle.knx_model.specs.Device.{written_front};
-ghost use Rattle.line_model.specs.Deliveries.{next_up, next_down};
+ghost use Rattle.std.specs.Prelude.{◌≡◌, ◌≢◌, ◌-◌, ◌<◌, None, IfOk, OnOk, OnErr, min, slice_get};
 ghost use Rattle.line_model.specs.Gateway.{gateway_expired};
 ghost use Rattle.line_model.specs.Network.{OfSent};
-ghost use Rattle.line_model.specs.Tunnel.{Commissions, fresh};
-ghost use Rattle.line_model.specs.World.{World, Devices as Known, Send, From, Renew, Up, UpRefused, Down, LoseUp, LoseDown, Bus, BusTorn, BusAgain, DevSend, DevRepeat, DevClose, GwAgain, GwRepeat, GwClose, Cut, On, Pass, next_frame, others_take, step};
+ghost use Rattle.line_model.specs.Tunnel.{fresh};
+ghost use Rattle.line_model.specs.World.{World, Devices as Known, Send, From, Renew, Up, UpRefused, Down, LoseUp, LoseDown, GwAgain, GwRepeat, GwClose, Pass, step};
 ghost use Rattle.line_sim.specs.Gateways.{CanCount, due_of, greatest_count};
-ghost use Rattle.line_sim.specs.Line.{IsNow, confirmed, effect_due, frame_due, sending_at, write_due};
-ghost use Rattle.line_sim.specs.Places.{AreDevices, IsDue, and_one, device_at, missed};
-ghost use Rattle.line_sim.specs.Tunnels.{at_gateway, greatest_endpoint};
+ghost use Rattle.line_sim.specs.Line.{IsNow};
+ghost use Rattle.line_sim.specs.Places.{AreDevices};
+ghost use Rattle.line_sim.specs.Tunnels.{greatest_endpoint};
 ghost use Rattle.network_sim.specs.Window.{IsDeliverable};
 
-use crate::devices::{Came, Devices};
+mod asked;
+mod bus;
+mod counted;
+mod due;
+
+use crate::devices::Devices;
 use crate::gateway::Due;
 use crate::tunnel::{AtGateway, Tunnel};
-use device_sim::Device;
-use knx_model::{Datagram, IndAddr, Ldata, LdataCode, NoMemory, Sending, WriteKind};
-use network_sim::{Reach, the_youngest_are_enough};
+use knx_model::{Datagram, IndAddr, Ldata, NoMemory};
 use std::alloc::Global;
 use std::marker::Model;
 
@@ -62,7 +64,7 @@ impl Line {
     }
 
     /// A client at this endpoint, from now on the present one, sends a datagram.
-    pub fn send_from(&mut self, endpoint: u32, octets: &[u8])
+    pub fn send_from(&mut self, endpoint: u64, octets: &[u8])
         ensures { (w : World) → IsNow self.old w → IsNow self.new (step w (From endpoint octets.now)) }
     {
         self.tunnel.send_from(endpoint, octets);
@@ -87,7 +89,8 @@ impl Line {
 
     // ---- the network
 
-    /// The datagram of an age, which may arrive, comes to the gateway. At `Err` nothing has changed.
+    /// The datagram of an age, which may arrive, comes to the gateway. Where it makes a channel, one more must be countable. At `Err` nothing
+    /// has changed.
     pub fn up(&mut self, age: usize) -> Result<(), NoMemory>
         requires { OfSent IsDeliverable (slice_get self.old.tunnel.up.kept age) }
         ensures next { OnOk result ((w : World) → IsNow self.old w → CanCount self.old.tunnel.gateway → IsNow self.new (step w (Up age))) }
@@ -118,113 +121,6 @@ impl Line {
         ensures { (w : World) → IsNow self.old w → IsNow self.new (step w (LoseDown age)) }
     {
         self.tunnel.lose_down(age);
-    }
-
-    // ---- the bus
-
-    /// The client's frame goes over the bus, lost for one device or none. Where there is no memory at a device, it is lost for that one and those
-    /// behind it too. At `Err` nothing has changed.
-    pub fn bus(&mut self, alloc: Global, lost: Option<u16>) -> Result<Came, NoMemory>
-        ensures next { IfOk result (λ came. (w : World) → IsNow self.old w → IsNow self.new (step w (Bus (and_one lost (missed self.old.devices.line came))))) }
-        ensures err { OnErr result (self.new ≡ self.old) }
-    {
-        let Some(frame) = self.tunnel.gateway.frame_due() else {
-            self.tunnel.elsewhere();
-            return Ok(Came::ToAll);
-        };
-        self.tunnel.gateway.waiting.reserve(1)?;
-        let taking = self.devices.take(alloc, &frame, self.tunnel.time, lost);
-        self.tunnel.carried(confirmation(frame, taking.taken));
-        self.echo = None;
-        Ok(taking.came)
-    }
-
-    /// The client's frame goes over the bus, and the device that it is for loses its power in the write that it is, after so many octets. At
-    /// `Err` nothing has changed.
-    pub fn bus_torn(&mut self, k: u32) -> Result<(), NoMemory>
-        requires { is_some (write_due self.old) ≡ true }
-        ensures next { OnOk result ((w : World) → IsNow self.old w → IsNow self.new (step w (BusTorn (nat_lt 0 k) (written_front (effect_due self.old) k)))) }
-        ensures err { OnErr result (self.new ≡ self.old) }
-    {
-        let Some(frame) = self.tunnel.gateway.frame_due() else {
-            return Ok(());
-        };
-        self.tunnel.gateway.waiting.reserve(1)?;
-        self.devices.take_torn(&frame, k, self.tunnel.time);
-        self.tunnel.carried(confirmation(frame, true));
-        self.echo = None;
-        Ok(())
-    }
-
-    /// A device takes again the frame that it got last. At `Err` nothing has changed.
-    pub fn bus_again(&mut self, alloc: Global, device: u16) -> Result<(), NoMemory>
-        ensures next { OnOk result ((w : World) → IsNow self.old w → IsNow self.new (step w (BusAgain device))) }
-        ensures err { OnErr result (self.new ≡ self.old) }
-    {
-        self.devices.take_again(alloc, device, self.tunnel.time)?;
-        self.tunnel.elsewhere();
-        Ok(())
-    }
-
-    // ---- the devices
-
-    /// A device's oldest unsent frame goes over the bus; where it is to a group, the others take it, but those for which there is no memory. At
-    /// `Err` nothing has changed.
-    pub fn dev_send(&mut self, alloc: Global, device: u16, at: AtGateway) -> Result<Came, NoMemory>
-        ensures next { IfOk result (λ came. (w : World) → IsNow self.old w → IsNow self.new (step w (DevSend device (at_gateway at) (missed self.old.devices.line came)))) }
-        ensures err { OnErr result (self.new ≡ self.old) }
-    {
-        self.tunnel.gateway.waiting.reserve(1)?;
-        let Some(frame) = self.devices.send_waiting(device) else {
-            self.tunnel.elsewhere();
-            return Ok(Came::ToAll);
-        };
-        let came = to_others(&mut self.devices, alloc, &frame, self.tunnel.time, device);
-        self.tunnel.hear(at, frame.copied());
-        self.echo = Some(frame);
-        Ok(came)
-    }
-
-    /// A device's outstanding answer, which is due again, goes over the bus once more. At `Err` nothing has changed.
-    pub fn dev_repeat(&mut self, device: u16, at: AtGateway) -> Result<(), NoMemory>
-        requires { IsDue self.old.devices device self.old.tunnel.now }
-        ensures next { OnOk result ((w : World) → IsNow self.old w → IsNow self.new (step w (DevRepeat device (at_gateway at)))) }
-        ensures err { OnErr result (self.new ≡ self.old) }
-    {
-        self.tunnel.gateway.waiting.reserve(1)?;
-        let Some(frame) = self.devices.repeat(device, self.tunnel.time) else {
-            self.tunnel.elsewhere();
-            return Ok(());
-        };
-        self.tunnel.hear(at, frame.copied());
-        self.echo = Some(frame);
-        Ok(())
-    }
-
-    /// A device closes its connection. At `Err` nothing has changed.
-    pub fn dev_close(&mut self, alloc: Global, device: u16) -> Result<(), NoMemory>
-        ensures next { OnOk result ((w : World) → IsNow self.old w → IsNow self.new (step w (DevClose device))) }
-        ensures err { OnErr result (self.new ≡ self.old) }
-    {
-        self.devices.shut(alloc, device)?;
-        self.tunnel.elsewhere();
-        Ok(())
-    }
-
-    /// A device loses its power.
-    pub fn cut(&mut self, device: u16)
-        ensures { (w : World) → IsNow self.old w → IsNow self.new (step w (Cut device)) }
-    {
-        self.devices.cut(device);
-        self.tunnel.elsewhere();
-    }
-
-    /// It has power again.
-    pub fn on(&mut self, device: u16)
-        ensures { (w : World) → IsNow self.old w → IsNow self.new (step w (On device)) }
-    {
-        self.devices.on(device);
-        self.tunnel.elsewhere();
     }
 
     // ---- the gateway, and the time
@@ -265,101 +161,5 @@ impl Line {
         ensures next { (w : World) → IsNow self.old w → IsNow self.new (step w (Pass result)) }
     {
         self.tunnel.pass(ms)
-    }
-
-    // ---- what is asked of it
-
-    /// The client's frame that goes over the bus next; None exactly where none waits.
-    pub fn frame_due(&self) -> Option<Ldata>
-        ensures value { result ≡ frame_due self.now }
-        ensures simulates { (w : World) → IsNow self.now w → result ≡ next_frame w }
-    {
-        self.tunnel.gateway.frame_due()
-    }
-
-    /// The write that this frame would be now at the device that it is for; None exactly where it would be none, or there is no frame.
-    pub fn would_write(&self) -> Option<WriteKind>
-        ensures { result ≡ write_due self.now }
-    {
-        self.devices.would_write(&self.frame_due()?)
-    }
-
-    /// The device at an address.
-    pub fn device(&self, address: u16) -> Option<&Device>
-        ensures value { option_copied result ≡ device_at self.now.devices address }
-        ensures simulates { (w : World) → IsNow self.now w → option_copied result ≡ w.devices address }
-    {
-        self.devices.get(address)
-    }
-
-    /// What a device sends next; None exactly where it has nothing to send, or isn't there.
-    pub fn next_sending(&self, address: u16) -> Option<Sending>
-        ensures { (w : World) → IsNow self.now w → result ≡ sending_at (w.devices address) w.tunnel.now }
-    {
-        self.devices.get(address)?.next_sending(self.tunnel.time)
-    }
-
-    /// The age of the client's datagram that is delivered next.
-    pub fn next_up(&self) -> Option<usize>
-        ensures value { (w : World) → IsNow self.now w → result ≡ next_up w }
-        ensures deliverable { IfSome result (λ age. OfSent IsDeliverable (slice_get self.now.tunnel.up.kept age)) }
-    {
-        the_youngest_are_enough();
-        self.tunnel.up.next(Reach::Every, self.tunnel.gateway.made)
-    }
-
-    /// The age of the gateway's datagram that the client gets next at its present endpoint.
-    pub fn next_down(&self) -> Option<usize>
-        ensures value { (w : World) → IsNow self.now w → result ≡ next_down Commissions w }
-        ensures deliverable { IfSome result (λ age. OfSent IsDeliverable (slice_get self.now.tunnel.down.kept age)) }
-    {
-        the_youngest_are_enough();
-        self.tunnel
-            .down
-            .next(Reach::To(self.tunnel.present), self.tunnel.gateway.made)
-    }
-
-    /// The time, in milliseconds.
-    pub fn now(&self) -> u64
-        ensures { result ≡ self.now.tunnel.now }
-    {
-        self.tunnel.time
-    }
-
-    /// How many channels the gateway made.
-    pub fn made(&self) -> u64
-        ensures { result ≡ self.now.tunnel.gateway.made }
-    {
-        self.tunnel.gateway.made
-    }
-
-    /// How many requests it acted on.
-    pub fn acted(&self) -> u64
-        ensures { result ≡ self.now.tunnel.gateway.acted }
-    {
-        self.tunnel.gateway.acted
-    }
-}
-
-/// A device's frame to a group comes to the other devices.
-fn to_others(devices: &mut Devices, alloc: Global, frame: &Ldata, now: u64, device: u16) -> Came
-    ensures { (known : Known) → AreDevices devices.old known
-        → AreDevices devices.new (others_take now (and_one (Some device) (missed devices.old.line result)) (Some frame.now) known) }
-{
-    if frame.group {
-        devices.take(alloc, frame, now, Some(device)).came
-    } else {
-        Came::ToAll
-    }
-}
-
-/// The confirmation of the client's frame: with error exactly where it is for one device that didn't take it.
-fn confirmation(frame: Ldata, taken: bool) -> Ldata
-    ensures { result ≡ confirmed frame taken }
-{
-    Ldata {
-        code: LdataCode::Con,
-        error: !frame.group && !taken,
-        ..frame
     }
 }
