@@ -1,5 +1,5 @@
 -- What is sent where no frame waits.
-use Rattle.std.proofs.Common.{ℕ, ◌≡◌, Bool, true, false, List, [], Option, Some, None, refl, sym, subst, if◌then◌else◌}
+use Rattle.std.proofs.Common.{ℕ, ◌≡◌, ◌↔◌, Bool, true, false, List, [], ◌∷◌, length, Option, Some, None, refl, sym, ap, subst, arith, if◌then◌else◌}
 use Rattle.knx_model.specs.declared.address.IndAddr.{IndAddr}
 use Rattle.knx_model.specs.declared.connection.DeviceExpired.{DeviceExpired}
 use Rattle.knx_model.specs.declared.connection.DeviceExpired.TheVariants as expired
@@ -9,6 +9,7 @@ use Rattle.knx_model.specs.DeviceConnection.{DeviceEnd, Closed, Idle, Answering,
 use Rattle.knx_model.specs.DeviceState.{DeviceState}
 use Rattle.knx_model.specs.DeviceFrames.{own_frame}
 use Rattle.knx_model.specs.DeviceSending.{due_sending, sending_of, next_sending, sending_frame, after_sending}
+use Rattle.device_sim.specs.Sending.{IsQuiet}
 
 -- the frame of a connection's end that has become due, to its partner
 abbrev pub due_frame : IndAddr → Option IndAddr → DeviceExpired → Option Ldata
@@ -67,3 +68,17 @@ pub due_next_is : (d : DeviceState) (now : ℕ) → d.unsent ≡ [] → after_se
 due_next_is d now h =
     let P : List Ldata → Type 0 = λ u. ◌≡◌ {A = DeviceState} (after_sending (record d { unsent = u }) now (sending_of u (device_expired d.connection now))) (record d { connection = after_expiry d.connection now (device_expired d.connection now); unsent = u }) in
     subst P (sym h) (next_of_end d d.connection now)
+
+-- ---- nothing of a connection, and no frame
+
+end_is_closed : (e : DeviceEnd) → partner_of e ≡ None → e ≡ Closed
+end_is_closed Closed h = refl
+end_is_closed (Idle s) h = cc
+end_is_closed (Answering s a) h = cc
+
+none_left : {X : Type 0} (xs : List X) → length xs ≡ 0 → xs ≡ []
+none_left [] h = refl
+none_left (x ∷ xs) h = absurd (omega (arith, h))
+
+pub quiet_exactly : (d : DeviceState) → (partner_of d.connection ≡ None) × (length d.unsent ≡ 0) ↔ IsQuiet d
+quiet_exactly d = ((λ p. record { unconnected = end_is_closed d.connection p.0; nothing_unsent = none_left d.unsent p.1 }), (λ q. (ap partner_of q.unconnected, ap length q.nothing_unsent)))

@@ -1,3 +1,4 @@
+pub mod Brought
 pub mod Delivery
 pub mod Effects
 pub mod Indexed

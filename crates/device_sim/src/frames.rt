@@ -1,13 +1,10 @@
 //! The device on the line: the frames that it takes, and those that it sends.
 
-ghost use Rattle.std.specs.Prelude.{◌≡◌, [], nat_lt, true, is_some, Some, IfOk, IfSome, OnOk, OnErr, if◌then◌else◌};
+ghost use Rattle.std.specs.Prelude.{◌≡◌, nat_lt, true, is_some, Some, IfOk, IfSome, OnOk, OnErr, if◌then◌else◌};
 ghost use Rattle.knx_model.specs.declared.device.WriteKind.{WriteKind as Kind};
 ghost use Rattle.knx_model.specs.Device.{written_front};
-ghost use Rattle.knx_model.specs.declared.device.Sending.{Sending as Way};
 ghost use Rattle.knx_model.specs.Connection.{IsApdu};
-ghost use Rattle.knx_model.specs.DeviceConnection.{device_expired};
 ghost use Rattle.knx_model.specs.DeviceFrames.{Whole, Torn, Worn, is_too_long, took_of, takes, after_frame, taken_alone, effect_of_frame, would_write, write_kind, worn_octets, taken_group, sender, connection_took, effect_delivered};
-ghost use Rattle.knx_model.specs.DeviceSending.{due_sending, next_sending, sending_frame, after_sending, waiting_frame, pops, repeat_frame, repeats, shut};
 ghost use Rattle.device_sim.specs.Sending.{answered_end, answered_frame};
 ghost use Rattle.device_sim.specs.Wear.{outcome};
 ghost use Rattle.device_sim.specs.Effects.{meant};
@@ -18,12 +15,11 @@ use crate::given::serve;
 use crate::sending::{frame_to, queue, queue_if};
 use crate::service::effect_in;
 use crate::worn::Memory;
-use apdu_frames::encode;
 use knx_model::{
-    ApduOctets, FrameSupport, IndAddr, Ldata, NoMemory, Sending, Took, Tpdu, WriteKind,
+    ApduOctets, FrameSupport, IndAddr, Ldata, NoMemory, Took, WriteKind,
 };
 use std::alloc::Global;
-use transport_conn::{DeviceConn, DeviceExpired, DeviceTook};
+use transport_conn::{DeviceConn, DeviceTook};
 
 /// The most octets of a standard frame's TPDU.
 const MOST_STANDARD_OCTETS: usize = 16;
@@ -40,7 +36,7 @@ impl Device {
     }
 
     /// What `take` of this frame would say.
-    fn took(&self, frame: &Ldata) -> Took
+    pub fn took(&self, frame: &Ldata) -> Took
         ensures { result ≡ took_of self.now frame.now }
     {
         if !self.power {
@@ -76,19 +72,14 @@ impl Device {
         ensures next { OnOk result (self.new ≡ after_frame self.old frame.now now Whole) }
         ensures err { OnErr result (self.new ≡ self.old) }
     {
-        self.act(alloc, frame, now)?;
-        self.last = Some(frame.copied());
-        Ok(())
-    }
-
-    fn act(&mut self, alloc: Global, frame: &Ldata, now: u64) -> Result<(), NoMemory>
-        ensures next { OnOk result (self.new ≡ (if frame.now.group then taken_group self.old frame.now else taken_alone self.old frame.now now Whole)) }
-        ensures err { OnErr result (self.new ≡ self.old) }
-    {
         if frame.group {
-            self.take_telegram(alloc, frame)
+            let brought = self.telegram(alloc, frame)?;
+            self.bring(frame, brought);
+            Ok(())
         } else {
-            self.take_alone(frame, now, Memory::Sound)
+            self.take_alone(frame, now, Memory::Sound)?;
+            self.last = Some(frame.copied());
+            Ok(())
         }
     }
 
@@ -180,86 +171,6 @@ impl Device {
         self.take_alone(frame, now, Memory::Worn)?;
         self.last = Some(frame.copied());
         Ok(())
-    }
-
-    /// What it sends next at this time: the frame that waits longest, else its outstanding answer where this is due again, else the
-    /// T_Disconnect of a connection that was idle for too long. None exactly where there is none of these.
-    pub fn next_sending(&self, now: u64) -> Option<Sending>
-        ensures { result ≡ next_sending self.now now }
-    {
-        match self.unsent.front() {
-            Some(_) => Some(Sending::Waiting),
-            None => due_sending(&self.connection, now),
-        }
-    }
-
-    /// Sends the frame that waits longest; None exactly where none waits.
-    pub fn send_waiting(&mut self) -> Option<Ldata>
-        ensures frame { result ≡ waiting_frame self.old }
-        ensures next { self.new ≡ pops self.old }
-    {
-        self.unsent.pop_front()
-    }
-
-    /// Sends its outstanding answer again.
-    pub fn repeat(&mut self, now: u64) -> Option<Ldata>
-        requires { next_sending self.old now ≡ Some Way.Repeat }
-        ensures frame { result ≡ repeat_frame self.old }
-        ensures next { self.new ≡ repeats self.old now }
-    {
-        self.sends(now)
-    }
-
-    /// The frame that it sends next at this time, by `next_sending`. A closing and its T_Disconnect are one sending here.
-    pub fn sends(&mut self, now: u64) -> Option<Ldata>
-        ensures frame { result ≡ sending_frame self.old (next_sending self.old now) }
-        ensures next { self.new ≡ after_sending self.old now (next_sending self.old now) }
-    {
-        match self.unsent.pop_front() {
-            Some(frame) => Some(frame),
-            None => self.due(now),
-        }
-    }
-
-    /// Nothing waits.
-    #[tactic(auto, using(crate::proofs::Sendings::due_frame_is, crate::proofs::Sendings::due_next_is))]
-    fn due(&mut self, now: u64) -> Option<Ldata>
-        requires { self.old.unsent ≡ [] }
-        ensures frame { result ≡ sending_frame self.old (next_sending self.old now) }
-        ensures next { self.new ≡ after_sending self.old now (next_sending self.old now) }
-    {
-        let partner = self.connection.partner();
-        match self.connection.expire(now) {
-            DeviceExpired::Nothing => None,
-            DeviceExpired::Repeat(tpdu) | DeviceExpired::Closed(tpdu) => {
-                Some(frame_to(self.address, partner?, tpdu))
-            }
-        }
-    }
-
-    /// It closes its connection by T_Disconnect, where one is open. At `Err` nothing has changed.
-    pub fn shut(&mut self, _alloc: Global) -> Result<(), NoMemory>
-        ensures next { OnOk result (self.new ≡ shut self.old) }
-        ensures err { OnErr result (self.new ≡ self.old) }
-    {
-        let Some(partner) = self.connection.partner() else {
-            return Ok(());
-        };
-        self.unsent
-            .push_back(frame_to(self.address, partner, encode(&Tpdu::Disconnect)))?;
-        self.connection = DeviceConn::idle();
-        Ok(())
-    }
-}
-
-/// What of a connection is due at this time.
-fn due_sending(connection: &DeviceConn, now: u64) -> Option<Sending>
-    ensures { result ≡ due_sending (device_expired connection.now now) }
-{
-    match connection.would_expire(now) {
-        DeviceExpired::Nothing => None,
-        DeviceExpired::Repeat(_) => Some(Sending::Repeat),
-        DeviceExpired::Closed(_) => Some(Sending::Closing),
     }
 }
 

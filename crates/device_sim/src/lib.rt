@@ -4,6 +4,7 @@
 #![tactic(auto)]
 
 mod answer;
+mod brought;
 mod device;
 mod effect;
 mod frames;
@@ -16,9 +17,11 @@ mod running;
 mod sending;
 mod service;
 mod telegram;
+mod turns;
 mod values;
 mod worn;
 
+pub use brought::Brought;
 pub use device::Device;
 pub use knx_model::{
     ApduOctets, FrameSupport, Image, IndAddr, Ldata, NoMemory, Octets, Sending, Took, Value,

@@ -1,4 +1,8 @@
 pub mod Gateways
 pub mod Tunnels
+pub mod Parts
 pub mod Places
+pub mod Group
+pub mod Due
 pub mod Line
+pub mod Allowed

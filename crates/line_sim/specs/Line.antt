@@ -1,16 +1,15 @@
 -- The line as it is held: the tunnel, the devices, and the bus's last frame where a device sent it; and of which worlds it is a picture.
-use Rattle.std.specs.Prelude.{◌≡◌, ℕ, Bool, not, ◌||◌, Option, Some, None}
-use Rattle.knx_model.specs.declared.device.Sending.{Sending}
+use Rattle.std.specs.Prelude.{◌≡◌, ℕ, Bool, false, not, ◌||◌, Option, Some, None}
 use Rattle.knx_model.specs.declared.device.WriteKind.{WriteKind}
 use Rattle.knx_model.specs.declared.frames.cemi.Ldata.{Ldata}
 use Rattle.knx_model.specs.declared.frames.cemi.LdataCode.TheVariants.{Con}
 use Rattle.knx_model.specs.ApduReading.{option_map}
 use Rattle.knx_model.specs.Device.{Effect, Nothing}
 use Rattle.knx_model.specs.DeviceState.{DeviceState}
-use Rattle.knx_model.specs.DeviceSending.{first_frame, next_sending}
-use Rattle.line_model.specs.Counts.{write_of}
+use Rattle.knx_model.specs.DeviceSending.{first_frame}
+use Rattle.line_model.specs.Counts.{takes_alone, write_of}
 use Rattle.line_model.specs.Deliveries.{effect_at}
-use Rattle.line_model.specs.World.{World, on_bus}
+use Rattle.line_model.specs.World.{World, frame_by, on_bus}
 use Rattle.line_sim.specs.Places.{DevicesNow, AreDevices, device_at}
 use Rattle.line_sim.specs.Tunnels.{TunnelNow, IsTunnel}
 
@@ -44,11 +43,24 @@ write_due n = write_at n.devices (frame_due n)
 abbrev pub effect_due : LineNow → Effect
 effect_due n = effect_on n.devices (frame_due n)
 
--- a frame's confirmation, where the device that it is for took it or not
-abbrev pub confirmed : Ldata → Bool → Ldata
-confirmed frame taken = record frame { code = Con; error = not (frame.group || taken) }
+-- the same of a world
+abbrev pub write_in : World → Option Ldata → Option WriteKind
+write_in w None = None
+write_in w (Some frame) = write_of (w.devices frame.destination) (Some frame)
 
--- what a device sends next
-abbrev pub sending_at : Option DeviceState → ℕ → Option Sending
-sending_at None now = None
-sending_at (Some d) now = next_sending d now
+abbrev pub effect_in : World → Option Ldata → Effect
+effect_in w None = Nothing
+effect_in w (Some frame) = effect_at (w.devices frame.destination) frame
+
+-- the device that a frame is for takes it, and it is for this one alone
+abbrev pub taken_in : World → Option Ldata → Bool
+taken_in w None = false
+taken_in w (Some frame) = takes_alone (w.devices frame.destination) (Some frame)
+
+-- the frame that a device got last
+abbrev pub last_at : World → ℕ → Option Ldata
+last_at w device = frame_by (λ d. d.last) (w.devices device)
+
+-- a frame's confirmation, where it is to a group or the device that it is for took it, or not
+abbrev pub confirmed : Ldata → Bool → Ldata
+confirmed frame is_confirmed = record frame { code = Con; error = not is_confirmed }

@@ -6,8 +6,8 @@ use Rattle.line_model.specs.Network.{Sent}
 use Rattle.line_model.specs.Reading.{datagram_in}
 use Rattle.line_model.specs.Tunnel.{Tunnel}
 use Rattle.line_model.specs.World.{AtGateway, Comes, IsLost}
-use Rattle.line_sim.specs.declared.tunnel.AtGateway.{AtGateway as HeldAtGateway}
-use Rattle.line_sim.specs.declared.tunnel.AtGateway.TheVariants as held
+use Rattle.line_sim.specs.declared.tunnel.sending.AtGateway.{AtGateway as HeldAtGateway}
+use Rattle.line_sim.specs.declared.tunnel.sending.AtGateway.TheVariants as held
 use Rattle.line_sim.specs.declared.tunnel.Tunnel.{Tunnel as HeldTunnel}
 use Rattle.line_sim.specs.Gateways.{GatewayNow, IsGateway, gateway_now}
 use Rattle.network_sim.specs.Window.{Window, window_of}
@@ -37,7 +37,7 @@ pub record IsTunnel (n : TunnelNow) (t : Tunnel) : Type 0 where
   pub gateway : IsGateway n.gateway t.gateway
 
 abbrev pub greatest_endpoint : ℕ
-greatest_endpoint = 2 ^ 32 - 1
+greatest_endpoint = 2 ^ 64 - 1
 
 -- ---- what arrives: an endpoint and a frame
 

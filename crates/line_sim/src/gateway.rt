@@ -10,7 +10,7 @@ ghost use Rattle.knx_model.specs.DeviceSending.{first_frame};
 ghost use Rattle.line_model.specs.Tunnel.{carried, heard};
 ghost use Rattle.line_model.specs.World.{on_bus};
 ghost use Rattle.line_model.specs.LinkStory.{capped};
-ghost use Rattle.line_sim.specs.Gateways.{IsGateway, CanCount, gateway_now, and_one, is_another, is_left, makes_one, dropped_if, joined, put_letter, put_gateway, told_letter, farewell_letter};
+ghost use Rattle.line_sim.specs.Gateways.{IsGateway, CanCount, gateway_now, and_one, is_another, due_of, is_left, makes_one, dropped_if, joined, put_letter, put_gateway, told_letter, farewell_letter};
 
 use crate::frames::{asked_for, octets_of, on_bus};
 use knx_model::{Datagram, IndAddr, IpFrame, Ldata, NoMemory};
@@ -40,7 +40,7 @@ pub enum Expired {
 /// What the gateway sends: octets, to an endpoint.
 #[derive(Drop)]
 pub struct Letter {
-    pub to: u32,
+    pub to: u64,
     pub octets: Datagram,
 }
 
@@ -74,7 +74,7 @@ impl Gateway {
     /// A frame of an endpoint comes; what is answered. At `Err` nothing has changed.
     pub fn take(
         &mut self,
-        from: u32,
+        from: u64,
         frame: &IpFrame,
         now: u64,
     ) -> Result<Option<Datagram>, NoMemory>
@@ -126,6 +126,17 @@ impl Gateway {
         }
     }
 
+    /// What has become due, which isn't done.
+    pub fn due(&self, now: u64) -> Due
+        ensures { (g : Known) → IsGateway (gateway_now self.now) g → result ≡ due_of (gateway_expired g now) }
+    {
+        match self.end.would_expire(now) {
+            GatewayExpired::Nothing => Due::Nothing,
+            GatewayExpired::Repeat(_) => Due::Repeat,
+            GatewayExpired::Closed(_) => Due::Closed,
+        }
+    }
+
     /// Closes the channel, and what waits for the bus and for the client is dropped; None exactly where there was no channel.
     pub fn shut(&mut self) -> Option<Letter>
         ensures next { (g : Known) → IsGateway (gateway_now self.old) g → IsGateway (gateway_now self.new) (closed g) }
@@ -165,7 +176,7 @@ impl Gateway {
 }
 
 /// Whether a channel's client is another one afterwards, or there is no channel any more.
-fn is_left(before: Option<u32>, after: Option<u32>) -> bool
+fn is_left(before: Option<u64>, after: Option<u64>) -> bool
     ensures { result ≡ is_left before after }
 {
     match (before, after) {
@@ -176,7 +187,7 @@ fn is_left(before: Option<u32>, after: Option<u32>) -> bool
 }
 
 /// Whether an endpoint isn't the client's.
-fn is_another(client: Option<u32>, from: u32) -> bool
+fn is_another(client: Option<u64>, from: u64) -> bool
     ensures { result ≡ is_another client from }
 {
     match client {
@@ -186,7 +197,7 @@ fn is_another(client: Option<u32>, from: u32) -> bool
 }
 
 /// Whether it is a connect request of an endpoint that isn't the open channel's.
-fn is_new_client(frame: &IpFrame, client: Option<u32>, from: u32) -> bool
+fn is_new_client(frame: &IpFrame, client: Option<u64>, from: u64) -> bool
     ensures { result ≡ makes_one frame.now client from }
 {
     match frame {

@@ -6,14 +6,19 @@
 mod devices;
 mod frames;
 mod gateway;
+mod laws;
 mod line;
+mod parts;
 #[cfg(test)]
 mod tests;
 mod tunnel;
 
 pub use device_sim::Device;
-pub use devices::{Came, Devices};
+pub use devices::Devices;
 pub use gateway::Due;
 pub use knx_model::{Datagram, IndAddr, Ldata, NoMemory, Sending, WriteKind};
+pub use laws::{
+    counts_stay_below_the_number_of_events, what_is_allowed_may_happen, what_is_due_is_allowed,
+};
 pub use line::Line;
 pub use tunnel::AtGateway;

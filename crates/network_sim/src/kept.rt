@@ -41,7 +41,7 @@ pub enum Fate {
 #[derive(Drop)]
 pub struct Sending {
     octets: Datagram,
-    endpoint: u32,
+    endpoint: u64,
     made: u64,
     fate: Fate,
 }
@@ -58,7 +58,7 @@ impl Model for Sending {
 
 impl Sending {
     /// A datagram that is sent now.
-    pub(crate) fn new(octets: &[u8], endpoint: u32, made: u64) -> Sending
+    pub(crate) fn new(octets: &[u8], endpoint: u64, made: u64) -> Sending
         ensures { result ≡ new_datagram (readable octets.now) endpoint made }
     {
         Sending {
@@ -78,7 +78,7 @@ impl Sending {
     }
 
     /// The endpoint of the client that it comes from or goes to.
-    pub fn endpoint(&self) -> u32
+    pub fn endpoint(&self) -> u64
         ensures { result ≡ self.now.endpoint }
     {
         self.endpoint

@@ -6,5 +6,5 @@ pub enum Reach {
     /// All of them: at the gateway, or at clients that are each at their own endpoint.
     Every,
     /// Those to this endpoint alone, since the client has left its others.
-    To(u32),
+    To(u64),
 }

@@ -58,7 +58,7 @@ impl Sendings {
 
     /// A datagram is sent from an endpoint or to it, when the gateway has made so many channels. Of more than 300 octets those of the frame
     /// that they are read as are kept.
-    pub fn push(&mut self, octets: &[u8], endpoint: u32, made: u64)
+    pub fn push(&mut self, octets: &[u8], endpoint: u64, made: u64)
         ensures value { self.new ≡ sent_too (new_datagram (readable octets.now) endpoint made) self.old }
         ensures simulates { (sent : List Sent) → window_of sent ≡ self.old → window_of (new_datagram octets.now endpoint made ∷ sent) ≡ self.new }
     {

@@ -6,9 +6,9 @@ use std::test::Fail;
 
 const FIRST: [u8; 2] = [0x06, 0x10];
 
-const CLIENT: u32 = 7;
+const CLIENT: u64 = 7;
 
-const LEFT: u32 = 6;
+const LEFT: u64 = 6;
 
 /// What becomes of the first datagram, before the others are sent.
 #[derive(Clone, Copy, Drop)]
@@ -23,7 +23,7 @@ enum First {
 /// seen: the number of the one that is delivered next, and whether the first may be delivered once more.
 #[derive(Clone, Copy, Drop)]
 struct Row {
-    to: u32,
+    to: u64,
     first: First,
     others: u32,
     made: u64,

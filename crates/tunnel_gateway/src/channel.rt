@@ -17,7 +17,7 @@ use std::marker::Model;
 /// request that is outstanding or else of the next one, that request, and when a datagram of the client came last.
 #[derive(Drop)]
 pub struct Channel {
-    endpoint: u32,
+    endpoint: u64,
     number: u8,
     expected: u8,
     own: u8,
@@ -38,7 +38,7 @@ impl Model for Channel {
 
 impl Channel {
     /// A new channel: both its counters are 0.
-    pub fn new(endpoint: u32, number: u8, now: u64) -> Channel
+    pub fn new(endpoint: u64, number: u8, now: u64) -> Channel
         requires { IsChannelNumber number }
         ensures { result ≡ new_channel endpoint number now }
     {
@@ -53,7 +53,7 @@ impl Channel {
     }
 
     /// The endpoint of its client.
-    pub fn endpoint(&self) -> u32
+    pub fn endpoint(&self) -> u64
         ensures { result ≡ self.now.endpoint }
     {
         self.endpoint
@@ -68,14 +68,14 @@ impl Channel {
     }
 
     /// Whether it is this endpoint's and has this number.
-    pub fn is(&self, endpoint: u32, number: u8) -> bool
+    pub fn is(&self, endpoint: u64, number: u8) -> bool
         ensures { result ≡ names endpoint number (Some self.now) }
     {
         self.endpoint == endpoint && self.number == number
     }
 
     /// A datagram of an endpoint came: its client's begins its wait anew.
-    pub fn hear(&mut self, endpoint: u32, now: u64)
+    pub fn hear(&mut self, endpoint: u64, now: u64)
         ensures { Some self.new ≡ hears (Some self.old) endpoint now }
     {
         if self.endpoint == endpoint {

@@ -7,9 +7,9 @@ use crate::{Datagram, GatewayEnd, GatewayExpired, GatewayTook, IndAddr, IpFrame,
 
 const TUNNEL: IndAddr = IndAddr { raw: 0x11FF };
 
-const CLIENT: u32 = 7;
+const CLIENT: u64 = 7;
 
-const OTHER: u32 = 8;
+const OTHER: u64 = 8;
 
 /// T_Connect to 1.1.5, as L_Data.req.
 const CEMI: [u8; 10] = [0x11, 0x00, 0xBC, 0x60, 0x00, 0x00, 0x11, 0x05, 0x00, 0x80];
@@ -152,7 +152,7 @@ fn state_of(mut end: GatewayEnd) -> At {
 
 #[test]
 fn each_state_takes_each_frame(rt: HostRuntime) {
-    let rows: [(At, u32, IpFrame, GatewayTook, At); 30] = [
+    let rows: [(At, u64, IpFrame, GatewayTook, At); 30] = [
         (Closed, CLIENT, connect(), connected(1), Idle),
         (Closed, CLIENT, state(1), nothing(), Closed),
         (Closed, CLIENT, disconnect(1), left(1, 0x21), Closed),
@@ -274,7 +274,7 @@ fn a_channel_is_shut_by_a_disconnect_request(rt: HostRuntime) {
 #[test]
 fn channels_are_numbered_from_1_to_255_and_from_1_again(rt: HostRuntime) {
     let mut end = GatewayEnd::new(TUNNEL);
-    for place in 0..256_u32 {
+    for place in 0..256_u64 {
         let number = (1 + place % 255) as u8;
         let took = end.take(place, &connect(), 0);
         assert_eq!(rt; took, connected(number), "at {place}");

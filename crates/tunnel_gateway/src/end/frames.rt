@@ -16,7 +16,7 @@ use line_model::GatewayTook;
 
 impl GatewayEnd {
     /// A datagram of an endpoint came.
-    pub(super) fn hear(&mut self, from: u32, now: u64)
+    pub(super) fn hear(&mut self, from: u64, now: u64)
         ensures channel { self.new ≡ record self.old { channel = hears self.old.channel from now } }
         ensures next { IsChannelNumber self.new.next }
     {
@@ -27,7 +27,7 @@ impl GatewayEnd {
     }
 
     /// What a frame does, once its datagram was heard.
-    pub(super) fn act(&mut self, from: u32, frame: &IpFrame, now: u64) -> GatewayTook
+    pub(super) fn act(&mut self, from: u64, frame: &IpFrame, now: u64) -> GatewayTook
         requires { IsChannelNumber self.old.next }
         ensures { TookAs (took (gateway_of self.old) from now frame.now) result self.new }
     {
@@ -51,7 +51,7 @@ impl GatewayEnd {
         }
     }
 
-    fn connect(&mut self, from: u32, now: u64) -> GatewayTook
+    fn connect(&mut self, from: u64, now: u64) -> GatewayTook
         ensures { TookAs (connects (gateway_of self.old) from now self.old.channel) result self.new }
     {
         match &self.channel {
@@ -63,7 +63,7 @@ impl GatewayEnd {
     }
 
     /// Opens the next channel, whatever was open.
-    fn open(&mut self, from: u32, now: u64) -> GatewayTook
+    fn open(&mut self, from: u64, now: u64) -> GatewayTook
         ensures { TookAs (connects (gateway_of self.old) from now None) result self.new }
     {
         let number = self.next;
@@ -72,7 +72,7 @@ impl GatewayEnd {
         answered(connect_response(number, self.tunnel))
     }
 
-    fn state_request(&self, from: u32, number: u8) -> GatewayTook
+    fn state_request(&self, from: u64, number: u8) -> GatewayTook
         ensures { (now : ℕ) → TookAs (took (gateway_of self.now) from now (StateRequest number)) result self.now }
     {
         match &self.channel {
@@ -81,7 +81,7 @@ impl GatewayEnd {
         }
     }
 
-    fn disconnect(&mut self, from: u32, number: u8) -> GatewayTook
+    fn disconnect(&mut self, from: u64, number: u8) -> GatewayTook
         ensures { (now : ℕ) → TookAs (took (gateway_of self.old) from now (DisconnectRequest number)) result self.new }
     {
         if self.has(from, number) {
@@ -92,7 +92,7 @@ impl GatewayEnd {
         }
     }
 
-    fn request(&mut self, from: u32, channel: u8, number: u8, cemi: &Datagram) -> GatewayTook
+    fn request(&mut self, from: u64, channel: u8, number: u8, cemi: &Datagram) -> GatewayTook
         ensures { (now : ℕ) → TookAs (took (gateway_of self.old) from now (TunnellingRequest channel number cemi.now)) result self.new }
     {
         match &mut self.channel {
@@ -101,7 +101,7 @@ impl GatewayEnd {
         }
     }
 
-    fn ack(&mut self, from: u32, channel: u8, number: u8, status: u8) -> GatewayTook
+    fn ack(&mut self, from: u64, channel: u8, number: u8, status: u8) -> GatewayTook
         ensures { (now : ℕ) → TookAs (took (gateway_of self.old) from now (TunnellingAck channel number status)) result self.new }
     {
         match &mut self.channel {
@@ -112,7 +112,7 @@ impl GatewayEnd {
     }
 
     /// Whether the open channel is this endpoint's and has this number.
-    fn has(&self, from: u32, number: u8) -> bool
+    fn has(&self, from: u64, number: u8) -> bool
         ensures { result ≡ names from number self.now.channel }
     {
         match &self.channel {

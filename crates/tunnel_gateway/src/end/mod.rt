@@ -73,7 +73,7 @@ impl GatewayEnd {
     }
 
     /// The endpoint of the channel's client; None exactly where there is no channel.
-    pub fn endpoint(&self) -> Option<u32>
+    pub fn endpoint(&self) -> Option<u64>
         ensures { result ≡ endpoint_of self.now.channel }
     {
         let channel = self.channel.as_ref()?;
@@ -81,7 +81,7 @@ impl GatewayEnd {
     }
 
     /// Takes a frame of an endpoint. It isn't looked at whether a wait has passed.
-    pub fn take(&mut self, from: u32, frame: &IpFrame, now: u64) -> GatewayTook
+    pub fn take(&mut self, from: u64, frame: &IpFrame, now: u64) -> GatewayTook
         ensures answer { result ≡ told (end_took self.old from now frame.now) }
         ensures next { self.new ≡ end_of (end_took self.old from now frame.now).after }
         ensures simulates { (g : Gateway) → end_of g ≡ self.old → TookAs (gateway_took g from now frame.now) result self.new }
@@ -128,8 +128,9 @@ impl GatewayEnd {
 
     /// What `expire` would answer at this time; nothing changes.
     #[tactic(auto, unfolding(line_model::specs::Gateway::gateway_expired))]
-    fn would_expire(&self, now: u64) -> GatewayExpired
-        ensures { result ≡ told_due (gateway_expired (gateway_of self.now) now) }
+    pub fn would_expire(&self, now: u64) -> GatewayExpired
+        ensures value { result ≡ told_due (gateway_expired (gateway_of self.now) now) }
+        ensures simulates { (g : Gateway) → end_of g ≡ self.now → result ≡ told_due (gateway_expired g now) }
     {
         match &self.channel {
             Some(channel) => channel.would_expire(now),

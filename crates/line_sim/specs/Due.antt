@@ -1,0 +1,34 @@
+-- The nearest of the times at which the waits of a line have passed (ISO/IEC 14543-3-2, transport layer, and ISO 22510, Tunnelling).
+use Rattle.std.specs.Prelude.{◌≡◌, ℕ, ◌≤◌, min, [], Option, Some, None}
+use Rattle.knx_model.specs.DeviceConnection.{device_deadline}
+use Rattle.knx_model.specs.DeviceState.{DeviceState}
+use Rattle.line_model.specs.Fresh.{HasNothingToSend}
+use Rattle.line_model.specs.Tunnel.{made}
+use Rattle.line_model.specs.World.{World, now}
+use Rattle.network_sim.specs.declared.place.Reach.{Reach}
+use Rattle.network_sim.specs.declared.place.Reach.TheVariants.{Every}
+use Rattle.network_sim.specs.Arriving.{AllOver}
+
+-- the time at which the connection of a device has something due
+abbrev pub deadline_at : Option DeviceState → Option ℕ
+deadline_at None = None
+deadline_at (Some d) = device_deadline d.connection
+
+-- the least of the times that are named by numbers; None where none is
+pub record IsNearest (times : ℕ → Option ℕ) (nearest : Option ℕ) : Type 0 where
+  pub never : nearest ≡ None → (a : ℕ) → times a ≡ None
+  pub least : (end : ℕ) → nearest ≡ Some end → (a t : ℕ) → times a ≡ Some t → end ≤ t
+  pub named : (end : ℕ) → nearest ≡ Some end → (a : ℕ) × (times a ≡ Some end)
+
+-- the nearer of two times
+abbrev pub nearer : Option ℕ → Option ℕ → Option ℕ
+nearer None other = other
+nearer (Some one) None = Some one
+nearer (Some one) (Some other) = Some (min one other)
+
+-- nothing but time can go on, where datagrams down arrive so
+pub record IsSettledWithin (reach : Reach) (w : World) : Type 0 where
+  pub up : AllOver Every (made w.tunnel) w.tunnel.network.up
+  pub down : AllOver reach (made w.tunnel) w.tunnel.network.down
+  pub bus : w.tunnel.gateway.bus ≡ []
+  pub nothing_to_send : HasNothingToSend w (now w)
