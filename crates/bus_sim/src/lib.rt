@@ -3,12 +3,15 @@
 #![tactic(auto)]
 
 mod beginning;
+mod called;
 mod client;
 mod counts;
+mod deliver;
 mod events;
 mod happened;
 mod limits;
 mod owed;
+mod room;
 mod run;
 
 pub use beginning::Beginning;
