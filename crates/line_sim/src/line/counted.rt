@@ -10,7 +10,7 @@ ghost use Rattle.line_model.specs.Tunnel.{Mode, Commissions, Serves};
 ghost use Rattle.line_model.specs.World.{World, Up, Down};
 ghost use Rattle.line_sim.specs.Allowed.{Allows};
 ghost use Rattle.line_sim.specs.Line.{IsNow, last_at};
-ghost use Rattle.network_sim.specs.Window.{IsAlikeToScripts, IsDeliverable, age_while_kept, window_of};
+ghost use Rattle.network_sim.specs.Window.{CanTell, IsAlikeToScripts, IsDeliverable, age_while_kept, window_of};
 ghost use Rattle.network_sim.specs.Arriving.{MayCome, passes};
 
 use super::Line;
@@ -36,23 +36,23 @@ impl Line {
     }
 
     /// The age of the client's datagram of a number, where fewer than 128 younger ones were sent.
-    pub fn age_up(&self, number: u32) -> Option<usize>
-        ensures { (w : World) → IsNow self.now w → result ≡ age_while_kept w.tunnel.network.up number }
+    pub fn age_up(&self, number: u64) -> Option<usize>
+        ensures { (w : World) → IsNow self.now w → CanTell number w.tunnel.network.up → result ≡ age_while_kept w.tunnel.network.up number }
     {
         self.tunnel.up.age_of(number)
     }
 
     /// The age of the gateway's datagram of a number, where fewer than 128 younger ones were sent.
-    pub fn age_down(&self, number: u32) -> Option<usize>
-        ensures { (w : World) → IsNow self.now w → result ≡ age_while_kept w.tunnel.network.down number }
+    pub fn age_down(&self, number: u64) -> Option<usize>
+        ensures { (w : World) → IsNow self.now w → CanTell number w.tunnel.network.down → result ≡ age_while_kept w.tunnel.network.down number }
     {
         self.tunnel.down.age_of(number)
     }
 
     /// The age of the client's datagram of a number, where it was delivered once and may come to the gateway once more.
-    pub fn again_up(&self, number: u32) -> Option<usize>
-        ensures possible { (w : World) → IsNow self.now w → is_some result ≡ passes_again (goes_up w) w.tunnel.network.up number }
-        ensures age { IfSome result (λ age. (w : World) → IsNow self.now w → age ≡ age_of w.tunnel.network.up number) }
+    pub fn again_up(&self, number: u64) -> Option<usize>
+        ensures possible { (w : World) → IsNow self.now w → CanTell number w.tunnel.network.up → is_some result ≡ passes_again (goes_up w) w.tunnel.network.up number }
+        ensures age { IfSome result (λ age. (w : World) → IsNow self.now w → CanTell number w.tunnel.network.up → age ≡ age_of w.tunnel.network.up number) }
         ensures deliverable { IfSome result (λ age. OfSent IsDeliverable (slice_get self.now.tunnel.up.kept age)) }
         ensures allowed { IfSome result (λ age. (mode : Mode) → Allows mode self.now (Up age)) }
     {
@@ -65,9 +65,9 @@ impl Line {
     }
 
     /// The age of the gateway's datagram of a number, where it was delivered once and the client may get it once more at its present endpoint.
-    pub fn again_down(&self, number: u32) -> Option<usize>
-        ensures possible { (w : World) → IsNow self.now w → is_some result ≡ passes_again (goes_down Commissions w) w.tunnel.network.down number }
-        ensures age { IfSome result (λ age. (w : World) → IsNow self.now w → age ≡ age_of w.tunnel.network.down number) }
+    pub fn again_down(&self, number: u64) -> Option<usize>
+        ensures possible { (w : World) → IsNow self.now w → CanTell number w.tunnel.network.down → is_some result ≡ passes_again (goes_down Commissions w) w.tunnel.network.down number }
+        ensures age { IfSome result (λ age. (w : World) → IsNow self.now w → CanTell number w.tunnel.network.down → age ≡ age_of w.tunnel.network.down number) }
         ensures deliverable { IfSome result (λ age. OfSent IsDeliverable (slice_get self.now.tunnel.down.kept age)) }
         ensures allowed { IfSome result (λ age. Allows Commissions self.now (Down age)) }
     {
@@ -80,9 +80,9 @@ impl Line {
     }
 
     /// The age of the datagram of a number of a serving gateway, where it was delivered once and may go once more.
-    pub fn again_served(&self, number: u32) -> Option<usize>
-        ensures possible { (w : World) → IsNow self.now w → is_some result ≡ passes_again (goes_down Serves w) w.tunnel.network.down number }
-        ensures age { IfSome result (λ age. (w : World) → IsNow self.now w → age ≡ age_of w.tunnel.network.down number) }
+    pub fn again_served(&self, number: u64) -> Option<usize>
+        ensures possible { (w : World) → IsNow self.now w → CanTell number w.tunnel.network.down → is_some result ≡ passes_again (goes_down Serves w) w.tunnel.network.down number }
+        ensures age { IfSome result (λ age. (w : World) → IsNow self.now w → CanTell number w.tunnel.network.down → age ≡ age_of w.tunnel.network.down number) }
         ensures deliverable { IfSome result (λ age. OfSent IsDeliverable (slice_get self.now.tunnel.down.kept age)) }
         ensures allowed { IfSome result (λ age. Allows Serves self.now (Down age)) }
     {
@@ -115,9 +115,9 @@ impl Line {
 }
 
 /// The age of the datagram of a number, where it was delivered once and may be delivered once more.
-fn again(sent: &Sendings, number: u32, reach: Reach, made: u64) -> Option<usize>
-    ensures possible { (all : List Sent) → window_of all ≡ sent.now → is_some result ≡ passes_again (passes reach made) all number }
-    ensures age { IfSome result (λ age. (all : List Sent) → window_of all ≡ sent.now → age ≡ age_of all number) }
+fn again(sent: &Sendings, number: u64, reach: Reach, made: u64) -> Option<usize>
+    ensures possible { (all : List Sent) → window_of all ≡ sent.now → CanTell number all → is_some result ≡ passes_again (passes reach made) all number }
+    ensures age { IfSome result (λ age. (all : List Sent) → window_of all ≡ sent.now → CanTell number all → age ≡ age_of all number) }
     ensures deliverable { IfSome result (λ age. OfSent IsDeliverable (slice_get sent.now.kept age)) }
     ensures comes { IfSome result (λ age. MayCome reach made sent.now.kept age) }
 {
