@@ -67,6 +67,13 @@ impl Sendings {
         self.waiting = KEPT.min(self.waiting + 1);
     }
 
+    /// How many were sent in all; the greatest number of 64 bits where there were more.
+    pub fn count(&self) -> u64
+        ensures { result ≡ self.now.count }
+    {
+        self.count
+    }
+
     /// The datagram of an age, where it is kept.
     pub fn get(&self, age: usize) -> Option<&Sending>
         ensures value { option_copied result ≡ slice_get self.now.kept age }

@@ -1,15 +1,18 @@
 //! Datagrams by their numbers, as a script counts them: how many each side sent is kept as a number of 64 bits, and of the datagrams
 //! themselves the youngest 128.
 
-ghost use Rattle.std.specs.Prelude.{◌≡◌, ◌^◌, ◌<◌, IfSome, List, is_some, length, slice_get};
+ghost use Rattle.std.specs.Prelude.{◌≡◌, ◌^◌, ◌<◌, ◌↔◌, IfSome, IsTrue, List, is_some, length, slice_get};
 ghost use Rattle.line_model.specs.Counts.{age_of, number_at, takes_alone, write_of};
 ghost use Rattle.line_model.specs.Deliveries.{goes_up, goes_down};
+ghost use Rattle.line_model.specs.LinkStory.{capped};
 ghost use Rattle.line_model.specs.Network.{OfSent, Sent, oldest_age};
 ghost use Rattle.line_model.specs.Owed.{passes_again};
-ghost use Rattle.line_model.specs.Tunnel.{Mode, Commissions, Serves};
+ghost use Rattle.line_model.specs.Tunnel.{IsOpen, Mode, Commissions, Serves};
 ghost use Rattle.line_model.specs.World.{World, Up, Down};
 ghost use Rattle.line_sim.specs.Allowed.{Allows};
-ghost use Rattle.line_sim.specs.Line.{IsNow, last_at};
+ghost use Rattle.line_sim.specs.Gateways.{CanCount, greatest_count};
+ghost use Rattle.line_sim.specs.Line.{AreCounted, IsNow, last_at};
+ghost use Rattle.line_sim.specs.Tunnels.{greatest_endpoint};
 ghost use Rattle.network_sim.specs.Window.{CanTell, IsAlikeToScripts, IsDeliverable, age_while_kept, window_of};
 ghost use Rattle.network_sim.specs.Arriving.{MayCome, passes};
 
@@ -18,6 +21,52 @@ use knx_model::WriteKind;
 use network_sim::{Reach, Sendings};
 
 impl Line {
+    /// The time, in milliseconds.
+    pub fn now(&self) -> u64
+        ensures value { result ≡ self.now.tunnel.now }
+        ensures simulates { (w : World) → IsNow self.now w → result ≡ w.tunnel.now }
+    {
+        self.tunnel.time
+    }
+
+    /// Whether a channel is open.
+    pub fn has_channel(&self) -> bool
+        ensures value { IsTrue result ↔ IsOpen self.now.tunnel.gateway.end.channel }
+        ensures simulates { (w : World) → IsNow self.now w → (IsTrue result ↔ IsOpen w.tunnel.gateway.channel) }
+    {
+        self.tunnel.gateway.end.endpoint().is_some()
+    }
+
+    /// How many channels the gateway made.
+    pub fn made(&self) -> u64
+        ensures { result ≡ self.now.tunnel.gateway.made }
+    {
+        self.tunnel.gateway.made
+    }
+
+    /// How many requests it acted on; the greatest number of 64 bits where there were more.
+    pub fn acted(&self) -> u64
+        ensures value { result ≡ self.now.tunnel.gateway.acted }
+        ensures simulates { (w : World) → IsNow self.now w → result ≡ capped (length w.tunnel.gateway.acted) }
+    {
+        self.tunnel.gateway.acted
+    }
+
+    /// Whether all counts are below the greatest number of 64 bits: then they are exact, and what one event more brings can be counted.
+    pub fn can_count(&self) -> bool
+        ensures renews { IsTrue result → self.now.tunnel.present < greatest_endpoint }
+        ensures channels { IsTrue result → CanCount self.now.tunnel.gateway }
+        ensures exact { IsTrue result → (w : World) → IsNow self.now w → AreCounted w }
+        ensures where_few { self.now.tunnel.present < greatest_endpoint → self.now.tunnel.gateway.made < greatest_count → self.now.tunnel.up.count < greatest_count
+            → self.now.tunnel.down.count < greatest_count → self.now.tunnel.gateway.acted < greatest_count → IsTrue result }
+    {
+        self.tunnel.present < u64::MAX
+            && self.tunnel.gateway.made < u64::MAX
+            && self.tunnel.gateway.acted < u64::MAX
+            && self.tunnel.up.count() < u64::MAX
+            && self.tunnel.down.count() < u64::MAX
+    }
+
     /// The number of the client's datagram of an age. A script can't tell it from the number of the definitions, and where fewer than 2^64
     /// were sent it is that number.
     pub fn number_up(&self, age: usize) -> u64
@@ -110,7 +159,7 @@ impl Line {
     pub fn would_write_again(&self, device: u16) -> Option<WriteKind>
         ensures { (w : World) → IsNow self.now w → result ≡ write_of (w.devices device) (last_at w device) }
     {
-        self.devices.get(device)?.would_write(&self.last(device)?)
+        self.devices.would_write(device, &self.last(device)?)
     }
 }
 
