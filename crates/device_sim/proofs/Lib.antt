@@ -1,3 +1,4 @@
+pub mod Fronts
 pub mod Memory
 pub mod Answers
 pub mod Answered

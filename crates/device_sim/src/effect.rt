@@ -1,10 +1,12 @@
 //! What a service does to a device.
 
-ghost use Rattle.std.specs.Prelude.{◌≡◌, IfOk};
-ghost use Rattle.knx_model.specs.Device.{is_load_control, load_asked, object_of_index, effect_of, written_front};
+ghost use Rattle.std.specs.Prelude.{◌≡◌, ℕ, IfOk, take};
+ghost use Rattle.knx_model.specs.Device.{is_load_control, load_asked, object_of_index, effect_of, front_of_load, written_front};
+ghost use Rattle.knx_model.specs.DeviceFrames.{AreOctets, worn_octets};
 ghost use Rattle.device_sim.specs.Effects.{meant};
 
 use crate::places::object_of_index;
+use crate::worn::complements;
 use knx_model::{
     Apdu, ApduOctets, LOAD_CONTROL, LoadEvent, LoadableObject, NoMemory, Octets, front,
 };
@@ -71,4 +73,46 @@ pub fn front_of(alloc: Global, effect: &Effect, k: u32) -> Result<Octets, NoMemo
         }
         _ => Ok(Octets::new(alloc)),
     }
+}
+
+/// The octets that worn memory keeps of an effect: of a memory write the complement of each.
+pub fn worn_octets(effect: &Effect) -> ApduOctets
+    ensures { result ≡ worn_octets (meant effect.now) }
+{
+    match effect {
+        Effect::Stores { octets, .. } => complements(octets.as_slice()),
+        Effect::Loads(_, _) | Effect::Nothing => ApduOctets::new(),
+    }
+}
+
+/// What an effect writes are octets: of a memory write those that are sent, of an allocation its fill.
+#[tactic(auto, using(crate::proofs::Fronts::front_octets, crate::proofs::Fronts::filled_octets))]
+pub fn writes_octets(effect: &Effect)
+    ensures { (k : ℕ) → AreOctets (written_front (meant effect.now) k) }
+{
+    match effect {
+        Effect::Loads(_, event) => fills_octets(event),
+        Effect::Stores { octets, .. } => are_octets(octets.as_slice()),
+        Effect::Nothing => {}
+    }
+}
+
+/// The fill of an allocation is an octet.
+#[tactic(auto, using(crate::proofs::Fronts::filled_octets))]
+fn fills_octets(event: &LoadEvent)
+    ensures { (k : ℕ) → AreOctets (front_of_load event.now k) }
+{
+    match event {
+        LoadEvent::Allocate { fill, .. } => {
+            let _fill = *fill;
+        }
+        _ => {}
+    }
+}
+
+/// The items of a slice of octets are octets.
+fn are_octets(octets: &[u8])
+    ensures { (k : ℕ) → AreOctets (take k octets.now) }
+{
+    let _octets = octets;
 }

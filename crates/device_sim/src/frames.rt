@@ -1,22 +1,22 @@
 //! The device on the line: the frames that it takes, and those that it sends.
 
-ghost use Rattle.std.specs.Prelude.{◌≡◌, nat_lt, true, is_some, Some, IfOk, IfSome, OnOk, OnErr, if◌then◌else◌};
+ghost use Rattle.std.specs.Prelude.{◌≡◌, ℕ, nat_lt, true, is_some, Some, IfOk, IfSome, OnOk, OnErr, if◌then◌else◌};
 ghost use Rattle.knx_model.specs.declared.device.WriteKind.{WriteKind as Kind};
 ghost use Rattle.knx_model.specs.Device.{written_front};
 ghost use Rattle.knx_model.specs.Connection.{IsApdu};
-ghost use Rattle.knx_model.specs.DeviceFrames.{Whole, Torn, Worn, is_too_long, took_of, takes, after_frame, taken_alone, effect_of_frame, would_write, write_kind, worn_octets, taken_group, sender, connection_took, effect_delivered};
+ghost use Rattle.knx_model.specs.DeviceFrames.{AreOctets, Whole, Torn, Worn, is_too_long, took_of, takes, after_frame, taken_alone, effect_of_frame, would_write, write_kind, worn_octets, taken_group, sender, connection_took, effect_delivered};
 ghost use Rattle.device_sim.specs.Sending.{answered_end, answered_frame};
 ghost use Rattle.device_sim.specs.Wear.{outcome};
 ghost use Rattle.device_sim.specs.Effects.{meant};
 
 use crate::device::Device;
-use crate::effect::Effect;
+use crate::effect::{Effect, front_of, worn_octets, writes_octets};
 use crate::given::serve;
 use crate::sending::{frame_to, queue, queue_if};
 use crate::service::effect_in;
 use crate::worn::Memory;
 use knx_model::{
-    ApduOctets, FrameSupport, IndAddr, Ldata, NoMemory, Took, WriteKind,
+    ApduOctets, FrameSupport, IndAddr, Ldata, NoMemory, Octets, Took, WriteKind,
 };
 use std::alloc::Global;
 use transport_conn::{DeviceConn, DeviceTook};
@@ -140,14 +140,33 @@ impl Device {
 
     /// The write of the device that `take` of this frame would do now; None exactly where it would do none.
     pub fn would_write(&self, frame: &Ldata) -> Option<WriteKind>
-        ensures { result ≡ would_write self.now frame.now }
+        ensures value { result ≡ would_write self.now frame.now }
+        ensures octets { (k : ℕ) → AreOctets (written_front (effect_of_frame self.now frame.now) k) }
     {
         let effect = self.effect_of_frame(frame);
+        writes_octets(&effect);
         if self.kept.is_write(&effect) {
             write_kind(&effect)
         } else {
             None
         }
+    }
+
+    /// The octets that stand new in memory where power is cut in the write that this frame would be now, after the first `k` ones.
+    pub fn torn_octets(&self, alloc: Global, frame: &Ldata, k: u32) -> Result<Octets, NoMemory>
+        ensures value { IfOk result (λ octets. octets ≡ written_front (effect_of_frame self.now frame.now) k) }
+        ensures range { IfOk result AreOctets }
+    {
+        let effect = self.effect_of_frame(frame);
+        writes_octets(&effect);
+        front_of(alloc, &effect, k)
+    }
+
+    /// The octets that worn memory keeps of the write that this frame would be now.
+    pub fn worn_octets(&self, frame: &Ldata) -> ApduOctets
+        ensures { result ≡ worn_octets (effect_of_frame self.now frame.now) }
+    {
+        worn_octets(&self.effect_of_frame(frame))
     }
 
     /// The frame is taken, and power is cut in the write that it asks for, after the first `k` octets that are written. The

@@ -1,5 +1,6 @@
 pub mod Readings
 pub mod Taking
 pub mod Tunnels
+pub mod Bits
 pub mod Places
 pub mod Lines

@@ -1,5 +1,5 @@
 -- The line as it is held: the tunnel, the devices, and the bus's last frame where a device sent it; and of which worlds it is a picture.
-use Rattle.std.specs.Prelude.{◌≡◌, ℕ, Bool, false, not, ◌||◌, Option, Some, None}
+use Rattle.std.specs.Prelude.{◌≡◌, ℕ, ◌^◌, ◌<◌, Bool, false, not, length, Option, Some, None}
 use Rattle.knx_model.specs.declared.device.WriteKind.{WriteKind}
 use Rattle.knx_model.specs.declared.frames.cemi.Ldata.{Ldata}
 use Rattle.knx_model.specs.declared.frames.cemi.LdataCode.TheVariants.{Con}
@@ -64,3 +64,10 @@ last_at w device = frame_by (λ d. d.last) (w.devices device)
 -- a frame's confirmation, where it is to a group or the device that it is for took it, or not
 abbrev pub confirmed : Ldata → Bool → Ldata
 confirmed frame is_confirmed = record frame { code = Con; error = not is_confirmed }
+
+-- ---- what can be counted with 64 bits
+
+pub record AreCounted (w : World) : Type 0 where
+  pub up : length w.tunnel.network.up < 2 ^ 64
+  pub down : length w.tunnel.network.down < 2 ^ 64
+  pub acted : length w.tunnel.gateway.acted < 2 ^ 64

@@ -1,14 +1,15 @@
 //! The laws of a line as it is held: which events may happen, and that its counts stay small.
 
-ghost use Rattle.std.specs.Prelude.{◌≡◌, ℕ, ◌*◌, ◌≤◌, List, Some, length, nat_lt, is_some, true};
+ghost use Rattle.std.specs.Prelude.{◌≡◌, ℕ, ◌*◌, ◌≤◌, List, None, Some, length, nat_lt, is_some, true};
 ghost use Rattle.knx_model.specs.declared.device.Sending.TheVariants.{Waiting, Repeat, Closing};
 ghost use Rattle.knx_model.specs.declared.device.WriteKind.TheVariants.{Memory};
 ghost use Rattle.knx_model.specs.Device.{written_front};
 ghost use Rattle.knx_model.specs.DeviceFrames.{AreOctets, worn_octets};
-ghost use Rattle.line_model.specs.Fresh.{IsFresh};
+ghost use Rattle.line_model.specs.Fresh.{IsFresh, Settled};
+ghost use Rattle.line_model.specs.Deliveries.{next_down, next_up};
 ghost use Rattle.line_model.specs.Legal.{IsLegal, MayHappen};
 ghost use Rattle.line_model.specs.Tunnel.{Mode, Commissions, made};
-ghost use Rattle.line_model.specs.World.{World, Event, AtGateway, BusTorn, BusWorn, DevSend, DevRepeat, DevClose, GwRepeat, GwClose, now, replay};
+ghost use Rattle.line_model.specs.World.{World, Event, AtGateway, BusTorn, BusWorn, DevSend, DevRepeat, DevClose, GwRepeat, GwClose, next_frame, now, replay};
 ghost use Rattle.line_sim.specs.declared.gateway.Due.TheVariants as due;
 ghost use Rattle.line_sim.specs.Allowed.{Allows};
 ghost use Rattle.line_sim.specs.Gateways.{due_of};
@@ -40,4 +41,10 @@ pub fn counts_stay_below_the_number_of_events()
     ensures requests { (start : World) (events : List Event) → IsFresh start → length (replay start events).tunnel.gateway.acted ≤ length events }
     ensures up { (start : World) (events : List Event) → IsFresh start → length (replay start events).tunnel.network.up ≤ length events }
     ensures down { (start : World) (events : List Event) → IsFresh start → length (replay start events).tunnel.network.down ≤ 2 * length events }
+{}
+
+/// Where no datagram goes next, no frame waits for the bus, and neither a device nor the gateway has something to send, a world is settled.
+pub fn what_is_settled()
+    ensures { (mode : Mode) (w : World) → next_up w ≡ None → next_down mode w ≡ None → next_frame w ≡ None → ((device : ℕ) → sending_at (w.devices device) (now w) ≡ None)
+        → due_of (gateway_expired w.tunnel.gateway (now w)) ≡ due.Nothing → Settled mode w }
 {}

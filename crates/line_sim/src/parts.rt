@@ -1,6 +1,6 @@
 //! A set of device parts, as bits: what an individual address names on its line has eight bits.
 
-ghost use Rattle.std.specs.Prelude.{◌≡◌, ◌≢◌, ℕ, ◌+◌, ◌<◌, ◌≤◌, false, true, IfNone, IfSome, length};
+ghost use Rattle.std.specs.Prelude.{◌≡◌, ◌≢◌, ℕ, ◌+◌, ◌*◌, ◌<◌, ◌≤◌, false, true, IfNone, IfSome, if◌then◌else◌};
 ghost use Rattle.std.specs.Int.{bit_at};
 ghost use Rattle.line_sim.specs.Parts.{has_part};
 
@@ -62,7 +62,8 @@ impl Parts {
 
 /// Where the bits of a word begin that stand for a device part or those behind it.
 fn start_in(word: usize, from: usize) -> usize
-    requires { from < 64 * (word + 1) }
+    requires word { word < 4 }
+    requires from { from < 64 * (word + 1) }
     ensures within { result < 64 }
     ensures after { from ≤ 64 * word + result }
     ensures before { (bit : ℕ) → from ≤ 64 * word + bit → result ≤ bit }

@@ -10,17 +10,18 @@ use Rattle.line_model.specs.Network.{Sent}
 use Rattle.network_sim.specs.declared.place.Reach.{Reach}
 use Rattle.network_sim.specs.declared.place.Reach.TheVariants.{Every, To}
 use Rattle.network_sim.specs.Arriving.{passes}
-use Rattle.network_sim.specs.Window.{Window, window_of, kept_of, kept_age, age_while_kept}
+use Rattle.network_sim.specs.Window.{Window, CanTell, window_of, kept_of, kept_age, age_while_kept}
 use Rattle.network_sim.proofs.Windows.{got_kept}
 
 -- two ages that are one, or of which neither is kept
 abbrev pub AreAlike : ℕ → ℕ → Type 0
 AreAlike a b = (a ≡ b) ⊎ ((128 ≤ a) × (128 ≤ b))
 
-alike : (total number : ℕ) → number < 2 ^ 32 → AreAlike (capped total - number) (total - number)
-alike total number small = elim (cases_lt total (2 ^ 64)) [ inl some ↦ inl (omega arith) | inr many ↦ inr (omega arith, omega arith) ]
+alike : (total number : ℕ) → (number < 2 ^ 32) ⊎ (total < 2 ^ 64) → AreAlike (capped total - number) (total - number)
+alike total number (inr few) = inl (omega (arith, few))
+alike total number (inl small) = elim (cases_lt total (2 ^ 64)) [ inl some ↦ inl (omega arith) | inr many ↦ inr (omega arith, omega arith) ]
 
-pub ages_alike : (sent : List Sent) (w : Window) (number : ℕ) → window_of sent ≡ w → number < 2 ^ 32 → AreAlike (w.count - number) (age_of sent number)
+pub ages_alike : (sent : List Sent) (w : Window) (number : ℕ) → window_of sent ≡ w → CanTell number sent → AreAlike (w.count - number) (age_of sent number)
 ages_alike sent w number same small =
     let P : ℕ → Type 0 = λ n. AreAlike (n - number) (age_of sent number) in
     subst P (ap (λ (x : Window). x.count) same) (alike (length sent) number small)
@@ -37,7 +38,7 @@ one_age a b n (inr old) few = below a n (omega (arith, old.0)) ∙ sym (below b 
 pub as_many_kept : (sent : List Sent) (w : Window) → window_of sent ≡ w → length w.kept ≡ min 128 (length sent)
 as_many_kept sent w same = ap (λ (x : Window). length x.kept) (sym same) ∙ length-map (take 128 sent) kept_of ∙ length-take 128 sent
 
-pub age_kept : (sent : List Sent) (w : Window) (number : ℕ) → window_of sent ≡ w → number < 2 ^ 32 → kept_age w number ≡ age_while_kept sent number
+pub age_kept : (sent : List Sent) (w : Window) (number : ℕ) → window_of sent ≡ w → CanTell number sent → kept_age w number ≡ age_while_kept sent number
 age_kept sent w number same small =
     ap (λ (n : ℕ). if nat_lt (w.count - number) n then Some (w.count - number) else None) (as_many_kept sent w same)
     ∙ one_age (w.count - number) (age_of sent number) (min 128 (length sent)) (ages_alike sent w number same small) (omega arith)
@@ -66,6 +67,6 @@ one_again : (reach : Reach) (made : ℕ) (sent : List Sent) (w : Window) (a b : 
 one_again reach made sent w a b same (inl e) = again_young reach made sent w a same ∙ ap (λ (n : ℕ). goes_again (passes reach made) n (slice_get sent n)) e
 one_again reach made sent w a b same (inr old) = never_old reach made a (slice_get w.kept a) old.0 ∙ sym (never_old reach made b (slice_get sent b) old.1)
 
-pub goes_again_kept : (reach : Reach) (made : ℕ) (sent : List Sent) (w : Window) (number : ℕ) → window_of sent ≡ w → number < 2 ^ 32
+pub goes_again_kept : (reach : Reach) (made : ℕ) (sent : List Sent) (w : Window) (number : ℕ) → window_of sent ≡ w → CanTell number sent
     → goes_again (passes reach made) (w.count - number) (slice_get w.kept (w.count - number)) ≡ passes_again (passes reach made) sent number
 goes_again_kept reach made sent w number same small = one_again reach made sent w (w.count - number) (age_of sent number) same (ages_alike sent w number same small)

@@ -1,6 +1,6 @@
 -- What is kept of all datagrams that one sender sent (UDP over IPv4): how many there are, and the youngest 128, since none arrives once 128
 -- younger ones were sent. Of each its octets are kept so far as it is read. What is kept is said of each whole list that it is of.
-use Rattle.std.specs.Prelude.{◌≡◌, ℕ, suc, ◌-◌, ◌^◌, ◌<◌, Bool, false, not, ◌&&◌, ◌==◌, nat_lt, List, ◌∷◌, map, take, length, min, if◌then◌else◌, Option, Some, None}
+use Rattle.std.specs.Prelude.{◌≡◌, ℕ, suc, ◌-◌, ◌^◌, ◌<◌, ◌⊎◌, Bool, false, not, ◌&&◌, ◌==◌, nat_lt, List, ◌∷◌, map, take, length, min, if◌then◌else◌, Option, Some, None}
 use Rattle.line_model.specs.Counts.{age_of}
 use Rattle.line_model.specs.LinkStory.{capped}
 use Rattle.line_model.specs.Network.{Sent, oldest_age, most_deliveries, changed_at}
@@ -39,6 +39,10 @@ age_while_kept sent number = if nat_lt (age_of sent number) (min oldest_age (len
 -- a script counts with numbers of 32 bits: none of them tells the two apart
 abbrev pub IsAlikeToScripts : ℕ → ℕ → Type 0
 IsAlikeToScripts told number = (n : ℕ) → n < 2 ^ 32 → (n == told) ≡ (n == number)
+
+-- a number as a script has it, or any one where as many were sent as can be counted
+abbrev pub CanTell : ℕ → List Sent → Type 0
+CanTell number sent = (number < 2 ^ 32) ⊎ (length sent < 2 ^ 64)
 
 -- ---- what a datagram has before it
 

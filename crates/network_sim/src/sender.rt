@@ -7,7 +7,7 @@ ghost use Rattle.line_model.specs.Network.{Sent, OfSent, new_datagram, once_more
 ghost use Rattle.line_model.specs.Owed.{goes_again, passes_again};
 ghost use Rattle.network_sim.specs.Arriving.{passes, AllOver};
 ghost use Rattle.network_sim.specs.Readable.{readable};
-ghost use Rattle.network_sim.specs.Window.{IsDeliverable, IsAlikeToScripts, window_of, sent_too, changed_there, kept_age, age_while_kept, kept_of};
+ghost use Rattle.network_sim.specs.Window.{IsDeliverable, IsAlikeToScripts, CanTell, window_of, sent_too, changed_there, kept_age, age_while_kept, kept_of};
 
 use crate::changes::{deliver_at, lose_at};
 use crate::kept::Sending;
@@ -67,6 +67,13 @@ impl Sendings {
         self.waiting = KEPT.min(self.waiting + 1);
     }
 
+    /// How many were sent in all; the greatest number of 64 bits where there were more.
+    pub fn count(&self) -> u64
+        ensures { result ≡ self.now.count }
+    {
+        self.count
+    }
+
     /// The datagram of an age, where it is kept.
     pub fn get(&self, age: usize) -> Option<&Sending>
         ensures value { option_copied result ≡ slice_get self.now.kept age }
@@ -103,24 +110,24 @@ impl Sendings {
     }
 
     /// The age of the datagram of a number, where it is kept.
-    pub fn age_of(&self, number: u32) -> Option<usize>
+    pub fn age_of(&self, number: u64) -> Option<usize>
         ensures value { result ≡ kept_age self.now number }
-        ensures simulates { (sent : List Sent) → window_of sent ≡ self.now → result ≡ age_while_kept sent number }
+        ensures simulates { (sent : List Sent) → window_of sent ≡ self.now → CanTell number sent → result ≡ age_while_kept sent number }
     {
         kept_age(self.count, self.kept.len(), number)
     }
 
     /// Whether the datagram of a number was delivered once and may be delivered once more.
-    pub fn may_go_again(&self, number: u32, reach: Reach, made: u64) -> bool
+    pub fn may_go_again(&self, number: u64, reach: Reach, made: u64) -> bool
         ensures value { result ≡ goes_again (passes reach made) (self.now.count - number) (slice_get self.now.kept (self.now.count - number)) }
-        ensures simulates { (sent : List Sent) → window_of sent ≡ self.now → result ≡ passes_again (passes reach made) sent number }
+        ensures simulates { (sent : List Sent) → window_of sent ≡ self.now → CanTell number sent → result ≡ passes_again (passes reach made) sent number }
         ensures deliverable { IsTrue result → OfSent IsDeliverable (slice_get self.now.kept (self.now.count - number)) }
     {
         self.goes_again(number, reach, made)
     }
 
     /// The same, of what is kept.
-    fn goes_again(&self, number: u32, reach: Reach, made: u64) -> bool
+    fn goes_again(&self, number: u64, reach: Reach, made: u64) -> bool
         ensures value { result ≡ goes_again (passes reach made) (self.now.count - number) (slice_get self.now.kept (self.now.count - number)) }
         ensures deliverable { IsTrue result → OfSent IsDeliverable (slice_get self.now.kept (self.now.count - number)) }
         ensures few { length self.now.kept ≤ 128 }
@@ -152,10 +159,10 @@ impl Sendings {
 }
 
 /// The age of the datagram of a number, where so many were sent and so many are kept.
-fn kept_age(count: u64, kept: usize, number: u32) -> Option<usize>
+fn kept_age(count: u64, kept: usize, number: u64) -> Option<usize>
     ensures { result ≡ (if nat_lt (count - number) kept then Some (count - number) else None) }
 {
-    let age = count.saturating_sub(u64::from(number));
+    let age = count.saturating_sub(number);
     if age < kept as u64 {
         Some(age as usize)
     } else {

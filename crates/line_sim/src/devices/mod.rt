@@ -1,7 +1,7 @@
 //! The devices of one line, in 256 places by the device part of their address (ISO/IEC 14543-3-4).
 
 ghost use Rattle.std.specs.Prelude.{◌≡◌, ◌≢◌, ℕ, ◌<◌, ◌==◌, Some, None, IfOk, OnOk, OnErr, false, option_copied, if◌then◌else◌};
-ghost use Rattle.knx_model.specs.DeviceState.{cut, switched_on};
+ghost use Rattle.knx_model.specs.DeviceState.{DeviceState, cut, switched_on};
 ghost use Rattle.knx_model.specs.DeviceSending.{waiting_frame, pops, repeat_frame, repeats, shut};
 ghost use Rattle.device_sim.specs.Sending.{IsQuiet};
 ghost use Rattle.line_model.specs.World.{Devices as Known, changed, frame_by};
@@ -87,6 +87,13 @@ impl Devices {
         ensures { option_copied result ≡ device_at self.now address }
     {
         self.places[self.place(address)?].as_ref()
+    }
+
+    /// Each device has the address at which it is, for a caller to know. It does nothing.
+    pub fn names(&self)
+        ensures { (address : ℕ) (d : DeviceState) → device_at self.now address ≡ Some d → d.address.raw ≡ address }
+    {
+        let _places = &self.places;
     }
 
     /// A device loses its power.

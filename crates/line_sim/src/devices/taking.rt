@@ -3,7 +3,7 @@
 ghost use Rattle.std.specs.Prelude.{◌≡◌, [], ◌||◌, IfOk, OnOk, OnErr, Some, false, is_some, nat_lt, option_to_list, true};
 ghost use Rattle.knx_model.specs.declared.device.WriteKind.TheVariants.{Memory};
 ghost use Rattle.knx_model.specs.Device.{written_front};
-ghost use Rattle.knx_model.specs.DeviceFrames.{Torn, Worn, taken_again, worn_octets};
+ghost use Rattle.knx_model.specs.DeviceFrames.{AreOctets, Torn, Worn, taken_again, worn_octets};
 ghost use Rattle.line_model.specs.Counts.{takes_alone, write_of};
 ghost use Rattle.line_model.specs.Deliveries.{effect_at};
 ghost use Rattle.line_model.specs.World.{Devices as Known, changed, one_takes, takes_it};
@@ -11,15 +11,15 @@ ghost use Rattle.line_sim.specs.Places.{AreDevices, ComesTo, device_at, is_taken
 
 use super::{Devices, mark};
 use device_sim::Device;
-use knx_model::{Ldata, NoMemory, Took, WriteKind};
+use knx_model::{ApduOctets, Ldata, NoMemory, Octets, Took, WriteKind};
 use std::alloc::Global;
 
 impl Devices {
     /// The write of the device at an address that this frame would be now.
-    pub fn would_write(&self, frame: &Ldata) -> Option<WriteKind>
-        ensures { result ≡ write_of (device_at self.now frame.now.destination) (Some frame.now) }
+    pub fn would_write(&self, address: u16, frame: &Ldata) -> Option<WriteKind>
+        ensures { result ≡ write_of (device_at self.now address) (Some frame.now) }
     {
-        self.get(frame.destination)?.would_write(frame)
+        self.get(address)?.would_write(frame)
     }
 
     /// Whether a frame is for one device alone, and the device at an address would take it.
@@ -29,6 +29,28 @@ impl Devices {
         match self.get(address) {
             Some(device) => !frame.group && matches!(device.took(frame), Took::Taken),
             None => false,
+        }
+    }
+
+    /// The octets that stand new in memory where power is cut in the write that a frame would be now at the device that it is for, after the
+    /// first `k` ones.
+    pub fn torn_octets(&self, alloc: Global, frame: &Ldata, k: u32) -> Result<Octets, NoMemory>
+        ensures value { IfOk result (λ octets. octets ≡ written_front (effect_at (device_at self.now frame.now.destination) frame.now) k) }
+        ensures range { IfOk result AreOctets }
+    {
+        match self.get(frame.destination) {
+            Some(device) => device.torn_octets(alloc, frame, k),
+            None => Ok(Octets::new(alloc)),
+        }
+    }
+
+    /// The octets that worn memory keeps of the write that a frame would be now at the device that it is for.
+    pub fn worn_octets(&self, frame: &Ldata) -> ApduOctets
+        ensures { result ≡ worn_octets (effect_at (device_at self.now frame.now.destination) frame.now) }
+    {
+        match self.get(frame.destination) {
+            Some(device) => device.worn_octets(frame),
+            None => ApduOctets::new(),
         }
     }
 

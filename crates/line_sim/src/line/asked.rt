@@ -1,23 +1,26 @@
 //! What is asked of a line: what goes next.
 
-ghost use Rattle.std.specs.Prelude.{◌≡◌, ℕ, IfSome, length, option_copied, slice_get};
+ghost use Rattle.std.specs.Prelude.{◌≡◌, ℕ, IfOk, IfSome, Some, is_some, nat_lt, option_copied, slice_get, true};
 ghost use Rattle.knx_model.specs.Device.{written_front};
-ghost use Rattle.knx_model.specs.DeviceFrames.{AreOctets};
+ghost use Rattle.knx_model.specs.declared.device.WriteKind.TheVariants.{Memory};
+ghost use Rattle.knx_model.specs.DeviceState.{DeviceState};
+ghost use Rattle.knx_model.specs.DeviceFrames.{AreOctets, worn_octets};
 ghost use Rattle.line_model.specs.Counts.{is_connect_at};
 ghost use Rattle.line_model.specs.Deliveries.{next_up, next_down};
-ghost use Rattle.line_model.specs.LinkStory.{capped};
 ghost use Rattle.line_model.specs.Network.{OfSent};
 ghost use Rattle.line_model.specs.Tunnel.{Mode, Commissions, Serves};
-ghost use Rattle.line_model.specs.World.{World, Up, Down, next_frame};
+ghost use Rattle.line_model.specs.World.{World, BusTorn, BusWorn, Up, Down, next_frame};
 ghost use Rattle.line_sim.specs.Allowed.{Allows};
-ghost use Rattle.line_sim.specs.Line.{IsNow, effect_due, frame_due, last_at, taken_in, write_due, write_in};
+ghost use Rattle.line_sim.specs.Line.{IsNow, effect_due, effect_in, frame_due, last_at, taken_in, write_due, write_in};
 ghost use Rattle.line_sim.specs.Places.{device_at};
 ghost use Rattle.network_sim.specs.Window.{IsDeliverable};
 
 use super::Line;
+use crate::laws::what_is_due_is_allowed;
 use device_sim::Device;
-use knx_model::{IpFrame, Ldata, WriteKind};
+use knx_model::{ApduOctets, IpFrame, Ldata, NoMemory, Octets, WriteKind};
 use network_sim::{Reach, the_youngest_are_enough};
+use std::alloc::Global;
 
 impl Line {
     // ---- datagrams
@@ -78,9 +81,36 @@ impl Line {
     pub fn would_write(&self) -> Option<WriteKind>
         ensures value { result ≡ write_due self.now }
         ensures simulates { (w : World) → IsNow self.now w → result ≡ write_in w (next_frame w) }
-        ensures octets { (k : ℕ) → AreOctets (written_front (effect_due self.now) k) }
     {
-        self.devices.would_write(&self.frame_due()?)
+        let frame = self.frame_due()?;
+        self.devices.would_write(frame.destination, &frame)
+    }
+
+    /// The octets that stand new in memory where power is cut in this write, after the first `k` ones.
+    pub fn torn_octets(&self, alloc: Global, k: u32) -> Result<Octets, NoMemory>
+        ensures value { IfOk result (λ octets. octets ≡ written_front (effect_due self.now) k) }
+        ensures range { IfOk result AreOctets }
+        ensures simulates { IfOk result (λ octets. (w : World) → IsNow self.now w → octets ≡ written_front (effect_in w (next_frame w)) k) }
+        ensures allowed { IfOk result (λ octets. (mode : Mode) → is_some (write_due self.now) ≡ true → Allows mode self.now (BusTorn (nat_lt 0 k) octets)) }
+    {
+        what_is_due_is_allowed();
+        match self.frame_due() {
+            Some(frame) => self.devices.torn_octets(alloc, &frame, k),
+            None => Ok(Octets::new(alloc)),
+        }
+    }
+
+    /// The octets that worn memory keeps of this write.
+    pub fn worn_octets(&self) -> ApduOctets
+        ensures value { result ≡ worn_octets (effect_due self.now) }
+        ensures simulates { (w : World) → IsNow self.now w → result ≡ worn_octets (effect_in w (next_frame w)) }
+        ensures allowed { (mode : Mode) → write_due self.now ≡ Some Memory → Allows mode self.now (BusWorn result) }
+    {
+        what_is_due_is_allowed();
+        match self.frame_due() {
+            Some(frame) => self.devices.worn_octets(&frame),
+            None => ApduOctets::new(),
+        }
     }
 
     /// Whether this frame is for one device, which would take it.
@@ -100,36 +130,18 @@ impl Line {
         self.devices.get(device)?.last()
     }
 
+    /// Each device has the address at which it is, for a caller to know. It does nothing.
+    pub fn names(&self)
+        ensures { (address : ℕ) (d : DeviceState) → device_at self.now.devices address ≡ Some d → d.address.raw ≡ address }
+    {
+        self.devices.names();
+    }
+
     /// The device at an address.
     pub fn device(&self, address: u16) -> Option<&Device>
         ensures value { option_copied result ≡ device_at self.now.devices address }
         ensures simulates { (w : World) → IsNow self.now w → option_copied result ≡ w.devices address }
     {
         self.devices.get(address)
-    }
-
-    // ---- the time, and what the gateway made and did
-
-    /// The time, in milliseconds.
-    pub fn now(&self) -> u64
-        ensures value { result ≡ self.now.tunnel.now }
-        ensures simulates { (w : World) → IsNow self.now w → result ≡ w.tunnel.now }
-    {
-        self.tunnel.time
-    }
-
-    /// How many channels the gateway made.
-    pub fn made(&self) -> u64
-        ensures { result ≡ self.now.tunnel.gateway.made }
-    {
-        self.tunnel.gateway.made
-    }
-
-    /// How many requests it acted on; the greatest number of 64 bits where there were more.
-    pub fn acted(&self) -> u64
-        ensures value { result ≡ self.now.tunnel.gateway.acted }
-        ensures simulates { (w : World) → IsNow self.now w → result ≡ capped (length w.tunnel.gateway.acted) }
-    {
-        self.tunnel.gateway.acted
     }
 }
