@@ -5,3 +5,7 @@ pub mod Owing
 pub mod RunNow
 pub mod Held
 pub mod Went
+pub mod Choices
+pub mod Turns
+pub mod Polls
+pub mod Loaded

@@ -6,11 +6,15 @@ ghost use Rattle.line_model.specs.Lines.{Script};
 ghost use Rattle.line_model.specs.StartOf.{line_of};
 ghost use Rattle.line_sim.specs.Places.{AreDevices};
 ghost use Rattle.script_index.specs.Stands.{StandsFor};
-ghost use Rattle.bus_sim.specs.Begun.{CanLoad, begins, device_begun};
+ghost use Rattle.knx_model.specs.ScriptText.{first_stranger};
+ghost use Rattle.bus_sim.specs.Begun.{CanLoad, addresses, begins, device_begun};
 
-use knx_model::{GroupService, Image, IndAddr, List, NoMemory, Octets, ScriptLine, ScriptWhat};
+use knx_model::{
+    GroupService, Image, IndAddr, List, NoMemory, Octets, Refused, ScriptLine, ScriptWhat,
+};
 use line_sim::{Device, Devices};
 use script_index::ScriptIndex;
+use script_text::first_stranger;
 use std::alloc::Global;
 
 /// The tunnel's address, the devices on its line, each with the image that it is loaded with or none where it is blank, and the lines of the
@@ -39,6 +43,14 @@ impl Beginning {
         })
     }
 
+    /// The refusal of the first line of the script that names a device which isn't listed; none where each named device is listed.
+    pub fn stranger(&self, alloc: Global) -> Result<Option<Refused>, NoMemory>
+        ensures { IfOk result (λ refused. refused ≡ first_stranger (addresses self.now.devices) self.now.script) }
+    {
+        let listed = addresses_of(alloc, self.devices.as_slice())?;
+        Ok(first_stranger(listed.as_slice(), self.script.as_slice()))
+    }
+
     /// The devices of the line as they begin.
     pub fn begin(&self, alloc: Global, index: &ScriptIndex) -> Result<Devices, NoMemory>
         requires { CanLoad self.now.tunnel self.now.devices }
@@ -47,6 +59,17 @@ impl Beginning {
     {
         begin_all(alloc, self.tunnel, self.devices.as_slice(), index)
     }
+}
+
+/// The addresses that are listed.
+fn addresses_of(alloc: Global, devices: &[(IndAddr, Option<Image>)]) -> Result<List<IndAddr>, NoMemory>
+    ensures { IfOk result (λ made. made ≡ addresses devices.now) }
+{
+    let mut made = List::new(alloc);
+    for (address, _image) in devices {
+        made.push(*address)?;
+    }
+    Ok(made)
 }
 
 /// The devices that are listed, as they begin. The last one is put first, so that of two with one address the first is there.

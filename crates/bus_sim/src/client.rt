@@ -15,7 +15,7 @@ impl Run {
         ensures went { OnOk result (Went self.old (Send octets.now) self.new) }
         ensures err { OnErr result (Stays self.old self.new) }
     {
-        make_room(self.alloc, &mut self.events, &mut self.owed, octets.len())?;
+        make_room(self.alloc, &mut self.events, &mut self.owed, &self.line, octets.len())?;
         self.line.send(octets);
         self.owed.wait(&self.line);
         self.events.push(Happened::Send(octets.len() as u64), octets);
@@ -27,7 +27,7 @@ impl Run {
         ensures went { OnOk result (Went self.old Renew self.new) }
         ensures err { OnErr result (Stays self.old self.new) }
     {
-        make_room(self.alloc, &mut self.events, &mut self.owed, 0)?;
+        make_room(self.alloc, &mut self.events, &mut self.owed, &self.line, 0)?;
         self.line.renew();
         self.owed.wait(&self.line);
         self.events.push(Happened::Renew, &[]);

@@ -32,7 +32,7 @@ impl Run {
         ensures got { IfOk result (λ octets. OfSent (λ s. s.octets ≡ octets) (slice_get (world self.old).tunnel.network.down age)) }
         ensures err { OnErr result (Stays self.old self.new) }
     {
-        make_room(self.alloc, &mut self.events, &mut self.owed, 0)?;
+        make_room(self.alloc, &mut self.events, &mut self.owed, &self.line, 0)?;
         let first = reaches_again(&self.index, self.line.number_down(age));
         let octets = self.line.down(age);
         let caused = Caused { first, ..NOTHING };
@@ -47,7 +47,7 @@ impl Run {
         ensures went { OnOk result (Went self.old (LoseDown age) self.new) }
         ensures err { OnErr result (Stays self.old self.new) }
     {
-        make_room(self.alloc, &mut self.events, &mut self.owed, 0)?;
+        make_room(self.alloc, &mut self.events, &mut self.owed, &self.line, 0)?;
         self.line.lose_down(age);
         self.owed.meet(NOTHING, &self.line);
         self.events.push(Happened::LoseDown(age as u64), &[]);
@@ -89,7 +89,7 @@ impl Run {
         ensures went { OnOk result (Went self.old (Up age) self.new) }
         ensures err { OnErr result (Stays self.old self.new) }
     {
-        make_room(self.alloc, &mut self.events, &mut self.owed, 0)?;
+        make_room(self.alloc, &mut self.events, &mut self.owed, &self.line, 0)?;
         let first = comes_again(&self.index, self.line.number_up(age));
         let connects = self.line.is_connect(age);
         let before = self.line.acted();
@@ -113,7 +113,7 @@ impl Run {
         ensures went { OnOk result (Went self.old (UpRefused age status) self.new) }
         ensures err { OnErr result (Stays self.old self.new) }
     {
-        make_room(self.alloc, &mut self.events, &mut self.owed, 1)?;
+        make_room(self.alloc, &mut self.events, &mut self.owed, &self.line, 1)?;
         let first = comes_again(&self.index, self.line.number_up(age));
         self.line.up_refused(age, status);
         self.counts.connect_if(true);
@@ -129,7 +129,7 @@ impl Run {
         ensures went { OnOk result (Went self.old (LoseUp age) self.new) }
         ensures err { OnErr result (Stays self.old self.new) }
     {
-        make_room(self.alloc, &mut self.events, &mut self.owed, 0)?;
+        make_room(self.alloc, &mut self.events, &mut self.owed, &self.line, 0)?;
         self.line.lose_up(age);
         self.owed.meet(NOTHING, &self.line);
         self.events.push(Happened::LoseUp(age as u64), &[]);

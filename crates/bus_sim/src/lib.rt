@@ -3,7 +3,9 @@
 #![tactic(auto)]
 
 mod beginning;
+mod bus;
 mod called;
+mod carry;
 mod client;
 mod counts;
 mod deliver;
@@ -11,8 +13,15 @@ mod events;
 mod happened;
 mod limits;
 mod owed;
+mod poll;
 mod room;
 mod run;
+mod sends;
+#[cfg(test)]
+mod tests;
+mod turn;
 
-pub use beginning::Beginning;
-pub use run::Run;
+pub use bus::SimBus;
+pub use line_model::{Link, LinkFault, Polled};
+pub use line_sim::{Device, IndAddr, NoMemory};
+pub use script_text::{Refused, Script};

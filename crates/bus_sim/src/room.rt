@@ -6,6 +6,7 @@ use crate::events::Events;
 use crate::limits::past_all_memory;
 use crate::owed::Owing;
 use knx_model::NoMemory;
+use line_sim::Line;
 use std::alloc::Global;
 
 /// A run has fewer events than this.
@@ -16,6 +17,7 @@ pub fn make_room(
     alloc: Global,
     events: &mut Events,
     owed: &mut Owing,
+    line: &Line,
     octets: usize,
 ) -> Result<(), NoMemory>
     ensures events { events.new.list ≡ events.old.list }
@@ -23,9 +25,12 @@ pub fn make_room(
     ensures room { OnOk result (1 ≤ events.new.room) }
     ensures octets_room { OnOk result (octets ≤ events.new.octets_room) }
     ensures owed_room { OnOk result (3 ≤ owed.new.room) }
+    ensures renews { OnOk result (line.now.tunnel.present < greatest_endpoint) }
+    ensures channels { OnOk result (CanCount line.now.tunnel.gateway) }
+    ensures exact { OnOk result ((w : World) → IsNow line.now w → AreCounted w) }
     ensures few { OnOk result (length events.old.list + 1 < 2 ^ 62) }
 {
-    if events.len() >= MOST_EVENTS - 1 {
+    if events.len() >= MOST_EVENTS - 1 || !line.can_count() {
         return Err(past_all_memory(alloc));
     }
     events.reserve(octets)?;

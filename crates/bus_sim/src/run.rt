@@ -6,6 +6,7 @@ use crate::beginning::Beginning;
 use crate::counts::Counts;
 use crate::events::Events;
 use crate::owed::Owing;
+use knx_model::NoMemory;
 use line_sim::Line;
 use script_index::ScriptIndex;
 use std::alloc::Global;
@@ -22,4 +23,38 @@ pub struct Run {
     pub counts: Counts,
     pub owed: Owing,
     pub ghost held: { IsHeld (record { begun = begun; events = events.list }) index line counts owed.list },
+}
+
+impl Run {
+    ghost use Rattle.std.specs.Prelude.{◌≡◌, [], IfOk};
+    ghost use Rattle.line_model.specs.Fresh.{IsFresh};
+    ghost use Rattle.bus_sim.specs.Held.{IsLoaded};
+    ghost use Rattle.bus_sim.specs.RunNow.{Keeps};
+    ghost use Rattle.bus_sim.specs.Went.{seen};
+
+    /// A run on which nothing has happened.
+    pub fn begin(alloc: Global, begun: Beginning) -> Result<Run, NoMemory>
+        requires { IsLoaded begun }
+        ensures { IfOk result (λ run. seen run ≡ record { begun = begun; events = [] }) }
+    {
+        let index = ScriptIndex::new(alloc, begun.script.as_slice())?;
+        let line = Line::new(alloc, begun.tunnel, begun.begin(alloc, &index)?)?;
+        let counts = Counts::new(alloc, begun.tunnel)?;
+        Ok(Run {
+            alloc,
+            begun,
+            events: Events::new(alloc),
+            index,
+            line,
+            counts,
+            owed: Owing::new(alloc),
+        })
+    }
+
+    /// What holds of each run, for a caller to know. It does nothing.
+    pub fn keeps(&self)
+        ensures { Keeps (seen self.now) }
+    {
+        let _ = &self.events;
+    }
 }
