@@ -1,2 +1,6 @@
 pub mod Kept
 pub mod Begins
+pub mod Owings
+pub mod Laws
+pub mod Holds
+pub mod Counting
