@@ -132,12 +132,12 @@ counted n start es e address met is size few are = by_line (line_of address == n
 
     -- of an address that isn't the event's nothing is counted
     others : (a : ℕ) → (a == address) ≡ false → counts_of start es a ≡ counts_of start (e ∷ es) a
-    others a no = away (goes_to a w e) (comes_from a w e) (takes_one a w e) (writes_one a w e) (counts_of start es a)
-        (is.to a ∙ ap (λ t. if t then met.to else false) no) (is.from a ∙ ap (λ t. if t then met.from else false) no) (is.taken a ∙ ap (λ t. if t then met.taken else false) no) (is.wrote a ∙ ap (λ t. if t then met.wrote else false) no)
+    others a x = away (goes_to a w e) (comes_from a w e) (takes_one a w e) (writes_one a w e) (counts_of start es a)
+        (is.to a ∙ ap (λ t. if t then met.to else false) x) (is.from a ∙ ap (λ t. if t then met.from else false) x) (is.taken a ∙ ap (λ t. if t then met.taken else false) x) (is.wrote a ∙ ap (λ t. if t then met.wrote else false) x)
 
     own : (a : ℕ) → (a == address) ≡ true → and_met met (counts_of start es a) ≡ counts_of start (e ∷ es) a
-    own a yes = here met (goes_to a w e) (comes_from a w e) (takes_one a w e) (writes_one a w e) (counts_of start es a)
-        (is.to a ∙ ap (λ t. if t then met.to else false) yes) (is.from a ∙ ap (λ t. if t then met.from else false) yes) (is.taken a ∙ ap (λ t. if t then met.taken else false) yes) (is.wrote a ∙ ap (λ t. if t then met.wrote else false) yes)
+    own a y = here met (goes_to a w e) (comes_from a w e) (takes_one a w e) (writes_one a w e) (counts_of start es a)
+        (is.to a ∙ ap (λ t. if t then met.to else false) y) (is.from a ∙ ap (λ t. if t then met.from else false) y) (is.taken a ∙ ap (λ t. if t then met.taken else false) y) (is.wrote a ∙ ap (λ t. if t then met.wrote else false) y)
         (few_to a) (few_from a) (few_taken a) (few_writes a)
 
     connects : n.connects ≡ count connect_reaches start (e ∷ es)
@@ -149,14 +149,14 @@ counted n start es e address met is size few are = by_line (line_of address == n
 
     on_it : line_of address ≡ n.line → (a : ℕ) → line_of a ≡ n.line → counts_in (grown n address met) (a % 256) ≡ counts_of start (e ∷ es) a
     on_it on a too = decide (counts_in (grown n address met) (a % 256) ≡ counts_of start (e ∷ es) a) (a == address)
-        (λ yes.
-            let same : a ≡ address = same_number a address yes in
+        (λ y.
+            let same : a ≡ address = same_number a address y in
             let within : address % 256 < length n.places = subst (λ k. address % 256 < k) (sym size) (part_below address) in
             let before : counts_in n.places (address % 256) ≡ counts_of start es a = ap (λ k. counts_in n.places (k % 256)) (sym same) ∙ sym (at a n too refl) ∙ are.devices a too in
-            ap (λ k. counts_in (grown n address met) (k % 256)) same ∙ get_or-set_same n.places (address % 256) (and_met met (counts_in n.places (address % 256))) none_counted within ∙ ap (and_met met) before ∙ own a yes)
-        (λ no.
-            let parts : a % 256 ≢ address % 256 = two_parts a address n.line too on (other_number a address no) in
-            get_or-set_other n.places (address % 256) (a % 256) (and_met met (counts_in n.places (address % 256))) none_counted parts ∙ sym (at a n too refl) ∙ are.devices a too ∙ others a no)
+            ap (λ k. counts_in (grown n address met) (k % 256)) same ∙ get_or-set_same n.places (address % 256) (and_met met (counts_in n.places (address % 256))) none_counted within ∙ ap (and_met met) before ∙ own a y)
+        (λ x.
+            let parts : a % 256 ≢ address % 256 = two_parts a address n.line too on (other_number a address x) in
+            get_or-set_other n.places (address % 256) (a % 256) (and_met met (counts_in n.places (address % 256))) none_counted parts ∙ sym (at a n too refl) ∙ are.devices a too ∙ others a x)
 
     by_line : (t : Bool) → (line_of address == n.line) ≡ t → AreCounts (added address met n) start (e ∷ es)
     by_line true on = subst (λ (c : CountsNow). AreCounts c start (e ∷ es)) (sym (ap (λ t. if t then record n { places = grown n address met } else n) on)) (record {
@@ -165,8 +165,8 @@ counted n start es e address met is size few are = by_line (line_of address == n
     })
     by_line false off = subst (λ (c : CountsNow). AreCounts c start (e ∷ es)) (sym (ap (λ t. if t then record n { places = grown n address met } else n) off)) (record {
       devices = λ a too. are.devices a too ∙ decide (counts_of start es a ≡ counts_of start (e ∷ es) a) (a == address)
-          (λ yes. absurd (other_number (line_of address) n.line off (ap line_of (sym (same_number a address yes)) ∙ too)))
-          (λ no. others a no);
+          (λ y. absurd (other_number (line_of address) n.line off (ap line_of (sym (same_number a address y)) ∙ too)))
+          (λ x. others a x);
       connects = connects;
     })
 

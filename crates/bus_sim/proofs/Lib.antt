@@ -4,3 +4,9 @@ pub mod Owings
 pub mod Laws
 pub mod Holds
 pub mod Counting
+pub mod Strangers
+pub mod Numbers
+pub mod Calls
+pub mod AtDevices
+pub mod Wants
+pub mod Rights

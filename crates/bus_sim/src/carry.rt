@@ -5,9 +5,11 @@ ghost use Rattle.knx_model.specs.declared.device.WriteKind.TheVariants.{Memory};
 ghost use Rattle.knx_model.specs.Device.{written_front};
 ghost use Rattle.knx_model.specs.DeviceFrames.{worn_octets};
 ghost use Rattle.line_model.specs.World.{Bus, BusTorn, BusWorn, next_frame};
-ghost use Rattle.line_sim.specs.Line.{effect_due, write_due};
+ghost use Rattle.line_model.specs.Deliveries.{worn_if};
+ghost use Rattle.line_sim.specs.Line.{LineNow, effect_due, write_due};
 ghost use Rattle.bus_sim.specs.Went.{Stays, Went, IsRight, world};
-ghost use Rattle.bus_sim.specs.Choices.{carried, carried_so, CanGo};
+ghost use Rattle.line_model.specs.StartOf.{line_of};
+ghost use Rattle.bus_sim.specs.Choices.{carried, carried_so, is_lost_for, written_so, CanGo};
 
 use crate::called::{connection_closes, frame_again};
 use crate::counts::Met;
@@ -63,19 +65,24 @@ impl Run {
     }
 
     /// Whether the next frame for a device alone is lost for it.
-    fn is_lost_for(&self, device: u16) -> bool {
+    fn is_lost_for(&self, device: u16) -> bool
+        ensures { result ≡ is_lost_for self.now device }
+    {
         let n = self.counts.of(device).to.saturating_add(1);
         self.index.loses_to(IndAddr { raw: device }, n)
     }
 
     /// How the next write of a device goes: a cut goes before worn memory.
-    fn written(&self, device: u16, kind: WriteKind) -> Carriage {
+    fn written(&self, device: u16, kind: WriteKind) -> Carriage
+        requires { line_of device ≡ line_of self.now.begun.tunnel.raw }
+        ensures so { carried_so result self.now.line ≡ written_so self.now device kind (effect_due self.now.line) }
+        ensures can { Some kind ≡ write_due self.now.line → CanGo result self.now.line }
+    {
         let n = self.counts.of(device).writes.saturating_add(1);
         let device = IndAddr { raw: device };
-        match (self.index.cuts(device, n), kind) {
-            (Some(k), _) => Carriage::Torn(k),
-            (None, WriteKind::Memory) if self.index.wears(device, n) => Carriage::Worn,
-            (None, _) => Carriage::Whole(None),
+        match self.index.cuts(device, n) {
+            Some(k) => Carriage::Torn(k),
+            None => worn_if(self.index.wears(device, n), kind),
         }
     }
 
@@ -165,6 +172,17 @@ impl Run {
         self.events
             .push(Happened::BusWorn(octets.len() as u64), octets.as_slice());
         Ok(())
+    }
+}
+
+/// A write that isn't cut: worn where it is a memory write and the memory is worn.
+fn worn_if(worn: bool, kind: WriteKind) -> Carriage
+    ensures so { (line : LineNow) → carried_so result line ≡ worn_if worn kind (effect_due line) }
+    ensures can { (line : LineNow) → Some kind ≡ write_due line → CanGo result line }
+{
+    match kind {
+        WriteKind::Memory if worn => Carriage::Worn,
+        _ => Carriage::Whole(None),
     }
 }
 

@@ -1,6 +1,6 @@
 //! How often things happened on the line, as the script counts them.
 
-ghost use Rattle.std.specs.Prelude.{◌≡◌, IfOk, replicate};
+ghost use Rattle.std.specs.Prelude.{◌≡◌, IfOk, length, replicate};
 ghost use Rattle.line_model.specs.StartOf.{line_of};
 ghost use Rattle.bus_sim.specs.Counted.{added, and_if, connected, counts_at, none_counted, nothing_counted};
 
@@ -88,7 +88,9 @@ impl Counts {
 
     /// An event is so much of the device at an address.
     pub fn add(&mut self, address: u16, met: Met)
-        ensures { self.new ≡ added address met self.old }
+        ensures value { self.new ≡ added address met self.old }
+        ensures line { self.new.line ≡ self.old.line }
+        ensures places { length self.old.places ≡ 256 }
     {
         if u16::from(self.line) == address / 256 {
             let place = &mut self.places[(address % 256) as usize];

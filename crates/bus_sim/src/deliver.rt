@@ -76,7 +76,7 @@ impl Run {
         if !self.line.is_connect(age) {
             return Delivery::Taken;
         }
-        match self.index.refuses(self.counts.connects() + 1) {
+        match self.index.refuses(self.counts.connects().saturating_add(1)) {
             Some(status) => Delivery::Refused(status),
             None => Delivery::Taken,
         }

@@ -33,7 +33,7 @@ impl Run {
     fn at_gateway(&self, device: u16) -> AtGateway
         ensures { at_gateway result ≡ heard_so self.now device }
     {
-        let n = self.counts.of(device).from + 1;
+        let n = self.counts.of(device).from.saturating_add(1);
         if self.index.loses_from(IndAddr { raw: device }, n) {
             AtGateway::IsLost
         } else {
@@ -107,7 +107,7 @@ impl Run {
         make_room(self.alloc, &mut self.events, &mut self.owed, &self.line, 0)?;
         let taken = self.line.would_be_taken_again(device);
         let wrote = self.line.would_write_again(device).is_some();
-        let n = self.counts.of(device).taken + 1;
+        let n = self.counts.of(device).taken.saturating_add(1);
         let first = connection_closes(&self.index, device, taken, n);
         self.line.bus_again(self.alloc, device)?;
         let met = Met {
