@@ -9,4 +9,5 @@ pub mod Numbers
 pub mod Calls
 pub mod AtDevices
 pub mod Wants
+pub mod Carried
 pub mod Rights

@@ -1,10 +1,11 @@
 //! The client's frames go over the bus.
 
-ghost use Rattle.std.specs.Prelude.{◌≡◌, [], Some, OnOk, OnErr, is_some, nat_lt, true, option_to_list};
+ghost use Rattle.std.specs.Prelude.{◌≡◌, ℕ, List, Some, OnOk, OnErr, is_some, nat_lt, not, ◌&&◌, true, option_to_list};
 ghost use Rattle.knx_model.specs.declared.device.WriteKind.TheVariants.{Memory};
 ghost use Rattle.knx_model.specs.Device.{written_front};
 ghost use Rattle.knx_model.specs.DeviceFrames.{worn_octets};
-ghost use Rattle.line_model.specs.World.{Bus, BusTorn, BusWorn, next_frame};
+ghost use Rattle.line_model.specs.World.{Bus, BusTorn, BusWorn, is_among, next_frame};
+ghost use Rattle.bus_sim.specs.Kept.{event_of, octets_of};
 ghost use Rattle.line_model.specs.Deliveries.{worn_if};
 ghost use Rattle.line_sim.specs.Line.{LineNow, effect_due, write_due};
 ghost use Rattle.bus_sim.specs.Went.{Stays, Went, IsRight, world};
@@ -94,17 +95,19 @@ impl Run {
         ensures err { OnErr result (Stays self.old self.new) }
     {
         make_room(self.alloc, &mut self.events, &mut self.owed, &self.line, 0)?;
+        self.line.names();
         let device = frame.destination;
-        let alone = !frame.group;
-        let comes = alone && lost != Some(device);
-        let taken = comes && self.line.would_be_taken();
-        let wrote = comes && self.line.would_write().is_some();
+        let comes = comes_to(frame, lost);
+        let taken = both(comes, self.line.would_be_taken());
+        let wrote = both(comes, self.line.would_write().is_some());
         let counts = self.counts.of(device);
-        let first = frame_again(&self.index, device, taken, counts.to.saturating_add(1));
-        let second = connection_closes(&self.index, device, taken, counts.taken.saturating_add(1));
+        let n = counts.to.saturating_add(1);
+        let k = counts.taken.saturating_add(1);
+        let first = frame_again(&self.index, device, taken, n);
+        let second = connection_closes(&self.index, device, taken, k);
         self.line.bus(self.alloc, lost)?;
         let met = Met {
-            to: alone,
+            to: !frame.group,
             from: false,
             taken,
             wrote,
@@ -130,11 +133,14 @@ impl Run {
     {
         let octets = self.line.torn_octets(self.alloc, k)?;
         make_room(self.alloc, &mut self.events, &mut self.owed, &self.line, octets.len())?;
+        self.line.names();
         let device = frame.destination;
         let counts = self.counts.of(device);
+        let n = counts.to.saturating_add(1);
+        let m = counts.taken.saturating_add(1);
         let first = Some(Owed::PowerReturns(device));
-        let second = frame_again(&self.index, device, true, counts.to.saturating_add(1));
-        let third = connection_closes(&self.index, device, true, counts.taken.saturating_add(1));
+        let second = frame_again(&self.index, device, true, n);
+        let third = connection_closes(&self.index, device, true, m);
         self.line.bus_torn(k)?;
         self.counts.add(device, WRITTEN);
         let caused = Caused {
@@ -157,10 +163,13 @@ impl Run {
     {
         let octets = self.line.worn_octets();
         make_room(self.alloc, &mut self.events, &mut self.owed, &self.line, octets.len())?;
+        self.line.names();
         let device = frame.destination;
         let counts = self.counts.of(device);
-        let first = frame_again(&self.index, device, true, counts.to.saturating_add(1));
-        let second = connection_closes(&self.index, device, true, counts.taken.saturating_add(1));
+        let n = counts.to.saturating_add(1);
+        let m = counts.taken.saturating_add(1);
+        let first = frame_again(&self.index, device, true, n);
+        let second = connection_closes(&self.index, device, true, m);
         self.line.bus_worn(self.alloc)?;
         self.counts.add(device, WRITTEN);
         let caused = Caused {
@@ -194,8 +203,24 @@ const WRITTEN: Met = Met {
     wrote: true,
 };
 
+/// Whether the frame is for one device alone and isn't lost for it.
+fn comes_to(frame: &Ldata, lost: Option<u16>) -> bool
+    ensures { result ≡ (not frame.now.group && not (is_among (option_to_list lost) frame.now.destination)) }
+{
+    !frame.group && lost != Some(frame.destination)
+}
+
+fn both(one: bool, other: bool) -> bool
+    ensures { result ≡ (one && other) }
+{
+    one && other
+}
+
 /// A torn write of so many new octets: load state and segment length are new but where none was to be.
-fn torn(k: u32, octets: u64) -> Happened {
+fn torn(k: u32, octets: u64) -> Happened
+    ensures event { (own : List ℕ) → event_of result own ≡ BusTorn (nat_lt 0 k) own }
+    ensures octets { octets_of result ≡ octets }
+{
     if k > 0 {
         Happened::BusTornNew(octets)
     } else {
