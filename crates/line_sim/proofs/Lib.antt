@@ -2,5 +2,8 @@ pub mod Readings
 pub mod Taking
 pub mod Tunnels
 pub mod Bits
+pub mod Coming
+pub mod Nearest
+pub mod Named
 pub mod Places
 pub mod Lines
