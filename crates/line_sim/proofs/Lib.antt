@@ -6,4 +6,5 @@ pub mod Coming
 pub mod Nearest
 pub mod Named
 pub mod Places
+pub mod Deadlines
 pub mod Lines

@@ -17,6 +17,7 @@ use crate::devices::nearer;
 use crate::gateway::Due;
 use knx_model::Sending;
 use network_sim::Reach;
+use tunnel_gateway::deadline_is_nearest;
 
 impl Line {
     /// What a device sends next; None exactly where it has nothing to send, or isn't there.
@@ -44,15 +45,16 @@ impl Line {
     }
 
     /// The nearest time at which a device or the gateway has something to send, where none has now; None where that never comes. Up to that
-    /// time there is nothing to send, and then there is, but for the greatest time, at which waits end that would go on.
+    /// time there is nothing to send, and from then on there is; only at the greatest time, at which waits end that would go on, it isn't said.
     pub fn deadline(&self) -> Option<u64>
         ensures never { IfNone result ((w : World) → IsNow self.now w → HasNothingToSend w (now w) → (at : ℕ) → HasNothingToSend w at) }
         ensures until { IfSome result (λ end. (w : World) → IsNow self.now w → HasNothingToSend w (now w) → (at : ℕ) → at < end → HasNothingToSend w at) }
-        ensures then { IfSome result (λ end. (w : World) → IsNow self.now w → end < last_time → ¬ HasNothingToSend w end) }
+        ensures from_then { IfSome result (λ end. (w : World) → IsNow self.now w → (at : ℕ) → end ≤ at → at < last_time → ¬ HasNothingToSend w at) }
         ensures later { IfSome result (λ end. (w : World) → IsNow self.now w → HasNothingToSend w (now w) → now w < last_time → now w < end) }
         ensures always_settled { IfNone result ((mode : Mode) (w : World) → IsNow self.now w → Settled mode w → (ms : ℕ) → SettledFor mode w ms) }
         ensures settled { IfSome result (λ end. (mode : Mode) (w : World) → IsNow self.now w → Settled mode w → (ms : ℕ) → now w + ms ≤ end → SettledFor mode w ms) }
     {
+        deadline_is_nearest();
         nearer(
             self.devices.deadline(),
             self.tunnel.gateway.end.deadline(),
