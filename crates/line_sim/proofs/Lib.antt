@@ -7,4 +7,5 @@ pub mod Nearest
 pub mod Named
 pub mod Places
 pub mod Deadlines
+pub mod Settling
 pub mod Lines

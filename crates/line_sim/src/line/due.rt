@@ -1,6 +1,6 @@
 //! What is due on a line now, and when something will be.
 
-ghost use Rattle.std.specs.Prelude.{◌≡◌, ℕ, ◌+◌, ◌<◌, ◌≤◌, ◌↔◌, None, Some, IfNone, IfSome, IsTrue};
+ghost use Rattle.std.specs.Prelude.{◌≡◌, ℕ, ◌+◌, ◌&&◌, ◌<◌, ◌≤◌, ◌↔◌, None, Some, IfNone, IfSome, IsTrue};
 ghost use Rattle.knx_model.specs.declared.device.Sending.TheVariants.{Repeat};
 ghost use Rattle.knx_model.specs.Connection.{last_time};
 ghost use Rattle.line_model.specs.Fresh.{HasNothingToSend, Settled, SettledFor};
@@ -79,10 +79,27 @@ impl Line {
     fn is_settled_within(&self, reach: Reach) -> bool
         ensures { (w : World) → IsNow self.now w → (IsTrue result ↔ IsSettledWithin reach w) }
     {
-        self.tunnel.up.is_over(Reach::Every, self.tunnel.gateway.made)
-            && self.tunnel.down.is_over(reach, self.tunnel.gateway.made)
-            && self.tunnel.gateway.bus.is_empty()
-            && self.next_sender().is_none()
-            && matches!(self.gateway_due(), Due::Nothing)
+        let is_over = both(
+            self.tunnel.up.is_over(Reach::Every, self.tunnel.gateway.made),
+            self.tunnel.down.is_over(reach, self.tunnel.gateway.made),
+        );
+        let is_silent = both(self.frame_due().is_none(), self.has_nothing_to_send());
+        both(is_over, is_silent)
     }
+
+    /// Whether neither a device nor the gateway has something to send now.
+    pub fn has_nothing_to_send(&self) -> bool
+        ensures { (w : World) → IsNow self.now w → (IsTrue result ↔ HasNothingToSend w (now w)) }
+    {
+        both(
+            self.next_sender().is_none(),
+            self.gateway_due() == Due::Nothing,
+        )
+    }
+}
+
+fn both(one: bool, other: bool) -> bool
+    ensures { result ≡ (one && other) }
+{
+    one && other
 }
