@@ -8,4 +8,5 @@ pub mod Named
 pub mod Places
 pub mod Deadlines
 pub mod Settling
+pub mod Allowing
 pub mod Lines
