@@ -72,7 +72,7 @@ its_channel : (n : LineNow) (w : World) → IsNow n w → w.tunnel.gateway.chann
 its_channel n w is = ap (λ (e : GatewayEnd). e.channel) is.tunnel.gateway.end
 
 -- whatever the gateway hears it may hear
-hears : (mode : Mode) (t : Tunnel) (at : AtGateway) (o : Option Ldata) → tunnel.MayHappen mode t (heard at o)
+pub hears : (mode : Mode) (t : Tunnel) (at : AtGateway) (o : Option Ldata) → tunnel.MayHappen mode t (heard at o)
 hears Commissions t Comes None = tt
 hears Commissions t Comes (Some frame) = tt
 hears Commissions t IsLost o = tt

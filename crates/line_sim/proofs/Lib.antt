@@ -9,4 +9,6 @@ pub mod Places
 pub mod Deadlines
 pub mod Settling
 pub mod Allowing
+pub mod Ready
+pub mod Going
 pub mod Lines
