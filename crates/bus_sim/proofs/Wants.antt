@@ -13,7 +13,7 @@ use Rattle.line_model.specs.Lines.{cuts, loses_to, refuses, wears}
 use Rattle.line_model.specs.Owed.{Owed}
 use Rattle.line_model.specs.StartOf.{line_of}
 use Rattle.line_model.specs.World.{World, Event, Bus, Up, next_frame, on_bus, replay}
-use Rattle.line_sim.specs.Line.{LineNow, IsNow, effect_due, effect_on, frame_due}
+use Rattle.line_sim.specs.Line.{LineNow, IsNow, effect_due, effect_on, frame_due, write_at, write_due}
 use Rattle.script_index.specs.declared.index.ScriptIndex.{ScriptIndex}
 use Rattle.bus_sim.specs.declared.beginning.Beginning.{Beginning}
 use Rattle.bus_sim.specs.declared.counts.DeviceCounts.{DeviceCounts}
@@ -41,6 +41,9 @@ frame_alike n w is = ap (λ x. option_map (on_bus x) (first_frame n.tunnel.gatew
 
 pub effect_alike : (n : LineNow) (w : World) (frame : Ldata) → IsNow n w → Some frame ≡ next_frame w → effect_due n ≡ effect_at (w.devices frame.destination) frame
 effect_alike n w frame is due = ap (effect_on n.devices) (frame_alike n w is ∙ sym due) ∙ ap (λ (d : Option DeviceState). effect_at d frame) (sym (is.devices frame.destination))
+
+pub write_alike : (n : LineNow) (w : World) (frame : Ldata) → IsNow n w → Some frame ≡ next_frame w → write_due n ≡ write_of (w.devices frame.destination) (Some frame)
+write_alike n w frame is due = ap (write_at n.devices) (frame_alike n w is ∙ sym due) ∙ ap (λ (d : Option DeviceState). write_of d (Some frame)) (sym (is.devices frame.destination))
 
 -- a device that a frame would write is there
 pub writes_there : (o : Option DeviceState) (frame : Ldata) (kind : WriteKind) → Some kind ≡ write_of o (Some frame) → o ≢ None

@@ -2,5 +2,13 @@ pub mod Readings
 pub mod Taking
 pub mod Tunnels
 pub mod Bits
+pub mod Coming
+pub mod Nearest
+pub mod Named
 pub mod Places
+pub mod Deadlines
+pub mod Settling
+pub mod Allowing
+pub mod Ready
+pub mod Going
 pub mod Lines

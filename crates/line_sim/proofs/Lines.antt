@@ -5,13 +5,13 @@ use Rattle.knx_model.specs.declared.frames.cemi.Ldata.{Ldata}
 use Rattle.knx_model.specs.declared.device.WriteKind.{WriteKind}
 use Rattle.knx_model.specs.Device.{Effect, Nothing, is_write, written_front}
 use Rattle.knx_model.specs.DeviceState.{DeviceState}
-use Rattle.knx_model.specs.DeviceFrames.{Whole, Torn, connection_took, effect_delivered, effect_of_frame, is_taken, takes, taken_again, took_of, would_write, write_kind}
+use Rattle.knx_model.specs.DeviceFrames.{Outcome, Whole, Torn, Worn, worn_octets, connection_took, effect_delivered, effect_of_frame, is_taken, takes, taken_again, took_of, would_write, write_kind}
 use Rattle.knx_model.specs.DeviceSending.{pops, waiting_frame, repeat_frame, repeats}
 use Rattle.line_model.specs.Counts.{write_of}
 use Rattle.line_model.specs.Deliveries.{effect_at}
 use Rattle.line_model.specs.Tunnel as tunnel
 use Rattle.line_model.specs.Tunnel.{Tunnel, Carried, Heard, Elsewhere}
-use Rattle.line_model.specs.World.{World, AtGateway, Comes, IsLost, Devices, Bus, BusAgain, BusTorn, DevSend, DevRepeat, all_take, carried, changed, confirmation, frame_by, heard, is_among, next_frame, none_if, one_takes, or_before, others_take, step, takes_it, repeat_at, waiting_at}
+use Rattle.line_model.specs.World.{World, AtGateway, Comes, IsLost, Devices, Bus, BusAgain, BusTorn, BusWorn, DevSend, DevRepeat, all_take, carried, changed, confirmation, frame_by, heard, is_among, next_frame, none_if, one_takes, or_before, others_take, step, takes_it, repeat_at, waiting_at}
 use Rattle.line_sim.specs.Line.{LineNow, IsNow, confirmed, effect_due, effect_on, frame_due, write_at, write_due}
 use Rattle.line_sim.specs.Places.{DevicesNow, AreDevices, ComesTo, device_at, is_taken_by}
 use Rattle.line_sim.specs.Tunnels.{TunnelNow, IsTunnel}
@@ -28,14 +28,12 @@ bus_nothing n m w left_out none is goes devices echo = record {
 }
 
 -- what the confirmation says
-confirms : (n : LineNow) (w : World) (left_out : List ℕ) (frame : Ldata) (taken : Bool) → IsNow n w → taken ≡ is_taken_by n.devices left_out frame → confirmed frame taken ≡ confirmation w left_out frame
-confirms n w left_out frame taken is e =
-    let taken_so : taken ≡ (not (is_among left_out frame.destination) && takes_it frame (w.devices frame.destination))
-    = e ∙ ap (λ (o : Option DeviceState). not (is_among left_out frame.destination) && takes_it frame o) (sym (is.devices frame.destination)) in
-    ap (confirmed frame) taken_so
+confirms : (n : LineNow) (w : World) (left_out : List ℕ) (frame : Ldata) (is_confirmed : Bool) → IsNow n w → is_confirmed ≡ (frame.group || is_taken_by n.devices left_out frame) → confirmed frame is_confirmed ≡ confirmation w left_out frame
+confirms n w left_out frame is_confirmed is e =
+    ap (confirmed frame) (e ∙ ap (λ (o : Option DeviceState). frame.group || (not (is_among left_out frame.destination) && takes_it frame o)) (sym (is.devices frame.destination)))
 
 pub bus_carries : (n m : LineNow) (w : World) (left_out : List ℕ) (frame : Ldata) (taken : Bool) → Some frame ≡ next_frame w → IsNow n w
-    → ((t : Tunnel) → IsTunnel n.tunnel t → IsTunnel m.tunnel (tunnel.step t (Carried (confirmed frame taken)))) → ComesTo n.devices n.tunnel.now left_out frame m.devices → taken ≡ is_taken_by n.devices left_out frame → m.echo ≡ None
+    → ((t : Tunnel) → IsTunnel n.tunnel t → IsTunnel m.tunnel (tunnel.step t (Carried (confirmed frame taken)))) → ComesTo n.devices n.tunnel.now left_out frame m.devices → taken ≡ (frame.group || is_taken_by n.devices left_out frame) → m.echo ≡ None
     → IsNow m (step w (Bus left_out))
 bus_carries n m w left_out frame taken due is goes comes e echo = record {
   tunnel = subst (λ (f : Option Ldata). IsTunnel m.tunnel (tunnel.step w.tunnel (carried w left_out f))) due
@@ -46,30 +44,6 @@ bus_carries n m w left_out frame taken due is goes comes e echo = record {
 }
 
 -- ---- a frame of a device
-
-choose : {X : Type 0} (t : Bool) (x y z : X) → (t ≡ true → x ≡ z) → (t ≡ false → y ≡ z) → (if t then x else y) ≡ z
-choose true x y z this that = this refl
-choose false x y z this that = that refl
-
--- the sender doesn't take its own frame, so that it sends first doesn't matter
-apart : (now device : ℕ) (others : List ℕ) (frame : Ldata) (devices : Devices) (a : ℕ)
-    → changed device pops (all_take now (device ∷ others) (Some frame) devices) a ≡ all_take now (device ∷ others) (Some frame) (changed device pops devices) a
-apart now device others frame devices a = apart_so (a == device) (device == a) refl (turned a device)
-  where
-    turned : (x y : ℕ) → (x == y) ≡ (y == x)
-    turned x y = grind arith
-
-    apart_so : (s t : Bool) → (a == device) ≡ s → s ≡ t → (if s then option_map pops (if t || is_among others a then devices a else option_map (λ d. takes d frame now Whole) (devices a)) else (if t || is_among others a then devices a else option_map (λ d. takes d frame now Whole) (devices a)))
-        ≡ (if t || is_among others a then (if s then option_map pops (devices a) else devices a) else option_map (λ d. takes d frame now Whole) (if s then option_map pops (devices a) else devices a))
-    apart_so true true e same = refl
-    apart_so false false e same = refl
-    apart_so true false e same = cc
-    apart_so false true e same = cc
-
-others_apart : (now device : ℕ) (others : List ℕ) (frame : Ldata) (devices : Devices) (a : ℕ) (g : Bool)
-    → changed device pops (if g then all_take now (device ∷ others) (Some frame) devices else devices) a ≡ (if g then all_take now (device ∷ others) (Some frame) (changed device pops devices) else changed device pops devices) a
-others_apart now device others frame devices a true = apart now device others frame devices a
-others_apart now device others frame devices a false = refl
 
 pub sends_nothing : (n m : LineNow) (w : World) (device : ℕ) (at : AtGateway) (left_out : List ℕ) → None ≡ frame_by waiting_frame (device_at n.devices device) → IsNow n w
     → ((t : Tunnel) → IsTunnel n.tunnel t → IsTunnel m.tunnel (tunnel.step t Elsewhere)) → ((devices : Devices) → AreDevices n.devices devices → AreDevices m.devices (changed device pops devices)) → m.echo ≡ n.echo
@@ -87,17 +61,17 @@ sends_nothing n m w device at left_out none is goes leaves echo =
     elsewhere IsLost = goes w.tunnel is.tunnel
 
 pub sends : (n mid m : LineNow) (w : World) (device : ℕ) (at : AtGateway) (left_out : List ℕ) (frame : Ldata) → Some frame ≡ frame_by waiting_frame (device_at n.devices device) → IsNow n w
-    → ((t : Tunnel) → IsTunnel n.tunnel t → IsTunnel m.tunnel (tunnel.step t (heard at (Some frame)))) → ((devices : Devices) → AreDevices n.devices devices → AreDevices mid.devices (changed device pops devices))
-    → ((devices : Devices) → AreDevices mid.devices devices → AreDevices m.devices (others_take n.tunnel.now (device ∷ left_out) (Some frame) devices)) → m.echo ≡ Some frame
+    → ((t : Tunnel) → IsTunnel n.tunnel t → IsTunnel m.tunnel (tunnel.step t (heard at (Some frame))))
+    → ((devices : Devices) → AreDevices n.devices devices → AreDevices mid.devices (others_take n.tunnel.now (device ∷ left_out) (Some frame) devices))
+    → ((devices : Devices) → AreDevices mid.devices devices → AreDevices m.devices (changed device pops devices)) → m.echo ≡ Some frame
     → IsNow m (step w (DevSend device at left_out))
-sends n mid m w device at left_out frame due is goes leaves comes echo =
+sends n mid m w device at left_out frame due is goes comes leaves echo =
     let here : Some frame ≡ waiting_at w device = due ∙ ap (frame_by waiting_frame) (sym (is.devices device)) in
-    let after : AreDevices m.devices (others_take w.tunnel.now (device ∷ left_out) (Some frame) (changed device pops w.devices))
-    = subst (λ (k : ℕ). AreDevices m.devices (others_take k (device ∷ left_out) (Some frame) (changed device pops w.devices))) (sym is.tunnel.now) (comes (changed device pops w.devices) (leaves w.devices is.devices)) in
+    let others : Devices = others_take w.tunnel.now (device ∷ left_out) (Some frame) w.devices in
+    let came : AreDevices mid.devices others = subst (λ (k : ℕ). AreDevices mid.devices (others_take k (device ∷ left_out) (Some frame) w.devices)) (sym is.tunnel.now) (comes w.devices is.devices) in
     record {
       tunnel = subst (λ (f : Option Ldata). IsTunnel m.tunnel (tunnel.step w.tunnel (heard at f))) here (goes w.tunnel is.tunnel);
-      devices = subst (λ (f : Option Ldata). AreDevices m.devices (changed device pops (others_take w.tunnel.now (device ∷ left_out) f w.devices))) here
-          (λ a. others_apart w.tunnel.now device left_out frame w.devices a frame.group ∙ after a);
+      devices = subst (λ (f : Option Ldata). AreDevices m.devices (changed device pops (others_take w.tunnel.now (device ∷ left_out) f w.devices))) here (leaves others came);
       echo = subst (λ (f : Option Ldata). or_before f w.echo ≡ m.echo) here (sym echo);
     }
 
@@ -170,21 +144,42 @@ or_true false = refl
 of_due : (n : LineNow) (frame : Ldata) (o : Option Ldata) → Some frame ≡ o → is_some (write_at n.devices o) ≡ true → is_some (write_of (device_at n.devices frame.destination) (Some frame)) ≡ true
 of_due n frame o e h = subst (λ (x : Option Ldata). is_some (write_at n.devices x) ≡ true) (sym e) h
 
+-- the device that the frame is for has taken it so
+record TookSo (m : LineNow) (w : World) (outcome : Outcome) : Type 0 where
+  tunnel : IsTunnel m.tunnel (tunnel.step w.tunnel (carried w [] (next_frame w)))
+  devices : AreDevices m.devices (one_takes w.tunnel.now outcome (next_frame w) w.devices)
+  echo : none_if (next_frame w) w.echo ≡ m.echo
+
+took_so : (n m : LineNow) (w : World) (frame : Ldata) (outcome : Effect → Outcome) → Some frame ≡ next_frame w → Some frame ≡ frame_due n → is_some (write_due n) ≡ true → IsNow n w
+    → ((t : Tunnel) → IsTunnel n.tunnel t → IsTunnel m.tunnel (tunnel.step t (Carried (confirmed frame true))))
+    → ((devices : Devices) → AreDevices n.devices devices → AreDevices m.devices (one_takes n.tunnel.now (outcome (effect_at (devices frame.destination) frame)) (Some frame) devices))
+    → m.echo ≡ None → TookSo m w (outcome (effect_due n))
+took_so n m w frame outcome due own write is goes takes echo =
+    let taken : takes_it frame (w.devices frame.destination) ≡ true
+    = ap (takes_it frame) (is.devices frame.destination) ∙ taken_so (device_at n.devices frame.destination) frame (of_due n frame (frame_due n) own write) in
+    let confirms_it : confirmed frame true ≡ confirmation w [] frame = sym (ap (λ (b : Bool). confirmed frame (frame.group || b)) taken ∙ ap (confirmed frame) (or_true frame.group)) in
+    let effect : effect_at (w.devices frame.destination) frame ≡ effect_due n = ap (λ (o : Option DeviceState). effect_at o frame) (is.devices frame.destination) ∙ ap (effect_on n.devices) own in
+    record {
+      tunnel = subst (λ (f : Option Ldata). IsTunnel m.tunnel (tunnel.step w.tunnel (carried w [] f))) due
+          (subst (λ (con : Ldata). IsTunnel m.tunnel (tunnel.step w.tunnel (Carried con))) confirms_it (goes w.tunnel is.tunnel));
+      devices = subst (λ (f : Option Ldata). AreDevices m.devices (one_takes w.tunnel.now (outcome (effect_due n)) f w.devices)) due
+          (subst (λ (x : ℕ). AreDevices m.devices (one_takes x (outcome (effect_due n)) (Some frame) w.devices)) (sym is.tunnel.now)
+          (subst (λ (x : Effect). AreDevices m.devices (one_takes n.tunnel.now (outcome x) (Some frame) w.devices)) effect (takes w.devices is.devices)));
+      echo = subst (λ (f : Option Ldata). none_if f w.echo ≡ m.echo) due (sym echo);
+    }
+
 pub torn : (n m : LineNow) (w : World) (frame : Ldata) (k : ℕ) → Some frame ≡ next_frame w → Some frame ≡ frame_due n → is_some (write_due n) ≡ true → IsNow n w
     → ((t : Tunnel) → IsTunnel n.tunnel t → IsTunnel m.tunnel (tunnel.step t (Carried (confirmed frame true))))
     → ((devices : Devices) → AreDevices n.devices devices → AreDevices m.devices (one_takes n.tunnel.now (Torn (nat_lt 0 k) (written_front (effect_at (devices frame.destination) frame) k)) (Some frame) devices))
     → m.echo ≡ None → IsNow m (step w (BusTorn (nat_lt 0 k) (written_front (effect_due n) k)))
 torn n m w frame k due own write is goes takes echo =
-    let taken : takes_it frame (w.devices frame.destination) ≡ true
-    = ap (takes_it frame) (is.devices frame.destination) ∙ taken_so (device_at n.devices frame.destination) frame (of_due n frame (frame_due n) own write) in
-    let confirms_it : confirmed frame true ≡ confirmation w [] frame = sym (ap (confirmed frame) taken) in
-    let effect : effect_at (w.devices frame.destination) frame ≡ effect_due n = ap (λ (o : Option DeviceState). effect_at o frame) (is.devices frame.destination) ∙ ap (effect_on n.devices) own in
-    let octets : List ℕ = written_front (effect_due n) k in
-    record {
-      tunnel = subst (λ (f : Option Ldata). IsTunnel m.tunnel (tunnel.step w.tunnel (carried w [] f))) due
-          (subst (λ (con : Ldata). IsTunnel m.tunnel (tunnel.step w.tunnel (Carried con))) confirms_it (goes w.tunnel is.tunnel));
-      devices = subst (λ (f : Option Ldata). AreDevices m.devices (one_takes w.tunnel.now (Torn (nat_lt 0 k) octets) f w.devices)) due
-          (subst (λ (x : ℕ). AreDevices m.devices (one_takes x (Torn (nat_lt 0 k) octets) (Some frame) w.devices)) (sym is.tunnel.now)
-          (subst (λ (x : Effect). AreDevices m.devices (one_takes n.tunnel.now (Torn (nat_lt 0 k) (written_front x k)) (Some frame) w.devices)) effect (takes w.devices is.devices)));
-      echo = subst (λ (f : Option Ldata). none_if f w.echo ≡ m.echo) due (sym echo);
-    }
+    let took : TookSo m w (Torn (nat_lt 0 k) (written_front (effect_due n) k)) = took_so n m w frame (λ e. Torn (nat_lt 0 k) (written_front e k)) due own write is goes takes echo in
+    record { tunnel = took.tunnel; devices = took.devices; echo = took.echo }
+
+pub worn : (n m : LineNow) (w : World) (frame : Ldata) → Some frame ≡ next_frame w → Some frame ≡ frame_due n → is_some (write_due n) ≡ true → IsNow n w
+    → ((t : Tunnel) → IsTunnel n.tunnel t → IsTunnel m.tunnel (tunnel.step t (Carried (confirmed frame true))))
+    → ((devices : Devices) → AreDevices n.devices devices → AreDevices m.devices (one_takes n.tunnel.now (Worn (worn_octets (effect_at (devices frame.destination) frame))) (Some frame) devices))
+    → m.echo ≡ None → IsNow m (step w (BusWorn (worn_octets (effect_due n))))
+worn n m w frame due own write is goes takes echo =
+    let took : TookSo m w (Worn (worn_octets (effect_due n))) = took_so n m w frame (λ e. Worn (worn_octets e)) due own write is goes takes echo in
+    record { tunnel = took.tunnel; devices = took.devices; echo = took.echo }

@@ -1,5 +1,5 @@
 -- The line as it is held: the tunnel, the devices, and the bus's last frame where a device sent it; and of which worlds it is a picture.
-use Rattle.std.specs.Prelude.{◌≡◌, ℕ, ◌^◌, ◌<◌, Bool, false, not, length, Option, Some, None}
+use Rattle.std.specs.Prelude.{◌≡◌, ℕ, ◌-◌, ◌^◌, ◌<◌, Bool, false, not, length, Option, Some, None}
 use Rattle.knx_model.specs.declared.device.WriteKind.{WriteKind}
 use Rattle.knx_model.specs.declared.frames.cemi.Ldata.{Ldata}
 use Rattle.knx_model.specs.declared.frames.cemi.LdataCode.TheVariants.{Con}
@@ -68,6 +68,6 @@ confirmed frame is_confirmed = record frame { code = Con; error = not is_confirm
 -- ---- what can be counted with 64 bits
 
 pub record AreCounted (w : World) : Type 0 where
-  pub up : length w.tunnel.network.up < 2 ^ 64
-  pub down : length w.tunnel.network.down < 2 ^ 64
-  pub acted : length w.tunnel.gateway.acted < 2 ^ 64
+  pub up : length w.tunnel.network.up < 2 ^ 64 - 1
+  pub down : length w.tunnel.network.down < 2 ^ 64 - 1
+  pub acted : length w.tunnel.gateway.acted < 2 ^ 64 - 1

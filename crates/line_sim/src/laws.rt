@@ -1,21 +1,23 @@
 //! The laws of a line as it is held: which events may happen, and that its counts stay small.
 
-ghost use Rattle.std.specs.Prelude.{◌≡◌, ℕ, ◌*◌, ◌≤◌, List, None, Some, length, nat_lt, is_some, true};
+ghost use Rattle.std.specs.Prelude.{◌≡◌, ℕ, List, None, Some, nat_lt, is_some, true};
 ghost use Rattle.knx_model.specs.declared.device.Sending.TheVariants.{Waiting, Repeat, Closing};
 ghost use Rattle.knx_model.specs.declared.device.WriteKind.TheVariants.{Memory};
 ghost use Rattle.knx_model.specs.Device.{written_front};
 ghost use Rattle.knx_model.specs.DeviceFrames.{AreOctets, worn_octets};
-ghost use Rattle.line_model.specs.Fresh.{IsFresh, Settled};
+ghost use Rattle.line_model.specs.Fresh.{Settled};
 ghost use Rattle.line_model.specs.Deliveries.{next_down, next_up};
-ghost use Rattle.line_model.specs.Legal.{IsLegal, MayHappen};
-ghost use Rattle.line_model.specs.Tunnel.{Mode, Commissions, made};
-ghost use Rattle.line_model.specs.World.{World, Event, AtGateway, BusTorn, BusWorn, DevSend, DevRepeat, DevClose, GwRepeat, GwClose, next_frame, now, replay};
+ghost use Rattle.line_model.specs.Legal.{MayHappen};
+ghost use Rattle.line_model.specs.Tunnel.{Mode};
+ghost use Rattle.line_model.specs.World.{World, Event, AtGateway, BusTorn, BusWorn, DevSend, DevRepeat, DevClose, GwRepeat, GwClose, next_frame, now};
 ghost use Rattle.line_sim.specs.declared.gateway.Due.TheVariants as due;
 ghost use Rattle.line_sim.specs.Allowed.{Allows};
 ghost use Rattle.line_sim.specs.Gateways.{due_of};
 ghost use Rattle.line_sim.specs.Line.{LineNow, IsNow, effect_due, write_due};
 ghost use Rattle.line_sim.specs.Places.{sending_at};
 ghost use Rattle.line_model.specs.Gateway.{gateway_expired};
+
+use tunnel_gateway::what_is_due_happens_in_the_tunnel;
 
 /// An event that the line as it is held allows may happen in each world that it is a picture of.
 pub fn what_is_allowed_may_happen()
@@ -31,17 +33,9 @@ pub fn what_is_due_is_allowed()
     ensures gateway_closes { (mode : Mode) (w : World) → due_of (gateway_expired w.tunnel.gateway (now w)) ≡ due.Closed → MayHappen mode w GwClose }
     ensures torn { (mode : Mode) (n : LineNow) (k : ℕ) → is_some (write_due n) ≡ true → AreOctets (written_front (effect_due n) k) → Allows mode n (BusTorn (nat_lt 0 k) (written_front (effect_due n) k)) }
     ensures worn { (mode : Mode) (n : LineNow) → write_due n ≡ Some Memory → Allows mode n (BusWorn (worn_octets (effect_due n))) }
-{}
-
-/// Neither the client's endpoint nor what the gateway counts is beyond the number of events of a run, and so is how often the client sent;
-/// the gateway sends at most twice an event.
-pub fn counts_stay_below_the_number_of_events()
-    ensures endpoint { (start : World) (events : List Event) → IsFresh start → IsLegal Commissions start events → (replay start events).tunnel.present ≤ length events }
-    ensures channels { (start : World) (events : List Event) → IsFresh start → made (replay start events).tunnel ≤ length events }
-    ensures requests { (start : World) (events : List Event) → IsFresh start → length (replay start events).tunnel.gateway.acted ≤ length events }
-    ensures up { (start : World) (events : List Event) → IsFresh start → length (replay start events).tunnel.network.up ≤ length events }
-    ensures down { (start : World) (events : List Event) → IsFresh start → length (replay start events).tunnel.network.down ≤ 2 * length events }
-{}
+{
+    what_is_due_happens_in_the_tunnel();
+}
 
 /// Where no datagram goes next, no frame waits for the bus, and neither a device nor the gateway has something to send, a world is settled.
 pub fn what_is_settled()

@@ -18,7 +18,7 @@ pub use devices::Devices;
 pub use gateway::Due;
 pub use knx_model::{Datagram, IndAddr, Ldata, NoMemory, Sending, WriteKind};
 pub use laws::{
-    counts_stay_below_the_number_of_events, what_is_allowed_may_happen, what_is_due_is_allowed,
+    what_is_allowed_may_happen, what_is_due_is_allowed,
     what_is_settled,
 };
 pub use line::Line;

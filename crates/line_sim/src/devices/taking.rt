@@ -68,6 +68,7 @@ impl Devices {
         ensures confirms { IfOk result (λ confirms. confirms ≡ (frame.now.group || is_taken_by self.old (option_to_list without) frame.now)) }
         ensures err { OnErr result (self.new ≡ self.old) }
     {
+        self.names();
         if frame.group {
             self.take_by_all(alloc, frame, without)?;
             return Ok(true);

@@ -1,6 +1,6 @@
 //! What is due on a line now, and when something will be.
 
-ghost use Rattle.std.specs.Prelude.{◌≡◌, ℕ, ◌+◌, ◌<◌, ◌≤◌, ◌↔◌, None, Some, IfNone, IfSome, IsTrue};
+ghost use Rattle.std.specs.Prelude.{◌≡◌, ℕ, ◌+◌, ◌&&◌, ◌<◌, ◌≤◌, ◌↔◌, None, Some, IfNone, IfSome, IsTrue};
 ghost use Rattle.knx_model.specs.declared.device.Sending.TheVariants.{Repeat};
 ghost use Rattle.knx_model.specs.Connection.{last_time};
 ghost use Rattle.line_model.specs.Fresh.{HasNothingToSend, Settled, SettledFor};
@@ -17,6 +17,7 @@ use crate::devices::nearer;
 use crate::gateway::Due;
 use knx_model::Sending;
 use network_sim::Reach;
+use tunnel_gateway::deadline_is_nearest;
 
 impl Line {
     /// What a device sends next; None exactly where it has nothing to send, or isn't there.
@@ -44,15 +45,16 @@ impl Line {
     }
 
     /// The nearest time at which a device or the gateway has something to send, where none has now; None where that never comes. Up to that
-    /// time there is nothing to send, and then there is, but for the greatest time, at which waits end that would go on.
+    /// time there is nothing to send, and from then on there is; only at the greatest time, at which waits end that would go on, it isn't said.
     pub fn deadline(&self) -> Option<u64>
         ensures never { IfNone result ((w : World) → IsNow self.now w → HasNothingToSend w (now w) → (at : ℕ) → HasNothingToSend w at) }
         ensures until { IfSome result (λ end. (w : World) → IsNow self.now w → HasNothingToSend w (now w) → (at : ℕ) → at < end → HasNothingToSend w at) }
-        ensures then { IfSome result (λ end. (w : World) → IsNow self.now w → end < last_time → ¬ HasNothingToSend w end) }
+        ensures from_then { IfSome result (λ end. (w : World) → IsNow self.now w → (at : ℕ) → end ≤ at → at < last_time → ¬ HasNothingToSend w at) }
         ensures later { IfSome result (λ end. (w : World) → IsNow self.now w → HasNothingToSend w (now w) → now w < last_time → now w < end) }
         ensures always_settled { IfNone result ((mode : Mode) (w : World) → IsNow self.now w → Settled mode w → (ms : ℕ) → SettledFor mode w ms) }
         ensures settled { IfSome result (λ end. (mode : Mode) (w : World) → IsNow self.now w → Settled mode w → (ms : ℕ) → now w + ms ≤ end → SettledFor mode w ms) }
     {
+        deadline_is_nearest();
         nearer(
             self.devices.deadline(),
             self.tunnel.gateway.end.deadline(),
@@ -77,10 +79,27 @@ impl Line {
     fn is_settled_within(&self, reach: Reach) -> bool
         ensures { (w : World) → IsNow self.now w → (IsTrue result ↔ IsSettledWithin reach w) }
     {
-        self.tunnel.up.is_over(Reach::Every, self.tunnel.gateway.made)
-            && self.tunnel.down.is_over(reach, self.tunnel.gateway.made)
-            && self.tunnel.gateway.bus.is_empty()
-            && self.next_sender().is_none()
-            && matches!(self.gateway_due(), Due::Nothing)
+        let is_over = both(
+            self.tunnel.up.is_over(Reach::Every, self.tunnel.gateway.made),
+            self.tunnel.down.is_over(reach, self.tunnel.gateway.made),
+        );
+        let is_silent = both(self.frame_due().is_none(), self.has_nothing_to_send());
+        both(is_over, is_silent)
     }
+
+    /// Whether neither a device nor the gateway has something to send now.
+    pub fn has_nothing_to_send(&self) -> bool
+        ensures { (w : World) → IsNow self.now w → (IsTrue result ↔ HasNothingToSend w (now w)) }
+    {
+        both(
+            self.next_sender().is_none(),
+            self.gateway_due() == Due::Nothing,
+        )
+    }
+}
+
+fn both(one: bool, other: bool) -> bool
+    ensures { result ≡ (one && other) }
+{
+    one && other
 }

@@ -1,0 +1,16 @@
+use Rattle.std.proofs.Common.{◌≡◌, ℕ, Option, subst}
+use Rattle.std.specs.Prelude.{IfSome}
+use Rattle.line_model.specs.Tunnel.{Mode}
+use Rattle.network_sim.specs.declared.place.Reach.TheVariants.{Every}
+use Rattle.network_sim.specs.Arriving.{MayCome}
+use Rattle.line_sim.specs.Line.{LineNow}
+use Rattle.line_sim.specs.Tunnels.{tunnel_now}
+use Rattle.line_sim.proofs.Going.{allowed_up, next_comes}
+use Rattle.line_sim.proofs.line.Line.next_up.Goals as goal
+
+pub returns-clause-allowed : goal.returns-clause-allowed
+returns-clause-allowed c =
+    let old : LineNow = record { tunnel = tunnel_now c.self.inside.tunnel; devices = c.self.inside.devices; echo = c.self.inside.echo } in
+    let seen : old ≡ c.args.self.now = let h = c.self.view_is in cc in
+    subst (λ (n : LineNow). IfSome c.next.result (λ age. Mode → MayCome Every n.tunnel.gateway.made n.tunnel.up.kept age)) seen
+    (allowed_up old.tunnel.gateway.made old.tunnel.up.kept c.next.result c.next.ensures.value)
