@@ -1,6 +1,7 @@
 pub mod Kept
 pub mod Begins
 pub mod Owings
+pub mod Grows
 pub mod Laws
 pub mod Holds
 pub mod Counting
@@ -11,3 +12,4 @@ pub mod AtDevices
 pub mod Wants
 pub mod Carried
 pub mod Rights
+pub mod Turning

@@ -10,6 +10,7 @@ use Rattle.line_model.specs.Owed.{Owed, owed}
 use Rattle.line_model.specs.Follows.{Follows, IsNext}
 use Rattle.line_model.specs.LinkStory.{Story, Full, IsForeign}
 use Rattle.line_sim.specs.Line.{LineNow}
+use Rattle.bus_sim.specs.Owing.{first_of}
 use Rattle.bus_sim.specs.Begun.{said, start_of}
 use Rattle.bus_sim.specs.declared.beginning.Beginning.{Beginning}
 
@@ -48,6 +49,13 @@ happened r e = record r { events = e ∷ r.events }
 -- what the script calls for before anything else
 abbrev pub owed_in : RunNow → List Owed
 owed_in r = owed (script r) Commissions (start r) r.events
+
+-- the first that it calls for; or it calls for nothing
+abbrev pub Calls : RunNow → Owed → Type 0
+Calls r what = first_of (owed_in r) ≡ Some what
+
+abbrev pub NothingCalled : RunNow → Type 0
+NothingCalled r = first_of (owed_in r) ≡ None
 
 -- ---- what is kept
 

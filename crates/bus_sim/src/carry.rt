@@ -8,6 +8,7 @@ ghost use Rattle.line_model.specs.World.{Bus, BusTorn, BusWorn, is_among, next_f
 ghost use Rattle.bus_sim.specs.Kept.{event_of, octets_of};
 ghost use Rattle.line_model.specs.Deliveries.{worn_if};
 ghost use Rattle.line_sim.specs.Line.{LineNow, effect_due, write_due};
+ghost use Rattle.bus_sim.specs.RunNow.{NothingCalled, seen};
 ghost use Rattle.bus_sim.specs.Went.{Stays, Went, IsRight, world};
 ghost use Rattle.line_model.specs.StartOf.{line_of};
 ghost use Rattle.bus_sim.specs.Choices.{carried, carried_so, is_lost_for, written_so, CanGo};
@@ -35,8 +36,9 @@ impl Run {
     /// The client's frame goes over the bus as the script wants it. At `Err` nothing has happened.
     pub fn carry(&mut self, frame: &Ldata) -> Result<(), NoMemory>
         requires due { Some frame.now ≡ next_frame (world self.old) }
-        requires right { IsRight self.old (carried self.old frame.now) }
+        requires free { NothingCalled (seen self.old) }
         ensures went { OnOk result (Went self.old (carried self.old frame.now) self.new) }
+        ensures right { OnOk result (IsRight self.old (carried self.old frame.now)) }
         ensures err { OnErr result (Stays self.old self.new) }
     {
         match self.carriage(frame) {
@@ -90,8 +92,10 @@ impl Run {
     /// It goes whole, lost for one device or for none.
     fn bus(&mut self, frame: &Ldata, lost: Option<u16>) -> Result<(), NoMemory>
         requires due { Some frame.now ≡ next_frame (world self.old) }
-        requires right { IsRight self.old (Bus (option_to_list lost)) }
+        requires free { NothingCalled (seen self.old) }
+        requires so { Bus (option_to_list lost) ≡ carried self.old frame.now }
         ensures went { OnOk result (Went self.old (Bus (option_to_list lost)) self.new) }
+        ensures right { OnOk result (IsRight self.old (Bus (option_to_list lost))) }
         ensures err { OnErr result (Stays self.old self.new) }
     {
         make_room(self.alloc, &mut self.events, &mut self.owed, &self.line, 0)?;
@@ -127,8 +131,10 @@ impl Run {
     fn bus_torn(&mut self, frame: &Ldata, k: u32) -> Result<(), NoMemory>
         requires due { Some frame.now ≡ next_frame (world self.old) }
         requires write { is_some (write_due self.old.line) ≡ true }
-        requires right { IsRight self.old (BusTorn (nat_lt 0 k) (written_front (effect_due self.old.line) k)) }
+        requires free { NothingCalled (seen self.old) }
+        requires so { BusTorn (nat_lt 0 k) (written_front (effect_due self.old.line) k) ≡ carried self.old frame.now }
         ensures went { OnOk result (Went self.old (BusTorn (nat_lt 0 k) (written_front (effect_due self.old.line) k)) self.new) }
+        ensures right { OnOk result (IsRight self.old (BusTorn (nat_lt 0 k) (written_front (effect_due self.old.line) k))) }
         ensures err { OnErr result (Stays self.old self.new) }
     {
         let octets = self.line.torn_octets(self.alloc, k)?;
@@ -157,8 +163,10 @@ impl Run {
     fn bus_worn(&mut self, frame: &Ldata) -> Result<(), NoMemory>
         requires due { Some frame.now ≡ next_frame (world self.old) }
         requires write { write_due self.old.line ≡ Some Memory }
-        requires right { IsRight self.old (BusWorn (worn_octets (effect_due self.old.line))) }
+        requires free { NothingCalled (seen self.old) }
+        requires so { BusWorn (worn_octets (effect_due self.old.line)) ≡ carried self.old frame.now }
         ensures went { OnOk result (Went self.old (BusWorn (worn_octets (effect_due self.old.line))) self.new) }
+        ensures right { OnOk result (IsRight self.old (BusWorn (worn_octets (effect_due self.old.line)))) }
         ensures err { OnErr result (Stays self.old self.new) }
     {
         let octets = self.line.worn_octets();

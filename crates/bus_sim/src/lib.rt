@@ -2,6 +2,7 @@
 //! script says so, and that a hub drives as it drives a socket.
 #![tactic(auto)]
 
+mod again;
 mod beginning;
 mod bus;
 mod called;
@@ -10,8 +11,10 @@ mod client;
 mod counts;
 mod deliver;
 mod events;
+mod going;
 mod happened;
 mod limits;
+mod nexts;
 mod owed;
 mod poll;
 mod room;

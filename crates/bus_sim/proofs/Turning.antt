@@ -1,0 +1,241 @@
+-- What is right to happen next: what the script calls for, or else what goes next.
+use Rattle.std.proofs.Common.{◌≡◌, ◌≢◌, ℕ, suc, ◌+◌, ◌^◌, ◌<◌, ◌≤◌, ◌==◌, ◌⊎◌, inl, inr, Bool, true, false, not, ◌&&◌, is_some, List, [], ◌∷◌, ◌++◌, length, Option, Some, None, refl, ap, sym, subst, ◌∙◌, arith, if◌then◌else◌}
+use Rattle.std.specs.Prelude.{slice_get, nat_lt, nat_le, list_all}
+use Rattle.std.specs.List.{filter}
+use Rattle.knx_model.specs.declared.device.WriteKind.{WriteKind}
+use Rattle.knx_model.specs.declared.device.WriteKind.TheVariants.{Memory, Load}
+use Rattle.knx_model.specs.declared.frames.cemi.Ldata.{Ldata}
+use Rattle.knx_model.specs.declared.frames.ip.IpFrame.{IpFrame}
+use Rattle.knx_model.specs.declared.frames.ip.IpFrame.TheVariants as ip
+use Rattle.knx_model.specs.declared.script.ScriptLine.{ScriptLine}
+use Rattle.knx_model.specs.declared.script.ScriptWhat.{ScriptWhat}
+use Rattle.knx_model.specs.declared.script.ScriptWhat.TheVariants as line
+use Rattle.knx_model.specs.ApduReading.{option_map as mapped}
+use Rattle.knx_model.specs.Device.{Effect}
+use Rattle.knx_model.specs.DeviceState.{DeviceState}
+use Rattle.knx_model.specs.ScriptText.{are_script_lines, is_script_line, is_script_what, is_count}
+use Rattle.line_model.specs.Counts.{asks_connect, is_connect_at, connects_reached, frames_to, writes, write_of}
+use Rattle.line_model.specs.Deliveries.{delivery, refused_if, carriage, carriage_of, carried_to, written_at, write_event, torn_if, worn_if, effect_at}
+use Rattle.line_model.specs.Follows.{IsNext, IsInPlace, IsNextUp}
+use Rattle.line_model.specs.Legal.{MayHappen, OfDevice}
+use Rattle.line_model.specs.LinkStory.{IsForeign, GoesOn, Same, More}
+use Rattle.line_model.specs.Lines.{Script, script_of, first_said, or_later, status_at, refuses, loses_to, cuts, wears}
+use Rattle.line_model.specs.Network.{Sent, OfSent}
+use Rattle.line_model.specs.Owed.{Owed, owed, met, is_possible}
+use Rattle.line_model.specs.Reading.{datagram_in, is_connect_request}
+use Rattle.line_model.specs.Tunnel.{Commissions, IsConnectRequest}
+use Rattle.line_model.specs.World.{World, Event, Up, UpRefused, Down, Bus, BusTorn, BusWorn, Pass, frame_by, next_frame, now, replay, step}
+use Rattle.bus_sim.specs.Begun.{start_of}
+use Rattle.bus_sim.specs.Owing.{first_of}
+use Rattle.bus_sim.specs.Polls.{GoesOnFrom}
+use Rattle.bus_sim.specs.RunNow.{RunNow, RunState, Calls, NothingCalled, IsRight, owed_in, script, seen, start, happened, world as world_of}
+use Rattle.bus_sim.specs.Turns.{Happens, Passes}
+use Rattle.bus_sim.specs.Went.{Went, world}
+use Rattle.bus_sim.proofs.Grows.{is_still, timeless, passes}
+
+-- ---- what is called for
+
+first_is : (x what : Owed) → Some x ≡ Some what → x ≡ what
+first_is x what e = cc
+
+pub called_next : (r : RunNow) (what : Owed) → Calls r what → IsNext (script r) Commissions (start r) r.events (owed_in r) (met (script r) (start r) r.events what)
+called_next r what f = by_list (owed_in r) f
+  where
+    by_list : (l : List Owed) → first_of l ≡ Some what → IsNext (script r) Commissions (start r) r.events l (met (script r) (start r) r.events what)
+    by_list [] f = absurd f
+    by_list (x ∷ l) f = inr (ap (met (script r) (start r) r.events) (sym (first_is x what f)))
+
+pub free_next : (r : RunNow) (e : Event) → NothingCalled r → IsInPlace (script r) Commissions (start r) r.events e → IsNext (script r) Commissions (start r) r.events (owed_in r) e
+free_next r e f place = by_list (owed_in r) f
+  where
+    by_list : (l : List Owed) → first_of l ≡ None → IsNext (script r) Commissions (start r) r.events l e
+    by_list [] f = place
+    by_list (x ∷ l) f = absurd f
+
+first_passes : (test : Owed → Bool) (l : List Owed) (what : Owed) → first_of (filter test l) ≡ Some what → test what ≡ true
+first_passes test [] what f = absurd f
+first_passes test (x ∷ l) what f = by_test (test x) refl f
+  where
+    by_test : (t : Bool) → test x ≡ t → first_of (if t then x ∷ filter test l else filter test l) ≡ Some what → test what ≡ true
+    by_test true e f = ap test (sym (first_is x what f)) ∙ e
+    by_test false e f = first_passes test l what f
+
+pub called_possible : (r : RunNow) (what : Owed) → Calls r what → is_possible Commissions (world_of r) what ≡ true
+called_possible r what f = by_events r.events f
+  where
+    by_events : (es : List Event) → first_of (owed (script r) Commissions (start r) es) ≡ Some what → is_possible Commissions (replay (start r) es) what ≡ true
+    by_events [] f = absurd f
+    by_events (e ∷ es) f = first_passes (is_possible Commissions (replay (start r) (e ∷ es))) _ what f
+
+pub called_right : (r : RunNow) (what : Owed) (e : Event) → Calls r what → e ≡ met (script r) (start r) r.events what → MayHappen Commissions (world_of r) e → IsRight r e
+called_right r what e f same may = record { may = may; next = subst (λ x. IsNext (script r) Commissions (start r) r.events (owed_in r) x) (sym same) (called_next r what f) }
+
+pub free_right : (r : RunNow) (e : Event) → NothingCalled r → IsInPlace (script r) Commissions (start r) r.events e → MayHappen Commissions (world_of r) e → IsRight r e
+free_right r e f place may = record { may = may; next = free_next r e f place }
+
+-- a device that got a frame
+pub has_last : (o : Option DeviceState) → is_some (frame_by (λ d. d.last) o) ≡ true → OfDevice (λ d. d.last ≢ None) o
+has_last None e = absurd e
+has_last (Some d) e = λ none. some_not_none d.last e none
+  where
+    some_not_none : (o : Option Ldata) → is_some o ≡ true → o ≢ None
+    some_not_none None e = absurd e
+    some_not_none (Some f) e = λ none. absurd none
+
+-- ---- how a datagram is delivered
+
+pub of_delivery : (P : Event → Type 0) (s : Script) (start : World) (past : List Event) (age : ℕ) → P (Up age) → ((status : ℕ) → P (UpRefused age status)) → P (delivery s start past age)
+of_delivery P s start past age up refused = by_test (is_connect_at (replay start past).tunnel.network.up age)
+  where
+    by_status : (o : Option ℕ) → P (refused_if age o)
+    by_status None = up
+    by_status (Some status) = refused status
+
+    by_test : (t : Bool) → P (if t then refused_if age (refuses s (suc (connects_reached start past))) else Up age)
+    by_test true = by_status (refuses s (suc (connects_reached start past)))
+    by_test false = up
+
+is_request : (o : Option IpFrame) → is_connect_request o ≡ true → o ≡ Some ip.ConnectRequest
+is_request None e = absurd e
+is_request (Some ip.ConnectRequest) e = refl
+is_request (Some (ip.ConnectResponse c s t)) e = absurd e
+is_request (Some (ip.StateRequest c)) e = absurd e
+is_request (Some (ip.StateResponse c s)) e = absurd e
+is_request (Some (ip.DisconnectRequest c)) e = absurd e
+is_request (Some (ip.DisconnectResponse c s)) e = absurd e
+is_request (Some (ip.TunnellingRequest c n f)) e = absurd e
+is_request (Some (ip.TunnellingAck c n s)) e = absurd e
+
+asked : (o : Option Sent) → asks_connect o ≡ true → OfSent IsConnectRequest o
+asked None e = absurd e
+asked (Some s) e = is_request (datagram_in s.octets) e
+
+-- a refused request has a status
+both_left : (a b : Bool) → (a && b) ≡ true → a ≡ true
+both_left true b e = refl
+both_left false b e = absurd e
+
+both_right : (a b : Bool) → (a && b) ≡ true → b ≡ true
+both_right true b e = e
+both_right false b e = absurd e
+
+line_status : (what : ScriptWhat) (n s : ℕ) → is_script_what what ≡ true → status_at n what ≡ Some s → s ≢ 0
+line_status (line.LoseUp k) n s lines e = absurd e
+line_status (line.LoseDown k) n s lines e = absurd e
+line_status (line.RepeatUp k) n s lines e = absurd e
+line_status (line.RepeatDown k) n s lines e = absurd e
+line_status (line.LoseTo device k) n s lines e = absurd e
+line_status (line.LoseFrom device k) n s lines e = absurd e
+line_status (line.RepeatTo device k) n s lines e = absurd e
+line_status (line.Cut device k j) n s lines e = absurd e
+line_status (line.Worn device k) n s lines e = absurd e
+line_status (line.CloseAfter device k) n s lines e = absurd e
+line_status (line.DropChannel k) n s lines e = absurd e
+line_status (line.Off device) n s lines e = absurd e
+line_status (line.Standard device) n s lines e = absurd e
+line_status (line.Group after group service) n s lines e = absurd e
+line_status (line.Refuse k status) n s lines e = by_test (k == n) e
+  where
+    positive : (x : ℕ) → nat_lt 0 x ≡ true → x ≢ 0
+    positive x f zero = absurd (sym (ap (λ y. nat_lt 0 y) zero) ∙ f)
+
+    by_test : (t : Bool) → (if t then Some status else None) ≡ Some s → s ≢ 0
+    by_test true e = let same : status ≡ s = cc in
+        subst (λ x. x ≢ 0) same (positive status (both_left (nat_lt 0 status) (nat_lt status 256) (both_right (is_count k) (nat_lt 0 status && nat_lt status 256) lines)))
+    by_test false e = absurd e
+
+pub refused_status : (ls : List ScriptLine) (n status : ℕ) → are_script_lines ls ≡ true → refuses (script_of ls) n ≡ Some status → status ≢ 0
+refused_status [] n status lines e = absurd e
+refused_status (l ∷ ls) n status lines e = by_line (status_at n l.what) refl e
+  where
+    by_line : (o : Option ℕ) → status_at n l.what ≡ o → or_later o (first_said (status_at n) (script_of ls)) ≡ Some status → status ≢ 0
+    by_line None f e = refused_status ls n status (both_right (is_script_line l) (list_all is_script_line ls) lines) e
+    by_line (Some s) f e = let same : s ≡ status = cc in
+        subst (λ x. x ≢ 0) same (line_status l.what n s (both_left (is_script_what l.what) (nat_le l.line 65536) (both_left (is_script_line l) (list_all is_script_line ls) lines)) f)
+
+pub delivered_may : (r : RunNow) (age : ℕ) → are_script_lines r.begun.script ≡ true → MayHappen Commissions (world_of r) (Up age) → MayHappen Commissions (world_of r) (delivery (script r) (start r) r.events age)
+delivered_may r age lines may = by_test (is_connect_at (world_of r).tunnel.network.up age) refl
+  where
+    by_status : is_connect_at (world_of r).tunnel.network.up age ≡ true → (o : Option ℕ) → refuses (script r) (suc (connects_reached (start r) r.events)) ≡ o → MayHappen Commissions (world_of r) (refused_if age o)
+    by_status e None f = may
+    by_status e (Some status) f = record { tunnel = (may.tunnel, asked (slice_get (world_of r).tunnel.network.up age) e, refused_status r.begun.script (suc (connects_reached (start r) r.events)) status lines f); devices = tt }
+
+    by_test : (t : Bool) → is_connect_at (world_of r).tunnel.network.up age ≡ t → MayHappen Commissions (world_of r) (if t then refused_if age (refuses (script r) (suc (connects_reached (start r) r.events))) else Up age)
+    by_test true e = by_status e (refuses (script r) (suc (connects_reached (start r) r.events))) refl
+    by_test false e = may
+
+pub delivered_place : (r : RunNow) (age : ℕ) → IsNextUp (script r) (world_of r) age false → IsInPlace (script r) Commissions (start r) r.events (delivery (script r) (start r) r.events age)
+delivered_place r age next =
+    of_delivery (λ e. delivery (script r) (start r) r.events age ≡ e → IsInPlace (script r) Commissions (start r) r.events e) (script r) (start r) r.events age (λ so. record { next = next; so = so }) (λ status so. record { next = next; so = so }) refl
+
+-- ---- how a frame goes over the bus
+
+pub of_carriage : (P : Event → Type 0) (s : Script) (start : World) (past : List Event) (frame : Ldata) → ((l : List ℕ) → P (Bus l)) → ((fresh : Bool) (o : List ℕ) → P (BusTorn fresh o)) → ((o : List ℕ) → P (BusWorn o)) → P (carriage_of s start past frame)
+of_carriage P s start past frame bus torn worn = by_group frame.group
+  where
+    by_worn : (t : Bool) (kind : WriteKind) (effect : Effect) → P (worn_if t kind effect)
+    by_worn true Memory effect = worn _
+    by_worn true Load effect = bus []
+    by_worn false kind effect = bus []
+
+    by_cut : (o : Option ℕ) (t : Bool) (kind : WriteKind) (effect : Effect) → P (torn_if o t kind effect)
+    by_cut (Some k) t kind effect = torn _ _
+    by_cut None t kind effect = by_worn t kind effect
+
+    by_write : (o : Option WriteKind) (device n : ℕ) (effect : Effect) → P (write_event s device n o effect)
+    by_write None device n effect = bus []
+    by_write (Some kind) device n effect = by_cut (cuts s device n) (wears s device n) kind effect
+
+    by_loss : (t : Bool) → P (if t then Bus (frame.destination ∷ []) else written_at s start past frame.destination frame)
+    by_loss true = bus _
+    by_loss false = by_write (write_of ((replay start past).devices frame.destination) (Some frame)) frame.destination (suc (writes frame.destination start past)) (effect_at ((replay start past).devices frame.destination) frame)
+
+    by_group : (t : Bool) → P (if t then Bus [] else carried_to s start past frame.destination frame)
+    by_group true = bus []
+    by_group false = by_loss (loses_to s frame.destination (suc (frames_to frame.destination start past)))
+
+pub carried_right : (r : RunNow) (frame : Ldata) (e : Event) → NothingCalled r → Some frame ≡ next_frame (world_of r) → e ≡ carriage_of (script r) (start r) r.events frame → MayHappen Commissions (world_of r) e → IsRight r e
+carried_right r frame e free due so may = free_right r e free (subst (λ x. IsInPlace (script r) Commissions (start r) r.events x) (sym so) place) may
+  where
+    place : IsInPlace (script r) Commissions (start r) r.events (carriage_of (script r) (start r) r.events frame)
+    place = of_carriage (λ x. carriage (script r) (start r) r.events ≡ Some x → IsInPlace (script r) Commissions (start r) r.events x) (script r) (start r) r.events frame
+        (λ l so. so) (λ fresh o so. so) (λ o so. so) (ap (mapped (carriage_of (script r) (start r) r.events)) (sym due))
+
+-- ---- what happened
+
+pub happens : (old new : RunState) (e : Event) → Went old e new → IsRight (seen old) e → IsForeign e ≡ true → is_still e ≡ true → Happens old new
+happens old new e went right foreign still = record {
+  event = e;
+  went = went;
+  may = right.may;
+  foreign = foreign;
+  at_once = ap (λ (r : RunNow). now (world_of r)) went ∙ timeless (world old) e still;
+}
+
+pub delivery_happens : (old new : RunState) (age : ℕ) → Went old (delivery (script (seen old)) (start (seen old)) (seen old).events age) new → IsRight (seen old) (delivery (script (seen old)) (start (seen old)) (seen old).events age) → Happens old new
+delivery_happens old new age went right = happens old new _ went right
+    (of_delivery (λ e. IsForeign e ≡ true) (script (seen old)) (start (seen old)) (seen old).events age refl (λ s. refl))
+    (of_delivery (λ e. is_still e ≡ true) (script (seen old)) (start (seen old)) (seen old).events age refl (λ s. refl))
+
+pub carriage_happens : (old new : RunState) (frame : Ldata) → Went old (carriage_of (script (seen old)) (start (seen old)) (seen old).events frame) new → IsRight (seen old) (carriage_of (script (seen old)) (start (seen old)) (seen old).events frame) → Happens old new
+carriage_happens old new frame went right = happens old new _ went right
+    (of_carriage (λ e. IsForeign e ≡ true) (script (seen old)) (start (seen old)) (seen old).events frame (λ l. refl) (λ t o. refl) (λ o. refl))
+    (of_carriage (λ e. is_still e ≡ true) (script (seen old)) (start (seen old)) (seen old).events frame (λ l. refl) (λ t o. refl) (λ o. refl))
+
+-- ---- a poll goes on
+
+goes_to : (old mid new : RunState) (e : Event) → GoesOnFrom old mid → Went mid e new → MayHappen Commissions (world mid) e → IsForeign e ≡ true → GoesOnFrom old new
+goes_to old mid new e before went may foreign = record {
+  same = ap (λ (r : RunNow). r.begun) went ∙ before.same;
+  goes = subst (λ l. GoesOn (start (seen old)) (seen old).events l) (sym (ap (λ (r : RunNow). r.events) went))
+      (More e foreign (subst (λ b. MayHappen Commissions (replay (start_of b) mid.events) e) before.same may) before.goes);
+}
+
+pub goes_more : (old mid new : RunState) → GoesOnFrom old mid → Happens mid new → GoesOnFrom old new
+goes_more old mid new before h = goes_to old mid new h.event before h.went h.may h.foreign
+
+pub goes_past : (old mid new : RunState) (ms : ℕ) → GoesOnFrom old mid → Passes ms mid new → GoesOnFrom old new
+goes_past old mid new ms before h = goes_to old mid new (Pass ms) before h.went h.may refl
+
+pub goes_same : (old new : RunState) → seen new ≡ seen old → GoesOnFrom old new
+goes_same old new same = record { same = ap (λ (r : RunNow). r.begun) same; goes = subst (λ l. GoesOn (start (seen old)) old.events l) (sym (ap (λ (r : RunNow). r.events) same)) Same }
