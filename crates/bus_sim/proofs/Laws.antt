@@ -1,5 +1,5 @@
 -- The line's laws, as they are cited here, and that few events leave few datagrams and requests.
-use Rattle.std.proofs.Common.{◌≡◌, ℕ, suc, ◌+◌, ◌*◌, ◌^◌, ◌<◌, ◌≤◌, List, [], ◌∷◌, length, subst, sym, refl, arith}
+use Rattle.std.proofs.Common.{◌≡◌, ℕ, suc, ◌+◌, ◌-◌, ◌*◌, ◌^◌, ◌<◌, ◌≤◌, List, [], ◌∷◌, length, subst, sym, refl, arith}
 use Rattle.line_model.specs.Fresh.{IsFresh}
 use Rattle.line_model.specs.Legal.{IsLegal, MayHappen}
 use Rattle.line_model.specs.Tunnel.{Mode, Tunnel, Commissions, fresh}
@@ -49,3 +49,6 @@ counted start events fresh few =
     let down = downs start events fresh in
     let acted = requests start events fresh in
     record { up = omega (arith, up); down = omega (arith, down); acted = omega (arith, acted) }
+
+pub fewer : (n : ℕ) → n < 2 ^ 64 - 1 → n < 2 ^ 64
+fewer n few = omega (arith, few)

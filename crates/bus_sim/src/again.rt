@@ -70,7 +70,17 @@ impl Run {
         ensures happens { OnOk result (Happens self.old self.new) }
         ensures err { OnErr result (Stays self.old self.new) }
     {
-        self.bring_again(device)
+        if self.can_repeat(device) {
+            self.bring_again(device)
+        } else {
+            Err(past_all_memory(self.alloc))
+        }
+    }
+
+    fn can_repeat(&self, device: u16) -> bool
+        ensures { IsTrue result → Calls (seen self.now) (model.BringAgain device) → IsRight self.now (BusAgain device) }
+    {
+        self.line.last(device).is_some()
     }
 
     /// The power of a device returns.
@@ -104,7 +114,10 @@ impl Run {
         ensures power { IsTrue result → Calls (seen self.now) (model.PowerReturns device) → IsRight self.now (On device) }
         ensures closes { IsTrue result → Calls (seen self.now) (model.ConnectionCloses device) → IsRight self.now (DevClose device) }
     {
-        self.line.device(device).is_some()
+        match self.line.device(device) {
+            Some(_) => true,
+            None => false,
+        }
     }
 
     /// The channel closes.

@@ -10,7 +10,7 @@ use Rattle.bus_sim.specs.Went.{IsRight, world}
 use Rattle.bus_sim.proofs.Calls.{one_called}
 use Rattle.bus_sim.proofs.Counting.{uncounted, takes_nothing, writes_nothing}
 use Rattle.bus_sim.proofs.Holds.{after_own}
-use Rattle.bus_sim.proofs.Laws.{counted}
+use Rattle.bus_sim.proofs.Laws.{fewer, counted}
 use Rattle.bus_sim.proofs.run.Run.down.Goals as goal
 
 pub invariant_of-self-2 : goal.invariant_of-self-2
@@ -19,7 +19,7 @@ invariant_of-self-2 c =
     after_own c.self.inside.begun c.self.inside.events.list c.make_room.new.events.list c.push.new.self.list c.self.inside.index c.self.inside.line c.down-octets.new.self c.self.inside.counts c.self.inside.counts c.self.inside.owed.list c.make_room.new.owed.list c.meet.new.self.list _ (Down c.args.age) refl c.self.invariant c.down-octets.ensures.next
     (subst (λ v. IsRight v (Down c.args.age)) (sym c.self.view_is) c.requires.right) c.make_room.ensures.events c.push.ensures c.in_ok-make_room.ensures.few c.make_room.ensures.owed c.meet.ensures
     (one_called _ _ (c.reaches_again-first.ensures (said c.self.inside.begun) c.self.invariant.indexed
-    ∙ ap (λ (k : ℕ). owed_if (repeats_down (said c.self.inside.begun) k) (ReachAgain k)) (c.number_down.ensures.exact _ c.self.invariant.pictured exact.down)))
+    ∙ ap (λ (k : ℕ). owed_if (repeats_down (said c.self.inside.begun) k) (ReachAgain k)) (c.number_down.ensures.exact _ c.self.invariant.pictured (fewer _ exact.down))))
     (uncounted c.self.inside.counts (start_of c.self.inside.begun) c.self.inside.events.list (Down c.args.age) (record { to = λ a. refl; from = λ a. refl; taken = λ a. takes_nothing _; wrote = λ a. writes_nothing _; connect = refl }) c.self.invariant.counted) refl
 
 pub returns-clause-got : goal.returns-clause-got

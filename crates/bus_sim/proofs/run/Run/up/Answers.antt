@@ -9,7 +9,7 @@ use Rattle.bus_sim.specs.Went.{IsRight}
 use Rattle.bus_sim.proofs.Calls.{capped_few, two_called}
 use Rattle.bus_sim.proofs.Counting.{asked, takes_nothing, writes_nothing}
 use Rattle.bus_sim.proofs.Holds.{after_own}
-use Rattle.bus_sim.proofs.Laws.{counted, requests}
+use Rattle.bus_sim.proofs.Laws.{fewer, counted, requests}
 use Rattle.bus_sim.proofs.run.Run.up.Goals as goal
 
 pub invariant_of-self-2 : goal.invariant_of-self-2
@@ -27,7 +27,7 @@ invariant_of-self-2 c =
     after_own c.self.inside.begun c.self.inside.events.list c.make_room.new.events.list c.push.new.self.list c.self.inside.index c.self.inside.line c.up.new.self c.self.inside.counts c.connect_if.new.self c.self.inside.owed.list c.make_room.new.owed.list c.meet.new.self.list _ (Up c.args.age) refl c.self.invariant goes
     (subst (λ v. IsRight v (Up c.args.age)) (sym c.self.view_is) c.requires.right) c.make_room.ensures.events c.push.ensures few c.make_room.ensures.owed c.meet.ensures
     (two_called _ _ _ _
-    (c.comes_again-first.ensures (said b) c.self.invariant.indexed ∙ ap (λ (k : ℕ). owed_if (repeats_up (said b) k) (DeliverAgain k)) (c.number_up.ensures.exact w c.self.invariant.pictured exact.up))
+    (c.comes_again-first.ensures (said b) c.self.invariant.indexed ∙ ap (λ (k : ℕ). owed_if (repeats_up (said b) k) (DeliverAgain k)) (c.number_up.ensures.exact w c.self.invariant.pictured (fewer _ exact.up)))
     (c.channel_closes-second.ensures (said b) c.self.invariant.indexed ∙ ap (λ (k : ℕ). owed_if (nat_lt k c.acted.result && drops (said b) c.acted.result) ChannelCloses) old
     ∙ ap (λ (k : ℕ). owed_if (nat_lt (length w.tunnel.gateway.acted) k && drops (said b) k) ChannelCloses) new))
     (subst (λ (x : CountsNow). AreCounts x (start_of b) (Up c.args.age ∷ es)) (sym c.connect_if.ensures)
