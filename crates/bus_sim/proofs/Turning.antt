@@ -15,8 +15,11 @@ use Rattle.knx_model.specs.Device.{Effect}
 use Rattle.knx_model.specs.DeviceState.{DeviceState}
 use Rattle.knx_model.specs.ScriptText.{are_script_lines, is_script_line, is_script_what, is_count}
 use Rattle.line_model.specs.Counts.{age_of, number_at, asks_connect, is_connect_at, connects_reached, frames_to, writes, write_of}
-use Rattle.line_model.specs.Deliveries.{delivery, refused_if, carriage, carriage_of, carried_to, written_at, write_event, torn_if, worn_if, effect_at}
-use Rattle.line_model.specs.Follows.{IsNext, IsInPlace, IsNextUp, IsNextDown}
+use Rattle.line_model.specs.Deliveries.{next_up, next_down, delivery, refused_if, carriage, carriage_of, carried_to, written_at, write_event, torn_if, worn_if, effect_at}
+use Rattle.line_model.specs.Follows.{IsNext, IsInPlace, IsNextUp, IsNextDown, IsGatewayRepeat, IsGatewayClosing, gateway_due}
+use Rattle.line_model.specs.Fresh.{Settled, SettledFor}
+use Rattle.line_model.specs.Gateway as gateway
+use Rattle.line_model.specs.Gateway.{GatewayExpired}
 use Rattle.line_model.specs.Legal.{MayHappen, OfDevice}
 use Rattle.line_model.specs.LinkStory.{IsForeign, GoesOn, Same, More}
 use Rattle.line_model.specs.Lines.{Script, loses_up, loses_down, script_of, first_said, or_later, status_at, refuses, loses_to, cuts, wears}
@@ -24,14 +27,20 @@ use Rattle.line_model.specs.Network.{Sent, OfSent, IsUnderWay}
 use Rattle.line_model.specs.Owed.{Owed, DeliverAgain, ReachAgain, BringAgain, owed, met, is_possible}
 use Rattle.line_model.specs.Reading.{datagram_in, is_connect_request}
 use Rattle.line_model.specs.Tunnel.{Mode, Commissions, IsConnectRequest, made}
-use Rattle.line_model.specs.World.{World, Event, Up, UpRefused, Down, Bus, BusTorn, BusWorn, BusAgain, LoseUp, LoseDown, Pass, frame_by, next_frame, now, replay, step}
+use Rattle.line_model.specs.World.{World, Event, Up, UpRefused, Down, Bus, BusTorn, BusWorn, BusAgain, LoseUp, LoseDown, DevSend, DevRepeat, DevClose, GwRepeat, GwClose, Pass, frame_by, next_frame, now, replay, step}
+use Rattle.knx_model.specs.declared.device.Sending.{Sending}
+use Rattle.knx_model.specs.declared.device.Sending.TheVariants.{Repeat, Closing}
+use Rattle.knx_model.specs.DeviceSending.{next_sending}
+use Rattle.line_sim.specs.declared.gateway.Due.TheVariants as due
+use Rattle.line_sim.specs.Gateways.{due_of}
+use Rattle.line_sim.specs.Places.{sending_at}
 use Rattle.line_sim.specs.Allowed.{Allows}
 use Rattle.line_sim.specs.Line.{LineNow, IsNow, AreCounted, frame_due}
 use Rattle.network_sim.specs.Window.{CanTell}
 use Rattle.script_index.specs.declared.index.ScriptIndex.{ScriptIndex}
 use Rattle.bus_sim.specs.declared.beginning.Beginning.{Beginning}
 use Rattle.bus_sim.specs.Begun.{said, start_of}
-use Rattle.bus_sim.specs.Choices.{delivered, carried}
+use Rattle.bus_sim.specs.Choices.{delivered, carried, heard_so}
 use Rattle.bus_sim.specs.Counted.{CountsNow}
 use Rattle.bus_sim.specs.Held.{IsHeld}
 use Rattle.bus_sim.specs.Owing.{first_of}
@@ -345,6 +354,30 @@ module _ (b : Beginning) (es : List Event) (index : ScriptIndex) (n : LineNow) (
       (carried_right r frame (e state) (subst (λ (v : RunState). NothingCalled (seen v)) (sym view) free) (subst (λ (v : RunState). Some frame ≡ next_frame (world v)) (sym view) due)
       (subst (λ (v : RunState). e v ≡ carried v frame) (sym view) so) (allowed Commissions n (replay (start_of b) es) (e state) h.pictured allows))
 
+  pub next_down_is : (result : Option ℕ) (v : RunState) → state ≡ v → ((w : World) → IsNow n w → result ≡ next_down Commissions w) → result ≡ next_down Commissions (world v)
+  next_down_is result v view is = subst (λ (v : RunState). result ≡ next_down Commissions (world v)) view (is (replay (start_of b) es) h.pictured)
+
+  pub next_up_is : (result : Option ℕ) (v : RunState) → state ≡ v → ((w : World) → IsNow n w → result ≡ next_up w) → result ≡ next_up (world v)
+  next_up_is result v view is = subst (λ (v : RunState). result ≡ next_up (world v)) view (is (replay (start_of b) es) h.pictured)
+
+  pub sender_is : (result : Option (ℕ × Sending)) (v : RunState) → state ≡ v → IfSome result (λ sender. (w : World) → IsNow n w → sending_at (w.devices sender.0) (now w) ≡ Some sender.1)
+      → IfSome result (λ sender. sending_at ((world v).devices sender.0) (now (world v)) ≡ Some sender.1)
+  sender_is None v view is = tt
+  sender_is (Some sender) v view is = subst (λ (v : RunState). sending_at ((world v).devices sender.0) (now (world v)) ≡ Some sender.1) view (is (replay (start_of b) es) h.pictured)
+
+  -- time passes
+  pub pass_right : (ms : ℕ) (v : RunState) → state ≡ v → NothingCalled (seen v) → SettledFor Commissions (replay (start_of b) es) ms → IsRight (seen v) (Pass ms)
+  pass_right ms v view free settled = subst (λ (v : RunState). IsRight (seen v) (Pass ms)) view
+      (free_right r (Pass ms) (subst (λ (v : RunState). NothingCalled (seen v)) (sym view) free) settled (record { tunnel = tt; devices = tt }))
+
+  pub settled_of : (v : RunState) → state ≡ v → Settled Commissions (world v) → Settled Commissions (replay (start_of b) es)
+  settled_of v view settled = subst (λ (v : RunState). Settled Commissions (world v)) (sym view) settled
+
+  pub still_until : (ms at end : ℕ) (v : RunState) → state ≡ v → Settled Commissions (world v) → at ≡ now (replay (start_of b) es)
+      → ((mode : Mode) (w : World) → IsNow n w → Settled mode w → (ms : ℕ) → now w + ms ≤ end → SettledFor mode w ms) → (ms ≡ 0) ⊎ (at + ms ≤ end) → SettledFor Commissions (replay (start_of b) es) ms
+  still_until ms at end v view settled is law (inl none) = record { settled = settled_of v view settled; still = λ t early. absurd (omega (arith, none, early)) }
+  still_until ms at end v view settled is law (inr until) = law Commissions (replay (start_of b) es) h.pictured (settled_of v view settled) ms (subst (λ k. k + ms ≤ end) is until)
+
 -- the sender's datagram is lost
 was_up : (made age : ℕ) (o : Option Sent) → OfSent (IsUnderWay made age) o → OfSent (λ s. Unit {0}) o
 was_up made age None h = h
@@ -372,3 +405,46 @@ comes_right r age lines free next may = free_right r (delivery (script r) (start
 -- a frame that waits for the bus goes over it
 pub goes_over : (n : LineNow) (w : World) (frame : Ldata) → IsNow n w → Some frame ≡ next_frame w → frame_due n ≢ None
 goes_over n w frame is due none = some_no (due ∙ sym (frame_alike n w is) ∙ none)
+
+-- ---- what devices and the gateway send
+
+is_due : (o : Option DeviceState) (at : ℕ) (which : Sending) → sending_at o at ≡ Some which → OfDevice (λ d. next_sending d at ≡ Some which) o
+is_due None at which e = absurd (no_some e)
+is_due (Some d) at which e = e
+
+pub sends_right : (v : RunState) (device : ℕ) → NothingCalled (seen v) → MayHappen Commissions (world v) (DevSend device (heard_so v device) []) → IsRight (seen v) (DevSend device (heard_so v device) [])
+sends_right v device free may = free_right (seen v) (DevSend device (heard_so v device) []) free (refl, refl) may
+
+pub repeats_right : (v : RunState) (device : ℕ) → NothingCalled (seen v) → sending_at ((world v).devices device) (now (world v)) ≡ Some Repeat → MayHappen Commissions (world v) (DevRepeat device (heard_so v device)) → IsRight (seen v) (DevRepeat device (heard_so v device))
+repeats_right v device free due may = free_right (seen v) (DevRepeat device (heard_so v device)) free (refl, is_due ((world v).devices device) (now (world v)) Repeat due) may
+
+pub closing_right : (v : RunState) (device : ℕ) → NothingCalled (seen v) → sending_at ((world v).devices device) (now (world v)) ≡ Some Closing → MayHappen Commissions (world v) (DevClose device) → IsRight (seen v) (DevClose device)
+closing_right v device free due may = free_right (seen v) (DevClose device) free (is_due ((world v).devices device) (now (world v)) Closing due) may
+
+is_repeat : (d : GatewayExpired) → due_of d ≡ due.Repeat → IsGatewayRepeat d
+is_repeat gateway.Nothing e = absurd (other e)
+  where
+    other : due.Nothing ≡ due.Repeat → ⊥
+    other e = cc
+is_repeat (gateway.Repeat frame) e = tt
+is_repeat (gateway.Closing frame) e = absurd (other e)
+  where
+    other : due.Closed ≡ due.Repeat → ⊥
+    other e = cc
+
+is_closing : (d : GatewayExpired) → due_of d ≡ due.Closed → IsGatewayClosing d
+is_closing gateway.Nothing e = absurd (other e)
+  where
+    other : due.Nothing ≡ due.Closed → ⊥
+    other e = cc
+is_closing (gateway.Repeat frame) e = absurd (other e)
+  where
+    other : due.Repeat ≡ due.Closed → ⊥
+    other e = cc
+is_closing (gateway.Closing frame) e = tt
+
+pub gateway_repeats_right : (v : RunState) → NothingCalled (seen v) → due_of (gateway_due (world v)) ≡ due.Repeat → MayHappen Commissions (world v) GwRepeat → IsRight (seen v) GwRepeat
+gateway_repeats_right v free e may = free_right (seen v) GwRepeat free (is_repeat (gateway_due (world v)) e) may
+
+pub gateway_closes_right : (v : RunState) → NothingCalled (seen v) → due_of (gateway_due (world v)) ≡ due.Closed → MayHappen Commissions (world v) GwClose → IsRight (seen v) GwClose
+gateway_closes_right v free e may = free_right (seen v) GwClose free (is_closing (gateway_due (world v)) e) may

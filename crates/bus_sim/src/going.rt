@@ -106,7 +106,10 @@ impl Run {
                 self.device_sends(device, sending)?;
                 Ok(Turn::Went)
             }
-            None => self.let_pass(left),
+            None => {
+                what_is_settled();
+                self.let_pass(left)
+            }
         }
     }
 

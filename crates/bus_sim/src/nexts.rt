@@ -1,6 +1,6 @@
 //! What is next where the script calls for nothing, and that it happens.
 
-ghost use Rattle.std.specs.Prelude.{◌≡◌, ℕ, ◌≤◌, Some, None, OnOk, OnErr, IfSome, IfNone, IfOk, IsTrue, IsFalse, slice_get};
+ghost use Rattle.std.specs.Prelude.{◌≡◌, ℕ, ◌≤◌, Some, None, OnOk, OnErr, IfSome, IfNone, IfOk, IsTrue, IsFalse, slice_get, ◌+◌, ◌⊎◌};
 ghost use Rattle.knx_model.specs.declared.device.Sending.TheVariants.{Repeat};
 ghost use Rattle.knx_model.specs.Connection.{last_time};
 ghost use Rattle.line_model.specs.Deliveries.{next_up, next_down};
