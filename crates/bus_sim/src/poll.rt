@@ -1,9 +1,9 @@
 //! A poll: the line goes on until the client gets a datagram or the wait is over.
 
-ghost use Rattle.std.specs.Prelude.{◌≡◌, ◌+◌, ◌≤◌, IfOk, OnErr, take};
+ghost use Rattle.std.specs.Prelude.{◌≡◌, ◌+◌, ◌≤◌, ◌<◌, ◌^◌, IfOk, OnErr, length, take};
 ghost use Rattle.knx_model.specs.Connection.{last_time};
 ghost use Rattle.line_model.specs.World.{now};
-ghost use Rattle.bus_sim.specs.Polls.{PolledSo, GoesOnFrom};
+ghost use Rattle.bus_sim.specs.Polls.{PolledSo, EndedSo, GoesOnFrom};
 ghost use Rattle.bus_sim.specs.Went.{world};
 
 use crate::limits::past_all_memory;
@@ -18,18 +18,45 @@ impl Run {
         ensures polled { IfOk result (λ polled. PolledSo polled into.new wait_ms self.old self.new) }
         ensures err { OnErr result (GoesOnFrom self.old self.new) }
     {
-        if self.line.now() > u64::MAX - u64::from(wait_ms) {
+        if self.now() > u64::MAX - u64::from(wait_ms) {
             return Err(past_all_memory(self.alloc));
         }
-        let mut left = wait_ms;
+        match self.run_for(wait_ms)? {
+            Some(octets) => Ok(Polled::Got(fill(into, &octets))),
+            None => Ok(Polled::Quiet),
+        }
+    }
+
+    /// The time of the line.
+    pub fn now(&self) -> u64
+        ensures { result ≡ now (world self.now) }
+    {
+        self.line.now()
+    }
+
+    /// What the client gets within so many milliseconds; None where it gets nothing, and they have passed.
+    fn run_for(&mut self, wait: u32) -> Result<Option<Datagram>, NoMemory>
+        requires { now (world self.old) + wait ≤ last_time }
+        ensures ended { IfOk result (λ got. EndedSo got wait self.old self.new) }
+        ensures err { OnErr result (GoesOnFrom self.old self.new) }
+    {
+        let mut left = wait;
         loop {
+            self.few();
             match self.turn(left)? {
-                Turn::Got(octets) => return Ok(Polled::Got(fill(into, &octets))),
+                Turn::Got(octets) => return Ok(Some(octets)),
                 Turn::Went => {}
                 Turn::Passed(ms) => left -= ms,
-                Turn::Quiet => return Ok(Polled::Quiet),
+                Turn::Quiet => return Ok(None),
             }
         }
+    }
+
+    /// How many events there can be. It does nothing.
+    fn few(&self)
+        ensures { length self.now.events < 2 ^ 62 }
+    {
+        let _ = &self.events;
     }
 }
 
