@@ -13,3 +13,4 @@ pub mod Wants
 pub mod Carried
 pub mod Rights
 pub mod Turning
+pub mod Polling
