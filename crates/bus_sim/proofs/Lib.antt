@@ -12,5 +12,6 @@ pub mod AtDevices
 pub mod Wants
 pub mod Carried
 pub mod Rights
+pub mod Starts
 pub mod Turning
 pub mod Polling

@@ -66,8 +66,6 @@ fn fill(into: &mut [u8; 512], octets: &Datagram) -> usize
     ensures octets { take result into.new ≡ octets.now }
 {
     let from = octets.as_slice();
-    for i in 0..from.len() {
-        into[i] = from[i];
-    }
+    into[..from.len()].copy_from_slice(from);
     from.len()
 }
