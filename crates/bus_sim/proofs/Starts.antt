@@ -1,5 +1,7 @@
 -- A run on which nothing has happened.
 use Rattle.std.proofs.Common.{◌≡◌, ◌≢◌, ℕ, ◌+◌, ◌^◌, ◌<◌, ◌==◌, Bool, true, false, List, [], ◌∷◌, Option, Some, None, refl, ap, sym, subst, ◌∙◌, arith, if◌then◌else◌}
+use Rattle.std.specs.Prelude.{replicate, ◌%◌}
+use Rattle.std.proofs.lemmas.List.{get_or-replicate}
 use Rattle.knx_model.specs.declared.address.IndAddr.{IndAddr}
 use Rattle.knx_model.specs.declared.config.Image.{Image}
 use Rattle.knx_model.specs.DeviceState.{DeviceState}
@@ -12,7 +14,7 @@ use Rattle.script_index.specs.declared.index.ScriptIndex.{ScriptIndex}
 use Rattle.script_index.specs.Stands.{StandsFor}
 use Rattle.bus_sim.specs.declared.beginning.Beginning.{Beginning}
 use Rattle.bus_sim.specs.Begun.{CanBegin, CanLoad, begins, device_begun, said, start_of}
-use Rattle.bus_sim.specs.Counted.{CountsNow, AreCounts, nothing_counted}
+use Rattle.bus_sim.specs.Counted.{CountsNow, AreCounts, counts_at, counts_in, none_counted, nothing_counted}
 use Rattle.bus_sim.specs.Held.{IsHeld, IsLoaded}
 
 none_some : {A : Type 0} {x : A} → None ≡ Some x → ⊥
@@ -42,6 +44,13 @@ none_elsewhere script tunnel (x ∷ devices) a can off = by_test (a == x.0.raw) 
     by_test true f rest = absurd (off (ap line_of (same_number a x.0.raw f) ∙ can.0.line))
     by_test false f rest = rest
 
+zero_at : (line address : ℕ) → counts_at (nothing_counted line) address ≡ none_counted
+zero_at line address = by_test (line_of address == line)
+  where
+    by_test : (t : Bool) → (if t then counts_in (replicate 256 none_counted) (address % 256) else none_counted) ≡ none_counted
+    by_test true = get_or-replicate 256 (address % 256) none_counted none_counted (omega arith)
+    by_test false = refl
+
 pub fresh_start : (b : Beginning) → IsFresh (start_of b)
 fresh_start b = record { tunnel = refl; echo = refl; devices = all_at_rest (said b) b.devices }
 
@@ -51,7 +60,7 @@ held_start b es index n counts owed loaded none stands is zero free = subst (λ 
   loaded = loaded;
   pictured = is;
   indexed = stands;
-  counted = ?;
+  counted = subst (λ (c : CountsNow). AreCounts c (start_of b) []) (sym zero) (record { devices = λ a on. zero_at (line_of b.tunnel.raw) a; connects = refl });
   on_line = ap (λ (c : CountsNow). c.line) zero;
   called = free;
   placed = λ a off. none_elsewhere (said b) b.tunnel b.devices a loaded.can (λ same. off (same ∙ sym (ap (λ (c : CountsNow). c.line) zero)));

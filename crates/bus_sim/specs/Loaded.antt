@@ -4,7 +4,11 @@ use Rattle.std.specs.Prelude.{◌≡◌, [], Option, Some, None}
 use Rattle.knx_model.specs.declared.refusal.Refused.{Refused}
 use Rattle.knx_model.specs.declared.refusal.Why.{Why}
 use Rattle.knx_model.specs.declared.refusal.Why.TheVariants.{NoMemory}
-use Rattle.bus_sim.specs.Begun.{nothing_loaded}
+use Rattle.knx_model.specs.ScriptText.{first_stranger}
+use Rattle.bus_sim.specs.declared.beginning.Beginning.{Beginning}
+use Rattle.bus_sim.specs.declared.bus.Prepared.{Prepared}
+use Rattle.bus_sim.specs.declared.bus.Prepared.TheVariants.{Begins, Stranger}
+use Rattle.bus_sim.specs.Begun.{addresses, nothing_loaded}
 use Rattle.bus_sim.specs.RunNow.{RunNow, RunState, seen}
 
 -- before a run is loaded nothing has happened on a line without devices
@@ -23,3 +27,8 @@ IsWant r _ = ⊥
 abbrev pub IsRefusedFor : Option Refused → Refused → Type 0
 IsRefusedFor None r = IsWant r r.why
 IsRefusedFor (Some stranger) r = r ≡ stranger
+
+-- what was prepared: a run that can begin, or the refusal of the first line that names a stranger
+abbrev pub PreparedSo : Prepared → Beginning → Type 0
+PreparedSo (Begins run) b = (seen run ≡ record { begun = b; events = [] }) × (first_stranger (addresses b.devices) b.script ≡ None)
+PreparedSo (Stranger refused) b = first_stranger (addresses b.devices) b.script ≡ Some refused

@@ -1,8 +1,8 @@
 //! The simulated line as a link.
 
-ghost use Rattle.std.specs.Prelude.{◌≡◌, ◌+◌, ◌≤◌, [], Some, None, IfErr, IfOk, OnErr, OnOk, length, option_copied, take};
+ghost use Rattle.std.specs.Prelude.{◌≡◌, true, ◌+◌, ◌≤◌, [], Some, None, IfErr, IfOk, OnErr, OnOk, length, option_copied, take};
 ghost use Rattle.knx_model.specs.Connection.{last_time};
-ghost use Rattle.knx_model.specs.ScriptText.{first_stranger};
+ghost use Rattle.knx_model.specs.ScriptText.{are_script_lines, first_stranger};
 ghost use Rattle.line_model.specs.Fresh.{IsFresh};
 ghost use Rattle.line_model.specs.Follows.{Follows};
 ghost use Rattle.line_model.specs.Legal.{IsLegal};
@@ -11,9 +11,11 @@ ghost use Rattle.line_model.specs.Polled.{PollsSo};
 ghost use Rattle.line_model.specs.Tunnel.{Commissions};
 ghost use Rattle.line_model.specs.World.{Send, Renew};
 ghost use Rattle.bus_sim.specs.Begun.{CanLoad, addresses};
+ghost use Rattle.bus_sim.specs.Loaded.{PreparedSo};
 ghost use Rattle.bus_sim.specs.RunNow.{happened, script, start, story, time, world};
 
 use crate::beginning::Beginning;
+use crate::limits::past_all_memory;
 use crate::run::Run;
 use knx_model::{Image, IndAddr, List, NoMemory, Refused, ScriptLine, Why};
 use line_model::{Link, LinkFault, Polled};
@@ -66,7 +68,7 @@ impl SimBus {
         ensures err { OnErr result (self.new ≡ self.old) }
     {
         match prepare(alloc, tunnel, devices, script.lines.as_slice()) {
-            Ok(Prepared::Run(run)) => {
+            Ok(Prepared::Begins(run)) => {
                 self.run = Some(run);
                 Ok(())
             }
@@ -115,7 +117,7 @@ const DEFAULT_TUNNEL: IndAddr = IndAddr { raw: 0x11FF };
 /// A run that can begin, or the refusal of the first line that names a stranger.
 #[derive(Drop)]
 enum Prepared {
-    Run(Run),
+    Begins(Run),
     Stranger(Refused),
 }
 
@@ -124,11 +126,15 @@ fn prepare(
     tunnel: IndAddr,
     devices: &[(IndAddr, Option<Image>)],
     script: &[ScriptLine],
-) -> Result<Prepared, NoMemory> {
+) -> Result<Prepared, NoMemory>
+    requires can { CanLoad tunnel devices.now }
+    requires lines { are_script_lines script.now ≡ true }
+    ensures { IfOk result (λ prepared. PreparedSo prepared (record { tunnel = tunnel; devices = devices.now; script = script.now })) }
+{
     let begun = Beginning::of(alloc, tunnel, devices, script)?;
     match begun.stranger(alloc)? {
         Some(refused) => Ok(Prepared::Stranger(refused)),
-        None => Ok(Prepared::Run(Run::begin(alloc, begun)?)),
+        None => Ok(Prepared::Begins(Run::begin(alloc, begun)?)),
     }
 }
 
@@ -156,7 +162,7 @@ impl Link for SimBus {
         self.begun()?;
         match &mut self.run {
             Some(run) => Ok(run.send(octets)?),
-            None => Ok(()),
+            None => Err(LinkFault::NoMemory(past_all_memory(self.alloc))),
         }
     }
 
@@ -164,7 +170,7 @@ impl Link for SimBus {
         self.begun()?;
         match &mut self.run {
             Some(run) => Ok(run.renew()?),
-            None => Ok(()),
+            None => Err(LinkFault::NoMemory(past_all_memory(self.alloc))),
         }
     }
 
@@ -172,13 +178,13 @@ impl Link for SimBus {
         self.begun()?;
         match &mut self.run {
             Some(run) => Ok(run.poll(into, wait_ms)?),
-            None => Ok(Polled::Quiet),
+            None => Err(LinkFault::NoMemory(past_all_memory(self.alloc))),
         }
     }
 
     fn now(&self) -> u64 {
         match &self.run {
-            Some(run) => run.line.now(),
+            Some(run) => run.now(),
             None => 0,
         }
     }
