@@ -3,7 +3,7 @@ use Rattle.std.proofs.Common.{◌≡◌, ℕ, suc, ◌+◌, ◌-◌, ◌^◌, �
 use Rattle.std.specs.Prelude.{slice_get}
 use Rattle.std.proofs.lemmas.List.{take_all}
 use Rattle.line_model.specs.Legal.{MayHappen}
-use Rattle.line_model.specs.LinkStory.{Full, GoesOn, Polls, PollsFull}
+use Rattle.line_model.specs.LinkStory.{capped, Full, GoesOn, Polls, PollsFull}
 use Rattle.line_model.specs.Network.{Sent, OfSent}
 use Rattle.line_model.specs.Record.{Item, Got, Quiet, got}
 use Rattle.line_model.specs.Tunnel.{Commissions}
@@ -94,3 +94,8 @@ ends_quiet old mid new left wait before h =
       all = refl;
       ends = passes (replay (start (seen old)) mid.events) left ∙ sym (ap (λ w. now w + left) sameworld) ∙ before.1;
     })
+
+-- ---- the clock
+
+pub told_so : (told n : ℕ) → told ≤ 2 ^ 64 - 1 → told ≡ n → told ≡ capped n
+told_so told n fits is = omega (arith, fits, is)

@@ -1,6 +1,6 @@
 //! A poll: the line goes on until the client gets a datagram or the wait is over.
 
-ghost use Rattle.std.specs.Prelude.{◌≡◌, ◌+◌, ◌≤◌, ◌<◌, ◌^◌, IfOk, OnErr, length, take};
+ghost use Rattle.std.specs.Prelude.{◌≡◌, ◌+◌, ◌≤◌, ◌<◌, ◌^◌, ◌-◌, IfOk, OnErr, length, take};
 ghost use Rattle.knx_model.specs.Connection.{last_time};
 ghost use Rattle.line_model.specs.World.{now};
 ghost use Rattle.bus_sim.specs.Polls.{PolledSo, EndedSo, GoesOnFrom};
@@ -29,7 +29,8 @@ impl Run {
 
     /// The time of the line.
     pub fn now(&self) -> u64
-        ensures { result ≡ now (world self.now) }
+        ensures value { result ≡ now (world self.now) }
+        ensures fits { result ≤ 2 ^ 64 - 1 }
     {
         self.line.now()
     }
