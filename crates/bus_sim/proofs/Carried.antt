@@ -108,9 +108,6 @@ module _ (w : World) (left_out : List ℕ) (frame : Ldata) (due : Some frame ≡
       by_test true false e f = let h = alike a frame.destination in cc
       by_test false true e f = let h = alike a frame.destination in cc
 
-
-
-
   pub taken_at : (a : ℕ) → takes_alone (w.devices a) (if is_among left_out a then None else next_frame w) ≡ (if a == frame.destination then comes left_out frame && takes_alone (w.devices frame.destination) (Some frame) else false)
   taken_at a = by_here (a == frame.destination) refl
     where

@@ -150,13 +150,13 @@ counted n start es e address met is size few are = by_line (line_of address == n
     on_it : line_of address ≡ n.line → (a : ℕ) → line_of a ≡ n.line → counts_in (grown n address met) (a % 256) ≡ counts_of start (e ∷ es) a
     on_it on a too = decide (counts_in (grown n address met) (a % 256) ≡ counts_of start (e ∷ es) a) (a == address)
         (λ y.
-            let same : a ≡ address = same_number a address y in
-            let within : address % 256 < length n.places = subst (λ k. address % 256 < k) (sym size) (part_below address) in
-            let before : counts_in n.places (address % 256) ≡ counts_of start es a = ap (λ k. counts_in n.places (k % 256)) (sym same) ∙ sym (at a n too refl) ∙ are.devices a too in
-            ap (λ k. counts_in (grown n address met) (k % 256)) same ∙ get_or-set_same n.places (address % 256) (and_met met (counts_in n.places (address % 256))) none_counted within ∙ ap (and_met met) before ∙ own a y)
+        let same : a ≡ address = same_number a address y in
+        let within : address % 256 < length n.places = subst (λ k. address % 256 < k) (sym size) (part_below address) in
+        let before : counts_in n.places (address % 256) ≡ counts_of start es a = ap (λ k. counts_in n.places (k % 256)) (sym same) ∙ sym (at a n too refl) ∙ are.devices a too in
+        ap (λ k. counts_in (grown n address met) (k % 256)) same ∙ get_or-set_same n.places (address % 256) (and_met met (counts_in n.places (address % 256))) none_counted within ∙ ap (and_met met) before ∙ own a y)
         (λ x.
-            let parts : a % 256 ≢ address % 256 = two_parts a address n.line too on (other_number a address x) in
-            get_or-set_other n.places (address % 256) (a % 256) (and_met met (counts_in n.places (address % 256))) none_counted parts ∙ sym (at a n too refl) ∙ are.devices a too ∙ others a x)
+        let parts : a % 256 ≢ address % 256 = two_parts a address n.line too on (other_number a address x) in
+        get_or-set_other n.places (address % 256) (a % 256) (and_met met (counts_in n.places (address % 256))) none_counted parts ∙ sym (at a n too refl) ∙ are.devices a too ∙ others a x)
 
     by_line : (t : Bool) → (line_of address == n.line) ≡ t → AreCounts (added address met n) start (e ∷ es)
     by_line true on = subst (λ (c : CountsNow). AreCounts c start (e ∷ es)) (sym (ap (λ t. if t then record n { places = grown n address met } else n) on)) (record {

@@ -29,7 +29,6 @@ smaller old new e few went = one_more (length old.events) (length new.events) fe
 
 -- ---- it goes on
 
-
 went_on : (a b left c wait : ℕ) → a + left ≡ c + wait → b ≡ a → b + left ≡ c + wait
 went_on a b left c wait h e = omega (arith, h, e)
 
@@ -70,17 +69,19 @@ ended old mid new e what wait before went h = subst (λ (r : RunNow). Polls what
 
 pub ends_got : (old mid new : RunState) (octets : List ℕ) (left wait : ℕ) → GoesOnFrom old mid × (now (world mid) + left ≡ now (world old) + wait) → Gets octets mid new → EndedSo (Some octets) wait old new
 ends_got old mid new octets left wait before h =
-    let sameworld : world mid ≡ replay (start (seen old)) mid.events = ap (λ b. replay (start_of b) mid.events) before.0.same in
-    (h.short, ended old mid new (Down h.age) (Got octets) wait before.0 h.went (record {
-      events = mid.events;
-      foreign = before.0.goes;
-      last = Down h.age;
-      legal = subst (λ w. MayHappen Commissions w (Down h.age)) sameworld h.may;
-      brings = subst (λ (w : World). got (slice_get w.tunnel.network.down h.age) ≡ Some (Got octets)) sameworld (got_so octets (slice_get (world mid).tunnel.network.down h.age) h.short h.got);
-      all = refl;
-      ends = within (now (world mid)) (now (replay (start (seen old)) (Down h.age ∷ mid.events))) left (now (world old)) wait before.1
-          (timeless (replay (start (seen old)) mid.events) (Down h.age) refl ∙ sym (ap now sameworld));
-    }))
+    let sameworld : world mid ≡ replay (start (seen old)) mid.events = ap (λ b. replay (start_of b) mid.events) before.0.same in (
+      h.short,
+      ended old mid new (Down h.age) (Got octets) wait before.0 h.went (record {
+        events = mid.events;
+        foreign = before.0.goes;
+        last = Down h.age;
+        legal = subst (λ w. MayHappen Commissions w (Down h.age)) sameworld h.may;
+        brings = subst (λ (w : World). got (slice_get w.tunnel.network.down h.age) ≡ Some (Got octets)) sameworld (got_so octets (slice_get (world mid).tunnel.network.down h.age) h.short h.got);
+        all = refl;
+        ends = within (now (world mid)) (now (replay (start (seen old)) (Down h.age ∷ mid.events))) left (now (world old)) wait before.1
+            (timeless (replay (start (seen old)) mid.events) (Down h.age) refl ∙ sym (ap now sameworld));
+      }),
+    )
 
 pub ends_quiet : (old mid new : RunState) (left wait : ℕ) → GoesOnFrom old mid × (now (world mid) + left ≡ now (world old) + wait) → Passes left mid new → EndedSo None wait old new
 ends_quiet old mid new left wait before h =

@@ -1,6 +1,6 @@
 -- What a simulated line is seen as: its run. Why a run isn't loaded: a line of the script names a device that isn't listed, and the first such line is
 -- told; or there was no memory.
-use Rattle.std.specs.Prelude.{◌≡◌, [], Option, Some, None}
+use Rattle.std.specs.Prelude.{◌≡◌, ◌⊎◌, [], Option, Some, None}
 use Rattle.knx_model.specs.declared.refusal.Refused.{Refused}
 use Rattle.knx_model.specs.declared.refusal.Why.{Why}
 use Rattle.knx_model.specs.declared.refusal.Why.TheVariants.{NoMemory}
@@ -24,9 +24,9 @@ abbrev pub IsWant : Refused → Why → Type 0
 IsWant r (NoMemory want) = r.line ≡ 0
 IsWant r _ = ⊥
 
+-- the first stranger, or want of memory
 abbrev pub IsRefusedFor : Option Refused → Refused → Type 0
-IsRefusedFor None r = IsWant r r.why
-IsRefusedFor (Some stranger) r = r ≡ stranger
+IsRefusedFor stranger r = (stranger ≡ Some r) ⊎ IsWant r r.why
 
 -- what was prepared: a run that can begin, or the refusal of the first line that names a stranger
 abbrev pub PreparedSo : Prepared → Beginning → Type 0

@@ -62,7 +62,10 @@ impl Beginning {
 }
 
 /// The addresses that are listed.
-fn addresses_of(alloc: Global, devices: &[(IndAddr, Option<Image>)]) -> Result<List<IndAddr>, NoMemory>
+fn addresses_of(
+    alloc: Global,
+    devices: &[(IndAddr, Option<Image>)],
+) -> Result<List<IndAddr>, NoMemory>
     ensures { IfOk result (λ made. made ≡ addresses devices.now) }
 {
     let mut made = List::new(alloc);

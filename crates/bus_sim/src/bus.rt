@@ -11,7 +11,7 @@ ghost use Rattle.line_model.specs.Polled.{PollsSo};
 ghost use Rattle.line_model.specs.Tunnel.{Commissions};
 ghost use Rattle.line_model.specs.World.{Send, Renew};
 ghost use Rattle.bus_sim.specs.Begun.{CanLoad, addresses};
-ghost use Rattle.bus_sim.specs.Loaded.{PreparedSo};
+ghost use Rattle.bus_sim.specs.Loaded.{IsWant, PreparedSo};
 ghost use Rattle.bus_sim.specs.RunNow.{happened, script, start, story, time, world};
 
 use crate::beginning::Beginning;
@@ -139,7 +139,9 @@ fn prepare(
 }
 
 /// Want of memory, told of no line.
-fn want_of(want: NoMemory) -> Refused {
+fn want_of(want: NoMemory) -> Refused
+    ensures { IsWant result result.why }
+{
     Refused {
         line: 0,
         why: Why::NoMemory(want),

@@ -138,7 +138,13 @@ impl Run {
         ensures err { OnErr result (Stays self.old self.new) }
     {
         let octets = self.line.torn_octets(self.alloc, k)?;
-        make_room(self.alloc, &mut self.events, &mut self.owed, &self.line, octets.len())?;
+        make_room(
+            self.alloc,
+            &mut self.events,
+            &mut self.owed,
+            &self.line,
+            octets.len(),
+        )?;
         self.line.names();
         let device = frame.destination;
         let counts = self.counts.of(device);
@@ -155,7 +161,8 @@ impl Run {
             third,
         };
         self.owed.meet(caused, &self.line);
-        self.events.push(torn(k, octets.len() as u64), octets.as_slice());
+        self.events
+            .push(torn(k, octets.len() as u64), octets.as_slice());
         Ok(())
     }
 
@@ -170,7 +177,13 @@ impl Run {
         ensures err { OnErr result (Stays self.old self.new) }
     {
         let octets = self.line.worn_octets();
-        make_room(self.alloc, &mut self.events, &mut self.owed, &self.line, octets.len())?;
+        make_room(
+            self.alloc,
+            &mut self.events,
+            &mut self.owed,
+            &self.line,
+            octets.len(),
+        )?;
         self.line.names();
         let device = frame.destination;
         let counts = self.counts.of(device);

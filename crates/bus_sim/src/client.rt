@@ -15,10 +15,17 @@ impl Run {
         ensures went { OnOk result (Went self.old (Send octets.now) self.new) }
         ensures err { OnErr result (Stays self.old self.new) }
     {
-        make_room(self.alloc, &mut self.events, &mut self.owed, &self.line, octets.len())?;
+        make_room(
+            self.alloc,
+            &mut self.events,
+            &mut self.owed,
+            &self.line,
+            octets.len(),
+        )?;
         self.line.send(octets);
         self.owed.wait(&self.line);
-        self.events.push(Happened::Send(octets.len() as u64), octets);
+        self.events
+            .push(Happened::Send(octets.len() as u64), octets);
         Ok(())
     }
 

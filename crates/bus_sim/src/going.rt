@@ -16,7 +16,7 @@ ghost use Rattle.bus_sim.specs.Went.{Stays, world};
 use crate::run::Run;
 use crate::turn::Turn;
 use knx_model::NoMemory;
-use line_sim::{what_is_settled, Due};
+use line_sim::{Due, what_is_settled};
 
 impl Run {
     /// Nothing is called for.

@@ -22,7 +22,7 @@ ghost use Rattle.bus_sim.specs.Went.{IsRight, Stays, world};
 use crate::run::Run;
 use crate::turn::Turn;
 use knx_model::{Ldata, NoMemory, Sending};
-use line_sim::{what_is_due_is_allowed, Due};
+use line_sim::{Due, what_is_due_is_allowed};
 
 impl Run {
     /// The age of the gateway's datagram that goes next.

@@ -12,4 +12,5 @@ use std::alloc::Global;
 use std::test::Fail;
 
 const TUNNEL: IndAddr = IndAddr { raw: 0x11FF };
+
 const DEVICE: IndAddr = IndAddr { raw: 0x1105 };
