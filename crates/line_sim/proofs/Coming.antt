@@ -75,12 +75,12 @@ pub brought_more : (n : DevicesNow) (left_out : List ℕ) (frame : Ldata) (part 
     → (k : ℕ) → k < part + 1 → IsBroughtAt n left_out frame k (slice_index_or more k NotTaken)
 brought_more n left_out frame part all more one is long before here k h = elim (cases_lt k part) [
   | inl less ↦
-    let within : k < length all = omega (arith, less, long) in
-    subst (IsBroughtAt n left_out frame k) (sym (ap (λ (xs : List Brought). slice_index_or xs k NotTaken) is ∙ get_or-append all (one ∷ []) NotTaken k within)) (before k less)
+      let within : k < length all = omega (arith, less, long) in
+      subst (IsBroughtAt n left_out frame k) (sym (ap (λ (xs : List Brought). slice_index_or xs k NotTaken) is ∙ get_or-append all (one ∷ []) NotTaken k within)) (before k less)
   | inr more_than ↦
-    let at : k ≡ part = omega (arith, h, more_than) in
-    let there : slice_index_or more k NotTaken ≡ one = ap (λ (xs : List Brought). slice_index_or xs k NotTaken) is ∙ get_or_push all one NotTaken k (long ∙ sym at) in
-    subst (IsBroughtAt n left_out frame k) (sym there) (subst (λ (i : ℕ). IsBroughtAt n left_out frame i one) (sym at) here)
+      let at : k ≡ part = omega (arith, h, more_than) in
+      let there : slice_index_or more k NotTaken ≡ one = ap (λ (xs : List Brought). slice_index_or xs k NotTaken) is ∙ get_or_push all one NotTaken k (long ∙ sym at) in
+      subst (IsBroughtAt n left_out frame k) (sym there) (subst (λ (i : ℕ). IsBroughtAt n left_out frame i one) (sym at) here)
 ]
 
 -- all places have got what was brought to them: so the frame came
@@ -134,9 +134,9 @@ pub behind_more : (old mid new : List (Option DeviceState)) (frame : Ldata) (bro
     → (k : ℕ) → part - 1 ≤ k → k < 256 → device_in new k ≡ brought_there frame (device_in old k) (slice_index_or brought k NotTaken)
 behind_more old mid new frame brought part one some is before behind here others k h lt = elim (same_or_other k (part - 1)) [
   | inl e ↦
-    let less : part - 1 < part = omega arith in
-    ap (device_in new) e ∙ here ∙ ap (λ (o : Option DeviceState). brought_there frame o one) (before (part - 1) less) ∙ ap (brought_there frame (device_in old (part - 1))) is
-    ∙ ap (λ (i : ℕ). brought_there frame (device_in old i) (slice_index_or brought i NotTaken)) (sym e)
+      let less : part - 1 < part = omega arith in
+      ap (device_in new) e ∙ here ∙ ap (λ (o : Option DeviceState). brought_there frame o one) (before (part - 1) less) ∙ ap (brought_there frame (device_in old (part - 1))) is
+      ∙ ap (λ (i : ℕ). brought_there frame (device_in old i) (slice_index_or brought i NotTaken)) (sym e)
   | inr ne ↦ let more : part ≤ k = omega (arith, h, ne) in others k ne ∙ behind k more lt
 ]
 

@@ -109,11 +109,14 @@ may_wear n h = by_frame (frame_due n) h
   where
     by_device : (frame : Ldata) (o : Option DeviceState) → write_of o (Some frame) ≡ Some Memory → (frame.group ≡ false) × OfDevice (λ d. MayTake d frame (Worn (worn_octets (effect_at o frame)))) o
     by_device frame None h = cc
-    by_device frame (Some d) h = (write_is_alone d frame h, record {
-      write = h;
-      each = length-map (octets_sent (effect_of_frame d frame)) (λ (octet : ℕ). 255 - octet);
-      eight_bits = complements_are_octets (octets_sent (effect_of_frame d frame));
-    })
+    by_device frame (Some d) h = (
+      write_is_alone d frame h,
+      record {
+        write = h;
+        each = length-map (octets_sent (effect_of_frame d frame)) (λ (octet : ℕ). 255 - octet);
+        eight_bits = complements_are_octets (octets_sent (effect_of_frame d frame));
+      },
+    )
 
     by_frame : (o : Option Ldata) → write_at n.devices o ≡ Some Memory → MayGoSo n (Worn (worn_octets (effect_on n.devices o))) o
     by_frame None h = cc
