@@ -1,12 +1,2 @@
-pub mod Numbers
-pub mod Sendable
-pub mod Ends
-pub mod Told
-pub mod Confirmed
-pub mod Expired
-pub mod Goes
-pub mod Sent
-pub mod Heard
-pub mod Hears
-pub mod Results
-pub mod Causes
+mod Numbers
+mod Sendable
