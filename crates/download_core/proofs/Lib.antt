@@ -1,2 +1,10 @@
 mod Numbers
 mod Sendable
+mod Told
+mod Confirmed
+mod Replies
+mod Learns
+mod Hears
+mod Goes
+mod Repeats
+mod Sent

@@ -1,0 +1,8 @@
+use Rattle.download_core.proofs.Told.{aside_fits}
+use Rattle.download_core.proofs.Sent.{sent_fits}
+use Rattle.download_core.proofs.Hears.{heard_fits}
+use Rattle.download_core.proofs.Confirmed.{confirmed_fits}
+use Rattle.download_core.proofs.laws.follows_the_record.Goals as goal
+
+pub returns-clause-aside : goal.returns-clause-aside
+returns-clause-aside c = ?
