@@ -8,3 +8,10 @@ mod Hears
 mod Goes
 mod Repeats
 mod Sent
+mod Reaching
+mod Readings
+mod Sessions
+mod Acked
+mod Puts
+mod Tally
+mod Outcomes

@@ -1,4 +1,10 @@
 use Rattle.download_core.proofs.Told.{aside_fits}
+use Rattle.download_core.proofs.Outcomes.{missing_agrees}
+use Rattle.download_core.proofs.Puts.{put_first}
+use Rattle.download_core.proofs.Sessions.{up_kept}
+use Rattle.download_core.proofs.Acked.{acked_up}
+use Rattle.download_core.proofs.Reaching.{reverse_split}
+use Rattle.download_core.proofs.Readings.{goes_on}
 use Rattle.download_core.proofs.Sent.{sent_fits}
 use Rattle.download_core.proofs.Hears.{heard_fits}
 use Rattle.download_core.proofs.Confirmed.{confirmed_fits}
