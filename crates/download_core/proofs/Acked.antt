@@ -30,7 +30,7 @@ acked_over : (device : IndAddr) (n : ℕ) (m : Moment) (l : List Moment) → num
 acked_over device n m l o w =
     over_after device None (Some (Ack n)) None m l w ∙ taken_number (is_acknowledged (Some (Ack n)) (number device.raw l)) (suc (acknowledged device.raw l)) (acknowledged device.raw l) (ap (is_acknowledged (Some (Ack n))) o ∙ same_number n)
 
-acked_got : (device : IndAddr) (n : ℕ) (m : Moment) (l : List Moment) → IsMoment device None (Some (Ack n)) None m → answers device.raw (m ∷ l) ≡ answers device.raw l
+pub acked_got : (device : IndAddr) (n : ℕ) (m : Moment) (l : List Moment) → IsMoment device None (Some (Ack n)) None m → answers device.raw (m ∷ l) ≡ answers device.raw l
 acked_got device n m l w = got_after device None (Some (Ack n)) None m l w
 
 expects_same : (device e : ℕ) (m : Moment) (l : List Moment) → Expects device e l → answers device (m ∷ l) ≡ answers device l → Expects device e (m ∷ l)

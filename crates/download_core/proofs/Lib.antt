@@ -15,3 +15,8 @@ mod Acked
 mod Puts
 mod Tally
 mod Outcomes
+mod Conns
+mod HeardIn
+mod HeardConn
+mod Comes
+mod Answered

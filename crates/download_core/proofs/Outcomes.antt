@@ -1,6 +1,6 @@
 -- What an attempt comes to is what its session shows.
 use Rattle.std.proofs.Common.{◌≡◌, ◌<◌, ◌⊎◌, inl, inr, ◌-◌, ℕ, suc, Bool, true, false, List, [], ◌∷◌, ◌++◌, length, reverse, Option, Some, None, refl, ap, sym, subst, ◌∙◌, if◌then◌else◌, arith}
-use Rattle.knx_model.specs.declared.log.Sign.{Sign}
+use Rattle.knx_model.specs.declared.plan.Expect.{Expect}
 use Rattle.knx_model.specs.ClientConnection.{ClientEnd, Asked, Up, Asking, Awaiting, Ended as NoConnection, awaits_nothing}
 use Rattle.knx_model.specs.Plans.{Plan, Over, Asks}
 use Rattle.line_model.specs.Attempts.{awaits}
@@ -12,7 +12,7 @@ use Rattle.download_core.specs.declared.outcome.Outcome.{Outcome}
 use Rattle.download_core.specs.declared.outcome.Outcome.TheVariants.{Failed, Done, Refused}
 use Rattle.download_core.specs.Attempt.{Standing, Next, AnswerOf, Attempt, is_over, result_or, comes_to}
 use Rattle.download_core.specs.Fits.{HasAnswer, StandsWith}
-use Rattle.download_core.specs.InSession.{IsRight, WentWrong, PlanFits, StandsAt}
+use Rattle.download_core.specs.InSession.{WentWrong, PlanFits, StandsAt}
 use Rattle.download_core.specs.Record.{IsUnfinished}
 use Rattle.download_core.proofs.Reaching.{same_place, reaches_more, past_over, past_missing, past_wrong, reverse_split}
 use Rattle.download_core.proofs.Tally.{Counts, Tally}
@@ -80,19 +80,23 @@ missing_agrees device plan sent l s x op got expected r =
 
 -- ---- while nothing is awaited, and operations are left
 
-next_agrees : (device : ℕ) (plan left : Plan) (sent : ℕ) (l : List Moment) → length (services device l) ≡ sent → Reaches plan sent (reverse (answers device l)) left → (op : ℕ) (got expected : List ℕ) → IsRefused device plan op got expected l → ⊥
+pub next_agrees : (device : ℕ) (plan left : Plan) (sent : ℕ) (l : List Moment) → length (services device l) ≡ sent → Reaches plan sent (reverse (answers device l)) left → (op : ℕ) (got expected : List ℕ) → IsRefused device plan op got expected l → ⊥
 next_agrees device plan left sent l s f op got expected r =
     let split = split_reaches plan sent (answers device l) r.later r.before got left r.taken f in elim (r.why) [
       | inl a ↦ past_wrong plan op (reverse r.before) got (reverse r.later) a.left left expected a.so_far a.differs (subst (λ (j : ℕ). Reaches plan j (reverse r.before ++ got ∷ reverse r.later) left) (sym s ∙ a.last) split)
       | inr u ↦ let less : length (services device l) < sent = reaches_more plan (length (services device l)) sent (reverse r.before) got (reverse r.later) u.left left u.so_far split in (let p : length (services device l) ≡ sent = s in omega arith)
     ]
 
+-- operations are left, so it isn't over
+pub same_over : (plan : Plan) (sent : ℕ) (got : List (List ℕ)) (apdu : List ℕ) (expect : Expect) (next : Option (List ℕ) → Plan) → Reaches plan sent (reverse got) (Asks apdu expect next) → Reaches plan sent (reverse got) Over → ⊥
+same_over plan sent got apdu expect next f h = cc (same_place plan sent (reverse got) (Asks apdu expect next) Over f h)
+
 -- ---- an attempt that fails is unfinished
 
 not_next : (n k : ℕ) → Outstanding n ≡ NextNumber k → ⊥
 not_next n k h = cc h
 
-unfinished_at : (device : ℕ) (plan : Plan) (a : Attempt) (conn : ClientEnd) (l : List Moment) → a.conn ≡ conn → awaits_nothing conn ≡ false → (a.wrong ≡ None → StandsWith (awaits conn) a.standing) → Tally device plan a l → IsUnfinished device plan l
+pub unfinished_at : (device : ℕ) (plan : Plan) (a : Attempt) (conn : ClientEnd) (l : List Moment) → a.conn ≡ conn → awaits_nothing conn ≡ false → (a.wrong ≡ None → StandsWith (awaits conn) a.standing) → Tally device plan a l → IsUnfinished device plan l
 unfinished_at device plan a (Asked to) l c n s t = absurd (subst (λ (e : ClientEnd). Counts device e a.sent l) c t.counts)
 unfinished_at device plan a (Up x) l c n s t = absurd (cc n)
 unfinished_at device plan a (Asking x q) l c n s t =
@@ -103,7 +107,7 @@ unfinished_at device plan a (Asking x q) l c n s t =
     }
 unfinished_at device plan a (Awaiting x) l c n s t =
     let counts = subst (λ (e : ClientEnd). Counts device e a.sent l) c t.counts in
-    let right = subst (λ (e : ClientEnd). IsRight e a.wrong) c t.right in
+    let right = subst (λ (e : ClientEnd). awaits e ≡ true → a.wrong ≡ None) c t.right refl in
     let gap = missing device plan a.wrong a.standing a.sent l right s t.stands in
     record {
       goes_on = λ h. missing_stays plan a.sent (answers device l) gap (subst (λ (j : ℕ). Reaches plan j (reverse (answers device l)) Over) counts.1 h);

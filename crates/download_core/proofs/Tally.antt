@@ -13,7 +13,7 @@ use Rattle.download_core.specs.declared.outcome.Outcome.{Outcome}
 use Rattle.download_core.specs.declared.outcome.Outcome.TheVariants.{Failed, Done, Refused}
 use Rattle.download_core.specs.Attempt.{Standing, Next, AnswerOf, Attempt, is_over, result_or, comes_to}
 use Rattle.download_core.specs.Fits.{HasAnswer, StandsWith}
-use Rattle.download_core.specs.InSession.{ConnFits, StandsAt, WentWrong, PlanFits, IsRight, SessionFits}
+use Rattle.download_core.specs.InSession.{ConnFits, StandsAt, WentWrong, PlanFits, SessionFits}
 use Rattle.download_core.specs.Record.{IsUnfinished}
 use Rattle.download_core.proofs.Readings.{IsSame}
 use Rattle.download_core.proofs.Reaching.{same_place, reaches_more, past_over, past_missing, past_wrong, reverse_split}
@@ -31,7 +31,7 @@ pub record Tally (device : ℕ) (plan : Plan) (a : Attempt) (l : List Moment) : 
   pub counts : Counts device a.conn a.sent l
   pub sent : length (services device l) ≡ a.sent
   pub stands : PlanFits device plan a.wrong a.standing a.sent l
-  pub right : IsRight a.conn a.wrong
+  pub right : awaits a.conn ≡ true → a.wrong ≡ None
 
 counts_of : (device : ℕ) (a : Attempt) (conn : ClientEnd) (l : List Moment) → ConnFits device conn a.flight a.sent l → Counts device conn a.sent l
 counts_of device a (Asked to) l f = f
@@ -45,10 +45,16 @@ tally_of device plan a l f = record { counts = counts_of device a a.conn l f.con
 
 -- ---- a moment that counts for nothing
 
-same_length : (device : ℕ) (m : Moment) (l : List Moment) → IsSame device m l → length (services device (m ∷ l)) ≡ length (services device l)
-same_length device m l e = ap (λ (x : List (List ℕ)). length x) e.put
+abbrev pub SameAnswers : ℕ → Moment → List Moment → Type 0
+SameAnswers device m l = answers device (m ∷ l) ≡ answers device l
 
-why_kept : (device : ℕ) (plan : Plan) (w : Refusal) (before : List (List ℕ)) (m : Moment) (l : List Moment) → IsSame device m l → AnsweredWrong device plan w.op w.got w.expected before l ⊎ Unawaited device plan w.op w.expected before l
+abbrev pub SameServices : ℕ → Moment → List Moment → Type 0
+SameServices device m l = services device (m ∷ l) ≡ services device l
+
+pub same_length : (device : ℕ) (m : Moment) (l : List Moment) → SameServices device m l → length (services device (m ∷ l)) ≡ length (services device l)
+same_length device m l e = ap (λ (x : List (List ℕ)). length x) e
+
+pub why_kept : (device : ℕ) (plan : Plan) (w : Refusal) (before : List (List ℕ)) (m : Moment) (l : List Moment) → SameServices device m l → AnsweredWrong device plan w.op w.got w.expected before l ⊎ Unawaited device plan w.op w.expected before l
     → AnsweredWrong device plan w.op w.got w.expected before (m ∷ l) ⊎ Unawaited device plan w.op w.expected before (m ∷ l)
 why_kept device plan w before m l e (inl a) = inl (record { last = same_length device m l e ∙ a.last; left = a.left; so_far = a.so_far; differs = a.differs })
 why_kept device plan w before m l e (inr u) = inr (record {
@@ -58,12 +64,13 @@ why_kept device plan w before m l e (inr u) = inr (record {
   last = u.last ∙ ap (λ (k : ℕ). k - 1) (sym (same_length device m l e));
 })
 
-pub wrong_kept : (device : ℕ) (plan : Plan) (w : Refusal) (m : Moment) (l : List Moment) → IsSame device m l → WentWrong device plan w l → WentWrong device plan w (m ∷ l)
-wrong_kept device plan w m l e f = record { later = f.later; before = f.before; taken = e.got ∙ f.taken; why = why_kept device plan w f.before m l e f.why }
+wrong_kept : (device : ℕ) (plan : Plan) (w : Refusal) (m : Moment) (l : List Moment) → SameAnswers device m l → SameServices device m l → WentWrong device plan w l → WentWrong device plan w (m ∷ l)
+wrong_kept device plan w m l g e f = record { later = f.later; before = f.before; taken = g ∙ f.taken; why = why_kept device plan w f.before m l e f.why }
 
-pub plan_kept : (device : ℕ) (plan : Plan) (w : Option Refusal) (standing : Standing) (sent : ℕ) (m : Moment) (l : List Moment) → IsSame device m l → PlanFits device plan w standing sent l → PlanFits device plan w standing sent (m ∷ l)
-plan_kept device plan None standing sent m l e f = subst (StandsAt plan standing sent) (sym e.got) f
-plan_kept device plan (Some w) standing sent m l e f = wrong_kept device plan w m l e f
+pub plan_kept : (device : ℕ) (plan : Plan) (w : Option Refusal) (standing : Standing) (sent : ℕ) (m : Moment) (l : List Moment) → SameAnswers device m l → SameServices device m l → PlanFits device plan w standing sent l
+    → PlanFits device plan w standing sent (m ∷ l)
+plan_kept device plan None standing sent m l g e f = subst (StandsAt plan standing sent) (sym g) f
+plan_kept device plan (Some w) standing sent m l g e f = wrong_kept device plan w m l g e f
 
 counts_kept : (device : ℕ) (conn : ClientEnd) (sent : ℕ) (m : Moment) (l : List Moment) → IsSame device m l → Counts device conn sent l → Counts device conn sent (m ∷ l)
 counts_kept device (Asked to) sent m l e f = f
@@ -75,8 +82,8 @@ counts_kept device NoConnection sent m l e f = f
 pub tally_kept : (device : ℕ) (plan : Plan) (a : Attempt) (m : Moment) (l : List Moment) → IsSame device m l → Tally device plan a l → Tally device plan a (m ∷ l)
 tally_kept device plan a m l e t = record {
   counts = counts_kept device a.conn a.sent m l e t.counts;
-  sent = same_length device m l e ∙ t.sent;
-  stands = plan_kept device plan a.wrong a.standing a.sent m l e t.stands;
+  sent = same_length device m l e.put ∙ t.sent;
+  stands = plan_kept device plan a.wrong a.standing a.sent m l e.got e.put t.stands;
   right = t.right;
 }
 

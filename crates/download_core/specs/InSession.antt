@@ -9,6 +9,7 @@ use Rattle.knx_model.specs.Plans.{Plan}
 use Rattle.line_model.specs.Moments.{Moment, confirmation_in, put_to, Next as NextNumber, Outstanding, number, acknowledged, answers, services}
 use Rattle.line_model.specs.Signs.{Every, IsntAck, IsntConfirmation, SentInVain, IsAwaited, IsStill}
 use Rattle.line_model.specs.Progress.{Reaches}
+use Rattle.line_model.specs.Attempts.{awaits}
 use Rattle.line_model.specs.Told.{AnsweredWrong, Unawaited}
 use Rattle.download_core.specs.declared.flight.Flight.{Flight}
 use Rattle.download_core.specs.declared.flight.Flight.TheVariants.{Frame}
@@ -120,15 +121,10 @@ abbrev pub PlanFits : ℕ → Plan → Option Refusal → Standing → ℕ → L
 PlanFits device plan None standing sent l = StandsAt plan standing sent (answers device l)
 PlanFits device plan (Some wrong) standing sent l = WentWrong device plan wrong l
 
--- the answer of the last operation is awaited only where no answer was wrong
-abbrev pub IsRight : ClientEnd → Option Refusal → Type 0
-IsRight (Awaiting s) wrong = wrong ≡ None
-IsRight _ wrong = Unit {0}
-
--- ---- all of it
+-- ---- all of it: an answer is still to come only where none was wrong
 
 pub record SessionFits (device : ℕ) (plan : Plan) (a : Attempt) (l : List Moment) : Type 0 where
   pub conn : ConnFits device a.conn a.flight a.sent l
   pub sent : length (services device l) ≡ a.sent
   pub stands : PlanFits device plan a.wrong a.standing a.sent l
-  pub right : IsRight a.conn a.wrong
+  pub right : awaits a.conn ≡ true → a.wrong ≡ None

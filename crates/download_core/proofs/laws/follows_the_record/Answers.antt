@@ -1,4 +1,8 @@
 use Rattle.download_core.proofs.Told.{aside_fits}
+use Rattle.download_core.proofs.Answered.{plan_answered}
+use Rattle.download_core.proofs.Comes.{came_stays}
+use Rattle.download_core.proofs.HeardConn.{conn_heard}
+use Rattle.download_core.proofs.HeardIn.{dropped}
 use Rattle.download_core.proofs.Outcomes.{missing_agrees}
 use Rattle.download_core.proofs.Puts.{put_first}
 use Rattle.download_core.proofs.Sessions.{up_kept}
