@@ -31,7 +31,7 @@ end_confirmed (Asking s q) error now k = k
 end_confirmed (Awaiting s) error now k = tt
 end_confirmed NoConnection error now k = tt
 
-awaits_confirmed : (e : ClientEnd) (error : Bool) (now : ℕ) → awaits (after_confirmed e error now) ≡ awaits e
+pub awaits_confirmed : (e : ClientEnd) (error : Bool) (now : ℕ) → awaits (after_confirmed e error now) ≡ awaits e
 unfolding after_confirmed
 awaits_confirmed (Asked d) true now = refl
 awaits_confirmed (Asked d) false now = refl

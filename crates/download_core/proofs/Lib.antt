@@ -20,3 +20,5 @@ mod HeardIn
 mod HeardConn
 mod Comes
 mod Answered
+mod Fares
+mod EndsBy
