@@ -70,10 +70,10 @@ run_aside device plan a m x (Left l) e f w = absurd f
 
 -- ---- a confirmation
 
-begun_frame : (plan : Plan) (a : Attempt) (flight : Flight) → HasBegun plan a → a.flight ≡ flight → (flight ≡ Frame → ⊥) → ⊥
+pub begun_frame : (plan : Plan) (a : Attempt) (flight : Flight) → HasBegun plan a → a.flight ≡ flight → (flight ≡ Frame → ⊥) → ⊥
 begun_frame plan a flight f g n = n (sym g ∙ f.flight)
 
-nothing_frame : Nothing ≡ Frame → ⊥
+pub nothing_frame : Nothing ≡ Frame → ⊥
 nothing_frame e = cc e
 
 reply_frame : Reply ≡ Frame → ⊥

@@ -35,13 +35,13 @@ is_sent a b h = cc h
 
 -- ---- the frames
 
-connect_read : frame_in connect ≡ frame.Connect
+pub connect_read : frame_in connect ≡ frame.Connect
 connect_read = frame_read connect frame.Connect refl
 
-disconnect_read : frame_in disconnect ≡ frame.Disconnect
+pub disconnect_read : frame_in disconnect ≡ frame.Disconnect
 disconnect_read = frame_read disconnect frame.Disconnect refl
 
-numbered_read : (n : ℕ) (apdu : List ℕ) → n < 16 → IsApdu apdu → frame_in (numbered_data n apdu) ≡ frame.Numbered n apdu
+pub numbered_read : (n : ℕ) (apdu : List ℕ) → n < 16 → IsApdu apdu → frame_in (numbered_data n apdu) ≡ frame.Numbered n apdu
 numbered_read n apdu l a = frame_read (numbered_data n apdu) (frame.Numbered n apdu) (l, a, refl)
 
 -- ---- an attempt begins
@@ -77,7 +77,7 @@ stayed_end (Asking s q) now k = k
 stayed_end (Awaiting s) now k = tt
 stayed_end NoConnection now k = tt
 
-stayed_awaits : (e : ClientEnd) (now : ℕ) → awaits (client_stayed e now) ≡ awaits e
+pub stayed_awaits : (e : ClientEnd) (now : ℕ) → awaits (client_stayed e now) ≡ awaits e
 stayed_awaits (Asked d) now = refl
 stayed_awaits (Up s) now = refl
 stayed_awaits (Asking s q) now = refl

@@ -22,3 +22,5 @@ mod Comes
 mod Answered
 mod Fares
 mod EndsBy
+mod SentBy
+mod SentFares

@@ -35,7 +35,7 @@ up_of (Asking s q) h = absurd (cc h)
 up_of (Awaiting s) h = absurd (cc h)
 up_of NoConnection h = absurd (cc h)
 
-up_gives : (conn : ClientEnd) (s : Session) (apdu tpdu : List ℕ) → conn ≡ Up s → sends (client_sent conn apdu) ≡ did.Send tpdu → tpdu ≡ numbered_data s.number apdu
+pub up_gives : (conn : ClientEnd) (s : Session) (apdu tpdu : List ℕ) → conn ≡ Up s → sends (client_sent conn apdu) ≡ did.Send tpdu → tpdu ≡ numbered_data s.number apdu
 unfolding client_sent
 up_gives conn s apdu tpdu c h = sym (is_sent (numbered_data s.number apdu) tpdu (ap (λ (e : ClientEnd). sends (client_sent e apdu)) (sym c) ∙ h))
 

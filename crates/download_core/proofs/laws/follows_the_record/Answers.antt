@@ -1,4 +1,6 @@
 use Rattle.download_core.proofs.Told.{aside_fits}
+use Rattle.download_core.proofs.SentFares.{sent_fares}
+use Rattle.download_core.proofs.SentBy.{silent_for}
 use Rattle.download_core.proofs.EndsBy.{heard_fares}
 use Rattle.download_core.proofs.Fares.{confirmed_fares}
 use Rattle.download_core.proofs.Answered.{plan_answered}
