@@ -36,7 +36,7 @@ Stands a = a.wrong ≡ None → StandsWith (awaits a.conn) a.standing
 
 -- ---- the loss of the channel
 
-loss_is : (what : Deed) → is_loss what ≡ true → what ≡ Loses
+pub loss_is : (what : Deed) → is_loss what ≡ true → what ≡ Loses
 loss_is (Puts frame) e = absurd (cc e)
 loss_is (Takes frame) e = absurd (cc e)
 loss_is Loses e = refl

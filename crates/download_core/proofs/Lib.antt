@@ -24,3 +24,6 @@ mod Fares
 mod EndsBy
 mod SentBy
 mod SentFares
+mod Stretches
+mod Record
+mod SentRecord

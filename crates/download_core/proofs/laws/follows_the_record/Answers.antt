@@ -1,22 +1,24 @@
-use Rattle.download_core.proofs.Told.{aside_fits}
-use Rattle.download_core.proofs.SentFares.{sent_fares}
-use Rattle.download_core.proofs.SentBy.{silent_for}
-use Rattle.download_core.proofs.EndsBy.{heard_fares}
-use Rattle.download_core.proofs.Fares.{confirmed_fares}
-use Rattle.download_core.proofs.Answered.{plan_answered}
-use Rattle.download_core.proofs.Comes.{came_stays}
-use Rattle.download_core.proofs.HeardConn.{conn_heard}
-use Rattle.download_core.proofs.HeardIn.{dropped}
-use Rattle.download_core.proofs.Outcomes.{missing_agrees}
-use Rattle.download_core.proofs.Puts.{put_first}
-use Rattle.download_core.proofs.Sessions.{up_kept}
-use Rattle.download_core.proofs.Acked.{acked_up}
-use Rattle.download_core.proofs.Reaching.{reverse_split}
-use Rattle.download_core.proofs.Readings.{goes_on}
-use Rattle.download_core.proofs.Sent.{sent_fits}
-use Rattle.download_core.proofs.Hears.{heard_fits}
-use Rattle.download_core.proofs.Confirmed.{confirmed_fits}
+use Rattle.download_core.proofs.Record.{aside_follows, confirmed_follows, others_follow, heard_follows, lost_follows}
+use Rattle.download_core.proofs.SentRecord.{sends_rightly, sent_follows}
 use Rattle.download_core.proofs.laws.follows_the_record.Goals as goal
 
 pub returns-clause-aside : goal.returns-clause-aside
-returns-clause-aside c = ?
+returns-clause-aside c = aside_follows
+
+pub returns-clause-confirmed : goal.returns-clause-confirmed
+returns-clause-confirmed c = confirmed_follows
+
+pub returns-clause-others : goal.returns-clause-others
+returns-clause-others c = others_follow
+
+pub returns-clause-heard : goal.returns-clause-heard
+returns-clause-heard c = heard_follows
+
+pub returns-clause-lost : goal.returns-clause-lost
+returns-clause-lost c = lost_follows
+
+pub returns-clause-sends : goal.returns-clause-sends
+returns-clause-sends c = sends_rightly
+
+pub returns-clause-sent : goal.returns-clause-sent
+returns-clause-sent c = sent_follows
