@@ -41,7 +41,7 @@ calm_at device plan a (Asking s q) l c u t = absurd (cc u)
 calm_at device plan a (Awaiting s) l c u t = absurd (cc u)
 calm_at device plan a NoConnection l c u t = absurd (cc u)
 
-isnt_awaited : (conn : ClientEnd) → awaits_nothing conn ≡ true → awaits conn ≡ false
+pub isnt_awaited : (conn : ClientEnd) → awaits_nothing conn ≡ true → awaits conn ≡ false
 isnt_awaited (Asked to) u = absurd (cc u)
 isnt_awaited (Up s) u = refl
 isnt_awaited (Asking s q) u = absurd (cc u)

@@ -158,7 +158,7 @@ up_frame : (s : Session) (apdu : List ℕ) (now : ℕ) → IsFrame (after_send (
 unfolding after_send
 up_frame s apdu now = (s.number, apdu, refl)
 
-up_sent : (s : Session) (apdu : List ℕ) → client_sent (Up s) apdu ≡ Some (numbered_data s.number apdu)
+pub up_sent : (s : Session) (apdu : List ℕ) → client_sent (Up s) apdu ≡ Some (numbered_data s.number apdu)
 unfolding client_sent
 up_sent s apdu = refl
 

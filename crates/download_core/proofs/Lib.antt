@@ -27,3 +27,6 @@ mod SentFares
 mod Stretches
 mod Record
 mod SentRecord
+mod Running
+mod Exactly
+mod Decided
