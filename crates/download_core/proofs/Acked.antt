@@ -1,14 +1,13 @@
 -- A T_ACK or an answer in a session: what the connection knows of it then.
-use Rattle.std.proofs.Common.{◌≡◌, ◌≢◌, ◌%◌, ◌+◌, ◌==◌, ℕ, suc, Bool, true, false, List, [], ◌∷◌, ◌++◌, length, Option, Some, None, refl, ap, sym, subst, ◌∙◌, if◌then◌else◌, arith}
+use Rattle.std.proofs.Common.{◌≡◌, ◌%◌, ◌+◌, ◌==◌, ℕ, suc, Bool, true, false, List, [], ◌∷◌, length, Some, None, refl, ap, sym, subst, ◌∙◌, if◌then◌else◌, arith}
 use Rattle.knx_model.specs.declared.address.IndAddr.{IndAddr}
-use Rattle.knx_model.specs.declared.connection.TransportFrame.{TransportFrame}
 use Rattle.knx_model.specs.declared.connection.TransportFrame.TheVariants.{Ack, Numbered}
 use Rattle.knx_model.specs.Connection.{Session, next_number, advanced, acknowledged as settled}
 use Rattle.knx_model.specs.ClientConnection.{Question, question_answered}
-use Rattle.line_model.specs.Moments.{Moment, confirmation_in, Number, Next as NextNumber, Outstanding, number, number_heard, acknowledged, is_acknowledged, answers, answer_expected, services}
+use Rattle.line_model.specs.Moments.{Moment, Number, Next as NextNumber, Outstanding, number, number_heard, acknowledged, is_acknowledged, answers}
 use Rattle.line_model.specs.Signs.{IsAwaited}
 use Rattle.download_core.specs.declared.flight.Flight.{Flight}
-use Rattle.download_core.specs.InSession.{Expects, UpFits, Tried, FirstPut, AskingFits, AwaitingFits}
+use Rattle.download_core.specs.InSession.{Expects, UpFits, FirstPut, AskingFits, AwaitingFits}
 use Rattle.download_core.specs.Follows.{IsMoment}
 use Rattle.download_core.proofs.Readings.{own_after, over_after, got_after, same_number}
 use Rattle.download_core.proofs.Sessions.{isnt_ack, tried_kept}

@@ -1,13 +1,11 @@
 -- An answer, and how far the plan has come by the record then.
-use Rattle.std.proofs.Common.{◌≡◌, ◌⊎◌, inl, inr, ◌-◌, ℕ, suc, Bool, true, false, bytes_eq, List, [], ◌∷◌, ◌++◌, length, reverse, Option, Some, None, refl, ap, sym, subst, ◌∙◌, if◌then◌else◌, arith}
+use Rattle.std.proofs.Common.{◌≡◌, inl, inr, ◌-◌, ℕ, suc, Bool, true, false, List, [], ◌∷◌, ◌++◌, length, reverse, Option, Some, None, refl, ap, sym, subst, ◌∙◌, if◌then◌else◌, arith}
 use Rattle.std.proofs.lemmas.Slice.Eq.{bytes_eq-Decides}
 use Rattle.knx_model.specs.declared.plan.Expect.{Expect}
 use Rattle.knx_model.specs.declared.plan.Expect.TheVariants.{AckOnly, Is, Note}
 use Rattle.knx_model.specs.Plans.{Plan, Over, Asks, Suits}
 use Rattle.line_model.specs.Moments.{Moment, answers, services}
 use Rattle.line_model.specs.Progress.{Reaches, Differs}
-use Rattle.line_model.specs.Told.{AnsweredWrong, Unawaited}
-use Rattle.download_core.specs.declared.flight.Flight.{Flight}
 use Rattle.download_core.specs.declared.outcome.Refusal.{Refusal}
 use Rattle.download_core.specs.Attempt.{Standing, Next, AnswerOf, Attempt, suits_expect, wanted_of, or_else, gone_wrong, answered_at, answered}
 use Rattle.download_core.specs.Fits.{HasAnswer, StandsWith}

@@ -1,21 +1,20 @@
 -- What an attempt that ends comes to, by the record of its session; and that this stays.
-use Rattle.std.proofs.Common.{◌≡◌, ◌≢◌, ◌⊎◌, inl, inr, ℕ, Bool, true, false, List, [], ◌∷◌, ◌++◌, length, reverse, Option, Some, None, refl, ap, sym, subst, ◌∙◌, if◌then◌else◌}
+use Rattle.std.proofs.Common.{◌≡◌, ◌≢◌, ℕ, Bool, true, false, List, [], ◌∷◌, ◌++◌, length, reverse, Option, Some, None, refl, ap, sym, subst, ◌∙◌, if◌then◌else◌}
 use Rattle.knx_model.specs.declared.log.Sign.{Sign}
 use Rattle.knx_model.specs.declared.log.Sign.TheVariants as sign
-use Rattle.knx_model.specs.Connection.{Session}
 use Rattle.knx_model.specs.ClientConnection.{ClientEnd, Asked, Up, Asking, Awaiting, Ended as NoConnection, awaits_nothing}
 use Rattle.knx_model.specs.Plans.{Plan, Over, Asks}
 use Rattle.line_model.specs.Attempts.{awaits}
 use Rattle.line_model.specs.Moments.{Moment, Next as NextNumber, number, acknowledged, answers, services, Course, Unconfirmed, WithError, InSession, Left, course, course_after, session, ends_session}
 use Rattle.line_model.specs.Progress.{Reaches}
-use Rattle.line_model.specs.Signs.{Holds, Once, Here, Later, SilentFor, ClosesNow, LostNow}
-use Rattle.line_model.specs.Told.{WentThrough, IsRefused, AnsweredWrong, Unawaited}
+use Rattle.line_model.specs.Signs.{Holds, Once, Later, SilentFor, ClosesNow}
+use Rattle.line_model.specs.Told.{WentThrough, IsRefused}
 use Rattle.download_core.specs.declared.outcome.Refusal.{Refusal}
 use Rattle.download_core.specs.declared.outcome.Outcome.{Outcome}
 use Rattle.download_core.specs.declared.outcome.Outcome.TheVariants.{Failed, Done, Refused}
 use Rattle.download_core.specs.Attempt.{Standing, Next, AnswerOf, Attempt, is_over, result_or, comes_to}
 use Rattle.download_core.specs.Fits.{StandsWith}
-use Rattle.download_core.specs.InSession.{WentWrong, PlanFits, StandsAt}
+use Rattle.download_core.specs.InSession.{PlanFits, StandsAt}
 use Rattle.download_core.specs.Record.{IsUnfinished, IsFinal, Shows, CameTo}
 use Rattle.download_core.proofs.Readings.{IsSame, comes_to_end}
 use Rattle.download_core.proofs.Tally.{Counts, Tally, tally_kept}
@@ -51,10 +50,13 @@ isnt_awaited NoConnection u = absurd (cc u)
 comes_over : (H : Sign → Type 0) (device : ℕ) (plan : Plan) (given : Sign) (st : Standing) (sent : ℕ) (l : List Moment) → H given → acknowledged device l ≡ sent → length (services device l) ≡ sent → StandsWith false st → StandsAt plan st sent (answers device l)
     → CameWith H device plan (if is_over st then Done else Failed given) l
 comes_over H device plan given (Next Over) sent l h o v s f = subst (λ (k : ℕ). Reaches plan k (reverse (answers device l)) Over) (sym o) f
-comes_over H device plan given (Next (Asks apdu expect next)) sent l h o v s f = (h, record {
-  goes_on = λ g. same_over plan sent (answers device l) apdu expect next f (subst (λ (k : ℕ). Reaches plan k (reverse (answers device l)) Over) o g);
-  agrees = next_agrees device plan (Asks apdu expect next) sent l v f;
-})
+comes_over H device plan given (Next (Asks apdu expect next)) sent l h o v s f = (
+  h,
+  record {
+    goes_on = λ g. same_over plan sent (answers device l) apdu expect next f (subst (λ (k : ℕ). Reaches plan k (reverse (answers device l)) Over) o g);
+    agrees = next_agrees device plan (Asks apdu expect next) sent l v f;
+  },
+)
 comes_over H device plan given (AnswerOf left) sent l h o v s f = absurd (cc s.0)
 
 comes_result : (H : Sign → Type 0) (device : ℕ) (plan : Plan) (given : Sign) (a : Attempt) (w : Option Refusal) (l : List Moment) → H given → IsCalm device plan a l → a.wrong ≡ w → (w ≡ None → StandsWith false a.standing) → PlanFits device plan w a.standing a.sent l → Tally device plan a l
@@ -92,9 +94,9 @@ came_at_end device plan given a m x l c e k h s t =
 pub nothing_done : (device : ℕ) (plan : Plan) → plan ≢ Over → IsUnfinished device plan []
 nothing_done device plan n = record { goes_on = λ h. n h; agrees = λ op got expected r. none_taken r.later got r.before r.taken }
   where
-  none_taken : (later : List (List ℕ)) (got : List ℕ) (before : List (List ℕ)) → [] ≡ later ++ got ∷ before → ⊥
-  none_taken [] got before e = cc e
-  none_taken (x ∷ later) got before e = cc e
+    none_taken : (later : List (List ℕ)) (got : List ℕ) (before : List (List ℕ)) → [] ≡ later ++ got ∷ before → ⊥
+    none_taken [] got before e = cc e
+    none_taken (x ∷ later) got before e = cc e
 
 -- ---- it stays so
 

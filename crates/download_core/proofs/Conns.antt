@@ -1,13 +1,11 @@
 -- A moment that brings a connection nothing new: what is known of its session stays.
-use Rattle.std.proofs.Common.{◌≡◌, ◌≢◌, ℕ, Bool, true, false, List, [], ◌∷◌, Option, Some, None, refl, ap, sym, subst, ◌∙◌}
+use Rattle.std.proofs.Common.{◌≡◌, ℕ, Bool, List, ◌∷◌, Option, None, refl, ap}
 use Rattle.knx_model.specs.declared.address.IndAddr.{IndAddr}
-use Rattle.knx_model.specs.declared.connection.TransportFrame.{TransportFrame}
-use Rattle.knx_model.specs.declared.connection.TransportFrame.TheVariants.{Connect, Disconnect, Ack, Nak, Numbered, Other}
 use Rattle.knx_model.specs.ClientConnection.{ClientEnd, Asked, Up, Asking, Awaiting, Ended as NoConnection, client_stayed}
 use Rattle.line_model.specs.Moments.{Moment}
 use Rattle.line_model.specs.Signs.{IsntAck, IsntConfirmation, IsStill, is_ignored}
 use Rattle.download_core.specs.declared.flight.Flight.{Flight}
-use Rattle.download_core.specs.declared.flight.Flight.TheVariants.{Nothing, Frame, Reply}
+use Rattle.download_core.specs.declared.flight.Flight.TheVariants.{Frame}
 use Rattle.download_core.specs.InSession.{ConnFits}
 use Rattle.download_core.specs.Follows.{IsMoment}
 use Rattle.download_core.proofs.Readings.{IsSame, same_by}

@@ -1,20 +1,19 @@
 -- Each answer of a step is told exactly where the record says so.
-use Rattle.std.proofs.Common.{◌≡◌, ◌↔◌, ℕ, Bool, true, false, List, [], ◌∷◌, Option, Some, None, refl, ap, sym, subst, ◌∙◌}
+use Rattle.std.proofs.Common.{◌≡◌, ℕ, true, List, None, ap, sym, ◌∙◌}
 use Rattle.knx_model.specs.declared.address.IndAddr.{IndAddr}
 use Rattle.knx_model.specs.ClientConnection.{ClientEnd, Ended as NoConnection, client_deadline}
 use Rattle.knx_model.specs.Plans.{Plan}
 use Rattle.line_model.specs.Attempts as line
 use Rattle.line_model.specs.Attempts.{Attempts, attempts}
 use Rattle.line_model.specs.Moments.{Moment}
-use Rattle.line_model.specs.Waiting.{NextIsSending, attempt_deadline}
+use Rattle.line_model.specs.Waiting.{attempt_deadline}
 use Rattle.download_core.specs.declared.did.Did.{Did}
 use Rattle.download_core.specs.declared.did.Did.TheVariants as did
 use Rattle.download_core.specs.declared.signs.Signs.{Signs}
-use Rattle.download_core.specs.Attempt.{Phase, Resting, Running, Closing, Leaving, Ended, DownloaderState}
+use Rattle.download_core.specs.Attempt.{Phase, Resting, Running, Closing, Leaving, Ended}
 use Rattle.download_core.specs.Calls.{phase_deadline}
 use Rattle.download_core.specs.Steps.{next_did, is_send}
 use Rattle.download_core.specs.Fits.{FitsPhase}
-use Rattle.download_core.specs.Record.{FitsRecord}
 use Rattle.download_core.specs.Tells.{IsAtEnd, is_end, EndsExactly, HasToSendNow, SendsExactly, HasToWait, WaitsExactly, DeadlineIsExact}
 use Rattle.download_core.proofs.Exactly.{Answers, AnEnd, ASending, AWait, answers}
 

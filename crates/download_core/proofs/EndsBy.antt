@@ -1,5 +1,5 @@
 -- An attempt that the loss of the channel or a frame of the device ends, and each other frame of the device, by its stretch of the record.
-use Rattle.std.proofs.Common.{◌≡◌, ◌≢◌, ◌||◌, ℕ, Bool, true, false, List, [], ◌∷◌, length, Option, Some, None, refl, ap, sym, subst, ◌∙◌, if◌then◌else◌}
+use Rattle.std.proofs.Common.{◌≡◌, ◌≢◌, ℕ, true, false, List, [], ◌∷◌, Option, Some, None, refl, ap, sym, subst, ◌∙◌, if◌then◌else◌}
 use Rattle.knx_model.specs.declared.address.IndAddr.{IndAddr}
 use Rattle.knx_model.specs.declared.log.Sign.{Sign}
 use Rattle.knx_model.specs.declared.log.Sign.TheVariants as sign
@@ -10,12 +10,12 @@ use Rattle.knx_model.specs.ClientConnection.{ClientEnd, Asked, Up, Asking, Await
 use Rattle.knx_model.specs.Plans.{Plan, Over}
 use Rattle.line_model.specs.Attempts.{awaits}
 use Rattle.line_model.specs.ClientView.{Deed, Nothing as NoDeed, Puts, Takes, Loses}
-use Rattle.line_model.specs.Moments.{Moment, is_loss, put_to, heard_from, Course, Unconfirmed, WithError, InSession, Left, course, session, ends_session, closes_by, number, acknowledged, answers, services}
-use Rattle.line_model.specs.Signs.{Holds, Once, Here, ClosesNow, LostNow}
+use Rattle.line_model.specs.Moments.{Moment, is_loss, heard_from, Course, Unconfirmed, WithError, InSession, Left, course, session, ends_session, closes_by, number}
+use Rattle.line_model.specs.Signs.{Holds, Once, Here, ClosesNow}
 use Rattle.download_core.specs.declared.flight.Flight.{Flight}
 use Rattle.download_core.specs.declared.outcome.Outcome.{Outcome}
-use Rattle.download_core.specs.declared.outcome.Outcome.TheVariants.{Failed, Done, Refused}
-use Rattle.download_core.specs.Attempt.{Attempt, Phase, Running, Closing, Leaving, Ended, comes_to, result_or, is_over, answered}
+use Rattle.download_core.specs.declared.outcome.Outcome.TheVariants.{Failed}
+use Rattle.download_core.specs.Attempt.{Attempt, comes_to, result_or, is_over, answered}
 use Rattle.download_core.specs.Calls.{owing, attempt_heard}
 use Rattle.download_core.specs.Fits.{StandsWith}
 use Rattle.download_core.specs.InSession.{ConnFits, PlanFits, SessionFits}

@@ -1,5 +1,5 @@
 -- What a downloader's step answers is exactly what the record says.
-use Rattle.std.proofs.Common.{◌≡◌, ◌≢◌, ◌<◌, ◌⊎◌, inl, inr, ◌↔◌, ℕ, suc, Bool, true, false, List, [], ◌∷◌, length, reverse, Option, Some, None, refl, ap, sym, subst, ◌∙◌, arith}
+use Rattle.std.proofs.Common.{◌≡◌, ◌≢◌, ◌<◌, inl, inr, ℕ, suc, true, List, [], ◌∷◌, length, reverse, refl, ap, sym, subst, ◌∙◌, arith}
 use Rattle.std.proofs.lemmas.List.{length-reverse}
 use Rattle.knx_model.specs.declared.address.IndAddr.{IndAddr}
 use Rattle.knx_model.specs.declared.log.Sign.{Sign}
@@ -8,9 +8,9 @@ use Rattle.knx_model.specs.Plans.{Plan, Over}
 use Rattle.line_model.specs.Attempts as line
 use Rattle.line_model.specs.Attempts.{Attempts, attempts, IsOver, is_asking}
 use Rattle.line_model.specs.Moments.{Moment, stretches, course, session}
-use Rattle.line_model.specs.Signs.{Holds, EachHolds, SignsHold}
-use Rattle.line_model.specs.Told.{last_stretch, WentThrough, IsRefused}
-use Rattle.line_model.specs.Waiting.{NextIsSending, IsResting, ToDisconnect, attempt_deadline}
+use Rattle.line_model.specs.Signs.{EachHolds, SignsHold}
+use Rattle.line_model.specs.Told.{last_stretch}
+use Rattle.line_model.specs.Waiting.{NextIsSending, IsResting, ToDisconnect}
 use Rattle.download_core.specs.declared.did.Did.{Did}
 use Rattle.download_core.specs.declared.did.Did.TheVariants as did
 use Rattle.download_core.specs.declared.flight.Flight.{Flight}
@@ -20,11 +20,10 @@ use Rattle.download_core.specs.declared.outcome.Outcome.TheVariants.{Failed, Don
 use Rattle.download_core.specs.declared.signs.Signs.{Signs}
 use Rattle.download_core.specs.declared.signs.Signs.TheVariants.{Zero, One, Two}
 use Rattle.download_core.specs.Attempt.{Attempt, Phase, Resting, Running, Closing, Leaving, Ended, DownloaderState}
-use Rattle.download_core.specs.Calls.{phase_deadline}
 use Rattle.download_core.specs.Steps.{next_did, phase_did, attempt_did, closing_did, failed_did, is_send}
 use Rattle.download_core.specs.Fits.{Closes, FitsPhase, earlier}
 use Rattle.download_core.specs.Record.{signs_of, IsUnfinished, CameTo, PhaseFits, FitsRecord}
-use Rattle.download_core.specs.Tells.{last_session, IsFailed, WasRefused, IsAtEnd, is_end, EndsExactly, HasToSendNow, SendsExactly, HasToWait, WaitsExactly, DeadlineIsExact}
+use Rattle.download_core.specs.Tells.{last_session, IsAtEnd, is_end}
 use Rattle.download_core.proofs.Comes.{nothing_done}
 use Rattle.download_core.proofs.Running.{Steps, Sends, Waits, running_steps, flies_not}
 

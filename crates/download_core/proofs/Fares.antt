@@ -1,32 +1,26 @@
 -- An attempt that runs, and its stretch of the record: nothing to the device, a confirmation, the loss of the channel.
-use Rattle.std.proofs.Common.{◌≡◌, ◌≢◌, ℕ, Bool, true, false, List, [], ◌∷◌, length, Option, Some, None, refl, ap, sym, subst, ◌∙◌}
+use Rattle.std.proofs.Common.{◌≡◌, ◌≢◌, ℕ, Bool, true, false, List, [], ◌∷◌, Option, Some, None, refl, sym, subst, ◌∙◌}
 use Rattle.knx_model.specs.declared.address.IndAddr.{IndAddr}
-use Rattle.knx_model.specs.declared.log.Sign.{Sign}
-use Rattle.knx_model.specs.declared.log.Sign.TheVariants as sign
 use Rattle.knx_model.specs.Connection.{new_session}
-use Rattle.knx_model.specs.ClientConnection.{ClientEnd, Asked, Up, Asking, Awaiting, Ended as NoConnection, client_confirmed, after_confirmed, awaits_nothing}
+use Rattle.knx_model.specs.ClientConnection.{ClientEnd, Asked, Up, Asking, Awaiting, Ended as NoConnection, client_confirmed, after_confirmed}
 use Rattle.knx_model.specs.Plans.{Plan, Over}
 use Rattle.line_model.specs.Attempts.{awaits}
-use Rattle.line_model.specs.ClientView.{Deed, Nothing as NoDeed, Puts, Takes, Loses}
-use Rattle.line_model.specs.Moments.{Moment, is_loss, put_to, heard_from, Course, Unconfirmed, WithError, InSession, Left, course, session, ends_session, number, acknowledged, answers, services}
-use Rattle.line_model.specs.Signs.{IsntConfirmation, Holds, Once, Here, LostNow}
+use Rattle.line_model.specs.Moments.{Moment, Course, Unconfirmed, WithError, InSession, Left, course, session}
+use Rattle.line_model.specs.Signs.{IsntConfirmation}
 use Rattle.download_core.specs.declared.flight.Flight.{Flight}
 use Rattle.download_core.specs.declared.flight.Flight.TheVariants.{Nothing, Frame, Reply}
 use Rattle.download_core.specs.declared.outcome.Refusal.{Refusal}
-use Rattle.download_core.specs.declared.outcome.Outcome.{Outcome}
-use Rattle.download_core.specs.declared.outcome.Outcome.TheVariants.{Failed, Done, Refused}
-use Rattle.download_core.specs.Attempt.{Standing, Next, Attempt, Phase, Resting, Running, Closing, Leaving, Ended, comes_to, is_over, result_or}
+use Rattle.download_core.specs.Attempt.{Standing, Next, Attempt, Phase, Resting, Running, Closing, Leaving, Ended}
 use Rattle.download_core.specs.Calls.{landed, connected, attempt_confirmed}
-use Rattle.download_core.specs.Fits.{StandsWith}
 use Rattle.download_core.specs.InSession.{ConnFits, PlanFits, SessionFits}
 use Rattle.download_core.specs.Record.{IsAsked, HasBegun, RunFits, CameTo, IsFinal, IsUnfinished}
 use Rattle.download_core.specs.Follows.{IsMoment}
-use Rattle.download_core.proofs.Readings.{IsSame, ends_after, goes_on, isnt_confirmed, lost_early}
+use Rattle.download_core.proofs.Readings.{IsSame, ends_after, goes_on, isnt_confirmed}
 use Rattle.download_core.proofs.Sessions.{isnt_ack, asking_confirmed}
 use Rattle.download_core.proofs.Conns.{conn_flight, idle_same, idle_conn}
 use Rattle.download_core.proofs.Confirmed.{awaits_confirmed}
-use Rattle.download_core.proofs.Tally.{same_length, plan_kept, tally_of}
-use Rattle.download_core.proofs.Comes.{came_at_end, came_left, nothing_done}
+use Rattle.download_core.proofs.Tally.{same_length, plan_kept}
+use Rattle.download_core.proofs.Comes.{nothing_done}
 
 -- ---- what a phase has of its stretch
 

@@ -1,16 +1,13 @@
 -- What a downloader gives to be sent may be put, and is then what the line's view has of it.
-use Rattle.std.proofs.Common.{◌≡◌, ◌<◌, ◌⊎◌, inl, inr, ℕ, suc, Bool, true, false, is_some, List, [], ◌∷◌, map, drop, Option, Some, None, refl, ap, sym, subst, ◌∙◌, arith}
-use Rattle.std.proofs.lemmas.Grind.{common_steps}
+use Rattle.std.proofs.Common.{◌≡◌, ◌<◌, ◌⊎◌, inl, ℕ, suc, Bool, true, false, is_some, List, [], ◌∷◌, map, drop, Option, Some, None, refl, ap, sym, subst, ◌∙◌}
 use Rattle.knx_model.specs.declared.address.IndAddr.{IndAddr}
 use Rattle.knx_model.specs.declared.connection.TransportFrame.{TransportFrame}
 use Rattle.knx_model.specs.declared.connection.TransportFrame.TheVariants as frame
-use Rattle.knx_model.specs.declared.connection.ClientExpired.{ClientExpired}
-use Rattle.knx_model.specs.declared.connection.ClientExpired.TheVariants as due
 use Rattle.knx_model.specs.declared.plan.Expect.{Expect}
 use Rattle.knx_model.specs.declared.plan.Expect.TheVariants.{AckOnly, Is, Note}
 use Rattle.knx_model.specs.Connection.{Session, HasNumbers, at_time, frame_in, numbered_data, disconnect, IsApdu, IsNumber}
-use Rattle.knx_model.specs.ConnectionLaws.{Sends, Waits}
-use Rattle.knx_model.specs.ClientConnection.{ClientEnd, Asked, Up, Asking, Awaiting, Ended as NoConnection, Question, IsClientEnd, awaits_nothing, client_stayed, client_sent, after_send, client_expired, after_overdue, question_expired}
+use Rattle.knx_model.specs.ConnectionLaws.{Sends}
+use Rattle.knx_model.specs.ClientConnection.{ClientEnd, Asked, Up, Asking, Awaiting, Ended as NoConnection, IsClientEnd, awaits_nothing, client_stayed, client_sent, after_send}
 use Rattle.knx_model.specs.Plans.{Plan, Asks}
 use Rattle.knx_model.specs.GoodPlan.{IsSendable}
 use Rattle.transport_conn.proofs.Carried.{frame_read}
@@ -18,7 +15,6 @@ use Rattle.transport_conn.proofs.Numbers.{client_numbers}
 use Rattle.line_model.specs.Attempts as line
 use Rattle.line_model.specs.Attempts.{Attempts, MayPut, MayAsk, IsNext, IsRepeat, IsOver, IsDone, is_asking, is_silent, awaits, sent_of, sends_numbered, put_attempt, first, most_attempts}
 use Rattle.download_core.specs.declared.did.Did.TheVariants as did
-use Rattle.download_core.specs.declared.flight.Flight.TheVariants.{Frame}
 use Rattle.download_core.specs.declared.outcome.Outcome.{Outcome}
 use Rattle.download_core.specs.declared.signs.Signs.{Signs}
 use Rattle.download_core.specs.Attempt.{Attempt, Phase, Running, Leaving, first_attempt}
@@ -223,4 +219,3 @@ ask_goes device plan signs a x s apdu expect next now tpdu c p w o k d =
         subst (Knows (asked a (Asks apdu expect next) apdu now)) (sym (put_asked x apdu (numbered_data s.number apdu) s.number now same)) (knows_asked a x s apdu expect next now c p w k),
       );
     }))
-

@@ -1,10 +1,9 @@
 -- What each connection makes of a frame of the device, by the record of its session.
-use Rattle.std.proofs.Common.{◌≡◌, ◌≢◌, ◌%◌, ◌==◌, ◌&&◌, ◌||◌, ℕ, suc, not, Bool, true, false, List, [], ◌∷◌, length, Option, Some, None, refl, ap, sym, subst, ◌∙◌, if◌then◌else◌}
+use Rattle.std.proofs.Common.{◌≡◌, ◌≢◌, ◌%◌, ◌==◌, ℕ, not, Bool, true, false, List, ◌∷◌, length, Some, None, refl, ap, sym, subst, ◌∙◌, if◌then◌else◌}
 use Rattle.knx_model.specs.declared.address.IndAddr.{IndAddr}
 use Rattle.knx_model.specs.declared.frames.tpdu.Tpdu.TheVariants as tpdu
 use Rattle.knx_model.specs.declared.connection.TransportFrame.{TransportFrame}
 use Rattle.knx_model.specs.declared.connection.TransportFrame.TheVariants.{Connect, Disconnect, Ack, Nak, Numbered, Other}
-use Rattle.knx_model.specs.declared.connection.ClientTook.{ClientTook}
 use Rattle.knx_model.specs.declared.connection.ClientTook.TheVariants as heard
 use Rattle.knx_model.specs.Apdu.{Written}
 use Rattle.knx_model.specs.Connection.{Session, is_before, next_number, acknowledged as settled}
@@ -13,10 +12,9 @@ use Rattle.line_model.specs.Moments.{Moment, Number, Next as NextNumber, Outstan
 use Rattle.line_model.specs.Signs.{is_ignored}
 use Rattle.download_core.specs.declared.flight.Flight.{Flight}
 use Rattle.download_core.specs.InSession.{Expects, UpFits, AskingFits, AwaitingFits, ConnFits}
-use Rattle.download_core.specs.Follows.{IsMoment}
-use Rattle.download_core.proofs.Readings.{IsSame, same_by, ends_after, put_after, is_same, not_same}
+use Rattle.download_core.proofs.Readings.{IsSame, same_by, ends_after, is_same, not_same}
 use Rattle.download_core.proofs.Acked.{acked_up, acked_awaiting, acked_got, answered_got, answered_up, answered_asking}
-use Rattle.download_core.proofs.HeardIn.{StaysIn, AnswersIn, EndsIn, HeardIn, HeardBy, Hears, IsIgnored, same_services, dropped, repeated, again, refused}
+use Rattle.download_core.proofs.HeardIn.{EndsIn, HeardBy, Hears, IsIgnored, same_services, dropped, repeated, again, refused}
 
 -- ---- a frame that says nothing
 

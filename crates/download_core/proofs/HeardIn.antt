@@ -1,21 +1,18 @@
 -- A frame of the device in a session: what the connection makes of it, and what is known of the session then.
-use Rattle.std.proofs.Common.{◌≡◌, ◌≢◌, ◌%◌, ◌==◌, ◌&&◌, ◌||◌, ℕ, suc, not, Bool, true, false, List, [], ◌∷◌, length, Option, Some, None, refl, ap, sym, subst, ◌∙◌, if◌then◌else◌}
+use Rattle.std.proofs.Common.{◌≡◌, ◌≢◌, ℕ, true, false, List, ◌∷◌, Some, None, ap, ◌∙◌}
 use Rattle.knx_model.specs.declared.address.IndAddr.{IndAddr}
 use Rattle.knx_model.specs.declared.connection.TransportFrame.{TransportFrame}
-use Rattle.knx_model.specs.declared.connection.TransportFrame.TheVariants.{Connect, Disconnect, Ack, Nak, Numbered, Other}
+use Rattle.knx_model.specs.declared.connection.TransportFrame.TheVariants.{Ack, Numbered}
 use Rattle.knx_model.specs.declared.connection.ClientTook.{ClientTook}
 use Rattle.knx_model.specs.declared.connection.ClientTook.TheVariants as heard
-use Rattle.knx_model.specs.Connection.{Session, is_before, next_number, acknowledged as settled}
-use Rattle.knx_model.specs.ClientConnection.{ClientEnd, Asked, Up, Asking, Awaiting, Ended as NoConnection, Question, client_took, client_after, client_stayed, up_took, asking_took}
-use Rattle.line_model.specs.Moments.{Moment, Number, Next as NextNumber, Outstanding, number, number_heard, is_acknowledged, answers, answer_expected, services, ends_session, is_disconnect, closes_by}
+use Rattle.knx_model.specs.ClientConnection.{ClientEnd, Asked, Up, Asking, Awaiting, Ended as NoConnection, client_after, client_stayed}
+use Rattle.line_model.specs.Moments.{Moment, Number, Next as NextNumber, Outstanding, number, answers, ends_session, closes_by}
 use Rattle.line_model.specs.Signs.{is_ignored}
 use Rattle.download_core.specs.declared.flight.Flight.{Flight}
-use Rattle.download_core.specs.declared.flight.Flight.TheVariants.{Frame}
-use Rattle.download_core.specs.InSession.{Expects, UpFits, AskingFits, AwaitingFits, ConnFits}
+use Rattle.download_core.specs.InSession.{ConnFits}
 use Rattle.download_core.specs.Follows.{IsMoment}
-use Rattle.download_core.proofs.Readings.{IsSame, same_by, ends_after, put_after, is_same, not_same}
+use Rattle.download_core.proofs.Readings.{IsSame, ends_after, put_after}
 use Rattle.download_core.proofs.Sessions.{isnt_ack}
-use Rattle.download_core.proofs.Acked.{acked_up, acked_awaiting, acked_got, answered_got, answered_up, answered_asking}
 use Rattle.download_core.proofs.Conns.{Passes, Moves, conn_kept, conn_moved}
 use Rattle.download_core.proofs.Tally.{SameAnswers, SameServices}
 

@@ -1,5 +1,5 @@
 -- A frame of the device, in the downloader and in the line's view: whatever its connection makes of it.
-use Rattle.std.proofs.Common.{◌≡◌, ℕ, suc, Bool, true, false, List, [], map, Option, Some, None, refl, ap, sym, subst, ◌∙◌}
+use Rattle.std.proofs.Common.{◌≡◌, ℕ, suc, Bool, true, List, [], map, Option, Some, None, refl, ap, sym, subst, ◌∙◌}
 use Rattle.knx_model.specs.declared.address.IndAddr.{IndAddr}
 use Rattle.knx_model.specs.declared.connection.TransportFrame.{TransportFrame}
 use Rattle.knx_model.specs.declared.connection.ClientTook.{ClientTook}
@@ -17,7 +17,7 @@ use Rattle.download_core.specs.declared.flight.Flight.TheVariants.{Nothing, Fram
 use Rattle.download_core.specs.declared.signs.Signs.{Signs}
 use Rattle.download_core.specs.Attempt.{Attempt, Phase, Resting, Running, Closing, Leaving, Ended, answered}
 use Rattle.download_core.specs.Calls.{owing, attempt_heard, phase_heard}
-use Rattle.download_core.specs.Fits.{Knows, Closes, AreReplies, one_octet, IsFlight, IsFrame, StandsWith, FitsPhase, OfLast, earlier}
+use Rattle.download_core.specs.Fits.{Knows, AreReplies, one_octet, IsFlight, IsFrame, StandsWith, FitsPhase, OfLast, earlier}
 use Rattle.download_core.specs.Follows.{IsMoment}
 use Rattle.download_core.proofs.Told.{told, line_told}
 use Rattle.download_core.proofs.Replies.{IsHeard, flight_heard, end_heard, awaits_acked, awaits_answered, awaits_again, awaits_nak, IsOwed, OwesReply, took_owes, has_number, owed_more, replies_owed}

@@ -1,16 +1,14 @@
 -- What an attempt comes to is what its session shows.
-use Rattle.std.proofs.Common.{◌≡◌, ◌<◌, ◌⊎◌, inl, inr, ◌-◌, ℕ, suc, Bool, true, false, List, [], ◌∷◌, ◌++◌, length, reverse, Option, Some, None, refl, ap, sym, subst, ◌∙◌, if◌then◌else◌, arith}
+use Rattle.std.proofs.Common.{◌≡◌, ◌<◌, inl, inr, ℕ, suc, Bool, true, false, List, ◌∷◌, ◌++◌, length, reverse, Option, Some, None, refl, ap, sym, subst, ◌∙◌, arith}
 use Rattle.knx_model.specs.declared.plan.Expect.{Expect}
 use Rattle.knx_model.specs.ClientConnection.{ClientEnd, Asked, Up, Asking, Awaiting, Ended as NoConnection, awaits_nothing}
 use Rattle.knx_model.specs.Plans.{Plan, Over, Asks}
 use Rattle.line_model.specs.Attempts.{awaits}
-use Rattle.line_model.specs.Moments.{Moment, Next as NextNumber, Outstanding, number, acknowledged, answers, services}
+use Rattle.line_model.specs.Moments.{Moment, Next as NextNumber, Outstanding, acknowledged, answers, services}
 use Rattle.line_model.specs.Progress.{Reaches}
-use Rattle.line_model.specs.Told.{WentThrough, IsRefused, AnsweredWrong, Unawaited}
+use Rattle.line_model.specs.Told.{IsRefused}
 use Rattle.download_core.specs.declared.outcome.Refusal.{Refusal}
-use Rattle.download_core.specs.declared.outcome.Outcome.{Outcome}
-use Rattle.download_core.specs.declared.outcome.Outcome.TheVariants.{Failed, Done, Refused}
-use Rattle.download_core.specs.Attempt.{Standing, Next, AnswerOf, Attempt, is_over, result_or, comes_to}
+use Rattle.download_core.specs.Attempt.{Standing, Next, AnswerOf, Attempt}
 use Rattle.download_core.specs.Fits.{HasAnswer, StandsWith}
 use Rattle.download_core.specs.InSession.{WentWrong, PlanFits, StandsAt}
 use Rattle.download_core.specs.Record.{IsUnfinished}

@@ -1,19 +1,18 @@
 -- A service that is put, for the first time or again, and what a wait that has passed shows: a service in vain four times, or no answer.
-use Rattle.std.proofs.Common.{◌≡◌, ◌<◌, ◌≤◌, ◌-◌, ◌+◌, ◌%◌, ℕ, suc, nat_lt, Bool, true, false, List, [], ◌∷◌, ◌++◌, length, Option, Some, None, refl, ap, sym, subst, ◌∙◌, if◌then◌else◌, arith, add-one}
+use Rattle.std.proofs.Common.{◌≡◌, ◌<◌, ◌≤◌, ◌-◌, ◌+◌, ◌%◌, ℕ, suc, nat_lt, Bool, true, false, List, [], ◌∷◌, length, Option, Some, None, refl, ap, sym, subst, ◌∙◌, if◌then◌else◌, arith, add-one}
 use Rattle.std.proofs.lemmas.Bool.Decides.{nat_tests}
 use Rattle.knx_model.specs.declared.address.IndAddr.{IndAddr}
 use Rattle.knx_model.specs.declared.connection.TransportFrame.TheVariants.{Numbered}
-use Rattle.knx_model.specs.declared.connection.ClientExpired.{ClientExpired}
 use Rattle.knx_model.specs.declared.connection.ClientExpired.TheVariants as due
 use Rattle.knx_model.specs.Connection.{Session, frame_in, at_time, has_passed, ack_wait, idle_wait, most_repeats}
-use Rattle.knx_model.specs.ClientConnection.{Question, first_question, has_answer, question_again, question_expired}
-use Rattle.line_model.specs.Moments.{Moment, time, put_to, Next as NextNumber, Outstanding, number, acknowledged, answers, services}
+use Rattle.knx_model.specs.ClientConnection.{Question, first_question, question_again, question_expired}
+use Rattle.line_model.specs.Moments.{Moment, time, Outstanding, number, acknowledged, answers}
 use Rattle.line_model.specs.Signs.{SentInVain, FourTimes, Unanswered}
 use Rattle.download_core.specs.declared.flight.Flight.{Flight}
 use Rattle.download_core.specs.declared.flight.Flight.TheVariants.{Frame}
-use Rattle.download_core.specs.InSession.{Expects, UpFits, Flying, Waiting, Tried, FirstPut, AskingFits, AwaitingFits}
+use Rattle.download_core.specs.InSession.{Expects, UpFits, Waiting, Tried, AskingFits, AwaitingFits}
 use Rattle.download_core.specs.Follows.{IsMoment}
-use Rattle.download_core.proofs.Readings.{own_after, over_after, got_after, put_after}
+use Rattle.download_core.proofs.Readings.{own_after, over_after, got_after}
 
 abbrev pub PutsNumbered : IndAddr → ℕ → List ℕ → Moment → Type 0
 PutsNumbered device n apdu m = IsMoment device (Some (Numbered n apdu)) None None m

@@ -1,11 +1,9 @@
 -- What one moment more changes in the readings of a session: the own number, how many services were acknowledged, the answers and the services.
-use Rattle.std.proofs.Common.{◌≡◌, ◌≢◌, ◌%◌, ◌||◌, ℕ, suc, Bool, true, false, ◌==◌, List, [], ◌∷◌, length, Option, Some, None, refl, ap, sym, subst, ◌∙◌, if◌then◌else◌, arith}
+use Rattle.std.proofs.Common.{◌≡◌, ◌≢◌, ◌||◌, ℕ, suc, Bool, true, false, ◌==◌, List, [], ◌∷◌, length, Option, refl, ◌∙◌, if◌then◌else◌, arith}
 use Rattle.std.proofs.lemmas.Bool.Decides.{nat_tests}
 use Rattle.knx_model.specs.declared.address.IndAddr.{IndAddr}
 use Rattle.knx_model.specs.declared.connection.TransportFrame.{TransportFrame}
-use Rattle.knx_model.specs.declared.connection.TransportFrame.TheVariants.{Connect, Disconnect, Ack, Nak, Numbered, Other}
-use Rattle.knx_model.specs.Connection.{next_number}
-use Rattle.line_model.specs.Moments.{Moment, is_loss, put_to, heard_from, confirmation_in, Number, Next, Outstanding, number, number_put, number_heard, acknowledged, is_acknowledged, answers, answer_expected, services, service_put, ends_session, is_disconnect, closes_by, Course, Unconfirmed, WithError, InSession, Left, course, course_from}
+use Rattle.line_model.specs.Moments.{Moment, is_loss, number, number_put, number_heard, acknowledged, is_acknowledged, answers, answer_expected, services, service_put, ends_session, is_disconnect, closes_by, Course, Unconfirmed, InSession, Left, course, course_from}
 use Rattle.download_core.specs.Follows.{IsMoment}
 
 -- nothing changes

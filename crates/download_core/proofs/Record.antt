@@ -1,39 +1,27 @@
 -- A downloader fits the record after each call.
-use Rattle.std.proofs.Common.{◌≡◌, ◌≢◌, ℕ, suc, Bool, true, false, List, [], ◌∷◌, Option, Some, None, refl, ap, sym, subst, ◌∙◌}
+use Rattle.std.proofs.Common.{◌≡◌, ◌≢◌, ℕ, Bool, true, false, List, [], ◌∷◌, Some, None, refl, ap, sym, subst}
 use Rattle.knx_model.specs.declared.address.IndAddr.{IndAddr}
-use Rattle.knx_model.specs.declared.log.Sign.{Sign}
 use Rattle.knx_model.specs.declared.connection.TransportFrame.{TransportFrame}
-use Rattle.knx_model.specs.declared.connection.TransportFrame.TheVariants as frame
 use Rattle.knx_model.specs.Connection.{frame_in}
 use Rattle.knx_model.specs.Plans.{Plan, Over}
 use Rattle.line_model.specs.ClientView.{Deed}
-use Rattle.line_model.specs.Moments.{Moment, is_loss, put_to, is_connect, grown, stretches, Course, InSession, course}
-use Rattle.line_model.specs.Signs.{EachHolds, Holds}
-use Rattle.line_model.specs.Attempts as line
-use Rattle.line_model.specs.Attempts.{Attempts, attempts, MayPut}
-use Rattle.download_core.specs.declared.did.Did.TheVariants as did
+use Rattle.line_model.specs.Moments.{Moment, is_loss, put_to, is_connect, grown, stretches, course}
+use Rattle.line_model.specs.Attempts.{Attempts, attempts}
 use Rattle.download_core.specs.declared.flight.Flight.{Flight}
 use Rattle.download_core.specs.declared.flight.Flight.TheVariants.{Nothing, Frame, Reply}
-use Rattle.download_core.specs.declared.outcome.Outcome.{Outcome}
-use Rattle.download_core.specs.declared.outcome.Outcome.TheVariants.{Failed, Done, Refused}
 use Rattle.download_core.specs.declared.signs.Signs.{Signs}
-use Rattle.download_core.specs.declared.signs.Signs.TheVariants.{Zero, One, Two}
-use Rattle.download_core.specs.Attempt.{Attempt, Phase, Resting, Running, Closing, Leaving, Ended, DownloaderState, first_attempt, with_sign}
-use Rattle.download_core.specs.Calls.{confirmed, taken, lost, phase_confirmed, phase_heard, phase_lost, attempt_confirmed}
-use Rattle.download_core.specs.Steps.{connect, next_did, phase_did, attempt_did, attempt_sent, failed_did, ended_did, sent, stepped}
-use Rattle.download_core.specs.Fits.{Knows, FitsPhase, OfLast}
-use Rattle.download_core.specs.Record.{signs_of, HasBegun, RunFits, CameTo, PhaseFits, IsTime, FitsRecord}
-use Rattle.download_core.specs.Follows.{IsMoment, is_in_flight, flies, AsideFollows, ConfirmedFollows, OthersFollow, HeardFollows, LostFollows, SendsRightly, SentFollows}
+use Rattle.download_core.specs.Attempt.{Phase, Resting, Running, Closing, Leaving, Ended}
+use Rattle.download_core.specs.Calls.{phase_confirmed, phase_heard, phase_lost, attempt_confirmed}
+use Rattle.download_core.specs.Fits.{FitsPhase}
+use Rattle.download_core.specs.Record.{PhaseFits, FitsRecord}
+use Rattle.download_core.specs.Follows.{IsMoment, is_in_flight, flies, AsideFollows, ConfirmedFollows, OthersFollow, HeardFollows, LostFollows}
 use Rattle.download_core.proofs.Told.{aside_fits, lost_fits}
 use Rattle.download_core.proofs.Confirmed.{confirmed_fits}
 use Rattle.download_core.proofs.Hears.{heard_fits}
-use Rattle.download_core.proofs.Goes.{is_sent, connect_read}
-use Rattle.download_core.proofs.Sent.{may_put, sent_fits, step_sent}
 use Rattle.download_core.proofs.Comes.{came_stays}
-use Rattle.download_core.proofs.Fares.{Fares, run_aside, confirmed_fares}
+use Rattle.download_core.proofs.Fares.{run_aside, confirmed_fares}
 use Rattle.download_core.proofs.EndsBy.{loss_is, lost_fares, heard_fares}
-use Rattle.download_core.proofs.SentFares.{sent_fares}
-use Rattle.download_core.proofs.Stretches.{grown_is, begun_is, fares_fit, session_timed}
+use Rattle.download_core.proofs.Stretches.{grown_is, fares_fit}
 
 -- it joins the last stretch
 joins : (device : ℕ) (plan : Plan) (signs : Signs) (phase : Phase) (m : Moment) (l : List Moment) → is_connect (put_to device m.what) ≡ false → PhaseFits device plan signs phase (grown m (stretches device l)) → PhaseFits device plan signs phase (stretches device (m ∷ l))

@@ -1,31 +1,21 @@
 -- The outstanding operation, put again: it may be put, and is then what the line's view has of it.
-use Rattle.std.proofs.Common.{◌≡◌, ◌<◌, ◌⊎◌, inl, inr, ℕ, suc, Bool, true, false, is_some, List, [], ◌∷◌, map, drop, Option, Some, None, refl, ap, sym, subst, ◌∙◌, arith}
+use Rattle.std.proofs.Common.{◌≡◌, inr, ℕ, suc, Bool, List, [], map, Option, Some, None, refl, ap, sym, subst, ◌∙◌, arith}
 use Rattle.std.proofs.lemmas.Grind.{common_steps}
 use Rattle.knx_model.specs.declared.address.IndAddr.{IndAddr}
-use Rattle.knx_model.specs.declared.connection.TransportFrame.{TransportFrame}
 use Rattle.knx_model.specs.declared.connection.TransportFrame.TheVariants as frame
 use Rattle.knx_model.specs.declared.connection.ClientExpired.{ClientExpired}
 use Rattle.knx_model.specs.declared.connection.ClientExpired.TheVariants as due
-use Rattle.knx_model.specs.declared.plan.Expect.{Expect}
-use Rattle.knx_model.specs.declared.plan.Expect.TheVariants.{AckOnly, Is, Note}
-use Rattle.knx_model.specs.Connection.{Session, HasNumbers, at_time, frame_in, numbered_data, disconnect, IsApdu, IsNumber}
-use Rattle.knx_model.specs.ConnectionLaws.{Sends, Waits}
-use Rattle.knx_model.specs.ClientConnection.{ClientEnd, Asked, Up, Asking, Awaiting, Ended as NoConnection, Question, IsClientEnd, awaits_nothing, client_stayed, client_sent, after_send, client_expired, after_overdue, question_expired}
-use Rattle.knx_model.specs.Plans.{Plan, Asks}
-use Rattle.knx_model.specs.GoodPlan.{IsSendable}
-use Rattle.transport_conn.proofs.Carried.{frame_read}
+use Rattle.knx_model.specs.Connection.{Session, frame_in}
+use Rattle.knx_model.specs.ConnectionLaws.{Waits}
+use Rattle.knx_model.specs.ClientConnection.{ClientEnd, Asked, Up, Asking, Awaiting, Ended as NoConnection, Question, IsClientEnd, client_sent, client_expired, after_overdue, question_expired}
+use Rattle.knx_model.specs.Plans.{Plan}
 use Rattle.transport_conn.proofs.Numbers.{client_numbers}
 use Rattle.line_model.specs.Attempts as line
 use Rattle.line_model.specs.Attempts.{Attempts, MayPut, MayAsk, IsNext, IsRepeat, IsOver, IsDone, is_asking, is_silent, awaits, sent_of, sends_numbered, put_attempt, first, most_attempts}
-use Rattle.download_core.specs.declared.did.Did.TheVariants as did
 use Rattle.download_core.specs.declared.flight.Flight.TheVariants.{Frame}
-use Rattle.download_core.specs.declared.outcome.Outcome.{Outcome}
 use Rattle.download_core.specs.declared.signs.Signs.{Signs}
-use Rattle.download_core.specs.Attempt.{Attempt, Phase, Running, Leaving, first_attempt}
-use Rattle.download_core.specs.Steps.{connect, replied, asked, stands_after}
-use Rattle.download_core.specs.Fits.{Knows, Leaves, IsFrame, IsReply, IsAck, IsNak, AreReplies, one_octet, plan_of, StandsWith, IsEnd, FitsPhase, earlier}
-use Rattle.download_core.proofs.Told.{told}
-
+use Rattle.download_core.specs.Attempt.{Attempt, Running}
+use Rattle.download_core.specs.Fits.{Knows, IsFrame, one_octet, StandsWith, IsEnd, earlier}
 use Rattle.download_core.proofs.Goes.{Goes}
 
 -- ---- an operation again

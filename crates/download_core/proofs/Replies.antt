@@ -1,5 +1,5 @@
 -- A frame of the device, at the connection of an attempt: what it knows then, and the reply that is owed.
-use Rattle.std.proofs.Common.{◌≡◌, ◌<◌, inl, inr, ◌==◌, ◌+◌, ◌*◌, ℕ, suc, nat_le, nat_lt, Bool, true, false, List, [], ◌∷◌, ◌++◌, length, map, Option, Some, None, refl, ap, sym, subst, ◌∙◌, if◌then◌else◌, arith}
+use Rattle.std.proofs.Common.{◌≡◌, ◌<◌, inl, inr, ◌==◌, ◌+◌, ◌*◌, ℕ, suc, nat_le, nat_lt, Bool, true, false, List, [], ◌∷◌, ◌++◌, length, map, Option, Some, refl, ap, sym, subst, ◌∙◌, if◌then◌else◌, arith}
 use Rattle.std.proofs.lemmas.Grind.{common_steps}
 use Rattle.knx_model.specs.declared.frames.tpdu.Tpdu.TheVariants as tpdu
 use Rattle.knx_model.specs.declared.connection.TransportFrame.{TransportFrame}

@@ -1,7 +1,6 @@
 -- An attempt that runs sends exactly where it has something to send in the line's view, and else it waits.
-use Rattle.std.proofs.Common.{◌≡◌, ◌⊎◌, inl, inr, ℕ, Bool, true, false, is_some, List, [], ◌∷◌, map, Option, Some, None, refl, ap, sym, subst, ◌∙◌, if◌then◌else◌}
+use Rattle.std.proofs.Common.{◌≡◌, inl, inr, ℕ, Bool, true, false, is_some, List, [], ◌∷◌, map, Option, Some, None, refl, ap, sym, subst, ◌∙◌, if◌then◌else◌}
 use Rattle.knx_model.specs.declared.connection.TransportFrame.{TransportFrame}
-use Rattle.knx_model.specs.declared.connection.TransportFrame.TheVariants as frame
 use Rattle.knx_model.specs.declared.connection.ClientExpired.{ClientExpired}
 use Rattle.knx_model.specs.declared.connection.ClientExpired.TheVariants as due
 use Rattle.knx_model.specs.declared.plan.Expect.{Expect}
@@ -10,7 +9,7 @@ use Rattle.knx_model.specs.ClientConnection.{ClientEnd, Asked, Up, Asking, Await
 use Rattle.knx_model.specs.Plans.{Plan, Over, Asks}
 use Rattle.line_model.specs.Attempts as line
 use Rattle.line_model.specs.Attempts.{MayAsk, IsNext, MayDisconnect, IsOver, IsDone, Owes, is_asking, is_silent, awaits}
-use Rattle.line_model.specs.Moments.{Moment, Course, Unconfirmed, WithError, InSession, Left, course}
+use Rattle.line_model.specs.Moments.{Moment, Course, Unconfirmed, WithError, InSession, Left}
 use Rattle.line_model.specs.Waiting.{HasToSend, ToAcknowledge, ToAsk, ToDisconnect}
 use Rattle.download_core.specs.declared.did.Did.{Did}
 use Rattle.download_core.specs.declared.did.Did.TheVariants as did
@@ -21,7 +20,7 @@ use Rattle.download_core.specs.Attempt.{Standing, Next, AnswerOf, Attempt}
 use Rattle.download_core.specs.Steps.{attempt_did, timed_did, paid_did, free_did, standing_did, due_did, sends, is_send}
 use Rattle.download_core.specs.Fits.{Knows, IsFlight, IsFrame, IsReply, IsAck, IsNak, StandsWith, plan_of, one_octet}
 use Rattle.download_core.specs.InSession.{ConnFits, SessionFits}
-use Rattle.download_core.specs.Record.{HasBegun, RunFits}
+use Rattle.download_core.specs.Record.{RunFits}
 use Rattle.download_core.proofs.Goes.{over_by, up_sent}
 use Rattle.download_core.proofs.Comes.{isnt_awaited}
 use Rattle.download_core.proofs.Fares.{begun_frame, nothing_frame}

@@ -1,24 +1,23 @@
 -- What an attempt that runs sends, by its stretch of the record: an operation for the first time or again, and a T_ACK or T_NAK.
-use Rattle.std.proofs.Common.{◌≡◌, inl, inr, ◌≢◌, ◌≤◌, ◌-◌, ◌+◌, ℕ, suc, nat_le, Bool, true, false, List, [], ◌∷◌, ◌++◌, length, reverse, Option, Some, None, refl, ap, sym, subst, ◌∙◌, if◌then◌else◌, arith, add-one}
+use Rattle.std.proofs.Common.{◌≡◌, inl, inr, ◌≤◌, ◌-◌, ◌+◌, ℕ, suc, Bool, true, false, List, [], ◌∷◌, ◌++◌, length, reverse, Option, Some, None, refl, ap, sym, subst, ◌∙◌, if◌then◌else◌, arith, add-one}
 use Rattle.std.proofs.lemmas.Bool.Decides.{nat_tests}
 use Rattle.knx_model.specs.declared.address.IndAddr.{IndAddr}
 use Rattle.knx_model.specs.declared.connection.TransportFrame.{TransportFrame}
 use Rattle.knx_model.specs.declared.connection.TransportFrame.TheVariants as frame
-use Rattle.knx_model.specs.declared.connection.ClientExpired.{ClientExpired}
 use Rattle.knx_model.specs.declared.connection.ClientExpired.TheVariants as due
 use Rattle.knx_model.specs.declared.plan.Expect.{Expect}
 use Rattle.knx_model.specs.declared.plan.Expect.TheVariants.{AckOnly, Is, Note}
 use Rattle.knx_model.specs.Connection.{Session, frame_in, numbered_data, IsApdu, IsNumber, has_passed, idle_wait}
 use Rattle.knx_model.specs.ClientConnection.{ClientEnd, Asked, Up, Asking, Awaiting, Ended as NoConnection, Question, client_stayed, after_send, client_expired, after_overdue, question_expired}
-use Rattle.knx_model.specs.Plans.{Plan, Over, Asks}
+use Rattle.knx_model.specs.Plans.{Plan, Asks}
 use Rattle.line_model.specs.Attempts.{awaits}
-use Rattle.line_model.specs.Moments.{Moment, time, Number, Next as NextNumber, Outstanding, number, number_put, answers, services, service_put, Course, InSession, course}
+use Rattle.line_model.specs.Moments.{Moment, time, Number, Next as NextNumber, Outstanding, number, answers, services, service_put, InSession, course}
 use Rattle.line_model.specs.Progress.{Reaches}
 use Rattle.line_model.specs.Signs.{SilentFor}
 use Rattle.download_core.specs.declared.flight.Flight.{Flight}
-use Rattle.download_core.specs.declared.flight.Flight.TheVariants.{Nothing, Frame, Reply}
+use Rattle.download_core.specs.declared.flight.Flight.TheVariants.{Frame, Reply}
 use Rattle.download_core.specs.declared.outcome.Refusal.{Refusal}
-use Rattle.download_core.specs.Attempt.{Standing, Next, AnswerOf, Attempt}
+use Rattle.download_core.specs.Attempt.{Standing, Next, Attempt}
 use Rattle.download_core.specs.Steps.{asked, replied, stands_after}
 use Rattle.download_core.specs.InSession.{ConnFits, UpFits, AskingFits, StandsAt, PlanFits, SessionFits}
 use Rattle.download_core.specs.Record.{RunFits}
@@ -26,7 +25,7 @@ use Rattle.download_core.specs.Follows.{IsMoment}
 use Rattle.download_core.proofs.Readings.{IsSame, same_by, ends_after, goes_on, put_after}
 use Rattle.download_core.proofs.Reaching.{reaches_acknowledged}
 use Rattle.download_core.proofs.Sessions.{isnt_ack}
-use Rattle.download_core.proofs.Puts.{PutsNumbered, put_first, put_again, put_got, IsOverdue, repeat_is, silent_is, four_times, unanswered}
+use Rattle.download_core.proofs.Puts.{PutsNumbered, put_first, put_again, put_got, repeat_is, silent_is, four_times, unanswered}
 use Rattle.download_core.proofs.Conns.{Moves, conn_moved, conn_flight}
 use Rattle.download_core.proofs.Fares.{session_conn}
 use Rattle.download_core.proofs.Goes.{numbered_read, stayed_awaits}

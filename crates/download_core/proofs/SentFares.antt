@@ -1,5 +1,5 @@
 -- What an attempt that runs sends, by its stretch of the record: whatever it is.
-use Rattle.std.proofs.Common.{◌≡◌, ◌≢◌, ℕ, Bool, true, false, List, [], ◌∷◌, Option, Some, None, refl, ap, sym, subst, ◌∙◌, if◌then◌else◌}
+use Rattle.std.proofs.Common.{◌≡◌, ℕ, Bool, true, false, List, [], ◌∷◌, Option, Some, None, refl, ap, sym, subst, ◌∙◌, if◌then◌else◌}
 use Rattle.knx_model.specs.declared.address.IndAddr.{IndAddr}
 use Rattle.knx_model.specs.declared.log.Sign.{Sign}
 use Rattle.knx_model.specs.declared.log.Sign.TheVariants as sign
@@ -8,8 +8,8 @@ use Rattle.knx_model.specs.declared.connection.TransportFrame.TheVariants as fra
 use Rattle.knx_model.specs.declared.connection.ClientExpired.{ClientExpired}
 use Rattle.knx_model.specs.declared.connection.ClientExpired.TheVariants as due
 use Rattle.knx_model.specs.declared.plan.Expect.{Expect}
-use Rattle.knx_model.specs.Connection.{Session, frame_in, numbered_data, disconnect, IsApdu, IsNumber}
-use Rattle.knx_model.specs.ClientConnection.{ClientEnd, Asked, Up, Asking, Awaiting, Ended as NoConnection, IsClientEnd, awaits_nothing, client_sent, client_expired}
+use Rattle.knx_model.specs.Connection.{frame_in, disconnect, IsApdu, IsNumber}
+use Rattle.knx_model.specs.ClientConnection.{ClientEnd, Asked, Up, Asking, Awaiting, Ended as NoConnection, IsClientEnd, awaits_nothing, client_expired}
 use Rattle.knx_model.specs.Plans.{Plan, Over, Asks}
 use Rattle.knx_model.specs.GoodPlan.{IsSendable}
 use Rattle.line_model.specs.Attempts as line
@@ -22,13 +22,12 @@ use Rattle.download_core.specs.declared.flight.Flight.TheVariants.{Nothing, Fram
 use Rattle.download_core.specs.declared.outcome.Refusal.{Refusal}
 use Rattle.download_core.specs.declared.outcome.Outcome.{Outcome}
 use Rattle.download_core.specs.declared.outcome.Outcome.TheVariants.{Failed, Done, Refused}
-use Rattle.download_core.specs.Attempt.{Standing, Next, AnswerOf, Attempt, Phase, Running, Leaving, comes_to, result_or, is_over}
-use Rattle.download_core.specs.Steps.{attempt_did, timed_did, paid_did, free_did, standing_did, due_did, sends, attempt_sent, timed_sent, paid_sent, free_sent, standing_sent, due_sent, replied}
+use Rattle.download_core.specs.Attempt.{Standing, Next, AnswerOf, Attempt, Running, comes_to, result_or, is_over}
+use Rattle.download_core.specs.Steps.{attempt_did, timed_did, paid_did, free_did, standing_did, due_did, attempt_sent, timed_sent, paid_sent, free_sent, standing_sent, due_sent, replied}
 use Rattle.download_core.specs.Fits.{Knows, IsReply, IsAck, IsNak, AreReplies, StandsWith, plan_of}
 use Rattle.download_core.specs.InSession.{SessionFits}
 use Rattle.download_core.specs.Record.{RunFits, CameTo}
-use Rattle.download_core.specs.Follows.{IsMoment}
-use Rattle.download_core.proofs.Readings.{IsSame, same_by, ends_after, comes_to_end}
+use Rattle.download_core.proofs.Readings.{same_by, ends_after, comes_to_end}
 use Rattle.download_core.proofs.Tally.{Tally, tally_of, tally_kept}
 use Rattle.download_core.proofs.Outcomes.{unfinished_at}
 use Rattle.download_core.proofs.Comes.{CameWith, comes_with, came_left}

@@ -1,5 +1,5 @@
 -- A downloader fits the record after it put what it gave to be sent.
-use Rattle.std.proofs.Common.{◌≡◌, ◌≢◌, ℕ, suc, Bool, true, false, List, [], ◌∷◌, Option, Some, None, refl, ap, sym, subst, ◌∙◌}
+use Rattle.std.proofs.Common.{◌≡◌, ℕ, suc, true, false, List, [], ◌∷◌, Some, refl, ap, sym, subst, ◌∙◌}
 use Rattle.knx_model.specs.declared.address.IndAddr.{IndAddr}
 use Rattle.knx_model.specs.declared.log.Sign.{Sign}
 use Rattle.knx_model.specs.declared.connection.TransportFrame.{TransportFrame}
@@ -7,21 +7,20 @@ use Rattle.knx_model.specs.declared.connection.TransportFrame.TheVariants as fra
 use Rattle.knx_model.specs.Connection.{frame_in}
 use Rattle.knx_model.specs.Plans.{Plan}
 use Rattle.knx_model.specs.GoodPlan.{IsSendable}
-use Rattle.line_model.specs.Moments.{Moment, put_to, is_connect, grown, stretches, InSession, course}
+use Rattle.line_model.specs.Moments.{Moment, put_to, is_connect, grown, stretches}
 use Rattle.line_model.specs.Signs.{EachHolds}
 use Rattle.line_model.specs.Attempts as line
 use Rattle.line_model.specs.Attempts.{Attempts, attempts, MayPut}
 use Rattle.download_core.specs.declared.did.Did.TheVariants as did
 use Rattle.download_core.specs.declared.flight.Flight.{Flight}
-use Rattle.download_core.specs.declared.flight.Flight.TheVariants.{Nothing, Frame, Reply}
 use Rattle.download_core.specs.declared.outcome.Outcome.{Outcome}
 use Rattle.download_core.specs.declared.outcome.Outcome.TheVariants.{Failed, Done, Refused}
 use Rattle.download_core.specs.declared.signs.Signs.{Signs}
 use Rattle.download_core.specs.declared.signs.Signs.TheVariants.{Zero, One, Two}
 use Rattle.download_core.specs.Attempt.{Attempt, Phase, Resting, Running, Closing, Leaving, Ended, DownloaderState, first_attempt, with_sign}
-use Rattle.download_core.specs.Steps.{connect, next_did, phase_did, closing_did, attempt_sent, failed_did, sent, stepped}
+use Rattle.download_core.specs.Steps.{connect, next_did, attempt_sent, failed_did, sent, stepped}
 use Rattle.download_core.specs.Fits.{FitsPhase, earlier}
-use Rattle.download_core.specs.Record.{signs_of, HasBegun, PhaseFits, CameTo, FitsRecord}
+use Rattle.download_core.specs.Record.{signs_of, HasBegun, PhaseFits, FitsRecord}
 use Rattle.download_core.specs.Follows.{SendsRightly, SentFollows}
 use Rattle.download_core.proofs.Goes.{is_sent, connect_read}
 use Rattle.download_core.proofs.Sent.{may_put, sent_fits, sent_owner, step_sent}

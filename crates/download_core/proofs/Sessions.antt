@@ -1,17 +1,17 @@
 -- One moment more in a session: what the connection knows of it still holds.
-use Rattle.std.proofs.Common.{◌≡◌, ◌≢◌, ◌≤◌, ◌%◌, ◌+◌, ℕ, suc, Bool, true, false, List, [], ◌∷◌, ◌++◌, length, Option, Some, None, refl, ap, sym, subst, ◌∙◌, arith}
+use Rattle.std.proofs.Common.{◌≡◌, ◌≢◌, ◌%◌, ℕ, suc, Bool, List, [], ◌∷◌, length, Option, Some, None, refl, ap, sym, ◌∙◌, arith}
 use Rattle.knx_model.specs.declared.address.IndAddr.{IndAddr}
 use Rattle.knx_model.specs.declared.connection.TransportFrame.{TransportFrame}
-use Rattle.knx_model.specs.declared.connection.TransportFrame.TheVariants.{Ack, Numbered}
-use Rattle.knx_model.specs.Connection.{Session, next_number, at_time, advanced, acknowledged as settled}
-use Rattle.knx_model.specs.ClientConnection.{Question, question_confirmed, question_answered, wait_begun}
-use Rattle.line_model.specs.Moments.{Moment, put_to, heard_from, confirmation_in, Number, Next as NextNumber, Outstanding, number, acknowledged, answers}
-use Rattle.line_model.specs.Signs.{Every, IsntAck, IsntConfirmation, IsAwaited, IsStill}
+use Rattle.knx_model.specs.declared.connection.TransportFrame.TheVariants.{Ack}
+use Rattle.knx_model.specs.Connection.{Session, at_time}
+use Rattle.knx_model.specs.ClientConnection.{Question, question_confirmed, wait_begun}
+use Rattle.line_model.specs.Moments.{Moment, confirmation_in, answers}
+use Rattle.line_model.specs.Signs.{IsntAck, IsntConfirmation, IsAwaited, IsStill}
 use Rattle.download_core.specs.declared.flight.Flight.{Flight}
-use Rattle.download_core.specs.declared.flight.Flight.TheVariants.{Nothing, Frame, Reply}
-use Rattle.download_core.specs.InSession.{Expects, UpFits, Flying, Waiting, Tried, FirstPut, AskingFits, AwaitingFits}
+use Rattle.download_core.specs.declared.flight.Flight.TheVariants.{Nothing, Frame}
+use Rattle.download_core.specs.InSession.{Expects, UpFits, Tried, FirstPut, AskingFits, AwaitingFits}
 use Rattle.download_core.specs.Follows.{IsMoment}
-use Rattle.download_core.proofs.Readings.{IsSame, own_after, over_after, got_after, same_number, is_same}
+use Rattle.download_core.proofs.Readings.{IsSame}
 
 expects_kept : (device e : ℕ) (m : Moment) (l : List Moment) → Expects device e l → IsSame device m l → Expects device e (m ∷ l)
 expects_kept device e m l x s = x ∙ ap (λ (got : List (List ℕ)). length got % 16) (sym s.got)

@@ -1,11 +1,8 @@
 -- One moment more in the stretches of a job: which one it joins, and the time of a session.
-use Rattle.std.proofs.Common.{◌≡◌, ◌≢◌, ℕ, Bool, true, false, List, [], ◌∷◌, Option, Some, None, refl, ap, sym, subst, ◌∙◌, if◌then◌else◌}
-use Rattle.knx_model.specs.declared.address.IndAddr.{IndAddr}
-use Rattle.knx_model.specs.declared.log.Sign.{Sign}
+use Rattle.std.proofs.Common.{◌≡◌, ℕ, Bool, true, false, List, [], ◌∷◌, Option, Some, None, refl, ap, sym, ◌∙◌, if◌then◌else◌}
 use Rattle.knx_model.specs.Plans.{Plan}
 use Rattle.line_model.specs.Moments.{Moment, is_loss, put_to, confirmation_in, is_connect, grown, stretches, Course, Unconfirmed, WithError, InSession, Left, course, course_from, course_after, ends_session}
-use Rattle.line_model.specs.Signs.{EachHolds, Holds}
-use Rattle.download_core.specs.declared.outcome.Outcome.{Outcome}
+use Rattle.line_model.specs.Signs.{EachHolds}
 use Rattle.download_core.specs.declared.signs.Signs.{Signs}
 use Rattle.download_core.specs.Attempt.{Phase, Resting, Running, Closing, Leaving, Ended}
 use Rattle.download_core.specs.Record.{signs_of, PhaseFits, IsTime}

@@ -1,22 +1,16 @@
 -- What an attempt comes to is what its session shows: done where every operation was acknowledged and answered, refused where an answer was
 -- wrong, and neither where it fails.
-use Rattle.std.proofs.Common.{◌≡◌, ◌<◌, ◌⊎◌, inl, inr, ◌-◌, ℕ, suc, Bool, true, false, List, [], ◌∷◌, ◌++◌, length, reverse, Option, Some, None, refl, ap, sym, subst, ◌∙◌, if◌then◌else◌, arith}
-use Rattle.knx_model.specs.declared.log.Sign.{Sign}
-use Rattle.knx_model.specs.ClientConnection.{ClientEnd, Asked, Up, Asking, Awaiting, Ended as NoConnection, awaits_nothing}
-use Rattle.knx_model.specs.Plans.{Plan, Over, Asks}
+use Rattle.std.proofs.Common.{◌≡◌, ◌⊎◌, inl, inr, ◌-◌, ℕ, suc, true, List, ◌∷◌, length, reverse, Option, Some, None, ap, sym, subst, ◌∙◌}
+use Rattle.knx_model.specs.ClientConnection.{ClientEnd, Asked, Up, Asking, Awaiting, Ended as NoConnection}
+use Rattle.knx_model.specs.Plans.{Plan}
 use Rattle.line_model.specs.Attempts.{awaits}
 use Rattle.line_model.specs.Moments.{Moment, Next as NextNumber, Outstanding, number, acknowledged, answers, services}
 use Rattle.line_model.specs.Progress.{Reaches}
-use Rattle.line_model.specs.Told.{WentThrough, IsRefused, AnsweredWrong, Unawaited}
+use Rattle.line_model.specs.Told.{AnsweredWrong, Unawaited}
 use Rattle.download_core.specs.declared.outcome.Refusal.{Refusal}
-use Rattle.download_core.specs.declared.outcome.Outcome.{Outcome}
-use Rattle.download_core.specs.declared.outcome.Outcome.TheVariants.{Failed, Done, Refused}
-use Rattle.download_core.specs.Attempt.{Standing, Next, AnswerOf, Attempt, is_over, result_or, comes_to}
-use Rattle.download_core.specs.Fits.{HasAnswer, StandsWith}
+use Rattle.download_core.specs.Attempt.{Standing, Attempt}
 use Rattle.download_core.specs.InSession.{ConnFits, StandsAt, WentWrong, PlanFits, SessionFits}
-use Rattle.download_core.specs.Record.{IsUnfinished}
 use Rattle.download_core.proofs.Readings.{IsSame}
-use Rattle.download_core.proofs.Reaching.{same_place, reaches_more, past_over, past_missing, past_wrong, reverse_split}
 
 -- ---- what is counted in a session
 
@@ -86,4 +80,3 @@ tally_kept device plan a m l e t = record {
   stands = plan_kept device plan a.wrong a.standing a.sent m l e.got e.put t.stands;
   right = t.right;
 }
-

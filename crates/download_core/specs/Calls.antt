@@ -1,18 +1,15 @@
--- What a downloader knows after it was told a confirmation, a frame of the device, the time, or that the channel was lost.
-use Rattle.std.specs.Prelude.{ℕ, ◌==◌, ◌||◌, Bool, List, Option, Some, None, if◌then◌else◌}
+-- What a downloader knows after it was told a confirmation, a frame of the device, or that the channel was lost.
+use Rattle.std.specs.Prelude.{ℕ, Bool, List, Option, Some, None}
 use Rattle.knx_model.specs.declared.log.Sign.TheVariants as sign
 use Rattle.knx_model.specs.declared.connection.ClientConfirmed.{ClientConfirmed}
 use Rattle.knx_model.specs.declared.connection.ClientConfirmed.TheVariants as told
 use Rattle.knx_model.specs.declared.connection.ClientTook.{ClientTook}
 use Rattle.knx_model.specs.declared.connection.ClientTook.TheVariants as heard
-use Rattle.knx_model.specs.declared.connection.ClientExpired.{ClientExpired}
-use Rattle.knx_model.specs.declared.connection.ClientExpired.TheVariants as due
 use Rattle.knx_model.specs.declared.connection.TransportFrame.{TransportFrame}
-use Rattle.knx_model.specs.Connection.{frame_in, has_passed, ack_wait}
-use Rattle.knx_model.specs.ClientConnection.{ClientEnd, client_confirmed, after_confirmed, client_took, client_after, client_expired, client_deadline}
+use Rattle.knx_model.specs.Connection.{frame_in}
+use Rattle.knx_model.specs.ClientConnection.{ClientEnd, client_confirmed, after_confirmed, client_took, client_after, client_deadline}
 use Rattle.download_core.specs.declared.flight.Flight.{Flight}
 use Rattle.download_core.specs.declared.flight.Flight.TheVariants.{Nothing, Frame, Reply}
-use Rattle.download_core.specs.declared.outcome.Outcome.{Outcome}
 use Rattle.download_core.specs.declared.outcome.Outcome.TheVariants.{Failed}
 use Rattle.download_core.specs.Attempt.{Attempt, Phase, Resting, Running, Closing, Leaving, Ended, DownloaderState, with_reply, answered, comes_to}
 
@@ -82,10 +79,7 @@ phase_lost (Ended outcome) = Ended outcome
 abbrev pub lost : DownloaderState → DownloaderState
 lost s = in_phase s (phase_lost s.phase)
 
--- ---- the time: nothing is settled by it alone, since a frame that is taken later still counts until T_Disconnect is put
-
-abbrev pub expired : DownloaderState → ℕ → DownloaderState
-expired s now = s
+-- ---- the time: nothing is settled by it alone, since a frame that is taken late still counts until T_Disconnect is put
 
 -- the nearest time at which a wait of the connection has passed
 abbrev pub phase_deadline : Phase → Option ℕ

@@ -1,7 +1,7 @@
 -- What an attempt that runs knows of the session of its connection, by the moments of it (ISO/IEC 14543-3-2, transport layer), the newest first: the
 -- numbers of its connection and what is outstanding there, how often it was put and when it was confirmed, when the answer that is awaited began to
 -- be awaited, and how far its plan has come.
-use Rattle.std.specs.Prelude.{◌≡◌, ◌≤◌, ◌⊎◌, ℕ, suc, ◌%◌, Bool, true, List, [], ◌∷◌, ◌++◌, length, reverse, Option, Some, None}
+use Rattle.std.specs.Prelude.{◌≡◌, ◌≤◌, ◌⊎◌, ℕ, suc, ◌%◌, Bool, true, List, ◌∷◌, ◌++◌, length, reverse, Option, Some, None}
 use Rattle.knx_model.specs.declared.connection.TransportFrame.TheVariants.{Numbered}
 use Rattle.knx_model.specs.Connection.{Session, frame_in, most_repeats}
 use Rattle.knx_model.specs.ClientConnection.{ClientEnd, Asked, Up, Asking, Awaiting, Ended, Question, has_answer}

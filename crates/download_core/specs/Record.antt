@@ -2,7 +2,6 @@
 -- them; the sign of each attempt that failed holds in its stretch; and of the last attempt it knows the session, or what it came to, which the
 -- record shows too.
 use Rattle.std.specs.Prelude.{◌≡◌, ◌≢◌, ℕ, List, [], ◌∷◌, None}
-use Rattle.knx_model.specs.declared.address.IndAddr.{IndAddr}
 use Rattle.knx_model.specs.declared.log.Sign.{Sign}
 use Rattle.knx_model.specs.ClientConnection.{ClientEnd, Asked, Up, Asking, Awaiting, Ended as NoConnection}
 use Rattle.knx_model.specs.GoodPlan.{IsSendable}
@@ -16,7 +15,7 @@ use Rattle.download_core.specs.declared.outcome.Outcome.{Outcome}
 use Rattle.download_core.specs.declared.outcome.Outcome.TheVariants.{Failed, Done, Refused}
 use Rattle.download_core.specs.declared.signs.Signs.{Signs}
 use Rattle.download_core.specs.declared.signs.Signs.TheVariants.{Zero, One, Two}
-use Rattle.download_core.specs.Attempt.{Standing, Next, Attempt, Phase, Resting, Running, Closing, Leaving, Ended, DownloaderState}
+use Rattle.download_core.specs.Attempt.{Next, Attempt, Phase, Resting, Running, Closing, Leaving, Ended, DownloaderState}
 use Rattle.download_core.specs.Fits.{Fits}
 use Rattle.download_core.specs.InSession.{SessionFits}
 

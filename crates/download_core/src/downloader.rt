@@ -4,7 +4,7 @@ ghost use Rattle.std.specs.Prelude.{◌≡◌};
 ghost use Rattle.download_core.specs.declared.signs.Signs.TheVariants.{Zero};
 ghost use Rattle.download_core.specs.JobPlans.{job_left};
 ghost use Rattle.download_core.specs.Attempt.{Resting};
-ghost use Rattle.download_core.specs.Calls.{confirmed, taken, lost, expired, phase_deadline};
+ghost use Rattle.download_core.specs.Calls.{confirmed, taken, lost, phase_deadline};
 ghost use Rattle.download_core.specs.Keeps.{state_of};
 ghost use Rattle.download_core.specs.Steps.{next_did, closing_did, ended_did, failed_did, sent, stepped};
 
@@ -82,7 +82,7 @@ impl Downloader {
     /// The time has come to `now`. Nothing is settled by that alone: a frame that is taken late still counts, until `step` puts the T_Disconnect
     /// that ends a silent attempt.
     pub fn expire(&mut self, _now: u64)
-        ensures { state_of self.new ≡ expired (state_of self.old) _now }
+        ensures { state_of self.new ≡ state_of self.old }
     {}
 
     /// What `step` would answer at this time; nothing changes.

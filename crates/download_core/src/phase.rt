@@ -20,10 +20,7 @@ pub enum Phase {
     Resting,
     Running(Run),
     /// A wrong T_ACK closed the connection, and T_Disconnect is to be put.
-    Closing {
-        flight: Flight,
-        outcome: Outcome,
-    },
+    Closing { flight: Flight, outcome: Outcome },
     /// T_Disconnect isn't confirmed.
     Leaving(Outcome),
     /// The last attempt has ended.
