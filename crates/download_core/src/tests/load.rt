@@ -1,7 +1,5 @@
 //! A whole load, with the device's answers written by hand from the standard's frames.
 
-ghost use Rattle.std.specs.Prelude.{◌<◌};
-
 use super::{CONNECT, DEVICE, DISCONNECT, Row, Shows, image, is_shown, takes};
 use crate::did::Did;
 use crate::downloader::Downloader;
@@ -172,6 +170,11 @@ fn numbered(number: u8, apdu: &[u8]) -> ApduOctets {
     frame
 }
 
+/// The number that follows.
+fn after(number: u8) -> u8 {
+    number.wrapping_add(1) % 16
+}
+
 fn is_sent(did: &Did, wanted: &ApduOctets) -> bool {
     match did {
         Did::Send(tpdu) => tpdu.as_slice() == wanted.as_slice(),
@@ -213,9 +216,9 @@ fn a_whole_load(rt: HostRuntime) -> Result<(), Fail> {
     let mut got = 0;
     for (apdu, answer) in EXCHANGES {
         assert!(rt; goes_through(&mut downloader, sent, got, apdu, answer));
-        sent = (sent + 1) % 16;
+        sent = after(sent);
         if !answer.is_empty() {
-            got = (got + 1) % 16;
+            got = after(got);
         }
     }
     let rows: [Row; 5] = [
