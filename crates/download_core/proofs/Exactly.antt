@@ -23,7 +23,7 @@ use Rattle.download_core.specs.Attempt.{Attempt, Phase, Resting, Running, Closin
 use Rattle.download_core.specs.Steps.{next_did, phase_did, attempt_did, closing_did, failed_did, is_send}
 use Rattle.download_core.specs.Fits.{Closes, FitsPhase, earlier}
 use Rattle.download_core.specs.Record.{signs_of, IsUnfinished, CameTo, PhaseFits, FitsRecord}
-use Rattle.download_core.specs.Tells.{last_session, IsAtEnd, is_end}
+use Rattle.download_core.specs.Tells.{last_session, IsAtEnd, is_end, TellsTruly, EndsTruly}
 use Rattle.download_core.proofs.Comes.{nothing_done}
 use Rattle.download_core.proofs.Running.{Steps, Sends, Waits, running_steps, flies_not}
 
@@ -147,3 +147,38 @@ answers_at device plan signs (Ended (Refused r)) now l n j f = AnEnd refl (recor
 
 pub answers : (s : DownloaderState) (now : ℕ) (l : List Moment) → FitsRecord s now l → Answers s.device s.plan now l (next_did s now)
 answers s now l f = answers_at s.device s.plan s.signs s.phase now l f.begins f.job f.shown
+
+-- ---- what is told of a job's end
+
+send_tells : (device : IndAddr) (plan : Plan) (l : List Moment) (d : Did) → is_send d ≡ true → TellsTruly device plan l d
+send_tells device plan l (did.Send tpdu) s = tt
+send_tells device plan l did.Wait s = tt
+send_tells device plan l did.Done s = absurd (cc s)
+send_tells device plan l (did.Failed signs) s = absurd (cc s)
+send_tells device plan l (did.Refused op got expected) s = absurd (cc s)
+
+steps_tell : (device : IndAddr) (plan : Plan) (now : ℕ) (l : List Moment) (x : line.Attempt) (d : Did) → Steps x now d → TellsTruly device plan l d
+steps_tell device plan now l x d (Sends s h) = send_tells device plan l d s
+steps_tell device plan now l x d (Waits w h) = subst (TellsTruly device plan l) (sym w) tt
+
+run_tells : (device : IndAddr) (plan : Plan) (signs : Signs) (a : Attempt) (now : ℕ) (l : List Moment) (xs : List (List Moment)) → FitsPhase signs (Running a) (attempts device plan l) → PhaseFits device.raw plan signs (Running a) xs
+    → TellsTruly device plan l (attempt_did a a.flight now)
+run_tells device plan signs a now l [] j f = absurd f
+run_tells device plan signs a now l (x ∷ past) j f = steps_tell device plan now l j.0 (attempt_did a a.flight now) (running_steps device.raw plan a j.0 now (course device.raw x) f.0 j.2)
+
+failed_tells : (device : IndAddr) (plan : Plan) (signs : Signs) (why : Sign) (l : List Moment) → PhaseFits device.raw plan signs (Ended (Failed why)) (stretches device.raw l) → TellsTruly device plan l (failed_did signs why)
+failed_tells device plan Zero why l f = tt
+failed_tells device plan (One a) why l f = tt
+failed_tells device plan (Two a b) why l f = record { three = refl; each = third_failed device.raw plan a b why (stretches device.raw l) f }
+
+tells_at : (device : IndAddr) (plan : Plan) (signs : Signs) (phase : Phase) (now : ℕ) (l : List Moment) → FitsPhase signs phase (attempts device plan l) → PhaseFits device.raw plan signs phase (stretches device.raw l) → TellsTruly device plan l (phase_did signs phase now)
+tells_at device plan signs Resting now l j f = tt
+tells_at device plan signs (Running a) now l j f = run_tells device plan signs a now l (stretches device.raw l) j f
+tells_at device plan signs (Closing flight outcome) now l j f = steps_tell device plan now l j.0 (closing_did flight) (closing_steps flight flight j.0 now refl j.2)
+tells_at device plan signs (Leaving outcome) now l j f = tt
+tells_at device plan signs (Ended (Failed why)) now l j f = failed_tells device plan signs why l f
+tells_at device plan signs (Ended Done) now l j f = (last_came device.raw plan signs Done (stretches device.raw l) f).shows
+tells_at device plan signs (Ended (Refused r)) now l j f = (last_came device.raw plan signs (Refused r) (stretches device.raw l) f).shows
+
+pub ends_truly : EndsTruly
+ends_truly s now l f = tells_at s.device s.plan s.signs s.phase now l f.job f.shown

@@ -30,3 +30,4 @@ mod SentRecord
 mod Running
 mod Exactly
 mod Decided
+mod Turns

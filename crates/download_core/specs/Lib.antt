@@ -8,3 +8,4 @@ pub mod InSession
 pub mod Record
 pub mod Follows
 pub mod Tells
+pub mod Turns

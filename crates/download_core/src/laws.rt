@@ -7,6 +7,7 @@ ghost use Rattle.knx_model.specs.Plans.{Over};
 ghost use Rattle.download_core.specs.declared.job_plan.JobPlan.{JobPlan};
 ghost use Rattle.download_core.specs.JobPlans.{job_left};
 ghost use Rattle.download_core.specs.Follows.{BeginsRightly, AsideFollows, ConfirmedFollows, OthersFollow, HeardFollows, LostFollows, SendsRightly, SentFollows, StepsStill, FlightsAreKnown};
+ghost use Rattle.download_core.specs.Turns.{LogsTruly, TurnWaitsExactly, ConnectsAtRest};
 ghost use Rattle.download_core.specs.Tells.{EndsTruly, EndsExactly, SendsExactly, WaitsExactly, DeadlineIsExact};
 
 /// A new downloader fits the record of no moments. Each call keeps it fitting, with the moment that the call stands for: a confirmation, a frame of
@@ -42,6 +43,15 @@ pub fn steps_exactly()
     ensures sends { SendsExactly }
     ensures waits { WaitsExactly }
     ensures deadline { DeadlineIsExact }
+{}
+
+/// The entry of the log that tells a job's end is true, and the turn of the worker that holds the job waits exactly where its downloader's step waits,
+/// or gives something to be sent that can't be; nothing that came waits for it then. What it gives to be sent is a T_Connect exactly where no
+/// attempt runs.
+pub fn steps_are_turns()
+    ensures logs { LogsTruly }
+    ensures waits { TurnWaitsExactly }
+    ensures connects { ConnectsAtRest }
 {}
 
 /// Each operation that is left of a job's plan can be sent, and expects an answer exactly where its service has one, whatever was noted; and every

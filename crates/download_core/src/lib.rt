@@ -27,7 +27,7 @@ pub use flight::Flight;
 pub use job_plan::JobPlan;
 pub use laws::{
     each_operation_can_be_sent, ends_are_told_truly, flights_are_known, follows_the_record,
-    steps_exactly,
+    steps_are_turns, steps_exactly,
 };
 pub use outcome::{Outcome, Refusal};
 pub use signs::Signs;
