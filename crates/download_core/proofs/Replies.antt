@@ -1,28 +1,22 @@
--- A frame of the device, in the downloader and in the line's view.
-use Rattle.std.proofs.Common.{◌≡◌, ◌<◌, inl, inr, ◌&&◌, ◌==◌, ◌+◌, ◌*◌, ◌-◌, ℕ, Bool, true, false, is_some, List, [], ◌∷◌, ◌++◌, length, map, Option, Some, None, refl, ap, sym, subst, ◌∙◌, if◌then◌else◌, arith}
+-- A frame of the device, at the connection of an attempt: what it knows then, and the reply that is owed.
+use Rattle.std.proofs.Common.{◌≡◌, ◌<◌, inl, inr, ◌==◌, ◌+◌, ◌*◌, ℕ, suc, nat_le, nat_lt, Bool, true, false, List, [], ◌∷◌, ◌++◌, length, map, Option, Some, refl, ap, sym, subst, ◌∙◌, if◌then◌else◌, arith}
 use Rattle.std.proofs.lemmas.Grind.{common_steps}
 use Rattle.knx_model.specs.declared.frames.tpdu.Tpdu.TheVariants as tpdu
 use Rattle.knx_model.specs.declared.connection.TransportFrame.{TransportFrame}
 use Rattle.knx_model.specs.declared.connection.TransportFrame.TheVariants as frame
 use Rattle.knx_model.specs.declared.connection.ClientTook.{ClientTook}
 use Rattle.knx_model.specs.declared.connection.ClientTook.TheVariants as heard
-use Rattle.knx_model.specs.declared.plan.Expect.{Expect}
-use Rattle.knx_model.specs.declared.plan.Expect.TheVariants.{AckOnly, Is, Note}
 use Rattle.knx_model.specs.Apdu.{Written}
 use Rattle.knx_model.specs.Connection.{Session, frame_in, HasNumber, acknowledged, is_before}
 use Rattle.knx_model.specs.ConnectionLaws.{Carries}
 use Rattle.knx_model.specs.ClientConnection.{ClientEnd, Asked, Up, Asking, Awaiting, Ended as NoConnection, client_took, client_after, up_took, asking_took}
-use Rattle.knx_model.specs.Plans.{Plan, Over, Asks, followed}
-use Rattle.knx_model.specs.GoodPlan.{IsSendable}
 use Rattle.transport_conn.proofs.Carried.{frame_read, carried}
-use Rattle.line_model.specs.Progress.{suits}
 use Rattle.line_model.specs.Attempts as line
-use Rattle.line_model.specs.Attempts.{Attempts, awaits}
+use Rattle.line_model.specs.Attempts.{awaits}
 use Rattle.download_core.specs.declared.flight.Flight.{Flight}
 use Rattle.download_core.specs.declared.flight.Flight.TheVariants.{Nothing, Frame, Reply}
-use Rattle.download_core.specs.declared.outcome.Refusal.{Refusal}
-use Rattle.download_core.specs.Attempt.{Standing, Next, AnswerOf, Attempt, with_reply, suits_expect, or_else, wanted_of, gone_wrong, answered, answered_at}
-use Rattle.download_core.specs.Fits.{Knows, IsFrame, IsReply, IsAck, IsNak, IsFlight, AreReplies, one_octet, plan_of, StandsWith, IsEnd}
+use Rattle.download_core.specs.Attempt.{with_reply}
+use Rattle.download_core.specs.Fits.{IsFrame, IsReply, IsAck, IsNak, IsFlight, AreReplies, one_octet, IsEnd}
 
 -- ---- the connection
 
@@ -133,10 +127,6 @@ awaits_nak (Asking s q) now nak = refl
 awaits_nak (Awaiting s) now nak = refl
 awaits_nak NoConnection now nak = refl
 
-pub awaits_dropped : (e : ClientEnd) (now : ℕ) → awaits (client_after e now heard.Dropped) ≡ awaits e
-unfolding client_after
-awaits_dropped e now = refl
-
 -- ---- what is owed then
 
 -- one octet, which is a T_ACK or a T_NAK
@@ -222,153 +212,29 @@ replies_more : (xs : List ℕ) (y : ℕ) → AreReplies xs → IsReply (Some (fr
 replies_more [] y k r = (r, tt)
 replies_more (x ∷ xs) y k r = (k.0, replies_more xs y k.1 r)
 
-room : (owed : List ℕ) (y : ℕ) → length owed < 64 → with_reply owed (y ∷ []) ≡ owed ++ y ∷ []
-room owed y l = grind (arith, common_steps)
+map_length : (xs : List ℕ) → length (map one_octet xs) ≡ length xs
+map_length [] = refl
+map_length (x ∷ xs) = ap suc (map_length xs)
 
-pub owed_more : (owed reply : List ℕ) (all : List (List ℕ)) → all ≡ map one_octet owed → length owed < 64 → IsOwed reply → all ++ reply ∷ [] ≡ map one_octet (with_reply owed reply)
-owed_more owed reply all e l r =
-    ap (λ (o : List (List ℕ)). o ++ reply ∷ []) e ∙ ap (λ (o : List ℕ). map one_octet owed ++ o ∷ []) r.one ∙ map_more owed r.octet ∙ ap (map one_octet) (sym (room owed r.octet l)) ∙ ap (λ (o : List ℕ). map one_octet (with_reply owed o)) (sym r.one)
+same_room : (n : ℕ) → nat_le (n + 1) 64 ≡ nat_lt n 64
+same_room n = grind (arith, common_steps)
 
-pub replies_owed : (owed reply : List ℕ) → AreReplies owed → length owed < 64 → IsOwed reply → AreReplies (with_reply owed reply)
-replies_owed owed reply k l r = subst (λ (o : List ℕ). AreReplies (with_reply owed o)) (sym r.one) (subst AreReplies (sym (room owed r.octet l)) (replies_more owed r.octet k r.which))
+map_test : (t : Bool) (xs : List ℕ) (y : ℕ) → (if t then map one_octet xs ++ (y ∷ []) ∷ [] else map one_octet xs) ≡ map one_octet (if t then xs ++ y ∷ [] else xs)
+map_test true xs y = map_more xs y
+map_test false xs y = refl
 
--- ---- answers
+replies_test : (t : Bool) (xs : List ℕ) (y : ℕ) → AreReplies xs → IsReply (Some (frame_in (y ∷ []))) → AreReplies (if t then xs ++ y ∷ [] else xs)
+replies_test true xs y k r = replies_more xs y k r
+replies_test false xs y k r = k
 
--- what is known of the plan after an answer
-pub record Learns (a : Attempt) (x : line.Attempt) (b : Attempt) (y : line.Attempt) : Type 0 where
-  pub end : y.end ≡ x.end
-  pub owed : y.owed ≡ x.owed
-  pub flying : y.flying ≡ x.flying
-  pub lapsed : y.lapsed ≡ x.lapsed
-  pub same_conn : b.conn ≡ a.conn
-  pub same_owed : b.owed ≡ a.owed
-  pub same_flight : b.flight ≡ a.flight
-  pub closing : y.closing ≡ is_some b.wrong
-  pub left : b.wrong ≡ None → y.left ≡ plan_of b.standing
-  pub stands : b.wrong ≡ None → StandsWith false b.standing
-  pub sendable : IsSendable (plan_of b.standing)
+pub owed_more : (owed reply : List ℕ) (all : List (List ℕ)) → all ≡ map one_octet owed → IsOwed reply → line.with_reply all reply ≡ map one_octet (with_reply owed reply)
+owed_more owed reply all e r =
+    ap (λ (o : List (List ℕ)). line.with_reply o reply) e
+    ∙ ap (line.with_reply (map one_octet owed)) r.one
+    ∙ ap (λ (n : ℕ). if nat_lt n 64 then map one_octet owed ++ (r.octet ∷ []) ∷ [] else map one_octet owed) (map_length owed)
+    ∙ ap (λ (t : Bool). if t then map one_octet owed ++ (r.octet ∷ []) ∷ [] else map one_octet owed) (sym (same_room (length owed)))
+    ∙ map_test (nat_le (length owed + 1) 64) owed r.octet
+    ∙ ap (λ (o : List ℕ). map one_octet (with_reply owed o)) (sym r.one)
 
-some_or : (w : Option Refusal) (r : Refusal) → true ≡ is_some (or_else w r)
-some_or None r = refl
-some_or (Some f) r = refl
-
-some_isnt_none : (w : Option Refusal) (r : Refusal) → or_else w r ≡ None → ⊥
-some_isnt_none None r h = absurd (cc h)
-some_isnt_none (Some f) r h = absurd (cc h)
-
--- it is wrong in both views
-learns_wrong : (a : Attempt) (x : line.Attempt) (got expected : List ℕ) → Knows a x → Learns a x (gone_wrong a got expected) (record x { closing = true })
-learns_wrong a x got expected k = record {
-  end = refl;
-  owed = refl;
-  flying = refl;
-  lapsed = refl;
-  same_conn = refl;
-  same_owed = refl;
-  same_flight = refl;
-  closing = some_or a.wrong (record { op = a.sent - 1; got = got; expected = expected });
-  left = λ h. absurd (some_isnt_none a.wrong (record { op = a.sent - 1; got = got; expected = expected }) h);
-  stands = λ h. absurd (some_isnt_none a.wrong (record { op = a.sent - 1; got = got; expected = expected }) h);
-  sendable = k.sendable;
-}
-
-not_none : (w : Option Refusal) → is_some w ≡ true → w ≡ None → ⊥
-not_none None s h = cc s
-not_none (Some r) s h = cc h
-
-late : (t : Bool) (a : Attempt) (x : line.Attempt) (b : Attempt) (got : List ℕ) → x.closing ≡ true → b.conn ≡ a.conn → b.owed ≡ a.owed → b.flight ≡ a.flight → is_some b.wrong ≡ true → IsSendable (plan_of b.standing)
-    → Learns a x b (if t then record x { left = followed x.left got } else record x { closing = true })
-late true a x b got c e o f w s = record {
-  end = refl;
-  owed = refl;
-  flying = refl;
-  lapsed = refl;
-  same_conn = e;
-  same_owed = o;
-  same_flight = f;
-  closing = c ∙ sym w;
-  left = λ h. absurd (not_none b.wrong w h);
-  stands = λ h. absurd (not_none b.wrong w h);
-  sendable = s;
-}
-late false a x b got c e o f w s = record {
-  end = refl;
-  owed = refl;
-  flying = refl;
-  lapsed = refl;
-  same_conn = e;
-  same_owed = o;
-  same_flight = f;
-  closing = sym w;
-  left = λ h. absurd (not_none b.wrong w h);
-  stands = λ h. absurd (not_none b.wrong w h);
-  sendable = s;
-}
-
-late_wrong : (a : Attempt) (x : line.Attempt) (got expected : List ℕ) → x.closing ≡ true → Knows a x → Learns a x (gone_wrong a got expected) (line.answered x got)
-late_wrong a x got expected c k = late (awaits x.end && suits x.left got) a x (gone_wrong a got expected) got c refl refl refl (sym (some_or a.wrong (record { op = a.sent - 1; got = got; expected = expected }))) k.sendable
-
-late_test : (u : Bool) (a : Attempt) (x : line.Attempt) (apdu : List ℕ) (expect : Expect) (next : Option (List ℕ) → Plan) (got expected : List ℕ) → x.closing ≡ true → is_some a.wrong ≡ true → IsSendable (Asks apdu expect next) → Knows a x
-    → Learns a x (if u then record a { standing = Next (next (Some got)) } else gone_wrong a got expected) (line.answered x got)
-late_test true a x apdu expect next got expected c w s k = late (awaits x.end && suits x.left got) a x (record a { standing = Next (next (Some got)) }) got c refl refl refl w (s.2 (Some got))
-late_test false a x apdu expect next got expected c w s k = late_wrong a x got expected c k
-
-late_at : (a : Attempt) (x : line.Attempt) (st : Standing) (got : List ℕ) → is_some a.wrong ≡ true → a.standing ≡ st → Knows a x → Learns a x (answered_at a st got) (line.answered x got)
-late_at a x (Next plan) got w p k = late_wrong a x got [] (k.closing ∙ w) k
-late_at a x (AnswerOf Over) got w p k = late_wrong a x got [] (k.closing ∙ w) k
-late_at a x (AnswerOf (Asks apdu expect next)) got w p k =
-    late_test (suits_expect apdu expect got) a x apdu expect next got (wanted_of expect) (k.closing ∙ w) w (subst IsSendable (ap plan_of p) k.sendable) k
-
--- while none was wrong
-line_wrong : (a : Attempt) (x : line.Attempt) (b : Attempt) (got : List ℕ) (t : Bool) → t ≡ false → Learns a x b (record x { closing = true }) → Learns a x b (if t then record x { left = followed x.left got } else record x { closing = true })
-line_wrong a x b got true e l = absurd (cc e)
-line_wrong a x b got false e l = l
-
-line_right : (a : Attempt) (x : line.Attempt) (b : Attempt) (got : List ℕ) (t : Bool) → t ≡ true → Learns a x b (record x { left = followed x.left got }) → Learns a x b (if t then record x { left = followed x.left got } else record x { closing = true })
-line_right a x b got true e l = l
-line_right a x b got false e l = absurd (cc e)
-
-suits_same : (apdu : List ℕ) (expect : Expect) (next : Option (List ℕ) → Plan) (got : List ℕ) → suits (Asks apdu expect next) got ≡ suits_expect apdu expect got
-suits_same apdu AckOnly next got = refl
-suits_same apdu (Is wanted) next got = refl
-suits_same apdu Note next got = refl
-
-and_false : (b c : Bool) → b ≡ false → (b && c) ≡ false
-and_false true c e = absurd (cc e)
-and_false false c e = refl
-
-and_same : (b c d : Bool) → b ≡ true → c ≡ d → (b && c) ≡ d
-and_same true c d e f = f
-and_same false c d e f = absurd (cc e)
-
-in_time : (u : Bool) (a : Attempt) (x : line.Attempt) (apdu : List ℕ) (expect : Expect) (next : Option (List ℕ) → Plan) (got : List ℕ) → (awaits x.end && suits x.left got) ≡ u → a.wrong ≡ None → plan_of a.standing ≡ Asks apdu expect next → Knows a x
-    → Learns a x (if u then record a { standing = Next (next (Some got)) } else gone_wrong a got (wanted_of expect)) (line.answered x got)
-in_time true a x apdu expect next got e w p k = line_right a x (record a { standing = Next (next (Some got)) }) got (awaits x.end && suits x.left got) e (record {
-  end = refl;
-  owed = refl;
-  flying = refl;
-  lapsed = refl;
-  same_conn = refl;
-  same_owed = refl;
-  same_flight = refl;
-  closing = k.closing;
-  left = λ _. ap (λ (q : Plan). followed q got) (k.left w ∙ p);
-  stands = λ _. refl;
-  sendable = (subst IsSendable p k.sendable).2 (Some got);
-})
-in_time false a x apdu expect next got e w p k = line_wrong a x (gone_wrong a got (wanted_of expect)) got (awaits x.end && suits x.left got) e (learns_wrong a x got (wanted_of expect) k)
-
-early_at : (a : Attempt) (x : line.Attempt) (st : Standing) (got : List ℕ) → a.wrong ≡ None → a.standing ≡ st → StandsWith (awaits a.conn) st → Knows a x → Learns a x (answered_at a st got) (line.answered x got)
-early_at a x (Next plan) got w p s k = line_wrong a x (gone_wrong a got []) got (awaits x.end && suits x.left got) (and_false (awaits x.end) (suits x.left got) (ap awaits k.end ∙ s)) (learns_wrong a x got [] k)
-early_at a x (AnswerOf Over) got w p s k = absurd s.1
-early_at a x (AnswerOf (Asks apdu expect next)) got w p s k =
-    in_time (suits_expect apdu expect got) a x apdu expect next got
-    (and_same (awaits x.end) (suits x.left got) (suits_expect apdu expect got) (ap awaits k.end ∙ s.0) (ap (λ (q : Plan). suits q got) (k.left w ∙ ap plan_of p) ∙ suits_same apdu expect next got))
-    w (ap plan_of p) k
-
-learns_at : (a : Attempt) (x : line.Attempt) (w : Option Refusal) (got : List ℕ) → a.wrong ≡ w → Knows a x → Learns a x (answered a got) (line.answered x got)
-learns_at a x None got w k = early_at a x a.standing got w refl (k.stands w) k
-learns_at a x (Some r) got w k = late_at a x a.standing got (ap is_some w) refl k
-
-pub learns : (a : Attempt) (x : line.Attempt) (got : List ℕ) → Knows a x → Learns a x (answered a got) (line.answered x got)
-learns a x got k = learns_at a x a.wrong got refl k
+pub replies_owed : (owed reply : List ℕ) → AreReplies owed → IsOwed reply → AreReplies (with_reply owed reply)
+replies_owed owed reply k r = subst (λ (o : List ℕ). AreReplies (with_reply owed o)) (sym r.one) (replies_test (nat_le (length owed + 1) 64) owed r.octet k r.which)
