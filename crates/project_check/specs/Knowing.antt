@@ -1,6 +1,5 @@
 -- What is known of statements and models, as it is kept in sets and maps.
-use Rattle.std.specs.Prelude.{◌≡◌, ℕ, ◌+◌, ◌==◌, min, Bool, true, false, nat_le, List, Option, Some, None, IfSome, is_some, bytes_eq, slice_get, if◌then◌else◌}
-use Rattle.std.specs.Bool.{nat_eq}
+use Rattle.std.specs.Prelude.{◌≡◌, ℕ, ◌+◌, ◌<◌, ◌==◌, min, Bool, true, false, nat_le, List, Option, Some, None, IfSome, is_some, bytes_eq, slice_get, slice_index_or, if◌then◌else◌}
 use Rattle.std.specs.Borrow.{Bor}
 use Rattle.std.specs.Option.{option_map}
 use Rattle.std.specs.HashSet.{HashSet, contains}
@@ -49,7 +48,7 @@ range_at name f = if bytes_eq f.name name then Some (range_of f) else None
 
 -- the maps are those of the model
 pub record Indexes (index : ModelIndex) (m : Model) : Type 0 where
-  pub sizes : (n : ℕ) → get nat_eq index.sizes n ≡ option_map code_of (object_in m.objects n)
+  pub sizes : (n : ℕ) → n < 256 → slice_index_or index.sizes n None ≡ option_map code_of (object_in m.objects n)
   pub ranges : (name : List ℕ) → get_by (λ key. bytes_eq name key.now) index.ranges ≡ option_map range_of (field_in m.parameters name)
 
 -- the maps are those of the model, where there is one

@@ -7,7 +7,7 @@ ghost use Rattle.std.specs.HashMap.{get};
 ghost use Rattle.knx_model.specs.declared.catalogue.model.Model.{Model};
 ghost use Rattle.knx_model.specs.declared.catalogue.model.NamedModel.{NamedModel};
 ghost use Rattle.knx_model.specs.declared.project.Statement.{Statement as Stated};
-ghost use Rattle.knx_model.specs.Rules.{some_line, first_some, declares_group, declares_device, size_in, model_in, model_of};
+ghost use Rattle.knx_model.specs.Rules.{some_line, first_some, declares_group, declares_device, size_in, model_in, model_of, or_else};
 ghost use Rattle.project_check.specs.Keys.{object_eq, names_model};
 ghost use Rattle.project_check.specs.Knowing.{Holds, AreNamed, IsNamed, KeepsModels, Declares, Indexes, FirstSizes, known_object, linked_size, known_parameter};
 ghost use Rattle.project_check.specs.Links.{link_lines};
@@ -156,19 +156,35 @@ impl<'b, 'a> Declared<'b, 'a> {
         }
     }
 
+    /// The size code of a group object in its first `object` line.
+    fn line_size(&self, object: GroupObject) -> Option<u8>
+        ensures { (catalogue : List NamedModel) (ss : List Stated) → Declares catalogue self.now ss → result ≡ first_some (size_in object.device object.number) ss }
+    {
+        self.sizes.get(&object).copied()
+    }
+
+    /// A size code that is known, or else that of the first `object` line.
+    fn size_or_line(&self, size: Option<u8>, object: GroupObject) -> Option<u8>
+        ensures { (catalogue : List NamedModel) (ss : List Stated) → Declares catalogue self.now ss → result ≡ or_else size (first_some (size_in object.device object.number) ss) }
+    {
+        match size {
+            Some(size) => Some(size),
+            None => self.line_size(object),
+        }
+    }
+
     /// What is known of a group object.
     pub fn known_object(&self, object: GroupObject) -> KnownObject
         ensures { (catalogue : List NamedModel) (ss : List Stated) → Declares catalogue self.now ss → result ≡ known_object catalogue ss object.device object.number }
     {
-        let line_size = self.sizes.get(&object).copied();
         match self.model(object.device) {
             Some(index) => KnownObject {
                 modelled: true,
-                size: index.size_of(object.number).or(line_size),
+                size: self.size_or_line(index.size_of(object.number), object),
             },
             None => KnownObject {
                 modelled: false,
-                size: line_size,
+                size: self.line_size(object),
             },
         }
     }
