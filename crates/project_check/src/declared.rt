@@ -9,8 +9,9 @@ ghost use Rattle.knx_model.specs.declared.catalogue.model.NamedModel.{NamedModel
 ghost use Rattle.knx_model.specs.declared.project.Statement.{Statement as Stated};
 ghost use Rattle.knx_model.specs.Rules.{some_line, first_some, declares_group, declares_device, size_in, model_in, model_of, or_else};
 ghost use Rattle.project_check.specs.Keys.{object_eq, names_model};
-ghost use Rattle.project_check.specs.Knowing.{Holds, AreNamed, IsNamed, KeepsModels, Declares, Indexes, FirstSizes, known_object, linked_size, known_parameter};
+ghost use Rattle.project_check.specs.Knowing.{Holds, AreNamed, IsNamed, KeepsModels, Declares, Indexes, FirstObjects, known_object, linked_object, known_parameter};
 ghost use Rattle.project_check.specs.Links.{link_lines};
+ghost use Rattle.project_check.specs.declared.known.KnownObject.{KnownObject as Known};
 
 use crate::by_address::ByAddress;
 use crate::group_object::GroupObject;
@@ -190,34 +191,34 @@ impl<'b, 'a> Declared<'b, 'a> {
     }
 }
 
-/// Adds the size code of the group object of a link, where it is the group's first.
-fn add_first_size(
-    first_sizes: &mut ByAddress<Option<Option<u8>>>,
+/// Adds what is known of the group object of a link, where it is the group's first.
+fn add_first_object(
+    first_objects: &mut ByAddress<Option<KnownObject>>,
     declared: &Declared<'_, '_>,
     link: Link,
 )
-    ensures { (catalogue : List NamedModel) (ss : List Stated) → Declares catalogue declared.now ss → (f : ℕ → Option (Option ℕ)) → Holds first_sizes.old f → Holds first_sizes.new (λ g. option_or (f g) (linked_size catalogue ss g link)) }
+    ensures { (catalogue : List NamedModel) (ss : List Stated) → Declares catalogue declared.now ss → (f : ℕ → Option Known) → Holds first_objects.old f → Holds first_objects.new (λ g. option_or (f g) (linked_object catalogue ss g link)) }
 {
-    if first_sizes.get(link.group).is_none() {
+    if first_objects.get(link.group).is_none() {
         let object = GroupObject {
             device: link.device,
             number: link.object,
         };
-        first_sizes.set(link.group, Some(declared.known_object(object).size));
+        first_objects.set(link.group, Some(declared.known_object(object)));
     }
 }
 
-/// The size code of the group object of the first `link` line of each group.
-pub fn first_sizes(
+/// What is known of the group object of the first `link` line of each group; none where a group has no such line.
+pub fn first_objects(
     alloc: Global,
     declared: &Declared<'_, '_>,
     links: &[LinkLine],
-) -> Result<ByAddress<Option<Option<u8>>>, AllocError>
-    ensures { IfOk result (λ sizes. (catalogue : List NamedModel) (ss : List Stated) → Declares catalogue declared.now ss → links.now ≡ link_lines ss → FirstSizes catalogue ss sizes) }
+) -> Result<ByAddress<Option<KnownObject>>, AllocError>
+    ensures { IfOk result (λ objects. (catalogue : List NamedModel) (ss : List Stated) → Declares catalogue declared.now ss → links.now ≡ link_lines ss → FirstObjects catalogue ss objects) }
 {
-    let mut sizes = ByAddress::new(alloc, None)?;
+    let mut objects = ByAddress::new(alloc, None)?;
     for line in links {
-        add_first_size(&mut sizes, declared, line.link);
+        add_first_object(&mut objects, declared, line.link);
     }
-    Ok(sizes)
+    Ok(objects)
 }
