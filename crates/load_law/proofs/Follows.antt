@@ -93,7 +93,7 @@ module _ (IsJob : Plan → Type 0) (Holds Case : NonVolatile → Type 0) (Ends :
       over_by w.me b.asked (transport_if w.flying) (items w) (seen_of w.device b.delivered b.given) w.client.end w.client.joined w.client.pending w.client.owed w.client.sent w.client.accepted plan rest job h.inv.side l h.inv.phase up went
 
   -- what it keeps is then what it kept after the last service
-  latest_is : (asked : Texts) (o : Seen) (sent accepted : Texts) → AllOver sent accepted asked o → (l : Loaded asked o) → l.latest ≡ o.kept
+  pub latest_is : (asked : Texts) (o : Seen) (sent accepted : Texts) → AllOver sent accepted asked o → (l : Loaded asked o) → l.latest ≡ o.kept
   latest_is asked o sent accepted over l = elim l.reached [
     | inl e ↦ e
     | inr s ↦ absurd (let g : length asked ≡ suc (length o.delivered) = s.0 in let e : length asked ≡ length o.delivered = ap (λ (z : Texts). length z) (over.sent_is ∙ sym over.delivered_is) in omega arith)
@@ -187,7 +187,7 @@ module _ (IsJob : Plan → Type 0) (Holds Case : NonVolatile → Type 0) (Ends :
       subst (λ (x : Texts). InStep IsJob b.asked x []) none.0 (subst (λ (y : Texts). InStep IsJob b.asked b.delivered y) none.1 l.in_step) in
       got_load IsJob Holds Case Ends frames good w.me b.asked b.asked s o _ got.0 (is_taken (took_of w.device frame)) last.0 (λ z. refl) opens l got.1
 
-  step_load : (w : World) (b : Books) (e : Event) → MayHappen w e → MayAsk IsJob w e → WorldInv w b → LoadInv w b → LoadInv (step w e) (books_after w b e)
+  pub step_load : (w : World) (b : Books) (e : Event) → MayHappen w e → MayAsk IsJob w e → WorldInv w b → LoadInv w b → LoadInv (step w e) (books_after w b e)
   step_load w b Connects may al h l = l
   step_load w b (Asks apdu) may al h l = asks_load w b apdu (client_sent w.client.end apdu) h l al
   step_load w b Waits may al h l = waits_load w b (client_expired w.client.end w.now) l

@@ -83,7 +83,7 @@ plans_good plans image first all = record {
 
 pub plans_right : (plans : List Plan) (image : Image) (me : IndAddr) (d : DeviceState) (events : List Event) → AllGood plans image → HasCapacities d.kept → IsLegal (fresh me d) events → Follows (IsAmong plans) (fresh me d) events
     → AtEveryMoment (λ past. IsRight (IsAmong plans) image d.kept (replay (fresh me d) past)) events
-plans_right plans image me d events all has legal follows = 
+plans_right plans image me d events all has legal follows =
     are_right (IsAmong plans) image d.kept (fresh me d) events (each_moment (IsAmong plans) HasCapacities (OldStoppedOrImage d.kept image) (RunsIt image) me d events (plans_good plans image d.kept all) has (inl refl) legal follows)
 
 pub plans_stay : (plans : List Plan) (plan : Plan) (image : Image) (me : IndAddr) (d : DeviceState) (later earlier : List Event) → AllGood plans image → HasCapacities d.kept → IsAmong plans plan → IsLegal (fresh me d) (later ++ earlier)
@@ -121,7 +121,7 @@ jobs_good image first fits = record { kept = has_kept; good = λ plan job. job_g
 
 pub jobs_right : (image : Image) (me : IndAddr) (d : DeviceState) (events : List Event) → Fits image → HasCapacities d.kept → IsLegal (fresh me d) events → Follows (IsLoadOrCheck image) (fresh me d) events
     → AtEveryMoment (λ past. IsRight (IsLoadOrCheck image) image d.kept (replay (fresh me d) past)) events
-jobs_right image me d events fits has legal follows = 
+jobs_right image me d events fits has legal follows =
     are_right (IsLoadOrCheck image) image d.kept (fresh me d) events (each_moment (IsLoadOrCheck image) HasCapacities (OldStoppedOrImage d.kept image) (RunsIt image) me d events (jobs_good image d.kept fits) has (inl refl) legal follows)
 
 -- ---- a load

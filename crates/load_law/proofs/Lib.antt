@@ -9,3 +9,4 @@ mod Ends
 mod Capacities
 mod Jobs
 mod Always
+mod Checked

@@ -35,7 +35,7 @@ pub record Still (b : Bool) (o n : Seen) : Type 0 where
   pub ds : n.delivered ≡ (if b then [] else o.delivered)
 
 module _ (me : IndAddr) (asked : Texts) (s : TransportFrame) (o : Seen) (r : Ready s asked o.delivered) (quiet : asked ≡ o.delivered) where
-  nothing_new : (apdu : List ℕ) → s ≡ Numbered (length o.delivered % 16) apdu → ⊥
+  pub nothing_new : (apdu : List ℕ) → s ≡ Numbered (length o.delivered % 16) apdu → ⊥
   nothing_new apdu se =
       let e : asked ≡ apdu ∷ o.delivered = next_one asked o.delivered apdu (ready_numbered s _ apdu asked o.delivered se r) in
       let g : length o.delivered ≡ suc (length o.delivered) = ap (λ (z : Texts). length z) (sym quiet ∙ e) in
