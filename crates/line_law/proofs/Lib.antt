@@ -1,0 +1,3 @@
+mod Queue
+mod Coupled
+mod Owned
