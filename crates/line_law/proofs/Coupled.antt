@@ -14,6 +14,8 @@ use Rattle.line_model.specs.Reading.{ldata_in, is_req, is_con}
 use Rattle.line_model.specs.Record.{Entry}
 use Rattle.line_model.specs.World.{World, me, now, on_bus}
 use Rattle.session_law.specs.World.{Client, World as SessionWorld}
+use Rattle.session_law.specs.Events.{Event as SessionEvent, replay, IsLegal}
+use Rattle.load_law.specs.Download.{AsksNothing}
 use Rattle.tunnel_law.proofs.Inside.{Every}
 use Rattle.line_law.proofs.Queue.{Items, is_its, is_by, messages, cons, puts_of, back}
 
@@ -178,13 +180,23 @@ abbrev pub is_open : ClientChannel → Bool
 is_open (Open c l) = true
 is_open _ = false
 
-pub record Coupled (a : ℕ) (w : World) (r : List Entry) (s : SessionWorld) : Type 0 where
-  pub items : Items
-  pub older : List (ℕ × List ℕ)
-  pub last : Last
+pub record CoupledBy (a : ℕ) (w : World) (r : List Entry) (s : SessionWorld) (items : Items) (older : List (ℕ × List ℕ)) (last : Last) : Type 0 where
   pub side : DeviceSide a w s
   pub pipe : Pipe w.tunnel.gateway w.tunnel.present r items older last
   pub coming : s.coming ≡ messages a (back items w.tunnel.gateway.waiting)
   pub flying : FlyFor a (me w) last s.flying
   pub pending : PendFor a last s.client
   pub joined : s.client.joined ≡ is_open (channel r)
+
+pub record Coupled (a : ℕ) (w : World) (r : List Entry) (s : SessionWorld) : Type 0 where
+  pub items : Items
+  pub older : List (ℕ × List ℕ)
+  pub last : Last
+  pub by : CoupledBy a w r s items older last
+
+-- so many more events of the session follow an event of the line, and the client asks nothing in them
+pub record Goes (a : ℕ) (w : World) (r : List Entry) (s : SessionWorld) : Type 0 where
+  pub more : List SessionEvent
+  pub legal : IsLegal s more
+  pub silent : AsksNothing more
+  pub coupled : Coupled a w r (replay s more)

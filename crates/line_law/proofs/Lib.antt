@@ -1,3 +1,5 @@
 mod Queue
 mod Coupled
 mod Owned
+mod ReadBack
+mod Bus
