@@ -16,11 +16,11 @@ use Rattle.line_model.specs.Gateway.{Gateway}
 use Rattle.line_model.specs.Legal.{GoesOver, GoesSo, IsFor, OfDevice}
 use Rattle.line_model.specs.Reading.{ldata_in, is_con}
 use Rattle.line_model.specs.Record.{Entry}
-use Rattle.line_model.specs.Tunnel.{Tunnel, with_gateway, carried as carried_by}
-use Rattle.line_model.specs.World.{World, me, now, Devices, on_bus, next_frame, is_among, takes_it, is_confirmed, confirmation, carried, all_take, one_takes, changed, none_if}
+use Rattle.line_model.specs.Tunnel.{Tunnel, with_gateway, after, carried as carried_by}
+use Rattle.line_model.specs.World.{World, Event, Bus, BusTorn, BusWorn, tunnel_event, devices_after, echo_after, me, now, Devices, on_bus, next_frame, is_among, takes_it, is_confirmed, confirmation, carried, all_take, one_takes, changed, none_if}
 use Rattle.session_law.specs.World.{World as SessionWorld, Con as Confirms}
 use Rattle.session_law.specs.Device.{carries, carries_lost, elsewhere, gets}
-use Rattle.session_law.specs.Events.{Event as SessionEvent, Bus, BusLost, Group, Elsewhere, step, replay, MayHappen}
+use Rattle.session_law.specs.Events.{Event as SessionEvent, Bus as Carries, BusLost, Group, Elsewhere, step, replay, MayHappen}
 use Rattle.load_law.specs.Download.{IsSilent}
 use Rattle.tunnel_law.proofs.Inside.{Every}
 use Rattle.line_law.proofs.Queue.{Items, is_its, is_by, message, messages, messages_append, cons, cons_append, back, back_more}
@@ -175,7 +175,7 @@ module _ (a : ℕ) (w : World) (r : List Entry) (s : SessionWorld) (items : Item
       = told_kept a w r s n items older base e v f con devices is h
       (record { device = d ∙ ap (λ t. Some (takes s.device (on_bus (me w) f) t outcome)) (sym h.side.same_now); same_me = h.side.same_me; same_now = h.side.same_now; echo = refl })
       (ap (λ t. s.coming ++ Confirms t ∷ []) (sym error) ∙ ap (λ z. s.coming ++ z) (sym told)) refl in
-      goes_one a (told_world w con devices) r s (Bus outcome) tt tt (subst (λ (o : Option Ldata). Coupled a (told_world w con devices) r (carries s o outcome)) (sym flies) kept)
+      goes_one a (told_world w con devices) r s (Carries outcome) tt tt (subst (λ (o : Option Ldata). Coupled a (told_world w con devices) r (carries s o outcome)) (sym flies) kept)
 
   -- or doesn't get it
   bus_lost : is_its a f ≡ true → devices a ≡ Some s.device → con.error ≡ true → Goes a (told_world w con devices) r s
@@ -225,13 +225,13 @@ error_by : (w : World) (left_out : List ℕ) (frame : Ldata) (d : DeviceState) (
     → (confirmation w left_out frame).error ≡ not (not b && is_taken (took_of d frame))
 error_by w left_out frame d b g among at = rw g (rw among (rw at refl))
 
-eqb_is : (x y : ℕ) → (x == y) ≡ true → x ≡ y
+pub eqb_is : (x y : ℕ) → (x == y) ≡ true → x ≡ y
 eqb_is x y e = grind arith
 
-is_eqb : (x y : ℕ) → x ≡ y → (x == y) ≡ true
+pub is_eqb : (x y : ℕ) → x ≡ y → (x == y) ≡ true
 is_eqb x y e = grind arith
 
-eqb_sym : (x y : ℕ) → (x == y) ≡ (y == x)
+pub eqb_sym : (x y : ℕ) → (x == y) ≡ (y == x)
 eqb_sym x y = grind arith
 
 -- ---- it goes over the bus
@@ -302,3 +302,51 @@ module _ (a : ℕ) (w : World) (r : List Entry) (s : SessionWorld) (items : Item
       let at : devices a ≡ Some s.device
       = changed_at (w.devices a) s.device (λ d. takes d (on_bus (me w) f) (now w) outcome) (a == f.destination) h.side.device ∙ ap (λ z. Some (cond {A = DeviceState} z (takes s.device (on_bus (me w) f) (now w) outcome) s.device)) (eqb_sym a f.destination ∙ m) in
       bus_other a w r s items older base e v f con devices (con_of w [] f octets reads) h its at
+
+-- ---- the events
+
+abbrev pub after_world : World → Event → World
+after_world w e = record { tunnel = after w.tunnel (tunnel_event w e); devices = devices_after w e; echo = echo_after w e }
+
+bus_last : (a : ℕ) (w : World) (r : List Entry) (s : SessionWorld) (items : Items) (older : List (ℕ × List ℕ)) (last : Last) (x : Ldata) → s.device.address.raw ≡ a → CoupledBy a w r s items older last → IsOnBus last x
+    → (left_out : List ℕ) → Goes a (told_world w (confirmation w left_out (on_bus (me w) x)) (all_take (now w) left_out (Some (on_bus (me w) x)) w.devices)) r s
+bus_last a w r s items older Never x named h is left_out = absurd is
+bus_last a w r s items older (Since base e v Landed) x named h is left_out = absurd is
+bus_last a w r s items older (Since base e v (Flies f Waits)) x named h is left_out = absurd is
+bus_last a w r s items older (Since base e v (Flies f OnBus)) x named h is left_out =
+    let P : Ldata → Type 0 = λ z. Goes a (told_world w (confirmation w left_out (on_bus (me w) z)) (all_take (now w) left_out (Some (on_bus (me w) z)) w.devices)) r s in
+    subst P is (bus_by a w r s items older base e v f h.pipe.last_is.flight_is.octets h.pipe.last_is.flight_is.reads named h left_out f.group (f.destination == a) (is_among left_out a) refl refl refl)
+bus_last a w r s items older (Since base e v (Flies f Told)) x named h is left_out = absurd is
+bus_last a w r s items older (Since base e v (Flies f Gone)) x named h is left_out = absurd is
+
+one_last : (a : ℕ) (w : World) (r : List Entry) (s : SessionWorld) (items : Items) (older : List (ℕ × List ℕ)) (last : Last) (x : Ldata) → s.device.address.raw ≡ a → x.group ≡ false → CoupledBy a w r s items older last → IsOnBus last x
+    → (outcome : Outcome) → Goes a (told_world w (confirmation w [] (on_bus (me w) x)) (one_takes (now w) outcome (Some (on_bus (me w) x)) w.devices)) r s
+one_last a w r s items older Never x named g h is outcome = absurd is
+one_last a w r s items older (Since base e v Landed) x named g h is outcome = absurd is
+one_last a w r s items older (Since base e v (Flies f Waits)) x named g h is outcome = absurd is
+one_last a w r s items older (Since base e v (Flies f OnBus)) x named g h is outcome =
+    let P : Ldata → Type 0 = λ z. Goes a (told_world w (confirmation w [] (on_bus (me w) z)) (one_takes (now w) outcome (Some (on_bus (me w) z)) w.devices)) r s in
+    subst P is (one_by a w r s items older base e v f h.pipe.last_is.flight_is.octets h.pipe.last_is.flight_is.reads named h outcome (f.destination == a) (ap (λ (z : Ldata). z.group) is ∙ g) refl)
+one_last a w r s items older (Since base e v (Flies f Told)) x named g h is outcome = absurd is
+one_last a w r s items older (Since base e v (Flies f Gone)) x named g h is outcome = absurd is
+
+bus_list : (a : ℕ) (w : World) (r : List Entry) (s : SessionWorld) (left_out : List ℕ) (q : List Ldata) → w.tunnel.gateway.bus ≡ q → s.device.address.raw ≡ a → Coupled a w r s → GoesOver (option_map (on_bus (me w)) (first_frame q))
+    → Goes a (record { tunnel = after w.tunnel (carried w left_out (option_map (on_bus (me w)) (first_frame q))); devices = all_take (now w) left_out (option_map (on_bus (me w)) (first_frame q)) w.devices; echo = none_if (option_map (on_bus (me w)) (first_frame q)) w.echo }) r s
+bus_list a w r s left_out [] e named c over = absurd (over refl)
+bus_list a w r s left_out (x ∷ rest) e named c over =
+    bus_last a w r s c.items c.older c.last x named c.by (on_bus_now c.last w.tunnel.gateway w.tunnel.present r c.items c.older x rest c.by.pipe.last_is e) left_out
+
+pub bus_kept : (a : ℕ) (w : World) (r : List Entry) (s : SessionWorld) (left_out : List ℕ) → s.device.address.raw ≡ a → Coupled a w r s → GoesOver (next_frame w) → Goes a (after_world w (Bus left_out)) r s
+bus_kept a w r s left_out named c over = bus_list a w r s left_out w.tunnel.gateway.bus refl named c over
+
+one_list : (a : ℕ) (w : World) (r : List Entry) (s : SessionWorld) (outcome : Outcome) (q : List Ldata) → w.tunnel.gateway.bus ≡ q → s.device.address.raw ≡ a → Coupled a w r s → GoesSo w outcome (option_map (on_bus (me w)) (first_frame q))
+    → Goes a (record { tunnel = after w.tunnel (carried w [] (option_map (on_bus (me w)) (first_frame q))); devices = one_takes (now w) outcome (option_map (on_bus (me w)) (first_frame q)) w.devices; echo = none_if (option_map (on_bus (me w)) (first_frame q)) w.echo }) r s
+one_list a w r s outcome [] e named c over = absurd over
+one_list a w r s outcome (x ∷ rest) e named c over =
+    one_last a w r s c.items c.older c.last x named over.alone c.by (on_bus_now c.last w.tunnel.gateway w.tunnel.present r c.items c.older x rest c.by.pipe.last_is e) outcome
+
+pub torn_kept : (a : ℕ) (w : World) (r : List Entry) (s : SessionWorld) (fresh : Bool) (octets : List ℕ) → s.device.address.raw ≡ a → Coupled a w r s → GoesSo w (Torn fresh octets) (next_frame w) → Goes a (after_world w (BusTorn fresh octets)) r s
+torn_kept a w r s fresh octets named c so = one_list a w r s (Torn fresh octets) w.tunnel.gateway.bus refl named c so
+
+pub worn_kept : (a : ℕ) (w : World) (r : List Entry) (s : SessionWorld) (octets : List ℕ) → s.device.address.raw ≡ a → Coupled a w r s → GoesSo w (Worn octets) (next_frame w) → Goes a (after_world w (BusWorn octets)) r s
+worn_kept a w r s octets named c so = one_list a w r s (Worn octets) w.tunnel.gateway.bus refl named c so

@@ -3,3 +3,4 @@ mod Coupled
 mod Owned
 mod ReadBack
 mod Bus
+mod Devices
