@@ -4,3 +4,4 @@ mod Owned
 mod ReadBack
 mod Bus
 mod Devices
+mod Gates
