@@ -219,3 +219,186 @@ shut_by a w r s items older (Since base e v flight) h =
 pub shut_kept : (a : ℕ) (w : World) (r : List Entry) (s : SessionWorld) → Coupled a w r s → Goes a (gate_world w (shut_gate w.tunnel.gateway)) r s
 shut_kept a w r s c =
     goes_one a (gate_world w (shut_gate w.tunnel.gateway)) r s (Drops (length (messages a (back c.items [])))) tt tt (shut_by a w r s c.items c.older c.last c.by)
+
+-- ---- it makes the next channel
+
+below_newest : (makers : List ℕ) → newest_place makers ≤ length makers
+below_newest [] = omega arith
+below_newest (m ∷ rest) = omega arith
+
+pub newest_least : (makers : List ℕ) (base e : ℕ) → Has makers base e → base ≤ newest_place makers
+newest_least [] base e h = absurd h
+newest_least (m ∷ rest) base e h = let b : base < length (m ∷ rest) = has_below (m ∷ rest) base e h in omega arith
+
+abbrev pub made_gate : Gateway → Channel → ℕ → Gateway
+made_gate g ch e = record g { channel = Some ch; makers = e ∷ g.makers }
+
+-- the client has no channel of this number at that endpoint
+abbrev pub IsNew : List ℕ → List Entry → ℕ → Type 0
+IsNew makers r e = (v : View) → Has (views r) e v → v.number ≡ Some (number_of (length makers)) → ⊥
+
+old_channel : (g : Gateway) (r : List Entry) (ch : Channel) (e k : ℕ) (other : View) → IsNew g.makers r e → IsChannelOf (made_gate g ch e) r k other → IsChannelOf g r k other
+old_channel g r ch e k other new c = by_maker c.made_by where
+  by_maker : ((k ≡ length g.makers) × (e ≡ c.endpoint)) ⊎ Has g.makers k c.endpoint → IsChannelOf g r k other
+  by_maker (inl q) = absurd (new other (subst (λ z. Has (views r) z other) (sym q.1) c.view) (c.number ∙ ap (λ z. Some (number_of z)) q.0))
+  by_maker (inr q) = record { endpoint = c.endpoint; made_by = q; view = c.view; number = c.number }
+
+later_makes : (base n present e : ℕ) (makers : List ℕ) → base < length makers → IsLater base n present makers → IsLater base n present (e ∷ makers)
+later_makes base n present e makers below h =
+    (h.0, λ k q. elim q [ inl new ↦ (let at : k ≡ length makers = new.0 in omega arith) | inr old ↦ h.1 k old ])
+
+channel_makes : (base n present e : ℕ) (makers : List ℕ) (flight : Flight) (c : ClientChannel) → base < length makers → ChannelIs base n present makers flight c → ChannelIs base n present (e ∷ makers) flight c
+channel_makes base n present e makers flight Fresh below h = later_makes base n present e makers below h
+channel_makes base n present e makers flight (Sought since) below h = later_makes base n present e makers below h
+channel_makes base n present e makers flight (RefusedBy status) below h = later_makes base n present e makers below h
+channel_makes base n present e makers flight Unanswered below h = later_makes base n present e makers below h
+channel_makes base n present e makers flight (Open c l) below h = h
+channel_makes base n present e makers flight (Lost c) below h = h
+
+closed_serving : (base : ℕ) (g : Gateway) → g.channel ≡ None → Serves base g ⊎ ((cons g.waiting ≡ []) × (g.bus ≡ [])) → (cons g.waiting ≡ []) × (g.bus ≡ [])
+closed_serving base g n (inl h) = absurd (let e : None ≡ Some h.c = sym n ∙ h.is_up in cc)
+closed_serving base g n (inr h) = h
+
+makes_last : (last : Last) (g : Gateway) (present : ℕ) (r : List Entry) (items : Items) (older : List (ℕ × List ℕ)) (ch : Channel) (e : ℕ) → g.channel ≡ None → IsNew g.makers r e → LastIs last g present r items older → LastIs last (made_gate g ch e) present r items older
+makes_last Never g present r items older ch e none new h = record { none = λ k other c. h.none k other (old_channel g r ch e k other new c); out = h.out; bus = h.bus; quiet = h.quiet }
+makes_last (Since base n v flight) g present r items older ch e none new h =
+    let below : base < length g.makers = has_below g.makers base n h.made in
+    record {
+      made = inr h.made;
+      view = h.view;
+      number = h.number;
+      late = λ k other c. h.late k other (old_channel g r ch e k other new c);
+      low = h.low;
+      taken = h.taken;
+      channel_is = channel_makes base n present e g.makers flight (channel r) below h.channel_is;
+      con_items = h.con_items;
+      serving = inr (closed_serving base g none h.serving);
+      flight_is = flight_to base g (made_gate g ch e) (back items g.waiting) (back items g.waiting) v.puts flight refl refl refl (λ z. inr (λ q. let same : length g.makers ≡ base = q in omega (arith, below, same))) h.flight_is;
+    }
+
+pub makes_kept : (a : ℕ) (w : World) (r : List Entry) (s : SessionWorld) (ch : Channel) (e : ℕ) → w.tunnel.gateway.channel ≡ None → IsNew w.tunnel.gateway.makers r e → Coupled a w r s → Coupled a (gate_world w (made_gate w.tunnel.gateway ch e)) r s
+makes_kept a w r s ch e none new c =
+    let g : Gateway = w.tunnel.gateway in
+    let p = c.by.pipe in
+    record {
+      items = c.items;
+      older = c.older;
+      last = c.last;
+      by = record {
+        side = record { device = c.by.side.device; same_me = c.by.side.same_me; same_now = c.by.side.same_now; echo = c.by.side.echo };
+        pipe = record {
+          puts_are = p.puts_are;
+          sorted = p.sorted;
+          newest = every_map (λ (x : ℕ × Ldata). x.0 ≤ newest_place g.makers) (λ (x : ℕ × Ldata). x.0 ≤ length g.makers) (λ x q. let b : newest_place g.makers ≤ length g.makers = below_newest g.makers in omega arith) c.items p.newest;
+          frames = p.frames;
+          last_is = makes_last c.last g w.tunnel.present r c.items c.older ch e none new p.last_is;
+        };
+        coming = c.by.coming;
+        flying = c.by.flying;
+        pending = c.by.pending;
+        joined = c.by.joined;
+      };
+    }
+
+-- ---- it acts on a request
+
+abbrev pub acted_gate : Gateway → Channel → List ℕ → Gateway
+acted_gate g ch frame = record g { channel = Some ch; bus = g.bus ++ to_bus (ldata_in frame); acted = (place g, frame) ∷ g.acted }
+
+-- what the law of the tunnel says of this
+pub record UpOnce (g : Gateway) (r : List Entry) : Type 0 where
+  pub up : (k : ℕ) (v : View) → IsChannelOf g r k v → IsPrefix (in_channel k g.acted) v.puts
+  pub alone : (k : ℕ) → ((v : View) → ¬ IsChannelOf g r k v) → in_channel k g.acted ≡ []
+
+in_same : (k : ℕ) (x : List ℕ) (l : List (ℕ × List ℕ)) → in_channel k ((k, x) ∷ l) ≡ x ∷ in_channel k l
+in_same k x l = let e : (k == k) ≡ true = grind arith in rw e refl
+
+not_alone : (k : ℕ) (x : List ℕ) (l : List (ℕ × List ℕ)) → in_channel k ((k, x) ∷ l) ≡ [] → ⊥
+not_alone k x l e = let h : x ∷ in_channel k l ≡ [] = sym (in_same k x l) ∙ e in cc
+
+one_put : (newer : List (List ℕ)) (x : List ℕ) (l : List (List ℕ)) (y : List ℕ) → y ∷ l ≡ newer ++ x ∷ l → x ≡ y
+one_put [] x l y e = cc
+one_put (z ∷ newer) x l y e =
+    absurd (let h : suc (length l) ≡ suc (length newer + suc (length l)) = ap (λ (q : List (List ℕ)). length q) e ∙ ap (λ n. suc n) (length-append newer (x ∷ l)) in omega arith)
+
+no_put : (newer : List (List ℕ)) (x : List ℕ) (l : List (List ℕ)) → l ≡ newer ++ x ∷ l → ⊥
+no_put newer x l e = let h : length l ≡ length newer + suc (length l) = ap (λ (q : List (List ℕ)). length q) e ∙ length-append newer (x ∷ l) in omega arith
+
+req_bus : (f : Ldata) → is_req f.code ≡ true → to_bus (Some f) ≡ f ∷ []
+req_bus f h = rw h refl
+
+which : (n base : ℕ) → base ≤ n → (n ≡ base) ⊎ (base < n)
+which n base h = grind (arith, h)
+
+-- in the channel that the client got last
+acts_here : (a : ℕ) (w : World) (r : List Entry) (s : SessionWorld) (items : Items) (older : List (ℕ × List ℕ)) (base e : ℕ) (v : View) (flight : Flight) (c ch : Channel) (frame : List ℕ) → w.tunnel.gateway.channel ≡ Some c → place w.tunnel.gateway ≡ base
+    → IsPrefix (frame ∷ in_channel base w.tunnel.gateway.acted) v.puts → CoupledBy a w r s items older (Since base e v flight) → Coupled a (gate_world w (acted_gate w.tunnel.gateway ch frame)) r s
+acts_here a w r s items older base e v Landed c ch frame is at up h =
+    absurd (no_put up.0 frame v.puts (up.1 ∙ ap (λ z. up.0 ++ frame ∷ z) h.pipe.last_is.flight_is.0))
+acts_here a w r s items older base e v (Flies f OnBus) c ch frame is at up h =
+    absurd (no_put up.0 frame v.puts (up.1 ∙ ap (λ z. up.0 ++ frame ∷ z) h.pipe.last_is.flight_is.stage_is.0))
+acts_here a w r s items older base e v (Flies f Told) c ch frame is at up h =
+    absurd (no_put up.0 frame v.puts (up.1 ∙ ap (λ z. up.0 ++ frame ∷ z) h.pipe.last_is.flight_is.stage_is.0))
+acts_here a w r s items older base e v (Flies f Gone) c ch frame is at up h =
+    absurd (elim h.pipe.last_is.flight_is.stage_is.0 [ inl none ↦ (let q : None ≡ Some c = sym none ∙ is in cc) | inr other ↦ other at ])
+acts_here a w r s items older base e v (Flies f Waits) c ch frame is at up h =
+    let g : Gateway = w.tunnel.gateway in
+    let p = h.pipe in
+    let j : JoinedIs base e v (Flies f Waits) g w.tunnel.present r items older = p.last_is in
+    let fl : FliesSo base g (back items g.waiting) v.puts f Waits = j.flight_is in
+    let same : frame ≡ fl.octets = one_put up.0 frame fl.before fl.octets (sym fl.newest ∙ up.1 ∙ ap (λ z. up.0 ++ frame ∷ z) fl.stage_is.0) in
+    let acted : in_channel base ((place g, frame) ∷ g.acted) ≡ v.puts
+    = ap (λ z. in_channel base ((z, frame) ∷ g.acted)) at ∙ in_same base frame g.acted ∙ ap (λ z. z ∷ in_channel base g.acted) same ∙ ap (λ z. fl.octets ∷ z) fl.stage_is.0 ∙ sym fl.newest in
+    let bus : g.bus ++ to_bus (ldata_in frame) ≡ f ∷ [] = ap (λ z. z ++ to_bus (ldata_in frame)) fl.stage_is.1 ∙ ap (λ z. to_bus (ldata_in z)) same ∙ ap to_bus fl.reads ∙ req_bus f fl.request in
+    record {
+      items = items;
+      older = older;
+      last = Since base e v (Flies f OnBus);
+      by = record {
+        side = record { device = h.side.device; same_me = h.side.same_me; same_now = h.side.same_now; echo = h.side.echo };
+        pipe = record {
+          puts_are = p.puts_are;
+          sorted = p.sorted;
+          newest = p.newest;
+          frames = p.frames;
+          last_is = record {
+            made = j.made;
+            view = j.view;
+            number = j.number;
+            late = λ k other q. j.late k other (record { endpoint = q.endpoint; made_by = q.made_by; view = q.view; number = q.number });
+            low = j.low;
+            taken = j.taken;
+            channel_is = channel_flies base e w.tunnel.present g.makers f Waits OnBus (channel r) j.channel_is;
+            con_items = j.con_items;
+            serving = inl (record { place = at; c = ch; is_up = refl });
+            flight_is = record { octets = fl.octets; before = fl.before; newest = fl.newest; reads = fl.reads; request = fl.request; stage_is = (acted, bus, fl.stage_is.2) };
+          };
+        };
+        coming = h.coming;
+        flying = h.flying;
+        pending = h.pending;
+        joined = h.joined;
+      };
+    }
+
+acts_by : (a : ℕ) (w : World) (r : List Entry) (s : SessionWorld) (items : Items) (older : List (ℕ × List ℕ)) (last : Last) (c ch : Channel) (frame : List ℕ) → w.tunnel.gateway.channel ≡ Some c → UpOnce (acted_gate w.tunnel.gateway ch frame) r
+    → CoupledBy a w r s items older last → Coupled a (gate_world w (acted_gate w.tunnel.gateway ch frame)) r s
+acts_by a w r s items older Never c ch frame is once h =
+    let g : Gateway = w.tunnel.gateway in
+    absurd (not_alone (place g) frame g.acted (once.alone (place g) (λ v q. h.pipe.last_is.none (place g) v (record { endpoint = q.endpoint; made_by = q.made_by; view = q.view; number = q.number }))))
+acts_by a w r s items older (Since base e v flight) c ch frame is once h =
+    let g : Gateway = w.tunnel.gateway in
+    let j : JoinedIs base e v flight g w.tunnel.present r items older = h.pipe.last_is in
+    elim (which (place g) base (newest_least g.makers base e j.made)) [
+      | inl at ↦
+          (let up : IsPrefix (in_channel base ((place g, frame) ∷ g.acted)) v.puts = once.up base v (record { endpoint = e; made_by = j.made; view = j.view; number = j.number }) in
+          let here : in_channel base ((place g, frame) ∷ g.acted) ≡ frame ∷ in_channel base g.acted = ap (λ z. in_channel base ((z, frame) ∷ g.acted)) at ∙ in_same base frame g.acted in
+          acts_here a w r s items older base e v flight c ch frame is at (subst (λ z. IsPrefix z v.puts) here up) h)
+      | inr later ↦
+          absurd (not_alone (place g) frame g.acted (once.alone (place g) (λ other q.
+              let most : place g ≤ base = j.late (place g) other (record { endpoint = q.endpoint; made_by = q.made_by; view = q.view; number = q.number }) in
+              omega (arith, most, later))))
+    ]
+
+pub acts_kept : (a : ℕ) (w : World) (r : List Entry) (s : SessionWorld) (c ch : Channel) (frame : List ℕ) → w.tunnel.gateway.channel ≡ Some c → UpOnce (acted_gate w.tunnel.gateway ch frame) r → Coupled a w r s → Coupled a (gate_world w (acted_gate w.tunnel.gateway ch frame)) r s
+acts_kept a w r s c ch frame is once h = acts_by a w r s h.items h.older h.last c ch frame is once h.by
