@@ -5,3 +5,5 @@ mod ReadBack
 mod Bus
 mod Devices
 mod Gates
+mod Acting
+mod Putting
