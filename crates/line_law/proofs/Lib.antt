@@ -7,3 +7,5 @@ mod Devices
 mod Gates
 mod Acting
 mod Putting
+mod Facts
+mod Taking
