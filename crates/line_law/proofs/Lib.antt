@@ -9,3 +9,4 @@ mod Acting
 mod Putting
 mod Facts
 mod Taking
+mod Tunnels
