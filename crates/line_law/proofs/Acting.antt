@@ -89,6 +89,7 @@ acts_here a w r s items older base e v (Flies f Waits) c ch frame is at up h =
             late = λ k other q. j.late k other (record { endpoint = q.endpoint; made_by = q.made_by; view = q.view; number = q.number });
             low = j.low;
             taken = j.taken;
+            olds = j.olds;
             channel_is = channel_flies base e w.tunnel.present g.makers f Waits OnBus (channel r) j.channel_is;
             con_items = j.con_items;
             serving = inl (record { place = at; c = ch; is_up = refl });

@@ -101,6 +101,7 @@ told_pipe g present r items older base e v f con is h =
         late = λ k other c. j.late k other (record { endpoint = c.endpoint; made_by = c.made_by; view = c.view; number = c.number });
         low = j.low;
         taken = j.taken;
+        olds = j.olds;
         channel_is = channel_flies base e present g.makers f OnBus Told (channel r) j.channel_is;
         con_items = j.con_items;
         serving = inl (serves_bus base g (carried_by g con) f fl.stage_is.1 refl refl j.serving);

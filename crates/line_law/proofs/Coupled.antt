@@ -121,19 +121,21 @@ pub record JoinedIs (base e : ℕ) (v : View) (flight : Flight) (g : Gateway) (p
   pub late : (k : ℕ) (other : View) → IsChannelOf g r k other → k ≤ base
   pub low : Every (IsLow base) items
   pub taken : in_channel base older ≡ v.takes
+  pub olds : Every (λ (x : ℕ × List ℕ). x.0 ≤ base) older
   pub channel_is : ChannelIs base e present g.makers flight (channel r)
   pub con_items : Every (ConAt base) items
   pub serving : Serves base g ⊎ ((cons g.waiting ≡ []) × (g.bus ≡ []))
   pub flight_is : FlightIs base g (back items g.waiting) v.puts flight
 
-pub record NeverIs (g : Gateway) (r : List Entry) (items : Items) : Type 0 where
+pub record NeverIs (g : Gateway) (r : List Entry) (items : Items) (older : List (ℕ × List ℕ)) : Type 0 where
   pub none : (k : ℕ) (other : View) → ¬ IsChannelOf g r k other
   pub out : IsOut (channel r)
   pub bus : g.bus ≡ []
   pub quiet : cons (back items g.waiting) ≡ []
+  pub empty : older ≡ []
 
 abbrev pub LastIs : Last → Gateway → ℕ → List Entry → Items → List (ℕ × List ℕ) → Type 0
-LastIs Never g present r items older = NeverIs g r items
+LastIs Never g present r items older = NeverIs g r items older
 LastIs (Since base e v flight) g present r items older = JoinedIs base e v flight g present r items older
 
 -- ---- the tunnel's two ends, as sessions need them

@@ -66,6 +66,7 @@ heard_last Never g present r items older f e h =
       out = h.out;
       bus = h.bus;
       quiet = ap cons (back_more items g.waiting (f ∷ [])) ∙ no_more (back items g.waiting) f e ∙ h.quiet;
+      empty = h.empty;
     }
 heard_last (Since base n v flight) g present r items older f e h =
     record {
@@ -75,6 +76,7 @@ heard_last (Since base n v flight) g present r items older f e h =
       late = λ k other c. h.late k other (record { endpoint = c.endpoint; made_by = c.made_by; view = c.view; number = c.number });
       low = h.low;
       taken = h.taken;
+      olds = h.olds;
       channel_is = h.channel_is;
       con_items = h.con_items;
       serving = heard_serving base g f e h.serving;

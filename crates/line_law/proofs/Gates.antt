@@ -62,7 +62,7 @@ channel_serving base g o h (inr q) = inr q
 
 channel_last : (last : Last) (g : Gateway) (present : ℕ) (r : List Entry) (items : Items) (older : List (ℕ × List ℕ)) (o : Option Channel) → SameOpen g.channel o → LastIs last g present r items older → LastIs last (with_channel g o) present r items older
 channel_last Never g present r items older o s h =
-    record { none = λ k other c. h.none k other (record { endpoint = c.endpoint; made_by = c.made_by; view = c.view; number = c.number }); out = h.out; bus = h.bus; quiet = h.quiet }
+    record { none = λ k other c. h.none k other (record { endpoint = c.endpoint; made_by = c.made_by; view = c.view; number = c.number }); out = h.out; bus = h.bus; quiet = h.quiet; empty = h.empty }
 channel_last (Since base e v flight) g present r items older o s h =
     record {
       made = h.made;
@@ -71,6 +71,7 @@ channel_last (Since base e v flight) g present r items older o s h =
       late = λ k other c. h.late k other (record { endpoint = c.endpoint; made_by = c.made_by; view = c.view; number = c.number });
       low = h.low;
       taken = h.taken;
+      olds = h.olds;
       channel_is = h.channel_is;
       con_items = h.con_items;
       serving = channel_serving base g o s h.serving;
@@ -160,7 +161,7 @@ shut_by : (a : ℕ) (w : World) (r : List Entry) (s : SessionWorld) (items : Ite
 shut_by a w r s items older Never h =
     let g : Gateway = w.tunnel.gateway in
     let p = h.pipe in
-    let n : NeverIs g r items = p.last_is in
+    let n : NeverIs g r items older = p.last_is in
     record {
       items = items;
       older = older;
@@ -172,7 +173,7 @@ shut_by a w r s items older Never h =
           sorted = p.sorted;
           newest = p.newest;
           frames = shut_told items g.waiting p.frames;
-          last_is = record { none = λ k other c. n.none k other (record { endpoint = c.endpoint; made_by = c.made_by; view = c.view; number = c.number }); out = n.out; bus = refl; quiet = front_cons items g.waiting n.quiet };
+          last_is = record { none = λ k other c. n.none k other (record { endpoint = c.endpoint; made_by = c.made_by; view = c.view; number = c.number }); out = n.out; bus = refl; quiet = front_cons items g.waiting n.quiet; empty = n.empty };
         };
         coming = shut_coming a items g.waiting s.coming h.coming;
         flying = tt;
@@ -203,6 +204,7 @@ shut_by a w r s items older (Since base e v flight) h =
             late = λ k other c. j.late k other (record { endpoint = c.endpoint; made_by = c.made_by; view = c.view; number = c.number });
             low = j.low;
             taken = j.taken;
+            olds = j.olds;
             channel_is = f.channel e w.tunnel.present g.makers (channel r) j.channel_is;
             con_items = j.con_items;
             serving = inr (refl, refl);
@@ -260,7 +262,7 @@ closed_serving base g n (inl h) = absurd (let e : None ≡ Some h.c = sym n ∙ 
 closed_serving base g n (inr h) = h
 
 makes_last : (last : Last) (g : Gateway) (present : ℕ) (r : List Entry) (items : Items) (older : List (ℕ × List ℕ)) (ch : Channel) (e : ℕ) → g.channel ≡ None → IsNew g.makers r e → LastIs last g present r items older → LastIs last (made_gate g ch e) present r items older
-makes_last Never g present r items older ch e none new h = record { none = λ k other c. h.none k other (old_channel g r ch e k other new c); out = h.out; bus = h.bus; quiet = h.quiet }
+makes_last Never g present r items older ch e none new h = record { none = λ k other c. h.none k other (old_channel g r ch e k other new c); out = h.out; bus = h.bus; quiet = h.quiet; empty = h.empty }
 makes_last (Since base n v flight) g present r items older ch e none new h =
     let below : base < length g.makers = has_below g.makers base n h.made in
     record {
@@ -270,6 +272,7 @@ makes_last (Since base n v flight) g present r items older ch e none new h =
       late = λ k other c. h.late k other (old_channel g r ch e k other new c);
       low = h.low;
       taken = h.taken;
+      olds = h.olds;
       channel_is = channel_makes base n present e g.makers flight (channel r) below h.channel_is;
       con_items = h.con_items;
       serving = inr (closed_serving base g none h.serving);

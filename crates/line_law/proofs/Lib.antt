@@ -10,3 +10,4 @@ mod Putting
 mod Facts
 mod Taking
 mod Tunnels
+mod Entries

@@ -45,7 +45,7 @@ put_serving base g c f rest t e (inr q) = inr (rest_none g.waiting f rest e q.0,
 put_last : (last : Last) (g : Gateway) (present : ℕ) (r : List Entry) (items : Items) (older : List (ℕ × List ℕ)) (c : Channel) (f : Ldata) (rest : List Ldata) (t : ℕ) → g.channel ≡ Some c → g.waiting ≡ f ∷ rest → LastIs last g present r items older
     → LastIs last (put_gate g c f t) present r ((place g, f) ∷ items) older
 put_last Never g present r items older c f rest t is e h =
-    record { none = λ k other q. h.none k other (record { endpoint = q.endpoint; made_by = q.made_by; view = q.view; number = q.number }); out = h.out; bus = h.bus; quiet = ap cons (back_same items (place g) g.waiting f rest e) ∙ h.quiet }
+    record { none = λ k other q. h.none k other (record { endpoint = q.endpoint; made_by = q.made_by; view = q.view; number = q.number }); out = h.out; bus = h.bus; quiet = ap cons (back_same items (place g) g.waiting f rest e) ∙ h.quiet; empty = h.empty }
 put_last (Since base n v flight) g present r items older c f rest t is e h =
     record {
       made = h.made;
@@ -54,6 +54,7 @@ put_last (Since base n v flight) g present r items older c f rest t is e h =
       late = λ k other q. h.late k other (record { endpoint = q.endpoint; made_by = q.made_by; view = q.view; number = q.number });
       low = (newest_least g.makers base n h.made, h.low);
       taken = h.taken;
+      olds = h.olds;
       channel_is = h.channel_is;
       con_items = (con_place base g f rest e h.serving, h.con_items);
       serving = put_serving base g c f rest t e h.serving;
