@@ -11,3 +11,4 @@ mod Facts
 mod Taking
 mod Tunnels
 mod Entries
+mod Joining
