@@ -12,3 +12,5 @@ mod Taking
 mod Tunnels
 mod Entries
 mod Joining
+mod Opened
+mod Items
