@@ -31,7 +31,7 @@ pub record UpOnce (g : Gateway) (r : List Entry) : Type 0 where
   pub up : (k : ℕ) (v : View) → IsChannelOf g r k v → IsPrefix (in_channel k g.acted) v.puts
   pub alone : (k : ℕ) → ((v : View) → ¬ IsChannelOf g r k v) → in_channel k g.acted ≡ []
 
-in_same : (k : ℕ) (x : List ℕ) (l : List (ℕ × List ℕ)) → in_channel k ((k, x) ∷ l) ≡ x ∷ in_channel k l
+pub in_same : (k : ℕ) (x : List ℕ) (l : List (ℕ × List ℕ)) → in_channel k ((k, x) ∷ l) ≡ x ∷ in_channel k l
 in_same k x l = let e : (k == k) ≡ true = grind arith in rw e refl
 
 not_alone : (k : ℕ) (x : List ℕ) (l : List (ℕ × List ℕ)) → in_channel k ((k, x) ∷ l) ≡ [] → ⊥

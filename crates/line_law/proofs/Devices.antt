@@ -27,10 +27,10 @@ use Rattle.line_law.proofs.Bus.{goes_none, goes_one, after_world, mapped_at, cha
 
 -- ---- frames of devices come to the gateway
 
-own_ind : (f : Ldata) → IsOwn f → f.code ≡ Ind
+pub own_ind : (f : Ldata) → IsOwn f → f.code ≡ Ind
 own_ind f e = ap (λ (z : Ldata). z.code) e
 
-own_con : (f : Ldata) → IsOwn f → cons (f ∷ []) ≡ []
+pub own_con : (f : Ldata) → IsOwn f → cons (f ∷ []) ≡ []
 own_con f e = rw (own_ind f e) refl
 
 own_its : (a : ℕ) (f : Ldata) → IsOwn f → (b : Bool) → is_by a f ≡ b → message a f ≡ (if b then Tells f ∷ [] else [])

@@ -85,7 +85,7 @@ part j (x ∷ l) h =
       | inr lt ↦ record { newer = []; dropped = x ∷ l; parts = refl; high = tt; below = (lt, every_map (λ (y : ℕ × Ldata). y.0 ≤ x.0) (λ (y : ℕ × Ldata). y.0 < j) (λ y q. omega (arith, q, lt)) l h.0) }
     ]
 
-sorted_front : (l k : Items) → IsSorted (l ++ k) → IsSorted l
+pub sorted_front : (l k : Items) → IsSorted (l ++ k) → IsSorted l
 sorted_front [] k h = tt
 sorted_front (x ∷ l) k h = (every_front (λ (y : ℕ × Ldata). y.0 ≤ x.0) l k h.0, sorted_front l k h.1)
 

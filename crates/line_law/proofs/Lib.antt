@@ -14,3 +14,4 @@ mod Entries
 mod Joining
 mod Opened
 mod Items
+mod Takes

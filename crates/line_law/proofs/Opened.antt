@@ -23,7 +23,7 @@ use Rattle.line_law.proofs.Entries.{HeadView, at_head, views_go}
 -- ---- the view of an open channel
 
 -- its number stays, so no later channel is the client's
-head_late : (g : Gateway) (r k : List Entry) (present base : ℕ) (v n : View) (rest : List View) → views r ≡ v ∷ rest → views k ≡ n ∷ rest → n.number ≡ v.number → ((q : ℕ) (other : View) → IsChannelOf g r q other → q ≤ base) → (q : ℕ) (other : View) → IsChannelOf g k q other → q ≤ base
+pub head_late : (g : Gateway) (r k : List Entry) (present base : ℕ) (v n : View) (rest : List View) → views r ≡ v ∷ rest → views k ≡ n ∷ rest → n.number ≡ v.number → ((q : ℕ) (other : View) → IsChannelOf g r q other → q ≤ base) → (q : ℕ) (other : View) → IsChannelOf g k q other → q ≤ base
 head_late g r k present base v n rest old new number late q other c = by_place (subst (λ (z : List View). Has z c.endpoint other) new c.view) where
   by_place : Has (n ∷ rest) c.endpoint other → q ≤ base
   by_place (inl p) =
@@ -37,13 +37,13 @@ pub record IsHere (base e : ℕ) (v : View) (flight : Flight) (present c : ℕ) 
   pub flies : OpenIs (confirmed c l) flight
   pub view_is : h.view ≡ v
 
-here : (base e : ℕ) (v : View) (flight : Flight) (g : Gateway) (present : ℕ) (r : List Entry) (items : Items) (older : List (ℕ × List ℕ)) (c : ℕ) (l : List Entry) (h : HeadView r present) → channel r ≡ Open c l → JoinedIs base e v flight g present r items older
+pub here : (base e : ℕ) (v : View) (flight : Flight) (g : Gateway) (present : ℕ) (r : List Entry) (items : Items) (older : List (ℕ × List ℕ)) (c : ℕ) (l : List Entry) (h : HeadView r present) → channel r ≡ Open c l → JoinedIs base e v flight g present r items older
     → IsHere base e v flight present c l r h
 here base e v flight g present r items older c l h is j =
     let q : ChannelIs base e present g.makers flight (Open c l) = subst (ChannelIs base e present g.makers flight) is j.channel_is in
     record { here = q.0; number = q.1; flies = q.2; view_is = at_head r present v h (subst (λ z. Has (views r) z v) q.0 j.view) }
 
-not_out : (r : List Entry) (c : ℕ) (l : List Entry) → channel r ≡ Open c l → IsOut (channel r) → ⊥
+pub not_out : (r : List Entry) (c : ℕ) (l : List Entry) → channel r ≡ Open c l → IsOut (channel r) → ⊥
 not_out r c l is h = let o : IsOut (Open c l) = subst IsOut is h in o
 
 -- ---- a request of the client
