@@ -15,3 +15,4 @@ mod Joining
 mod Opened
 mod Items
 mod Takes
+mod Attempting

@@ -57,6 +57,7 @@ pub record TakesGoes (a : ℕ) (w : World) (r : List Entry) (s : SessionWorld) (
   pub silent : AsksNothing more
   pub coupled : Coupled a w r (replay s more)
   pub client : (replay s more).client ≡ client_told a s.now s.client (ldata_in content)
+  pub its : s.client.pending ≡ true → (f : Ldata) → ldata_in content ≡ Some f → is_con f.code ≡ true → is_its a f ≡ true
 
 -- ---- the rest is on its way then
 
@@ -224,6 +225,12 @@ module _ (a : ℕ) (w : World) (r : List Entry) (x : Entry) (s : SessionWorld) (
   own_client true k (inr i) = unread_same s.client s.now o.frame i.1 ∙ sym (ap (client_told a s.now s.client) i.0)
   own_client false k (inr i) = sym (ap (client_told a s.now s.client) i.0)
 
+  not_con : (ldata_in content ≡ Some o.frame) ⊎ ((ldata_in content ≡ None) × (frame_in o.frame.tpdu ≡ Other)) → s.client.pending ≡ true → (f : Ldata) → ldata_in content ≡ Some f → is_con f.code ≡ true → is_its a f ≡ true
+  not_con (inl k) y f z b =
+      let same : o.frame ≡ f = (let one : Some o.frame ≡ Some f = sym k ∙ z in cc) in
+      absurd (let bad : is_con Ind ≡ true = ap is_con (sym (own_ind o.frame own)) ∙ ap (λ (u : Ldata). is_con u.code) same ∙ b in cc)
+  not_con (inr k) y f z b = absurd (let one : None ≡ Some f = sym k.0 ∙ z in cc)
+
   own_taken : (b : Bool) → is_by a o.frame ≡ b → TakesGoes a w (x ∷ r) s content
   own_taken false k =
       record {
@@ -233,6 +240,7 @@ module _ (a : ℕ) (w : World) (r : List Entry) (x : Entry) (s : SessionWorld) (
         coupled = taken_by a w r x s c l content items older base e v flight h p q o s flight flies_on still_flies refl refl refl refl
             (coming_is a w r x s c l content items older base e v flight h p q o [] (message_own a o.frame own false k)) refl (fly_view a (me w) base e v (record { number = Some c; puts = v.puts; takes = content ∷ v.takes }) flight s.flying q.flying) (λ y z. in_view a base e v (record { number = Some c; puts = v.puts; takes = content ∷ v.takes }) flight (q.pending y z));
         client = own_client false k read;
+        its = not_con read;
       }
   own_taken true k =
       let rest : List Message = messages a (back o.newer w.tunnel.gateway.waiting) in
@@ -245,6 +253,7 @@ module _ (a : ℕ) (w : World) (r : List Entry) (x : Entry) (s : SessionWorld) (
         coupled = subst (λ (z : List Message). Coupled a w (x ∷ r) (takes_oldest s z)) (sym at)
             (taken_by a w r x s c l content items older base e v flight h p q o n flight flies_on still_flies refl refl refl refl refl refl (fly_view a (me w) base e v (record { number = Some c; puts = v.puts; takes = content ∷ v.takes }) flight s.flying q.flying) (λ y z. in_view a base e v (record { number = Some c; puts = v.puts; takes = content ∷ v.takes }) flight (q.pending y z)));
         client = ap (λ (z : List Message). (takes_oldest s z).client) at ∙ own_client true k read;
+        its = not_con read;
       }
 
 -- ---- a confirmation
@@ -294,6 +303,11 @@ module _ (a : ℕ) (w : World) (r : List Entry) (x : Entry) (s : SessionWorld) (
   con_client : (b : Bool) → is_its a o.frame ≡ b → ◌≡◌ {A = Client} (if b then confirmed s.client o.frame.error s.now else s.client) (client_told a s.now s.client (ldata_in content))
   con_client b k = sym (ap (client_told a s.now s.client) (ap ldata_in (sym o.octets) ∙ reads) ∙ told_con a s.now s.client o.frame con b k)
 
+  con_its : s.client.pending ≡ true → (f : Ldata) → ldata_in content ≡ Some f → is_con f.code ≡ true → is_its a f ≡ true
+  con_its y f z b =
+      let same : o.frame ≡ f = (let one : Some o.frame ≡ Some f = sym (ap ldata_in (sym o.octets) ∙ reads) ∙ z in cc) in
+      ap (is_its a) (sym same) ∙ landing.its a e v (q.pending (q.joined ∙ ap is_open p.is_up) y)
+
   con_taken : (b : Bool) → is_its a o.frame ≡ b → TakesGoes a w (x ∷ r) s content
   con_taken false k =
       record {
@@ -303,6 +317,7 @@ module _ (a : ℕ) (w : World) (r : List Entry) (x : Entry) (s : SessionWorld) (
         coupled = taken_by a w r x s c l content items older base e v flight h p q o s Landed (inr refl) landing.landed refl refl refl refl
             (coming_is a w r x s c l content items older base e v flight h p q o [] (message_con a o.frame con false k)) refl tt (λ y z. (let i : true ≡ false = sym (landing.its a e v (q.pending y z)) ∙ k in cc));
         client = con_client false k;
+        its = con_its;
       }
   con_taken true k =
       let rest : List Message = messages a (back o.newer w.tunnel.gateway.waiting) in
@@ -315,6 +330,7 @@ module _ (a : ℕ) (w : World) (r : List Entry) (x : Entry) (s : SessionWorld) (
         coupled = subst (λ (z : List Message). Coupled a w (x ∷ r) (takes_oldest s z)) (sym at)
             (taken_by a w r x s c l content items older base e v flight h p q o n Landed (inr refl) landing.landed refl refl refl refl refl refl tt (λ y z. absurd (cc)));
         client = ap (λ (z : List Message). (takes_oldest s z).client) at ∙ con_client true k;
+        its = con_its;
       }
 
 -- ---- either
