@@ -107,7 +107,7 @@ con_timed (Awaiting s) error flying h c = refl
 con_timed Ended error flying h c = refl
 
 -- nothing was in flight, so nothing changes but that nothing is
-con_none : (a : ℕ) (plan : Plan) (t : Attempt) (c : Client) (error : Bool) (now : ℕ) → t.flying ≡ None → Runs a plan t c → Runs a plan t (confirmed c error now)
+pub con_none : (a : ℕ) (plan : Plan) (t : Attempt) (c : Client) (error : Bool) (now : ℕ) → t.flying ≡ None → Runs a plan t c → Runs a plan t (confirmed c error now)
 con_none a plan t c error now e h =
     let fits : FlyFits c.end None = subst (λ z. FlyFits z None) h.end_is (subst (FlyFits t.end) e h.fits) in
     let end : after_confirmed c.end error now ≡ c.end = con_same c.end error now None fits (λ z. z) tt in

@@ -16,3 +16,5 @@ mod Opened
 mod Items
 mod Takes
 mod Attempting
+mod Hearing
+mod Telling

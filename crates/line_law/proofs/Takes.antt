@@ -174,7 +174,7 @@ told_own a t c f e b k =
     ∙ ap (λ z. cond {A = Client} z (hears c t (client_took c.end (frame_from (device_of c.end) f))) c) k
 
 -- a TPDU that is none of a connection brings nothing
-nothing_took : (end : ClientEnd) → client_took end Other ≡ heard.Dropped
+pub nothing_took : (end : ClientEnd) → client_took end Other ≡ heard.Dropped
 unfolding client_took
 nothing_took (Asked device) = refl
 nothing_took (Up s) = refl
