@@ -18,3 +18,4 @@ mod Takes
 mod Attempting
 mod Hearing
 mod Telling
+mod Asking

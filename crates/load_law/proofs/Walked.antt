@@ -32,7 +32,7 @@ few frames start (apdu ∷ older) given kept t =
 
 -- ---- a client went through a plan that can be sent
 
-sendable : (plan rest : Plan) (sent accepted : Texts) → IsSendable plan → Went plan sent accepted rest → IsSendable rest
+pub sendable : (plan rest : Plan) (sent accepted : Texts) → IsSendable plan → Went plan sent accepted rest → IsSendable rest
 sendable plan _ _ _ s NotBegun = s
 sendable plan _ _ _ s (Acknowledged apdu next sent accepted w) = (sendable plan (Operation apdu AckOnly next) sent accepted s w).2 None
 sendable plan _ _ _ s (Answered apdu expect next got sent accepted w suits) = (sendable plan (Operation apdu expect next) sent accepted s w).2 (Some got)
