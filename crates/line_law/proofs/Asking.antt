@@ -192,3 +192,112 @@ module _ (a : ℕ) (address : IndAddr) (IsJob : Plan → Type 0) (device : IndAd
         reply_fits (Asking p q) y = (plain, λ e. absurd (subst IsService none (y.1 e)))
         reply_fits (Awaiting p) y = plain
         reply_fits Ended y = plain
+
+    -- the plan's next operation
+    asked_stands : (apdu : List ℕ) (expect : Expect) (next : Option (List ℕ) → Plan) (sent accepted : List (List ℕ)) → awaits_answer expect ≡ has_answer apdu → Went plan sent accepted (Operation apdu expect next) → Stands (has_answer apdu) plan (sent_of (Operation apdu expect next)) (apdu ∷ sent) accepted
+    asked_stands apdu AckOnly next sent accepted e w = subst (λ b. Stands b plan (next None) (apdu ∷ sent) accepted) e (Acknowledged apdu next sent accepted w)
+    asked_stands apdu (Is wanted) next sent accepted e w =
+        subst (λ b. Stands b plan (Operation apdu (Is wanted) next) (apdu ∷ sent) accepted) e (record { apdu = apdu; older = sent; expect = Is wanted; next = next; last = refl; head = refl; went = w })
+    asked_stands apdu Note next sent accepted e w = subst (λ b. Stands b plan (Operation apdu Note next) (apdu ∷ sent) accepted) e (record { apdu = apdu; older = sent; expect = Note; next = next; last = refl; head = refl; went = w })
+
+    after_up : (end : ClientEnd) (session : Session) (apdu : List ℕ) (t : ℕ) → end ≡ Up session → after_send end apdu t ≡ client_asked session apdu t
+    unfolding after_send
+    after_up end session apdu t e = ap (λ z. after_send z apdu t) e
+
+    abbrev asked_attempt : ℕ → List ℕ → Option (List ℕ) → Attempt
+    asked_attempt n apdu o = record (sends_numbered t apdu now o) { flying = Some (Numbered n apdu) }
+
+    asks : (n : ℕ) (apdu : List ℕ) → IsNext t apdu f.tpdu → Put (Running k (asked_attempt n apdu (client_sent t.end apdu)))
+    asks n apdu q =
+        let stands : InPlan t.end plan t.left s.client.sent s.client.accepted = h.stands q.goes_on in
+        let went : Went plan s.client.sent s.client.accepted (Operation apdu q.expect q.next)
+        = subst (Went plan s.client.sent s.client.accepted) q.head (subst (λ z. InPlan z plan t.left s.client.sent s.client.accepted) q.up stands) in
+        let ok = sendable plan (Operation apdu q.expect q.next) s.client.sent s.client.accepted can went in
+        let up : s.client.end ≡ Up q.session = sym h.end_is ∙ q.up in
+        let sent : client_sent s.client.end apdu ≡ Some f.tpdu = ap (λ z. client_sent z apdu) (sym h.end_is) ∙ q.as_sent in
+        let P : Option (List ℕ) → Type 0 = λ o. Put (Running k (asked_attempt n apdu o)) in
+        subst P (sym q.as_sent) (record {
+          event = Asks apdu;
+          after = asks_so s apdu (Some f.tpdu);
+          is = ap (asks_so s apdu) sent;
+          may = (free, ok.0);
+          asks = (plan, job, record { free = ap awaits_nothing up; expect = q.expect; next = q.next; went = went });
+          by = record { device = refl; same_me = refl; same_now = refl; echo = refl; coming = refl; joined = refl; flying = λ z. fly_is a address f s f.tpdu same_me named group to refl; pending = λ z. inr its };
+          attempt = record {
+            end_is = ap (λ z. after_send z apdu now) h.end_is ∙ ap (after_send s.client.end apdu) (sym same_now);
+            owed_is = h.owed_is;
+            flies = refl;
+            fits = subst (λ z. FlyFits z (Some (Numbered n apdu))) (sym (after_up t.end q.session apdu now q.up)) (tt, λ z. tt);
+            with_it = subst (IsWith a) (sym (after_up t.end q.session apdu now q.up)) (subst (IsWith a) q.up h.with_it);
+            joined = joined;
+            stands = λ z. subst (λ y. InPlan y plan (sent_of t.left) (apdu ∷ s.client.sent) s.client.accepted) (sym (after_up t.end q.session apdu now q.up))
+                (subst (λ y. Stands (has_answer apdu) plan (sent_of y) (apdu ∷ s.client.sent) s.client.accepted) (sym q.head) (asked_stands apdu q.expect q.next s.client.sent s.client.accepted ok.1 went));
+          };
+        })
+
+    -- the outstanding operation again
+    repeats_so : (end : ClientEnd) (apdu : List ℕ) (x : ClientExpired) → t.end ≡ end → client_expired end now ≡ x → (p : Session) × (q : Question) × (end ≡ Asking p q) → (n : ℕ) → x ≡ over.Repeat f.tpdu → Put (Running k (asked_attempt n apdu (client_sent t.end apdu)))
+    unfolding client_sent after_overdue
+    repeats_so end apdu x e i (p, q, is) n r =
+        let at : t.end ≡ Asking p q = e ∙ is in
+        let mine : s.client.end ≡ Asking p q = sym h.end_is ∙ at in
+        let due : client_expired s.client.end s.now ≡ over.Repeat f.tpdu = ap (λ z. client_expired z s.now) (sym h.end_is ∙ e) ∙ ap (client_expired end) same_now ∙ i ∙ r in
+        let unsent : client_sent t.end apdu ≡ None = ap (λ z. client_sent z apdu) at in
+        let P : Option (List ℕ) → Type 0 = λ o. Put (Running k (asked_attempt n apdu o)) in
+        subst P (sym unsent) (record {
+          event = Waits;
+          after = waits_so s (over.Repeat f.tpdu);
+          is = ap (waits_so s) due;
+          may = free;
+          asks = tt;
+          by = record { device = refl; same_me = refl; same_now = refl; echo = refl; coming = refl; joined = refl; flying = λ z. fly_is a address f s f.tpdu same_me named group to refl; pending = λ z. inr its };
+          attempt = record {
+            end_is = ap (λ z. client_repeated z now) h.end_is ∙ ap (client_repeated s.client.end) (sym same_now);
+            owed_is = h.owed_is;
+            flies = refl;
+            fits = subst (λ z. FlyFits (client_repeated z now) (Some (Numbered n apdu))) (sym at) (tt, λ z. tt);
+            with_it = subst (λ z. IsWith a (client_repeated z now)) (sym at) (subst (IsWith a) at h.with_it);
+            joined = joined;
+            stands = λ z. subst (λ y. InPlan (client_repeated y now) plan t.left s.client.sent s.client.accepted) (sym at) (subst (λ y. InPlan y plan t.left s.client.sent s.client.accepted) at (h.stands z));
+          };
+        })
+
+    repeat_asking : (end : ClientEnd) → client_expired end now ≡ over.Repeat f.tpdu → (p : Session) × (q : Question) × (end ≡ Asking p q)
+    unfolding client_expired
+    repeat_asking (Asked d) e = absurd (let z : over.Nothing ≡ over.Repeat f.tpdu = e in cc)
+    repeat_asking (Up p) e = absurd (let z : over.Nothing ≡ over.Repeat f.tpdu = e in cc)
+    repeat_asking (Asking p q) e = (p, q, refl)
+    repeat_asking (Awaiting p) e = absurd (by_wait _ e) where
+      by_wait : (b : Bool) → (if b then over.Silent Rattle.knx_model.specs.Connection.idle_wait else over.Nothing) ≡ over.Repeat f.tpdu → ⊥
+      by_wait true q = cc
+      by_wait false q = cc
+    repeat_asking Ended e = absurd (let z : over.Nothing ≡ over.Repeat f.tpdu = e in cc)
+
+    numbered : (n : ℕ) (apdu : List ℕ) → MayAskSo t now apdu f.tpdu → Put (Running k (asked_attempt n apdu (client_sent t.end apdu)))
+    numbered n apdu q = elim q.which [ inl next ↦ asks n apdu next | inr again ↦ repeats_so t.end apdu (client_expired t.end now) refl refl (repeat_asking t.end again) n again ]
+
+  -- ---- whichever it is
+
+  put_running : (x : TransportFrame) (k : ℕ) (t : Attempt) → frame_in f.tpdu ≡ x → Runs a plan (record t { lapsed = t.lapsed || is_silent (client_expired t.end now) }) s.client → MayPut (Running k t) now f.tpdu x
+      → Put (put_so device plan now (aged now (Running k t)) (Some x))
+  put_running Connect k t e h may = absurd may
+  put_running Disconnect k t e h may = leaves k (record t { lapsed = t.lapsed || is_silent (client_expired t.end now) }) h e
+  put_running (Ack n) k t e h may = replies k (record t { lapsed = t.lapsed || is_silent (client_expired t.end now) }) h (Ack n) tt may
+  put_running (Nak n) k t e h may = replies k (record t { lapsed = t.lapsed || is_silent (client_expired t.end now) }) h (Nak n) tt may
+  put_running (Numbered n apdu) k t e h may =
+      numbered k (record t { lapsed = t.lapsed || is_silent (client_expired t.end now) }) h n apdu
+      (record { owes_nothing = may.owes_nothing; which = elim may.which [ inl q ↦ inl (record { session = q.session; up = q.up; goes_on = q.goes_on; expect = q.expect; next = q.next; head = q.head; as_sent = q.as_sent }) | inr q ↦ inr q ] })
+  put_running Other k t e h may = absurd may
+
+  put_goes : (x : TransportFrame) (t : Attempts) → frame_in f.tpdu ≡ x → AttemptIs a plan t s.client → MayPut t now f.tpdu x → Put (put_so device plan now (aged now t) (Some x))
+  put_goes Connect (Resting k) e h may = connects (suc k) e
+  put_goes Disconnect (Resting k) e h may = absurd may
+  put_goes (Ack n) (Resting k) e h may = absurd may
+  put_goes (Nak n) (Resting k) e h may = absurd may
+  put_goes (Numbered n apdu) (Resting k) e h may = absurd may
+  put_goes Other (Resting k) e h may = absurd may
+  put_goes x (Running k t) e h may = put_running x k t e (aged_runs a plan t s.client (t.lapsed || is_silent (client_expired t.end now)) h) may
+
+  -- in the attempts of the job
+  pub asks_kept : (t : Attempts) (content : List ℕ) (at : ℕ) → ldata_in content ≡ Some f → is_req f.code ≡ true → AttemptIs a plan t s.client → MayPut t now f.tpdu (frame_in f.tpdu) → Put (attempts_after device plan (record { what = view.Puts content; now = now; at = at }) t)
+  asks_kept t content at reads req h may = subst Put (sym (put_step a device plan t content f now at raw reads req its)) (put_goes (frame_in f.tpdu) t refl h may)
