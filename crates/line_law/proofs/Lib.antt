@@ -19,3 +19,4 @@ mod Attempting
 mod Hearing
 mod Telling
 mod Asking
+mod Logs
