@@ -21,10 +21,9 @@ use Rattle.line_model.specs.World.{World, Event, Bus, BusTorn, BusWorn, tunnel_e
 use Rattle.session_law.specs.World.{World as SessionWorld, Con as Confirms}
 use Rattle.session_law.specs.Device.{carries, carries_lost, elsewhere, gets}
 use Rattle.session_law.specs.Events.{Event as SessionEvent, Bus as Carries, BusLost, Group, Elsewhere, step, replay, MayHappen}
-use Rattle.load_law.specs.Download.{IsSilent}
 use Rattle.tunnel_law.proofs.Inside.{Every}
 use Rattle.line_law.proofs.Queue.{Items, is_its, is_by, message, messages, messages_append, cons, cons_append, back, back_more}
-use Rattle.line_law.proofs.Coupled.{IsTold, Stage, Waits, OnBus, Told, Gone, Flight, Landed, Flies, NotServing, Serves, StageIs, FliesSo, FlightIs, Last, Never, Since, ChannelIs, OpenIs, JoinedIs, NeverIs, LastIs, Pipe, echo_of, DeviceSide, FlyFor, InFlight, PendFor, CoupledBy, Coupled, Goes}
+use Rattle.line_law.proofs.Coupled.{IsTold, Stage, Waits, OnBus, Told, Gone, Flight, Landed, Flies, NotServing, Serves, StageIs, FliesSo, FlightIs, Last, Never, Since, ChannelIs, OpenIs, JoinedIs, NeverIs, LastIs, Pipe, echo_of, DeviceSide, FlyFor, InFlight, PendFor, CoupledBy, Coupled, IsBus, Goes}
 use Rattle.line_law.proofs.Owned.{every_append}
 use Rattle.line_law.proofs.ReadBack.{low, written_in, read_range}
 
@@ -33,7 +32,7 @@ use Rattle.line_law.proofs.ReadBack.{low, written_in, read_range}
 pub goes_none : (a : ℕ) (w : World) (r : List Entry) (s : SessionWorld) → Coupled a w r s → Goes a w r s
 goes_none a w r s c = record { more = []; legal = tt; silent = tt; coupled = c }
 
-pub goes_one : (a : ℕ) (w : World) (r : List Entry) (s : SessionWorld) (e : SessionEvent) → MayHappen s e → IsSilent e → Coupled a w r (step s e) → Goes a w r s
+pub goes_one : (a : ℕ) (w : World) (r : List Entry) (s : SessionWorld) (e : SessionEvent) → MayHappen s e → IsBus e → Coupled a w r (step s e) → Goes a w r s
 goes_one a w r s e may silent c = record { more = e ∷ []; legal = (may, tt); silent = (silent, tt); coupled = c }
 
 -- ---- a frame that waits for the bus is that in flight

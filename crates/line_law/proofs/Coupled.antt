@@ -14,8 +14,8 @@ use Rattle.line_model.specs.Reading.{ldata_in, is_req, is_con}
 use Rattle.line_model.specs.Record.{Entry}
 use Rattle.line_model.specs.World.{World, me, now, on_bus}
 use Rattle.session_law.specs.World.{Client, World as SessionWorld}
+use Rattle.session_law.specs.Events as event
 use Rattle.session_law.specs.Events.{Event as SessionEvent, replay, IsLegal}
-use Rattle.load_law.specs.Download.{AsksNothing}
 use Rattle.tunnel_law.proofs.Inside.{Every}
 use Rattle.line_law.proofs.Queue.{Items, is_its, is_by, messages, cons, puts_of, back}
 
@@ -196,9 +196,25 @@ pub record Coupled (a : ℕ) (w : World) (r : List Entry) (s : SessionWorld) : T
   pub last : Last
   pub by : CoupledBy a w r s items older last
 
--- so many more events of the session follow an event of the line, and the client asks nothing in them
+-- the events of the bus, in which the session's client does nothing
+abbrev pub IsBus : SessionEvent → Type 0
+IsBus event.Connects = ⊥
+IsBus (event.Asks apdu) = ⊥
+IsBus event.Waits = ⊥
+IsBus event.Replies = ⊥
+IsBus event.Leaves = ⊥
+IsBus event.Takes = ⊥
+IsBus event.Loses = ⊥
+IsBus (event.Joins n) = ⊥
+IsBus _ = Unit {0}
+
+abbrev pub AreBus : List SessionEvent → Type 0
+AreBus [] = Unit {0}
+AreBus (e ∷ more) = IsBus e × AreBus more
+
+-- so many more events of the session follow an event of the line
 pub record Goes (a : ℕ) (w : World) (r : List Entry) (s : SessionWorld) : Type 0 where
   pub more : List SessionEvent
   pub legal : IsLegal s more
-  pub silent : AsksNothing more
+  pub silent : AreBus more
   pub coupled : Coupled a w r (replay s more)

@@ -20,3 +20,4 @@ mod Hearing
 mod Telling
 mod Asking
 mod Logs
+mod Entering
