@@ -168,7 +168,7 @@ pub data Turn (r : List Entry) (x : Entry) : Type 0 where
   Takes : (c : ℕ) (l : List Entry) (content : List ℕ) → channel r ≡ Open c l → channel (x ∷ r) ≡ Open c (x ∷ l) → deed (channel r) x ≡ view.Takes content → (is_confirmation (ldata_in content) ≡ false → confirmed c (x ∷ l) ≡ confirmed c l) → Turn r x
 
 -- without a renewal
-not_renewed : (c : ClientChannel) (x : Entry) → is_renewal x.what ≡ false → after_entry c x ≡ goes_on c x
+pub not_renewed : (c : ClientChannel) (x : Entry) → is_renewal x.what ≡ false → after_entry c x ≡ goes_on c x
 unfolding after_entry
 not_renewed c x h = rw h refl
 
@@ -177,16 +177,16 @@ from_out : {c d : ClientChannel} → ((base e present : ℕ) (makers : List ℕ)
 from_out f g o p q = Outside f g o p q
 
 -- of an open channel
-deed_open : (c : ℕ) (l : List Entry) (x : Entry) → is_lost c l x ≡ false → deed (Open c l) x ≡ view.deed_in c l x
+pub deed_open : (c : ℕ) (l : List Entry) (x : Entry) → is_lost c l x ≡ false → deed (Open c l) x ≡ view.deed_in c l x
 unfolding deed
 deed_open c l x h = rw h refl
 
-deed_lost : (c : ℕ) (l : List Entry) (x : Entry) → is_lost c l x ≡ true → deed (Open c l) x ≡ view.Loses
+pub deed_lost : (c : ℕ) (l : List Entry) (x : Entry) → is_lost c l x ≡ true → deed (Open c l) x ≡ view.Loses
 unfolding deed
 deed_lost c l x h = rw h refl
 
 -- what is put and what is taken
-data Brought (c : ℕ) (l : List Entry) (x : Entry) : Type 0 where
+pub data Brought (c : ℕ) (l : List Entry) (x : Entry) : Type 0 where
   Neither : view.deed_in c l x ≡ view.Nothing → confirmed c (x ∷ l) ≡ confirmed c l → Brought c l x
   Put : (content : List ℕ) → view.deed_in c l x ≡ view.Puts content → is_new_request c l x ≡ true → Brought c l x
   Take : (content : List ℕ) → view.deed_in c l x ≡ view.Takes content → (is_confirmation (ldata_in content) ≡ false → confirmed c (x ∷ l) ≡ confirmed c l) → Brought c l x
@@ -219,5 +219,5 @@ brought_by c l x false (Some q) n p =
     brought_got c l x (is_new_request c l x) (Some q) (request_in (got_in x.what)) n (ap (λ b. cond {A = Deed} b (view.Puts q.cemi) view.Nothing) n) refl
     (ap (λ z. view.or_takes (view.deed_of view.Puts (is_new_request c l x) z) (view.deed_of view.Takes (delivers c (expected c l) (request_in (got_in x.what))) (request_in (got_in x.what)))) p)
 
-brought : (c : ℕ) (l : List Entry) (x : Entry) → Brought c l x
+pub brought : (c : ℕ) (l : List Entry) (x : Entry) → Brought c l x
 brought c l x = brought_by c l x (is_new_request c l x) (request_in (put_in x.what)) refl refl

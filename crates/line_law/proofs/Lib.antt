@@ -21,3 +21,4 @@ mod Telling
 mod Asking
 mod Logs
 mod Entering
+mod Turning
