@@ -103,7 +103,7 @@ Brings (view.Takes content) = Unit {0}
 Brings view.Loses = ⊥
 Brings view.Nothing = ⊥
 
-number_stays : (c : ClientChannel) (number : Option ℕ) → is_open c ≡ false → or_number c number ≡ number
+pub number_stays : (c : ClientChannel) (number : Option ℕ) → is_open c ≡ false → or_number c number ≡ number
 number_stays Fresh number h = refl
 number_stays (Sought since) number h = refl
 number_stays (RefusedBy status) number h = refl

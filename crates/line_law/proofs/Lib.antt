@@ -22,3 +22,4 @@ mod Asking
 mod Logs
 mod Entering
 mod Turning
+mod Stepping
