@@ -23,3 +23,4 @@ mod Logs
 mod Entering
 mod Turning
 mod Stepping
+mod Following
