@@ -61,11 +61,11 @@ stays_present t = next_present t (next_put t.gateway.channel t.gateway.waiting)
 
 -- ---- an endpoint is renewed
 
-renewed_fresh : (c : ClientChannel) (t : ℕ) → after_entry c (entry Renewed t) ≡ Fresh
+pub renewed_fresh : (c : ClientChannel) (t : ℕ) → after_entry c (entry Renewed t) ≡ Fresh
 unfolding after_entry
 renewed_fresh c t = refl
 
-renewed_nothing : (c : ClientChannel) (t : ℕ) → is_open c ≡ false → deed c (entry Renewed t) ≡ view.Nothing
+pub renewed_nothing : (c : ClientChannel) (t : ℕ) → is_open c ≡ false → deed c (entry Renewed t) ≡ view.Nothing
 unfolding deed
 renewed_nothing Fresh t h = refl
 renewed_nothing (Sought since) t h = refl
@@ -111,7 +111,7 @@ renewed_before (x ∷ r) a h = by_renewal (is_renewal x.what) refl (renewed_befo
   by_renewal false e f = or_true (is_renewal x.what) (has_renewed r) (goes_not_fresh (channel r) x r (entry_not_fresh (channel r) x e h) (λ q. just_has r (a.0.connects q)) f)
 
 -- an open channel isn't left
-shut_by : (r : List Entry) (c : ClientChannel) → channel r ≡ c → RenewsRightly r → (has_renewed r ≡ true → MayLeave c) → is_open c ≡ false
+pub shut_by : (r : List Entry) (c : ClientChannel) → channel r ≡ c → RenewsRightly r → (has_renewed r ≡ true → MayLeave c) → is_open c ≡ false
 shut_by r Fresh e a f = refl
 shut_by r (Sought since) e a f = refl
 shut_by r (RefusedBy status) e a f = refl

@@ -24,3 +24,4 @@ mod Entering
 mod Turning
 mod Stepping
 mod Following
+mod Traces
