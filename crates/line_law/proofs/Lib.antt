@@ -25,3 +25,5 @@ mod Turning
 mod Stepping
 mod Following
 mod Traces
+mod Runs
+mod Cases
