@@ -27,3 +27,4 @@ mod Following
 mod Traces
 mod Runs
 mod Cases
+mod Kept
