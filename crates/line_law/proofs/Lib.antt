@@ -28,3 +28,4 @@ mod Traces
 mod Runs
 mod Cases
 mod Kept
+mod Reaching
