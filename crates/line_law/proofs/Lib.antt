@@ -29,3 +29,5 @@ mod Runs
 mod Cases
 mod Kept
 mod Reaching
+mod Counting
+mod Courses
