@@ -31,3 +31,4 @@ mod Kept
 mod Reaching
 mod Counting
 mod Courses
+mod CourseSteps
