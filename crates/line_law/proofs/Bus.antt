@@ -1,0 +1,352 @@
+-- A frame of the client goes over the bus: its confirmation waits for the client, and each session sees it.
+use Rattle.std.proofs.Common.{◌≡◌, ℕ, ◌⊎◌, List, [], ◌∷◌, ◌++◌, drop, Bool, true, false, not, ◌&&◌, ◌||◌, cond, Option, Some, None, refl, sym, ◌∙◌, ap, subst, inl, inr, if◌then◌else◌, append-nil, arith}
+use Rattle.std.specs.Prelude.{◌==◌}
+use Rattle.knx_model.specs.declared.address.IndAddr.{IndAddr}
+use Rattle.knx_model.specs.declared.device.Took.{Took}
+use Rattle.knx_model.specs.declared.device.Took.TheVariants.{NotMine, TooLong, Taken, Off}
+use Rattle.knx_model.specs.declared.frames.cemi.Ldata.{Ldata}
+use Rattle.knx_model.specs.declared.frames.cemi.LdataCode.TheVariants.{Con, Ind}
+use Rattle.knx_model.specs.ApduReading.{option_map}
+use Rattle.knx_model.specs.Cemi.{Written as cemi_octets}
+use Rattle.knx_model.specs.DeviceState.{DeviceState}
+use Rattle.knx_model.specs.DeviceFrames.{Outcome, Whole, Torn, Worn, took_of, is_taken, takes, takes_so, is_too_long}
+use Rattle.knx_model.specs.DeviceSending.{first_frame}
+use Rattle.line_model.specs.ClientView.{ClientChannel, Fresh, Sought, RefusedBy, Unanswered, Open, Lost, View, channel}
+use Rattle.line_model.specs.Gateway.{Gateway}
+use Rattle.line_model.specs.Legal.{GoesOver, GoesSo, IsFor, OfDevice}
+use Rattle.line_model.specs.Reading.{ldata_in, is_con}
+use Rattle.line_model.specs.Record.{Entry}
+use Rattle.line_model.specs.Tunnel.{Tunnel, with_gateway, after, carried as carried_by}
+use Rattle.line_model.specs.World.{World, Event, Bus, BusTorn, BusWorn, tunnel_event, devices_after, echo_after, me, now, Devices, on_bus, next_frame, is_among, takes_it, is_confirmed, confirmation, carried, all_take, one_takes, changed, none_if}
+use Rattle.session_law.specs.World.{World as SessionWorld, Con as Confirms}
+use Rattle.session_law.specs.Device.{carries, carries_lost, elsewhere, gets}
+use Rattle.session_law.specs.Events.{Event as SessionEvent, Bus as Carries, BusLost, Group, Elsewhere, step, replay, MayHappen}
+use Rattle.tunnel_law.proofs.Inside.{Every}
+use Rattle.line_law.proofs.Queue.{Items, is_its, is_by, message, messages, messages_append, cons, cons_append, back, back_more}
+use Rattle.line_law.proofs.Coupled.{IsTold, Stage, Waits, OnBus, Told, Gone, Flight, Landed, Flies, NotServing, Serves, StageIs, FliesSo, FlightIs, Last, Never, Since, ChannelIs, OpenIs, JoinedIs, NeverIs, LastIs, Pipe, echo_of, DeviceSide, FlyFor, InFlight, PendFor, CoupledBy, Coupled, IsBus, Goes}
+use Rattle.line_law.proofs.Owned.{every_append}
+use Rattle.line_law.proofs.ReadBack.{low, written_in, read_range}
+
+-- ---- session events
+
+pub goes_none : (a : ℕ) (w : World) (r : List Entry) (s : SessionWorld) → Coupled a w r s → Goes a w r s
+goes_none a w r s c = record { more = []; legal = tt; silent = tt; coupled = c }
+
+pub goes_one : (a : ℕ) (w : World) (r : List Entry) (s : SessionWorld) (e : SessionEvent) → MayHappen s e → IsBus e → Coupled a w r (step s e) → Goes a w r s
+goes_one a w r s e may silent c = record { more = e ∷ []; legal = (may, tt); silent = (silent, tt); coupled = c }
+
+-- ---- a frame that waits for the bus is that in flight
+
+abbrev pub IsOnBus : Last → Ldata → Type 0
+IsOnBus (Since base e v (Flies f OnBus)) x = f ≡ x
+IsOnBus _ x = ⊥
+
+never_full : (bus : List Ldata) (x : Ldata) (rest : List Ldata) → bus ≡ [] → bus ≡ x ∷ rest → ⊥
+never_full bus x rest h g = let e : [] ≡ x ∷ rest = sym h ∙ g in cc
+
+pub on_bus_now : (last : Last) (g : Gateway) (present : ℕ) (r : List Entry) (items : Items) (older : List (ℕ × List ℕ)) (x : Ldata) (rest : List Ldata) → LastIs last g present r items older → g.bus ≡ x ∷ rest → IsOnBus last x
+on_bus_now Never g present r items older x rest h e = absurd (never_full g.bus x rest h.bus e)
+on_bus_now (Since base n v Landed) g present r items older x rest h e = absurd (never_full g.bus x rest h.flight_is.1 e)
+on_bus_now (Since base n v (Flies f Waits)) g present r items older x rest h e = absurd (never_full g.bus x rest h.flight_is.stage_is.1 e)
+on_bus_now (Since base n v (Flies f OnBus)) g present r items older x rest h e = let same : f ∷ [] ≡ x ∷ rest = sym h.flight_is.stage_is.1 ∙ e in cc
+on_bus_now (Since base n v (Flies f Told)) g present r items older x rest h e = absurd (never_full g.bus x rest h.flight_is.stage_is.1 e)
+on_bus_now (Since base n v (Flies f Gone)) g present r items older x rest h e = absurd (never_full g.bus x rest h.flight_is.stage_is.1 e)
+
+-- ---- its confirmation waits then
+
+open_flies : (confirmed : Bool) (f : Ldata) (one other : Stage) → OpenIs confirmed (Flies f one) → OpenIs confirmed (Flies f other)
+open_flies confirmed f one other (inl h) = inl h
+open_flies confirmed f one other (inr h) = absurd (cc)
+
+pub channel_flies : (base e present : ℕ) (makers : List ℕ) (f : Ldata) (one other : Stage) (c : ClientChannel) → ChannelIs base e present makers (Flies f one) c → ChannelIs base e present makers (Flies f other) c
+channel_flies base e present makers f one other Fresh h = h
+channel_flies base e present makers f one other (Sought since) h = h
+channel_flies base e present makers f one other (RefusedBy status) h = h
+channel_flies base e present makers f one other Unanswered h = h
+channel_flies base e present makers f one other (Open c l) h = (h.0, h.1, open_flies _ f one other h.2)
+channel_flies base e present makers f one other (Lost c) h = h
+
+-- the confirmation of a frame
+pub record ConOf (f con : Ldata) : Type 0 where
+  pub code : is_con con.code ≡ true
+  pub group : con.group ≡ f.group
+  pub destination : con.destination ≡ f.destination
+  pub reads : ldata_in (cemi_octets con) ≡ Some con
+
+cons_one : (con : Ldata) → is_con con.code ≡ true → cons (con ∷ []) ≡ con ∷ []
+cons_one con h = rw h refl
+
+cons_more : (q : List Ldata) (con : Ldata) → cons q ≡ [] → is_con con.code ≡ true → cons (q ++ con ∷ []) ≡ con ∷ []
+cons_more q con h c = cons_append q (con ∷ []) ∙ ap (λ z. z ++ cons (con ∷ [])) h ∙ cons_one con c
+
+serves_bus : (base : ℕ) (g n : Gateway) (f : Ldata) → g.bus ≡ f ∷ [] → n.makers ≡ g.makers → n.channel ≡ g.channel → Serves base g ⊎ ((cons g.waiting ≡ []) × (g.bus ≡ [])) → Serves base n
+serves_bus base g n f e m c (inl h) = record { place = subst (λ (z : List ℕ). Rattle.line_model.specs.Gateway.newest_place z ≡ base) (sym m) h.place; c = h.c; is_up = c ∙ h.is_up }
+serves_bus base g n f e m c (inr h) = absurd (never_full g.bus f [] h.1 e)
+
+pub told_pipe : (g : Gateway) (present : ℕ) (r : List Entry) (items : Items) (older : List (ℕ × List ℕ)) (base e : ℕ) (v : View) (f con : Ldata) → ConOf f con → Pipe g present r items older (Since base e v (Flies f OnBus))
+    → Pipe (carried_by g con) present r items older (Since base e v (Flies f Told))
+told_pipe g present r items older base e v f con is h =
+    let j : JoinedIs base e v (Flies f OnBus) g present r items older = h.last_is in
+    let fl : FliesSo base g (back items g.waiting) v.puts f OnBus = j.flight_is in
+    record {
+      puts_are = h.puts_are;
+      sorted = h.sorted;
+      newest = h.newest;
+      frames = subst (Every IsTold) (sym (back_more items g.waiting (con ∷ []))) (every_append IsTold (back items g.waiting) (con ∷ []) h.frames (inr (is.code, is.reads), tt));
+      last_is = record {
+        made = j.made;
+        view = j.view;
+        number = j.number;
+        late = λ k other c. j.late k other (record { endpoint = c.endpoint; made_by = c.made_by; view = c.view; number = c.number });
+        low = j.low;
+        taken = j.taken;
+        olds = j.olds;
+        channel_is = channel_flies base e present g.makers f OnBus Told (channel r) j.channel_is;
+        con_items = j.con_items;
+        serving = inl (serves_bus base g (carried_by g con) f fl.stage_is.1 refl refl j.serving);
+        flight_is = record {
+          octets = fl.octets;
+          before = fl.before;
+          newest = fl.newest;
+          reads = fl.reads;
+          request = fl.request;
+          stage_is = (fl.stage_is.0, ap (λ z. drop 1 z) fl.stage_is.1, con, ap cons (back_more items g.waiting (con ∷ [])) ∙ cons_more (back items g.waiting) con fl.stage_is.2 is.code, is.group, is.destination);
+        };
+      };
+    }
+
+abbrev pub told_world : World → Ldata → Devices → World
+told_world w con devices = record { tunnel = with_gateway w.tunnel (carried_by w.tunnel.gateway con); devices = devices; echo = None }
+
+pub told_kept : (a : ℕ) (w : World) (r : List Entry) (s n : SessionWorld) (items : Items) (older : List (ℕ × List ℕ)) (base e : ℕ) (v : View) (f con : Ldata) (devices : Devices) → ConOf f con → CoupledBy a w r s items older (Since base e v (Flies f OnBus))
+    → DeviceSide a (told_world w con devices) n → n.coming ≡ s.coming ++ message a con → n.client ≡ s.client → Coupled a (told_world w con devices) r n
+told_kept a w r s n items older base e v f con devices is h side coming client =
+    record {
+      items = items;
+      older = older;
+      last = Since base e v (Flies f Told);
+      by = record {
+        side = side;
+        pipe = told_pipe w.tunnel.gateway w.tunnel.present r items older base e v f con is h.pipe;
+        coming = coming ∙ ap (λ z. z ++ message a con) h.coming ∙ ap (λ z. messages a (back items w.tunnel.gateway.waiting) ++ z) (sym (append-nil (message a con)))
+            ∙ sym (messages_append a (back items w.tunnel.gateway.waiting) (con ∷ [])) ∙ ap (messages a) (sym (back_more items w.tunnel.gateway.waiting (con ∷ [])));
+        flying = tt;
+        pending = subst (λ c. PendFor a (Since base e v (Flies f Told)) c) (sym client) h.pending;
+        joined = ap (λ c. c.joined) client ∙ h.joined;
+      };
+    }
+
+pub con_of : (w : World) (left_out : List ℕ) (f : Ldata) (octets : List ℕ) → ldata_in octets ≡ Some f → ConOf f (confirmation w left_out (on_bus (me w) f))
+con_of w left_out f octets h =
+    let range = read_range octets f h in
+    record { code = refl; group = refl; destination = refl; reads = written_in Con (not (is_confirmed w left_out (on_bus (me w) f))) f.group (me w).raw f.destination f.tpdu range.0 range.1 tt }
+
+-- ---- what each session sees of it
+
+con_by : (a : ℕ) (c : Ldata) (b t : Bool) → is_con c.code ≡ b → is_its a c ≡ t → b ≡ true → t ≡ true → message a c ≡ Confirms c.error ∷ []
+con_by a c true true p q x y = rw p (rw q refl)
+con_by a c true false p q x y = absurd (let z : false ≡ true = y in cc)
+con_by a c false t p q x y = absurd (let z : false ≡ true = x in cc)
+
+other_con : (a : ℕ) (c : Ldata) (b t : Bool) → is_con c.code ≡ b → is_its a c ≡ t → b ≡ true → t ≡ false → message a c ≡ []
+other_con a c true true p q x y = absurd (let z : true ≡ false = y in cc)
+other_con a c true false p q x y = rw p (rw q refl)
+other_con a c false t p q x y = absurd (let z : false ≡ true = x in cc)
+
+same_its : (a : ℕ) (f c : Ldata) → c.group ≡ f.group → c.destination ≡ f.destination → is_its a c ≡ is_its a f
+same_its a f c g d = ap (λ z. not z && (c.destination == a)) g ∙ ap (λ z. not f.group && (z == a)) d
+
+its_con : (a : ℕ) (f c : Ldata) → is_its a f ≡ true → ConOf f c → message a c ≡ Confirms c.error ∷ []
+its_con a f c i k = con_by a c (is_con c.code) (is_its a c) refl refl k.code (same_its a f c k.group k.destination ∙ i)
+
+others_con : (a : ℕ) (f c : Ldata) → is_its a f ≡ false → ConOf f c → message a c ≡ []
+others_con a f c i k = other_con a c (is_con c.code) (is_its a c) refl refl k.code (same_its a f c k.group k.destination ∙ i)
+
+
+module _ (a : ℕ) (w : World) (r : List Entry) (s : SessionWorld) (items : Items) (older : List (ℕ × List ℕ)) (base e : ℕ) (v : View) (f con : Ldata) (devices : Devices) (is : ConOf f con)
+    (h : CoupledBy a w r s items older (Since base e v (Flies f OnBus))) where
+  -- it is for this device, which takes it so
+  bus_mine : (outcome : Outcome) → is_its a f ≡ true → devices a ≡ Some (takes s.device (on_bus (me w) f) (now w) outcome) → con.error ≡ not (is_taken (took_of s.device (on_bus (me w) f))) → Goes a (told_world w con devices) r s
+  bus_mine outcome its d error =
+      let flies : s.flying ≡ Some (on_bus (me w) f) = h.flying its in
+      let n : SessionWorld = carries s (Some (on_bus (me w) f)) outcome in
+      let told : message a con ≡ Confirms con.error ∷ [] = its_con a f con its is in
+      let kept : Coupled a (told_world w con devices) r n
+      = told_kept a w r s n items older base e v f con devices is h
+      (record { device = d ∙ ap (λ t. Some (takes s.device (on_bus (me w) f) t outcome)) (sym h.side.same_now); same_me = h.side.same_me; same_now = h.side.same_now; echo = refl })
+      (ap (λ t. s.coming ++ Confirms t ∷ []) (sym error) ∙ ap (λ z. s.coming ++ z) (sym told)) refl in
+      goes_one a (told_world w con devices) r s (Carries outcome) tt tt (subst (λ (o : Option Ldata). Coupled a (told_world w con devices) r (carries s o outcome)) (sym flies) kept)
+
+  -- or doesn't get it
+  bus_lost : is_its a f ≡ true → devices a ≡ Some s.device → con.error ≡ true → Goes a (told_world w con devices) r s
+  bus_lost its d error =
+      let flies : s.flying ≡ Some (on_bus (me w) f) = h.flying its in
+      let n : SessionWorld = carries_lost s (Some (on_bus (me w) f)) in
+      let told : message a con ≡ Confirms con.error ∷ [] = its_con a f con its is in
+      let kept : Coupled a (told_world w con devices) r n
+      = told_kept a w r s n items older base e v f con devices is h (record { device = d; same_me = h.side.same_me; same_now = h.side.same_now; echo = refl })
+      (ap (λ t. s.coming ++ Confirms t ∷ []) (sym error) ∙ ap (λ z. s.coming ++ z) (sym told)) refl in
+      goes_one a (told_world w con devices) r s BusLost tt tt (subst (λ (o : Option Ldata). Coupled a (told_world w con devices) r (carries_lost s o)) (sym flies) kept)
+
+  -- it is for another, or lost for this device
+  bus_other : is_its a f ≡ false → devices a ≡ Some s.device → Goes a (told_world w con devices) r s
+  bus_other its d =
+      goes_one a (told_world w con devices) r s Elsewhere tt tt
+      (told_kept a w r s (elsewhere s) items older base e v f con devices is h (record { device = d; same_me = h.side.same_me; same_now = h.side.same_now; echo = refl })
+      (sym (append-nil s.coming) ∙ ap (λ z. s.coming ++ z) (sym (others_con a f con its is))) refl)
+
+  -- a group telegram comes to it
+  bus_group : f.group ≡ true → devices a ≡ Some (takes s.device (on_bus (me w) f) (now w) Whole) → Goes a (told_world w con devices) r s
+  bus_group group d =
+      goes_one a (told_world w con devices) r s (Group (on_bus (me w) f)) group tt
+      (told_kept a w r s (elsewhere (gets s (on_bus (me w) f) Whole)) items older base e v f con devices is h
+      (record { device = d ∙ ap (λ t. Some (takes s.device (on_bus (me w) f) t Whole)) (sym h.side.same_now); same_me = h.side.same_me; same_now = h.side.same_now; echo = refl })
+      (sym (append-nil s.coming) ∙ ap (λ z. s.coming ++ z) (sym (others_con a f con (ap (λ z. not z && (f.destination == a)) group) is))) refl)
+
+-- ---- which devices take it
+
+-- a device takes no frame that is for another one
+not_mine_by : (d : DeviceState) (f : Ldata) (t : ℕ) (outcome : Outcome) (power long : Bool) → d.power ≡ power → f.group ≡ false → (f.destination == d.address.raw) ≡ false → takes d f t outcome ≡ d
+not_mine_by d f t outcome true long p g n = rw p (rw g (rw n refl))
+not_mine_by d f t outcome false long p g n = rw p refl
+
+pub not_mine : (d : DeviceState) (f : Ldata) (t : ℕ) (outcome : Outcome) → f.group ≡ false → (f.destination == d.address.raw) ≡ false → takes d f t outcome ≡ d
+not_mine d f t outcome g n = not_mine_by d f t outcome d.power true refl g n
+
+pub mapped_at : (o : Option DeviceState) (d : DeviceState) (f : DeviceState → DeviceState) (t : Bool) → o ≡ Some d → ◌≡◌ {A = Option DeviceState} (cond t o (option_map f o)) (Some (cond t d (f d)))
+mapped_at o d f true e = e
+mapped_at o d f false e = ap (option_map f) e
+
+pub changed_at : (o : Option DeviceState) (d : DeviceState) (f : DeviceState → DeviceState) (t : Bool) → o ≡ Some d → ◌≡◌ {A = Option DeviceState} (cond t (option_map f o) o) (Some (cond t (f d) d))
+changed_at o d f true e = ap (option_map f) e
+changed_at o d f false e = e
+
+error_by : (w : World) (left_out : List ℕ) (frame : Ldata) (d : DeviceState) (b : Bool) → frame.group ≡ false → is_among left_out frame.destination ≡ b → w.devices frame.destination ≡ Some d
+    → (confirmation w left_out frame).error ≡ not (not b && is_taken (took_of d frame))
+error_by w left_out frame d b g among at = rw g (rw among (rw at refl))
+
+pub eqb_is : (x y : ℕ) → (x == y) ≡ true → x ≡ y
+eqb_is x y e = grind arith
+
+pub is_eqb : (x y : ℕ) → x ≡ y → (x == y) ≡ true
+is_eqb x y e = grind arith
+
+pub eqb_sym : (x y : ℕ) → (x == y) ≡ (y == x)
+eqb_sym x y = grind arith
+
+-- ---- it goes over the bus
+
+module _ (a : ℕ) (w : World) (r : List Entry) (s : SessionWorld) (items : Items) (older : List (ℕ × List ℕ)) (base e : ℕ) (v : View) (f : Ldata) (octets : List ℕ) (reads : ldata_in octets ≡ Some f) (named : s.device.address.raw ≡ a)
+    (h : CoupledBy a w r s items older (Since base e v (Flies f OnBus))) where
+  abbrev frame : Ldata
+  frame = on_bus (me w) f
+
+  -- every device but those left out takes it whole
+  bus_by : (left_out : List ℕ) (group mine among : Bool) → f.group ≡ group → (f.destination == a) ≡ mine → is_among left_out a ≡ among
+      → Goes a (told_world w (confirmation w left_out (on_bus (me w) f)) (all_take (now w) left_out (Some (on_bus (me w) f)) w.devices)) r s
+  bus_by left_out true mine true g m l =
+      let con : Ldata = confirmation w left_out (on_bus (me w) f) in
+      let devices : Devices = all_take (now w) left_out (Some (on_bus (me w) f)) w.devices in
+      let its : is_its a f ≡ false = ap (λ z. not z && (f.destination == a)) g in
+      let at : devices a ≡ Some s.device = mapped_at (w.devices a) s.device (λ d. takes d (on_bus (me w) f) (now w) Whole) (is_among left_out a) h.side.device ∙ ap (λ z. Some (cond {A = DeviceState} z s.device (takes s.device (on_bus (me w) f) (now w) Whole))) l in
+      bus_other a w r s items older base e v f con devices (con_of w left_out f octets reads) h its at
+  bus_by left_out true mine false g m l =
+      let con : Ldata = confirmation w left_out (on_bus (me w) f) in
+      let devices : Devices = all_take (now w) left_out (Some (on_bus (me w) f)) w.devices in
+      let at : devices a ≡ Some (takes s.device (on_bus (me w) f) (now w) Whole) = mapped_at (w.devices a) s.device (λ d. takes d (on_bus (me w) f) (now w) Whole) (is_among left_out a) h.side.device ∙ ap (λ z. Some (cond {A = DeviceState} z s.device (takes s.device (on_bus (me w) f) (now w) Whole))) l in
+      bus_group a w r s items older base e v f con devices (con_of w left_out f octets reads) h g at
+  bus_by left_out false true true g m l =
+      let con : Ldata = confirmation w left_out (on_bus (me w) f) in
+      let devices : Devices = all_take (now w) left_out (Some (on_bus (me w) f)) w.devices in
+      let its : is_its a f ≡ true = ap (λ z. not z && (f.destination == a)) g ∙ m in
+      let to : f.destination ≡ a = eqb_is f.destination a m in
+      let at : devices a ≡ Some s.device = mapped_at (w.devices a) s.device (λ d. takes d (on_bus (me w) f) (now w) Whole) (is_among left_out a) h.side.device ∙ ap (λ z. Some (cond {A = DeviceState} z s.device (takes s.device (on_bus (me w) f) (now w) Whole))) l in
+      let error : con.error ≡ true = error_by w left_out (on_bus (me w) f) s.device true g (ap (is_among left_out) to ∙ l) (ap w.devices to ∙ h.side.device) in
+      bus_lost a w r s items older base e v f con devices (con_of w left_out f octets reads) h its at error
+  bus_by left_out false true false g m l =
+      let con : Ldata = confirmation w left_out (on_bus (me w) f) in
+      let devices : Devices = all_take (now w) left_out (Some (on_bus (me w) f)) w.devices in
+      let its : is_its a f ≡ true = ap (λ z. not z && (f.destination == a)) g ∙ m in
+      let to : f.destination ≡ a = eqb_is f.destination a m in
+      let at : devices a ≡ Some (takes s.device (on_bus (me w) f) (now w) Whole) = mapped_at (w.devices a) s.device (λ d. takes d (on_bus (me w) f) (now w) Whole) (is_among left_out a) h.side.device ∙ ap (λ z. Some (cond {A = DeviceState} z s.device (takes s.device (on_bus (me w) f) (now w) Whole))) l in
+      let error : con.error ≡ not (is_taken (took_of s.device (on_bus (me w) f))) = error_by w left_out (on_bus (me w) f) s.device false g (ap (is_among left_out) to ∙ l) (ap w.devices to ∙ h.side.device) in
+      bus_mine a w r s items older base e v f con devices (con_of w left_out f octets reads) h Whole its at error
+  bus_by left_out false false among g m l =
+      let con : Ldata = confirmation w left_out (on_bus (me w) f) in
+      let devices : Devices = all_take (now w) left_out (Some (on_bus (me w) f)) w.devices in
+      let its : is_its a f ≡ false = ap (λ z. not z && (f.destination == a)) g ∙ m in
+      let stays : takes s.device (on_bus (me w) f) (now w) Whole ≡ s.device = not_mine s.device (on_bus (me w) f) (now w) Whole g (ap (λ z. f.destination == z) named ∙ m) in
+      let at : devices a ≡ Some s.device
+      = mapped_at (w.devices a) s.device (λ d. takes d (on_bus (me w) f) (now w) Whole) (is_among left_out a) h.side.device ∙ ap (λ z. Some (cond {A = DeviceState} (is_among left_out a) s.device z)) stays ∙ same_both (is_among left_out a) s.device in
+      bus_other a w r s items older base e v f con devices (con_of w left_out f octets reads) h its at
+    where
+      same_both : (t : Bool) (d : DeviceState) → ◌≡◌ {A = Option DeviceState} (Some (cond {A = DeviceState} t d d)) (Some d)
+      same_both true d = refl
+      same_both false d = refl
+
+  -- the one device that it is for takes it torn or worn
+  one_by : (outcome : Outcome) (mine : Bool) → f.group ≡ false → (f.destination == a) ≡ mine → Goes a (told_world w (confirmation w [] (on_bus (me w) f)) (one_takes (now w) outcome (Some (on_bus (me w) f)) w.devices)) r s
+  one_by outcome true g m =
+      let con : Ldata = confirmation w [] (on_bus (me w) f) in
+      let devices : Devices = one_takes (now w) outcome (Some (on_bus (me w) f)) w.devices in
+      let its : is_its a f ≡ true = ap (λ z. not z && (f.destination == a)) g ∙ m in
+      let to : f.destination ≡ a = eqb_is f.destination a m in
+      let at : devices a ≡ Some (takes s.device (on_bus (me w) f) (now w) outcome)
+      = changed_at (w.devices a) s.device (λ d. takes d (on_bus (me w) f) (now w) outcome) (a == f.destination) h.side.device ∙ ap (λ z. Some (cond {A = DeviceState} z (takes s.device (on_bus (me w) f) (now w) outcome) s.device)) (eqb_sym a f.destination ∙ m) in
+      let error : con.error ≡ not (is_taken (took_of s.device (on_bus (me w) f))) = error_by w [] (on_bus (me w) f) s.device false g refl (ap w.devices to ∙ h.side.device) in
+      bus_mine a w r s items older base e v f con devices (con_of w [] f octets reads) h outcome its at error
+  one_by outcome false g m =
+      let con : Ldata = confirmation w [] (on_bus (me w) f) in
+      let devices : Devices = one_takes (now w) outcome (Some (on_bus (me w) f)) w.devices in
+      let its : is_its a f ≡ false = ap (λ z. not z && (f.destination == a)) g ∙ m in
+      let at : devices a ≡ Some s.device
+      = changed_at (w.devices a) s.device (λ d. takes d (on_bus (me w) f) (now w) outcome) (a == f.destination) h.side.device ∙ ap (λ z. Some (cond {A = DeviceState} z (takes s.device (on_bus (me w) f) (now w) outcome) s.device)) (eqb_sym a f.destination ∙ m) in
+      bus_other a w r s items older base e v f con devices (con_of w [] f octets reads) h its at
+
+-- ---- the events
+
+abbrev pub after_world : World → Event → World
+after_world w e = record { tunnel = after w.tunnel (tunnel_event w e); devices = devices_after w e; echo = echo_after w e }
+
+bus_last : (a : ℕ) (w : World) (r : List Entry) (s : SessionWorld) (items : Items) (older : List (ℕ × List ℕ)) (last : Last) (x : Ldata) → s.device.address.raw ≡ a → CoupledBy a w r s items older last → IsOnBus last x
+    → (left_out : List ℕ) → Goes a (told_world w (confirmation w left_out (on_bus (me w) x)) (all_take (now w) left_out (Some (on_bus (me w) x)) w.devices)) r s
+bus_last a w r s items older Never x named h is left_out = absurd is
+bus_last a w r s items older (Since base e v Landed) x named h is left_out = absurd is
+bus_last a w r s items older (Since base e v (Flies f Waits)) x named h is left_out = absurd is
+bus_last a w r s items older (Since base e v (Flies f OnBus)) x named h is left_out =
+    let P : Ldata → Type 0 = λ z. Goes a (told_world w (confirmation w left_out (on_bus (me w) z)) (all_take (now w) left_out (Some (on_bus (me w) z)) w.devices)) r s in
+    subst P is (bus_by a w r s items older base e v f h.pipe.last_is.flight_is.octets h.pipe.last_is.flight_is.reads named h left_out f.group (f.destination == a) (is_among left_out a) refl refl refl)
+bus_last a w r s items older (Since base e v (Flies f Told)) x named h is left_out = absurd is
+bus_last a w r s items older (Since base e v (Flies f Gone)) x named h is left_out = absurd is
+
+one_last : (a : ℕ) (w : World) (r : List Entry) (s : SessionWorld) (items : Items) (older : List (ℕ × List ℕ)) (last : Last) (x : Ldata) → s.device.address.raw ≡ a → x.group ≡ false → CoupledBy a w r s items older last → IsOnBus last x
+    → (outcome : Outcome) → Goes a (told_world w (confirmation w [] (on_bus (me w) x)) (one_takes (now w) outcome (Some (on_bus (me w) x)) w.devices)) r s
+one_last a w r s items older Never x named g h is outcome = absurd is
+one_last a w r s items older (Since base e v Landed) x named g h is outcome = absurd is
+one_last a w r s items older (Since base e v (Flies f Waits)) x named g h is outcome = absurd is
+one_last a w r s items older (Since base e v (Flies f OnBus)) x named g h is outcome =
+    let P : Ldata → Type 0 = λ z. Goes a (told_world w (confirmation w [] (on_bus (me w) z)) (one_takes (now w) outcome (Some (on_bus (me w) z)) w.devices)) r s in
+    subst P is (one_by a w r s items older base e v f h.pipe.last_is.flight_is.octets h.pipe.last_is.flight_is.reads named h outcome (f.destination == a) (ap (λ (z : Ldata). z.group) is ∙ g) refl)
+one_last a w r s items older (Since base e v (Flies f Told)) x named g h is outcome = absurd is
+one_last a w r s items older (Since base e v (Flies f Gone)) x named g h is outcome = absurd is
+
+bus_list : (a : ℕ) (w : World) (r : List Entry) (s : SessionWorld) (left_out : List ℕ) (q : List Ldata) → w.tunnel.gateway.bus ≡ q → s.device.address.raw ≡ a → Coupled a w r s → GoesOver (option_map (on_bus (me w)) (first_frame q))
+    → Goes a (record { tunnel = after w.tunnel (carried w left_out (option_map (on_bus (me w)) (first_frame q))); devices = all_take (now w) left_out (option_map (on_bus (me w)) (first_frame q)) w.devices; echo = none_if (option_map (on_bus (me w)) (first_frame q)) w.echo }) r s
+bus_list a w r s left_out [] e named c over = absurd (over refl)
+bus_list a w r s left_out (x ∷ rest) e named c over =
+    bus_last a w r s c.items c.older c.last x named c.by (on_bus_now c.last w.tunnel.gateway w.tunnel.present r c.items c.older x rest c.by.pipe.last_is e) left_out
+
+pub bus_kept : (a : ℕ) (w : World) (r : List Entry) (s : SessionWorld) (left_out : List ℕ) → s.device.address.raw ≡ a → Coupled a w r s → GoesOver (next_frame w) → Goes a (after_world w (Bus left_out)) r s
+bus_kept a w r s left_out named c over = bus_list a w r s left_out w.tunnel.gateway.bus refl named c over
+
+one_list : (a : ℕ) (w : World) (r : List Entry) (s : SessionWorld) (outcome : Outcome) (q : List Ldata) → w.tunnel.gateway.bus ≡ q → s.device.address.raw ≡ a → Coupled a w r s → GoesSo w outcome (option_map (on_bus (me w)) (first_frame q))
+    → Goes a (record { tunnel = after w.tunnel (carried w [] (option_map (on_bus (me w)) (first_frame q))); devices = one_takes (now w) outcome (option_map (on_bus (me w)) (first_frame q)) w.devices; echo = none_if (option_map (on_bus (me w)) (first_frame q)) w.echo }) r s
+one_list a w r s outcome [] e named c over = absurd over
+one_list a w r s outcome (x ∷ rest) e named c over =
+    one_last a w r s c.items c.older c.last x named over.alone c.by (on_bus_now c.last w.tunnel.gateway w.tunnel.present r c.items c.older x rest c.by.pipe.last_is e) outcome
+
+pub torn_kept : (a : ℕ) (w : World) (r : List Entry) (s : SessionWorld) (fresh : Bool) (octets : List ℕ) → s.device.address.raw ≡ a → Coupled a w r s → GoesSo w (Torn fresh octets) (next_frame w) → Goes a (after_world w (BusTorn fresh octets)) r s
+torn_kept a w r s fresh octets named c so = one_list a w r s (Torn fresh octets) w.tunnel.gateway.bus refl named c so
+
+pub worn_kept : (a : ℕ) (w : World) (r : List Entry) (s : SessionWorld) (octets : List ℕ) → s.device.address.raw ≡ a → Coupled a w r s → GoesSo w (Worn octets) (next_frame w) → Goes a (after_world w (BusWorn octets)) r s
+worn_kept a w r s octets named c so = one_list a w r s (Worn octets) w.tunnel.gateway.bus refl named c so

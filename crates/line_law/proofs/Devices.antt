@@ -1,0 +1,347 @@
+-- A device sends, closes, loses its power and has it again; and frames come again.
+use Rattle.std.proofs.Common.{◌≡◌, ℕ, ◌⊎◌, List, [], ◌∷◌, ◌++◌, Bool, true, false, not, ◌&&◌, ◌||◌, cond, Option, Some, None, refl, sym, ◌∙◌, ap, subst, inl, inr, if◌then◌else◌, append-nil, arith}
+use Rattle.std.specs.Prelude.{◌==◌}
+use Rattle.knx_model.specs.declared.address.IndAddr.{IndAddr}
+use Rattle.knx_model.specs.declared.frames.cemi.Ldata.{Ldata}
+use Rattle.knx_model.specs.declared.frames.cemi.LdataCode.TheVariants.{Con, Ind}
+use Rattle.knx_model.specs.ApduReading.{option_map}
+use Rattle.knx_model.specs.DeviceState.{DeviceState, cut, switched_on}
+use Rattle.knx_model.specs.DeviceFrames.{Whole, takes, taken_again, taken_last, own_frame}
+use Rattle.knx_model.specs.DeviceSending.{waiting_frame, pops, repeat_frame, repeats, shut}
+use Rattle.line_model.specs.Gateway.{Gateway}
+use Rattle.line_model.specs.Legal.{OfDevice, CanRepeat}
+use Rattle.line_model.specs.Reading.{is_con, is_ind}
+use Rattle.line_model.specs.Record.{Entry}
+use Rattle.line_model.specs.Tunnel.{with_gateway, after, heard as heard_by}
+use Rattle.line_model.specs.World.{World, Event, BusAgain, DevSend, DevRepeat, DevClose, GwAgain, Cut, On, AtGateway, Comes, IsLost, Devices, me, now, frame_by, waiting_at, repeat_at, is_among, changed, all_take, others_take, or_before, heard, tunnel_event, devices_after, echo_after}
+use Rattle.line_model.specs.ClientView.{View}
+use Rattle.session_law.specs.World.{World as SessionWorld, Message, Ind as Tells}
+use Rattle.session_law.specs.Device.{speaks, with_device, echoes, elsewhere, gets, gets_again, and_told, or_before as or_earlier}
+use Rattle.session_law.specs.Device as session
+use Rattle.session_law.specs.Events as event
+use Rattle.tunnel_law.proofs.Inside.{Every}
+use Rattle.line_law.proofs.Queue.{Items, is_its, is_by, message, messages, messages_append, cons, cons_append, back, back_more}
+use Rattle.line_law.proofs.Coupled.{IsOwn, IsFrameOf, IsOwned, OwnIf, Owned, IsTold, Stage, Waits, OnBus, Told, Gone, Flight, Landed, Flies, Serves, FlightIs, Last, Never, Since, JoinedIs, NeverIs, LastIs, Pipe, echo_of, DeviceSide, FlyFor, PendFor, CoupledBy, Coupled, Goes}
+use Rattle.line_law.proofs.Owned.{every_append, waiting_owned, repeat_owned}
+use Rattle.line_law.proofs.Bus.{goes_none, goes_one, after_world, mapped_at, changed_at, eqb_is, is_eqb, eqb_sym}
+
+-- ---- frames of devices come to the gateway
+
+pub own_ind : (f : Ldata) → IsOwn f → f.code ≡ Ind
+own_ind f e = ap (λ (z : Ldata). z.code) e
+
+pub own_con : (f : Ldata) → IsOwn f → cons (f ∷ []) ≡ []
+own_con f e = rw (own_ind f e) refl
+
+own_its : (a : ℕ) (f : Ldata) → IsOwn f → (b : Bool) → is_by a f ≡ b → message a f ≡ (if b then Tells f ∷ [] else [])
+own_its a f e true h = rw (own_ind f e) (rw h refl)
+own_its a f e false h = rw (own_ind f e) (rw h refl)
+
+flight_cons : (base : ℕ) (g : Gateway) (q k : List Ldata) (puts : List (List ℕ)) (flight : Flight) → cons k ≡ cons q → FlightIs base g q puts flight → FlightIs base g k puts flight
+flight_cons base g q k puts Landed e h = (h.0, h.1, e ∙ h.2)
+flight_cons base g q k puts (Flies f Waits) e h = record { octets = h.octets; before = h.before; newest = h.newest; reads = h.reads; request = h.request; stage_is = (h.stage_is.0, h.stage_is.1, e ∙ h.stage_is.2) }
+flight_cons base g q k puts (Flies f OnBus) e h = record { octets = h.octets; before = h.before; newest = h.newest; reads = h.reads; request = h.request; stage_is = (h.stage_is.0, h.stage_is.1, e ∙ h.stage_is.2) }
+flight_cons base g q k puts (Flies f Told) e h =
+    record { octets = h.octets; before = h.before; newest = h.newest; reads = h.reads; request = h.request; stage_is = (h.stage_is.0, h.stage_is.1, h.stage_is.2, e ∙ h.stage_is.3, h.stage_is.4, h.stage_is.5) }
+flight_cons base g q k puts (Flies f Gone) e h = record { octets = h.octets; before = h.before; newest = h.newest; reads = h.reads; request = h.request; stage_is = (h.stage_is.0, h.stage_is.1, e ∙ h.stage_is.2) }
+
+no_more : (l : List Ldata) (f : Ldata) → IsOwn f → cons (l ++ f ∷ []) ≡ cons l
+no_more l f e = cons_append l (f ∷ []) ∙ ap (λ z. cons l ++ z) (own_con f e) ∙ append-nil (cons l)
+
+heard_serving : (base : ℕ) (g : Gateway) (f : Ldata) → IsOwn f → Serves base g ⊎ ((cons g.waiting ≡ []) × (g.bus ≡ [])) → Serves base (heard_by g (f ∷ [])) ⊎ ((cons (g.waiting ++ f ∷ []) ≡ []) × (g.bus ≡ []))
+heard_serving base g f e (inl h) = inl (record { place = h.place; c = h.c; is_up = h.is_up })
+heard_serving base g f e (inr h) = inr (no_more g.waiting f e ∙ h.0, h.1)
+
+heard_flight : (base : ℕ) (g : Gateway) (f : Ldata) (q : List Ldata) (puts : List (List ℕ)) (flight : Flight) → FlightIs base g q puts flight → FlightIs base (heard_by g (f ∷ [])) q puts flight
+heard_flight base g f q puts Landed h = h
+heard_flight base g f q puts (Flies x Waits) h = record { octets = h.octets; before = h.before; newest = h.newest; reads = h.reads; request = h.request; stage_is = h.stage_is }
+heard_flight base g f q puts (Flies x OnBus) h = record { octets = h.octets; before = h.before; newest = h.newest; reads = h.reads; request = h.request; stage_is = h.stage_is }
+heard_flight base g f q puts (Flies x Told) h = record { octets = h.octets; before = h.before; newest = h.newest; reads = h.reads; request = h.request; stage_is = h.stage_is }
+heard_flight base g f q puts (Flies x Gone) h = record { octets = h.octets; before = h.before; newest = h.newest; reads = h.reads; request = h.request; stage_is = h.stage_is }
+
+heard_last : (last : Last) (g : Gateway) (present : ℕ) (r : List Entry) (items : Items) (older : List (ℕ × List ℕ)) (f : Ldata) → IsOwn f → LastIs last g present r items older → LastIs last (heard_by g (f ∷ [])) present r items older
+heard_last Never g present r items older f e h =
+    record {
+      none = λ k other c. h.none k other (record { endpoint = c.endpoint; made_by = c.made_by; view = c.view; number = c.number });
+      out = h.out;
+      bus = h.bus;
+      quiet = ap cons (back_more items g.waiting (f ∷ [])) ∙ no_more (back items g.waiting) f e ∙ h.quiet;
+      empty = h.empty;
+    }
+heard_last (Since base n v flight) g present r items older f e h =
+    record {
+      made = h.made;
+      view = h.view;
+      number = h.number;
+      late = λ k other c. h.late k other (record { endpoint = c.endpoint; made_by = c.made_by; view = c.view; number = c.number });
+      low = h.low;
+      taken = h.taken;
+      olds = h.olds;
+      channel_is = h.channel_is;
+      con_items = h.con_items;
+      serving = heard_serving base g f e h.serving;
+      flight_is = heard_flight base g f (back items (g.waiting ++ f ∷ [])) v.puts flight
+          (flight_cons base g (back items g.waiting) (back items (g.waiting ++ f ∷ [])) v.puts flight (ap cons (back_more items g.waiting (f ∷ [])) ∙ no_more (back items g.waiting) f e) h.flight_is);
+    }
+
+heard_pipe : (g : Gateway) (present : ℕ) (r : List Entry) (items : Items) (older : List (ℕ × List ℕ)) (last : Last) (f : Ldata) → IsOwn f → Pipe g present r items older last → Pipe (heard_by g (f ∷ [])) present r items older last
+heard_pipe g present r items older last f e h =
+    record {
+      puts_are = h.puts_are;
+      sorted = h.sorted;
+      newest = h.newest;
+      frames = subst (Every IsTold) (sym (back_more items g.waiting (f ∷ []))) (every_append IsTold (back items g.waiting) (f ∷ []) h.frames (inl e, tt));
+      last_is = heard_last last g present r items older f e h.last_is;
+    }
+
+abbrev heard_world : World → Ldata → Devices → Option Ldata → World
+heard_world w f devices echo = record { tunnel = with_gateway w.tunnel (heard_by w.tunnel.gateway (f ∷ [])); devices = devices; echo = echo }
+
+heard_kept : (a : ℕ) (w : World) (r : List Entry) (s n : SessionWorld) (f : Ldata) (devices : Devices) (echo : Option Ldata) → IsOwn f → Coupled a w r s → DeviceSide a (heard_world w f devices echo) n → n.coming ≡ s.coming ++ message a f
+    → n.client ≡ s.client → n.flying ≡ s.flying → Coupled a (heard_world w f devices echo) r n
+heard_kept a w r s n f devices echo e c side coming client flying =
+    record {
+      items = c.items;
+      older = c.older;
+      last = c.last;
+      by = record {
+        side = side;
+        pipe = heard_pipe w.tunnel.gateway w.tunnel.present r c.items c.older c.last f e c.by.pipe;
+        coming = coming ∙ ap (λ z. z ++ message a f) c.by.coming ∙ ap (λ z. messages a (back c.items w.tunnel.gateway.waiting) ++ z) (sym (append-nil (message a f)))
+            ∙ sym (messages_append a (back c.items w.tunnel.gateway.waiting) (f ∷ [])) ∙ ap (messages a) (sym (back_more c.items w.tunnel.gateway.waiting (f ∷ [])));
+        flying = subst (FlyFor a (me w) c.last) (sym flying) c.by.flying;
+        pending = subst (PendFor a c.last) (sym client) c.by.pending;
+        joined = ap (λ z. z.joined) client ∙ c.by.joined;
+      };
+    }
+
+-- ---- something happens to devices alone
+
+abbrev apart_world : World → Devices → Option Ldata → World
+apart_world w devices echo = record { tunnel = w.tunnel; devices = devices; echo = echo }
+
+apart_kept : (a : ℕ) (w : World) (r : List Entry) (s n : SessionWorld) (devices : Devices) (echo : Option Ldata) → Coupled a w r s → DeviceSide a (apart_world w devices echo) n → n.coming ≡ s.coming
+    → n.client ≡ s.client → n.flying ≡ s.flying → Coupled a (apart_world w devices echo) r n
+apart_kept a w r s n devices echo c side coming client flying =
+    record {
+      items = c.items;
+      older = c.older;
+      last = c.last;
+      by = record {
+        side = side;
+        pipe = c.by.pipe;
+        coming = coming ∙ c.by.coming;
+        flying = subst (FlyFor a (me w) c.last) (sym flying) c.by.flying;
+        pending = subst (PendFor a c.last) (sym client) c.by.pending;
+        joined = ap (λ z. z.joined) client ∙ c.by.joined;
+      };
+    }
+
+-- it is this device
+apart_mine : (a : ℕ) (w : World) (r : List Entry) (s n : SessionWorld) (device : ℕ) (f : DeviceState → DeviceState) → (a == device) ≡ true → Coupled a w r s → n.device ≡ f s.device → n.me ≡ s.me → n.now ≡ s.now → n.echo ≡ s.echo → n.coming ≡ s.coming
+    → n.client ≡ s.client → n.flying ≡ s.flying → Coupled a (apart_world w (changed device f w.devices) w.echo) r n
+apart_mine a w r s n device f e c d m t echo coming client flying =
+    apart_kept a w r s n (changed device f w.devices) w.echo c
+    (record {
+      device = changed_at (w.devices a) s.device f (a == device) c.by.side.device ∙ ap (λ z. Some (cond {A = DeviceState} z (f s.device) s.device)) e ∙ ap (λ z. Some z) (sym d);
+      same_me = m ∙ c.by.side.same_me;
+      same_now = t ∙ c.by.side.same_now;
+      echo = echo ∙ c.by.side.echo;
+    }) coming client flying
+
+-- it is another one
+apart_other : (a : ℕ) (w : World) (r : List Entry) (s : SessionWorld) (device : ℕ) (f : DeviceState → DeviceState) → (a == device) ≡ false → Coupled a w r s → Goes a (apart_world w (changed device f w.devices) w.echo) r s
+apart_other a w r s device f e c =
+    goes_none a (apart_world w (changed device f w.devices) w.echo) r s
+    (apart_kept a w r s s (changed device f w.devices) w.echo c
+    (record {
+      device = changed_at (w.devices a) s.device f (a == device) c.by.side.device ∙ ap (λ z. Some (cond {A = DeviceState} z (f s.device) s.device)) e;
+      same_me = c.by.side.same_me;
+      same_now = c.by.side.same_now;
+      echo = c.by.side.echo;
+    }) refl refl refl)
+
+again_by : (a : ℕ) (w : World) (r : List Entry) (s : SessionWorld) (device : ℕ) (l : Option Ldata) → s.device.last ≡ l → (a == device) ≡ true → Coupled a w r s → Coupled a (apart_world w (changed device (λ d. taken_again d (now w)) w.devices) w.echo) r (gets_again s l)
+again_by a w r s device None l e c = apart_mine a w r s s device (λ d. taken_again d (now w)) e c (sym (ap (taken_last s.device (now w)) l)) refl refl refl refl refl refl
+again_by a w r s device (Some f) l e c =
+    apart_mine a w r s (gets s f Whole) device (λ d. taken_again d (now w)) e c (ap (λ t. takes s.device f t Whole) c.by.side.same_now ∙ sym (ap (taken_last s.device (now w)) l)) refl refl refl refl refl refl
+
+pub again_kept : (a : ℕ) (w : World) (r : List Entry) (s : SessionWorld) (device : ℕ) (b : Bool) → (a == device) ≡ b → Coupled a w r s → Goes a (after_world w (BusAgain device)) r s
+again_kept a w r s device true e c = goes_one a (after_world w (BusAgain device)) r s event.BusAgain tt tt (again_by a w r s device s.device.last refl e c)
+again_kept a w r s device false e c = apart_other a w r s device (λ d. taken_again d (now w)) e c
+
+pub close_kept : (a : ℕ) (w : World) (r : List Entry) (s : SessionWorld) (device : ℕ) (b : Bool) → (a == device) ≡ b → Coupled a w r s → Goes a (after_world w (DevClose device)) r s
+close_kept a w r s device true e c = goes_one a (after_world w (DevClose device)) r s event.DevClose tt tt (apart_mine a w r s (with_device s (shut s.device)) device shut e c refl refl refl refl refl refl refl)
+close_kept a w r s device false e c = apart_other a w r s device shut e c
+
+pub cut_kept : (a : ℕ) (w : World) (r : List Entry) (s : SessionWorld) (device : ℕ) (b : Bool) → (a == device) ≡ b → Coupled a w r s → Goes a (after_world w (Cut device)) r s
+cut_kept a w r s device true e c = goes_one a (after_world w (Cut device)) r s event.Cut tt tt (apart_mine a w r s (with_device s (cut s.device)) device cut e c refl refl refl refl refl refl refl)
+cut_kept a w r s device false e c = apart_other a w r s device cut e c
+
+pub on_kept : (a : ℕ) (w : World) (r : List Entry) (s : SessionWorld) (device : ℕ) (b : Bool) → (a == device) ≡ b → Coupled a w r s → Goes a (after_world w (On device)) r s
+on_kept a w r s device true e c = goes_one a (after_world w (On device)) r s event.On tt tt (apart_mine a w r s (with_device s (switched_on s.device)) device switched_on e c refl refl refl refl refl refl refl)
+on_kept a w r s device false e c = apart_other a w r s device switched_on e c
+
+-- ---- the gateway gets the bus's last frame again
+
+echo_mine : (a : ℕ) (w : World) (f : Ldata) → w.echo ≡ Some f → is_by a f ≡ true → echo_of a w.echo ≡ Some f
+echo_mine a w f e b = ap (echo_of a) e ∙ rw b refl
+
+gateway_again : (a : ℕ) (w : World) (r : List Entry) (s : SessionWorld) (o : Option Ldata) (b : Bool) → w.echo ≡ o → OwnIf o → Coupled a w r s → Goes a (record { tunnel = after w.tunnel (heard Comes o); devices = w.devices; echo = w.echo }) r s
+gateway_again a w r s None b e own c = goes_none a w r s c
+gateway_again a w r s (Some f) b e own c = by_source (is_by a f) refl where
+  by_source : (t : Bool) → is_by a f ≡ t → Goes a (record { tunnel = after w.tunnel (heard Comes (Some f)); devices = w.devices; echo = w.echo }) r s
+  by_source true q =
+      let echo : s.echo ≡ Some f = c.by.side.echo ∙ echo_mine a w f e q in
+      let n : SessionWorld = record s { coming = s.coming ++ Tells f ∷ [] } in
+      let kept : Coupled a (heard_world w f w.devices w.echo) r n
+      = heard_kept a w r s n f w.devices w.echo own c (record { device = c.by.side.device; same_me = c.by.side.same_me; same_now = c.by.side.same_now; echo = c.by.side.echo }) (ap (λ z. s.coming ++ z) (sym (own_its a f own true q))) refl refl in
+      goes_one a (heard_world w f w.devices w.echo) r s event.GwAgain tt tt
+      (subst (λ (o : Option Ldata). Coupled a (heard_world w f w.devices w.echo) r (record s { coming = and_told session.Comes o s.coming })) (sym echo) kept)
+  by_source false q =
+      goes_none a (heard_world w f w.devices w.echo) r s
+      (heard_kept a w r s s f w.devices w.echo own c (record { device = c.by.side.device; same_me = c.by.side.same_me; same_now = c.by.side.same_now; echo = c.by.side.echo })
+      (sym (append-nil s.coming) ∙ ap (λ z. s.coming ++ z) (sym (own_its a f own false q))) refl refl)
+
+pub echo_kept : (a : ℕ) (w : World) (r : List Entry) (s : SessionWorld) → Owned w → Coupled a w r s → Goes a (after_world w GwAgain) r s
+echo_kept a w r s own c = gateway_again a w r s w.echo true refl own.echo c
+
+-- ---- a device sends
+
+abbrev gate : AtGateway → session.AtGateway
+gate Comes = session.Comes
+gate IsLost = session.IsLost
+
+-- a device's frame came to the gateway, or was lost for it
+abbrev sent_world : World → AtGateway → Ldata → Devices → World
+sent_world w gateway f devices = record { tunnel = after w.tunnel (heard gateway (Some f)); devices = devices; echo = Some f }
+
+-- the session of the device that sent it
+sent_mine : (a : ℕ) (w : World) (r : List Entry) (s : SessionWorld) (gateway : AtGateway) (f : Ldata) (devices : Devices) (d : DeviceState) → IsFrameOf a f → devices a ≡ Some d → Coupled a w r s
+    → Coupled a (sent_world w gateway f devices) r (speaks s d (gate gateway) (Some f))
+sent_mine a w r s Comes f devices d own at c =
+    let by : is_by a f ≡ true = is_eqb f.source a own.0 in
+    heard_kept a w r s (speaks s d session.Comes (Some f)) f devices (Some f) own.1 c (record { device = at; same_me = c.by.side.same_me; same_now = c.by.side.same_now; echo = rw by refl }) (ap (λ z. s.coming ++ z) (sym (own_its a f own.1 true by))) refl refl
+sent_mine a w r s IsLost f devices d own at c =
+    let by : is_by a f ≡ true = is_eqb f.source a own.0 in
+    apart_kept a w r s (speaks s d session.IsLost (Some f)) devices (Some f) c (record { device = at; same_me = c.by.side.same_me; same_now = c.by.side.same_now; echo = rw by refl }) refl refl refl
+
+-- and of another one
+sent_other : (a : ℕ) (w : World) (r : List Entry) (s n : SessionWorld) (gateway : AtGateway) (f : Ldata) (devices : Devices) → IsOwn f → is_by a f ≡ false → devices a ≡ Some n.device → Coupled a w r s → n.me ≡ s.me → n.now ≡ s.now → n.echo ≡ None → n.coming ≡ s.coming → n.client ≡ s.client → n.flying ≡ s.flying
+    → Coupled a (sent_world w gateway f devices) r n
+sent_other a w r s n Comes f devices own by at c m t echo coming client flying =
+    heard_kept a w r s n f devices (Some f) own c (record { device = at; same_me = m ∙ c.by.side.same_me; same_now = t ∙ c.by.side.same_now; echo = echo ∙ rw by refl })
+    (coming ∙ sym (append-nil s.coming) ∙ ap (λ z. s.coming ++ z) (sym (own_its a f own false by))) client flying
+sent_other a w r s n IsLost f devices own by at c m t echo coming client flying =
+    apart_kept a w r s n devices (Some f) c (record { device = at; same_me = m ∙ c.by.side.same_me; same_now = t ∙ c.by.side.same_now; echo = echo ∙ rw by refl }) coming client flying
+
+abbrev others_so : World → ℕ → List ℕ → Option Ldata → Devices
+others_so w device left_out o = changed device pops (others_take (now w) (device ∷ left_out) o w.devices)
+
+others_by : (t : ℕ) (left_out : List ℕ) (f : Ldata) (devices : Devices) (a : ℕ) (d : DeviceState) (group among : Bool) → f.group ≡ group → is_among left_out a ≡ among → devices a ≡ Some d
+    → others_take t left_out (Some f) devices a ≡ Some (if group then (if among then d else takes d f t Whole) else d)
+others_by t left_out f devices a d group among g l e =
+    ap (λ b. cond {A = Devices} b (all_take t left_out (Some f) devices) devices a) g ∙ take_by group ∙ ap (λ b. Some (cond {A = DeviceState} group (cond {A = DeviceState} b d (takes d f t Whole)) d)) l
+  where
+    take_by : (b : Bool) → cond {A = Devices} b (all_take t left_out (Some f) devices) devices a ≡ Some (cond {A = DeviceState} b (cond {A = DeviceState} (is_among left_out a) d (takes d f t Whole)) d)
+    take_by true = mapped_at (devices a) d (λ x. takes x f t Whole) (is_among left_out a) e
+    take_by false = e
+
+among_first : (device : ℕ) (left_out : List ℕ) (a : ℕ) → (a == device) ≡ true → is_among (device ∷ left_out) a ≡ true
+among_first device left_out a e = let h : (device == a) ≡ true = eqb_sym device a ∙ e in rw h refl
+
+same_if : (group : Bool) (d e : DeviceState) → ◌≡◌ {A = Option DeviceState} (Some (cond {A = DeviceState} group (cond {A = DeviceState} true d e) d)) (Some d)
+same_if true d e = refl
+same_if false d e = refl
+
+-- the sender doesn't take it
+sender_at : (w : World) (s : SessionWorld) (device : ℕ) (left_out : List ℕ) (f : Ldata) (a : ℕ) → (a == device) ≡ true → w.devices a ≡ Some s.device → others_so w device left_out (Some f) a ≡ Some (pops s.device)
+sender_at w s device left_out f a e d =
+    let at : others_take (now w) (device ∷ left_out) (Some f) w.devices a ≡ Some s.device
+    = others_by (now w) (device ∷ left_out) f w.devices a s.device f.group true refl (among_first device left_out a e) d ∙ same_if f.group s.device (takes s.device f (now w) Whole) in
+    changed_at (others_take (now w) (device ∷ left_out) (Some f) w.devices a) s.device pops (a == device) at ∙ ap (λ z. Some (cond {A = DeviceState} z (pops s.device) s.device)) e
+
+sends_mine : (a : ℕ) (w : World) (r : List Entry) (s : SessionWorld) (device : ℕ) (gateway : AtGateway) (left_out : List ℕ) (o : Option Ldata) → (a == device) ≡ true → waiting_frame s.device ≡ o → ((f : Ldata) → o ≡ Some f → IsFrameOf a f) → Coupled a w r s
+    → Coupled a (record { tunnel = after w.tunnel (heard gateway o); devices = others_so w device left_out o; echo = or_before o w.echo }) r (speaks s (pops s.device) (gate gateway) o)
+sends_mine a w r s device Comes left_out None e q own c =
+    apart_kept a w r s (speaks s (pops s.device) session.Comes None) (others_so w device left_out None) w.echo c
+    (record { device = changed_at (w.devices a) s.device pops (a == device) c.by.side.device ∙ ap (λ z. Some (cond {A = DeviceState} z (pops s.device) s.device)) e; same_me = c.by.side.same_me; same_now = c.by.side.same_now; echo = c.by.side.echo }) refl refl refl
+sends_mine a w r s device IsLost left_out None e q own c =
+    apart_kept a w r s (speaks s (pops s.device) session.IsLost None) (others_so w device left_out None) w.echo c
+    (record { device = changed_at (w.devices a) s.device pops (a == device) c.by.side.device ∙ ap (λ z. Some (cond {A = DeviceState} z (pops s.device) s.device)) e; same_me = c.by.side.same_me; same_now = c.by.side.same_now; echo = c.by.side.echo }) refl refl refl
+sends_mine a w r s device gateway left_out (Some f) e q own c =
+    sent_mine a w r s gateway f (others_so w device left_out (Some f)) (pops s.device) (own f refl) (sender_at w s device left_out f a e c.by.side.device) c
+
+other_at : (w : World) (s : SessionWorld) (device : ℕ) (left_out : List ℕ) (f : Ldata) (a : ℕ) (group among : Bool) → (a == device) ≡ false → f.group ≡ group → is_among (device ∷ left_out) a ≡ among → w.devices a ≡ Some s.device
+    → others_so w device left_out (Some f) a ≡ Some (if group then (if among then s.device else takes s.device f (now w) Whole) else s.device)
+other_at w s device left_out f a group among e g l d =
+    let x : DeviceState = if group then (if among then s.device else takes s.device f (now w) Whole) else s.device in
+    changed_at (others_take (now w) (device ∷ left_out) (Some f) w.devices a) x pops (a == device) (others_by (now w) (device ∷ left_out) f w.devices a s.device group among g l d) ∙ ap (λ z. Some (cond {A = DeviceState} z (pops x) x)) e
+
+not_by : (a device : ℕ) (f : Ldata) → (a == device) ≡ false → f.source ≡ device → is_by a f ≡ false
+not_by a device f e q = ap (λ z. z == a) q ∙ eqb_sym device a ∙ e
+
+sends_other : (a : ℕ) (w : World) (r : List Entry) (s : SessionWorld) (device : ℕ) (gateway : AtGateway) (left_out : List ℕ) (f : Ldata) (group among : Bool) → (a == device) ≡ false → f.group ≡ group → is_among (device ∷ left_out) a ≡ among → IsFrameOf device f → Coupled a w r s
+    → Goes a (sent_world w gateway f (others_so w device left_out (Some f))) r s
+sends_other a w r s device gateway left_out f true true e g l own c =
+    goes_one a (sent_world w gateway f (others_so w device left_out (Some f))) r s event.Elsewhere tt tt
+    (sent_other a w r s (elsewhere s) gateway f (others_so w device left_out (Some f)) own.1 (not_by a device f e own.0) (other_at w s device left_out f a true true e g l c.by.side.device) c refl refl refl refl refl refl)
+sends_other a w r s device gateway left_out f true false e g l own c =
+    goes_one a (sent_world w gateway f (others_so w device left_out (Some f))) r s (event.Group f) g tt
+    (sent_other a w r s (elsewhere (gets s f Whole)) gateway f (others_so w device left_out (Some f)) own.1 (not_by a device f e own.0)
+    (other_at w s device left_out f a true false e g l c.by.side.device ∙ ap (λ t. Some (takes s.device f t Whole)) (sym c.by.side.same_now)) c refl refl refl refl refl refl)
+sends_other a w r s device gateway left_out f false among e g l own c =
+    goes_one a (sent_world w gateway f (others_so w device left_out (Some f))) r s event.Elsewhere tt tt
+    (sent_other a w r s (elsewhere s) gateway f (others_so w device left_out (Some f)) own.1 (not_by a device f e own.0) (other_at w s device left_out f a false among e g l c.by.side.device) c refl refl refl refl refl refl)
+
+sends_if : (a : ℕ) (w : World) (r : List Entry) (s : SessionWorld) (device : ℕ) (gateway : AtGateway) (left_out : List ℕ) (o : Option Ldata) → (a == device) ≡ false → ((f : Ldata) → o ≡ Some f → IsFrameOf device f) → Coupled a w r s
+    → Goes a (record { tunnel = after w.tunnel (heard gateway o); devices = others_so w device left_out o; echo = or_before o w.echo }) r s
+sends_if a w r s device Comes left_out None e own c = apart_other a w r s device pops e c
+sends_if a w r s device IsLost left_out None e own c = apart_other a w r s device pops e c
+sends_if a w r s device gateway left_out (Some f) e own c = sends_other a w r s device gateway left_out f f.group (is_among (device ∷ left_out) a) e refl refl (own f refl) c
+
+pub sends_kept : (a : ℕ) (w : World) (r : List Entry) (s : SessionWorld) (device : ℕ) (gateway : AtGateway) (left_out : List ℕ) (b : Bool) → (a == device) ≡ b → Owned w → Coupled a w r s → Goes a (after_world w (DevSend device gateway left_out)) r s
+sends_kept a w r s device gateway left_out true e own c =
+    let to : a ≡ device = eqb_is a device e in
+    let at : w.devices device ≡ Some s.device = ap w.devices (sym to) ∙ c.by.side.device in
+    let frame : waiting_frame s.device ≡ waiting_at w device = sym (ap (frame_by waiting_frame) at) in
+    goes_one a (after_world w (DevSend device gateway left_out)) r s (event.DevSend (gate gateway)) tt tt
+    (subst (λ (o : Option Ldata). Coupled a (after_world w (DevSend device gateway left_out)) r (speaks s (pops s.device) (gate gateway) o)) (sym frame)
+    (sends_mine a w r s device gateway left_out (waiting_at w device) e frame (λ f q. subst (λ z. IsFrameOf z f) (sym to) (waiting_owned w device f own q)) c))
+sends_kept a w r s device gateway left_out false e own c = sends_if a w r s device gateway left_out (waiting_at w device) e (λ f q. waiting_owned w device f own q) c
+
+-- ---- it repeats its answer
+
+repeats_mine : (a : ℕ) (w : World) (r : List Entry) (s : SessionWorld) (device : ℕ) (gateway : AtGateway) (o : Option Ldata) → (a == device) ≡ true → ((f : Ldata) → o ≡ Some f → IsFrameOf a f) → Coupled a w r s
+    → Coupled a (record { tunnel = after w.tunnel (heard gateway o); devices = changed device (λ d. repeats d (now w)) w.devices; echo = or_before o w.echo }) r (speaks s (repeats s.device s.now) (gate gateway) o)
+repeats_mine a w r s device Comes None e own c =
+    apart_mine a w r s (speaks s (repeats s.device s.now) session.Comes None) device (λ d. repeats d (now w)) e c (ap (λ t. repeats s.device t) c.by.side.same_now) refl refl refl refl refl refl
+repeats_mine a w r s device IsLost None e own c =
+    apart_mine a w r s (speaks s (repeats s.device s.now) session.IsLost None) device (λ d. repeats d (now w)) e c (ap (λ t. repeats s.device t) c.by.side.same_now) refl refl refl refl refl refl
+repeats_mine a w r s device gateway (Some f) e own c =
+    sent_mine a w r s gateway f (changed device (λ d. repeats d (now w)) w.devices) (repeats s.device s.now) (own f refl)
+    (changed_at (w.devices a) s.device (λ d. repeats d (now w)) (a == device) c.by.side.device ∙ ap (λ z. Some (cond {A = DeviceState} z (repeats s.device (now w)) s.device)) e ∙ ap (λ t. Some (repeats s.device t)) (sym c.by.side.same_now)) c
+
+repeats_if : (a : ℕ) (w : World) (r : List Entry) (s : SessionWorld) (device : ℕ) (gateway : AtGateway) (o : Option Ldata) → (a == device) ≡ false → ((f : Ldata) → o ≡ Some f → IsFrameOf device f) → Coupled a w r s
+    → Goes a (record { tunnel = after w.tunnel (heard gateway o); devices = changed device (λ d. repeats d (now w)) w.devices; echo = or_before o w.echo }) r s
+repeats_if a w r s device Comes None e own c = apart_other a w r s device (λ d. repeats d (now w)) e c
+repeats_if a w r s device IsLost None e own c = apart_other a w r s device (λ d. repeats d (now w)) e c
+repeats_if a w r s device gateway (Some f) e own c =
+    let g : IsFrameOf device f = own f refl in
+    goes_one a (sent_world w gateway f (changed device (λ d. repeats d (now w)) w.devices)) r s event.Elsewhere tt tt
+    (sent_other a w r s (elsewhere s) gateway f (changed device (λ d. repeats d (now w)) w.devices) g.1 (not_by a device f e g.0)
+    (changed_at (w.devices a) s.device (λ d. repeats d (now w)) (a == device) c.by.side.device ∙ ap (λ z. Some (cond {A = DeviceState} z (repeats s.device (now w)) s.device)) e) c refl refl refl refl refl refl)
+
+can_repeat : (o : Option DeviceState) (d : DeviceState) → o ≡ Some d → OfDevice CanRepeat o → d.unsent ≡ []
+can_repeat None d e h = absurd h
+can_repeat (Some x) d e h = let same : x ≡ d = cc in ap (λ z. z.unsent) (sym same) ∙ h.nothing_older
+
+pub repeats_kept : (a : ℕ) (w : World) (r : List Entry) (s : SessionWorld) (device : ℕ) (gateway : AtGateway) (b : Bool) → (a == device) ≡ b → Owned w → OfDevice CanRepeat (w.devices device) → Coupled a w r s → Goes a (after_world w (DevRepeat device gateway)) r s
+repeats_kept a w r s device gateway true e own may c =
+    let to : a ≡ device = eqb_is a device e in
+    let at : w.devices device ≡ Some s.device = ap w.devices (sym to) ∙ c.by.side.device in
+    let frame : repeat_frame s.device ≡ repeat_at w device = sym (ap (frame_by repeat_frame) at) in
+    goes_one a (after_world w (DevRepeat device gateway)) r s (event.DevRepeat (gate gateway)) (can_repeat (w.devices device) s.device at may) tt
+    (subst (λ (o : Option Ldata). Coupled a (after_world w (DevRepeat device gateway)) r (speaks s (repeats s.device s.now) (gate gateway) o)) (sym frame)
+    (repeats_mine a w r s device gateway (repeat_at w device) e (λ f q. subst (λ z. IsFrameOf z f) (sym to) (repeat_owned w device f own q)) c))
+repeats_kept a w r s device gateway false e own may c = repeats_if a w r s device gateway (repeat_at w device) e (λ f q. repeat_owned w device f own q) c
