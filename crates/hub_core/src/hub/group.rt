@@ -1,0 +1,45 @@
+//! The group telegrams.
+
+use super::Hub;
+use crate::answers::GroupDid;
+use crate::telegrams::Stage;
+use line_model::{HubFault, Link, LogWhat};
+
+impl<L: Link> Hub<L> {
+    /// One step of the group telegram `k`, from 1, which is the least that isn't told: its request is put, or it is told sent or lost.
+    pub fn send_group(&mut self, k: u32) -> Result<GroupDid, HubFault> {
+        if let Some(fault) = self.tunnel.fault() {
+            return Err(fault);
+        }
+        match self.work.stage() {
+            Stage::Unput => self.put_group(),
+            Stage::UnderWay => Ok(GroupDid::Wait),
+            Stage::Confirmed => self.tell_group(LogWhat::Sent(k), GroupDid::Sent),
+            Stage::Lost => self.tell_group(LogWhat::Lost(k), GroupDid::Lost),
+        }
+    }
+
+    /// Puts the telegram, where it can be put.
+    fn put_group(&mut self) -> Result<GroupDid, HubFault> {
+        if !self.tunnel.has_place() {
+            return Ok(GroupDid::Wait);
+        }
+        match self.work.telegram() {
+            Some(cemi) => {
+                self.work.telegram_put();
+                self.tunnel.put(&cemi)?;
+                Ok(GroupDid::Put)
+            }
+            None => Ok(GroupDid::Wait),
+        }
+    }
+
+    /// Tells what came of it.
+    fn tell_group(&mut self, what: LogWhat, did: GroupDid) -> Result<GroupDid, HubFault> {
+        let at = self.tunnel.at();
+        match self.work.tell_telegram(at, what) {
+            Ok(()) => Ok(did),
+            Err(no_memory) => Err(self.out_of_memory(no_memory)),
+        }
+    }
+}

@@ -1,0 +1,102 @@
+//! The hub.
+
+mod finish;
+mod group;
+mod pump;
+mod turn;
+
+ghost use Rattle.std.specs.Prelude.{◌≤◌, ◌<◌, length};
+ghost use Rattle.std.specs.List.{AllByRecursion};
+ghost use Rattle.line_model.specs.LinkStory.{IsNewLink};
+ghost use Rattle.hub_core.specs.Requests.{IsTurnInRange};
+
+use crate::end::HubEnd;
+use crate::job::HubJob;
+use crate::work::Work;
+use knx_model::{List, NoMemory};
+use line_model::{GroupTurn, HubFault, Link};
+use std::alloc::Global;
+use tunnel_link::Tunnel;
+
+/// All jobs of a line and its group telegrams over one tunnel.
+///
+/// ```text
+///   worker:        turn(w), and pump where it answers Wait or Later
+///   group thread:  send_group(k), and pump where it answers Wait
+///   at the end:    finish, until it answers Over
+/// ```
+///
+/// After a fault each later call answers that fault, and nothing more is done on the link.
+#[derive(Drop)]
+pub struct Hub<L: Link> {
+    tunnel: Tunnel<L>,
+    work: Work,
+    /// A channel was open.
+    met: bool,
+    missed: u64,
+}
+
+impl<L: Link> Hub<L> {
+    /// A hub for these jobs and group telegrams, with 1 to 8 workers, over a link on which nothing was done. It takes all memory of the hub, and
+    /// does nothing on the link. For want of memory the link is handed back.
+    pub fn begin(
+        alloc: Global,
+        jobs: List<HubJob>,
+        groups: List<GroupTurn>,
+        workers: u8,
+        link: L,
+    ) -> Result<Hub<L>, (L, NoMemory)>
+        requires some_worker { 1 ≤ workers }
+        requires few_workers { workers ≤ 8 }
+        requires few_jobs { length jobs < 4294967296 }
+        requires few_groups { length groups < 4294967296 }
+        requires sendable { AllByRecursion IsTurnInRange groups }
+        requires new { IsNewLink (L.story link) }
+    {
+        match Work::new(alloc, jobs, groups, workers) {
+            Ok(work) => Ok(Hub {
+                tunnel: Tunnel::begin(link),
+                work,
+                met: false,
+                missed: 0,
+            }),
+            Err(no_memory) => Err((link, no_memory)),
+        }
+    }
+
+    /// One indication more was missed.
+    pub fn missed(&mut self) {
+        self.missed = self.missed.saturating_add(1);
+    }
+
+    /// Hands the link back, and what is told of the run.
+    pub fn close(self) -> HubEnd<L> {
+        let Hub {
+            tunnel,
+            work,
+            met: _,
+            missed,
+        } = self;
+        let dropped = tunnel.dropped();
+        let fault = tunnel.fault();
+        HubEnd {
+            link: tunnel.end(),
+            log: work.into_log(),
+            missed,
+            dropped,
+            fault,
+        }
+    }
+
+    /// There was no memory.
+    fn out_of_memory(&mut self, no_memory: NoMemory) -> HubFault {
+        self.fail(HubFault::NoMemory(no_memory))
+    }
+
+    /// The run ends so.
+    fn fail(&mut self, fault: HubFault) -> HubFault {
+        let kept = &fault;
+        self.tunnel.fail(*kept);
+        fault
+    }
+}

@@ -1,0 +1,28 @@
+//! A worker's turn.
+
+ghost use Rattle.std.specs.Prelude.{◌≤◌};
+
+use super::Hub;
+use crate::answers::Turned;
+use crate::work::Turn;
+use line_model::{HubFault, Link};
+
+impl<L: Link> Hub<L> {
+    /// One step of a worker, from 1: it takes a job, takes in what came for its job, sends what its job sends next, or tells its job's end.
+    pub fn turn(&mut self, worker: u8) -> Result<Turned, HubFault> {
+        if let Some(fault) = self.tunnel.fault() {
+            return Err(fault);
+        }
+        let now = self.tunnel.now();
+        let at = self.tunnel.at();
+        let has_place = self.tunnel.has_place();
+        match self.work.turn(worker, now, at, has_place) {
+            Ok(Turn::Did(turned)) => Ok(turned),
+            Ok(Turn::Puts(cemi)) => {
+                self.tunnel.put(&cemi)?;
+                Ok(Turned::Moved)
+            }
+            Err(no_memory) => Err(self.out_of_memory(no_memory)),
+        }
+    }
+}
