@@ -1,1 +1,3 @@
 pub mod Requests
+pub mod Telegrams
+pub mod Turns

@@ -59,7 +59,7 @@ impl Crew {
 
     /// The worker took a job.
     pub fn takes(&mut self, worker: u8, job: u32, device: IndAddr) {
-        self.by_device[device_part(device)] = worker;
+        self.by_device[device.device() as usize] = worker;
         self.set(
             place_of(worker),
             Some(Held {
@@ -116,7 +116,7 @@ impl Crew {
 
     /// The worker that holds a job of the device, from 1.
     pub fn of_device(&self, device: IndAddr) -> Option<u8> {
-        let worker = self.by_device[device_part(device)];
+        let worker = self.by_device[device.device() as usize];
         match self.held(worker) {
             Some(held) if held.device == device => Some(worker),
             _ => None,
@@ -127,9 +127,4 @@ impl Crew {
 /// The place of a worker, which is counted from 1.
 fn place_of(worker: u8) -> usize {
     (worker as usize).wrapping_sub(1)
-}
-
-/// The device part of an address.
-fn device_part(address: IndAddr) -> usize {
-    (address.raw & 0xFF) as usize
 }

@@ -1,7 +1,8 @@
 //! Frames of the link layer that a hub asks for, and the group telegrams in those that it hears (KNX standard 3/6/3, common EMI).
 
 ghost use Rattle.std.specs.Prelude.{◌≡◌, ◌≤◌, length, Some};
-ghost use Rattle.knx_model.specs.Apdu.{IsValueInRange, most_octets};
+ghost use Rattle.knx_model.specs.ApduReading.{service_in};
+ghost use Rattle.knx_model.specs.DeviceFrames.{group_service};
 ghost use Rattle.line_model.specs.ClientEnd.{IsCemi};
 ghost use Rattle.line_model.specs.ClientView.{indication_of};
 ghost use Rattle.line_model.specs.Told.{service_of};
@@ -68,17 +69,22 @@ pub fn indication_of(frame: &Ldata) -> Option<Indication>
     if frame.code != LdataCode::Ind || !frame.group {
         return None;
     }
-    let service = group_service(frame.tpdu.as_slice())?;
-    Some(Indication {
-        from: IndAddr { raw: frame.source },
-        group: GroupAddr {
-            raw: frame.destination,
-        },
-        service,
-    })
+    match group_service(frame.tpdu.as_slice()) {
+        Some(service) => Some(Indication {
+            from: IndAddr { raw: frame.source },
+            group: GroupAddr {
+                raw: frame.destination,
+            },
+            service,
+        }),
+        None => None,
+    }
 }
 
-fn group_service(tpdu: &[u8]) -> Option<GroupService> {
+/// The group service that octets are; None where they are another service or none.
+fn group_service(tpdu: &[u8]) -> Option<GroupService>
+    ensures { result ≡ group_service (service_in tpdu.now) }
+{
     match service_in(tpdu)? {
         Apdu::GroupRead => Some(GroupService::Read),
         Apdu::GroupWrite(value) => Some(GroupService::Write(value)),

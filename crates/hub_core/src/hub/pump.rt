@@ -76,14 +76,14 @@ impl<L: Link> Hub<L> {
 
     fn take(&mut self, what: What, now: u64) -> Result<Polled, HubFault> {
         match what {
-            What::Quiet => Ok(polled(false, false, None)),
-            What::Dropped => Ok(polled(true, false, None)),
-            What::Tunnel => Ok(polled(true, true, None)),
+            What::Quiet => Ok(what_came(false, false, None)),
+            What::Dropped => Ok(what_came(true, false, None)),
+            What::Tunnel => Ok(what_came(true, true, None)),
             What::Up { tunnel } => {
                 self.meets(tunnel)?;
-                Ok(polled(true, true, None))
+                Ok(what_came(true, true, None))
             }
-            What::Frame(frame) => Ok(polled(true, true, self.work.deliver(&frame, now))),
+            What::Frame(frame) => Ok(what_came(true, true, self.work.deliver(&frame, now))),
         }
     }
 
@@ -113,6 +113,6 @@ impl<L: Link> Hub<L> {
     }
 }
 
-fn polled(got: bool, moved: bool, heard: Option<Indication>) -> Polled {
+fn what_came(got: bool, moved: bool, heard: Option<Indication>) -> Polled {
     Polled { got, moved, heard }
 }

@@ -3,6 +3,12 @@
 mod deliver;
 mod turn;
 
+ghost use Rattle.std.specs.Prelude.{◌≡◌, ◌<◌, length, map, IfOk, IfSome};
+ghost use Rattle.hub_core.specs.declared.job.HubJob.{HubJob as Job};
+ghost use Rattle.std.specs.List.{AllByRecursion};
+ghost use Rattle.line_model.specs.ClientEnd.{IsCemi};
+ghost use Rattle.hub_core.specs.Requests.{IsTurnInRange};
+
 pub use turn::Turn;
 
 use crate::closing::Closing;
@@ -47,19 +53,22 @@ impl Work {
         jobs: List<HubJob>,
         groups: List<GroupTurn>,
         workers: u8,
-    ) -> Result<Work, NoMemory> {
+    ) -> Result<Work, NoMemory>
+        requires few_jobs { length jobs < 4294967296 }
+        requires few_groups { length groups < 4294967296 }
+        requires sendable { AllByRecursion IsTurnInRange groups }
+    {
         let room = jobs.len() + jobs.len() + groups.len();
         let journal = Journal::with_room(alloc, room)?;
         let crew = Crew::new(alloc, workers)?;
         let unfinished = jobs.len() as u32;
-        let mut devices = Vec::with_capacity(alloc, jobs.len())?;
+        let devices = devices_of(alloc, jobs.as_slice())?;
+        let reservation = Jobs::new(alloc, &devices)?;
         let mut downloaders = Vec::with_capacity(alloc, jobs.len())?;
         for job in jobs.into_vec() {
             let HubJob { device, plan } = job;
-            devices.push(device)?;
             downloaders.push(Downloader::new(device, plan))?;
         }
-        let reservation = Jobs::new(alloc, &devices)?;
         Ok(Work {
             downloaders,
             reservation,
@@ -104,11 +113,13 @@ impl Work {
 
     /// How far the next group telegram is.
     pub fn stage(&self) -> Stage {
-        self.telegrams.stage
+        self.telegrams.stage()
     }
 
     /// The octets of the next group telegram's request, where it may be put.
-    pub fn telegram(&self) -> Option<Datagram> {
+    pub fn telegram(&self) -> Option<Datagram>
+        ensures { IfSome result IsCemi }
+    {
         self.telegrams.request(self.unfinished > 0)
     }
 
@@ -175,4 +186,12 @@ fn does_something(did: &Did, has_place: bool) -> bool {
 /// The place of a job, which is counted from 1.
 fn index_of(job: u32) -> usize {
     (job as usize).wrapping_sub(1)
+}
+
+/// The devices of the jobs.
+fn devices_of(alloc: Global, jobs: &[HubJob]) -> Result<Vec<IndAddr>, NoMemory>
+    ensures { IfOk result (λ devices. devices.items ≡ map (λ (j : Job). j.device) jobs.now) }
+{
+    let devices = jobs.iter().map(|job| job.device).collect(alloc)?;
+    Ok(devices)
 }

@@ -1,6 +1,7 @@
 //! A worker's turn.
 
-ghost use Rattle.std.specs.Prelude.{◌≤◌, length};
+ghost use Rattle.std.specs.Prelude.{◌≤◌, length, IfOk};
+ghost use Rattle.hub_core.specs.Turns.{PutsCemi};
 
 use super::{Sender, Work, index_of};
 use crate::answers::Turned;
@@ -22,7 +23,9 @@ pub enum Turn {
 
 impl Work {
     /// A worker's turn at a time, when the link tells of so many events and the place in flight is free or not.
-    pub fn turn(&mut self, worker: u8, now: u64, at: u64, has_place: bool) -> Result<Turn, NoMemory> {
+    pub fn turn(&mut self, worker: u8, now: u64, at: u64, has_place: bool) -> Result<Turn, NoMemory>
+        ensures cemi { IfOk result PutsCemi }
+    {
         match self.crew.held(worker) {
             None => self.takes_job(worker, at),
             Some(_) if self.crew.takes_in(worker) => Ok(Turn::Did(Turned::Moved)),
@@ -31,7 +34,9 @@ impl Work {
     }
 
     /// The worker takes the first job that is free.
-    fn takes_job(&mut self, worker: u8, at: u64) -> Result<Turn, NoMemory> {
+    fn takes_job(&mut self, worker: u8, at: u64) -> Result<Turn, NoMemory>
+        ensures cemi { IfOk result PutsCemi }
+    {
         let turned = match self.reservation.take(worker) {
             Taken::Job(job) => {
                 self.journal.add(at, worker, LogWhat::Took(job))?;
@@ -47,12 +52,14 @@ impl Work {
     }
 
     /// It goes on with its job.
-    fn works(&mut self, worker: u8, held: Held, now: u64, at: u64, has_place: bool) -> Result<Turn, NoMemory> {
+    fn works(&mut self, worker: u8, held: Held, now: u64, at: u64, has_place: bool) -> Result<Turn, NoMemory>
+        ensures cemi { IfOk result PutsCemi }
+    {
         let Some(downloader) = self.downloaders.get(index_of(held.job)) else {
             return Ok(Turn::Did(Turned::Wait));
         };
         match downloader.next(now) {
-            Did::Send(tpdu) if has_place => Ok(self.puts(worker, held, tpdu, now)),
+            Did::Send(tpdu) if has_place && !tpdu.is_empty() => Ok(self.puts(worker, held, tpdu, now)),
             Did::Send(_) | Did::Wait => Ok(Turn::Did(Turned::Wait)),
             Did::Done => {
                 self.tell_end(worker, held, at, LogWhat::Done(held.job))?;
@@ -76,7 +83,10 @@ impl Work {
     }
 
     /// It puts what its job sends next.
-    fn puts(&mut self, worker: u8, held: Held, tpdu: ApduOctets, now: u64) -> Turn {
+    fn puts(&mut self, worker: u8, held: Held, tpdu: ApduOctets, now: u64) -> Turn
+        requires { 1 ≤ length tpdu }
+        ensures cemi { PutsCemi result }
+    {
         if let Some(downloader) = self.downloaders.get_mut(index_of(held.job)) {
             let _ = downloader.step(now);
         }
