@@ -1,6 +1,6 @@
 //! What a poll brought, and what became of the channel.
 
-use knx_model::{IndAddr, Ldata};
+use knx_model::{Datagram, IndAddr, Ldata};
 
 /// What became of the channel.
 #[derive(Clone, Copy, Debug, Drop, PartialEq, Eq)]
@@ -21,6 +21,14 @@ pub struct Came {
     pub loss: Loss,
 }
 
+/// What a poll brought, and the datagram that is to be sent at once.
+#[derive(Drop)]
+pub struct Answer {
+    pub what: What,
+    pub loss: Loss,
+    pub sends: Option<Datagram>,
+}
+
 /// What was got in a poll.
 #[derive(Drop)]
 pub enum What {
@@ -34,4 +42,24 @@ pub enum What {
     Up { tunnel: IndAddr },
     /// The gateway's next request, with this frame of the link layer.
     Frame(Ldata),
+}
+
+impl Answer {
+    /// This was got, and no more is to be done.
+    pub fn only(what: What) -> Answer {
+        Answer {
+            what,
+            loss: Loss::Stays,
+            sends: None,
+        }
+    }
+
+    /// This was got, and a datagram is to be sent.
+    pub fn with(what: What, datagram: Datagram) -> Answer {
+        Answer {
+            what,
+            loss: Loss::Stays,
+            sends: Some(datagram),
+        }
+    }
 }

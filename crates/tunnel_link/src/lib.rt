@@ -7,13 +7,15 @@ mod acted;
 mod came;
 mod flight;
 mod frames;
-mod polling;
+mod known;
+mod sending;
 mod tries;
 mod tunnel;
 
 pub use acted::Acted;
-pub use came::{Came, Loss, What};
+pub use came::{Answer, Came, Loss, What};
 pub use flight::Flight;
+pub use known::Known;
 pub use line_model::{HubFault, Link, LinkFault, Polled, Try};
 pub use tries::Tries;
 pub use tunnel::Tunnel;

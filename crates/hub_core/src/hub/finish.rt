@@ -1,5 +1,9 @@
 //! The closing.
 
+ghost use Rattle.std.specs.Prelude.{◌≡◌, IfErr, Some};
+ghost use Rattle.tunnel_link.specs.Goes.{GoesOn};
+ghost use Rattle.hub_core.specs.Seen.{StaysEnded};
+
 use super::Hub;
 use crate::answers::Finished;
 use crate::closing::Closing;
@@ -7,7 +11,11 @@ use line_model::{HubFault, Link};
 
 impl<L: Link> Hub<L> {
     /// One step of the closing: it listens, then asks to end the channel, then waits for the answer. No job and no group telegram is unfinished.
-    pub fn finish(&mut self) -> Result<Finished, HubFault> {
+    pub fn finish(&mut self) -> Result<Finished, HubFault>
+        ensures grows { GoesOn (L.story self.old.link) (L.story self.new.link) }
+        ensures ended { StaysEnded self.old.fault result self.new.fault (self.new.link ≡ self.old.link) }
+        ensures fault { IfErr result (λ fault. self.new.fault ≡ Some fault) }
+    {
         if let Some(fault) = self.tunnel.fault() {
             return Err(fault);
         }
@@ -15,19 +23,39 @@ impl<L: Link> Hub<L> {
             return Ok(Finished::Over);
         }
         self.act()?;
+        self.goes_on()
+    }
+
+    /// Asks to end the channel once the listening is over, and else makes one poll.
+    fn goes_on(&mut self) -> Result<Finished, HubFault>
+        ensures grows { GoesOn (L.story self.old.link) (L.story self.new.link) }
+        ensures fault { IfErr result (λ fault. self.new.fault ≡ Some fault) }
+    {
         let now = self.tunnel.now();
         if self.closing().asks(now) {
-            if self.tunnel.leave()? {
-                self.work.asked(now);
-                return Ok(Finished::Going);
-            }
-            return Ok(Finished::Over);
+            self.leave(now)
+        } else {
+            self.listen()
         }
-        self.listen()
+    }
+
+    /// Asks to end the channel.
+    fn leave(&mut self, now: u64) -> Result<Finished, HubFault>
+        ensures grows { GoesOn (L.story self.old.link) (L.story self.new.link) }
+        ensures fault { IfErr result (λ fault. self.new.fault ≡ Some fault) }
+    {
+        if self.tunnel.leave()? {
+            self.work.asked(now);
+            return Ok(Finished::Going);
+        }
+        Ok(Finished::Over)
     }
 
     /// Makes one poll.
-    fn listen(&mut self) -> Result<Finished, HubFault> {
+    fn listen(&mut self) -> Result<Finished, HubFault>
+        ensures grows { GoesOn (L.story self.old.link) (L.story self.new.link) }
+        ensures fault { IfErr result (λ fault. self.new.fault ≡ Some fault) }
+    {
         let polled = self.poll()?;
         if polled.got {
             let now = self.tunnel.now();
@@ -41,7 +69,9 @@ impl<L: Link> Hub<L> {
     }
 
     /// How far the closing is, which begins with the first call.
-    fn closing(&mut self) -> Closing {
+    fn closing(&mut self) -> Closing
+        ensures link { self.new.link ≡ self.old.link }
+    {
         match self.work.closing {
             Some(closing) => closing,
             None => {
@@ -53,7 +83,9 @@ impl<L: Link> Hub<L> {
     }
 
     /// Whether the closing is over.
-    fn is_over(&mut self) -> bool {
+    fn is_over(&mut self) -> bool
+        ensures link { self.new.link ≡ self.old.link }
+    {
         let now = self.tunnel.now();
         let is_open = self.tunnel.is_open();
         self.closing().is_over(is_open, now)

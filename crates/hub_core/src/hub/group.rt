@@ -1,5 +1,9 @@
 //! The group telegrams.
 
+ghost use Rattle.std.specs.Prelude.{◌≡◌, IfErr, Some};
+ghost use Rattle.tunnel_link.specs.Goes.{GoesOn};
+ghost use Rattle.hub_core.specs.Seen.{StaysEnded};
+
 use super::Hub;
 use crate::answers::GroupDid;
 use crate::telegrams::Stage;
@@ -7,7 +11,11 @@ use line_model::{HubFault, Link, LogWhat};
 
 impl<L: Link> Hub<L> {
     /// One step of the group telegram `k`, from 1, which is the least that isn't told: its request is put, or it is told sent or lost.
-    pub fn send_group(&mut self, k: u32) -> Result<GroupDid, HubFault> {
+    pub fn send_group(&mut self, k: u32) -> Result<GroupDid, HubFault>
+        ensures grows { GoesOn (L.story self.old.link) (L.story self.new.link) }
+        ensures ended { StaysEnded self.old.fault result self.new.fault (self.new.link ≡ self.old.link) }
+        ensures fault { IfErr result (λ fault. self.new.fault ≡ Some fault) }
+    {
         if let Some(fault) = self.tunnel.fault() {
             return Err(fault);
         }
@@ -20,7 +28,10 @@ impl<L: Link> Hub<L> {
     }
 
     /// Puts the telegram, where it can be put.
-    fn put_group(&mut self) -> Result<GroupDid, HubFault> {
+    fn put_group(&mut self) -> Result<GroupDid, HubFault>
+        ensures grows { GoesOn (L.story self.old.link) (L.story self.new.link) }
+        ensures fault { IfErr result (λ fault. self.new.fault ≡ Some fault) }
+    {
         if !self.tunnel.has_place() {
             return Ok(GroupDid::Wait);
         }
@@ -35,7 +46,10 @@ impl<L: Link> Hub<L> {
     }
 
     /// Tells what came of it.
-    fn tell_group(&mut self, what: LogWhat, did: GroupDid) -> Result<GroupDid, HubFault> {
+    fn tell_group(&mut self, what: LogWhat, did: GroupDid) -> Result<GroupDid, HubFault>
+        ensures grows { GoesOn (L.story self.old.link) (L.story self.new.link) }
+        ensures fault { IfErr result (λ fault. self.new.fault ≡ Some fault) }
+    {
         let at = self.tunnel.at();
         match self.work.tell_telegram(at, what) {
             Ok(()) => Ok(did),

@@ -5,7 +5,8 @@ mod group;
 mod pump;
 mod turn;
 
-ghost use Rattle.std.specs.Prelude.{◌≤◌, ◌<◌, length};
+ghost use Rattle.std.specs.Prelude.{◌≡◌, ◌≤◌, ◌<◌, ◌+◌, ◌-◌, ◌^◌, min, length, IfOk, IfErr, Some, None};
+ghost use Rattle.tunnel_link.specs.Goes.{Keeps};
 ghost use Rattle.std.specs.List.{AllByRecursion};
 ghost use Rattle.line_model.specs.LinkStory.{IsNewLink};
 ghost use Rattle.hub_core.specs.Requests.{IsTurnInRange};
@@ -16,6 +17,7 @@ use crate::work::Work;
 use knx_model::{List, NoMemory};
 use line_model::{GroupTurn, HubFault, Link};
 use std::alloc::Global;
+use std::marker::Model;
 use tunnel_link::Tunnel;
 
 /// All jobs of a line and its group telegrams over one tunnel.
@@ -36,6 +38,14 @@ pub struct Hub<L: Link> {
     missed: u64,
 }
 
+impl<L: Link> Model for Hub<L> {
+    ghost use Rattle.hub_core.specs.Seen.{Seen};
+
+    ghost Value = { Seen L };
+
+    ghost view = { λ h. record { link = h.tunnel.link; fault = h.tunnel.known.fault; missed = h.missed } };
+}
+
 impl<L: Link> Hub<L> {
     /// A hub for these jobs and group telegrams, with 1 to 8 workers, over a link on which nothing was done. It takes all memory of the hub, and
     /// does nothing on the link. For want of memory the link is handed back.
@@ -52,6 +62,10 @@ impl<L: Link> Hub<L> {
         requires few_groups { length groups < 4294967296 }
         requires sendable { AllByRecursion IsTurnInRange groups }
         requires new { IsNewLink (L.story link) }
+        ensures link { IfOk result (λ hub. hub.link ≡ link) }
+        ensures fault { IfOk result (λ hub. hub.fault ≡ None) }
+        ensures missed { IfOk result (λ hub. hub.missed ≡ 0) }
+        ensures handed_back { IfErr result (λ e. e.0 ≡ link) }
     {
         match Work::new(alloc, jobs, groups, workers) {
             Ok(work) => Ok(Hub {
@@ -65,12 +79,20 @@ impl<L: Link> Hub<L> {
     }
 
     /// One indication more was missed.
-    pub fn missed(&mut self) {
+    pub fn missed(&mut self)
+        ensures link { self.new.link ≡ self.old.link }
+        ensures fault { self.new.fault ≡ self.old.fault }
+        ensures missed { self.new.missed ≡ min (self.old.missed + 1) (2 ^ 64 - 1) }
+    {
         self.missed = self.missed.saturating_add(1);
     }
 
     /// Hands the link back, and what is told of the run.
-    pub fn close(self) -> HubEnd<L> {
+    pub fn close(self) -> HubEnd<L>
+        ensures link { result.link ≡ self.link }
+        ensures fault { result.fault ≡ self.fault }
+        ensures missed { result.missed ≡ self.missed }
+    {
         let Hub {
             tunnel,
             work,
@@ -88,15 +110,26 @@ impl<L: Link> Hub<L> {
         }
     }
 
+    /// What is kept of what its link tells.
+    pub fn keeps(&self)
+        ensures { Keeps (L.story self.now.link) }
+    {
+        self.tunnel.keeps();
+    }
+
     /// There was no memory.
-    fn out_of_memory(&mut self, no_memory: NoMemory) -> HubFault {
+    fn out_of_memory(&mut self, no_memory: NoMemory) -> HubFault
+        ensures link { self.new.link ≡ self.old.link }
+        ensures fault { self.new.fault ≡ Some result }
+    {
         self.fail(HubFault::NoMemory(no_memory))
     }
 
     /// The run ends so.
-    fn fail(&mut self, fault: HubFault) -> HubFault {
-        let kept = &fault;
-        self.tunnel.fail(*kept);
-        fault
+    fn fail(&mut self, fault: HubFault) -> HubFault
+        ensures link { self.new.link ≡ self.old.link }
+        ensures fault { self.new.fault ≡ Some result }
+    {
+        self.tunnel.fail(fault)
     }
 }

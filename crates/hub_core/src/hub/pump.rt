@@ -1,5 +1,9 @@
 //! One poll of the link, with what is due before it.
 
+ghost use Rattle.std.specs.Prelude.{◌≡◌, IfErr, Some};
+ghost use Rattle.tunnel_link.specs.Goes.{GoesOn};
+ghost use Rattle.hub_core.specs.Seen.{StaysEnded};
+
 use super::Hub;
 use crate::answers::Pumped;
 use line_model::{HubFault, Indication, Link};
@@ -21,7 +25,11 @@ pub(super) struct Polled {
 
 impl<L: Link> Hub<L> {
     /// Does what is due, asks for a channel where there is none and the closing hasn't begun, and makes one poll.
-    pub fn pump(&mut self) -> Result<Pumped, HubFault> {
+    pub fn pump(&mut self) -> Result<Pumped, HubFault>
+        ensures grows { GoesOn (L.story self.old.link) (L.story self.new.link) }
+        ensures ended { StaysEnded self.old.fault result self.new.fault (self.new.link ≡ self.old.link) }
+        ensures fault { IfErr result (λ fault. self.new.fault ≡ Some fault) }
+    {
         if let Some(fault) = self.tunnel.fault() {
             return Err(fault);
         }
@@ -36,14 +44,20 @@ impl<L: Link> Hub<L> {
     }
 
     /// Does what is due by the time. Tells whether it did something.
-    pub(super) fn act(&mut self) -> Result<bool, HubFault> {
+    pub(super) fn act(&mut self) -> Result<bool, HubFault>
+        ensures grows { GoesOn (L.story self.old.link) (L.story self.new.link) }
+        ensures fault { IfErr result (λ fault. self.new.fault ≡ Some fault) }
+    {
         let acted = self.tunnel.act()?;
         self.after_loss(acted.loss);
         Ok(acted.sent || acted.loss != Loss::Stays)
     }
 
     /// Asks for a channel. Tells whether it did.
-    fn seek(&mut self) -> Result<bool, HubFault> {
+    fn seek(&mut self) -> Result<bool, HubFault>
+        ensures grows { GoesOn (L.story self.old.link) (L.story self.new.link) }
+        ensures fault { IfErr result (λ fault. self.new.fault ≡ Some fault) }
+    {
         match self.work.closing {
             Some(_) => Ok(false),
             None => self.tunnel.seek(),
@@ -51,7 +65,10 @@ impl<L: Link> Hub<L> {
     }
 
     /// Makes one poll.
-    pub(super) fn poll(&mut self) -> Result<Polled, HubFault> {
+    pub(super) fn poll(&mut self) -> Result<Polled, HubFault>
+        ensures grows { GoesOn (L.story self.old.link) (L.story self.new.link) }
+        ensures fault { IfErr result (λ fault. self.new.fault ≡ Some fault) }
+    {
         let now = self.tunnel.now();
         let has_place = self.tunnel.has_place();
         let wait_ms = self.work.wait_ms(now, has_place, self.tunnel.deadline());
@@ -60,7 +77,10 @@ impl<L: Link> Hub<L> {
     }
 
     /// Takes in what a poll brought.
-    fn take_in(&mut self, came: Came) -> Result<Polled, HubFault> {
+    fn take_in(&mut self, came: Came) -> Result<Polled, HubFault>
+        ensures grows { GoesOn (L.story self.old.link) (L.story self.new.link) }
+        ensures fault { IfErr result (λ fault. self.new.fault ≡ Some fault) }
+    {
         let Came { what, loss } = came;
         let now = self.tunnel.now();
         let polled = self.take(what, now)?;
@@ -74,7 +94,10 @@ impl<L: Link> Hub<L> {
         })
     }
 
-    fn take(&mut self, what: What, now: u64) -> Result<Polled, HubFault> {
+    fn take(&mut self, what: What, now: u64) -> Result<Polled, HubFault>
+        ensures grows { GoesOn (L.story self.old.link) (L.story self.new.link) }
+        ensures fault { IfErr result (λ fault. self.new.fault ≡ Some fault) }
+    {
         match what {
             What::Quiet => Ok(what_came(false, false, None)),
             What::Dropped => Ok(what_came(true, false, None)),
@@ -88,7 +111,10 @@ impl<L: Link> Hub<L> {
     }
 
     /// A channel came up. At the first one each job's device is to be on the tunnel's line.
-    fn meets(&mut self, tunnel: IndAddr) -> Result<(), HubFault> {
+    fn meets(&mut self, tunnel: IndAddr) -> Result<(), HubFault>
+        ensures grows { GoesOn (L.story self.old.link) (L.story self.new.link) }
+        ensures fault { IfErr result (λ fault. self.new.fault ≡ Some fault) }
+    {
         if self.met {
             return Ok(());
         }
@@ -100,7 +126,9 @@ impl<L: Link> Hub<L> {
     }
 
     /// After the channel was lost, or not.
-    fn after_loss(&mut self, loss: Loss) {
+    fn after_loss(&mut self, loss: Loss)
+        ensures link { self.new.link ≡ self.old.link }
+    {
         let now = self.tunnel.now();
         match loss {
             Loss::Stays => {}
