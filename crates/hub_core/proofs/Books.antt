@@ -7,7 +7,6 @@ use Rattle.line_model.specs.declared.group.GroupTurn.{GroupTurn}
 use Rattle.line_model.specs.declared.log.LogEntry.{LogEntry}
 use Rattle.line_model.specs.declared.log.LogWhat.{LogWhat}
 use Rattle.line_model.specs.declared.log.LogWhat.TheVariants.{Took, Done, Failed, Refused, Sent, Lost}
-use Rattle.knx_model.specs.declared.log.Sign.{Sign}
 use Rattle.line_model.specs.Log as logs
 use Rattle.line_model.specs.Log.{Job, IsLog, IsEntry, MayFollow, EndsHeld, IsNextTurn, state_of, latest}
 use Rattle.device_reservation.specs.declared.stage.Stage.TheVariants.{Untaken, Held, Over}
@@ -15,7 +14,10 @@ use Rattle.device_reservation.specs.Reservation.{Reservation, IsFirstFree, IsHel
 use Rattle.device_reservation.specs.Reserved.{IsReserved, MayEnter, after_entry, reservation_after, device_of_job}
 use Rattle.device_reservation.proofs.Logged.{there_in_log, waits_in_log, held_by_log}
 use Rattle.device_reservation.proofs.Stages.{stage_there, stage_elsewhere}
-use Rattle.hub_core.specs.Books.{AreJobsOf, IsWritten, IsLive}
+use Rattle.std.proofs.lemmas.List.{map-set}
+use Rattle.hub_core.specs.declared.crew.Held.{Held as Holding}
+use Rattle.hub_core.specs.Turns.{EndsJob, TellsTurn}
+use Rattle.hub_core.specs.Books.{AreJobsOf, IsWritten, IsLive, job_in, jobs_held, held_at}
 
 abbrev entry_of : ℕ → ℕ → LogWhat → LogEntry
 entry_of at worker what = record { at = at; worker = worker; what = what }
@@ -99,34 +101,37 @@ took_live r held at worker job l live first from = record {
 
 -- ---- a job has ended
 
--- an entry that ends a job
-pub data Ends (job : ℕ) : LogWhat → Type 0 where
-  ByDone : Ends job (Done job)
-  ByFailed : (signs : List Sign) → Ends job (Failed job signs)
-  ByRefused : (op : ℕ) (got expected : List ℕ) → Ends job (Refused job op got expected)
+ends_held : (jobs : List Job) (turns : List GroupTurn) (worker job : ℕ) (what : LogWhat) (l : List LogEntry) → EndsJob job what → (since : ℕ) × (state_of job l ≡ logs.Held worker since) → MayFollow jobs turns worker l what
+ends_held jobs turns worker job (Took k) l ends h = absurd ends
+ends_held jobs turns worker job (Done k) l ends h = subst (λ k. EndsHeld worker (state_of k l)) (sym ends) (subst (EndsHeld worker) (sym h.1) refl)
+ends_held jobs turns worker job (Failed k signs) l ends h = subst (λ k. EndsHeld worker (state_of k l)) (sym ends) (subst (EndsHeld worker) (sym h.1) refl)
+ends_held jobs turns worker job (Refused k op got expected) l ends h = subst (λ k. EndsHeld worker (state_of k l)) (sym ends) (subst (EndsHeld worker) (sym h.1) refl)
+ends_held jobs turns worker job (Sent turn) l ends h = absurd ends
+ends_held jobs turns worker job (Lost turn) l ends h = absurd ends
 
-ends_held : (jobs : List Job) (turns : List GroupTurn) (worker job : ℕ) (what : LogWhat) (l : List LogEntry) → Ends job what → (since : ℕ) × (state_of job l ≡ logs.Held worker since) → MayFollow jobs turns worker l what
-ends_held jobs turns worker job what l ByDone h = subst (EndsHeld worker) (sym h.1) refl
-ends_held jobs turns worker job what l (ByFailed signs) h = subst (EndsHeld worker) (sym h.1) refl
-ends_held jobs turns worker job what l (ByRefused op got expected) h = subst (EndsHeld worker) (sym h.1) refl
+ends_enter : (job : ℕ) (what : LogWhat) (r : Reservation) → EndsJob job what → IsHeld r job → MayEnter what r
+ends_enter job (Took k) r ends h = absurd ends
+ends_enter job (Done k) r ends h = subst (IsHeld r) (sym ends) h
+ends_enter job (Failed k signs) r ends h = subst (IsHeld r) (sym ends) h
+ends_enter job (Refused k op got expected) r ends h = subst (IsHeld r) (sym ends) h
+ends_enter job (Sent turn) r ends h = absurd ends
+ends_enter job (Lost turn) r ends h = absurd ends
 
-ends_enter : (job : ℕ) (what : LogWhat) (r : Reservation) → Ends job what → IsHeld r job → MayEnter what r
-ends_enter job what r ByDone h = h
-ends_enter job what r (ByFailed signs) h = h
-ends_enter job what r (ByRefused op got expected) h = h
+ends_after : (worker job : ℕ) (what : LogWhat) (r : Reservation) → EndsJob job what → after_entry worker what r ≡ job_ended job r
+ends_after worker job (Took k) r ends = absurd ends
+ends_after worker job (Done k) r ends = ap (λ k. job_ended k r) ends
+ends_after worker job (Failed k signs) r ends = ap (λ k. job_ended k r) ends
+ends_after worker job (Refused k op got expected) r ends = ap (λ k. job_ended k r) ends
+ends_after worker job (Sent turn) r ends = absurd ends
+ends_after worker job (Lost turn) r ends = absurd ends
 
-ends_after : (worker job : ℕ) (what : LogWhat) (r : Reservation) → Ends job what → after_entry worker what r ≡ job_ended job r
-ends_after worker job what r ByDone = refl
-ends_after worker job what r (ByFailed signs) = refl
-ends_after worker job what r (ByRefused op got expected) = refl
-
-pub ended_written : (r : Reservation) (held : List (Option ℕ)) (turns : List GroupTurn) (at worker job : ℕ) (what : LogWhat) (l : List LogEntry) → Ends job what → IsWritten r.devices turns at l → IsLive r held l
+pub ended_written : (r : Reservation) (held : List (Option ℕ)) (turns : List GroupTurn) (at worker job : ℕ) (what : LogWhat) (l : List LogEntry) → EndsJob job what → IsWritten r.devices turns at l → IsLive r held l
     → stage_of r job ≡ Some (Held worker) → IsWritten r.devices turns at (entry_of at worker what ∷ l)
 ended_written r held turns at worker job what l ends h live is_held = writes r turns at worker what l h
     (λ jobs of. ends_held jobs turns worker job what l ends (held_by_log jobs l job worker (h.reserved jobs of) (by_log (λ s. stage_of s job ≡ Some (Held worker)) r held l live is_held jobs of)))
     (λ jobs of. ends_enter job what (reservation_after jobs l) ends (worker, by_log (λ s. stage_of s job ≡ Some (Held worker)) r held l live is_held jobs of))
 
-pub ended_live : (r : Reservation) (held : List (Option ℕ)) (at worker job : ℕ) (what : LogWhat) (l : List LogEntry) → Ends job what → IsLive r held l → 1 ≤ worker → stage_of r job ≡ Some (Held worker)
+pub ended_live : (r : Reservation) (held : List (Option ℕ)) (at worker job : ℕ) (what : LogWhat) (l : List LogEntry) → EndsJob job what → IsLive r held l → 1 ≤ worker → stage_of r job ≡ Some (Held worker)
     → IsLive (job_ended job r) (set held (worker - 1) None) (entry_of at worker what ∷ l)
 ended_live r held at worker job what l ends live from is_held = record {
   reservation_is = λ jobs of. ends_after worker job what (reservation_after jobs l) ends ∙ ap (job_ended job) (live.reservation_is jobs of);
@@ -145,28 +150,62 @@ ended_live r held at worker job what l ends live from is_held = record {
 
 -- ---- a group telegram is told
 
-pub data Tells (turn : ℕ) : LogWhat → Type 0 where
-  BySent : Tells turn (Sent turn)
-  ByLost : Tells turn (Lost turn)
+tells_follow : (jobs : List Job) (turns : List GroupTurn) (turn : ℕ) (what : LogWhat) (l : List LogEntry) → TellsTurn turn what → IsNextTurn turns l turn → MayFollow jobs turns 0 l what
+tells_follow jobs turns turn (Took k) l tells next = absurd tells
+tells_follow jobs turns turn (Done k) l tells next = absurd tells
+tells_follow jobs turns turn (Failed k signs) l tells next = absurd tells
+tells_follow jobs turns turn (Refused k op got expected) l tells next = absurd tells
+tells_follow jobs turns turn (Sent k) l tells next = (subst (IsNextTurn turns l) (sym tells) next, refl)
+tells_follow jobs turns turn (Lost k) l tells next = (subst (IsNextTurn turns l) (sym tells) next, refl)
 
-tells_follow : (jobs : List Job) (turns : List GroupTurn) (turn : ℕ) (what : LogWhat) (l : List LogEntry) → Tells turn what → IsNextTurn turns l turn → MayFollow jobs turns 0 l what
-tells_follow jobs turns turn what l BySent next = (next, refl)
-tells_follow jobs turns turn what l ByLost next = (next, refl)
+tells_enter : (turn : ℕ) (what : LogWhat) (r : Reservation) → TellsTurn turn what → MayEnter what r
+tells_enter turn (Took k) r tells = absurd tells
+tells_enter turn (Done k) r tells = absurd tells
+tells_enter turn (Failed k signs) r tells = absurd tells
+tells_enter turn (Refused k op got expected) r tells = absurd tells
+tells_enter turn (Sent k) r tells = tt
+tells_enter turn (Lost k) r tells = tt
 
-tells_enter : (turn : ℕ) (what : LogWhat) (r : Reservation) → Tells turn what → MayEnter what r
-tells_enter turn what r BySent = tt
-tells_enter turn what r ByLost = tt
+tells_after : (turn : ℕ) (what : LogWhat) (r : Reservation) → TellsTurn turn what → after_entry 0 what r ≡ r
+tells_after turn (Took k) r tells = absurd tells
+tells_after turn (Done k) r tells = absurd tells
+tells_after turn (Failed k signs) r tells = absurd tells
+tells_after turn (Refused k op got expected) r tells = absurd tells
+tells_after turn (Sent k) r tells = refl
+tells_after turn (Lost k) r tells = refl
 
-tells_after : (turn : ℕ) (what : LogWhat) (r : Reservation) → Tells turn what → after_entry 0 what r ≡ r
-tells_after turn what r BySent = refl
-tells_after turn what r ByLost = refl
-
-pub told_written : (r : Reservation) (turns : List GroupTurn) (at turn : ℕ) (what : LogWhat) (l : List LogEntry) → Tells turn what → IsWritten r.devices turns at l → IsNextTurn turns l turn
+pub told_written : (r : Reservation) (turns : List GroupTurn) (at turn : ℕ) (what : LogWhat) (l : List LogEntry) → TellsTurn turn what → IsWritten r.devices turns at l → IsNextTurn turns l turn
     → IsWritten r.devices turns at (entry_of at 0 what ∷ l)
 told_written r turns at turn what l tells h next = writes r turns at 0 what l h (λ jobs of. tells_follow jobs turns turn what l tells next) (λ jobs of. tells_enter turn what (reservation_after jobs l) tells)
 
-pub told_live : (r : Reservation) (held : List (Option ℕ)) (at turn : ℕ) (what : LogWhat) (l : List LogEntry) → Tells turn what → IsLive r held l → IsLive r held (entry_of at 0 what ∷ l)
+pub told_live : (r : Reservation) (held : List (Option ℕ)) (at turn : ℕ) (what : LogWhat) (l : List LogEntry) → TellsTurn turn what → IsLive r held l → IsLive r held (entry_of at 0 what ∷ l)
 told_live r held at turn what l tells live = record {
   reservation_is = λ jobs of. tells_after turn what (reservation_after jobs l) tells ∙ live.reservation_is jobs of;
   holds = live.holds;
 }
+
+-- ---- the workers
+
+-- a worker's counts change, and its job stays
+pub same_jobs : (held : List (Option Holding)) (place : ℕ) (old new : Holding) → Some old ≡ held_at held place → new.job ≡ old.job → jobs_held (set held place (Some new)) ≡ jobs_held held
+same_jobs [] place old new e same = absurd (cc)
+same_jobs (h ∷ held) zero old new e same =
+    let is : h ≡ Some old = sym e in
+    ap (λ (j : Option ℕ). j ∷ jobs_held held) (ap Some same ∙ sym (ap job_in is))
+same_jobs (h ∷ held) (suc place) old new e same = ap (λ (l : List (Option ℕ)). job_in h ∷ l) (same_jobs held place old new e same)
+
+-- the worker that holds a job holds it in the reservation
+pub holds_it : (r : Reservation) (held : List (Option Holding)) (l : List LogEntry) (worker : ℕ) (h : Holding) → IsLive r (jobs_held held) l → 1 ≤ worker → Some h ≡ held_at held (worker - 1) → stage_of r h.job ≡ Some (Held worker)
+holds_it r held l worker h live from e = live.holds (worker - 1) h.job (there held (worker - 1) e) ∙ ap (λ w. Some (Held w)) (let n : suc (worker - 1) ≡ worker = omega arith in n)
+  where
+    there : (held : List (Option Holding)) (place : ℕ) → Some h ≡ held_at held place → slice_get (jobs_held held) place ≡ Some (Some h.job)
+    there [] place e = absurd (cc)
+    there (x ∷ xs) zero e = ap (λ (o : Option Holding). Some (job_in o)) (sym e)
+    there (x ∷ xs) (suc place) e = there xs place e
+
+pub set_jobs : (held : List (Option Holding)) (place : ℕ) (h : Option Holding) → jobs_held (set held place h) ≡ set (jobs_held held) place (job_in h)
+set_jobs held place h = map-set job_in held place h
+
+-- the job that was just taken is held
+pub taken_held : (r before : Reservation) (worker job : ℕ) → r ≡ job_taken worker job before → IsFirstFree before job → IsHeld r job
+taken_held r before worker job e first = (worker, ap (λ s. stage_of s job) e ∙ stage_there before job Untaken (Held worker) first.free.untaken)

@@ -34,3 +34,12 @@ jobs_held held = map job_in held
 pub record IsLive (r : Reservation) (held : List (Option ℕ)) (log : List LogEntry) : Type 0 where
   pub reservation_is : (jobs : List Job) → AreJobsOf r.devices jobs → reservation_after jobs log ≡ r
   pub holds : (place job : ℕ) → slice_get held place ≡ Some (Some job) → stage_of r job ≡ Some (IsHeldBy (suc place))
+
+-- ---- the worker at a place
+
+abbrev pub joined : Option (Option Held) → Option Held
+joined None = None
+joined (Some held) = held
+
+abbrev pub held_at : List (Option Held) → ℕ → Option Held
+held_at held place = joined (slice_get held place)

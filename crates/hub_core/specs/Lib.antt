@@ -3,3 +3,5 @@ pub mod Telegrams
 pub mod Turns
 pub mod Seen
 pub mod Books
+pub mod Works
+pub mod Keeps

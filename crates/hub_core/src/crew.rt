@@ -1,7 +1,11 @@
 //! The workers.
 
+ghost use Rattle.std.specs.Prelude.{◌≡◌, ◌-◌, ◌≤◌, Some, None, false, IfOk, replicate, slice_set};
+ghost use Rattle.hub_core.specs.Books.{held_at, jobs_held};
+
 use knx_model::{IndAddr, NoMemory};
 use std::alloc::Global;
+use std::marker::Model;
 
 /// The job that a worker holds.
 #[derive(Clone, Copy, Debug, Drop, PartialEq, Eq)]
@@ -22,9 +26,20 @@ pub struct Crew {
     by_device: [u8; 256],
 }
 
+impl Model for Crew {
+    ghost use Rattle.std.specs.Prelude.{List, Option};
+    ghost use Rattle.hub_core.specs.declared.crew.Held.{Held};
+
+    ghost Value = { List (Option Held) };
+
+    ghost view = { λ c. c.held.items };
+}
+
 impl Crew {
     /// So many workers, none of which holds a job.
-    pub fn new(alloc: Global, workers: u8) -> Result<Crew, NoMemory> {
+    pub fn new(alloc: Global, workers: u8) -> Result<Crew, NoMemory>
+        ensures { IfOk result (λ crew. crew ≡ replicate workers None) }
+    {
         let held = Vec::from_elem(alloc, None, workers as usize)?;
         Ok(Crew {
             held,
@@ -38,7 +53,9 @@ impl Crew {
     }
 
     /// What the worker at a place, from 0, holds.
-    pub fn at(&self, place: usize) -> Option<Held> {
+    pub fn at(&self, place: usize) -> Option<Held>
+        ensures { result ≡ held_at self.now place }
+    {
         match self.held.get(place) {
             Some(held) => *held,
             None => None,
@@ -46,19 +63,26 @@ impl Crew {
     }
 
     /// What the worker holds, from 1.
-    pub fn held(&self, worker: u8) -> Option<Held> {
+    pub fn held(&self, worker: u8) -> Option<Held>
+        ensures { 1 ≤ worker → result ≡ held_at self.now (worker - 1) }
+    {
         self.at(place_of(worker))
     }
 
     /// What the worker at a place, from 0, holds from now on.
-    fn set(&mut self, place: usize, held: Option<Held>) {
+    fn set(&mut self, place: usize, held: Option<Held>)
+        ensures { self.new ≡ slice_set self.old place held }
+    {
         if place < self.held.len() {
             self.held[place] = held;
         }
     }
 
     /// The worker took a job.
-    pub fn takes(&mut self, worker: u8, job: u32, device: IndAddr) {
+    pub fn takes(&mut self, worker: u8, job: u32, device: IndAddr)
+        requires { 1 ≤ worker }
+        ensures { self.new ≡ slice_set self.old (worker - 1) (Some (record { job = job; device = device; begun = false; came = 0 })) }
+    {
         self.by_device[device.device() as usize] = worker;
         self.set(
             place_of(worker),
@@ -72,15 +96,21 @@ impl Crew {
     }
 
     /// Its job has ended.
-    pub fn ends(&mut self, worker: u8) {
+    pub fn ends(&mut self, worker: u8)
+        requires { 1 ≤ worker }
+        ensures { self.new ≡ slice_set self.old (worker - 1) None }
+    {
         self.set(place_of(worker), None);
     }
 
     /// An attempt of its job has sent its T_Connect.
-    pub fn begins(&mut self, worker: u8) {
-        if let Some(held) = self.held(worker) {
+    pub fn begins(&mut self, worker: u8)
+        ensures { jobs_held self.new ≡ jobs_held self.old }
+    {
+        let place = place_of(worker);
+        if let Some(held) = self.at(place) {
             self.set(
-                place_of(worker),
+                place,
                 Some(Held {
                     begun: true,
                     ..held
@@ -90,12 +120,16 @@ impl Crew {
     }
 
     /// Something came for it.
-    pub fn came(&mut self, worker: u8) {
+    pub fn came(&mut self, worker: u8)
+        ensures { jobs_held self.new ≡ jobs_held self.old }
+    {
         self.came_at(place_of(worker));
     }
 
     /// Something came for the worker at a place, from 0.
-    pub fn came_at(&mut self, place: usize) {
+    pub fn came_at(&mut self, place: usize)
+        ensures { jobs_held self.new ≡ jobs_held self.old }
+    {
         if let Some(held) = self.at(place) {
             let came = held.came.saturating_add(1);
             self.set(place, Some(Held { came, ..held }));
@@ -103,11 +137,14 @@ impl Crew {
     }
 
     /// Its turn takes one thing in that came. Tells whether there was one.
-    pub fn takes_in(&mut self, worker: u8) -> bool {
-        match self.held(worker) {
+    pub fn takes_in(&mut self, worker: u8) -> bool
+        ensures { jobs_held self.new ≡ jobs_held self.old }
+    {
+        let place = place_of(worker);
+        match self.at(place) {
             Some(held) if held.came > 0 => {
                 let came = held.came - 1;
-                self.set(place_of(worker), Some(Held { came, ..held }));
+                self.set(place, Some(Held { came, ..held }));
                 true
             }
             _ => false,
@@ -125,6 +162,8 @@ impl Crew {
 }
 
 /// The place of a worker, which is counted from 1.
-fn place_of(worker: u8) -> usize {
+fn place_of(worker: u8) -> usize
+    ensures { 1 ≤ worker → result ≡ worker - 1 }
+{
     (worker as usize).wrapping_sub(1)
 }

@@ -1,6 +1,6 @@
 //! What the client knows of its tunnel, without any link.
 
-ghost use Rattle.std.specs.Prelude.{◌≡◌, IfErr, Some};
+ghost use Rattle.std.specs.Prelude.{◌≡◌, IfErr, OnOk, Some, None};
 ghost use Rattle.line_model.specs.ClientEnd.{IsCemi, MayConnect};
 ghost use Rattle.line_model.specs.ClientFrames.{HasTunnelIfUp};
 ghost use Rattle.tunnel_link.specs.Goes.{new_known};
@@ -48,6 +48,7 @@ impl Known {
     /// The connect request, on a new endpoint.
     pub fn connects(&mut self, now: u64) -> Datagram
         requires { MayConnect self.old.channel }
+        ensures fault { self.new.fault ≡ self.old.fault }
     {
         self.channel.connect(now)
     }
@@ -55,6 +56,7 @@ impl Known {
     /// The request with these cEMI octets, where it can be put.
     pub fn puts(&mut self, cemi: &Datagram, now: u64) -> Option<Datagram>
         requires { IsCemi cemi.now }
+        ensures fault { self.new.fault ≡ self.old.fault }
     {
         match self.channel.put(cemi.as_slice(), now) {
             Ok(request) => {
@@ -66,7 +68,9 @@ impl Known {
     }
 
     /// The request that is due again, or else the heartbeat.
-    pub fn due(&mut self, now: u64) -> Option<Datagram> {
+    pub fn due(&mut self, now: u64) -> Option<Datagram>
+        ensures fault { self.new.fault ≡ self.old.fault }
+    {
         match self.channel.expire(now) {
             ChannelExpired::Repeat(datagram) | ChannelExpired::Beat(datagram) => Some(datagram),
             ChannelExpired::Nothing
@@ -208,7 +212,8 @@ impl Known {
 
     /// Why it has ended, if so.
     pub fn standing(&self) -> Result<(), HubFault>
-        ensures { IfErr result (λ fault. self.now.fault ≡ Some fault) }
+        ensures ended { IfErr result (λ fault. self.now.fault ≡ Some fault) }
+        ensures stands { OnOk result (self.now.fault ≡ None) }
     {
         match self.fault {
             Some(fault) => Err(fault),

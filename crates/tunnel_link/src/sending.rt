@@ -1,6 +1,6 @@
 //! What is done on the link, each call with what the client knows then.
 
-ghost use Rattle.std.specs.Prelude.{◌≡◌, IfErr, Some};
+ghost use Rattle.std.specs.Prelude.{◌≡◌, ◌≤◌, IfErr, OnOk, Some, None};
 ghost use Rattle.line_model.specs.ClientEnd.{MayConnect};
 ghost use Rattle.tunnel_link.specs.Goes.{Goes, Keeps};
 
@@ -14,8 +14,10 @@ const LONGEST: usize = 512;
 
 /// Sends a datagram.
 pub fn sent<L: Link>(link: &mut L, known: &mut Known, datagram: &Datagram) -> Result<(), HubFault>
+    ensures same { OnOk result (known.new ≡ known.old) }
     ensures story { Goes (L.story link.old) (L.story link.new) }
     ensures fault { IfErr result (λ fault. known.new.fault ≡ Some fault) }
+    ensures events { L.place link.old ≤ L.place link.new }
 {
     match link.send(datagram.as_slice()) {
         Ok(()) => Ok(()),
@@ -26,8 +28,10 @@ pub fn sent<L: Link>(link: &mut L, known: &mut Known, datagram: &Datagram) -> Re
 /// Takes a new endpoint, and asks for a channel there.
 pub fn connected<L: Link>(link: &mut L, known: &mut Known) -> Result<(), HubFault>
     requires { MayConnect known.old.channel }
+    ensures stands { OnOk result (known.new.fault ≡ known.old.fault) }
     ensures story { Goes (L.story link.old) (L.story link.new) }
     ensures fault { IfErr result (λ fault. known.new.fault ≡ Some fault) }
+    ensures events { L.place link.old ≤ L.place link.new }
 {
     if let Err(fault) = link.renew() {
         return Err(known.failed(fault));
@@ -41,6 +45,7 @@ pub fn connected<L: Link>(link: &mut L, known: &mut Known) -> Result<(), HubFaul
 pub fn polled<L: Link>(link: &mut L, known: &mut Known, wait_ms: u32) -> Result<Answer, HubFault>
     ensures story { Goes (L.story link.old) (L.story link.new) }
     ensures fault { IfErr result (λ fault. known.new.fault ≡ Some fault) }
+    ensures events { L.place link.old ≤ L.place link.new }
 {
     let mut into = [0; LONGEST];
     match link.poll(&mut into, wait_ms) {
@@ -62,11 +67,16 @@ pub fn answered<L: Link>(
     known: &mut Known,
     sends: Option<Datagram>,
 ) -> Result<(), HubFault>
+    ensures stands { OnOk result (known.new.fault ≡ None) }
     ensures story { Goes (L.story link.old) (L.story link.new) }
     ensures fault { IfErr result (λ fault. known.new.fault ≡ Some fault) }
+    ensures events { L.place link.old ≤ L.place link.new }
 {
     match sends {
-        Some(datagram) => sent(link, known, &datagram),
+        Some(datagram) => {
+            sent(link, known, &datagram)?;
+            known.standing()
+        }
         None => known.standing(),
     }
 }
@@ -77,8 +87,10 @@ pub fn listened<L: Link>(
     known: &mut Known,
     wait_ms: u32,
 ) -> Result<Came, HubFault>
+    ensures stands { OnOk result (known.new.fault ≡ None) }
     ensures story { Goes (L.story link.old) (L.story link.new) }
     ensures fault { IfErr result (λ fault. known.new.fault ≡ Some fault) }
+    ensures events { L.place link.old ≤ L.place link.new }
 {
     let Answer { what, loss, sends } = polled(link, known, wait_ms)?;
     answered(link, known, sends)?;
@@ -87,8 +99,10 @@ pub fn listened<L: Link>(
 
 /// A channel or a try that the time has ended is given up.
 pub fn lapsed<L: Link>(link: &mut L, known: &mut Known) -> Result<Loss, HubFault>
+    ensures stands { OnOk result (known.new.fault ≡ None) }
     ensures story { Goes (L.story link.old) (L.story link.new) }
     ensures fault { IfErr result (λ fault. known.new.fault ≡ Some fault) }
+    ensures events { L.place link.old ≤ L.place link.new }
 {
     let now = link.now();
     let Answer { loss, sends, .. } = known.lapse(What::Quiet, now);

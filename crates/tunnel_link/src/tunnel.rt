@@ -1,6 +1,6 @@
 //! The client's end of a tunnel over a link.
 
-ghost use Rattle.std.specs.Prelude.{◌≡◌, IfErr, Some};
+ghost use Rattle.std.specs.Prelude.{◌≡◌, ◌≤◌, IfErr, OnOk, Some, None};
 ghost use Rattle.line_model.specs.ClientEnd.{IsCemi};
 ghost use Rattle.line_model.specs.LinkStory.{IsNewLink};
 ghost use Rattle.tunnel_link.specs.Goes.{GoesOn, Keeps, new_known};
@@ -80,7 +80,9 @@ impl<L: Link> Tunnel<L> {
     }
 
     /// How many events the link tells of, or entries of its record.
-    pub fn at(&self) -> u64 {
+    pub fn at(&self) -> u64
+        ensures { result ≡ L.place self.now.link }
+    {
         self.link.at()
     }
 
@@ -115,6 +117,8 @@ impl<L: Link> Tunnel<L> {
     pub fn seek(&mut self) -> Result<bool, HubFault>
         ensures grows { GoesOn (L.story self.old.link) (L.story self.new.link) }
         ensures fault { IfErr result (λ fault. self.new.known.fault ≡ Some fault) }
+        ensures stands { self.old.known.fault ≡ None → OnOk result (self.new.known.fault ≡ None) }
+        ensures events { L.place self.old.link ≤ L.place self.new.link }
     {
         if !self.known.channel.may_connect() {
             return Ok(false);
@@ -128,6 +132,8 @@ impl<L: Link> Tunnel<L> {
         requires { IsCemi cemi.now }
         ensures grows { GoesOn (L.story self.old.link) (L.story self.new.link) }
         ensures fault { IfErr result (λ fault. self.new.known.fault ≡ Some fault) }
+        ensures stands { self.old.known.fault ≡ None → OnOk result (self.new.known.fault ≡ None) }
+        ensures events { L.place self.old.link ≤ L.place self.new.link }
     {
         let now = self.link.now();
         match self.known.puts(cemi, now) {
@@ -140,6 +146,8 @@ impl<L: Link> Tunnel<L> {
     pub fn leave(&mut self) -> Result<bool, HubFault>
         ensures grows { GoesOn (L.story self.old.link) (L.story self.new.link) }
         ensures fault { IfErr result (λ fault. self.new.known.fault ≡ Some fault) }
+        ensures stands { self.old.known.fault ≡ None → OnOk result (self.new.known.fault ≡ None) }
+        ensures events { L.place self.old.link ≤ L.place self.new.link }
     {
         match self.known.channel.leave() {
             Some(request) => {
@@ -155,6 +163,8 @@ impl<L: Link> Tunnel<L> {
     pub fn act(&mut self) -> Result<Acted, HubFault>
         ensures grows { GoesOn (L.story self.old.link) (L.story self.new.link) }
         ensures fault { IfErr result (λ fault. self.new.known.fault ≡ Some fault) }
+        ensures stands { self.old.known.fault ≡ None → OnOk result (self.new.known.fault ≡ None) }
+        ensures events { L.place self.old.link ≤ L.place self.new.link }
     {
         let loss = self.lapse()?;
         let again = self.send_due()?;
@@ -169,6 +179,8 @@ impl<L: Link> Tunnel<L> {
     fn lapse(&mut self) -> Result<Loss, HubFault>
         ensures grows { GoesOn (L.story self.old.link) (L.story self.new.link) }
         ensures fault { IfErr result (λ fault. self.new.known.fault ≡ Some fault) }
+        ensures stands { self.old.known.fault ≡ None → OnOk result (self.new.known.fault ≡ None) }
+        ensures events { L.place self.old.link ≤ L.place self.new.link }
     {
         lapsed(&mut self.link, &mut self.known)
     }
@@ -177,6 +189,8 @@ impl<L: Link> Tunnel<L> {
     fn send_due(&mut self) -> Result<bool, HubFault>
         ensures grows { GoesOn (L.story self.old.link) (L.story self.new.link) }
         ensures fault { IfErr result (λ fault. self.new.known.fault ≡ Some fault) }
+        ensures stands { self.old.known.fault ≡ None → OnOk result (self.new.known.fault ≡ None) }
+        ensures events { L.place self.old.link ≤ L.place self.new.link }
     {
         let now = self.link.now();
         match self.known.due(now) {
@@ -192,6 +206,8 @@ impl<L: Link> Tunnel<L> {
     pub fn poll(&mut self, wait_ms: u32) -> Result<Came, HubFault>
         ensures grows { GoesOn (L.story self.old.link) (L.story self.new.link) }
         ensures fault { IfErr result (λ fault. self.new.known.fault ≡ Some fault) }
+        ensures stands { self.old.known.fault ≡ None → OnOk result (self.new.known.fault ≡ None) }
+        ensures events { L.place self.old.link ≤ L.place self.new.link }
     {
         listened(&mut self.link, &mut self.known, wait_ms)
     }

@@ -1,8 +1,10 @@
 //! The group telegrams.
 
-ghost use Rattle.std.specs.Prelude.{◌≡◌, IfErr, Some};
+ghost use Rattle.std.specs.Prelude.{◌≡◌, IfErr, OnOk, Some, None};
 ghost use Rattle.tunnel_link.specs.Goes.{GoesOn};
-ghost use Rattle.hub_core.specs.Seen.{StaysEnded};
+ghost use Rattle.line_model.specs.Log.{IsNextTurn};
+ghost use Rattle.hub_core.specs.Turns.{TellsTurn};
+ghost use Rattle.hub_core.specs.Seen.{SameRun, StaysEnded};
 
 use super::Hub;
 use crate::answers::GroupDid;
@@ -12,7 +14,9 @@ use line_model::{HubFault, Link, LogWhat};
 impl<L: Link> Hub<L> {
     /// One step of the group telegram `k`, from 1, which is the least that isn't told: its request is put, or it is told sent or lost.
     pub fn send_group(&mut self, k: u32) -> Result<GroupDid, HubFault>
+        requires { IsNextTurn self.old.turns self.old.log k }
         ensures grows { GoesOn (L.story self.old.link) (L.story self.new.link) }
+        ensures run { SameRun self.old self.new }
         ensures ended { StaysEnded self.old.fault result self.new.fault (self.new.link ≡ self.old.link) }
         ensures fault { IfErr result (λ fault. self.new.fault ≡ Some fault) }
     {
@@ -22,15 +26,18 @@ impl<L: Link> Hub<L> {
         match self.work.stage() {
             Stage::Unput => self.put_group(),
             Stage::UnderWay => Ok(GroupDid::Wait),
-            Stage::Confirmed => self.tell_group(LogWhat::Sent(k), GroupDid::Sent),
-            Stage::Lost => self.tell_group(LogWhat::Lost(k), GroupDid::Lost),
+            Stage::Confirmed => self.tell_group(k, LogWhat::Sent(k), GroupDid::Sent),
+            Stage::Lost => self.tell_group(k, LogWhat::Lost(k), GroupDid::Lost),
         }
     }
 
     /// Puts the telegram, where it can be put.
     fn put_group(&mut self) -> Result<GroupDid, HubFault>
+        requires stands { self.old.fault ≡ None }
         ensures grows { GoesOn (L.story self.old.link) (L.story self.new.link) }
         ensures fault { IfErr result (λ fault. self.new.fault ≡ Some fault) }
+        ensures stands { OnOk result (self.new.fault ≡ None) }
+        ensures run { SameRun self.old self.new }
     {
         if !self.tunnel.has_place() {
             return Ok(GroupDid::Wait);
@@ -46,12 +53,17 @@ impl<L: Link> Hub<L> {
     }
 
     /// Tells what came of it.
-    fn tell_group(&mut self, what: LogWhat, did: GroupDid) -> Result<GroupDid, HubFault>
+    fn tell_group(&mut self, k: u32, what: LogWhat, did: GroupDid) -> Result<GroupDid, HubFault>
+        requires next { IsNextTurn self.old.turns self.old.log k }
+        requires what { TellsTurn k what }
+        requires stands { self.old.fault ≡ None }
         ensures grows { GoesOn (L.story self.old.link) (L.story self.new.link) }
         ensures fault { IfErr result (λ fault. self.new.fault ≡ Some fault) }
+        ensures stands { OnOk result (self.new.fault ≡ None) }
+        ensures run { SameRun self.old self.new }
     {
         let at = self.tunnel.at();
-        match self.work.tell_telegram(at, what) {
+        match self.work.tell_telegram(at, k, what) {
             Ok(()) => Ok(did),
             Err(no_memory) => Err(self.out_of_memory(no_memory)),
         }

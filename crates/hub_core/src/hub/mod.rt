@@ -5,7 +5,11 @@ mod group;
 mod pump;
 mod turn;
 
-ghost use Rattle.std.specs.Prelude.{◌≡◌, ◌≤◌, ◌<◌, ◌+◌, ◌-◌, ◌^◌, min, length, IfOk, IfErr, Some, None};
+ghost use Rattle.std.specs.Prelude.{◌≡◌, ◌≤◌, ◌<◌, ◌+◌, ◌-◌, ◌^◌, min, length, map, reverse, List, [], IfOk, IfErr, Some, None};
+ghost use Rattle.line_model.specs.Log.{Job, IsLog, OneDownloaderPerDevice};
+ghost use Rattle.hub_core.specs.Books.{AreJobsOf};
+ghost use Rattle.hub_core.specs.Seen.{SameRun};
+ghost use Rattle.hub_core.specs.declared.job.HubJob.{HubJob as JobOfHub};
 ghost use Rattle.tunnel_link.specs.Goes.{Keeps};
 ghost use Rattle.std.specs.List.{AllByRecursion};
 ghost use Rattle.line_model.specs.LinkStory.{IsNewLink};
@@ -14,6 +18,7 @@ ghost use Rattle.hub_core.specs.Requests.{IsTurnInRange};
 use crate::end::HubEnd;
 use crate::job::HubJob;
 use crate::work::Work;
+use device_reservation::one_downloader_per_device;
 use knx_model::{List, NoMemory};
 use line_model::{GroupTurn, HubFault, Link};
 use std::alloc::Global;
@@ -43,7 +48,11 @@ impl<L: Link> Model for Hub<L> {
 
     ghost Value = { Seen L };
 
-    ghost view = { λ h. record { link = h.tunnel.link; fault = h.tunnel.known.fault; missed = h.missed } };
+    ghost use Rattle.hub_core.specs.Keeps.{Keeps};
+
+    ghost view = { λ h. record { link = h.tunnel.link; devices = h.work.reservation.devices; turns = h.work.telegrams.turns; log = h.work.journal; fault = h.tunnel.known.fault; missed = h.missed } };
+
+    ghost invariant = { λ h. Keeps (L.place h.tunnel.link) h.work h.tunnel.known.fault };
 }
 
 impl<L: Link> Hub<L> {
@@ -63,6 +72,9 @@ impl<L: Link> Hub<L> {
         requires sendable { AllByRecursion IsTurnInRange groups }
         requires new { IsNewLink (L.story link) }
         ensures link { IfOk result (λ hub. hub.link ≡ link) }
+        ensures devices { IfOk result (λ hub. hub.devices ≡ map (λ (j : JobOfHub). j.device) jobs) }
+        ensures turns { IfOk result (λ hub. hub.turns ≡ groups) }
+        ensures log { IfOk result (λ hub. hub.log ≡ []) }
         ensures fault { IfOk result (λ hub. hub.fault ≡ None) }
         ensures missed { IfOk result (λ hub. hub.missed ≡ 0) }
         ensures handed_back { IfErr result (λ e. e.0 ≡ link) }
@@ -82,6 +94,8 @@ impl<L: Link> Hub<L> {
     pub fn missed(&mut self)
         ensures link { self.new.link ≡ self.old.link }
         ensures fault { self.new.fault ≡ self.old.fault }
+        ensures run { SameRun self.old self.new }
+        ensures log { self.new.log ≡ self.old.log }
         ensures missed { self.new.missed ≡ min (self.old.missed + 1) (2 ^ 64 - 1) }
     {
         self.missed = self.missed.saturating_add(1);
@@ -91,6 +105,7 @@ impl<L: Link> Hub<L> {
     pub fn close(self) -> HubEnd<L>
         ensures link { result.link ≡ self.link }
         ensures fault { result.fault ≡ self.fault }
+        ensures log { result.log ≡ reverse self.log }
         ensures missed { result.missed ≡ self.missed }
     {
         let Hub {
@@ -110,10 +125,15 @@ impl<L: Link> Hub<L> {
         }
     }
 
-    /// What is kept of what its link tells.
+    /// What its type keeps: what its link tells is legal; and the log is one of these jobs and telegrams, with one downloader for each device. The jobs are
+    /// any of its devices.
     pub fn keeps(&self)
-        ensures { Keeps (L.story self.now.link) }
+        ensures legal { Keeps (L.story self.now.link) }
+        ensures form { (jobs : List Job) → AreJobsOf self.now.devices jobs → IsLog jobs self.now.turns (L.place self.now.link) self.now.log }
+        ensures alone { (jobs : List Job) → AreJobsOf self.now.devices jobs → OneDownloaderPerDevice jobs self.now.log }
     {
+        one_downloader_per_device();
+        let _work = &self.work;
         self.tunnel.keeps();
     }
 
@@ -121,6 +141,8 @@ impl<L: Link> Hub<L> {
     fn out_of_memory(&mut self, no_memory: NoMemory) -> HubFault
         ensures link { self.new.link ≡ self.old.link }
         ensures fault { self.new.fault ≡ Some result }
+        ensures run { SameRun self.old self.new }
+        ensures log { self.new.log ≡ self.old.log }
     {
         self.fail(HubFault::NoMemory(no_memory))
     }
@@ -129,6 +151,8 @@ impl<L: Link> Hub<L> {
     fn fail(&mut self, fault: HubFault) -> HubFault
         ensures link { self.new.link ≡ self.old.link }
         ensures fault { self.new.fault ≡ Some result }
+        ensures run { SameRun self.old self.new }
+        ensures log { self.new.log ≡ self.old.log }
     {
         self.tunnel.fail(fault)
     }

@@ -1,8 +1,8 @@
 //! One poll of the link, with what is due before it.
 
-ghost use Rattle.std.specs.Prelude.{◌≡◌, IfErr, Some};
+ghost use Rattle.std.specs.Prelude.{◌≡◌, IfErr, OnOk, Some, None};
 ghost use Rattle.tunnel_link.specs.Goes.{GoesOn};
-ghost use Rattle.hub_core.specs.Seen.{StaysEnded};
+ghost use Rattle.hub_core.specs.Seen.{SameRun, StaysEnded};
 
 use super::Hub;
 use crate::answers::Pumped;
@@ -27,6 +27,8 @@ impl<L: Link> Hub<L> {
     /// Does what is due, asks for a channel where there is none and the closing hasn't begun, and makes one poll.
     pub fn pump(&mut self) -> Result<Pumped, HubFault>
         ensures grows { GoesOn (L.story self.old.link) (L.story self.new.link) }
+        ensures run { SameRun self.old self.new }
+        ensures log { self.new.log ≡ self.old.log }
         ensures ended { StaysEnded self.old.fault result self.new.fault (self.new.link ≡ self.old.link) }
         ensures fault { IfErr result (λ fault. self.new.fault ≡ Some fault) }
     {
@@ -45,8 +47,12 @@ impl<L: Link> Hub<L> {
 
     /// Does what is due by the time. Tells whether it did something.
     pub(super) fn act(&mut self) -> Result<bool, HubFault>
+        requires stands { self.old.fault ≡ None }
         ensures grows { GoesOn (L.story self.old.link) (L.story self.new.link) }
         ensures fault { IfErr result (λ fault. self.new.fault ≡ Some fault) }
+        ensures stands { OnOk result (self.new.fault ≡ None) }
+        ensures run { SameRun self.old self.new }
+        ensures log { self.new.log ≡ self.old.log }
     {
         let acted = self.tunnel.act()?;
         self.after_loss(acted.loss);
@@ -55,8 +61,12 @@ impl<L: Link> Hub<L> {
 
     /// Asks for a channel. Tells whether it did.
     fn seek(&mut self) -> Result<bool, HubFault>
+        requires stands { self.old.fault ≡ None }
         ensures grows { GoesOn (L.story self.old.link) (L.story self.new.link) }
         ensures fault { IfErr result (λ fault. self.new.fault ≡ Some fault) }
+        ensures stands { OnOk result (self.new.fault ≡ None) }
+        ensures run { SameRun self.old self.new }
+        ensures log { self.new.log ≡ self.old.log }
     {
         match self.work.closing {
             Some(_) => Ok(false),
@@ -66,8 +76,12 @@ impl<L: Link> Hub<L> {
 
     /// Makes one poll.
     pub(super) fn poll(&mut self) -> Result<Polled, HubFault>
+        requires stands { self.old.fault ≡ None }
         ensures grows { GoesOn (L.story self.old.link) (L.story self.new.link) }
         ensures fault { IfErr result (λ fault. self.new.fault ≡ Some fault) }
+        ensures stands { OnOk result (self.new.fault ≡ None) }
+        ensures run { SameRun self.old self.new }
+        ensures log { self.new.log ≡ self.old.log }
     {
         let now = self.tunnel.now();
         let has_place = self.tunnel.has_place();
@@ -78,8 +92,12 @@ impl<L: Link> Hub<L> {
 
     /// Takes in what a poll brought.
     fn take_in(&mut self, came: Came) -> Result<Polled, HubFault>
+        requires stands { self.old.fault ≡ None }
         ensures grows { GoesOn (L.story self.old.link) (L.story self.new.link) }
         ensures fault { IfErr result (λ fault. self.new.fault ≡ Some fault) }
+        ensures stands { OnOk result (self.new.fault ≡ None) }
+        ensures run { SameRun self.old self.new }
+        ensures log { self.new.log ≡ self.old.log }
     {
         let Came { what, loss } = came;
         let now = self.tunnel.now();
@@ -95,8 +113,12 @@ impl<L: Link> Hub<L> {
     }
 
     fn take(&mut self, what: What, now: u64) -> Result<Polled, HubFault>
+        requires stands { self.old.fault ≡ None }
         ensures grows { GoesOn (L.story self.old.link) (L.story self.new.link) }
         ensures fault { IfErr result (λ fault. self.new.fault ≡ Some fault) }
+        ensures stands { OnOk result (self.new.fault ≡ None) }
+        ensures run { SameRun self.old self.new }
+        ensures log { self.new.log ≡ self.old.log }
     {
         match what {
             What::Quiet => Ok(what_came(false, false, None)),
@@ -112,8 +134,12 @@ impl<L: Link> Hub<L> {
 
     /// A channel came up. At the first one each job's device is to be on the tunnel's line.
     fn meets(&mut self, tunnel: IndAddr) -> Result<(), HubFault>
+        requires stands { self.old.fault ≡ None }
         ensures grows { GoesOn (L.story self.old.link) (L.story self.new.link) }
         ensures fault { IfErr result (λ fault. self.new.fault ≡ Some fault) }
+        ensures stands { OnOk result (self.new.fault ≡ None) }
+        ensures run { SameRun self.old self.new }
+        ensures log { self.new.log ≡ self.old.log }
     {
         if self.met {
             return Ok(());
@@ -127,7 +153,11 @@ impl<L: Link> Hub<L> {
 
     /// After the channel was lost, or not.
     fn after_loss(&mut self, loss: Loss)
+        requires stands { self.old.fault ≡ None }
         ensures link { self.new.link ≡ self.old.link }
+        ensures run { SameRun self.old self.new }
+        ensures log { self.new.log ≡ self.old.log }
+        ensures stands { self.new.fault ≡ None }
     {
         let now = self.tunnel.now();
         match loss {

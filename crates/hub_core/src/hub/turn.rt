@@ -1,8 +1,8 @@
 //! A worker's turn.
 
-ghost use Rattle.std.specs.Prelude.{◌≡◌, IfErr, Some};
+ghost use Rattle.std.specs.Prelude.{◌≡◌, ◌≤◌, IfErr, Some};
 ghost use Rattle.tunnel_link.specs.Goes.{GoesOn};
-ghost use Rattle.hub_core.specs.Seen.{StaysEnded};
+ghost use Rattle.hub_core.specs.Seen.{SameRun, StaysEnded};
 
 use super::Hub;
 use crate::answers::Turned;
@@ -12,7 +12,9 @@ use line_model::{HubFault, Link};
 impl<L: Link> Hub<L> {
     /// One step of a worker, from 1: it takes a job, takes in what came for its job, sends what its job sends next, or tells its job's end.
     pub fn turn(&mut self, worker: u8) -> Result<Turned, HubFault>
+        requires { 1 ≤ worker }
         ensures grows { GoesOn (L.story self.old.link) (L.story self.new.link) }
+        ensures run { SameRun self.old self.new }
         ensures ended { StaysEnded self.old.fault result self.new.fault (self.new.link ≡ self.old.link) }
         ensures fault { IfErr result (λ fault. self.new.fault ≡ Some fault) }
     {

@@ -1,5 +1,9 @@
 //! What comes for the jobs and the group telegrams.
 
+ghost use Rattle.std.specs.Prelude.{◌≡◌, Some};
+ghost use Rattle.line_model.specs.ClientView.{indication_of};
+ghost use Rattle.hub_core.specs.Works.{SameBooks};
+
 use super::{Sender, Work, index_of};
 use crate::requests::indication_of;
 use download_core::{Did, Downloader};
@@ -12,7 +16,10 @@ const CONNECT: u8 = 0x80;
 
 impl Work {
     /// A frame came. A group telegram that it tells of is given.
-    pub fn deliver(&mut self, frame: &Ldata, now: u64) -> Option<Indication> {
+    pub fn deliver(&mut self, frame: &Ldata, now: u64) -> Option<Indication>
+        ensures heard { result ≡ indication_of (Some frame.now) }
+        ensures books { SameBooks self.old self.new }
+    {
         match frame.code {
             LdataCode::Con => self.confirmed(frame.error, now),
             LdataCode::Ind if !frame.group => self.heard(frame, now),
@@ -22,7 +29,9 @@ impl Work {
     }
 
     /// The confirmation of the request that was put last came.
-    fn confirmed(&mut self, error: bool, now: u64) {
+    fn confirmed(&mut self, error: bool, now: u64)
+        ensures books { SameBooks self.old self.new }
+    {
         match mem::replace(&mut self.sender, Sender::Nobody) {
             Sender::Nobody => {}
             Sender::GroupThread => self.telegrams.confirmed(),
@@ -38,7 +47,9 @@ impl Work {
     }
 
     /// A frame of a device came.
-    fn heard(&mut self, frame: &Ldata, now: u64) {
+    fn heard(&mut self, frame: &Ldata, now: u64)
+        ensures books { SameBooks self.old self.new }
+    {
         let device = IndAddr { raw: frame.source };
         if let Some(worker) = self.crew.of_device(device) {
             if let Some(held) = self.crew.held(worker) {
@@ -51,7 +62,9 @@ impl Work {
     }
 
     /// The channel was lost.
-    pub fn lost(&mut self, now: u64) {
+    pub fn lost(&mut self, now: u64)
+        ensures books { SameBooks self.old self.new }
+    {
         self.sender = Sender::Nobody;
         self.telegrams.lost();
         for place in 0..self.crew.len() {
@@ -60,7 +73,9 @@ impl Work {
     }
 
     /// The channel was lost for the worker at a place, from 0.
-    fn lost_for(&mut self, place: usize, now: u64) {
+    fn lost_for(&mut self, place: usize, now: u64)
+        ensures books { SameBooks self.old self.new }
+    {
         let Some(held) = self.crew.at(place) else {
             return;
         };

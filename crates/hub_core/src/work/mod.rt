@@ -3,11 +3,14 @@
 mod deliver;
 mod turn;
 
-ghost use Rattle.std.specs.Prelude.{◌≡◌, ◌<◌, length, map, IfOk, IfSome};
+ghost use Rattle.std.specs.Prelude.{◌≡◌, ◌<◌, length, map, reverse, IfOk, IfSome};
 ghost use Rattle.hub_core.specs.declared.job.HubJob.{HubJob as Job};
 ghost use Rattle.std.specs.List.{AllByRecursion};
 ghost use Rattle.line_model.specs.ClientEnd.{IsCemi};
+ghost use Rattle.line_model.specs.Log.{IsNextTurn};
 ghost use Rattle.hub_core.specs.Requests.{IsTurnInRange};
+ghost use Rattle.hub_core.specs.Turns.{TellsTurn};
+ghost use Rattle.hub_core.specs.Works.{WritesRightly, Lives, SameRun, SameBooks, BeginsWith};
 
 pub use turn::Turn;
 
@@ -57,6 +60,7 @@ impl Work {
         requires few_jobs { length jobs < 4294967296 }
         requires few_groups { length groups < 4294967296 }
         requires sendable { AllByRecursion IsTurnInRange groups }
+        ensures { IfOk result (λ work. BeginsWith (map (λ (j : Job). j.device) jobs) groups work) }
     {
         let room = jobs.len() + jobs.len() + groups.len();
         let journal = Journal::with_room(alloc, room)?;
@@ -82,7 +86,9 @@ impl Work {
     }
 
     /// The log, the oldest entry first.
-    pub fn into_log(self) -> List<LogEntry> {
+    pub fn into_log(self) -> List<LogEntry>
+        ensures { result ≡ reverse self.journal }
+    {
         let Work {
             downloaders: _,
             reservation: _,
@@ -124,20 +130,32 @@ impl Work {
     }
 
     /// The next group telegram was put.
-    pub fn telegram_put(&mut self) {
+    pub fn telegram_put(&mut self)
+        ensures books { SameBooks self.old self.new }
+    {
         self.telegrams.put();
         self.sender = Sender::GroupThread;
     }
 
     /// The next group telegram is told.
-    pub fn tell_telegram(&mut self, at: u64, what: LogWhat) -> Result<(), NoMemory> {
+    pub fn tell_telegram(&mut self, at: u64, k: u32, what: LogWhat) -> Result<(), NoMemory>
+        requires what { TellsTurn k what }
+        requires next { IsNextTurn self.old.telegrams.turns self.old.journal k }
+        requires written { WritesRightly at self.old }
+        requires live { Lives self.old }
+        ensures run { SameRun self.old self.new }
+        ensures written { WritesRightly at self.new }
+        ensures live { Lives self.new }
+    {
         self.journal.add(at, 0, what)?;
         self.telegrams.told();
         Ok(())
     }
 
     /// A disconnect request was sent.
-    pub fn asked(&mut self, now: u64) {
+    pub fn asked(&mut self, now: u64)
+        ensures books { SameBooks self.old self.new }
+    {
         if self.closing.is_some() {
             self.closing = Some(Closing::asked(now));
         }

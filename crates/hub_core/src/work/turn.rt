@@ -1,7 +1,8 @@
 //! A worker's turn.
 
-ghost use Rattle.std.specs.Prelude.{◌≤◌, length, IfOk};
-ghost use Rattle.hub_core.specs.Turns.{PutsCemi};
+ghost use Rattle.std.specs.Prelude.{◌≡◌, ◌≤◌, length, IfOk, OnOk, OnErr};
+ghost use Rattle.hub_core.specs.Turns.{PutsCemi, EndsJob};
+ghost use Rattle.hub_core.specs.Works.{WritesRightly, Lives, SameRun, SameBooks, IsHolder, IsTaking};
 
 use super::{Sender, Work, index_of};
 use crate::answers::Turned;
@@ -23,52 +24,103 @@ pub enum Turn {
 
 impl Work {
     /// A worker's turn at a time, when the link tells of so many events and the place in flight is free or not.
-    pub fn turn(&mut self, worker: u8, now: u64, at: u64, has_place: bool) -> Result<Turn, NoMemory>
+    pub fn turn(
+        &mut self,
+        worker: u8,
+        now: u64,
+        at: u64,
+        has_place: bool,
+    ) -> Result<Turn, NoMemory>
+        requires worker { 1 ≤ worker }
+        requires written { WritesRightly at self.old }
+        requires live { Lives self.old }
         ensures cemi { IfOk result PutsCemi }
+        ensures run { SameRun self.old self.new }
+        ensures written { WritesRightly at self.new }
+        ensures live { OnOk result (Lives self.new) }
     {
         match self.crew.held(worker) {
             None => self.takes_job(worker, at),
-            Some(_) if self.crew.takes_in(worker) => Ok(Turn::Did(Turned::Moved)),
+            Some(held) if held.came > 0 => {
+                self.crew.takes_in(worker);
+                Ok(Turn::Did(Turned::Moved))
+            }
             Some(held) => self.works(worker, held, now, at, has_place),
         }
     }
 
     /// The worker takes the first job that is free.
     fn takes_job(&mut self, worker: u8, at: u64) -> Result<Turn, NoMemory>
+        requires worker { 1 ≤ worker }
+        requires written { WritesRightly at self.old }
+        requires live { Lives self.old }
         ensures cemi { IfOk result PutsCemi }
+        ensures run { SameRun self.old self.new }
+        ensures written { WritesRightly at self.new }
+        ensures live { OnOk result (Lives self.new) }
     {
-        let turned = match self.reservation.take(worker) {
-            Taken::Job(job) => {
-                self.journal.add(at, worker, LogWhat::Took(job))?;
-                if let Some(device) = self.reservation.devices().get(index_of(job)) {
-                    self.crew.takes(worker, job, *device);
-                }
-                Turned::Took(job)
-            }
-            Taken::Later => Turned::Later,
-            Taken::NoMore => Turned::NoMore,
-        };
-        Ok(Turn::Did(turned))
+        match self.reservation.take(worker) {
+            Taken::Job(job) => self.took(worker, job, at),
+            Taken::Later => Ok(Turn::Did(Turned::Later)),
+            Taken::NoMore => Ok(Turn::Did(Turned::NoMore)),
+        }
+    }
+
+    /// It took this job.
+    fn took(&mut self, worker: u8, job: u32, at: u64) -> Result<Turn, NoMemory>
+        requires worker { 1 ≤ worker }
+        requires taking { IsTaking self.old at worker job }
+        ensures cemi { IfOk result PutsCemi }
+        ensures run { SameRun self.old self.new }
+        ensures written { WritesRightly at self.new }
+        ensures live { OnOk result (Lives self.new) }
+    {
+        self.journal.add(at, worker, LogWhat::Took(job))?;
+        let device = self.reservation.device_of(job);
+        self.crew.takes(worker, job, device);
+        Ok(Turn::Did(Turned::Took(job)))
     }
 
     /// It goes on with its job.
-    fn works(&mut self, worker: u8, held: Held, now: u64, at: u64, has_place: bool) -> Result<Turn, NoMemory>
+    fn works(
+        &mut self,
+        worker: u8,
+        held: Held,
+        now: u64,
+        at: u64,
+        has_place: bool,
+    ) -> Result<Turn, NoMemory>
+        requires worker { 1 ≤ worker }
+        requires holder { IsHolder self.old worker held }
+        requires written { WritesRightly at self.old }
+        requires live { Lives self.old }
         ensures cemi { IfOk result PutsCemi }
+        ensures run { SameRun self.old self.new }
+        ensures written { WritesRightly at self.new }
+        ensures live { OnOk result (Lives self.new) }
     {
         let Some(downloader) = self.downloaders.get(index_of(held.job)) else {
             return Ok(Turn::Did(Turned::Wait));
         };
         match downloader.next(now) {
-            Did::Send(tpdu) if has_place && !tpdu.is_empty() => Ok(self.puts(worker, held, tpdu, now)),
+            Did::Send(tpdu) if has_place && !tpdu.is_empty() => {
+                Ok(self.puts(worker, held, tpdu, now))
+            }
             Did::Send(_) | Did::Wait => Ok(Turn::Did(Turned::Wait)),
-            Did::Done => {
-                self.tell_end(worker, held, at, LogWhat::Done(held.job))?;
-                Ok(Turn::Did(Turned::Done(held.job)))
-            }
-            Did::Failed { signs } => {
-                self.tell_end(worker, held, at, LogWhat::Failed(held.job, signs))?;
-                Ok(Turn::Did(Turned::Failed(held.job)))
-            }
+            Did::Done => self.tells_end(
+                worker,
+                held,
+                at,
+                LogWhat::Done(held.job),
+                Turned::Done(held.job),
+            ),
+            Did::Failed { signs } => self.tells_end(
+                worker,
+                held,
+                at,
+                LogWhat::Failed(held.job, signs),
+                Turned::Failed(held.job),
+            ),
             Did::Refused { op, got, expected } => {
                 let what = LogWhat::Refused {
                     job: held.job,
@@ -76,8 +128,7 @@ impl Work {
                     got,
                     expected,
                 };
-                self.tell_end(worker, held, at, what)?;
-                Ok(Turn::Did(Turned::Refused(held.job)))
+                self.tells_end(worker, held, at, what, Turned::Refused(held.job))
             }
         }
     }
@@ -86,6 +137,7 @@ impl Work {
     fn puts(&mut self, worker: u8, held: Held, tpdu: ApduOctets, now: u64) -> Turn
         requires { 1 ≤ length tpdu }
         ensures cemi { PutsCemi result }
+        ensures books { SameBooks self.old self.new }
     {
         if let Some(downloader) = self.downloaders.get_mut(index_of(held.job)) {
             let _ = downloader.step(now);
@@ -96,16 +148,41 @@ impl Work {
     }
 
     /// Its job has ended so.
-    fn tell_end(&mut self, worker: u8, held: Held, at: u64, what: LogWhat) -> Result<(), NoMemory> {
+    fn tells_end(
+        &mut self,
+        worker: u8,
+        held: Held,
+        at: u64,
+        what: LogWhat,
+        turned: Turned,
+    ) -> Result<Turn, NoMemory>
+        requires worker { 1 ≤ worker }
+        requires holder { IsHolder self.old worker held }
+        requires what { EndsJob held.job what }
+        requires written { WritesRightly at self.old }
+        requires live { Lives self.old }
+        ensures cemi { IfOk result PutsCemi }
+        ensures run { SameRun self.old self.new }
+        ensures written { WritesRightly at self.new }
+        ensures live { OnOk result (Lives self.new) }
+    {
         self.journal.add(at, worker, what)?;
-        if self.reservation.is_held(held.job) {
-            self.reservation.finish(held.job);
-        }
-        self.unfinished = self.unfinished.saturating_sub(1);
+        self.reservation.finish(held.job);
         self.crew.ends(worker);
+        self.forget(worker);
+        Ok(Turn::Did(turned))
+    }
+
+    /// One job less is unfinished, and what its worker put is nobody's now.
+    fn forget(&mut self, worker: u8)
+        ensures reservation { self.new.reservation ≡ self.old.reservation }
+        ensures crew { self.new.crew ≡ self.old.crew }
+        ensures journal { self.new.journal ≡ self.old.journal }
+        ensures telegrams { self.new.telegrams ≡ self.old.telegrams }
+    {
+        self.unfinished = self.unfinished.saturating_sub(1);
         if self.sender == Sender::Worker(worker) {
             self.sender = Sender::Nobody;
         }
-        Ok(())
     }
 }
