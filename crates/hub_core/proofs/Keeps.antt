@@ -1,5 +1,5 @@
 -- The books of a hub are kept where its link goes on and its work leaves them as they are.
-use Rattle.std.proofs.Common.{◌≡◌, ℕ, ◌≤◌, List, Option, Some, None, Result, Ok, Err, refl, sym, subst, ◌∙◌}
+use Rattle.std.proofs.Common.{◌≡◌, ℕ, ◌≤◌, List, Option, Some, None, Result, Ok, Err, refl, sym, ap, subst, ◌∙◌}
 use Rattle.knx_model.specs.declared.address.IndAddr.{IndAddr}
 use Rattle.line_model.specs.declared.fault.HubFault.{HubFault}
 use Rattle.line_model.specs.declared.group.GroupTurn.{GroupTurn}
@@ -9,6 +9,7 @@ use Rattle.hub_core.specs.declared.work.Work.{Work}
 use Rattle.hub_core.specs.Books.{IsWritten, IsLive, jobs_held}
 use Rattle.hub_core.specs.Works.{WritesRightly, Lives, SameBooks}
 use Rattle.hub_core.specs.Keeps.{Keeps}
+use Rattle.hub_core.specs.Seen.{Seen}
 use Rattle.hub_core.proofs.Books.{later}
 
 pub later_place : (p q : ℕ) (w : Work) → p ≤ q → WritesRightly p w → WritesRightly q w
@@ -35,5 +36,19 @@ pub stays : (p : ℕ) (w v : Work) (f g : Option HubFault) → SameBooks w v →
 stays p w v f g s none k = record { written = same_written p w v s k.written; live = λ e. same_live w v s (k.live none) }
 
 -- it ended
-pub ends : (p : ℕ) (w : Work) (f g : Option HubFault) (fault : HubFault) → g ≡ Some fault → WritesRightly p w → Keeps p w g
-ends p w f g fault e h = record { written = h; live = λ none. absurd (let not : Some fault ≡ None = sym e ∙ none in cc) }
+pub ends : (p : ℕ) (w : Work) (g : Option HubFault) (fault : HubFault) → g ≡ Some fault → WritesRightly p w → Keeps p w g
+ends p w g fault e h = record { written = h; live = λ none. absurd (let not : Some fault ≡ None = sym e ∙ none in cc) }
+
+-- both
+pub moves : (p q : ℕ) (w v : Work) (f g : Option HubFault) → p ≤ q → SameBooks w v → f ≡ None → Keeps p w f → Keeps q v g
+moves p q w v f g le s none k = record { written = same_written q w v s (later_place p q w le k.written); live = λ e. same_live w v s (k.live none) }
+
+pub none_inside : {L : Type 0} (a b : Seen L) → a ≡ b → b.fault ≡ None → a.fault ≡ None
+none_inside a b e none = ap (λ (s : Seen _). s.fault) e ∙ none
+
+-- a turn wrote into them
+pub wrote : (at p q : ℕ) (w : Work) (g : Option HubFault) → at ≡ p → p ≤ q → WritesRightly at w → Lives w → Keeps q w g
+wrote at p q w g same le h live = record { written = later_place p q w le (subst (λ (n : ℕ). WritesRightly n w) same h); live = λ none. live }
+
+pub ended : (at p q : ℕ) (w : Work) (g : Option HubFault) (fault : HubFault) → at ≡ p → q ≡ p → g ≡ Some fault → WritesRightly at w → Keeps q w g
+ended at p q w g fault same there e h = ends q w g fault e (subst (λ (n : ℕ). WritesRightly n w) (same ∙ sym there) h)

@@ -30,7 +30,7 @@ impl<L: Link> Hub<L> {
                 self.tunnel.put(&cemi)?;
                 Ok(Turned::Moved)
             }
-            Err(no_memory) => Err(self.out_of_memory(no_memory)),
+            Err(no_memory) => Err(self.tunnel.fail(HubFault::NoMemory(no_memory))),
         }
     }
 }
