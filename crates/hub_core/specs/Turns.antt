@@ -1,8 +1,14 @@
 -- What a worker's turn comes to, and which entries of the log end a job.
-use Rattle.std.specs.Prelude.{◌≡◌, ℕ}
+use Rattle.std.specs.Prelude.{◌≡◌, ℕ, List, ◌∷◌}
+use Rattle.knx_model.specs.declared.log.Sign.{Sign}
+use Rattle.line_model.specs.declared.log.LogEntry.{LogEntry}
 use Rattle.line_model.specs.declared.log.LogWhat.{LogWhat}
 use Rattle.line_model.specs.declared.log.LogWhat.TheVariants.{Took, Done, Failed, Refused, Sent, Lost}
 use Rattle.line_model.specs.ClientEnd.{IsCemi}
+use Rattle.hub_core.specs.declared.answers.GroupDid.{GroupDid}
+use Rattle.hub_core.specs.declared.answers.GroupDid.TheVariants as did
+use Rattle.hub_core.specs.declared.answers.Turned.{Turned}
+use Rattle.hub_core.specs.declared.answers.Turned.TheVariants as answer
 use Rattle.hub_core.specs.declared.work.turn.Turn.{Turn}
 use Rattle.hub_core.specs.declared.work.turn.Turn.TheVariants.{Did, Puts}
 
@@ -28,3 +34,36 @@ TellsTurn turn (Failed k signs) = ⊥
 TellsTurn turn (Refused k op got expected) = ⊥
 TellsTurn turn (Sent k) = k ≡ turn
 TellsTurn turn (Lost k) = k ≡ turn
+
+-- ---- what an answer says of the log, the newest entry first
+
+abbrev pub Adds : ℕ → ℕ → LogWhat → List LogEntry → List LogEntry → Type 0
+Adds at worker what old new = new ≡ record { at = at; worker = worker; what = what } ∷ old
+
+-- a turn of this worker, when there were so many events: it answers so exactly where it made this entry
+abbrev pub TurnTells : ℕ → ℕ → Turned → List LogEntry → List LogEntry → Type 0
+TurnTells at worker (answer.Took job) old new = Adds at worker (Took job) old new
+TurnTells at worker answer.Moved old new = new ≡ old
+TurnTells at worker answer.Wait old new = new ≡ old
+TurnTells at worker (answer.Done job) old new = Adds at worker (Done job) old new
+TurnTells at worker (answer.Failed job) old new = (signs : List Sign) × Adds at worker (Failed job signs) old new
+TurnTells at worker (answer.Refused job) old new = (op : ℕ) × (got : List ℕ) × (expected : List ℕ) × Adds at worker (Refused job op got expected) old new
+TurnTells at worker answer.Later old new = new ≡ old
+TurnTells at worker answer.NoMore old new = new ≡ old
+
+abbrev pub TurnTold : ℕ → ℕ → Turn → List LogEntry → List LogEntry → Type 0
+TurnTold at worker (Did turned) old new = TurnTells at worker turned old new
+TurnTold at worker (Puts cemi) old new = new ≡ old
+
+-- the same of the group telegram k, by the group thread
+abbrev pub GroupTells : ℕ → ℕ → GroupDid → List LogEntry → List LogEntry → Type 0
+GroupTells at k did.Put old new = new ≡ old
+GroupTells at k did.Wait old new = new ≡ old
+GroupTells at k did.Sent old new = Adds at 0 (Sent k) old new
+GroupTells at k did.Lost old new = Adds at 0 (Lost k) old new
+
+abbrev pub IsntTold : GroupDid → Type 0
+IsntTold did.Put = Unit {0}
+IsntTold did.Wait = Unit {0}
+IsntTold did.Sent = ⊥
+IsntTold did.Lost = ⊥

@@ -1,9 +1,9 @@
 //! The group telegrams.
 
-ghost use Rattle.std.specs.Prelude.{◌≡◌, IfErr, OnOk, Some, None};
+ghost use Rattle.std.specs.Prelude.{◌≡◌, IfErr, IfOk, OnErr, OnOk, Some, None};
 ghost use Rattle.tunnel_link.specs.Goes.{GoesOn};
 ghost use Rattle.line_model.specs.Log.{IsNextTurn};
-ghost use Rattle.hub_core.specs.Turns.{TellsTurn};
+ghost use Rattle.hub_core.specs.Turns.{Adds, GroupTells, IsntTold, TellsTurn};
 ghost use Rattle.hub_core.specs.Seen.{SameRun, StaysEnded};
 
 use super::Hub;
@@ -16,6 +16,8 @@ impl<L: Link> Hub<L> {
     pub fn send_group(&mut self, k: u32) -> Result<GroupDid, HubFault>
         requires { IsNextTurn self.old.turns self.old.log k }
         ensures grows { GoesOn (L.story self.old.link) (L.story self.new.link) }
+        ensures told { IfOk result (λ did. GroupTells (L.place self.old.link) k did self.old.log self.new.log) }
+        ensures untold { OnErr result (self.new.log ≡ self.old.log) }
         ensures run { SameRun self.old self.new }
         ensures ended { StaysEnded self.old.fault result self.new.fault (self.new.link ≡ self.old.link) }
         ensures fault { IfErr result (λ fault. self.new.fault ≡ Some fault) }
@@ -37,6 +39,8 @@ impl<L: Link> Hub<L> {
         ensures grows { GoesOn (L.story self.old.link) (L.story self.new.link) }
         ensures fault { IfErr result (λ fault. self.new.fault ≡ Some fault) }
         ensures stands { OnOk result (self.new.fault ≡ None) }
+        ensures log { self.new.log ≡ self.old.log }
+        ensures did { IfOk result IsntTold }
         ensures run { SameRun self.old self.new }
     {
         if !self.tunnel.has_place() {
@@ -60,6 +64,9 @@ impl<L: Link> Hub<L> {
         ensures grows { GoesOn (L.story self.old.link) (L.story self.new.link) }
         ensures fault { IfErr result (λ fault. self.new.fault ≡ Some fault) }
         ensures stands { OnOk result (self.new.fault ≡ None) }
+        ensures answer { IfOk result (λ given. given ≡ did) }
+        ensures told { OnOk result (Adds (L.place self.old.link) 0 what self.old.log self.new.log) }
+        ensures untold { OnErr result (self.new.log ≡ self.old.log) }
         ensures run { SameRun self.old self.new }
     {
         let at = self.tunnel.at();

@@ -1,6 +1,7 @@
 //! A worker's turn.
 
-ghost use Rattle.std.specs.Prelude.{◌≡◌, ◌≤◌, IfErr, Some};
+ghost use Rattle.std.specs.Prelude.{◌≡◌, ◌≤◌, IfErr, IfOk, OnErr, Some};
+ghost use Rattle.hub_core.specs.Turns.{TurnTells};
 ghost use Rattle.tunnel_link.specs.Goes.{GoesOn};
 ghost use Rattle.hub_core.specs.Seen.{SameRun, StaysEnded};
 
@@ -14,6 +15,8 @@ impl<L: Link> Hub<L> {
     pub fn turn(&mut self, worker: u8) -> Result<Turned, HubFault>
         requires { 1 ≤ worker }
         ensures grows { GoesOn (L.story self.old.link) (L.story self.new.link) }
+        ensures told { IfOk result (λ turned. TurnTells (L.place self.old.link) worker turned self.old.log self.new.log) }
+        ensures untold { OnErr result (self.new.log ≡ self.old.log) }
         ensures run { SameRun self.old self.new }
         ensures ended { StaysEnded self.old.fault result self.new.fault (self.new.link ≡ self.old.link) }
         ensures fault { IfErr result (λ fault. self.new.fault ≡ Some fault) }

@@ -3,13 +3,13 @@
 mod deliver;
 mod turn;
 
-ghost use Rattle.std.specs.Prelude.{◌≡◌, ◌<◌, length, map, reverse, IfOk, IfSome};
+ghost use Rattle.std.specs.Prelude.{◌≡◌, ◌<◌, length, map, reverse, IfOk, IfSome, OnErr, OnOk};
 ghost use Rattle.hub_core.specs.declared.job.HubJob.{HubJob as Job};
 ghost use Rattle.std.specs.List.{AllByRecursion};
 ghost use Rattle.line_model.specs.ClientEnd.{IsCemi};
 ghost use Rattle.line_model.specs.Log.{IsNextTurn};
 ghost use Rattle.hub_core.specs.Requests.{IsTurnInRange};
-ghost use Rattle.hub_core.specs.Turns.{TellsTurn};
+ghost use Rattle.hub_core.specs.Turns.{Adds, TellsTurn};
 ghost use Rattle.hub_core.specs.Works.{WritesRightly, Lives, SameRun, SameBooks, BeginsWith};
 
 pub use turn::Turn;
@@ -143,6 +143,8 @@ impl Work {
         requires next { IsNextTurn self.old.telegrams.turns self.old.journal k }
         requires written { WritesRightly at self.old }
         requires live { Lives self.old }
+        ensures told { OnOk result (Adds at 0 what self.old.journal self.new.journal) }
+        ensures untold { OnErr result (self.new.journal ≡ self.old.journal) }
         ensures run { SameRun self.old self.new }
         ensures written { WritesRightly at self.new }
         ensures live { Lives self.new }

@@ -1,7 +1,8 @@
 //! A worker's turn.
 
 ghost use Rattle.std.specs.Prelude.{◌≡◌, ◌≤◌, length, IfOk, OnOk, OnErr};
-ghost use Rattle.hub_core.specs.Turns.{PutsCemi, EndsJob};
+ghost use Rattle.line_model.specs.ClientEnd.{IsCemi};
+ghost use Rattle.hub_core.specs.Turns.{Adds, PutsCemi, EndsJob, TurnTold};
 ghost use Rattle.hub_core.specs.Works.{WritesRightly, Lives, SameRun, SameBooks, IsHolder, IsTaking};
 
 use super::{Sender, Work, index_of};
@@ -35,6 +36,8 @@ impl Work {
         requires written { WritesRightly at self.old }
         requires live { Lives self.old }
         ensures cemi { IfOk result PutsCemi }
+        ensures told { IfOk result (λ turn. TurnTold at worker turn self.old.journal self.new.journal) }
+        ensures untold { OnErr result (self.new.journal ≡ self.old.journal) }
         ensures run { SameRun self.old self.new }
         ensures written { WritesRightly at self.new }
         ensures live { OnOk result (Lives self.new) }
@@ -55,6 +58,8 @@ impl Work {
         requires written { WritesRightly at self.old }
         requires live { Lives self.old }
         ensures cemi { IfOk result PutsCemi }
+        ensures told { IfOk result (λ turn. TurnTold at worker turn self.old.journal self.new.journal) }
+        ensures untold { OnErr result (self.new.journal ≡ self.old.journal) }
         ensures run { SameRun self.old self.new }
         ensures written { WritesRightly at self.new }
         ensures live { OnOk result (Lives self.new) }
@@ -71,6 +76,8 @@ impl Work {
         requires worker { 1 ≤ worker }
         requires taking { IsTaking self.old at worker job }
         ensures cemi { IfOk result PutsCemi }
+        ensures told { IfOk result (λ turn. TurnTold at worker turn self.old.journal self.new.journal) }
+        ensures untold { OnErr result (self.new.journal ≡ self.old.journal) }
         ensures run { SameRun self.old self.new }
         ensures written { WritesRightly at self.new }
         ensures live { OnOk result (Lives self.new) }
@@ -95,6 +102,8 @@ impl Work {
         requires written { WritesRightly at self.old }
         requires live { Lives self.old }
         ensures cemi { IfOk result PutsCemi }
+        ensures told { IfOk result (λ turn. TurnTold at worker turn self.old.journal self.new.journal) }
+        ensures untold { OnErr result (self.new.journal ≡ self.old.journal) }
         ensures run { SameRun self.old self.new }
         ensures written { WritesRightly at self.new }
         ensures live { OnOk result (Lives self.new) }
@@ -104,7 +113,7 @@ impl Work {
         };
         match downloader.next(now) {
             Did::Send(tpdu) if has_place && !tpdu.is_empty() => {
-                Ok(self.puts(worker, held, tpdu, now))
+                Ok(Turn::Puts(self.puts(worker, held, tpdu, now)))
             }
             Did::Send(_) | Did::Wait => Ok(Turn::Did(Turned::Wait)),
             Did::Done => self.tells_end(
@@ -134,9 +143,9 @@ impl Work {
     }
 
     /// It puts what its job sends next.
-    fn puts(&mut self, worker: u8, held: Held, tpdu: ApduOctets, now: u64) -> Turn
+    fn puts(&mut self, worker: u8, held: Held, tpdu: ApduOctets, now: u64) -> Datagram
         requires { 1 ≤ length tpdu }
-        ensures cemi { PutsCemi result }
+        ensures cemi { IsCemi result }
         ensures books { SameBooks self.old self.new }
     {
         if let Some(downloader) = self.downloaders.get_mut(index_of(held.job)) {
@@ -144,7 +153,7 @@ impl Work {
         }
         self.crew.begins(worker);
         self.sender = Sender::Worker(worker);
-        Turn::Puts(to_device(held.device, tpdu))
+        to_device(held.device, tpdu)
     }
 
     /// Its job has ended so.
@@ -162,6 +171,9 @@ impl Work {
         requires written { WritesRightly at self.old }
         requires live { Lives self.old }
         ensures cemi { IfOk result PutsCemi }
+        ensures answer { IfOk result (λ turn. turn ≡ Turn.Did turned) }
+        ensures told { OnOk result (Adds at worker what self.old.journal self.new.journal) }
+        ensures untold { OnErr result (self.new.journal ≡ self.old.journal) }
         ensures run { SameRun self.old self.new }
         ensures written { WritesRightly at self.new }
         ensures live { OnOk result (Lives self.new) }
