@@ -5,6 +5,11 @@ use Rattle.line_model.specs.declared.log.LogEntry.{LogEntry}
 use Rattle.line_model.specs.declared.log.LogWhat.{LogWhat}
 use Rattle.line_model.specs.declared.log.LogWhat.TheVariants.{Took, Done, Failed, Refused, Sent, Lost}
 use Rattle.line_model.specs.ClientEnd.{IsCemi}
+use Rattle.knx_model.specs.declared.address.IndAddr.{IndAddr}
+use Rattle.line_model.specs.Log.{Job}
+use Rattle.device_reservation.specs.Reservation.{Reservation, AllWait, AllTaken}
+use Rattle.device_reservation.specs.Reserved.{reservation_after}
+use Rattle.hub_core.specs.Books.{AreJobsOf}
 use Rattle.hub_core.specs.declared.answers.GroupDid.{GroupDid}
 use Rattle.hub_core.specs.declared.answers.GroupDid.TheVariants as did
 use Rattle.hub_core.specs.declared.answers.Turned.{Turned}
@@ -67,3 +72,33 @@ IsntTold did.Put = Unit {0}
 IsntTold did.Wait = Unit {0}
 IsntTold did.Sent = ⊥
 IsntTold did.Lost = ⊥
+
+-- ---- why a worker gets no job
+
+abbrev pub WhyFree : Reservation → Turned → Type 0
+WhyFree r (answer.Took job) = Unit {0}
+WhyFree r answer.Moved = Unit {0}
+WhyFree r answer.Wait = Unit {0}
+WhyFree r (answer.Done job) = Unit {0}
+WhyFree r (answer.Failed job) = Unit {0}
+WhyFree r (answer.Refused job) = Unit {0}
+WhyFree r answer.Later = AllWait r
+WhyFree r answer.NoMore = AllTaken r
+
+abbrev pub WaitsFree : Reservation → Turn → Type 0
+WaitsFree r (Did turned) = WhyFree r turned
+WaitsFree r (Puts cemi) = Unit {0}
+
+abbrev pub IsEnd : Turned → Type 0
+IsEnd (answer.Took job) = ⊥
+IsEnd answer.Moved = ⊥
+IsEnd answer.Wait = ⊥
+IsEnd (answer.Done job) = Unit {0}
+IsEnd (answer.Failed job) = Unit {0}
+IsEnd (answer.Refused job) = Unit {0}
+IsEnd answer.Later = ⊥
+IsEnd answer.NoMore = ⊥
+
+-- by the log, of any jobs of these devices
+abbrev pub WhyFreeByLog : List IndAddr → List LogEntry → Turned → Type 0
+WhyFreeByLog devices log turned = (jobs : List Job) → AreJobsOf devices jobs → WhyFree (reservation_after jobs log) turned

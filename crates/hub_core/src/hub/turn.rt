@@ -1,7 +1,7 @@
 //! A worker's turn.
 
 ghost use Rattle.std.specs.Prelude.{◌≡◌, ◌≤◌, IfErr, IfOk, OnErr, Some};
-ghost use Rattle.hub_core.specs.Turns.{TurnTells};
+ghost use Rattle.hub_core.specs.Turns.{TurnTells, WhyFreeByLog};
 ghost use Rattle.tunnel_link.specs.Goes.{GoesOn};
 ghost use Rattle.hub_core.specs.Seen.{SameRun, StaysEnded};
 
@@ -16,6 +16,7 @@ impl<L: Link> Hub<L> {
         requires { 1 ≤ worker }
         ensures grows { GoesOn (L.story self.old.link) (L.story self.new.link) }
         ensures told { IfOk result (λ turned. TurnTells (L.place self.old.link) worker turned self.old.log self.new.log) }
+        ensures free { IfOk result (WhyFreeByLog self.old.devices self.old.log) }
         ensures untold { OnErr result (self.new.log ≡ self.old.log) }
         ensures run { SameRun self.old self.new }
         ensures ended { StaysEnded self.old.fault result self.new.fault (self.new.link ≡ self.old.link) }

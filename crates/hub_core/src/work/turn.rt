@@ -2,7 +2,7 @@
 
 ghost use Rattle.std.specs.Prelude.{◌≡◌, ◌≤◌, length, IfOk, OnOk, OnErr};
 ghost use Rattle.line_model.specs.ClientEnd.{IsCemi};
-ghost use Rattle.hub_core.specs.Turns.{Adds, PutsCemi, EndsJob, TurnTold};
+ghost use Rattle.hub_core.specs.Turns.{Adds, IsEnd, WaitsFree, PutsCemi, EndsJob, TurnTold};
 ghost use Rattle.hub_core.specs.Works.{WritesRightly, Lives, SameRun, SameBooks, IsHolder, IsTaking};
 
 use super::{Sender, Work, index_of};
@@ -35,6 +35,7 @@ impl Work {
         requires worker { 1 ≤ worker }
         requires written { WritesRightly at self.old }
         requires live { Lives self.old }
+        ensures free { IfOk result (WaitsFree self.old.reservation) }
         ensures cemi { IfOk result PutsCemi }
         ensures told { IfOk result (λ turn. TurnTold at worker turn self.old.journal self.new.journal) }
         ensures untold { OnErr result (self.new.journal ≡ self.old.journal) }
@@ -57,6 +58,7 @@ impl Work {
         requires worker { 1 ≤ worker }
         requires written { WritesRightly at self.old }
         requires live { Lives self.old }
+        ensures free { IfOk result (WaitsFree self.old.reservation) }
         ensures cemi { IfOk result PutsCemi }
         ensures told { IfOk result (λ turn. TurnTold at worker turn self.old.journal self.new.journal) }
         ensures untold { OnErr result (self.new.journal ≡ self.old.journal) }
@@ -75,6 +77,7 @@ impl Work {
     fn took(&mut self, worker: u8, job: u32, at: u64) -> Result<Turn, NoMemory>
         requires worker { 1 ≤ worker }
         requires taking { IsTaking self.old at worker job }
+        ensures took { IfOk result (λ turn. turn ≡ Turn.Did (Turned.Took job)) }
         ensures cemi { IfOk result PutsCemi }
         ensures told { IfOk result (λ turn. TurnTold at worker turn self.old.journal self.new.journal) }
         ensures untold { OnErr result (self.new.journal ≡ self.old.journal) }
@@ -101,6 +104,7 @@ impl Work {
         requires holder { IsHolder self.old worker held }
         requires written { WritesRightly at self.old }
         requires live { Lives self.old }
+        ensures free { IfOk result (WaitsFree self.old.reservation) }
         ensures cemi { IfOk result PutsCemi }
         ensures told { IfOk result (λ turn. TurnTold at worker turn self.old.journal self.new.journal) }
         ensures untold { OnErr result (self.new.journal ≡ self.old.journal) }
@@ -167,6 +171,7 @@ impl Work {
     ) -> Result<Turn, NoMemory>
         requires worker { 1 ≤ worker }
         requires holder { IsHolder self.old worker held }
+        requires turned { IsEnd turned }
         requires what { EndsJob held.job what }
         requires written { WritesRightly at self.old }
         requires live { Lives self.old }
