@@ -75,7 +75,7 @@ pub took_written : (r : Reservation) (held : List (Option ℕ)) (turns : List Gr
     → IsWritten r.devices turns at (entry_of at worker (Took job) ∷ l)
 took_written r held turns at worker job l h live first from = writes r turns at worker (Took job) l h
     (λ jobs of. let free : IsFirstFree (reservation_after jobs l) job = by_log (λ s. IsFirstFree s job) r held l live first jobs of in
-        (there_in_log jobs l job free.free, waits_in_log jobs l job (h.reserved jobs of) free.free, from))
+    (there_in_log jobs l job free.free, waits_in_log jobs l job (h.reserved jobs of) free.free, from))
     (λ jobs of. by_log (λ s. IsFirstFree s job) r held l live first jobs of)
 
 pub took_live : (r : Reservation) (held : List (Option ℕ)) (at worker job : ℕ) (l : List LogEntry) → IsLive r held l → IsFirstFree r job → 1 ≤ worker

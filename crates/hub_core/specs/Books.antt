@@ -1,10 +1,10 @@
 -- What a hub writes: the log of its run, whose jobs are taken and ended through one reservation, and which job each worker holds. The jobs are
 -- seen by their devices alone, in their order.
-use Rattle.std.specs.Prelude.{◌≡◌, ℕ, suc, ◌≤◌, List, map, Option, Some, None, slice_get}
+use Rattle.std.specs.Prelude.{◌≡◌, ℕ, suc, ◌≤◌, ◌&&◌, nat_lt, nat_le, List, length, map, Option, Some, None, slice_get}
 use Rattle.knx_model.specs.declared.address.IndAddr.{IndAddr}
 use Rattle.line_model.specs.declared.group.GroupTurn.{GroupTurn}
 use Rattle.line_model.specs.declared.log.LogEntry.{LogEntry}
-use Rattle.line_model.specs.Log.{Job, IsLog, latest}
+use Rattle.line_model.specs.Log.{Job, IsLog, latest, has_entry}
 use Rattle.device_reservation.specs.declared.stage.Stage.TheVariants.{Held as IsHeldBy}
 use Rattle.device_reservation.specs.Reservation.{Reservation, stage_of}
 use Rattle.device_reservation.specs.Reserved.{IsReserved, reservation_after, device_of_job}
@@ -43,3 +43,9 @@ joined (Some held) = held
 
 abbrev pub held_at : List (Option Held) → ℕ → Option Held
 held_at held place = joined (slice_get held place)
+
+-- ---- the group telegrams: those up to a number are told, and no others
+
+pub record TellsInTurn (told : ℕ) (turns : List GroupTurn) (log : List LogEntry) : Type 0 where
+  pub entries : (k : ℕ) → has_entry k log ≡ (nat_lt 0 k && nat_le k told)
+  pub there : told ≤ length turns

@@ -1,5 +1,5 @@
 -- The group telegrams of a run, told one after another: how many are told, and how far the next one is.
-use Rattle.std.specs.Prelude.{ℕ, List, min, ◌+◌, ◌-◌, ◌^◌}
+use Rattle.std.specs.Prelude.{ℕ, List, length, ◌+◌, nat_lt, Option, Some, None, if◌then◌else◌}
 use Rattle.line_model.specs.declared.group.GroupTurn.{GroupTurn}
 use Rattle.hub_core.specs.declared.telegrams.Stage.{Stage}
 use Rattle.hub_core.specs.declared.telegrams.Stage.TheVariants.{Unput, UnderWay, Confirmed, Lost}
@@ -22,3 +22,7 @@ after_loss Unput = Unput
 after_loss UnderWay = Lost
 after_loss Confirmed = Confirmed
 after_loss Lost = Lost
+
+-- the next one, from 1
+abbrev pub next_of : Telling → Option ℕ
+next_of t = if nat_lt t.told (length t.turns) then Some (t.told + 1) else None

@@ -5,13 +5,16 @@ use Rattle.line_model.specs.declared.group.GroupTurn.{GroupTurn}
 use Rattle.device_reservation.specs.Reservation.{Reservation, IsFirstFree, none_taken, job_taken}
 use Rattle.hub_core.specs.declared.crew.Held.{Held}
 use Rattle.hub_core.specs.declared.work.Work.{Work}
-use Rattle.hub_core.specs.Books.{IsWritten, IsLive, jobs_held, held_at}
+use Rattle.hub_core.specs.Books.{IsWritten, IsLive, TellsInTurn, jobs_held, held_at}
 
 abbrev pub WritesRightly : ℕ → Work → Type 0
 WritesRightly at w = IsWritten w.reservation.devices w.telegrams.turns at w.journal
 
 abbrev pub Lives : Work → Type 0
 Lives w = IsLive w.reservation (jobs_held w.crew) w.journal
+
+abbrev pub TellsRightly : Work → Type 0
+TellsRightly w = TellsInTurn w.telegrams.told w.telegrams.turns w.journal
 
 -- the same jobs and the same group telegrams
 pub record SameRun (old new : Work) : Type 0 where
@@ -22,6 +25,7 @@ pub record SameRun (old new : Work) : Type 0 where
 pub record SameBooks (old new : Work) : Type 0 where
   pub reservation : new.reservation ≡ old.reservation
   pub turns : new.telegrams.turns ≡ old.telegrams.turns
+  pub told : new.telegrams.told ≡ old.telegrams.told
   pub held : jobs_held new.crew ≡ jobs_held old.crew
   pub journal : new.journal ≡ old.journal
 
@@ -42,5 +46,6 @@ pub record BeginsWith (devices : List IndAddr) (turns : List GroupTurn) (w : Wor
   pub workers : ℕ
   pub reservation : w.reservation ≡ none_taken devices
   pub turns_are : w.telegrams.turns ≡ turns
+  pub none_told : w.telegrams.told ≡ 0
   pub crew : w.crew ≡ replicate workers None
   pub journal : w.journal ≡ []

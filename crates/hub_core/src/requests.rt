@@ -31,7 +31,11 @@ pub fn to_group(turn: &GroupTurn) -> Datagram
     requires { IsServiceInRange turn.now.service }
     ensures cemi { IsCemi result }
 {
-    request(true, turn.group.raw, service_octets(service_of(&turn.service)))
+    request(
+        true,
+        turn.group.raw,
+        service_octets(service_of(&turn.service)),
+    )
 }
 
 fn request(group: bool, destination: u16, tpdu: ApduOctets) -> Datagram

@@ -1,10 +1,10 @@
 //! The group telegrams of a run.
 
-ghost use Rattle.std.specs.Prelude.{◌≡◌, ◌+◌, min, IfSome};
+ghost use Rattle.std.specs.Prelude.{◌≡◌, ◌+◌, ◌<◌, length, min, IfSome};
 ghost use Rattle.std.specs.List.{AllByRecursion};
 ghost use Rattle.line_model.specs.ClientEnd.{IsCemi};
 ghost use Rattle.hub_core.specs.Requests.{IsTurnInRange};
-ghost use Rattle.hub_core.specs.Telegrams.{after_confirmation, after_loss};
+ghost use Rattle.hub_core.specs.Telegrams.{after_confirmation, after_loss, next_of};
 
 use crate::requests::to_group;
 use knx_model::{Datagram, List};
@@ -38,6 +38,7 @@ pub struct Telegrams {
 }
 
 impl Model for Telegrams {
+    ghost use Rattle.std.specs.Prelude.{◌<◌, length};
     ghost use Rattle.std.specs.List.{AllByRecursion};
     ghost use Rattle.hub_core.specs.Requests.{IsTurnInRange};
     ghost use Rattle.hub_core.specs.Telegrams.{Telling};
@@ -46,13 +47,14 @@ impl Model for Telegrams {
 
     ghost view = { λ t. record { turns = t.turns; told = t.told; stage = t.stage } };
 
-    ghost invariant = { λ t. AllByRecursion IsTurnInRange t.turns };
+    ghost invariant = { λ t. AllByRecursion IsTurnInRange t.turns × (length t.turns < 4294967296) };
 }
 
 impl Telegrams {
     /// None of them is told.
     pub fn new(turns: List<GroupTurn>) -> Telegrams
-        requires { AllByRecursion IsTurnInRange turns }
+        requires sendable { AllByRecursion IsTurnInRange turns }
+        requires few { length turns < 4294967296 }
         ensures { result ≡ record { turns = turns; told = 0; stage = Stage.Unput } }
     {
         Telegrams {
@@ -67,6 +69,17 @@ impl Telegrams {
         ensures { result ≡ self.now.stage }
     {
         self.stage
+    }
+
+    /// The next one, from 1; None exactly where all are told.
+    pub fn next(&self) -> Option<u32>
+        ensures { result ≡ next_of self.now }
+    {
+        if (self.told as usize) < self.turns.len() {
+            self.told.checked_add(1)
+        } else {
+            None
+        }
     }
 
     /// The octets of the next one's request, where it may be put while jobs are unfinished or not.
@@ -114,7 +127,8 @@ impl Telegrams {
 
     /// It was told.
     pub fn told(&mut self)
-        ensures { self.new ≡ record self.old { told = min (self.old.told + 1) 4294967295; stage = Stage.Unput } }
+        ensures few { length self.old.turns < 4294967296 }
+        ensures next { self.new ≡ record self.old { told = min (self.old.told + 1) 4294967295; stage = Stage.Unput } }
     {
         self.told = self.told.saturating_add(1);
         self.stage = Stage::Unput;

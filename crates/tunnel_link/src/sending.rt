@@ -82,11 +82,7 @@ pub fn answered<L: Link>(
 }
 
 /// One poll, and the answer to what was got.
-pub fn listened<L: Link>(
-    link: &mut L,
-    known: &mut Known,
-    wait_ms: u32,
-) -> Result<Came, HubFault>
+pub fn listened<L: Link>(link: &mut L, known: &mut Known, wait_ms: u32) -> Result<Came, HubFault>
     ensures stands { OnOk result (known.new.fault ≡ None) }
     ensures story { Goes (L.story link.old) (L.story link.new) }
     ensures fault { IfErr result (λ fault. known.new.fault ≡ Some fault) }

@@ -98,10 +98,7 @@ impl<L: Link> Tunnel<L> {
 
     /// The nearest time at which something becomes due.
     pub fn deadline(&self) -> Option<u64> {
-        earlier(
-            self.known.channel.deadline(),
-            self.known.flight.deadline(),
-        )
+        earlier(self.known.channel.deadline(), self.known.flight.deadline())
     }
 
     /// Nothing more is done on the link.

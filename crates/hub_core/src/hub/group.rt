@@ -1,8 +1,8 @@
 //! The group telegrams.
 
-ghost use Rattle.std.specs.Prelude.{◌≡◌, IfErr, IfOk, OnErr, OnOk, Some, None};
+ghost use Rattle.std.specs.Prelude.{◌≡◌, IfErr, IfOk, IfSome, OnErr, OnOk, Some, None};
 ghost use Rattle.tunnel_link.specs.Goes.{GoesOn};
-ghost use Rattle.line_model.specs.Log.{IsNextTurn};
+ghost use Rattle.line_model.specs.Log.{IsNextTurn, TurnUnfinished};
 ghost use Rattle.hub_core.specs.Turns.{Adds, GroupTells, IsntTold, TellsTurn};
 ghost use Rattle.hub_core.specs.Seen.{SameRun, StaysEnded};
 
@@ -12,6 +12,14 @@ use crate::telegrams::Stage;
 use line_model::{HubFault, Link, LogWhat};
 
 impl<L: Link> Hub<L> {
+    /// The least group telegram that isn't told, from 1; None exactly where all are told.
+    pub fn next_group(&self) -> Option<u32>
+        ensures next { IfSome result (λ k. IsNextTurn self.now.turns self.now.log k) }
+        ensures all { result ≡ None → ¬ TurnUnfinished self.now.turns self.now.log }
+    {
+        self.work.next_group()
+    }
+
     /// One step of the group telegram `k`, from 1, which is the least that isn't told: its request is put, or it is told sent or lost.
     pub fn send_group(&mut self, k: u32) -> Result<GroupDid, HubFault>
         requires { IsNextTurn self.old.turns self.old.log k }

@@ -6,8 +6,8 @@ ghost use Rattle.hub_core.specs.Seen.{SameRun, StaysEnded};
 
 use super::Hub;
 use crate::answers::Pumped;
-use line_model::{HubFault, Indication, Link};
 use knx_model::IndAddr;
+use line_model::{HubFault, Indication, Link};
 use tunnel_link::{Came, Loss, What};
 
 /// So many datagrams, awaited connection state responses aside, are the most of a run with unfinished jobs.

@@ -9,10 +9,9 @@ ghost use Rattle.std.specs.List.{AllByRecursion};
 ghost use Rattle.line_model.specs.ClientEnd.{IsCemi};
 ghost use Rattle.line_model.specs.Log.{IsNextTurn};
 ghost use Rattle.hub_core.specs.Requests.{IsTurnInRange};
+ghost use Rattle.hub_core.specs.Telegrams.{next_of};
 ghost use Rattle.hub_core.specs.Turns.{Adds, TellsTurn};
-ghost use Rattle.hub_core.specs.Works.{WritesRightly, Lives, SameRun, SameBooks, BeginsWith};
-
-pub use turn::Turn;
+ghost use Rattle.hub_core.specs.Works.{WritesRightly, Lives, TellsRightly, SameRun, SameBooks, BeginsWith};
 
 use crate::closing::Closing;
 use crate::crew::Crew;
@@ -25,6 +24,7 @@ use download_core::{Did, Downloader};
 use knx_model::{Datagram, IndAddr, List, NoMemory};
 use line_model::{GroupTurn, LogEntry, LogWhat};
 use std::alloc::Global;
+pub use turn::Turn;
 
 /// Who put the request that isn't confirmed.
 #[derive(Clone, Copy, Debug, Drop, PartialEq, Eq)]
@@ -129,6 +129,13 @@ impl Work {
         self.telegrams.request(self.unfinished > 0)
     }
 
+    /// The next group telegram, from 1; None exactly where all are told.
+    pub fn next_group(&self) -> Option<u32>
+        ensures { result ≡ next_of self.now.telegrams }
+    {
+        self.telegrams.next()
+    }
+
     /// The next group telegram was put.
     pub fn telegram_put(&mut self)
         ensures books { SameBooks self.old self.new }
@@ -141,12 +148,14 @@ impl Work {
     pub fn tell_telegram(&mut self, at: u64, k: u32, what: LogWhat) -> Result<(), NoMemory>
         requires what { TellsTurn k what }
         requires next { IsNextTurn self.old.telegrams.turns self.old.journal k }
+        requires telling { TellsRightly self.old }
         requires written { WritesRightly at self.old }
         requires live { Lives self.old }
         ensures told { OnOk result (Adds at 0 what self.old.journal self.new.journal) }
         ensures untold { OnErr result (self.new.journal ≡ self.old.journal) }
         ensures run { SameRun self.old self.new }
         ensures written { WritesRightly at self.new }
+        ensures telling { TellsRightly self.new }
         ensures live { Lives self.new }
     {
         self.journal.add(at, 0, what)?;

@@ -3,7 +3,7 @@
 ghost use Rattle.std.specs.Prelude.{◌≡◌, ◌≤◌, length, IfOk, OnOk, OnErr};
 ghost use Rattle.line_model.specs.ClientEnd.{IsCemi};
 ghost use Rattle.hub_core.specs.Turns.{Adds, IsEnd, WaitsFree, PutsCemi, EndsJob, TurnTold};
-ghost use Rattle.hub_core.specs.Works.{WritesRightly, Lives, SameRun, SameBooks, IsHolder, IsTaking};
+ghost use Rattle.hub_core.specs.Works.{WritesRightly, Lives, TellsRightly, SameRun, SameBooks, IsHolder, IsTaking};
 
 use super::{Sender, Work, index_of};
 use crate::answers::Turned;
@@ -25,13 +25,7 @@ pub enum Turn {
 
 impl Work {
     /// A worker's turn at a time, when the link tells of so many events and the place in flight is free or not.
-    pub fn turn(
-        &mut self,
-        worker: u8,
-        now: u64,
-        at: u64,
-        has_place: bool,
-    ) -> Result<Turn, NoMemory>
+    pub fn turn(&mut self, worker: u8, now: u64, at: u64, has_place: bool) -> Result<Turn, NoMemory>
         requires worker { 1 ≤ worker }
         requires written { WritesRightly at self.old }
         requires live { Lives self.old }
@@ -41,6 +35,7 @@ impl Work {
         ensures untold { OnErr result (self.new.journal ≡ self.old.journal) }
         ensures run { SameRun self.old self.new }
         ensures written { WritesRightly at self.new }
+        ensures telling { TellsRightly self.old → TellsRightly self.new }
         ensures live { OnOk result (Lives self.new) }
     {
         match self.crew.held(worker) {
@@ -64,6 +59,7 @@ impl Work {
         ensures untold { OnErr result (self.new.journal ≡ self.old.journal) }
         ensures run { SameRun self.old self.new }
         ensures written { WritesRightly at self.new }
+        ensures telling { TellsRightly self.old → TellsRightly self.new }
         ensures live { OnOk result (Lives self.new) }
     {
         match self.reservation.take(worker) {
@@ -83,6 +79,7 @@ impl Work {
         ensures untold { OnErr result (self.new.journal ≡ self.old.journal) }
         ensures run { SameRun self.old self.new }
         ensures written { WritesRightly at self.new }
+        ensures telling { TellsRightly self.old → TellsRightly self.new }
         ensures live { OnOk result (Lives self.new) }
     {
         self.journal.add(at, worker, LogWhat::Took(job))?;
@@ -110,6 +107,7 @@ impl Work {
         ensures untold { OnErr result (self.new.journal ≡ self.old.journal) }
         ensures run { SameRun self.old self.new }
         ensures written { WritesRightly at self.new }
+        ensures telling { TellsRightly self.old → TellsRightly self.new }
         ensures live { OnOk result (Lives self.new) }
     {
         let Some(downloader) = self.downloaders.get(index_of(held.job)) else {
@@ -181,6 +179,7 @@ impl Work {
         ensures untold { OnErr result (self.new.journal ≡ self.old.journal) }
         ensures run { SameRun self.old self.new }
         ensures written { WritesRightly at self.new }
+        ensures telling { TellsRightly self.old → TellsRightly self.new }
         ensures live { OnOk result (Lives self.new) }
     {
         self.journal.add(at, worker, what)?;

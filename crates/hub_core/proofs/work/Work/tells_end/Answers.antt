@@ -16,3 +16,8 @@ pub returns-clause-live : goal.returns-clause-live
 returns-clause-live c =
     works.end_live c.args.self.now c.forget.new.self c.args.at c.args.worker c.args.held c.args.what c.requires.live c.requires.worker c.requires.holder c.requires.what
     (c.forget.ensures.reservation ∙ c.finish.ensures) (c.forget.ensures.crew ∙ c.ends.ensures) (c.forget.ensures.journal ∙ c.in_ok-add.ensures.ok)
+
+pub returns-clause-telling : goal.returns-clause-telling
+returns-clause-telling c =
+    works.end_telling c.args.self.now c.forget.new.self c.args.at c.args.worker c.args.held.job c.args.what c.requires.what
+    (ap (λ (t : Telling). t.told) c.forget.ensures.telegrams) (ap (λ (t : Telling). t.turns) c.forget.ensures.telegrams) (c.forget.ensures.journal ∙ c.in_ok-add.ensures.ok)

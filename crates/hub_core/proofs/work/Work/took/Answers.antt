@@ -14,3 +14,6 @@ pub returns-clause-live : goal.returns-clause-live
 returns-clause-live c =
     works.take_live c.args.self.now (record c.args.self.now { journal = c.add.new.self; crew = c.takes.new.self }) c.args.at c.args.worker c.args.job
     (record { job = c.args.job; device = c.device_of-device.result; begun = false; came = 0 }) refl c.requires.taking c.requires.worker refl c.takes.ensures c.in_ok-add.ensures.ok
+
+pub returns-clause-telling : goal.returns-clause-telling
+returns-clause-telling c = works.take_telling c.args.self.now (record c.args.self.now { journal = c.add.new.self; crew = c.takes.new.self }) c.args.at c.args.worker c.args.job refl refl c.in_ok-add.ensures.ok
