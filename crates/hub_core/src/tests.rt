@@ -1,0 +1,1 @@
+//! A hub over a script of answers.
