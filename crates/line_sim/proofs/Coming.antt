@@ -5,7 +5,6 @@ use Rattle.std.proofs.lemmas.Bool.{cases_lt}
 use Rattle.std.proofs.lemmas.List.{get_or_push, take_more}
 use Rattle.std.proofs.Math.ListN.{get_or-append}
 use Rattle.knx_model.specs.declared.device.Took.TheVariants.{Taken, NotMine, TooLong, Off}
-use Rattle.knx_model.specs.declared.device.Took.{Took}
 use Rattle.knx_model.specs.declared.frames.cemi.Ldata.{Ldata}
 use Rattle.knx_model.specs.ApduReading.{option_map}
 use Rattle.knx_model.specs.DeviceState.{DeviceState}
@@ -13,9 +12,9 @@ use Rattle.knx_model.specs.DeviceFrames.{Whole, is_too_long, takes, took_of}
 use Rattle.device_sim.proofs.Taken.{not_taken}
 use Rattle.device_sim.specs.declared.brought.Brought.{Brought}
 use Rattle.device_sim.specs.declared.brought.Brought.TheVariants.{NotTaken}
-use Rattle.line_model.specs.World.{Devices, all_take, is_among}
+use Rattle.line_model.specs.World.{is_among}
 use Rattle.line_sim.specs.Group.{IsBroughtAt, AreBrought, brought_there}
-use Rattle.line_sim.specs.Places.{DevicesNow, AreDevices, ComesTo, device_at, device_in, device_part, line_part}
+use Rattle.line_sim.specs.Places.{DevicesNow, ComesTo, device_at, device_in, device_part, line_part}
 
 -- ---- a frame for one device alone
 

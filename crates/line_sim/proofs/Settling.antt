@@ -1,5 +1,5 @@
 -- When nothing but time can go on.
-use Rattle.std.proofs.Common.{◌≡◌, ℕ, ◌+◌, ◌<◌, ◌↔◌, Bool, true, false, ◌&&◌, IsTrue, List, [], ◌∷◌, length, Option, Some, None, refl, ap, sym, subst, ◌∙◌, arith}
+use Rattle.std.proofs.Common.{◌≡◌, ℕ, ◌↔◌, Bool, true, false, ◌&&◌, IsTrue, List, [], ◌∷◌, Option, Some, None, refl, ap, sym, ◌∙◌}
 use Rattle.std.specs.Prelude.{IfNone, IfSome}
 use Rattle.knx_model.specs.declared.device.Sending.{Sending}
 use Rattle.knx_model.specs.DeviceState.{DeviceState}
@@ -13,7 +13,7 @@ use Rattle.line_model.specs.Tunnel.{Mode, Commissions, Serves, made}
 use Rattle.line_model.specs.World.{World, next_frame, now, on_bus}
 use Rattle.network_sim.specs.declared.place.Reach.{Reach}
 use Rattle.network_sim.specs.declared.place.Reach.TheVariants.{Every, To}
-use Rattle.network_sim.specs.Arriving.{AllOver, passes}
+use Rattle.network_sim.specs.Arriving.{AllOver}
 use Rattle.network_sim.proofs.Over.{all_over}
 use Rattle.line_sim.specs.declared.gateway.Due.{Due}
 use Rattle.line_sim.specs.declared.gateway.Due.TheVariants as due

@@ -5,7 +5,6 @@ use Rattle.knx_model.specs.declared.frames.cemi.Ldata.{Ldata}
 use Rattle.knx_model.specs.declared.frames.cemi.LdataCode.TheVariants.{Con}
 use Rattle.knx_model.specs.ApduReading.{option_map}
 use Rattle.knx_model.specs.Device.{Effect, Nothing}
-use Rattle.knx_model.specs.DeviceState.{DeviceState}
 use Rattle.knx_model.specs.DeviceSending.{first_frame}
 use Rattle.line_model.specs.Counts.{takes_alone, write_of}
 use Rattle.line_model.specs.Deliveries.{effect_at}
