@@ -27,7 +27,7 @@ use Rattle.line_law.proofs.Courses.{Kind, Lost, Plain, Put, Confirmed, Hears, ki
 
 -- ---- the end of an attempt stays ended
 
-ended_confirmed : (t : Attempt) (k now : ℕ) (error : Bool) (flying : Option TransportFrame) → t.end ≡ Ended → Idle (confirmed_attempt k t now error flying)
+pub ended_confirmed : (t : Attempt) (k now : ℕ) (error : Bool) (flying : Option TransportFrame) → t.end ≡ Ended → Idle (confirmed_attempt k t now error flying)
 unfolding after_confirmed
 ended_confirmed t k now error None e = e
 ended_confirmed t k now true (Some Connect) e = tt
@@ -38,11 +38,11 @@ ended_confirmed t k now error (Some (Ack n)) e = e
 ended_confirmed t k now error (Some (Nak n)) e = e
 ended_confirmed t k now error (Some Other) e = e
 
-ended_took : (end : ClientEnd) (y : TransportFrame) → end ≡ Ended → client_took end y ≡ heard.Dropped
+pub ended_took : (end : ClientEnd) (y : TransportFrame) → end ≡ Ended → client_took end y ≡ heard.Dropped
 unfolding client_took
 ended_took end y e = ap (λ z. client_took z y) e
 
-asked_took : (end : ClientEnd) (device : IndAddr) (y : TransportFrame) → end ≡ Asked device → client_took end y ≡ heard.Dropped
+pub asked_took : (end : ClientEnd) (device : IndAddr) (y : TransportFrame) → end ≡ Asked device → client_took end y ≡ heard.Dropped
 unfolding client_took
 asked_took end device y e = ap (λ z. client_took z y) e
 
@@ -91,7 +91,7 @@ asking_closes p (Nak j) acked ans h = absurd (cc)
 asking_closes p (Numbered j apdu) acked ans h = absurd (cc)
 asking_closes p Other acked ans h = absurd (cc)
 
-end_closes : (end : ClientEnd) (y : TransportFrame) (o : Number) (acked sent : ℕ) (ans : List (List ℕ)) → NumberIs end o acked sent → closes_by (Some y) o ≡ true → Closes o y acked ans (client_took end y)
+pub end_closes : (end : ClientEnd) (y : TransportFrame) (o : Number) (acked sent : ℕ) (ans : List (List ℕ)) → NumberIs end o acked sent → closes_by (Some y) o ≡ true → Closes o y acked ans (client_took end y)
 unfolding client_took
 end_closes (Asked d) y o acked sent ans n h = absurd n
 end_closes (Up p) y o acked sent ans n h = subst (λ z. Closes z y acked ans (up_took p y)) (sym n.0) (up_closes p y acked ans (ap (closes_by (Some y)) (sym n.0) ∙ h))
@@ -99,7 +99,7 @@ end_closes (Asking p q) y o acked sent ans n h = subst (λ z. Closes z y acked a
 end_closes (Awaiting p) y o acked sent ans n h = subst (λ z. Closes z y acked ans (up_took p y)) (sym n.0) (up_closes p y acked ans (ap (closes_by (Some y)) (sym n.0) ∙ h))
 end_closes Ended y o acked sent ans n h = absurd n
 
-closed_idle : (k : ℕ) (t : Attempt) (now : ℕ) (took : ClientTook) (close : Option (List ℕ)) → took ≡ heard.Closed close → Idle (heard_attempt k t now took)
+pub closed_idle : (k : ℕ) (t : Attempt) (now : ℕ) (took : ClientTook) (close : Option (List ℕ)) → took ≡ heard.Closed close → Idle (heard_attempt k t now took)
 closed_idle k t now took None e = subst (λ z. Idle (heard_attempt k t now z)) (sym e) tt
 closed_idle k t now took (Some d) e = subst (λ z. Idle (heard_attempt k t now z)) (sym e) refl
 

@@ -32,3 +32,4 @@ mod Reaching
 mod Counting
 mod Courses
 mod CourseSteps
+mod CourseKept

@@ -1,0 +1,186 @@
+-- Each moment keeps what the record says of a session beside what it says of the attempt.
+use Rattle.std.proofs.Common.{◌≡◌, ◌≢◌, ℕ, zero, suc, ◌+◌, ◌%◌, ◌<◌, ◌≤◌, ◌⊎◌, List, [], ◌∷◌, ◌++◌, drop, reverse, length, Bool, true, false, not, ◌&&◌, ◌||◌, cond, Option, Some, None, refl, sym, ◌∙◌, ap, subst, inl, inr, arith, if◌then◌else◌}
+use Rattle.std.specs.Prelude.{◌==◌, nat_le, nat_lt}
+use Rattle.knx_model.specs.declared.address.IndAddr.{IndAddr}
+use Rattle.knx_model.specs.declared.connection.ClientTook.{ClientTook}
+use Rattle.knx_model.specs.declared.connection.ClientTook.TheVariants as heard
+use Rattle.knx_model.specs.declared.connection.ClientExpired.TheVariants as over
+use Rattle.knx_model.specs.declared.connection.TransportFrame.{TransportFrame}
+use Rattle.knx_model.specs.declared.connection.TransportFrame.TheVariants.{Connect, Disconnect, Ack, Nak, Numbered, Other}
+use Rattle.knx_model.specs.declared.frames.tpdu.Tpdu.{Tpdu}
+use Rattle.knx_model.specs.declared.frames.tpdu.Tpdu.TheVariants as tpdu
+use Rattle.knx_model.specs.declared.plan.Expect.{Expect}
+use Rattle.knx_model.specs.declared.plan.Expect.TheVariants.{AckOnly, Is, Note}
+use Rattle.knx_model.specs.Apdu.{most_octets}
+use Rattle.knx_model.specs.ClientConnection.{client_asked, question_overdue, question_expired, ClientEnd, Asked, Up, Asking, Awaiting, Ended, Question, client_took, up_took, asking_took, client_after, client_sent, after_send, client_stayed, client_expired, after_overdue, client_repeated, after_confirmed, question_confirmed, has_answer}
+use Rattle.knx_model.specs.Connection.{ack_wait, idle_wait, most_repeats, has_passed, Session, IsApdu, control_frame, disconnect, frame_in, next_number, numbered_data, by_ack, is_before}
+use Rattle.knx_model.specs.GoodPlan.{IsSendable, awaits_answer}
+use Rattle.knx_model.specs.Plans.{Plan, Over, Asks as Operation}
+use Rattle.line_model.specs.Attempts.{Attempt, Attempts, Resting, Running, begun, awaits, sent_of, aged, put_so, put_attempt, sends_numbered, confirmed_so, confirmed_attempt, landed, heard_so, heard_attempt, is_silent, attempts, attempts_after, MayPut, MayAsk, IsNext, IsRepeat}
+use Rattle.line_model.specs.Moments.{Moment, confirmation_in, put_to, heard_from, Number, Next, Outstanding, number_put, number_heard, number, is_disconnect, is_wrong, closes_by, is_loss, ends_session, is_connect, grown, stretches, Course, Unconfirmed, WithError, InSession, Left, course_from, course_after, course, is_acknowledged, acknowledged, answer_expected, answers}
+use Rattle.line_model.specs.Progress.{Reaches}
+use Rattle.line_model.specs.Told.{WentThrough}
+use Rattle.session_law.proofs.Frames.{numbered_read}
+use Rattle.line_law.proofs.Reaching.{acknowledged_one}
+use Rattle.line_law.proofs.Counting.{NumberIs, ExpectedIs, AwaitsOne, LeftIs, NotEnd, Count, CountIs, stayed_count, heard_effect, heard_count}
+use Rattle.line_law.proofs.Courses.{Kind, Lost, Plain, Put, Confirmed, Hears, kind, NotService, WasDone, Now, Later, Begun, Idle, AtRest, CourseIs, StretchIs, done_now}
+use Rattle.knx_model.specs.ClientConnection.{wait_begun}
+use Rattle.line_model.specs.Attempts.{first, put_other}
+use Rattle.line_law.proofs.CourseSteps.{ended_confirmed, ended_took, asked_took, Closes, end_closes, closed_idle, numbered_count, ended_asks}
+
+-- ---- the time alone
+
+confirmed_none : (now : ℕ) (t : Attempts) → confirmed_so now t None ≡ t
+confirmed_none now (Resting k) = refl
+confirmed_none now (Running k t) = refl
+
+heard_none : (now : ℕ) (t : Attempts) → heard_so now t None ≡ t
+heard_none now (Resting k) = refl
+heard_none now (Running k t) = refl
+
+aged_count : (plan : Plan) (t : Attempts) (now : ℕ) (o : Number) (acked : ℕ) (ans : List (List ℕ)) → CountIs plan t o acked ans → CountIs plan (aged now t) o acked ans
+aged_count plan (Resting k) now o acked ans h = h
+aged_count plan (Running k t) now o acked ans h = record { sent = h.sent; number_is = h.number_is; expected_is = h.expected_is; plain = h.plain; left_is = h.left_is; spoilt = h.spoilt }
+
+aged_idle : (t : Attempts) (now : ℕ) → Idle t → Idle (aged now t)
+aged_idle (Resting k) now h = h
+aged_idle (Running k t) now h = h
+
+aged_begun : (plan : Plan) (t : Attempts) (now : ℕ) → Begun plan t → Begun plan (aged now t)
+aged_begun plan (Resting k) now h = h
+aged_begun plan (Running k t) now h = h
+
+aged_rest : (t : Attempts) (now : ℕ) → AtRest t → AtRest (aged now t)
+aged_rest (Resting k) now h = h
+aged_rest (Running k t) now h = h
+
+-- ---- a confirmation
+
+landed_number : (end : ClientEnd) (error : Bool) (now : ℕ) (o : Number) (acked sent : ℕ) → NumberIs end o acked sent → NumberIs (after_confirmed end error now) o acked sent
+unfolding after_confirmed
+landed_number (Asked d) error now o acked sent h = absurd h
+landed_number (Up p) error now o acked sent h = h
+landed_number (Asking p q) error now o acked sent h = h
+landed_number (Awaiting p) error now o acked sent h = h
+landed_number Ended error now o acked sent h = h
+
+landed_expected : (end : ClientEnd) (error : Bool) (now : ℕ) (o : Number) (acked sent n : ℕ) → NumberIs end o acked sent → ExpectedIs end n → ExpectedIs (after_confirmed end error now) n
+unfolding after_confirmed
+landed_expected (Asked d) error now o acked sent n h e = absurd h
+landed_expected (Up p) error now o acked sent n h e = e
+landed_expected (Asking p q) error now o acked sent n h e = e
+landed_expected (Awaiting p) error now o acked sent n h e = e
+landed_expected Ended error now o acked sent n h e = e
+
+landed_awaits : (end : ClientEnd) (error : Bool) (now : ℕ) (o : Number) (acked sent : ℕ) → NumberIs end o acked sent → awaits (after_confirmed end error now) ≡ awaits end
+unfolding after_confirmed
+landed_awaits (Asked d) error now o acked sent h = absurd h
+landed_awaits (Up p) error now o acked sent h = refl
+landed_awaits (Asking p q) error now o acked sent h = refl
+landed_awaits (Awaiting p) error now o acked sent h = refl
+landed_awaits Ended error now o acked sent h = refl
+
+landed_count : (plan : Plan) (t : Attempt) (o : Number) (acked : ℕ) (ans : List (List ℕ)) → Count plan t o acked ans → Count plan (landed t) o acked ans
+landed_count plan t o acked ans h = record { sent = h.sent; number_is = h.number_is; expected_is = h.expected_is; plain = tt; left_is = h.left_is; spoilt = h.spoilt }
+
+con_count : (plan : Plan) (k : ℕ) (t : Attempt) (now : ℕ) (error : Bool) (flying : Option TransportFrame) (o : Number) (acked : ℕ) (ans : List (List ℕ)) → NotEnd flying → Count plan t o acked ans → CountIs plan (confirmed_attempt k t now error flying) o acked ans
+con_count plan k t now error None o acked ans n h = h
+con_count plan k t now error (Some Connect) o acked ans n h = absurd n
+con_count plan k t now error (Some Disconnect) o acked ans n h = absurd n
+con_count plan k t now error (Some (Numbered j apdu)) o acked ans n h =
+    record {
+      sent = h.sent;
+      number_is = landed_number t.end error now o acked h.sent h.number_is;
+      expected_is = landed_expected t.end error now o acked h.sent (length ans) h.number_is h.expected_is;
+      plain = tt;
+      left_is = λ q. subst (λ b. LeftIs b plan t.left h.sent (reverse ans)) (sym (landed_awaits t.end error now o acked h.sent h.number_is)) (h.left_is q);
+      spoilt = h.spoilt;
+    }
+con_count plan k t now error (Some (Ack j)) o acked ans n h = landed_count plan t o acked ans h
+con_count plan k t now error (Some (Nak j)) o acked ans n h = landed_count plan t o acked ans h
+con_count plan k t now error (Some Other) o acked ans n h = landed_count plan t o acked ans h
+
+begun_count : (plan : Plan) (t : Attempt) (now : ℕ) (device : IndAddr) → t.end ≡ Asked device → t.closing ≡ false → t.left ≡ plan → Count plan (landed (record t { end = after_confirmed t.end false now })) (Next 0) 0 []
+unfolding after_confirmed
+begun_count plan t now device e c l =
+    record {
+      sent = 0;
+      number_is = subst (λ z. NumberIs (after_confirmed z false now) (Next 0) 0 0) (sym e) (refl, refl, omega arith);
+      expected_is = subst (λ z. ExpectedIs (after_confirmed z false now) 0) (sym e) refl;
+      plain = tt;
+      left_is = λ q. subst (λ z. LeftIs (awaits (after_confirmed z false now)) plan t.left 0 []) (sym e) (sym l);
+      spoilt = λ q. absurd (let z : true ≡ false = sym q ∙ c in cc);
+    }
+
+module _ (a : ℕ) (device : IndAddr) (plan : Plan) (can : IsSendable plan) (m : Moment) (l : List Moment) where
+  abbrev t : Attempts
+  t = attempts device plan l
+
+  abbrev Kept : Course → Attempts → Type 0
+  Kept c u = CourseIs a device plan c u (m ∷ l)
+
+  grown_kept : (u : Attempts) → (AtRest (attempts device plan l) → AtRest u) → ((c : Course) → CourseIs a device plan c (attempts device plan l) l → Kept (course_after a m c) u) → (ss : List (List Moment)) → StretchIs a device plan ss (attempts device plan l) l → StretchIs a device plan (grown m ss) u (m ∷ l)
+  grown_kept u f g [] h = f h
+  grown_kept u f g (s ∷ older) h = g (course a s) h
+
+  stretch_by : (p : Option TransportFrame) (u : Attempts) → put_to a m.what ≡ p → is_connect p ≡ false → StretchIs a device plan (grown m (stretches a l)) u (m ∷ l) → StretchIs a device plan (stretches a (m ∷ l)) u (m ∷ l)
+  stretch_by p u e n h = subst (λ b. StretchIs a device plan (cond {A = List (List Moment)} b ([] ∷ stretches a l) (grown m (stretches a l))) u (m ∷ l)) (sym (ap is_connect e ∙ n)) h
+
+  -- nothing went through yet
+  no_plan : WentThrough a plan [] → (plan ≡ Over → ⊥) → WasDone a device plan (m ∷ l)
+  no_plan w some = absurd (some w)
+
+  not_service : (p : Option TransportFrame) → put_to a m.what ≡ p → NotService p → NotService (put_to a m.what)
+  not_service p e h = subst NotService (sym e) h
+
+  module _ (p h : Option TransportFrame) (put : put_to a m.what ≡ p) (hear : heard_from a m.what ≡ h) where
+    numbers : (s : List Moment) → number a (m ∷ s) ≡ number_heard h (number_put p (number a s))
+    numbers s = ap (λ z. number_heard z (number_put (put_to a m.what) (number a s))) hear ∙ ap (λ z. number_heard h (number_put z (number a s))) put
+
+    ackeds : (s : List Moment) → acknowledged a (m ∷ s) ≡ (if is_acknowledged h (number a s) then suc (acknowledged a s) else acknowledged a s)
+    ackeds s = ap (λ z. cond {A = ℕ} (is_acknowledged z (number a s)) (suc (acknowledged a s)) (acknowledged a s)) hear
+
+    answereds : (s : List Moment) → answers a (m ∷ s) ≡ answer_expected h (length (answers a s)) (answers a s)
+    answereds s = ap (λ z. answer_expected z (length (answers a s)) (answers a s)) hear
+
+    ends : (s : List Moment) (b : Bool) → is_loss m.what ≡ b → ends_session a m s ≡ (b || is_disconnect p || closes_by h (number a s))
+    ends s b e =
+        ap (λ z. z || is_disconnect (put_to a m.what) || closes_by (heard_from a m.what) (number a s)) e ∙ ap (λ z. b || is_disconnect z || closes_by (heard_from a m.what) (number a s)) put
+        ∙ ap (λ z. b || is_disconnect p || closes_by z (number a s)) hear
+
+    -- the session goes on
+    on : (s : List Moment) (u : Attempts) → ends_session a m s ≡ false
+        → CountIs plan u (number_heard h (number_put p (number a s))) (if is_acknowledged h (number a s) then suc (acknowledged a s) else acknowledged a s) (answer_expected h (length (answers a s)) (answers a s)) → Kept (course_after a m (InSession s)) u
+    on s u e k =
+        subst (λ b. Kept (cond {A = Course} b (Left (m ∷ s)) (InSession (m ∷ s))) u) (sym e)
+        (subst (λ z. CountIs plan u z (acknowledged a (m ∷ s)) (answers a (m ∷ s))) (sym (numbers s)) (subst (λ z. CountIs plan u (number_heard h (number_put p (number a s))) z (answers a (m ∷ s))) (sym (ackeds s))
+        (subst (λ z. CountIs plan u (number_heard h (number_put p (number a s))) (if is_acknowledged h (number a s) then suc (acknowledged a s) else acknowledged a s) z) (sym (answereds s)) k)))
+
+    -- or ends
+    off : (s : List Moment) (u : Attempts) → ends_session a m s ≡ true → Idle u → NotService p → (if is_acknowledged h (number a s) then suc (acknowledged a s) else acknowledged a s) ≡ acknowledged a s → answer_expected h (length (answers a s)) (answers a s) ≡ answers a s
+        → CountIs plan (attempts device plan l) (number a s) (acknowledged a s) (answers a s) → Kept (course_after a m (InSession s)) u
+    off s u e idle ns ack ans k =
+        subst (λ b. Kept (cond {A = Course} b (Left (m ∷ s)) (InSession (m ∷ s))) u) (sym e) (idle, λ w some.
+            Later (Now (done_now plan (attempts device plan l) (number a s) (acknowledged a s) (answers a s) k
+            (subst (λ z. Reaches plan z (reverse (answers a s)) Over) (ackeds s ∙ ack) (subst (λ z. Reaches plan (acknowledged a (m ∷ s)) (reverse z) Over) (answereds s ∙ ans) w)))) (not_service p put ns))
+
+  -- a left session stays so
+  left_kept : (s : List Moment) (u : Attempts) (p : Option TransportFrame) → put_to a m.what ≡ p → NotService p → Idle u → CourseIs a device plan (Left s) (attempts device plan l) l → Kept (Left s) u
+  left_kept s u p e ns idle h = (idle, λ w some. Later (h.1 w some) (not_service p e ns))
+
+  unconfirmed_by : (b : Bool) (o : Option Bool) (u : Attempts) → is_loss m.what ≡ b → confirmation_in m.what ≡ o → Kept (if b then Left [] else course_from o) u → Kept (course_after a m Unconfirmed) u
+  unconfirmed_by b o u e c h = subst (λ z. Kept (cond {A = Course} z (Left []) (course_from (confirmation_in m.what))) u) (sym e) (subst (λ z. Kept (cond {A = Course} b (Left []) (course_from z)) u) (sym c) h)
+
+  -- ---- the channel is lost
+  lost_course : is_loss m.what ≡ true → put_to a m.what ≡ None → heard_from a m.what ≡ None → (k : ℕ) (c : Course) → CourseIs a device plan c (attempts device plan l) l → Kept (course_after a m c) (Resting k)
+  lost_course e p h k Unconfirmed q = unconfirmed_by true (confirmation_in m.what) (Resting k) e refl (tt, no_plan)
+  lost_course e p h k WithError q = tt
+  lost_course e p h k (InSession s) q = off None None p h s (Resting k) (ends None None p h s true e) tt tt refl refl q
+  lost_course e p h k (Left s) q = left_kept s (Resting k) None p tt tt q
+
+  -- ---- nothing comes or goes
+  plain_course : is_loss m.what ≡ false → put_to a m.what ≡ None → confirmation_in m.what ≡ None → heard_from a m.what ≡ None → (c : Course) → CourseIs a device plan c (attempts device plan l) l → Kept (course_after a m c) (aged m.now (attempts device plan l))
+  plain_course e p c h Unconfirmed q = unconfirmed_by false None (aged m.now (attempts device plan l)) e c (aged_begun plan (attempts device plan l) m.now q)
+  plain_course e p c h WithError q = tt
+  plain_course e p c h (InSession s) q = on None None p h s (aged m.now (attempts device plan l)) (ends None None p h s false e) (aged_count plan (attempts device plan l) m.now (number a s) (acknowledged a s) (answers a s) q)
+  plain_course e p c h (Left s) q = left_kept s (aged m.now (attempts device plan l)) None p tt (aged_idle (attempts device plan l) m.now q.0) q
