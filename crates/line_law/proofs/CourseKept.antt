@@ -184,3 +184,90 @@ module _ (a : ℕ) (device : IndAddr) (plan : Plan) (can : IsSendable plan) (m :
   plain_course e p c h WithError q = tt
   plain_course e p c h (InSession s) q = on None None p h s (aged m.now (attempts device plan l)) (ends None None p h s false e) (aged_count plan (attempts device plan l) m.now (number a s) (acknowledged a s) (answers a s) q)
   plain_course e p c h (Left s) q = left_kept s (aged m.now (attempts device plan l)) None p tt (aged_idle (attempts device plan l) m.now q.0) q
+
+  -- ---- a confirmation comes
+  con_on : (k : ℕ) (u : Attempt) (error : Bool) (o : Number) (acked : ℕ) (ans : List (List ℕ)) → Count plan u o acked ans → CountIs plan (confirmed_attempt k u m.now error u.flying) o acked ans
+  con_on k u error o acked ans h = con_count plan k u m.now error u.flying o acked ans h.plain h
+
+  begun_on : (k : ℕ) (u : Attempt) (error : Bool) → is_loss m.what ≡ false → confirmation_in m.what ≡ Some error → Begun plan (Running k u) → Kept (course_after a m Unconfirmed) (confirmed_attempt k u m.now error u.flying)
+  begun_on k u true e c (d, end, fly, open_, left) = unconfirmed_by false (Some true) (confirmed_attempt k u m.now true u.flying) e c tt
+  begun_on k u false e c (d, end, fly, open_, left) =
+      unconfirmed_by false (Some false) (confirmed_attempt k u m.now false u.flying) e c (subst (λ z. CountIs plan (confirmed_attempt k u m.now false z) (Next 0) 0 []) (sym fly) (begun_count plan u m.now d end open_ left))
+
+  con_course : (u : Attempts) (error : Bool) → is_loss m.what ≡ false → put_to a m.what ≡ None → confirmation_in m.what ≡ Some error → heard_from a m.what ≡ None → (c : Course) → CourseIs a device plan c u l → (CourseIs a device plan c u l → CourseIs a device plan c u l)
+      → Kept (course_after a m c) (confirmed_so m.now u (Some error))
+  con_course (Resting k) error e p c h Unconfirmed q f = absurd q
+  con_course (Running k u) error e p c h Unconfirmed q f = begun_on k u error e c q
+  con_course u error e p c h WithError q f = tt
+  con_course (Resting k) error e p c h (InSession s) q f = absurd q
+  con_course (Running k u) error e p c h (InSession s) q f = on None None p h s (confirmed_attempt k u m.now error u.flying) (ends None None p h s false e) (con_on k u error (number a s) (acknowledged a s) (answers a s) q)
+  con_course (Resting k) error e p c h (Left s) q f = (tt, λ w some. Later (q.1 w some) (not_service None p tt))
+  con_course (Running k u) error e p c h (Left s) q f = (ended_confirmed u k m.now error u.flying q.0, λ w some. Later (q.1 w some) (not_service None p tt))
+
+  -- the same course of an attempt that has aged
+  aged_course : (c : Course) → CourseIs a device plan c (attempts device plan l) l → CourseIs a device plan c (aged m.now (attempts device plan l)) l
+  aged_course Unconfirmed q = aged_begun plan (attempts device plan l) m.now q
+  aged_course WithError q = tt
+  aged_course (InSession s) q = aged_count plan (attempts device plan l) m.now (number a s) (acknowledged a s) (answers a s) q
+  aged_course (Left s) q = (aged_idle (attempts device plan l) m.now q.0, q.1)
+
+  con_rest : (u : Attempts) (o : Option Bool) → AtRest u → AtRest (confirmed_so m.now u o)
+  con_rest (Resting k) o h = h
+  con_rest (Running k u) o h = absurd h
+
+  -- ---- a frame of the device comes
+  hear_rest : (u : Attempts) (o : Option TransportFrame) → AtRest u → AtRest (heard_so m.now u o)
+  hear_rest (Resting k) o h = h
+  hear_rest (Running k u) o h = absurd h
+
+  dropped_on : (k : ℕ) (u : Attempt) (took : ClientTook) (P : Attempts → Type 0) → took ≡ heard.Dropped → P (Running k u) → P (heard_attempt k u m.now took)
+  dropped_on k u took P e h = subst (λ z. P (heard_attempt k u m.now z)) (sym e) h
+
+  hear_session : (k : ℕ) (u : Attempt) (y : TransportFrame) (s : List Moment) (b : Bool) → closes_by (Some y) (number a s) ≡ b → is_loss m.what ≡ false → put_to a m.what ≡ None → heard_from a m.what ≡ Some y → CountIs plan (attempts device plan l) (number a s) (acknowledged a s) (answers a s)
+      → Count plan u (number a s) (acknowledged a s) (answers a s) → Kept (course_after a m (InSession s)) (heard_attempt k u m.now (client_took u.end y))
+  hear_session k u y s true close e p h q c =
+      let x : Closes (number a s) y (acknowledged a s) (answers a s) (client_took u.end y) = end_closes u.end y (number a s) (acknowledged a s) c.sent (answers a s) c.number_is close in
+      off None (Some y) p h s (heard_attempt k u m.now (client_took u.end y)) (ends None (Some y) p h s false e ∙ close) (closed_idle k u m.now (client_took u.end y) x.close x.is) tt x.uncounted x.unanswered q
+  hear_session k u y s false close e p h q c =
+      on None (Some y) p h s (heard_attempt k u m.now (client_took u.end y)) (ends None (Some y) p h s false e ∙ close)
+      (heard_count plan k u (number a s) _ (acknowledged a s) _ m.now (answers a s) _ (client_took u.end y) (heard_effect u.end y (number a s) (acknowledged a s) c.sent (answers a s) c.number_is c.expected_is close) c)
+
+  hear_course : (u : Attempts) (y : TransportFrame) → is_loss m.what ≡ false → put_to a m.what ≡ None → confirmation_in m.what ≡ None → heard_from a m.what ≡ Some y → (c : Course) → CourseIs a device plan c (attempts device plan l) l → CourseIs a device plan c u l → Kept (course_after a m c) (heard_so m.now u (Some y))
+  hear_course (Resting k) y e p c h Unconfirmed q r = absurd r
+  hear_course (Running k u) y e p c h Unconfirmed q r =
+      unconfirmed_by false None (heard_attempt k u m.now (client_took u.end y)) e c (dropped_on k u (client_took u.end y) (Begun plan) (asked_took u.end r.0 y r.1) r)
+  hear_course u y e p c h WithError q r = tt
+  hear_course (Resting k) y e p c h (InSession s) q r = absurd r
+  hear_course (Running k u) y e p c h (InSession s) q r = hear_session k u y s (closes_by (Some y) (number a s)) refl e p h q r
+  hear_course (Resting k) y e p c h (Left s) q r = (tt, λ w some. Later (r.1 w some) (not_service None p tt))
+  hear_course (Running k u) y e p c h (Left s) q r = (dropped_on k u (client_took u.end y) Idle (ended_took u.end y r.0) r.0, λ w some. Later (r.1 w some) (not_service None p tt))
+
+  -- ---- a frame is put to it
+  abbrev Free : Attempts → Type 0
+  Free (Resting k) = Unit {0}
+  Free (Running k u) = u.flying ≡ None
+
+  stayed_ended : (end : ClientEnd) (now : ℕ) → end ≡ Ended → client_stayed end now ≡ Ended
+  stayed_ended end now e = ap (λ z. client_stayed z now) e
+
+  put_running : (k : ℕ) (u : Attempt) (x : TransportFrame) (octets : List ℕ) → is_loss m.what ≡ false → put_to a m.what ≡ Some x → confirmation_in m.what ≡ None → heard_from a m.what ≡ None → frame_in octets ≡ x → MayPut (Running k u) m.now octets x → u.flying ≡ None → (c : Course)
+      → CourseIs a device plan c (attempts device plan l) l → CourseIs a device plan c (Running k u) l → Kept (course_after a m c) (Running k (put_attempt u m.now x))
+  put_running k u x octets e p c h read may free Unconfirmed q r = absurd (let z : None ≡ Some Connect = sym free ∙ r.2 in cc)
+  put_running k u x octets e p c h read may free WithError q r = tt
+  put_running k u Connect octets e p c h read may free (InSession s) q r = absurd may
+  put_running k u Disconnect octets e p c h read may free (InSession s) q r = off (Some Disconnect) None p h s (Running k (put_attempt u m.now Disconnect)) (ends (Some Disconnect) None p h s false e) refl tt refl refl q
+  put_running k u (Ack j) octets e p c h read may free (InSession s) q r =
+      on (Some (Ack j)) None p h s (Running k (put_attempt u m.now (Ack j))) (ends (Some (Ack j)) None p h s false e)
+      (stayed_count plan u (number a s) (acknowledged a s) m.now (answers a s) (drop 1 u.owed) (Some (Ack j)) tt r)
+  put_running k u (Nak j) octets e p c h read may free (InSession s) q r =
+      on (Some (Nak j)) None p h s (Running k (put_attempt u m.now (Nak j))) (ends (Some (Nak j)) None p h s false e)
+      (stayed_count plan u (number a s) (acknowledged a s) m.now (answers a s) (drop 1 u.owed) (Some (Nak j)) tt r)
+  put_running k u (Numbered j apdu) octets e p c h read may free (InSession s) q r =
+      on (Some (Numbered j apdu)) None p h s (Running k (put_attempt u m.now (Numbered j apdu))) (ends (Some (Numbered j apdu)) None p h s false e) (numbered_count plan u (number a s) (acknowledged a s) m.now j (answers a s) apdu octets can read may r)
+  put_running k u Other octets e p c h read may free (InSession s) q r = absurd may
+  put_running k u Connect octets e p c h read may free (Left s) q r = absurd may
+  put_running k u Disconnect octets e p c h read may free (Left s) q r = (refl, λ w some. Later (r.1 w some) (not_service (Some Disconnect) p tt))
+  put_running k u (Ack j) octets e p c h read may free (Left s) q r = (stayed_ended u.end m.now r.0, λ w some. Later (r.1 w some) (not_service (Some (Ack j)) p tt))
+  put_running k u (Nak j) octets e p c h read may free (Left s) q r = (stayed_ended u.end m.now r.0, λ w some. Later (r.1 w some) (not_service (Some (Nak j)) p tt))
+  put_running k u (Numbered j apdu) octets e p c h read may free (Left s) q r = absurd (ended_asks u m.now apdu octets r.0 may)
+  put_running k u Other octets e p c h read may free (Left s) q r = absurd may
