@@ -112,6 +112,35 @@ begun_count plan t now device e c l =
       spoilt = λ q. absurd (let z : true ≡ false = sym q ∙ c in cc);
     }
 
+-- what an attempt that runs may put
+abbrev pub Allowed : Attempt → ℕ → List ℕ → TransportFrame → Type 0
+Allowed u now octets Connect = ⊥
+Allowed u now octets Disconnect = Unit {0}
+Allowed u now octets (Ack j) = Unit {0}
+Allowed u now octets (Nak j) = Unit {0}
+Allowed u now octets (Numbered j apdu) = MayAsk u now apdu octets
+Allowed u now octets Other = ⊥
+
+aged_allowed : (k : ℕ) (u : Attempt) (b : Bool) (now : ℕ) (octets : List ℕ) (x : TransportFrame) → MayPut (Running k u) now octets x → Allowed (record u { lapsed = b }) now octets x
+aged_allowed k u b now octets Connect h = h
+aged_allowed k u b now octets Disconnect h = tt
+aged_allowed k u b now octets (Ack j) h = tt
+aged_allowed k u b now octets (Nak j) h = tt
+aged_allowed k u b now octets (Numbered j apdu) h =
+    record { owes_nothing = h.owes_nothing; which = elim h.which [ inl q ↦ inl (record { session = q.session; up = q.up; goes_on = q.goes_on; expect = q.expect; next = q.next; head = q.head; as_sent = q.as_sent }) | inr due ↦ inr due ] }
+aged_allowed k u b now octets Other h = h
+
+abbrev pub Free : Attempts → Type 0
+Free (Resting k) = Unit {0}
+Free (Running k u) = u.flying ≡ None
+
+-- what is put to the device is allowed
+pub record PutsSo (t : Attempts) (now : ℕ) (x : TransportFrame) : Type 0 where
+  pub octets : List ℕ
+  pub reads : frame_in octets ≡ x
+  pub may : MayPut t now octets x
+  pub free : Free t
+
 module _ (a : ℕ) (device : IndAddr) (plan : Plan) (can : IsSendable plan) (m : Moment) (l : List Moment) where
   abbrev t : Attempts
   t = attempts device plan l
@@ -243,14 +272,10 @@ module _ (a : ℕ) (device : IndAddr) (plan : Plan) (can : IsSendable plan) (m :
   hear_course (Running k u) y e p c h (Left s) q r = (dropped_on k u (client_took u.end y) Idle (ended_took u.end y r.0) r.0, λ w some. Later (r.1 w some) (not_service None p tt))
 
   -- ---- a frame is put to it
-  abbrev Free : Attempts → Type 0
-  Free (Resting k) = Unit {0}
-  Free (Running k u) = u.flying ≡ None
-
   stayed_ended : (end : ClientEnd) (now : ℕ) → end ≡ Ended → client_stayed end now ≡ Ended
   stayed_ended end now e = ap (λ z. client_stayed z now) e
 
-  put_running : (k : ℕ) (u : Attempt) (x : TransportFrame) (octets : List ℕ) → is_loss m.what ≡ false → put_to a m.what ≡ Some x → confirmation_in m.what ≡ None → heard_from a m.what ≡ None → frame_in octets ≡ x → MayPut (Running k u) m.now octets x → u.flying ≡ None → (c : Course)
+  put_running : (k : ℕ) (u : Attempt) (x : TransportFrame) (octets : List ℕ) → is_loss m.what ≡ false → put_to a m.what ≡ Some x → confirmation_in m.what ≡ None → heard_from a m.what ≡ None → frame_in octets ≡ x → Allowed u m.now octets x → u.flying ≡ None → (c : Course)
       → CourseIs a device plan c (attempts device plan l) l → CourseIs a device plan c (Running k u) l → Kept (course_after a m c) (Running k (put_attempt u m.now x))
   put_running k u x octets e p c h read may free Unconfirmed q r = absurd (let z : None ≡ Some Connect = sym free ∙ r.2 in cc)
   put_running k u x octets e p c h read may free WithError q r = tt
@@ -271,3 +296,69 @@ module _ (a : ℕ) (device : IndAddr) (plan : Plan) (can : IsSendable plan) (m :
   put_running k u (Nak j) octets e p c h read may free (Left s) q r = (stayed_ended u.end m.now r.0, λ w some. Later (r.1 w some) (not_service (Some (Nak j)) p tt))
   put_running k u (Numbered j apdu) octets e p c h read may free (Left s) q r = absurd (ended_asks u m.now apdu octets r.0 may)
   put_running k u Other octets e p c h read may free (Left s) q r = absurd may
+
+  -- ---- whichever it is
+  after_is : device.raw ≡ a → (b : Bool) (p h : Option TransportFrame) (c : Option Bool) → is_loss m.what ≡ b → put_to a m.what ≡ p → confirmation_in m.what ≡ c → heard_from a m.what ≡ h
+      → attempts_after device plan m (attempts device plan l) ≡ (if b then Resting (begun (attempts device plan l)) else heard_so m.now (confirmed_so m.now (put_so device plan m.now (aged m.now (attempts device plan l)) p) c) h)
+  after_is raw b p h c e q k f =
+      let t : Attempts = attempts device plan l in
+      ap (λ z. cond {A = Attempts} (is_loss m.what) (Resting (begun t)) (heard_so m.now (confirmed_so m.now (put_so device plan m.now (aged m.now t) (put_to z m.what)) (confirmation_in m.what)) (heard_from z m.what))) raw
+      ∙ ap (λ z. cond {A = Attempts} z (Resting (begun t)) (heard_so m.now (confirmed_so m.now (put_so device plan m.now (aged m.now t) (put_to a m.what)) (confirmation_in m.what)) (heard_from a m.what))) e
+      ∙ ap (λ z. cond {A = Attempts} b (Resting (begun t)) (heard_so m.now (confirmed_so m.now (put_so device plan m.now (aged m.now t) z) (confirmation_in m.what)) (heard_from a m.what))) q
+      ∙ ap (λ z. cond {A = Attempts} b (Resting (begun t)) (heard_so m.now (confirmed_so m.now (put_so device plan m.now (aged m.now t) p) z) (heard_from a m.what))) k
+      ∙ ap (λ z. cond {A = Attempts} b (Resting (begun t)) (heard_so m.now (confirmed_so m.now (put_so device plan m.now (aged m.now t) p) c) z)) f
+
+  abbrev Done : Type 0
+  Done = StretchIs a device plan (stretches a (m ∷ l)) (attempts_after device plan m (attempts device plan l)) (m ∷ l)
+
+  with_after : (u : Attempts) → attempts_after device plan m (attempts device plan l) ≡ u → StretchIs a device plan (stretches a (m ∷ l)) u (m ∷ l) → Done
+  with_after u e h = subst (λ z. StretchIs a device plan (stretches a (m ∷ l)) z (m ∷ l)) (sym e) h
+
+  put_other_kept : (t : Attempts) (x : TransportFrame) (octets : List ℕ) → is_loss m.what ≡ false → put_to a m.what ≡ Some x → confirmation_in m.what ≡ None → heard_from a m.what ≡ None → frame_in octets ≡ x → is_connect (Some x) ≡ false → MayPut t m.now octets x → Free t
+      → ((c : Course) → CourseIs a device plan c (attempts device plan l) l → CourseIs a device plan c (aged m.now t) l) → (AtRest (attempts device plan l) → AtRest t) → StretchIs a device plan (stretches a l) (attempts device plan l) l
+      → StretchIs a device plan (grown m (stretches a l)) (put_other (aged m.now t) m.now x) (m ∷ l)
+  put_other_kept (Resting k) Connect octets e p c h read n may free f g s = absurd (cc)
+  put_other_kept (Resting k) Disconnect octets e p c h read n may free f g s = absurd may
+  put_other_kept (Resting k) (Ack j) octets e p c h read n may free f g s = absurd may
+  put_other_kept (Resting k) (Nak j) octets e p c h read n may free f g s = absurd may
+  put_other_kept (Resting k) (Numbered j apdu) octets e p c h read n may free f g s = absurd may
+  put_other_kept (Resting k) Other octets e p c h read n may free f g s = absurd may
+  put_other_kept (Running k u) x octets e p c h read n may free f g s =
+      grown_kept (put_other (aged m.now (Running k u)) m.now x) (λ r. absurd (g r))
+      (λ y q. put_running k (record u { lapsed = u.lapsed || is_silent (client_expired u.end m.now) }) x octets e p c h read (aged_allowed k u (u.lapsed || is_silent (client_expired u.end m.now)) m.now octets x may) free y q (f y q)) (stretches a l) s
+
+  other_kind : (x : TransportFrame) → is_connect (Some x) ≡ false → put_so device plan m.now (aged m.now (attempts device plan l)) (Some x) ≡ put_other (aged m.now (attempts device plan l)) m.now x → device.raw ≡ a → is_loss m.what ≡ false → put_to a m.what ≡ Some x → confirmation_in m.what ≡ None
+      → heard_from a m.what ≡ None → PutsSo (attempts device plan l) m.now x → StretchIs a device plan (stretches a l) (attempts device plan l) l → Done
+  other_kind x n so raw e p c h may s =
+      let u : Attempts = put_other (aged m.now (attempts device plan l)) m.now x in
+      with_after u (after_is raw false (Some x) None None e p c h ∙ ap (λ z. heard_so m.now (confirmed_so m.now z None) None) so ∙ heard_none m.now (confirmed_so m.now u None) ∙ confirmed_none m.now u)
+      (stretch_by (Some x) u p n (put_other_kept (attempts device plan l) x may.octets e p c h may.reads n may.may may.free (λ y q. aged_course y q) (λ q. q) s))
+
+  put_kind : (x : TransportFrame) → device.raw ≡ a → is_loss m.what ≡ false → put_to a m.what ≡ Some x → confirmation_in m.what ≡ None → heard_from a m.what ≡ None → PutsSo (attempts device plan l) m.now x → StretchIs a device plan (stretches a l) (attempts device plan l) l → Done
+  put_kind Connect raw e p c h may s =
+      with_after (Running (suc (begun (aged m.now (attempts device plan l)))) (first device plan)) (after_is raw false (Some Connect) None None e p c h)
+      (subst (λ b. StretchIs a device plan (cond {A = List (List Moment)} b ([] ∷ stretches a l) (grown m (stretches a l))) (Running (suc (begun (aged m.now (attempts device plan l)))) (first device plan)) (m ∷ l)) (sym (ap is_connect p)) (device, refl, refl, refl, refl))
+  put_kind Disconnect raw e p c h may s = other_kind Disconnect refl refl raw e p c h may s
+  put_kind (Ack j) raw e p c h may s = other_kind (Ack j) refl refl raw e p c h may s
+  put_kind (Nak j) raw e p c h may s = other_kind (Nak j) refl refl raw e p c h may s
+  put_kind (Numbered j apdu) raw e p c h may s = other_kind (Numbered j apdu) refl refl raw e p c h may s
+  put_kind Other raw e p c h may s = other_kind Other refl refl raw e p c h may s
+
+  pub course_kept : device.raw ≡ a → Kind a m.what → ((x : TransportFrame) → put_to a m.what ≡ Some x → PutsSo (attempts device plan l) m.now x) → StretchIs a device plan (stretches a l) (attempts device plan l) l → Done
+  course_kept raw (Lost e p c h) allowed s =
+      let k : ℕ = begun (attempts device plan l) in
+      with_after (Resting k) (after_is raw true (put_to a m.what) (heard_from a m.what) (confirmation_in m.what) e refl refl refl)
+      (stretch_by None (Resting k) p refl (grown_kept (Resting k) (λ q. tt) (λ y q. lost_course e p h k y q) (stretches a l) s))
+  course_kept raw (Plain e p c h) allowed s =
+      let u : Attempts = aged m.now (attempts device plan l) in
+      with_after u (after_is raw false None None None e p c h ∙ heard_none m.now (confirmed_so m.now u None) ∙ confirmed_none m.now u)
+      (stretch_by None u p refl (grown_kept u (aged_rest (attempts device plan l) m.now) (λ y q. plain_course e p c h y q) (stretches a l) s))
+  course_kept raw (Put x e p c h) allowed s = put_kind x raw e p c h (allowed x p) s
+  course_kept raw (Confirmed error e p c h) allowed s =
+      let u : Attempts = confirmed_so m.now (aged m.now (attempts device plan l)) (Some error) in
+      with_after u (after_is raw false None None (Some error) e p c h ∙ heard_none m.now u)
+      (stretch_by None u p refl (grown_kept u (λ q. con_rest (aged m.now (attempts device plan l)) (Some error) (aged_rest (attempts device plan l) m.now q)) (λ y q. con_course (aged m.now (attempts device plan l)) error e p c h y (aged_course y q) (λ z. z)) (stretches a l) s))
+  course_kept raw (Hears y e p c h) allowed s =
+      let u : Attempts = heard_so m.now (aged m.now (attempts device plan l)) (Some y) in
+      with_after u (after_is raw false None (Some y) None e p c h ∙ ap (λ z. heard_so m.now z (Some y)) (confirmed_none m.now (aged m.now (attempts device plan l))))
+      (stretch_by None u p refl (grown_kept u (λ q. hear_rest (aged m.now (attempts device plan l)) (Some y) (aged_rest (attempts device plan l) m.now q)) (λ z q. hear_course (aged m.now (attempts device plan l)) y e p c h z q (aged_course z q)) (stretches a l) s))
