@@ -33,3 +33,4 @@ mod Counting
 mod Courses
 mod CourseSteps
 mod CourseKept
+mod Whole
