@@ -56,7 +56,7 @@ use Rattle.line_law.proofs.Stepping.{HeldJob, HeldPlan, Attempted, AllAttempted,
 use Rattle.tunnel_law.proofs.Law.{renews_before, sends_before}
 use Rattle.line_model.specs.Record.{item_of}
 use Rattle.line_model.specs.World.{AtGateway, Comes, IsLost, carried, heard, next_frame, waiting_at, repeat_at, Send, From, Renew, Up, UpRefused, Down, LoseUp, LoseDown, Bus, BusTorn, BusWorn, BusAgain, DevSend, DevRepeat, DevClose, GwAgain, GwRepeat, GwClose, Cut, On, Pass}
-use Rattle.line_law.proofs.Following.{stays_present, renewed_fresh, renewed_nothing, shut_by, one_job, attempted_same, attempted_more}
+use Rattle.line_law.proofs.Following.{attempted_late, stays_present, renewed_fresh, renewed_nothing, shut_by, one_job, attempted_same, attempted_more}
 
 -- ---- what is known of a run
 
@@ -117,6 +117,7 @@ pub record StepBy (jobs : List Job) (log : List LogEntry) (a n : ℕ) (w : World
   pub coupled : Coupled a w k (replay s more)
   pub attempted : AllAttempted jobs (log_before (suc (suc n)) log) a (moments places) (replay s more).client
   pub adds : Adds jobs (log_before (suc n) log) a (suc n) more old (moments places)
+  pub late : AllAttempted jobs (log_before (suc n) log) a (moments places) (replay s more).client  -- of the jobs that were held up to then
 
 pub record Follower (jobs : List Job) (log : List LogEntry) (a : ℕ) (start : World) (events : List Event) (s : SessionWorld) : Type 0 where
   pub coupled : Coupled a (line.replay start events) (record_of start events) s
@@ -142,6 +143,7 @@ module _ (jobs : List Job) (turns : List GroupTurn) (count : ℕ) (log : List Lo
         coupled = h.coupled;
         attempted = attempted_same jobs turns count log form alone a (length events) (moments (placed start events)) s.client (replay s h.more).client (upto_more (length events) (moments (placed start events)) (moments_upto start events)) (buses_client s h.more h.silent) f.attempted;
         adds = Same refl (buses_silent h.more h.silent);
+        late = λ q. subst (Attempted a (moments (placed start events)) q.job q.since) (sym (buses_client s h.more h.silent)) (f.attempted q);
       }
 
   -- with an entry that is no renewal, from a session that may have gone on already
@@ -177,6 +179,9 @@ module _ (jobs : List Job) (turns : List GroupTurn) (count : ℕ) (log : List Lo
         adds = One (record { what = deed (channel (entries older)) x; now = x.now; at = suc (length events) }) refl refl
             (subst (λ y. AsksNothing (g.more ++ first) ⊎ IsService (put_to a y)) (sym deed_is) (elim g.asks [ inl q ↦ inl (silent_more g.more q silent) | inr q ↦ inr q ]))
             (λ h y put. g.puts h y (ap (put_to a) (sym deed_is) ∙ put));
+        late = subst (λ y. AllAttempted jobs (log_before (suc (length events)) log) a (moments (record { at = suc (length events); what = x } ∷ older)) y.client) (sym whole)
+            (subst (λ y. AllAttempted jobs (log_before (suc (length events)) log) a (record { what = y; now = x.now; at = suc (length events) } ∷ moments older) (replay z g.more).client) (sym deed_is)
+            (attempted_late jobs turns count log form alone a (length events) (record { what = deed (channel r) x; now = x.now; at = suc (length events) }) (moments older) (replay z g.more).client refl g.attempted));
       }
     where
       same_place : (m : ℕ) → m ≤ m
@@ -243,6 +248,9 @@ module _ (jobs : List Job) (turns : List GroupTurn) (count : ℕ) (log : List Lo
                 (λ q. still_attempt a q.job.device q.job.plan (attempts q.job.device q.job.plan (logs.after q.since (moments (placed start events)))) s.client t (suc (length events)) (f.attempted q)));
         adds = One (record { what = deed (channel (entries (placed start events))) x; now = t; at = suc (length events) }) refl refl (inl tt)
             (λ q y put. absurd (let z : None ≡ Some y = sym (ap (put_to a) deed_is) ∙ put in cc));
+        late = subst (λ z. AllAttempted jobs (log_before (suc (length events)) log) a (record { what = z; now = t; at = suc (length events) } ∷ moments (placed start events)) s.client) (sym deed_is)
+            (attempted_late jobs turns count log form alone a (length events) (record { what = view.Nothing; now = t; at = suc (length events) }) (moments (placed start events)) s.client refl
+                (λ q. still_attempt a q.job.device q.job.plan (attempts q.job.device q.job.plan (logs.after q.since (moments (placed start events)))) s.client t (suc (length events)) (f.attempted q)));
       }
     where
       here : (m : ℕ) → m ≤ m
