@@ -34,3 +34,4 @@ mod Courses
 mod CourseSteps
 mod CourseKept
 mod Whole
+mod Went
