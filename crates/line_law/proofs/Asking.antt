@@ -26,13 +26,14 @@ use Rattle.line_model.specs.World.{on_bus}
 use Rattle.session_law.specs.World.{World as SessionWorld, Client}
 use Rattle.session_law.specs.Client.{asks_so, waits_so, replies_so}
 use Rattle.session_law.specs.Events.{Event as SessionEvent, Connects, Asks, Waits, Replies, Leaves, step, MayHappen}
-use Rattle.load_law.specs.Download.{Went, Acknowledged, MayAsk}
+use Rattle.load_law.specs.Download.{Went, Acknowledged, IsSilent, MayAsk}
 use Rattle.load_law.proofs.Walked.{sendable}
 use Rattle.line_law.proofs.Queue.{is_its}
 use Rattle.line_law.proofs.Opened.{PutBy}
 use Rattle.line_law.proofs.Attempting.{NotConnect, IsService, FlyFits, IsAwaited, Stands, InPlan, IsWith, Runs, AttemptIs}
 use Rattle.line_law.proofs.Hearing.{stayed_with, stayed_stands}
 use Rattle.line_law.proofs.Telling.{aged_runs}
+use Rattle.line_law.proofs.Courses.{NotService}
 
 -- ---- the octets of a T_Connect and of a T_Disconnect
 
@@ -116,6 +117,7 @@ pub record PutsGoes (a : ℕ) (address : IndAddr) (IsJob : Plan → Type 0) (dev
   pub is : step s event ≡ after
   pub may : MayHappen s event
   pub asks : MayAsk IsJob s event
+  pub quiet : NotService (Some (frame_in f.tpdu)) → IsSilent event
   pub by : PutBy a address f s after
   pub attempt : AttemptIs a plan t after.client
 
@@ -143,6 +145,7 @@ module _ (a : ℕ) (address : IndAddr) (IsJob : Plan → Type 0) (device : IndAd
         is = refl;
         may = (free, joined);
         asks = tt;
+        quiet = λ q. tt;
         by = record { device = refl; same_me = refl; same_now = refl; echo = refl; coming = refl; joined = refl; flying = λ q. fly_is a address f s (Written tpdu.Connect) same_me named group to (connect_octets f.tpdu e); pending = λ q. inr its };
         attempt = record { end_is = ap (λ z. Asked z) same; owed_is = refl; flies = refl; fits = refl; with_it = raw; joined = joined; stands = λ q. refl };
       }
@@ -160,6 +163,7 @@ module _ (a : ℕ) (address : IndAddr) (IsJob : Plan → Type 0) (device : IndAd
           is = refl;
           may = (free, joined);
           asks = tt;
+          quiet = λ q. tt;
           by = record { device = refl; same_me = refl; same_now = refl; echo = refl; coming = refl; joined = refl; flying = λ q. fly_is a address f s disconnect same_me named group to (disconnect_octets f.tpdu e); pending = λ q. inr its };
           attempt = record { end_is = refl; owed_is = refl; flies = refl; fits = tt; with_it = tt; joined = joined; stands = λ q. absurd (cc) };
         }
@@ -174,6 +178,7 @@ module _ (a : ℕ) (address : IndAddr) (IsJob : Plan → Type 0) (device : IndAd
           is = ap (replies_so s) owed;
           may = free;
           asks = tt;
+          quiet = λ q. tt;
           by = record { device = refl; same_me = refl; same_now = refl; echo = refl; coming = refl; joined = refl; flying = λ q. fly_is a address f s f.tpdu same_me named group to refl; pending = λ q. inr its };
           attempt = record {
             end_is = ap (λ z. client_stayed z now) h.end_is ∙ ap (client_stayed s.client.end) (sym same_now);
@@ -207,8 +212,8 @@ module _ (a : ℕ) (address : IndAddr) (IsJob : Plan → Type 0) (device : IndAd
     abbrev asked_attempt : ℕ → List ℕ → Option (List ℕ) → Attempt
     asked_attempt n apdu o = record (sends_numbered t apdu now o) { flying = Some (Numbered n apdu) }
 
-    asks : (n : ℕ) (apdu : List ℕ) → IsNext t apdu f.tpdu → Put (Running k (asked_attempt n apdu (client_sent t.end apdu)))
-    asks n apdu q =
+    asks : (n : ℕ) (apdu : List ℕ) → frame_in f.tpdu ≡ Numbered n apdu → IsNext t apdu f.tpdu → Put (Running k (asked_attempt n apdu (client_sent t.end apdu)))
+    asks n apdu read q =
         let stands : InPlan t.end plan t.left s.client.sent s.client.accepted = h.stands q.goes_on in
         let went : Went plan s.client.sent s.client.accepted (Operation apdu q.expect q.next)
         = subst (Went plan s.client.sent s.client.accepted) q.head (subst (λ z. InPlan z plan t.left s.client.sent s.client.accepted) q.up stands) in
@@ -222,6 +227,7 @@ module _ (a : ℕ) (address : IndAddr) (IsJob : Plan → Type 0) (device : IndAd
           is = ap (asks_so s apdu) sent;
           may = (free, ok.0);
           asks = (plan, job, record { free = ap awaits_nothing up; expect = q.expect; next = q.next; went = went });
+          quiet = λ z. absurd (subst (λ y. NotService (Some y)) read z);
           by = record { device = refl; same_me = refl; same_now = refl; echo = refl; coming = refl; joined = refl; flying = λ z. fly_is a address f s f.tpdu same_me named group to refl; pending = λ z. inr its };
           attempt = record {
             end_is = ap (λ z. after_send z apdu now) h.end_is ∙ ap (after_send s.client.end apdu) (sym same_now);
@@ -250,6 +256,7 @@ module _ (a : ℕ) (address : IndAddr) (IsJob : Plan → Type 0) (device : IndAd
           is = ap (waits_so s) due;
           may = free;
           asks = tt;
+          quiet = λ q. tt;
           by = record { device = refl; same_me = refl; same_now = refl; echo = refl; coming = refl; joined = refl; flying = λ z. fly_is a address f s f.tpdu same_me named group to refl; pending = λ z. inr its };
           attempt = record {
             end_is = ap (λ z. client_repeated z now) h.end_is ∙ ap (client_repeated s.client.end) (sym same_now);
@@ -273,8 +280,8 @@ module _ (a : ℕ) (address : IndAddr) (IsJob : Plan → Type 0) (device : IndAd
       by_wait false q = cc
     repeat_asking Ended e = absurd (let z : over.Nothing ≡ over.Repeat f.tpdu = e in cc)
 
-    numbered : (n : ℕ) (apdu : List ℕ) → MayAskSo t now apdu f.tpdu → Put (Running k (asked_attempt n apdu (client_sent t.end apdu)))
-    numbered n apdu q = elim q.which [ inl next ↦ asks n apdu next | inr again ↦ repeats_so t.end apdu (client_expired t.end now) refl refl (repeat_asking t.end again) n again ]
+    numbered : (n : ℕ) (apdu : List ℕ) → frame_in f.tpdu ≡ Numbered n apdu → MayAskSo t now apdu f.tpdu → Put (Running k (asked_attempt n apdu (client_sent t.end apdu)))
+    numbered n apdu read q = elim q.which [ inl next ↦ asks n apdu read next | inr again ↦ repeats_so t.end apdu (client_expired t.end now) refl refl (repeat_asking t.end again) n again ]
 
   -- ---- whichever it is
 
@@ -285,7 +292,7 @@ module _ (a : ℕ) (address : IndAddr) (IsJob : Plan → Type 0) (device : IndAd
   put_running (Ack n) k t e h may = replies k (record t { lapsed = t.lapsed || is_silent (client_expired t.end now) }) h (Ack n) tt may
   put_running (Nak n) k t e h may = replies k (record t { lapsed = t.lapsed || is_silent (client_expired t.end now) }) h (Nak n) tt may
   put_running (Numbered n apdu) k t e h may =
-      numbered k (record t { lapsed = t.lapsed || is_silent (client_expired t.end now) }) h n apdu
+      numbered k (record t { lapsed = t.lapsed || is_silent (client_expired t.end now) }) h n apdu e
       (record { owes_nothing = may.owes_nothing; which = elim may.which [ inl q ↦ inl (record { session = q.session; up = q.up; goes_on = q.goes_on; expect = q.expect; next = q.next; head = q.head; as_sent = q.as_sent }) | inr q ↦ inr q ] })
   put_running Other k t e h may = absurd may
 

@@ -71,9 +71,9 @@ pub data WasDone (a : ℕ) (device : IndAddr) (plan : Plan) : List Moment → Ty
 
 -- ---- where an attempt stands, by the course of its session
 
-abbrev pub Begun : Attempts → Type 0
-Begun (Resting k) = ⊥
-Begun (Running k t) = (device : IndAddr) × (t.end ≡ Asked device) × (t.flying ≡ Some Connect)
+abbrev pub Begun : Plan → Attempts → Type 0
+Begun plan (Resting k) = ⊥
+Begun plan (Running k t) = (device : IndAddr) × (t.end ≡ Asked device) × (t.flying ≡ Some Connect) × (t.closing ≡ false) × (t.left ≡ plan)
 
 abbrev pub Idle : Attempts → Type 0
 Idle (Resting k) = Unit {0}
@@ -85,7 +85,7 @@ AtRest (Running k t) = ⊥
 
 module _ (a : ℕ) (device : IndAddr) (plan : Plan) where
   abbrev pub CourseIs : Course → Attempts → List Moment → Type 0
-  CourseIs Unconfirmed t l = Begun t
+  CourseIs Unconfirmed t l = Begun plan t
   CourseIs WithError t l = Unit {0}
   CourseIs (InSession s) t l = CountIs plan t (number a s) (acknowledged a s) (answers a s)
   CourseIs (Left s) t l = Idle t × (WentThrough a plan s → (plan ≡ Over → ⊥) → WasDone a device plan l)

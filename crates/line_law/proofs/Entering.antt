@@ -20,7 +20,7 @@ use Rattle.session_law.specs.World.{World as SessionWorld, Client}
 use Rattle.session_law.specs.Device.{carries, carries_lost, gets_again}
 use Rattle.session_law.specs.Events.{Event as SessionEvent, step, replay, IsLegal}
 use Rattle.session_law.specs.Events as event
-use Rattle.load_law.specs.Download.{MayAsk, Follows}
+use Rattle.load_law.specs.Download.{MayAsk, Follows, IsSilent, AsksNothing}
 use Rattle.tunnel_law.proofs.Both.{unique}
 use Rattle.tunnel_law.proofs.Fits.{Book, books, BookIs, IsUp, JoinedFits, Member, Phase}
 use Rattle.tunnel_law.proofs.Law.{HeadIs, head_state}
@@ -94,6 +94,33 @@ bus_asks IsJob s (event.Pass ms) h = tt
 pub buses_follow : (IsJob : Plan → Type 0) (s : SessionWorld) (more : List SessionEvent) → AreBus more → Follows IsJob s more
 buses_follow IsJob s [] h = tt
 buses_follow IsJob s (e ∷ more) h = (bus_asks IsJob (replay s more) e h.0, buses_follow IsJob s more h.1)
+
+bus_silent : (e : SessionEvent) → IsBus e → IsSilent e
+bus_silent event.Connects h = tt
+bus_silent (event.Asks apdu) h = absurd h
+bus_silent event.Waits h = tt
+bus_silent event.Replies h = tt
+bus_silent event.Leaves h = tt
+bus_silent event.Takes h = tt
+bus_silent event.Loses h = tt
+bus_silent (event.Joins n) h = tt
+bus_silent (event.Drops n) h = tt
+bus_silent (event.Bus o) h = tt
+bus_silent event.BusLost h = tt
+bus_silent event.BusAgain h = tt
+bus_silent (event.Group f) h = tt
+bus_silent event.Elsewhere h = tt
+bus_silent (event.DevSend g) h = tt
+bus_silent (event.DevRepeat g) h = tt
+bus_silent event.DevClose h = tt
+bus_silent event.GwAgain h = tt
+bus_silent event.Cut h = tt
+bus_silent event.On h = tt
+bus_silent (event.Pass ms) h = tt
+
+pub buses_silent : (more : List SessionEvent) → AreBus more → AsksNothing more
+buses_silent [] h = tt
+buses_silent (e ∷ more) h = (bus_silent e h.0, buses_silent more h.1)
 
 -- ---- the view stays
 

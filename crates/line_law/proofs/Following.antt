@@ -171,3 +171,10 @@ module _ (jobs : List Job) (turns : List GroupTurn) (count : ℕ) (log : List Lo
             let here : Attempted a (m ∷ l) q.job q.since d = subst (λ z. AttemptIs a q.job.plan (attempts q.job.device q.job.plan z) d) (sym more) (h q) in
             subst (λ z. Attempted a (m ∷ l) z p.since d) job (subst (λ z. Attempted a (m ∷ l) q.job z d) since here))
       ]
+
+  -- and so far, of one that was held
+  pub attempted_late : (n : ℕ) (m : Moment) (l : List Moment) (d : Client) → m.at ≡ suc n → ((q : HeldJob jobs (log_before (suc n) log) a) → AttemptedOn a l m q.job q.since d) → AllAttempted jobs (log_before (suc n) log) a (m ∷ l) d
+  attempted_late n m l d at h q =
+      let le : q.since ≤ n = held_before q.number n q.worker q.since log q.held in
+      let more : logs.after q.since (m ∷ l) ≡ m ∷ logs.after q.since l = after_more q.since m l (omega (arith, le, at)) in
+      subst (λ z. AttemptIs a q.job.plan (attempts q.job.device q.job.plan z) d) (sym more) (h q)

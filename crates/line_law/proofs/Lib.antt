@@ -32,3 +32,6 @@ mod Reaching
 mod Counting
 mod Courses
 mod CourseSteps
+mod CourseKept
+mod Whole
+mod Went

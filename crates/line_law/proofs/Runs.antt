@@ -25,8 +25,9 @@ use Rattle.load_law.specs.Download.{MayAsk, Follows}
 use Rattle.tunnel_law.proofs.Inside.{Every}
 use Rattle.line_law.proofs.Coupled.{IsFrameOf, OwnIf, Owned, IsOwned, Never, echo_of, Coupled}
 use Rattle.line_law.proofs.Owned.{owned_step}
-use Rattle.line_law.proofs.Stepping.{HeldPlan}
-use Rattle.line_law.proofs.Traces.{IsRun, run_before, StepBy, Follower, event_step}
+use Rattle.line_law.proofs.Stepping.{HeldPlan, AllAttempted}
+use Rattle.line_law.proofs.Traces.{IsRun, run_before, Adds, StepBy, Follower, event_step}
+use Rattle.line_model.specs.Moments.{moments}
 
 -- ---- the beginning
 
@@ -71,11 +72,13 @@ owned_always start (e ∷ events) f = owned_step (line.replay start events) e (o
 pub data Trace (jobs : List Job) (log : List LogEntry) (a : ℕ) (start : World) (d : DeviceState) : List Event → List SessionEvent → Type 0 where
   Begins : Follower jobs log a start [] (fresh (me start) d) → Trace jobs log a start d [] []
   Goes : {events : List Event} {past : List SessionEvent} (e : Event) (more : List SessionEvent) → Trace jobs log a start d events past → IsLegal (replay (fresh (me start) d) past) more
-      → Follows (HeldPlan jobs (log_before (suc (length events)) log) a) (replay (fresh (me start) d) past) more → Follower jobs log a start (e ∷ events) (replay (fresh (me start) d) (more ++ past)) → Trace jobs log a start d (e ∷ events) (more ++ past)
+      → Follows (HeldPlan jobs (log_before (suc (length events)) log) a) (replay (fresh (me start) d) past) more → Follower jobs log a start (e ∷ events) (replay (fresh (me start) d) (more ++ past))
+      → Adds jobs (log_before (suc (length events)) log) a (suc (length events)) more (moments (placed start events)) (moments (placed start (e ∷ events)))
+      → AllAttempted jobs (log_before (suc (length events)) log) a (moments (placed start (e ∷ events))) (replay (fresh (me start) d) (more ++ past)).client → Trace jobs log a start d (e ∷ events) (more ++ past)
 
 pub follower_now : {jobs : List Job} {log : List LogEntry} {a : ℕ} {start : World} {d : DeviceState} {events : List Event} {past : List SessionEvent} → Trace jobs log a start d events past → Follower jobs log a start events (replay (fresh (me start) d) past)
 follower_now (Begins f) = f
-follower_now (Goes e more t l f n) = n
+follower_now (Goes e more t l f n q late) = n
 
 pub replay_more : (start : SessionWorld) (more past : List SessionEvent) → replay start (more ++ past) ≡ replay (replay start past) more
 replay_more start [] past = refl
@@ -91,7 +94,7 @@ follows_more IsJob start (y ∷ more) past h k = (subst (λ q. MayAsk IsJob q y)
 
 pub trace_legal : {jobs : List Job} {log : List LogEntry} {a : ℕ} {start : World} {d : DeviceState} {events : List Event} {past : List SessionEvent} → Trace jobs log a start d events past → IsLegal (fresh (me start) d) past
 trace_legal (Begins f) = tt
-trace_legal {start = start} {d = d} (Goes {past = past} e more t l f n) = legal_more (fresh (me start) d) more past l (trace_legal t)
+trace_legal {start = start} {d = d} (Goes {past = past} e more t l f n q late) = legal_more (fresh (me start) d) more past l (trace_legal t)
 
 module _ (jobs : List Job) (turns : List GroupTurn) (count : ℕ) (log : List LogEntry) (form : IsLog jobs turns count log) (alone : OneDownloaderPerDevice jobs log) (can : (number : ℕ) (job : Job) → job_of jobs number ≡ Some job → IsSendable job.plan) (a : ℕ) (start : World) (d : DeviceState) (is : start.devices a ≡ Some d) where
   pub trace_always : (events : List Event) → IsRun jobs turns log start events → (past : List SessionEvent) × Trace jobs log a start d events past
@@ -100,10 +103,11 @@ module _ (jobs : List Job) (turns : List GroupTurn) (count : ℕ) (log : List Lo
       let t = trace_always events (run_before jobs turns log start e events h) in
       let past : List SessionEvent = t.0 in
       let s : SessionWorld = replay (fresh (me start) d) past in
-      let g : StepBy jobs log a (length events) (step (line.replay start events) e) (record_of start (e ∷ events)) (placed start (e ∷ events)) s
+      let g : StepBy jobs log a (length events) (step (line.replay start events) e) (record_of start (e ∷ events)) (moments (placed start events)) (placed start (e ∷ events)) s
       = event_step jobs turns count log form alone can a start events s (follower_now t.1) e h (owned_always start events h.begins) in
       let whole : replay s g.more ≡ replay (fresh (me start) d) (g.more ++ past) = sym (replay_more (fresh (me start) d) g.more past) in
-      (g.more ++ past, Goes e g.more t.1 g.legal g.follows (subst (Follower jobs log a start (e ∷ events)) whole (record { coupled = g.coupled; attempted = g.attempted })))
+      (g.more ++ past, Goes e g.more t.1 g.legal g.follows (subst (Follower jobs log a start (e ∷ events)) whole (record { coupled = g.coupled; attempted = g.attempted })) g.adds
+          (subst (λ y. AllAttempted jobs (log_before (suc (length events)) log) a (moments (placed start (e ∷ events))) y.client) whole g.late))
 
 -- ---- the jobs whose plans are gone through
 
@@ -137,7 +141,7 @@ follows_map P Q s (e ∷ events) f h = (may_map P Q (replay s events) e f h.0, f
 pub trace_follows : {jobs : List Job} {log : List LogEntry} {a : ℕ} {start : World} {d : DeviceState} {events : List Event} {past : List SessionEvent} (Q : Plan → Type 0) → ((n : ℕ) → n < length events → (plan : Plan) → HeldPlan jobs (log_before (suc n) log) a plan → Q plan)
     → Trace jobs log a start d events past → Follows Q (fresh (me start) d) past
 trace_follows Q f (Begins b) = tt
-trace_follows {jobs = jobs} {log = log} {a = a} {start = start} {d = d} Q f (Goes {events = events} {past = past} e more t l g n) =
+trace_follows {jobs = jobs} {log = log} {a = a} {start = start} {d = d} Q f (Goes {events = events} {past = past} e more t l g n q late) =
     follows_more Q (fresh (me start) d) more past (follows_map (HeldPlan jobs (log_before (suc (length events)) log) a) Q (replay (fresh (me start) d) past) more (f (length events) (here (length events))) g)
     (trace_follows Q (λ m lt plan h. f m (later m (length events) lt) plan h) t)
   where

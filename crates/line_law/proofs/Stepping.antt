@@ -1,6 +1,6 @@
 -- An entry of the record that is no renewal: the session follows it, and so do the attempts of the job that is held.
 use Rattle.std.proofs.Common.{◌≡◌, ◌≢◌, ℕ, suc, ◌<◌, ◌≤◌, ◌⊎◌, List, [], ◌∷◌, ◌++◌, length, Bool, true, false, not, ◌&&◌, ◌||◌, cond, Option, Some, None, refl, sym, ◌∙◌, ap, subst, inl, inr, arith, if◌then◌else◌}
-use Rattle.std.specs.Prelude.{◌==◌}
+use Rattle.std.specs.Prelude.{◌==◌, is_some}
 use Rattle.knx_model.specs.declared.frames.cemi.Ldata.{Ldata}
 use Rattle.knx_model.specs.Connection.{frame_in}
 use Rattle.knx_model.specs.GoodPlan.{IsSendable}
@@ -34,7 +34,12 @@ use Rattle.line_law.proofs.Turning.{turn}
 use Rattle.line_law.proofs.Joining.{joins_kept}
 use Rattle.line_law.proofs.Opened.{PutsSo, PutBy, put_kept, is_free}
 use Rattle.line_law.proofs.Takes.{client_told, TakesSo, TakesGoes, take_kept}
-use Rattle.line_law.proofs.Attempting.{Runs, AttemptIs}
+use Rattle.knx_model.specs.declared.connection.TransportFrame.{TransportFrame}
+use Rattle.knx_model.specs.declared.connection.TransportFrame.TheVariants.{Connect, Disconnect, Ack, Nak, Numbered, Other}
+use Rattle.line_model.specs.Moments.{put_to, transport_of, is_to}
+use Rattle.line_law.proofs.Attempting.{IsService, Runs, AttemptIs}
+use Rattle.line_law.proofs.Courses.{NotService}
+use Rattle.line_law.proofs.CourseKept.{Free, PutsSo as PutsAllowed}
 use Rattle.line_law.proofs.Telling.{aged_runs, take_attempt, still_attempt, lost_attempt, none_runs}
 use Rattle.line_law.proofs.Asking.{PutsGoes, other_step, asks_kept}
 use Rattle.line_law.proofs.Logs.{AreUpto, after, between_is, upto_more}
@@ -70,6 +75,8 @@ pub record EntryGoes (jobs : List Job) (log : List LogEntry) (a : ℕ) (w : Worl
   pub follows : Follows (HeldPlan jobs log a) s more
   pub coupled : Coupled a w k (replay s more)
   pub attempted : (h : HeldJob jobs log a) → AttemptedOn a l m h.job h.since (replay s more).client
+  pub asks : AsksNothing more ⊎ IsService (put_to a m.what)
+  pub puts : (h : HeldJob jobs log a) (x : TransportFrame) → put_to a m.what ≡ Some x → PutsAllowed (attempts h.job.device h.job.plan (after h.since l)) m.now x
 
 -- ---- the number of the view
 
@@ -108,6 +115,30 @@ module _ (jobs : List Job) (turns : List GroupTurn) (log : List LogEntry) (a : �
       → (p : HeldJob jobs log a) → AttemptedOn a (moments older) (record { what = deed (channel r) x; now = x.now; at = suc at }) p.job p.since n
   with_deed d e n f p = subst (λ z. AttemptedOn a (moments older) (record { what = z; now = x.now; at = suc at }) p.job p.since n) (sym e) (f p)
 
+  -- nothing is put to the device
+  no_put : (d : Deed) → deed (channel r) x ≡ d → put_to a d ≡ None → (y : TransportFrame) → put_to a (deed (channel r) x) ≡ Some y → ⊥
+  no_put d e none y z = let k : None ≡ Some y = sym none ∙ ap (put_to a) (sym e) ∙ z in cc
+
+  put_is : (content : List ℕ) (f : Ldata) → ldata_in content ≡ Some f → is_req f.code ≡ true → put_to a (view.Puts content) ≡ transport_of (cond {A = Option Ldata} (is_to a f) (Some f) None)
+  put_is content f reads req = ap (λ o. transport_of (where_is (is_to a) (where_is (λ (y : Ldata). is_req y.code) o))) reads ∙ rw req refl
+
+  free_now : (plan : Plan) (u : Attempts) → AttemptIs a plan u s.client → s.client.pending ≡ false → Free u
+  free_now plan (Resting k) q e = tt
+  free_now plan (Running k u) q e = none_flying u.flying (q.flies ∙ e) where
+    none_flying : (o : Option TransportFrame) → is_some o ≡ false → o ≡ None
+    none_flying None z = refl
+    none_flying (Some y) z = absurd (cc)
+
+  service_or : (e : SessionEvent) (y : TransportFrame) → y ≡ y → (NotService (Some y) → IsSilent e) → put_to a (deed (channel r) x) ≡ Some y → AsksNothing (e ∷ []) ⊎ IsService (put_to a (deed (channel r) x))
+  service_or e y z f g = by_frame y f g where
+    by_frame : (u : TransportFrame) → (NotService (Some u) → IsSilent e) → put_to a (deed (channel r) x) ≡ Some u → AsksNothing (e ∷ []) ⊎ IsService (put_to a (deed (channel r) x))
+    by_frame (Numbered n apdu) h k = inr (subst IsService (sym k) tt)
+    by_frame Connect h k = inl (h tt, tt)
+    by_frame Disconnect h k = inl (h tt, tt)
+    by_frame (Ack n) h k = inl (h tt, tt)
+    by_frame (Nak n) h k = inl (h tt, tt)
+    by_frame Other h k = inl (h tt, tt)
+
   still_next : Still r x → Next
   still_next q =
       record {
@@ -117,6 +148,8 @@ module _ (jobs : List Job) (turns : List GroupTurn) (log : List LogEntry) (a : �
         coupled = still_kept a w r (x ∷ r) s
             (views_same (moves_number q.moves h.view.number (λ n l e. number_by a w r s n l c.items c.older c.last h e c.by)) (no_deed view.Nothing q.none (λ z. z))) q.moves c;
         attempted = with_deed view.Nothing q.none s.client (λ p. still_attempt a p.job.device p.job.plan _ s.client x.now (suc at) (before p));
+        asks = inl tt;
+        puts = λ p y z. absurd (no_put view.Nothing q.none refl y z);
       }
 
   lost_next : (n : ℕ) (l : List Entry) → channel r ≡ Open n l → channel (x ∷ r) ≡ Lost n → deed (channel r) x ≡ view.Loses → Next
@@ -127,6 +160,8 @@ module _ (jobs : List Job) (turns : List GroupTurn) (log : List LogEntry) (a : �
         follows = (tt, tt);
         coupled = lost_kept a w r (x ∷ r) s n l (views_same (ap (λ z. or_number z h.view.number) k) (no_deed view.Loses d (λ z. z))) e k c;
         attempted = with_deed view.Loses d (step s event.Loses).client (λ p. lost_attempt a p.job.device p.job.plan (attempts p.job.device p.job.plan (after p.since (moments older))) (step s event.Loses).client x.now (suc at));
+        asks = inl (tt, tt);
+        puts = λ p y z. absurd (no_put view.Loses d refl y z);
       }
 
   joins_next : (n : ℕ) → IsOut (channel r) → is_open (channel r) ≡ false → channel (x ∷ r) ≡ Open n (x ∷ []) → deed (channel r) x ≡ view.Nothing → Next
@@ -141,6 +176,8 @@ module _ (jobs : List Job) (turns : List GroupTurn) (log : List LogEntry) (a : �
         attempted = with_deed view.Nothing d (step s (event.Joins q.0)).client (λ p.
             none_runs a p.job.plan (attempts_after p.job.device p.job.plan (record { what = view.Nothing; now = x.now; at = suc at }) (attempts p.job.device p.job.plan (after p.since (moments older)))) s.client (step s (event.Joins q.0)).client (c.by.joined ∙ shut)
             (still_attempt a p.job.device p.job.plan (attempts p.job.device p.job.plan (after p.since (moments older))) s.client x.now (suc at) (before p)));
+        asks = inl (tt, tt);
+        puts = λ p y z. absurd (no_put view.Nothing d refl y z);
       }
 
   takes_next : (n : ℕ) (l : List Entry) (content : List ℕ) → channel r ≡ Open n l → channel (x ∷ r) ≡ Open n (x ∷ l) → deed (channel r) x ≡ view.Takes content → (is_confirmation (ldata_in content) ≡ false → confirmed n (x ∷ l) ≡ confirmed n l) → Next
@@ -154,6 +191,8 @@ module _ (jobs : List Job) (turns : List GroupTurn) (log : List LogEntry) (a : �
         attempted = with_deed (view.Takes content) d (replay s t.more).client (λ p.
             subst (λ z. AttemptedOn a (moments older) (record { what = view.Takes content; now = x.now; at = suc at }) p.job p.since z) (sym (t.client ∙ ap (λ z. client_told a z s.client (ldata_in content)) time))
             (take_attempt a p.job.device p.job.plan (attempts p.job.device p.job.plan (after p.since (moments older))) s.client content x.now (suc at) p.of_device (before p) t.its));
+        asks = inl t.silent;
+        puts = λ p y z. absurd (no_put (view.Takes content) d refl y z);
       }
     where
       silent_event : (z : SessionWorld) (y : SessionEvent) → IsSilent y → MayAsk (HeldPlan jobs log a) z y
@@ -211,6 +250,8 @@ module _ (jobs : List Job) (turns : List GroupTurn) (log : List LogEntry) (a : �
             subst (λ z. AttemptIs a q.job.plan z s.client)
             (sym (other_step a q.job.device q.job.plan (attempts q.job.device q.job.plan (after q.since (moments older))) content f x.now (suc at) q.of_device p.reads p.request its))
             (aged_attempt a q.job.plan (attempts q.job.device q.job.plan (after q.since (moments older))) s.client x.now (before q)));
+        asks = inl tt;
+        puts = λ k y z. absurd (no_put (view.Puts content) p.puts (put_is content f p.reads p.request ∙ ap (λ b. transport_of (cond {A = Option Ldata} b (Some f) None)) its) y z);
       }
 
   -- it is
@@ -230,6 +271,14 @@ module _ (jobs : List Job) (turns : List GroupTurn) (log : List LogEntry) (a : �
             let P : Job → ℕ → Type 0 = λ job since. AttemptedOn a (moments older) (record { what = view.Puts content; now = x.now; at = suc at }) job since (step s g.event).client in
             let own : P q.job q.since = subst (λ (z : SessionWorld). AttemptedOn a (moments older) (record { what = view.Puts content; now = x.now; at = suc at }) q.job q.since z.client) (sym g.is) g.attempt in
             subst (λ z. P k.job z) e.1 (subst (λ z. P z q.since) e.0 own)));
+        asks = service_or g.event (frame_in f.tpdu) refl g.quiet (ap (put_to a) p.puts ∙ put_is content f p.reads p.request ∙ ap (λ b. transport_of (cond {A = Option Ldata} b (Some f) None)) its);
+        puts = λ k y z.
+            (let e = one q k in
+            let P : Job → ℕ → Type 0 = λ job since. PutsAllowed (attempts job.device job.plan (after since (moments older))) x.now y in
+            let got : Some (frame_in f.tpdu) ≡ Some y = sym (ap (put_to a) p.puts ∙ put_is content f p.reads p.request ∙ ap (λ b. transport_of (cond {A = Option Ldata} b (Some f) None)) its) ∙ z in
+            let same_frame : frame_in f.tpdu ≡ y = cc in
+            let own : P q.job q.since = record { octets = f.tpdu; reads = same_frame; may = subst (MayPut t x.now f.tpdu) same_frame may; free = free_now q.job.plan t (before q) free.1 } in
+            subst (λ u. P k.job u) e.1 (subst (λ u. P u q.since) e.0 own));
       }
 
   job_next : (n : ℕ) (l : List Entry) (content : List ℕ) (f : Ldata) → PutsSo r x n l content f → IsOfJob jobs log older (record { what = view.Puts content; now = x.now; at = suc at }) f → (b : Bool) → is_its a f ≡ b → Next

@@ -18,7 +18,8 @@ use Rattle.line_model.specs.Fresh.{IsFresh, IsAtRest}
 use Rattle.line_model.specs.Gateway.{Channel, Gateway, next_put}
 use Rattle.line_model.specs.Legal.{IsLegal, MayHappen}
 use Rattle.line_model.specs.Log.{Job, JobState, Held, job_of, log_before, state_of, IsLog, SameDevice, OneDownloaderPerDevice}
-use Rattle.line_model.specs.Moments.{Moment, moments}
+use Rattle.knx_model.specs.declared.connection.TransportFrame.{TransportFrame}
+use Rattle.line_model.specs.Moments.{Moment, moments, put_to}
 use Rattle.line_model.specs.Network.{Sent, OfSent, IsUnderWay, changed_at, once_more}
 use Rattle.line_model.specs.Reading.{is_connect_request}
 use Rattle.line_model.specs.Record.{Item, Put, Renewed, Got, Quiet, Entry, entry, Placed, placed, placed_if, entries, got, noted, item_at, record_of, is_renewal, put_in}
@@ -31,7 +32,7 @@ use Rattle.session_law.specs.World as session
 use Rattle.session_law.specs.World.{World as SessionWorld, Client}
 use Rattle.session_law.specs.Events.{Event as SessionEvent, replay}
 use Rattle.session_law.specs.Events as event
-use Rattle.load_law.specs.Download.{MayAsk, Follows}
+use Rattle.load_law.specs.Download.{MayAsk, Follows, AsksNothing}
 use Rattle.tunnel_law.proofs.Fits.{books}
 use Rattle.tunnel_law.proofs.Took.{InvT}
 use Rattle.line_law.proofs.Coupled.{Owned, Never, DeviceSide, is_open, Coupled, Goes}
@@ -43,8 +44,9 @@ use Rattle.line_law.proofs.Facts.{inv_always, inv_after, once_after}
 use Rattle.line_law.proofs.Taking.{goes_on as goes_to}
 use Rattle.line_law.proofs.Tunnels as tunnels
 use Rattle.line_law.proofs.Entries.{HeadView, head_view, renewed_world, renewed_kept, later_world, pass_kept}
-use Rattle.line_law.proofs.Entering.{buses_client, buses_follow}
-use Rattle.line_law.proofs.Attempting.{AttemptIs}
+use Rattle.line_law.proofs.Entering.{buses_client, buses_follow, buses_silent}
+use Rattle.line_law.proofs.Attempting.{AttemptIs, IsService}
+use Rattle.line_law.proofs.CourseKept.{PutsSo as PutsAllowed}
 use Rattle.line_law.proofs.Telling.{still_attempt}
 use Rattle.line_law.proofs.Logs.{AreUpto, held_before, held_later, one_held, after_last, after_more, entries_of, moments_upto, upto_more}
 use Rattle.line_law.proofs.Logs as logs
@@ -54,7 +56,7 @@ use Rattle.line_law.proofs.Stepping.{HeldJob, HeldPlan, Attempted, AllAttempted,
 use Rattle.tunnel_law.proofs.Law.{renews_before, sends_before}
 use Rattle.line_model.specs.Record.{item_of}
 use Rattle.line_model.specs.World.{AtGateway, Comes, IsLost, carried, heard, next_frame, waiting_at, repeat_at, Send, From, Renew, Up, UpRefused, Down, LoseUp, LoseDown, Bus, BusTorn, BusWorn, BusAgain, DevSend, DevRepeat, DevClose, GwAgain, GwRepeat, GwClose, Cut, On, Pass}
-use Rattle.line_law.proofs.Following.{stays_present, renewed_fresh, renewed_nothing, shut_by, one_job, attempted_same, attempted_more}
+use Rattle.line_law.proofs.Following.{attempted_late, stays_present, renewed_fresh, renewed_nothing, shut_by, one_job, attempted_same, attempted_more}
 
 -- ---- what is known of a run
 
@@ -102,12 +104,20 @@ heard_none IsLost w (Some f) = refl
 
 -- ---- the events of the session that follow one of the line
 
-pub record StepBy (jobs : List Job) (log : List LogEntry) (a n : ℕ) (w : World) (k : List Entry) (places : List Placed) (s : SessionWorld) : Type 0 where
+-- what the record adds to the moments, and which services this asks of the session
+pub data Adds (jobs : List Job) (log : List LogEntry) (a at : ℕ) (more : List SessionEvent) (old new : List Moment) : Type 0 where
+  Same : new ≡ old → AsksNothing more → Adds jobs log a at more old new
+  One : (m : Moment) → new ≡ m ∷ old → m.at ≡ at → AsksNothing more ⊎ IsService (put_to a m.what)
+      → ((h : HeldJob jobs log a) (x : TransportFrame) → put_to a m.what ≡ Some x → PutsAllowed (attempts h.job.device h.job.plan (logs.after h.since old)) m.now x) → Adds jobs log a at more old new
+
+pub record StepBy (jobs : List Job) (log : List LogEntry) (a n : ℕ) (w : World) (k : List Entry) (old : List Moment) (places : List Placed) (s : SessionWorld) : Type 0 where
   pub more : List SessionEvent
   pub legal : event.IsLegal s more
   pub follows : Follows (HeldPlan jobs (log_before (suc n) log) a) s more
   pub coupled : Coupled a w k (replay s more)
   pub attempted : AllAttempted jobs (log_before (suc (suc n)) log) a (moments places) (replay s more).client
+  pub adds : Adds jobs (log_before (suc n) log) a (suc n) more old (moments places)
+  pub late : AllAttempted jobs (log_before (suc n) log) a (moments places) (replay s more).client  -- of the jobs that were held up to then
 
 pub record Follower (jobs : List Job) (log : List LogEntry) (a : ℕ) (start : World) (events : List Event) (s : SessionWorld) : Type 0 where
   pub coupled : Coupled a (line.replay start events) (record_of start events) s
@@ -122,7 +132,7 @@ module _ (jobs : List Job) (turns : List GroupTurn) (count : ℕ) (log : List Lo
   n = length events
 
   -- without an entry
-  quiet : (e : Event) → Goes a (after_world (line.replay start events) e) (record_of start events) s → StepBy jobs log a (length events) (step (line.replay start events) e) (record_of start events) (placed start events) s
+  quiet : (e : Event) → Goes a (after_world (line.replay start events) e) (record_of start events) s → StepBy jobs log a (length events) (step (line.replay start events) e) (record_of start events) (moments (placed start events)) (placed start events) s
   quiet e g =
       let h : Goes a (step (line.replay start events) e) (record_of start events) s
       = goes_to a (after_world (line.replay start events) e) (step (line.replay start events) e) (record_of start events) (record_of start events) s (λ z q. next_kept a (after_world (line.replay start events) e) (record_of start events) z q) g in
@@ -132,16 +142,18 @@ module _ (jobs : List Job) (turns : List GroupTurn) (count : ℕ) (log : List Lo
         follows = buses_follow (HeldPlan jobs (log_before (suc (length events)) log) a) s h.more h.silent;
         coupled = h.coupled;
         attempted = attempted_same jobs turns count log form alone a (length events) (moments (placed start events)) s.client (replay s h.more).client (upto_more (length events) (moments (placed start events)) (moments_upto start events)) (buses_client s h.more h.silent) f.attempted;
+        adds = Same refl (buses_silent h.more h.silent);
+        late = λ q. subst (Attempted a (moments (placed start events)) q.job q.since) (sym (buses_client s h.more h.silent)) (f.attempted q);
       }
 
   -- with an entry that is no renewal, from a session that may have gone on already
-  entered : (e : Event) (item : Item) (z : SessionWorld) (first : List SessionEvent) → replay s first ≡ z → event.IsLegal s first → Follows (HeldPlan jobs (log_before (suc (length events)) log) a) s first → z.client ≡ s.client → is_renewal item ≡ false
+  entered : (e : Event) (item : Item) (z : SessionWorld) (first : List SessionEvent) → replay s first ≡ z → event.IsLegal s first → Follows (HeldPlan jobs (log_before (suc (length events)) log) a) s first → AsksNothing first → z.client ≡ s.client → is_renewal item ≡ false
       → (step (line.replay start events) e).tunnel.present ≡ (line.replay start events).tunnel.present
       → (x : Entry) → x ≡ entry item (now (step (line.replay start events) e))
       → z.device.address.raw ≡ a → InvT (books (record_of start events)) (line.replay start events).tunnel → InvT (books (x ∷ record_of start events)) (step (line.replay start events) e).tunnel → IsActedOnce (step (line.replay start events) e).tunnel.gateway (x ∷ record_of start events)
       → IsRightEntry jobs turns (log_before (suc (length events)) log) (placed start events) (record { at = suc (length events); what = x }) → Coupled a (step (line.replay start events) e) (record_of start events) z
-      → StepBy jobs log a (length events) (step (line.replay start events) e) (x ∷ record_of start events) (record { at = suc (length events); what = x } ∷ placed start events) s
-  entered e item z first is legal follows client kept present x x_is named old inv once asks c =
+      → StepBy jobs log a (length events) (step (line.replay start events) e) (x ∷ record_of start events) (moments (placed start events)) (record { at = suc (length events); what = x } ∷ placed start events) s
+  entered e item z first is legal follows silent client kept present x x_is named old inv once asks c =
       let r : List Entry = record_of start events in
       let older : List Placed = placed start events in
       let same : entries older ≡ r = entries_of start events in
@@ -164,6 +176,12 @@ module _ (jobs : List Job) (turns : List GroupTurn) (count : ℕ) (log : List Lo
         attempted = subst (λ (y : SessionWorld). AllAttempted jobs (log_before (suc (suc (length events))) log) a (moments (record { at = suc (length events); what = x } ∷ older)) y.client) (sym whole)
             (subst (λ y. AllAttempted jobs (log_before (suc (suc (length events))) log) a (record { what = y; now = x.now; at = suc (length events) } ∷ moments older) (replay z g.more).client) (sym deed_is)
             (attempted_more jobs turns count log form alone a (length events) (record { what = deed (channel r) x; now = x.now; at = suc (length events) }) (moments older) (replay z g.more).client refl (same_place (suc (length events)), upto_more (length events) (moments older) upto) g.attempted));
+        adds = One (record { what = deed (channel (entries older)) x; now = x.now; at = suc (length events) }) refl refl
+            (subst (λ y. AsksNothing (g.more ++ first) ⊎ IsService (put_to a y)) (sym deed_is) (elim g.asks [ inl q ↦ inl (silent_more g.more q silent) | inr q ↦ inr q ]))
+            (λ h y put. g.puts h y (ap (put_to a) (sym deed_is) ∙ put));
+        late = subst (λ y. AllAttempted jobs (log_before (suc (length events)) log) a (moments (record { at = suc (length events); what = x } ∷ older)) y.client) (sym whole)
+            (subst (λ y. AllAttempted jobs (log_before (suc (length events)) log) a (record { what = y; now = x.now; at = suc (length events) } ∷ moments older) (replay z g.more).client) (sym deed_is)
+            (attempted_late jobs turns count log form alone a (length events) (record { what = deed (channel r) x; now = x.now; at = suc (length events) }) (moments older) (replay z g.more).client refl g.attempted));
       }
     where
       same_place : (m : ℕ) → m ≤ m
@@ -178,12 +196,16 @@ module _ (jobs : List Job) (turns : List GroupTurn) (count : ℕ) (log : List Lo
       follows_more [] h k = k
       follows_more (y ∷ l) h k = (subst (λ q. MayAsk (HeldPlan jobs (log_before (suc (length events)) log) a) q y) (sym (replay_more l)) h.0, follows_more l h.1 k)
 
+      silent_more : (l : List SessionEvent) → AsksNothing l → AsksNothing first → AsksNothing (l ++ first)
+      silent_more [] h k = k
+      silent_more (y ∷ l) h k = (h.0, silent_more l h.1 k)
+
   -- an event of the bus has no entry
   unentered : (e : Event) → item_at (line.replay start events) e ≡ None → Goes a (after_world (line.replay start events) e) (record_of start events) s
-      → StepBy jobs log a (length events) (step (line.replay start events) e) (record_of start (e ∷ events)) (placed start (e ∷ events)) s
+      → StepBy jobs log a (length events) (step (line.replay start events) e) (record_of start (e ∷ events)) (moments (placed start events)) (placed start (e ∷ events)) s
   unentered e none g =
       let t : ℕ = now (step (line.replay start events) e) in
-      subst (λ o. StepBy jobs log a (length events) (step (line.replay start events) e) (noted o t (record_of start events)) (placed_if (suc (length events)) t o (placed start events)) s) (sym none) (quiet e g)
+      subst (λ o. StepBy jobs log a (length events) (step (line.replay start events) e) (noted o t (record_of start events)) (moments (placed start events)) (placed_if (suc (length events)) t o (placed start events)) s) (sym none) (quiet e g)
 
   -- ---- each event
 
@@ -191,20 +213,20 @@ module _ (jobs : List Job) (turns : List GroupTurn) (count : ℕ) (log : List Lo
       → InvT (books (noted (got o) (now (step (line.replay start events) (Down age))) (record_of start events))) (step (line.replay start events) (Down age)).tunnel
       → IsActedOnce (step (line.replay start events) (Down age)).tunnel.gateway (noted (got o) (now (step (line.replay start events) (Down age))) (record_of start events))
       → EachRight jobs turns log (placed_if (suc (length events)) (now (step (line.replay start events) (Down age))) (got o) (placed start events)) → OfSent (λ d. Unit {0}) o
-      → StepBy jobs log a (length events) (step (line.replay start events) (Down age)) (noted (got o) (now (step (line.replay start events) (Down age))) (record_of start events))
+      → StepBy jobs log a (length events) (step (line.replay start events) (Down age)) (noted (got o) (now (step (line.replay start events) (Down age))) (record_of start events)) (moments (placed start events))
       (placed_if (suc (length events)) (now (step (line.replay start events) (Down age))) (got o) (placed start events)) s
   got_step age None named old inv once asks may = absurd may
   got_step age (Some d) named old inv once asks may =
       let w1 : World = line.replay start events in
       let t1 : Tunnel = with_down w1.tunnel (changed_at age once_more w1.tunnel.network.down) in
-      entered (Down age) (Got (take 512 d.octets)) s [] refl tt tt refl refl (stays_present t1) (entry (Got (take 512 d.octets)) (now (step w1 (Down age)))) refl named old inv once asks.0
+      entered (Down age) (Got (take 512 d.octets)) s [] refl tt tt tt refl refl (stays_present t1) (entry (Got (take 512 d.octets)) (now (step w1 (Down age)))) refl named old inv once asks.0
       (next_kept a (record { tunnel = t1; devices = w1.devices; echo = w1.echo }) (record_of start events) s (tunnel_kept a w1 (record_of start events) s t1 refl refl refl f.coupled))
 
   sent_only : (P : Sent → Type 0) (o : Option Sent) → OfSent P o → OfSent (λ d. Unit {0}) o
   sent_only P None h = h
   sent_only P (Some d) h = tt
 
-  renew_step : IsRun jobs turns log start (Renew ∷ events) → InvT (books (record_of start events)) (line.replay start events).tunnel → StepBy jobs log a (length events) (step (line.replay start events) Renew) (record_of start (Renew ∷ events)) (placed start (Renew ∷ events)) s
+  renew_step : IsRun jobs turns log start (Renew ∷ events) → InvT (books (record_of start events)) (line.replay start events).tunnel → StepBy jobs log a (length events) (step (line.replay start events) Renew) (record_of start (Renew ∷ events)) (moments (placed start events)) (placed start (Renew ∷ events)) s
   renew_step run old =
       let w1 : World = line.replay start events in
       let r : List Entry = record_of start events in
@@ -224,12 +246,17 @@ module _ (jobs : List Job) (turns : List GroupTurn) (count : ℕ) (log : List Lo
             (attempted_more jobs turns count log form alone a (length events) (record { what = view.Nothing; now = t; at = suc (length events) }) (moments (placed start events)) s.client refl
                 (here (suc (length events)), upto_more (length events) (moments (placed start events)) (moments_upto start events))
                 (λ q. still_attempt a q.job.device q.job.plan (attempts q.job.device q.job.plan (logs.after q.since (moments (placed start events)))) s.client t (suc (length events)) (f.attempted q)));
+        adds = One (record { what = deed (channel (entries (placed start events))) x; now = t; at = suc (length events) }) refl refl (inl tt)
+            (λ q y put. absurd (let z : None ≡ Some y = sym (ap (put_to a) deed_is) ∙ put in cc));
+        late = subst (λ z. AllAttempted jobs (log_before (suc (length events)) log) a (record { what = z; now = t; at = suc (length events) } ∷ moments (placed start events)) s.client) (sym deed_is)
+            (attempted_late jobs turns count log form alone a (length events) (record { what = view.Nothing; now = t; at = suc (length events) }) (moments (placed start events)) s.client refl
+                (λ q. still_attempt a q.job.device q.job.plan (attempts q.job.device q.job.plan (logs.after q.since (moments (placed start events)))) s.client t (suc (length events)) (f.attempted q)));
       }
     where
       here : (m : ℕ) → m ≤ m
       here m = omega arith
 
-  pub event_step : (e : Event) → IsRun jobs turns log start (e ∷ events) → Owned (line.replay start events) → StepBy jobs log a (length events) (step (line.replay start events) e) (record_of start (e ∷ events)) (placed start (e ∷ events)) s
+  pub event_step : (e : Event) → IsRun jobs turns log start (e ∷ events) → Owned (line.replay start events) → StepBy jobs log a (length events) (step (line.replay start events) e) (record_of start (e ∷ events)) (moments (placed start events)) (placed start (e ∷ events)) s
   event_step e run own = by_event e run (inv_always start events run.begins run.legal.1 before.renews before.sends) (inv_always start (e ∷ events) run.begins run.legal run.renews run.sends) run.once.0 where
     before : IsRun jobs turns log start events
     before = run_before jobs turns log start e events run
@@ -242,9 +269,9 @@ module _ (jobs : List Job) (turns : List GroupTurn) (count : ℕ) (log : List Lo
     r : List Entry
     r = record_of start events
     by_event : (y : Event) → IsRun jobs turns log start (y ∷ events) → InvT (books (record_of start events)) (line.replay start events).tunnel → InvT (books (record_of start (y ∷ events))) (step (line.replay start events) y).tunnel
-        → IsActedOnce (step (line.replay start events) y).tunnel.gateway (record_of start (y ∷ events)) → StepBy jobs log a (length events) (step (line.replay start events) y) (record_of start (y ∷ events)) (placed start (y ∷ events)) s
+        → IsActedOnce (step (line.replay start events) y).tunnel.gateway (record_of start (y ∷ events)) → StepBy jobs log a (length events) (step (line.replay start events) y) (record_of start (y ∷ events)) (moments (placed start events)) (placed start (y ∷ events)) s
     by_event (Send octets) h i k once =
-        entered (Send octets) (Put octets) s [] refl tt tt refl refl (stays_present (sends_up w1.tunnel w1.tunnel.present octets)) (entry (Put octets) (now (step w1 (Send octets)))) refl named i k once h.asks.0
+        entered (Send octets) (Put octets) s [] refl tt tt tt refl refl (stays_present (sends_up w1.tunnel w1.tunnel.present octets)) (entry (Put octets) (now (step w1 (Send octets)))) refl named i k once h.asks.0
         (next_kept a (record { tunnel = sends_up w1.tunnel w1.tunnel.present octets; devices = w1.devices; echo = w1.echo }) r s (tunnel_kept a w1 r s (sends_up w1.tunnel w1.tunnel.present octets) refl refl refl c))
     by_event (From endpoint octets) h i k once = absurd h.legal.0.tunnel
     by_event Renew h i k once = renew_step h i
@@ -266,5 +293,5 @@ module _ (jobs : List Job) (turns : List GroupTurn) (count : ℕ) (log : List Lo
     by_event (Cut device) h i k once = quiet (Cut device) (devices.cut_kept a w1 r s device (a == device) refl c)
     by_event (On device) h i k once = quiet (On device) (devices.on_kept a w1 r s device (a == device) refl c)
     by_event (Pass ms) h i k once =
-        entered (Pass ms) Quiet (event.step s (event.Pass ms)) (event.Pass ms ∷ []) refl (tt, tt) (tt, tt) refl refl (stays_present (later_world w1 ms).tunnel) (entry Quiet (now (step w1 (Pass ms)))) refl named i k once h.asks.0
+        entered (Pass ms) Quiet (event.step s (event.Pass ms)) (event.Pass ms ∷ []) refl (tt, tt) (tt, tt) (tt, tt) refl refl (stays_present (later_world w1 ms).tunnel) (entry Quiet (now (step w1 (Pass ms)))) refl named i k once h.asks.0
         (next_kept a (later_world w1 ms) r (event.step s (event.Pass ms)) (pass_kept a w1 r s ms c))
