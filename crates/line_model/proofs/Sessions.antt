@@ -50,7 +50,7 @@ truly kept = ((refl, refl), (tt, tt))
 
 pub refused : (kept : NonVolatile) → ToldTruly (other_job ∷ []) [] (placed (begin kept) whole) told_refused
 unfolding datagram_in ldata_in gateway_took frame_in device_took device_after device_answered after_answer apdu_in tpdu_in service_in after_entry deed
-refused kept = (record { later = []; before = []; taken = refl; why = inl (record { last = refl; left = other_job.plan; so_far = refl; differs = (refl, λ e. cc) }) }, (tt, tt))
+refused kept = (record { n = 1; judged = refl; later = []; before = []; taken = refl; why = inl (record { last = refl; left = other_job.plan; so_far = refl; differs = (refl, λ e. cc) }) }, (tt, tt))
 
 renews : (kept : NonVolatile) → RenewsRightly (entries (placed (begin kept) whole))
 unfolding datagram_in ldata_in gateway_took frame_in device_took device_after device_answered after_answer apdu_in tpdu_in service_in after_entry deed

@@ -1,9 +1,9 @@
 -- The attempts of a job as the record shows them (ISO/IEC 14543-3-2, transport layer): each begins with a T_Connect to the device, goes through
 -- the job's plan from its first operation on, and follows the client's end of the connection, with what was put, confirmed and taken. A frame
 -- that was put is in flight until the next confirmation. Where an answer differs from the expected one, or a wrong T_ACK closed the connection,
--- the attempt comes to its end; where a wait passed, it may. It has ended once its T_Disconnect is confirmed, the device sent one, the
--- T_Connect was confirmed with error, or the channel is lost.
-use Rattle.std.specs.Prelude.{◌≡◌, ◌<◌, ◌⊎◌, ℕ, suc, Bool, true, false, ◌&&◌, ◌||◌, List, [], ◌∷◌, ◌++◌, length, drop, nat_lt, if◌then◌else◌, Option, Some, None}
+-- the attempt comes to its end; where a wait has passed and nothing came since, it may. It has ended once its T_Disconnect is confirmed, the
+-- device sent one, the T_Connect was confirmed with error, or the channel is lost.
+use Rattle.std.specs.Prelude.{◌≡◌, ◌<◌, ◌⊎◌, ℕ, suc, Bool, true, false, ◌&&◌, List, [], ◌∷◌, ◌++◌, length, drop, nat_lt, if◌then◌else◌, Option, Some, None}
 use Rattle.knx_model.specs.declared.address.IndAddr.{IndAddr}
 use Rattle.knx_model.specs.declared.connection.ClientTook.{ClientTook}
 use Rattle.knx_model.specs.declared.connection.ClientTook.TheVariants as heard
@@ -25,7 +25,6 @@ pub record Attempt : Type 0 where
   pub owed : List (List ℕ)  -- the T_ACKs and T_NAKs that the client owes the device, the oldest first
   pub flying : Option TransportFrame  -- what was put and isn't confirmed
   pub closing : Bool  -- it comes to its end
-  pub lapsed : Bool  -- a wait passed, so that it may come to its end
 
 pub data Attempts : Type 0 where
   Resting : ℕ → Attempts  -- so many began, and none runs
@@ -36,7 +35,7 @@ begun (Resting k) = k
 begun (Running k a) = k
 
 abbrev pub first : IndAddr → Plan → Attempt
-first device plan = record { end = Asked device; left = plan; owed = []; flying = Some Connect; closing = false; lapsed = false }
+first device plan = record { end = Asked device; left = plan; owed = []; flying = Some Connect; closing = false }
 
 -- ---- what was put
 
@@ -121,21 +120,12 @@ heard_so now (Resting k) frame = Resting k
 heard_so now (Running k a) None = Running k a
 heard_so now (Running k a) (Some frame) = heard_attempt k a now (client_took a.end frame)
 
--- ---- the time, and the loss of the channel
-
-abbrev pub is_silent : ClientExpired → Bool
-is_silent over.Nothing = false
-is_silent (over.Repeat frame) = false
-is_silent (over.Silent ms) = true
-
-abbrev pub aged : ℕ → Attempts → Attempts
-aged now (Resting k) = Resting k
-aged now (Running k a) = Running k (record a { lapsed = a.lapsed || is_silent (client_expired a.end now) })
+-- ---- the loss of the channel
 
 abbrev pub attempts_after : IndAddr → Plan → Moment → Attempts → Attempts
 attempts_after device plan m t =
     if is_loss m.what then Resting (begun t)
-    else heard_so m.now (confirmed_so m.now (put_so device plan m.now (aged m.now t) (put_to device.raw m.what)) (confirmation_in m.what)) (heard_from device.raw m.what)
+    else heard_so m.now (confirmed_so m.now (put_so device plan m.now t (put_to device.raw m.what)) (confirmation_in m.what)) (heard_from device.raw m.what)
 
 -- of the moments since the job was taken
 abbrev pub attempts : IndAddr → Plan → List Moment → Attempts
@@ -182,9 +172,14 @@ pub record IsOver (a : Attempt) : Type 0 where
   pub owes_nothing : a.owed ≡ []
   pub which : (a.closing ≡ true) ⊎ IsDone a
 
--- or it is silent
+abbrev pub is_silent : ClientExpired → Bool
+is_silent over.Nothing = false
+is_silent (over.Repeat frame) = false
+is_silent (over.Silent ms) = true
+
+-- or it is silent: a frame that was taken after the wait, before this, counts
 abbrev pub MayDisconnect : Attempt → ℕ → Type 0
-MayDisconnect a now = IsOver a ⊎ ((a.lapsed || is_silent (client_expired a.end now)) ≡ true)
+MayDisconnect a now = IsOver a ⊎ (is_silent (client_expired a.end now) ≡ true)
 
 abbrev pub OfRunning : (Attempt → Type 0) → Attempts → Type 0
 OfRunning P (Resting k) = ⊥

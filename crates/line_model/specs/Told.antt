@@ -16,7 +16,7 @@ use Rattle.line_model.specs.declared.log.LogWhat.{LogWhat}
 use Rattle.line_model.specs.declared.log.LogWhat.TheVariants.{Took, Done, Failed, Refused, Sent, Lost}
 use Rattle.line_model.specs.Record.{Placed}
 use Rattle.line_model.specs.ClientView.{Loses}
-use Rattle.line_model.specs.Moments.{Moment, moments, between, put_frame, confirmation_in, stretches, course, session, acknowledged, answers, services}
+use Rattle.line_model.specs.Moments.{Moment, moments, between, put_frame, confirmation_in, stretches, course, session, Next, number, acknowledged, answers, services}
 use Rattle.line_model.specs.Log.{Job, JobState, Untaken, Held, Over as Ended, job_of, turn_of, state_of, turn_place}
 use Rattle.line_model.specs.Progress.{Reaches, Differs}
 use Rattle.line_model.specs.Signs.{Every, IsntConfirmation, SignsHold}
@@ -57,7 +57,10 @@ pub record Unawaited (device : ℕ) (plan : Plan) (op : ℕ) (expected : List �
   pub so_far : Reaches plan (length (services device s)) (reverse before) left
   pub last : op ≡ length (services device s) - 1
 
+-- an answer is judged once the operation sent last is acknowledged
 pub record IsRefused (device : ℕ) (plan : Plan) (op : ℕ) (got expected : List ℕ) (s : List Moment) : Type 0 where
+  pub n : ℕ
+  pub judged : number device s ≡ Next n
   pub later : List (List ℕ)
   pub before : List (List ℕ)
   pub taken : answers device s ≡ later ++ got ∷ before
