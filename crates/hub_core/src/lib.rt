@@ -14,8 +14,6 @@ mod job;
 mod journal;
 mod requests;
 mod telegrams;
-#[cfg(test)]
-mod tests;
 mod wait;
 mod work;
 

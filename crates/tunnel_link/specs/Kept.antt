@@ -1,6 +1,6 @@
 -- What the client keeps of the tunnel beside its end of the channel: what came of the request that it put last, and how the tries to get a
 -- channel failed.
-use Rattle.std.specs.Prelude.{ℕ, Bool, true, false, List, [], ◌∷◌, Option, Some, None}
+use Rattle.std.specs.Prelude.{ℕ, Bool, false, Option, Some, None}
 use Rattle.knx_model.specs.Connection.{wait_end}
 use Rattle.line_model.specs.declared.fault.Try.{Try}
 use Rattle.line_model.specs.ChannelLost.{confirmation_wait}
@@ -18,10 +18,3 @@ one_more Zero t = One t
 one_more (One a) t = Two a t
 one_more (Two a b) t = Three a b t
 one_more (Three a b c) t = Three a b c
-
--- the newest first
-abbrev pub tries_of : Tries → List Try
-tries_of Zero = []
-tries_of (One a) = a ∷ []
-tries_of (Two a b) = b ∷ a ∷ []
-tries_of (Three a b c) = c ∷ b ∷ a ∷ []

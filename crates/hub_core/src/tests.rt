@@ -1,1 +1,0 @@
-//! A hub over a script of answers.
