@@ -35,3 +35,5 @@ mod CourseSteps
 mod CourseKept
 mod Whole
 mod Went
+mod Told
+mod DoneAt
