@@ -120,7 +120,7 @@ unmoved_more first frames start (e ∷ more) past inv legal f h =
 
 -- ---- a job that is held was taken
 
-taken_by : (jobs : List Job) (a k number : ℕ) (e : LogEntry) (job : Job) → takes_it number e.what ≡ true → job_of jobs number ≡ Some job → job.device.raw ≡ a → takes_load jobs a e.what ≡ loads job
+pub taken_by : (jobs : List Job) (a k number : ℕ) (e : LogEntry) (job : Job) → takes_it number e.what ≡ true → job_of jobs number ≡ Some job → job.device.raw ≡ a → takes_load jobs a e.what ≡ loads job
 taken_by jobs a k number e job t there of = by_what e.what t where
   eqb_is : (x y : ℕ) → (x == y) ≡ true → x ≡ y
   eqb_is x y h = grind (arith, h)
@@ -137,11 +137,11 @@ taken_by jobs a k number e job t there of = by_what e.what t where
   by_what (Sent j) h = absurd (cc)
   by_what (Lost j) h = absurd (cc)
 
-or_false : (b c : Bool) → (b || c) ≡ false → (b ≡ false) × (c ≡ false)
+pub or_false : (b c : Bool) → (b || c) ≡ false → (b ≡ false) × (c ≡ false)
 or_false true c h = absurd (cc)
 or_false false c h = (refl, h)
 
-and_false : (b c : Bool) → (b && c) ≡ false → b ≡ true → c ≡ false
+pub and_false : (b c : Bool) → (b && c) ≡ false → b ≡ true → c ≡ false
 and_false true c h e = h
 and_false false c h e = absurd (cc)
 

@@ -37,3 +37,4 @@ mod Whole
 mod Went
 mod Told
 mod DoneAt
+mod Stays
