@@ -38,3 +38,4 @@ mod Went
 mod Told
 mod DoneAt
 mod Stays
+mod Silent

@@ -174,7 +174,7 @@ none_others t left_out (Some f) devices a e = by_group f.group where
   by_group true = none_all t left_out (Some f) devices a e
   by_group false = e
 
-none_step : (w : World) (e : Event) (a : ℕ) → w.devices a ≡ None → devices_after w e a ≡ None
+pub none_step : (w : World) (e : Event) (a : ℕ) → w.devices a ≡ None → devices_after w e a ≡ None
 none_step w (Bus left_out) a h = none_all (now w) left_out (next_frame w) w.devices a h
 none_step w (BusTorn fresh_ octets) a h = none_one (now w) (Torn fresh_ octets) (next_frame w) w.devices a h
 none_step w (BusWorn octets) a h = none_one (now w) (Worn octets) (next_frame w) w.devices a h

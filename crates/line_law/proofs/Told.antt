@@ -121,13 +121,13 @@ first_first j k (e ∷ events) le = by_length (nat_le (length (e ∷ events)) k)
 
 -- ---- a plan that is over from the beginning is no good job's
 
-abbrev empty_object : Loadable
+abbrev pub empty_object : Loadable
 empty_object = record { state = Unloaded; len = 0; memory = [] }
 
-abbrev empty_device : NonVolatile
+abbrev pub empty_device : NonVolatile
 empty_device = record { address_table = empty_object; association_table = empty_object; group_objects = empty_object; application = empty_object }
 
-unloaded : runs empty_device ≡ None
+pub unloaded : runs empty_device ≡ None
 unloaded = refl
 
 pub not_over : (job : Job) (frames : FrameSupport) → IsGoodJob job → job.plan ≡ Ended → ⊥
