@@ -39,3 +39,4 @@ mod Told
 mod DoneAt
 mod Stays
 mod Silent
+mod Headline
