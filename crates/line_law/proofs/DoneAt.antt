@@ -1,36 +1,33 @@
 -- Where done is told of a job, its device runs the job's image, and nothing is asked that isn't delivered.
-use Rattle.std.proofs.Common.{◌≡◌, ◌≢◌, ℕ, zero, suc, ◌<◌, ◌≤◌, ◌⊎◌, List, [], ◌∷◌, ◌++◌, length, Bool, true, false, cond, Option, Some, None, refl, sym, ◌∙◌, ap, subst, inl, inr, arith}
+use Rattle.std.proofs.Common.{◌≡◌, ℕ, suc, ◌<◌, ◌≤◌, ◌⊎◌, List, [], ◌∷◌, ◌++◌, length, Some, refl, sym, ◌∙◌, ap, subst, inl, inr, arith}
 use Rattle.std.specs.List.{AllByRecursion}
 use Rattle.knx_model.specs.Device.{NonVolatile, runs}
 use Rattle.knx_model.specs.DeviceState.{DeviceState}
 use Rattle.knx_model.specs.Plans.{Plan}
 use Rattle.line_model.specs.declared.group.GroupTurn.{GroupTurn}
 use Rattle.line_model.specs.declared.log.LogEntry.{LogEntry}
-use Rattle.line_model.specs.declared.log.LogWhat.{LogWhat}
-use Rattle.line_model.specs.declared.log.LogWhat.TheVariants.{Took, Done, Failed, Refused, Sent, Lost}
+use Rattle.line_model.specs.declared.log.LogWhat.TheVariants.{Done}
 use Rattle.line_model.specs.Headline.{IsGoodJob}
-use Rattle.line_model.specs.Log.{Job, JobState, Untaken, Held, Over, loads, job_of, log_before, state_of, IsLog, OneDownloaderPerDevice}
+use Rattle.line_model.specs.Log.{Job, JobState, Untaken, Held, Over, job_of, log_before, state_of, IsLog, OneDownloaderPerDevice}
 use Rattle.line_model.specs.Moments.{Moment, moments, between, stretches, course, session}
 use Rattle.line_model.specs.OldStoppedOrNew.{first_events}
-use Rattle.line_model.specs.Record.{Placed, placed}
+use Rattle.line_model.specs.Record.{placed}
 use Rattle.line_model.specs.Told.{last_stretch, session_since, WentThrough, OfJob, OfHeld, ToldTruly, IsTrue}
-use Rattle.line_model.specs.World as line
 use Rattle.line_model.specs.World.{World, Event, me}
 use Rattle.session_law.specs.World.{World as SessionWorld, fresh}
 use Rattle.session_law.specs.Events as event
 use Rattle.session_law.specs.Events.{Event as SessionEvent, replay, IsLegal}
-use Rattle.session_law.proofs.Books.{Books, empty, books}
+use Rattle.session_law.proofs.Books.{books}
 use Rattle.session_law.proofs.Steps.{WorldInv, fresh_inv, always}
-use Rattle.load_law.specs.Download.{MayAsk, Follows, IsDone, IsSilent, AsksNothing}
+use Rattle.load_law.specs.Download.{MayAsk, Follows, IsSilent, AsksNothing}
 use Rattle.load_law.proofs.Checked.{settled_done}
 use Rattle.load_law.proofs.Follows.{LoadInv, fresh_load, load_always, right_at}
 use Rattle.line_law.proofs.Cases.{good_job, OfDevice, Case, Ends, Any, plans_good, held_of, IsCheck, Unmoved, unmoved_more}
-use Rattle.line_law.proofs.Courses.{StretchIs, WasDone, went_through}
+use Rattle.line_law.proofs.Courses.{WasDone, went_through}
 use Rattle.line_law.proofs.Logs.{after}
 use Rattle.line_law.proofs.Runs.{Trace, trace_legal, trace_follows}
-use Rattle.line_law.proofs.Stepping.{HeldJob, HeldPlan}
+use Rattle.line_law.proofs.Stepping.{HeldJob}
 use Rattle.line_law.proofs.Told.{held_then, form_at, true_at, before_at, nothing_between, between_first, first_full, not_over}
-use Rattle.line_law.proofs.Traces.{IsRun}
 use Rattle.line_law.proofs.Went.{DoneBefore, stretch_at, was_at}
 
 -- ---- the earlier of a run
@@ -109,7 +106,6 @@ module _ (jobs : List Job) (good : AllByRecursion IsGoodJob jobs) (log : List Lo
 
 module _ (jobs : List Job) (turns : List GroupTurn) (log : List LogEntry) (good : AllByRecursion IsGoodJob jobs) (start : World) (events : List Event) (form : IsLog jobs turns (length events) log) (alone : OneDownloaderPerDevice jobs log) (truly : ToldTruly jobs turns (placed start events) log)
     (number : ℕ) (job : Job) (there : job_of jobs number ≡ Some job) (newer older : List LogEntry) (e : LogEntry) (whole : log ≡ newer ++ e ∷ older) (what : e.what ≡ Done number) where
-
   form_whole : IsLog jobs turns (length events) (newer ++ e ∷ older)
   form_whole = subst (IsLog jobs turns (length events)) whole form
 

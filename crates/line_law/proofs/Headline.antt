@@ -1,5 +1,5 @@
 -- The headline: every interleaving is right.
-use Rattle.std.proofs.Common.{◌≡◌, ◌≢◌, ℕ, List, [], ◌∷◌, ◌++◌, length, Option, Some, None, refl, sym, ◌∙◌, ap, subst, append_assoc}
+use Rattle.std.proofs.Common.{◌≡◌, ℕ, List, [], ◌∷◌, ◌++◌, length, Option, Some, None, refl, sym, ◌∙◌, ap, subst, append_assoc}
 use Rattle.std.specs.List.{AllByRecursion}
 use Rattle.knx_model.specs.Device.{runs}
 use Rattle.knx_model.specs.DeviceState.{DeviceState}
@@ -8,7 +8,7 @@ use Rattle.line_model.specs.declared.log.LogEntry.{LogEntry}
 use Rattle.line_model.specs.declared.log.LogWhat.{LogWhat}
 use Rattle.line_model.specs.declared.log.LogWhat.TheVariants.{Took, Done, Failed, Refused, Sent, Lost}
 use Rattle.line_model.specs.Asks.{EachRight}
-use Rattle.line_model.specs.Headline.{IsGoodJob, IsDisciplined, KeepsFull, IsRight, EveryInterleaving}
+use Rattle.line_model.specs.Headline.{IsGoodJob, IsDisciplined, EveryInterleaving}
 use Rattle.line_model.specs.Legal.{OfDevice}
 use Rattle.line_model.specs.Log.{Job, job_of, IsLog, OneDownloaderPerDevice}
 use Rattle.line_model.specs.OldStoppedOrNew.{first_events, world_at, DoneSo, EachDoneSo, RunsWhereDone}
@@ -16,7 +16,6 @@ use Rattle.line_model.specs.Record.{placed, record_of}
 use Rattle.line_model.specs.Renews.{RenewsRightly}
 use Rattle.line_model.specs.Sendings.{SendsRightly}
 use Rattle.line_model.specs.Told.{ToldTruly}
-use Rattle.line_model.specs.World as line
 use Rattle.line_model.specs.World.{World, Event, Devices}
 use Rattle.telegram_law.proofs.Telegrams.{telegrams_act_right}
 use Rattle.tunnel_law.proofs.Line.{line_once}

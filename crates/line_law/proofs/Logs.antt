@@ -1,5 +1,5 @@
 -- Which job of a device is held, by the entries up to a moment; and the moments since it was taken.
-use Rattle.std.proofs.Common.{◌≡◌, ◌≢◌, ℕ, suc, ◌<◌, ◌≤◌, ◌⊎◌, List, [], ◌∷◌, ◌++◌, length, Bool, true, false, not, ◌&&◌, cond, Option, Some, None, refl, sym, ◌∙◌, ap, subst, inl, inr, arith, if◌then◌else◌}
+use Rattle.std.proofs.Common.{◌≡◌, ℕ, suc, ◌<◌, ◌≤◌, ◌⊎◌, List, [], ◌∷◌, length, Bool, true, false, ◌&&◌, cond, Option, Some, None, refl, sym, ◌∙◌, ap, subst, inl, inr, arith}
 use Rattle.std.specs.Prelude.{◌==◌, nat_lt, nat_le}
 use Rattle.std.specs.List.{filter}
 use Rattle.line_model.specs.declared.group.GroupTurn.{GroupTurn}
@@ -81,6 +81,7 @@ held_later k n worker since (e ∷ log) h =
     by_both lt (EndsIt t d) g f = absurd (ended_state k e _ worker since t d g)
     by_both lt (Else t d) g f =
         elim (f (sym (after_other k e _ t d) ∙ g)) [ inl at ↦ inl at | inr was ↦ inr (ap (state_of k) (before_in (suc n) e log true lt) ∙ after_other k e _ t d ∙ was) ]
+
     by_one : nat_lt e.at (suc n) ≡ false → nat_lt e.at (suc (suc n)) ≡ true → IsTo k e → state_after k e (state_of k (log_before (suc (suc n)) log)) ≡ Held worker since
         → (state_of k (log_before (suc (suc n)) log) ≡ Held worker since → (since ≡ suc n) ⊎ (state_of k (log_before (suc n) log) ≡ Held worker since)) → (since ≡ suc n) ⊎ (state_of k (log_before (suc n) (e ∷ log)) ≡ Held worker since)
     by_one ge lt (TakesIt t) g f = inl (let at : since ≡ e.at = took_state k e _ worker since t g in grind (arith, lt, ge, at))

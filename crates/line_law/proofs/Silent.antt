@@ -1,23 +1,18 @@
 -- A device without power, put where there is none: nothing on the line changes by it. So what is told of a device that isn't there isn't so.
-use Rattle.std.proofs.Common.{◌≡◌, ◌≢◌, ℕ, zero, suc, ◌<◌, ◌≤◌, List, [], ◌∷◌, ◌++◌, length, Bool, true, false, not, ◌&&◌, ◌||◌, cond, Option, Some, None, refl, sym, ◌∙◌, ap, subst, inl, inr, arith, if◌then◌else◌}
+use Rattle.std.proofs.Common.{◌≡◌, ◌≢◌, ℕ, List, [], ◌∷◌, length, Bool, true, false, not, ◌&&◌, ◌||◌, cond, Option, Some, None, refl, sym, ◌∙◌, ap, subst, arith, if◌then◌else◌}
 use Rattle.std.specs.Prelude.{◌==◌}
-use Rattle.knx_model.specs.declared.address.IndAddr.{IndAddr}
 use Rattle.knx_model.specs.declared.frames.cemi.Ldata.{Ldata}
 use Rattle.knx_model.specs.declared.frames.cemi.LdataCode.TheVariants.{Con}
 use Rattle.knx_model.specs.ApduReading.{option_map}
-use Rattle.knx_model.specs.Device.{runs}
-use Rattle.knx_model.specs.DeviceConnection.{Closed}
-use Rattle.knx_model.specs.DeviceState.{DeviceState, device_with, cut, switched_on}
-use Rattle.knx_model.specs.DeviceFrames.{Outcome, Whole, Torn, Worn, takes, taken_again}
-use Rattle.knx_model.specs.DeviceSending.{waiting_frame, repeat_frame, pops, repeats, shut}
+use Rattle.knx_model.specs.DeviceState.{DeviceState, device_with}
+use Rattle.knx_model.specs.DeviceFrames.{Outcome, Whole, Torn, Worn, takes}
+use Rattle.knx_model.specs.DeviceSending.{waiting_frame, repeat_frame, pops}
 use Rattle.line_model.specs.Fresh.{IsFresh, IsAtRest}
 use Rattle.line_model.specs.Legal.{OfDevice, GoesSo, DevicesAllow, MayHappen, IsLegal}
-use Rattle.line_model.specs.OldStoppedOrNew.{first_events}
-use Rattle.line_model.specs.Record.{Item, Entry, Placed, noted, record_of, placed_if, placed, item_of, item_at}
+use Rattle.line_model.specs.Record.{noted, record_of, placed_if, placed, item_of, item_at}
 use Rattle.line_model.specs.Tunnel as tunnel
 use Rattle.line_model.specs.Tunnel.{TunnelEvent, Commissions}
-use Rattle.line_model.specs.World as line
-use Rattle.line_model.specs.World.{World, Event, Send, From, Renew, Up, UpRefused, Down, LoseUp, LoseDown, Bus, BusTorn, BusWorn, BusAgain, DevSend, DevRepeat, DevClose, GwAgain, GwRepeat, GwClose, Cut, On, Pass, AtGateway, Devices, now, next_frame, frame_by, waiting_at, repeat_at, is_among, takes_it, is_confirmed, confirmation, carried, heard, tunnel_event, changed, all_take, one_takes, others_take, devices_after, or_before, echo_after, step, replay}
+use Rattle.line_model.specs.World.{World, Event, Send, From, Renew, Up, UpRefused, Down, LoseUp, LoseDown, Bus, BusTorn, BusWorn, BusAgain, DevSend, DevRepeat, DevClose, GwAgain, GwRepeat, GwClose, Cut, On, Pass, Devices, now, next_frame, frame_by, waiting_at, is_among, takes_it, carried, heard, tunnel_event, changed, all_take, one_takes, others_take, devices_after, or_before, echo_after, step, replay}
 use Rattle.line_law.proofs.Runs.{none_step}
 use Rattle.line_law.proofs.Told.{empty_device}
 

@@ -1,5 +1,5 @@
 -- From done on, up to the device's next load job, what it keeps stays; and each entry that tells done is right.
-use Rattle.std.proofs.Common.{◌≡◌, ◌≢◌, ℕ, zero, suc, ◌<◌, ◌≤◌, ◌⊎◌, List, [], ◌∷◌, ◌++◌, length, Bool, true, false, ◌&&◌, ◌||◌, cond, Option, Some, None, refl, sym, ◌∙◌, ap, subst, inl, inr, arith, append_assoc}
+use Rattle.std.proofs.Common.{◌≡◌, ℕ, suc, ◌<◌, ◌≤◌, ◌⊎◌, List, [], ◌∷◌, ◌++◌, length, Bool, true, false, ◌&&◌, cond, Option, Some, None, refl, sym, ◌∙◌, ap, subst, inl, inr, arith}
 use Rattle.std.specs.Prelude.{◌==◌, nat_lt, nat_le}
 use Rattle.std.specs.List.{AllByRecursion}
 use Rattle.knx_model.specs.Device.{NonVolatile, runs}
@@ -11,7 +11,7 @@ use Rattle.line_model.specs.declared.log.LogWhat.{LogWhat}
 use Rattle.line_model.specs.declared.log.LogWhat.TheVariants.{Took, Done, Failed, Refused, Sent, Lost}
 use Rattle.line_model.specs.Headline.{IsGoodJob}
 use Rattle.line_model.specs.Legal.{OfDevice}
-use Rattle.line_model.specs.Log.{Job, JobState, Untaken, Held, Over, loads, job_of, log_before, takes_it, ends_it, state_after, state_of, latest, IsLog, SameDevice, OneDownloaderPerDevice}
+use Rattle.line_model.specs.Log.{Job, Held, loads, job_of, log_before, takes_it, ends_it, state_after, state_of, IsLog, SameDevice, OneDownloaderPerDevice}
 use Rattle.line_model.specs.OldStoppedOrNew.{first_events, world_at, Both, load_taken, takes_load, IsDoneOf, StaysDone}
 use Rattle.line_model.specs.Record.{placed}
 use Rattle.line_model.specs.Told.{ToldTruly}
@@ -24,12 +24,12 @@ use Rattle.session_law.proofs.Steps.{fresh_inv}
 use Rattle.load_law.specs.Download.{Follows}
 use Rattle.load_law.proofs.Checked.{unchanged_kept}
 use Rattle.line_law.proofs.Cases.{good_job, IsCheck, Unmoved, unmoved_more, taken_by, or_false, and_false}
-use Rattle.line_law.proofs.DoneAt.{DoneAt, HeldThen, held_now, so_far, done_at}
+use Rattle.line_law.proofs.DoneAt.{DoneAt, HeldThen, held_now, done_at}
 use Rattle.line_law.proofs.Kept.{trace_of, run_first, first_length, both_some, both_none}
-use Rattle.line_law.proofs.Logs.{IsTo, TakesIt, EndsIt, Else, is_to, took_state, ended_state, after_other, before_in, all_before, one_held, same_eqb}
+use Rattle.line_law.proofs.Logs.{IsTo, TakesIt, EndsIt, Else, is_to, ended_state, after_other, before_in, all_before, one_held, same_eqb}
 use Rattle.line_law.proofs.Runs.{Trace, Begins, Goes, follower_now, trace_legal, follows_map, none_always}
-use Rattle.line_law.proofs.Stepping.{HeldJob, HeldPlan}
-use Rattle.line_law.proofs.Told.{form_at, alone_at, first_first, first_full}
+use Rattle.line_law.proofs.Stepping.{HeldPlan}
+use Rattle.line_law.proofs.Told.{first_first}
 use Rattle.line_law.proofs.Traces.{IsRun}
 
 -- ---- which jobs are held after it
@@ -79,10 +79,12 @@ module _ (jobs : List Job) (turns : List GroupTurn) (count : ℕ) (number : ℕ)
     where
       in_time : nat_lt x.at (suc n) ≡ true → nat_lt x.at upto ≡ true
       in_time q = grind (arith, q, lt)
+
       by_entry : IsTo k x → nat_lt x.at (suc n) ≡ true → (nat_lt x.at upto && takes_load jobs job.device.raw x.what) ≡ false → state_after k x (state_of k (log_before (suc n) (newer ++ e ∷ older))) ≡ Held w s → (state_of k (log_before (suc n) (newer ++ e ∷ older)) ≡ Held w s → loads j ≡ false) → loads j ≡ false
       by_entry (TakesIt t) q f g rest = sym (taken_by jobs job.device.raw upto k x j t is dev) ∙ and_false (nat_lt x.at upto) (takes_load jobs job.device.raw x.what) f (in_time q)
       by_entry (EndsIt t d) q f g rest = absurd (ended_state k x _ w s t d g)
       by_entry (Else t d) q f g rest = rest (sym (after_other k x _ t d) ∙ g)
+
       by_before : (b : Bool) → nat_lt x.at (suc n) ≡ b → (nat_lt x.at upto && takes_load jobs job.device.raw x.what) ≡ false → (state_of k (log_before (suc n) (newer ++ e ∷ older)) ≡ Held w s → loads j ≡ false) → loads j ≡ false
       by_before true q f rest = by_entry (is_to k x) q f (ap (state_of k) (sym (before_in (suc n) x (newer ++ e ∷ older) true q)) ∙ h) rest
       by_before false q f rest = rest (ap (state_of k) (sym (before_in (suc n) x (newer ++ e ∷ older) false q)) ∙ h)

@@ -1,18 +1,16 @@
 -- Where a log tells done: which job was held, and since when; and the moments up to there.
-use Rattle.std.proofs.Common.{◌≡◌, ◌≢◌, ℕ, zero, suc, ◌<◌, ◌≤◌, ◌⊎◌, List, [], ◌∷◌, ◌++◌, length, Bool, true, false, ◌&&◌, cond, Option, Some, None, refl, sym, ◌∙◌, ap, subst, inl, inr, arith}
-use Rattle.std.specs.Prelude.{◌==◌, nat_lt, nat_le}
-use Rattle.std.specs.List.{AllByRecursion}
-use Rattle.knx_model.specs.declared.config.Image.{Image}
+use Rattle.std.proofs.Common.{◌≡◌, ℕ, suc, ◌<◌, ◌≤◌, List, [], ◌∷◌, ◌++◌, length, Bool, true, false, ◌&&◌, cond, Option, Some, None, refl, sym, ◌∙◌, ap, subst, arith}
+use Rattle.std.specs.Prelude.{nat_lt, nat_le}
 use Rattle.knx_model.specs.declared.device.FrameSupport.{FrameSupport}
 use Rattle.knx_model.specs.declared.loading.LoadState.TheVariants.{Unloaded}
 use Rattle.knx_model.specs.Device.{NonVolatile, runs, answer_in}
-use Rattle.knx_model.specs.GoodPlan.{GoodPlan, GoodCheck, WholeRun, AtEnd}
+use Rattle.knx_model.specs.GoodPlan.{WholeRun, AtEnd}
 use Rattle.knx_model.specs.Loading.{Loadable}
-use Rattle.knx_model.specs.Plans.{Plan, Over as Ended}
+use Rattle.knx_model.specs.Plans.{Over as Ended}
 use Rattle.line_model.specs.declared.group.GroupTurn.{GroupTurn}
 use Rattle.line_model.specs.declared.log.LogEntry.{LogEntry}
 use Rattle.line_model.specs.Headline.{IsGoodJob}
-use Rattle.line_model.specs.Log.{Job, JobState, Untaken, Held, Over, loads, job_of, log_before, takes_it, ends_it, state_after, state_of, latest, IsLog, OneDownloaderPerDevice}
+use Rattle.line_model.specs.Log.{Job, Held, loads, log_before, takes_it, ends_it, state_after, state_of, latest, IsLog, OneDownloaderPerDevice}
 use Rattle.line_model.specs.Moments.{Moment, moments, between}
 use Rattle.line_model.specs.OldStoppedOrNew.{first_events}
 use Rattle.line_model.specs.Record.{Item, Placed, placed_if, placed, item_at}
@@ -28,9 +26,11 @@ held_then k n worker since [] h le = h
 held_then k n worker since (e ∷ log) h le = by_entry (is_to k e) (held_then k n worker since log) where
   in_time : since ≡ e.at → nat_lt e.at (suc n) ≡ true
   in_time q = grind (arith, q, le)
+
   by_test : (b : Bool) → nat_lt e.at (suc n) ≡ b → takes_it k e.what ≡ false → ends_it k e.what ≡ false → state_of k (log_before (suc n) log) ≡ Held worker since → state_of k (log_before (suc n) (e ∷ log)) ≡ Held worker since
   by_test true q t d f = ap (state_of k) (before_in (suc n) e log true q) ∙ after_other k e _ t d ∙ f
   by_test false q t d f = ap (state_of k) (before_in (suc n) e log false q) ∙ f
+
   by_entry : IsTo k e → (state_of k log ≡ Held worker since → since ≤ n → state_of k (log_before (suc n) log) ≡ Held worker since) → state_of k (log_before (suc n) (e ∷ log)) ≡ Held worker since
   by_entry (TakesIt t) f =
       let at : since ≡ e.at = took_state k e _ worker since t h in
@@ -74,6 +74,7 @@ none_between since upto (m ∷ l) h = by_test (nat_lt since m.at && nat_le m.at 
   outside true true p q = absurd (let x : m.at ≤ upto = grind (arith, q) in let y : since < m.at = grind (arith, p) in omega (arith, x, y, h))
   outside true false p q = refl
   outside false c p q = refl
+
   by_test : (b : Bool) → b ≡ false → between since upto l ≡ [] → ◌≡◌ {A = List Moment} (cond b (m ∷ between since upto l) (between since upto l)) []
   by_test true e q = absurd (cc)
   by_test false e q = q
@@ -98,6 +99,7 @@ between_first since k start (e ∷ events) = by_length (nat_le (length (e ∷ ev
   later_item : (o : Option Item) → k < suc (length events) → between since k (moments (placed_if (length (e ∷ events)) (now (line.replay start (e ∷ events))) o (placed start events))) ≡ between since k (moments (placed start events))
   later_item None lt = refl
   later_item (Some what) lt = not_yet since k _ (moments (placed start events)) lt
+
   by_length : (b : Bool) → nat_le (length (e ∷ events)) k ≡ b → between since k (moments (placed start events)) ≡ after since (moments (placed start (first_events k events)))
       → between since k (moments (placed start (e ∷ events))) ≡ after since (moments (placed start (cond {A = List Event} b (e ∷ events) (first_events k events))))
   by_length true q f = between_is since k (moments (placed start (e ∷ events))) (upto_least (length (e ∷ events)) k (moments (placed start (e ∷ events))) (grind (arith, q)) (moments_upto start (e ∷ events)))
