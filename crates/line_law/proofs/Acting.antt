@@ -1,25 +1,18 @@
 -- The gateway acts on a request, and puts its oldest frame for the client.
-use Rattle.std.proofs.Common.{◌≡◌, ◌≢◌, ℕ, suc, ◌+◌, ◌<◌, ◌≤◌, ◌⊎◌, List, [], ◌∷◌, ◌++◌, take, drop, length, Bool, true, false, not, ◌&&◌, cond, Option, Some, None, refl, sym, ◌∙◌, ap, subst, inl, inr, if◌then◌else◌, append-nil, length-append, arith}
+use Rattle.std.proofs.Common.{◌≡◌, ℕ, suc, ◌+◌, ◌<◌, ◌≤◌, ◌⊎◌, List, [], ◌∷◌, ◌++◌, length, true, Some, None, refl, sym, ◌∙◌, ap, subst, inl, inr, length-append, arith}
 use Rattle.std.specs.Prelude.{◌==◌}
-use Rattle.knx_model.specs.declared.address.IndAddr.{IndAddr}
 use Rattle.knx_model.specs.declared.frames.cemi.Ldata.{Ldata}
-use Rattle.knx_model.specs.Cemi.{Written as cemi_octets}
-use Rattle.line_model.specs.ActedOnce.{Has, in_channel, IsPrefix, IsChannelOf}
-use Rattle.line_model.specs.ClientView.{ClientChannel, Fresh, Sought, RefusedBy, Unanswered, Open, Lost, View, channel, views}
-use Rattle.line_model.specs.Gateway.{Channel, Gateway, Request, number_of, newest_place, place, to_bus, put_after, next_put, is_put}
-use Rattle.line_model.specs.Reading.{ldata_in, is_con, is_req}
+use Rattle.line_model.specs.ActedOnce.{in_channel, IsPrefix, IsChannelOf}
+use Rattle.line_model.specs.ClientView.{View, channel}
+use Rattle.line_model.specs.Gateway.{Channel, Gateway, place, to_bus}
+use Rattle.line_model.specs.Reading.{ldata_in, is_req}
 use Rattle.line_model.specs.Record.{Entry}
-use Rattle.line_model.specs.Tunnel.{Tunnel, with_gateway}
-use Rattle.line_model.specs.World.{World, me}
-use Rattle.session_law.specs.World.{World as SessionWorld, Message}
-use Rattle.session_law.specs.Device.{drops}
-use Rattle.session_law.specs.Events.{Drops}
-use Rattle.tunnel_law.proofs.Inside.{Every, every_map, has_below}
-use Rattle.line_law.proofs.Queue.{Items, is_its, messages, messages_append, cons, cons_append, puts_of, back, back_none, take_front, none_front, none_back}
-use Rattle.line_law.proofs.Coupled.{IsTold, Stage, Waits, OnBus, Told, Gone, Flight, Landed, Flies, NotServing, Serves, StageIs, FliesSo, FlightIs, Last, Never, Since, IsLater, ChannelIs, ConAt, IsLow, JoinedIs, NeverIs, LastIs, Pipe, DeviceSide, FlyFor, InFlight, PendFor, CoupledBy, Coupled, Goes}
-use Rattle.line_law.proofs.Owned.{every_front}
-use Rattle.line_law.proofs.Bus.{goes_one, channel_flies}
-use Rattle.line_law.proofs.Gates.{gate_world, flight_to, newest_least}
+use Rattle.line_model.specs.World.{World}
+use Rattle.session_law.specs.World.{World as SessionWorld}
+use Rattle.line_law.proofs.Queue.{Items, back}
+use Rattle.line_law.proofs.Coupled.{Waits, OnBus, Told, Gone, Flight, Landed, Flies, FliesSo, Last, Never, Since, JoinedIs, CoupledBy, Coupled}
+use Rattle.line_law.proofs.Bus.{channel_flies}
+use Rattle.line_law.proofs.Gates.{gate_world, newest_least}
 
 -- ---- it acts on a request
 
@@ -118,8 +111,8 @@ acts_by a w r s items older (Since base e v flight) c ch frame is once h =
           acts_here a w r s items older base e v flight c ch frame is at (subst (λ z. IsPrefix z v.puts) here up) h)
       | inr later ↦
           absurd (not_alone (place g) frame g.acted (once.alone (place g) (λ other q.
-              let most : place g ≤ base = j.late (place g) other (record { endpoint = q.endpoint; made_by = q.made_by; view = q.view; number = q.number }) in
-              omega (arith, most, later))))
+          let most : place g ≤ base = j.late (place g) other (record { endpoint = q.endpoint; made_by = q.made_by; view = q.view; number = q.number }) in
+          omega (arith, most, later))))
     ]
 
 pub acts_kept : (a : ℕ) (w : World) (r : List Entry) (s : SessionWorld) (c ch : Channel) (frame : List ℕ) → w.tunnel.gateway.channel ≡ Some c → UpOnce (acted_gate w.tunnel.gateway ch frame) r → Coupled a w r s → Coupled a (gate_world w (acted_gate w.tunnel.gateway ch frame)) r s

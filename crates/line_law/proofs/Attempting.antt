@@ -1,24 +1,18 @@
 -- The attempt of a job, as the record shows it, and the session's client: while an attempt runs they are the same.
-use Rattle.std.proofs.Common.{◌≡◌, ◌≢◌, ℕ, suc, ◌<◌, ◌≤◌, ◌⊎◌, List, [], ◌∷◌, ◌++◌, drop, length, Bool, true, false, not, ◌&&◌, ◌||◌, cond, Option, Some, None, refl, sym, ◌∙◌, ap, subst, inl, inr, arith, if◌then◌else◌}
-use Rattle.std.specs.Prelude.{◌==◌, is_some, bytes_eq}
-use Rattle.std.proofs.lemmas.Slice.Eq.{bytes_eq-Decides}
+use Rattle.std.proofs.Common.{◌≡◌, ℕ, List, ◌∷◌, Bool, true, false, Option, Some, None, refl, sym, ◌∙◌, ap, subst}
+use Rattle.std.specs.Prelude.{is_some}
 use Rattle.knx_model.specs.declared.address.IndAddr.{IndAddr}
-use Rattle.knx_model.specs.declared.connection.ClientTook.{ClientTook}
-use Rattle.knx_model.specs.declared.connection.ClientTook.TheVariants as heard
 use Rattle.knx_model.specs.declared.connection.ClientConfirmed.TheVariants as told
 use Rattle.knx_model.specs.declared.connection.TransportFrame.{TransportFrame}
 use Rattle.knx_model.specs.declared.connection.TransportFrame.TheVariants.{Connect, Disconnect, Ack, Nak, Numbered, Other}
 use Rattle.knx_model.specs.declared.plan.Expect.{Expect}
-use Rattle.knx_model.specs.declared.plan.Expect.TheVariants.{AckOnly, Is, Note}
-use Rattle.knx_model.specs.ClientConnection.{ClientEnd, Asked, Up, Asking, Awaiting, Ended, Question, device_of, client_took, up_took, asking_took, client_after, client_stayed, client_confirmed, after_confirmed, wait_begun, has_answer}
+use Rattle.knx_model.specs.ClientConnection.{ClientEnd, Asked, Up, Asking, Awaiting, Ended, Question, client_confirmed, after_confirmed, wait_begun}
 use Rattle.knx_model.specs.Connection.{Session}
-use Rattle.knx_model.specs.GoodPlan.{IsSendable, awaits_answer}
-use Rattle.knx_model.specs.Plans.{Plan, Over, Asks as Operation, Suits, followed}
-use Rattle.line_model.specs.Attempts.{Attempt, Attempts, Resting, Running, awaits, answered, owing, heard_attempt, confirmed_attempt, landed}
-use Rattle.line_model.specs.Progress.{suits}
+use Rattle.knx_model.specs.Plans.{Plan, Asks as Operation}
+use Rattle.line_model.specs.Attempts.{Attempt, Attempts, Resting, Running, confirmed_attempt, landed}
 use Rattle.session_law.specs.World.{Client}
-use Rattle.session_law.specs.Client.{confirmed, hears, since}
-use Rattle.load_law.specs.Download.{Went, NotBegun, Acknowledged, Answered}
+use Rattle.session_law.specs.Client.{confirmed}
+use Rattle.load_law.specs.Download.{Went, NotBegun}
 
 -- ---- where an attempt stands in its plan
 

@@ -1,31 +1,28 @@
 -- A frame of the client goes over the bus: its confirmation waits for the client, and each session sees it.
-use Rattle.std.proofs.Common.{◌≡◌, ℕ, ◌⊎◌, List, [], ◌∷◌, ◌++◌, drop, Bool, true, false, not, ◌&&◌, ◌||◌, cond, Option, Some, None, refl, sym, ◌∙◌, ap, subst, inl, inr, if◌then◌else◌, append-nil, arith}
+use Rattle.std.proofs.Common.{◌≡◌, ℕ, ◌⊎◌, List, [], ◌∷◌, ◌++◌, drop, Bool, true, false, not, ◌&&◌, cond, Option, Some, None, refl, sym, ◌∙◌, ap, subst, inl, inr, append-nil, arith}
 use Rattle.std.specs.Prelude.{◌==◌}
-use Rattle.knx_model.specs.declared.address.IndAddr.{IndAddr}
-use Rattle.knx_model.specs.declared.device.Took.{Took}
-use Rattle.knx_model.specs.declared.device.Took.TheVariants.{NotMine, TooLong, Taken, Off}
 use Rattle.knx_model.specs.declared.frames.cemi.Ldata.{Ldata}
-use Rattle.knx_model.specs.declared.frames.cemi.LdataCode.TheVariants.{Con, Ind}
+use Rattle.knx_model.specs.declared.frames.cemi.LdataCode.TheVariants.{Con}
 use Rattle.knx_model.specs.ApduReading.{option_map}
 use Rattle.knx_model.specs.Cemi.{Written as cemi_octets}
 use Rattle.knx_model.specs.DeviceState.{DeviceState}
-use Rattle.knx_model.specs.DeviceFrames.{Outcome, Whole, Torn, Worn, took_of, is_taken, takes, takes_so, is_too_long}
+use Rattle.knx_model.specs.DeviceFrames.{Outcome, Whole, Torn, Worn, took_of, is_taken, takes}
 use Rattle.knx_model.specs.DeviceSending.{first_frame}
 use Rattle.line_model.specs.ClientView.{ClientChannel, Fresh, Sought, RefusedBy, Unanswered, Open, Lost, View, channel}
 use Rattle.line_model.specs.Gateway.{Gateway}
-use Rattle.line_model.specs.Legal.{GoesOver, GoesSo, IsFor, OfDevice}
+use Rattle.line_model.specs.Legal.{GoesOver, GoesSo}
 use Rattle.line_model.specs.Reading.{ldata_in, is_con}
 use Rattle.line_model.specs.Record.{Entry}
-use Rattle.line_model.specs.Tunnel.{Tunnel, with_gateway, after, carried as carried_by}
-use Rattle.line_model.specs.World.{World, Event, Bus, BusTorn, BusWorn, tunnel_event, devices_after, echo_after, me, now, Devices, on_bus, next_frame, is_among, takes_it, is_confirmed, confirmation, carried, all_take, one_takes, changed, none_if}
+use Rattle.line_model.specs.Tunnel.{with_gateway, after, carried as carried_by}
+use Rattle.line_model.specs.World.{World, Event, Bus, BusTorn, BusWorn, tunnel_event, devices_after, echo_after, me, now, Devices, on_bus, next_frame, is_among, is_confirmed, confirmation, carried, all_take, one_takes, none_if}
 use Rattle.session_law.specs.World.{World as SessionWorld, Con as Confirms}
 use Rattle.session_law.specs.Device.{carries, carries_lost, elsewhere, gets}
-use Rattle.session_law.specs.Events.{Event as SessionEvent, Bus as Carries, BusLost, Group, Elsewhere, step, replay, MayHappen}
+use Rattle.session_law.specs.Events.{Event as SessionEvent, Bus as Carries, BusLost, Group, Elsewhere, step, MayHappen}
 use Rattle.tunnel_law.proofs.Inside.{Every}
-use Rattle.line_law.proofs.Queue.{Items, is_its, is_by, message, messages, messages_append, cons, cons_append, back, back_more}
-use Rattle.line_law.proofs.Coupled.{IsTold, Stage, Waits, OnBus, Told, Gone, Flight, Landed, Flies, NotServing, Serves, StageIs, FliesSo, FlightIs, Last, Never, Since, ChannelIs, OpenIs, JoinedIs, NeverIs, LastIs, Pipe, echo_of, DeviceSide, FlyFor, InFlight, PendFor, CoupledBy, Coupled, IsBus, Goes}
+use Rattle.line_law.proofs.Queue.{Items, is_its, message, messages, messages_append, cons, cons_append, back, back_more}
+use Rattle.line_law.proofs.Coupled.{IsTold, Stage, Waits, OnBus, Told, Gone, Landed, Flies, Serves, FliesSo, Last, Never, Since, ChannelIs, OpenIs, JoinedIs, LastIs, Pipe, DeviceSide, PendFor, CoupledBy, Coupled, IsBus, Goes}
 use Rattle.line_law.proofs.Owned.{every_append}
-use Rattle.line_law.proofs.ReadBack.{low, written_in, read_range}
+use Rattle.line_law.proofs.ReadBack.{written_in, read_range}
 
 -- ---- session events
 
@@ -161,7 +158,6 @@ its_con a f c i k = con_by a c (is_con c.code) (is_its a c) refl refl k.code (sa
 
 others_con : (a : ℕ) (f c : Ldata) → is_its a f ≡ false → ConOf f c → message a c ≡ []
 others_con a f c i k = other_con a c (is_con c.code) (is_its a c) refl refl k.code (same_its a f c k.group k.destination ∙ i)
-
 
 module _ (a : ℕ) (w : World) (r : List Entry) (s : SessionWorld) (items : Items) (older : List (ℕ × List ℕ)) (base e : ℕ) (v : View) (f con : Ldata) (devices : Devices) (is : ConOf f con)
     (h : CoupledBy a w r s items older (Since base e v (Flies f OnBus))) where

@@ -1,35 +1,29 @@
 -- At every moment each device keeps its starting content, or is stopped, or runs the image of a load job; and it is untouched before its first one.
-use Rattle.std.proofs.Common.{◌≡◌, ◌≢◌, ℕ, zero, suc, ◌-◌, ◌<◌, ◌≤◌, ◌⊎◌, List, [], ◌∷◌, ◌++◌, length, Bool, true, false, not, ◌&&◌, ◌||◌, cond, Option, Some, None, refl, sym, ◌∙◌, ap, subst, inl, inr, arith, if◌then◌else◌}
-use Rattle.std.specs.Prelude.{◌==◌, nat_le, nat_lt, slice_get}
-use Rattle.std.specs.List.{AllByRecursion, list_any}
+use Rattle.std.proofs.Common.{◌≡◌, ℕ, zero, suc, ◌-◌, ◌<◌, List, [], ◌∷◌, ◌++◌, Bool, true, false, ◌&&◌, ◌||◌, cond, Some, None, refl, sym, ◌∙◌, ap, subst, inl, inr, arith}
+use Rattle.std.specs.Prelude.{◌==◌, nat_lt, slice_get}
+use Rattle.std.specs.List.{AllByRecursion}
 use Rattle.knx_model.specs.declared.device.FrameSupport.{FrameSupport}
 use Rattle.knx_model.specs.Device.{NonVolatile, runs, answer_in}
-use Rattle.knx_model.specs.DeviceFrames.{Outcome}
 use Rattle.knx_model.specs.DeviceState.{DeviceState}
-use Rattle.knx_model.specs.GoodPlan.{Answering, GoodPlan, GoodCheck, IsSendable, Beginning, NotBegun, Then, WholeRun, AtEnd, Goes, kept_by}
+use Rattle.knx_model.specs.GoodPlan.{Answering, GoodCheck, IsSendable, Beginning, NotBegun, Then, WholeRun, AtEnd, Goes, kept_by}
 use Rattle.knx_model.specs.Plans.{Plan}
-use Rattle.line_model.specs.declared.group.GroupTurn.{GroupTurn}
 use Rattle.line_model.specs.declared.log.LogEntry.{LogEntry}
 use Rattle.line_model.specs.declared.log.LogWhat.{LogWhat}
 use Rattle.line_model.specs.declared.log.LogWhat.TheVariants.{Took, Done, Failed, Refused, Sent, Lost}
 use Rattle.line_model.specs.Headline.{IsGoodJob}
-use Rattle.line_model.specs.Legal.{AtEveryMoment}
-use Rattle.line_model.specs.Log.{Job, JobState, Untaken, Held, Over, loads, job_of, log_before, takes_it, ends_it, state_after, state_of, IsLog, OneDownloaderPerDevice}
-use Rattle.line_model.specs.OldStoppedOrNew.{first_events, world_at, Both, RunsJob, OldStoppedOr, IsCase, loads_device, takes_load, load_taken, IsUntouched}
-use Rattle.line_model.specs.World as line
+use Rattle.line_model.specs.Log.{Job, Untaken, Held, Over, loads, job_of, log_before, takes_it, ends_it, state_after, state_of}
+use Rattle.line_model.specs.OldStoppedOrNew.{RunsJob, OldStoppedOr, loads_device, takes_load, load_taken}
 use Rattle.line_model.specs.World.{World, Event, me}
 use Rattle.session_law.specs.World.{World as SessionWorld, fresh}
 use Rattle.session_law.specs.Events.{Event as SessionEvent, replay, IsLegal}
 use Rattle.session_law.proofs.Books.{Books, empty, books}
 use Rattle.session_law.proofs.Steps.{WorldInv, fresh_inv, always}
 use Rattle.load_law.specs.Download.{MayAsk, Follows}
-use Rattle.load_law.proofs.Walked.{IsGoodFor, AllGoodFor}
+use Rattle.load_law.proofs.Walked.{AllGoodFor}
 use Rattle.load_law.proofs.Follows.{LoadInv, load_always, fresh_load}
-use Rattle.load_law.proofs.Checked.{ChangesNothing, Settled, settled_first, Unchanged, SettledAt, unchanged_kept, unchanged_step}
-use Rattle.line_law.proofs.Coupled.{Coupled}
-use Rattle.line_law.proofs.Stepping.{HeldJob, HeldPlan}
-use Rattle.line_law.proofs.Traces.{IsRun, run_before, Follower}
-use Rattle.line_law.proofs.Runs.{Trace, replay_more, follower_now, trace_legal, trace_always, trace_follows, none_always}
+use Rattle.load_law.proofs.Checked.{ChangesNothing, Unchanged, unchanged_step}
+use Rattle.line_law.proofs.Stepping.{HeldPlan}
+use Rattle.line_law.proofs.Runs.{Trace, replay_more, trace_legal, trace_follows}
 
 -- ---- the jobs of a device
 
@@ -120,15 +114,18 @@ unmoved_more first frames start (e ∷ more) past inv legal f h =
 
 -- ---- a job that is held was taken
 
-taken_by : (jobs : List Job) (a k number : ℕ) (e : LogEntry) (job : Job) → takes_it number e.what ≡ true → job_of jobs number ≡ Some job → job.device.raw ≡ a → takes_load jobs a e.what ≡ loads job
+pub taken_by : (jobs : List Job) (a k number : ℕ) (e : LogEntry) (job : Job) → takes_it number e.what ≡ true → job_of jobs number ≡ Some job → job.device.raw ≡ a → takes_load jobs a e.what ≡ loads job
 taken_by jobs a k number e job t there of = by_what e.what t where
   eqb_is : (x y : ℕ) → (x == y) ≡ true → x ≡ y
   eqb_is x y h = grind (arith, h)
+
   is_eqb : (x y : ℕ) → x ≡ y → (x == y) ≡ true
   is_eqb x y h = grind (arith, h)
+
   and_true : (b c : Bool) → c ≡ true → (b && c) ≡ b
   and_true true c h = h
   and_true false c h = refl
+
   by_what : (what : LogWhat) → takes_it number what ≡ true → takes_load jobs a what ≡ loads job
   by_what (Took j) h = ap (λ z. loads_device a (job_of jobs z)) (eqb_is j number h) ∙ ap (loads_device a) there ∙ and_true (loads job) (job.device.raw == a) (is_eqb job.device.raw a of)
   by_what (Done j) h = absurd (cc)
@@ -137,11 +134,11 @@ taken_by jobs a k number e job t there of = by_what e.what t where
   by_what (Sent j) h = absurd (cc)
   by_what (Lost j) h = absurd (cc)
 
-or_false : (b c : Bool) → (b || c) ≡ false → (b ≡ false) × (c ≡ false)
+pub or_false : (b c : Bool) → (b || c) ≡ false → (b ≡ false) × (c ≡ false)
 or_false true c h = absurd (cc)
 or_false false c h = (refl, h)
 
-and_false : (b c : Bool) → (b && c) ≡ false → b ≡ true → c ≡ false
+pub and_false : (b c : Bool) → (b && c) ≡ false → b ≡ true → c ≡ false
 and_false true c h e = h
 and_false false c h e = absurd (cc)
 
@@ -154,12 +151,14 @@ no_load jobs a k n number worker since job (e ∷ log) none lt held there of =
   where
     in_time : nat_lt e.at (suc n) ≡ true → nat_lt e.at k ≡ true
     in_time h = grind (arith, h, lt)
+
     by_entry : (b : Bool) → takes_it number e.what ≡ b → nat_lt e.at (suc n) ≡ true → (nat_lt e.at k && takes_load jobs a e.what) ≡ false → state_after number e (state_of number (log_before (suc n) log)) ≡ Held worker since → (state_of number (log_before (suc n) log) ≡ Held worker since → loads job ≡ false) → loads job ≡ false
     by_entry true t h f s g = sym (taken_by jobs a k number e job t there of) ∙ and_false (nat_lt e.at k) (takes_load jobs a e.what) f (in_time h)
     by_entry false t h f s g = by_end (ends_it number e.what) refl where
       by_end : (b : Bool) → ends_it number e.what ≡ b → loads job ≡ false
       by_end true q = absurd (let z : Over ≡ Held worker since = sym (let y : state_after number e (state_of number (log_before (suc n) log)) ≡ Over = rw t (rw q refl) in y) ∙ s in cc)
       by_end false q = g (sym (let y : state_after number e (state_of number (log_before (suc n) log)) ≡ state_of number (log_before (suc n) log) = rw t (rw q refl) in y) ∙ s)
+
     by_before : (b : Bool) → nat_lt e.at (suc n) ≡ b → (nat_lt e.at k && takes_load jobs a e.what) ≡ false → (state_of number (log_before (suc n) log) ≡ Held worker since → loads job ≡ false) → loads job ≡ false
     by_before true h f g = by_entry (takes_it number e.what) refl h f (sym (ap (λ b. state_of number (cond {A = List LogEntry} b (e ∷ log_before (suc n) log) (log_before (suc n) log))) h) ∙ held) g
     by_before false h f g = g (sym (ap (λ b. state_of number (cond {A = List LogEntry} b (e ∷ log_before (suc n) log) (log_before (suc n) log))) h) ∙ held)

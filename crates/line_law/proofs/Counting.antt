@@ -1,9 +1,8 @@
 -- In a session the record's counts are the attempt's: the number, how many services were acknowledged, and the answers.
-use Rattle.std.proofs.Common.{◌≡◌, ◌≢◌, ℕ, zero, suc, ◌+◌, ◌%◌, ◌<◌, ◌≤◌, ◌⊎◌, List, [], ◌∷◌, ◌++◌, reverse, length, Bool, true, false, not, ◌&&◌, ◌||◌, cond, Option, Some, None, refl, sym, ◌∙◌, ap, subst, inl, inr, arith, if◌then◌else◌}
-use Rattle.std.specs.Prelude.{◌==◌, bytes_eq}
+use Rattle.std.proofs.Common.{◌≡◌, ℕ, suc, ◌%◌, ◌<◌, ◌≤◌, ◌⊎◌, List, [], ◌∷◌, ◌++◌, reverse, length, Bool, true, false, not, ◌&&◌, cond, Option, Some, refl, sym, ◌∙◌, ap, subst, inl, inr, arith, if◌then◌else◌}
+use Rattle.std.specs.Prelude.{◌==◌}
 use Rattle.std.proofs.lemmas.List.{reverse-append}
 use Rattle.std.proofs.lemmas.Slice.Eq.{bytes_eq-Decides}
-use Rattle.knx_model.specs.declared.address.IndAddr.{IndAddr}
 use Rattle.knx_model.specs.declared.connection.ClientTook.{ClientTook}
 use Rattle.knx_model.specs.declared.connection.ClientTook.TheVariants as heard
 use Rattle.knx_model.specs.declared.connection.TransportFrame.{TransportFrame}
@@ -13,9 +12,9 @@ use Rattle.knx_model.specs.declared.plan.Expect.TheVariants.{AckOnly, Is, Note}
 use Rattle.knx_model.specs.ClientConnection.{ClientEnd, Asked, Up, Asking, Awaiting, Ended, Question, client_took, up_took, asking_took, client_after, client_stayed, client_answered, client_acknowledged}
 use Rattle.knx_model.specs.Connection.{Session, frame_in, next_number, acknowledged}
 use Rattle.knx_model.specs.GoodPlan.{awaits_answer}
-use Rattle.knx_model.specs.Plans.{Plan, Over, Asks as Operation, Suits, followed}
-use Rattle.line_model.specs.Attempts.{Attempt, Attempts, Resting, Running, awaits, answered, with_reply, owing, heard_attempt}
-use Rattle.line_model.specs.Moments.{Number, Next, Outstanding, number_heard, is_wrong, closes_by, is_acknowledged, answer_expected}
+use Rattle.knx_model.specs.Plans.{Plan, Asks as Operation, Suits, followed}
+use Rattle.line_model.specs.Attempts.{Attempt, Attempts, Resting, Running, awaits, with_reply, owing, heard_attempt}
+use Rattle.line_model.specs.Moments.{Number, Next, Outstanding, number_heard, closes_by, is_acknowledged, answer_expected}
 use Rattle.line_model.specs.Progress.{Reaches, suits}
 use Rattle.line_law.proofs.Reaching.{Texts, too_many, answered_one, suits_next}
 

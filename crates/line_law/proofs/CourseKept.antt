@@ -1,30 +1,20 @@
 -- Each moment keeps what the record says of a session beside what it says of the attempt.
-use Rattle.std.proofs.Common.{◌≡◌, ◌≢◌, ℕ, zero, suc, ◌+◌, ◌%◌, ◌<◌, ◌≤◌, ◌⊎◌, List, [], ◌∷◌, ◌++◌, drop, reverse, length, Bool, true, false, not, ◌&&◌, ◌||◌, cond, Option, Some, None, refl, sym, ◌∙◌, ap, subst, inl, inr, arith, if◌then◌else◌}
-use Rattle.std.specs.Prelude.{◌==◌, nat_le, nat_lt}
+use Rattle.std.proofs.Common.{◌≡◌, ℕ, suc, List, [], ◌∷◌, drop, reverse, length, Bool, true, false, ◌||◌, cond, Option, Some, None, refl, sym, ◌∙◌, ap, subst, inl, inr, arith, if◌then◌else◌}
 use Rattle.knx_model.specs.declared.address.IndAddr.{IndAddr}
 use Rattle.knx_model.specs.declared.connection.ClientTook.{ClientTook}
 use Rattle.knx_model.specs.declared.connection.ClientTook.TheVariants as heard
-use Rattle.knx_model.specs.declared.connection.ClientExpired.TheVariants as over
 use Rattle.knx_model.specs.declared.connection.TransportFrame.{TransportFrame}
 use Rattle.knx_model.specs.declared.connection.TransportFrame.TheVariants.{Connect, Disconnect, Ack, Nak, Numbered, Other}
-use Rattle.knx_model.specs.declared.frames.tpdu.Tpdu.{Tpdu}
-use Rattle.knx_model.specs.declared.frames.tpdu.Tpdu.TheVariants as tpdu
-use Rattle.knx_model.specs.declared.plan.Expect.{Expect}
-use Rattle.knx_model.specs.declared.plan.Expect.TheVariants.{AckOnly, Is, Note}
-use Rattle.knx_model.specs.Apdu.{most_octets}
-use Rattle.knx_model.specs.ClientConnection.{client_asked, question_overdue, question_expired, ClientEnd, Asked, Up, Asking, Awaiting, Ended, Question, client_took, up_took, asking_took, client_after, client_sent, after_send, client_stayed, client_expired, after_overdue, client_repeated, after_confirmed, question_confirmed, has_answer}
-use Rattle.knx_model.specs.Connection.{ack_wait, idle_wait, most_repeats, has_passed, Session, IsApdu, control_frame, disconnect, frame_in, next_number, numbered_data, by_ack, is_before}
-use Rattle.knx_model.specs.GoodPlan.{IsSendable, awaits_answer}
-use Rattle.knx_model.specs.Plans.{Plan, Over, Asks as Operation}
-use Rattle.line_model.specs.Attempts.{Attempt, Attempts, Resting, Running, begun, awaits, sent_of, aged, put_so, put_attempt, sends_numbered, confirmed_so, confirmed_attempt, landed, heard_so, heard_attempt, is_silent, attempts, attempts_after, MayPut, MayAsk, IsNext, IsRepeat}
-use Rattle.line_model.specs.Moments.{Moment, confirmation_in, put_to, heard_from, Number, Next, Outstanding, number_put, number_heard, number, is_disconnect, is_wrong, closes_by, is_loss, ends_session, is_connect, grown, stretches, Course, Unconfirmed, WithError, InSession, Left, course_from, course_after, course, is_acknowledged, acknowledged, answer_expected, answers}
+use Rattle.knx_model.specs.ClientConnection.{ClientEnd, Asked, Up, Asking, Awaiting, Ended, client_took, client_stayed, client_expired, after_confirmed}
+use Rattle.knx_model.specs.Connection.{frame_in}
+use Rattle.knx_model.specs.GoodPlan.{IsSendable}
+use Rattle.knx_model.specs.Plans.{Plan, Over}
+use Rattle.line_model.specs.Attempts.{Attempt, Attempts, Resting, Running, begun, awaits, aged, put_so, put_attempt, confirmed_so, confirmed_attempt, landed, heard_so, heard_attempt, is_silent, attempts, attempts_after, MayPut, MayAsk}
+use Rattle.line_model.specs.Moments.{Moment, confirmation_in, put_to, heard_from, Number, Next, number_put, number_heard, number, is_disconnect, closes_by, is_loss, ends_session, is_connect, grown, stretches, Course, Unconfirmed, WithError, InSession, Left, course_from, course_after, course, is_acknowledged, acknowledged, answer_expected, answers}
 use Rattle.line_model.specs.Progress.{Reaches}
 use Rattle.line_model.specs.Told.{WentThrough}
-use Rattle.session_law.proofs.Frames.{numbered_read}
-use Rattle.line_law.proofs.Reaching.{acknowledged_one}
-use Rattle.line_law.proofs.Counting.{NumberIs, ExpectedIs, AwaitsOne, LeftIs, NotEnd, Count, CountIs, stayed_count, heard_effect, heard_count}
-use Rattle.line_law.proofs.Courses.{Kind, Lost, Plain, Put, Confirmed, Hears, kind, NotService, WasDone, Now, Later, Begun, Idle, AtRest, CourseIs, StretchIs, done_now}
-use Rattle.knx_model.specs.ClientConnection.{wait_begun}
+use Rattle.line_law.proofs.Counting.{NumberIs, ExpectedIs, LeftIs, NotEnd, Count, CountIs, stayed_count, heard_effect, heard_count}
+use Rattle.line_law.proofs.Courses.{Kind, Lost, Plain, Put, Confirmed, Hears, NotService, WasDone, Now, Later, Begun, Idle, AtRest, CourseIs, StretchIs, done_now}
 use Rattle.line_model.specs.Attempts.{first, put_other}
 use Rattle.line_law.proofs.CourseSteps.{ended_confirmed, ended_took, asked_took, Closes, end_closes, closed_idle, numbered_count, ended_asks}
 
@@ -189,9 +179,12 @@ module _ (a : ℕ) (device : IndAddr) (plan : Plan) (can : IsSendable plan) (m :
     off : (s : List Moment) (u : Attempts) → ends_session a m s ≡ true → Idle u → NotService p → (if is_acknowledged h (number a s) then suc (acknowledged a s) else acknowledged a s) ≡ acknowledged a s → answer_expected h (length (answers a s)) (answers a s) ≡ answers a s
         → CountIs plan (attempts device plan l) (number a s) (acknowledged a s) (answers a s) → Kept (course_after a m (InSession s)) u
     off s u e idle ns ack ans k =
-        subst (λ b. Kept (cond {A = Course} b (Left (m ∷ s)) (InSession (m ∷ s))) u) (sym e) (idle, λ w some.
-            Later (Now (done_now plan (attempts device plan l) (number a s) (acknowledged a s) (answers a s) k
-            (subst (λ z. Reaches plan z (reverse (answers a s)) Over) (ackeds s ∙ ack) (subst (λ z. Reaches plan (acknowledged a (m ∷ s)) (reverse z) Over) (answereds s ∙ ans) w)))) (not_service p put ns))
+        subst (λ b. Kept (cond {A = Course} b (Left (m ∷ s)) (InSession (m ∷ s))) u) (sym e) (
+          idle,
+          λ w some.
+              Later (Now (done_now plan (attempts device plan l) (number a s) (acknowledged a s) (answers a s) k
+              (subst (λ z. Reaches plan z (reverse (answers a s)) Over) (ackeds s ∙ ack) (subst (λ z. Reaches plan (acknowledged a (m ∷ s)) (reverse z) Over) (answereds s ∙ ans) w)))) (not_service p put ns),
+        )
 
   -- a left session stays so
   left_kept : (s : List Moment) (u : Attempts) (p : Option TransportFrame) → put_to a m.what ≡ p → NotService p → Idle u → CourseIs a device plan (Left s) (attempts device plan l) l → Kept (Left s) u

@@ -1,5 +1,5 @@
 -- Each moment keeps what the record says of a session with what it says of the attempt.
-use Rattle.std.proofs.Common.{◌≡◌, ◌≢◌, ℕ, zero, suc, ◌+◌, ◌%◌, ◌<◌, ◌≤◌, ◌⊎◌, List, [], ◌∷◌, ◌++◌, drop, reverse, length, Bool, true, false, not, ◌&&◌, ◌||◌, cond, Option, Some, None, refl, sym, ◌∙◌, ap, subst, inl, inr, arith, if◌then◌else◌}
+use Rattle.std.proofs.Common.{◌≡◌, ℕ, zero, suc, ◌+◌, ◌%◌, List, [], ◌∷◌, reverse, length, Bool, true, false, not, ◌&&◌, cond, Option, Some, None, refl, sym, ◌∙◌, ap, subst, inl, inr, arith, if◌then◌else◌}
 use Rattle.std.specs.Prelude.{◌==◌, nat_le, nat_lt}
 use Rattle.knx_model.specs.declared.address.IndAddr.{IndAddr}
 use Rattle.knx_model.specs.declared.connection.ClientTook.{ClientTook}
@@ -12,18 +12,17 @@ use Rattle.knx_model.specs.declared.frames.tpdu.Tpdu.TheVariants as tpdu
 use Rattle.knx_model.specs.declared.plan.Expect.{Expect}
 use Rattle.knx_model.specs.declared.plan.Expect.TheVariants.{AckOnly, Is, Note}
 use Rattle.knx_model.specs.Apdu.{most_octets}
-use Rattle.knx_model.specs.ClientConnection.{client_asked, question_overdue, question_expired, ClientEnd, Asked, Up, Asking, Awaiting, Ended, Question, client_took, up_took, asking_took, client_after, client_sent, after_send, client_stayed, client_expired, after_overdue, client_repeated, after_confirmed, question_confirmed, has_answer}
-use Rattle.knx_model.specs.Connection.{ack_wait, idle_wait, most_repeats, has_passed, Session, IsApdu, control_frame, disconnect, frame_in, next_number, numbered_data, by_ack, is_before}
+use Rattle.knx_model.specs.ClientConnection.{client_asked, question_overdue, question_expired, ClientEnd, Asked, Up, Asking, Awaiting, Ended, Question, client_took, up_took, asking_took, client_sent, after_send, client_expired, after_overdue, client_repeated, after_confirmed, has_answer}
+use Rattle.knx_model.specs.Connection.{ack_wait, idle_wait, most_repeats, has_passed, Session, IsApdu, control_frame, disconnect, frame_in, next_number, numbered_data}
 use Rattle.knx_model.specs.GoodPlan.{IsSendable, awaits_answer}
 use Rattle.knx_model.specs.Plans.{Plan, Over, Asks as Operation}
-use Rattle.line_model.specs.Attempts.{Attempt, Attempts, Resting, Running, begun, awaits, sent_of, aged, put_so, put_attempt, sends_numbered, confirmed_so, confirmed_attempt, landed, heard_so, heard_attempt, is_silent, attempts, attempts_after, MayPut, MayAsk, IsNext, IsRepeat}
-use Rattle.line_model.specs.Moments.{Moment, confirmation_in, put_to, heard_from, Number, Next, Outstanding, number_put, number_heard, number, is_disconnect, is_wrong, closes_by, is_loss, ends_session, is_connect, grown, stretches, Course, Unconfirmed, WithError, InSession, Left, course_from, course_after, course, is_acknowledged, acknowledged, answer_expected, answers}
+use Rattle.line_model.specs.Attempts.{Attempt, awaits, sent_of, sends_numbered, confirmed_attempt, heard_attempt, MayAsk, IsNext, IsRepeat}
+use Rattle.line_model.specs.Moments.{Number, Next, Outstanding, closes_by, is_acknowledged, answer_expected}
 use Rattle.line_model.specs.Progress.{Reaches}
-use Rattle.line_model.specs.Told.{WentThrough}
 use Rattle.session_law.proofs.Frames.{numbered_read}
 use Rattle.line_law.proofs.Reaching.{acknowledged_one}
-use Rattle.line_law.proofs.Counting.{NumberIs, ExpectedIs, AwaitsOne, LeftIs, NotEnd, Count, CountIs, stayed_count, heard_effect, heard_count}
-use Rattle.line_law.proofs.Courses.{Kind, Lost, Plain, Put, Confirmed, Hears, kind, NotService, WasDone, Now, Later, Begun, Idle, AtRest, CourseIs, StretchIs, done_now}
+use Rattle.line_law.proofs.Counting.{NumberIs, ExpectedIs, LeftIs, Count}
+use Rattle.line_law.proofs.Courses.{Idle}
 
 -- ---- the end of an attempt stays ended
 
@@ -199,9 +198,11 @@ repeat_frame_is (Asking p q) now octets e = (p, q, refl, by_confirmed q.confirme
   by_overdue : (b : Bool) → (if b then over.Repeat q.frame else over.Silent ack_wait) ≡ over.Repeat octets → q.frame ≡ octets
   by_overdue true k = cc
   by_overdue false k = absurd (cc)
+
   by_passed : (b : Bool) → (if b then question_overdue q else over.Nothing) ≡ over.Repeat octets → q.frame ≡ octets
   by_passed true k = by_overdue (nat_lt q.repeats most_repeats) k
   by_passed false k = absurd (cc)
+
   by_confirmed : (o : Option ℕ) → question_expired q o now ≡ over.Repeat octets → q.frame ≡ octets
   by_confirmed None k = absurd (cc)
   by_confirmed (Some since) k = by_passed (has_passed ack_wait since now) k

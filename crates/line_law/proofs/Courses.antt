@@ -1,26 +1,22 @@
 -- What the record says of a session of a job, and what it says of the job's attempt.
-use Rattle.std.proofs.Common.{◌≡◌, ◌≢◌, ℕ, zero, suc, ◌+◌, ◌%◌, ◌<◌, ◌≤◌, ◌⊎◌, List, [], ◌∷◌, ◌++◌, reverse, length, Bool, true, false, not, ◌&&◌, ◌||◌, cond, Option, Some, None, refl, sym, ◌∙◌, ap, subst, inl, inr, arith, append-nil, if◌then◌else◌}
-use Rattle.std.specs.Prelude.{◌==◌}
+use Rattle.std.proofs.Common.{◌≡◌, ℕ, suc, ◌≤◌, List, [], ◌∷◌, reverse, Bool, true, false, Option, Some, None, refl, sym, ◌∙◌, ap, subst, arith, append-nil}
 use Rattle.knx_model.specs.declared.address.IndAddr.{IndAddr}
-use Rattle.knx_model.specs.declared.connection.ClientTook.{ClientTook}
-use Rattle.knx_model.specs.declared.connection.ClientTook.TheVariants as heard
 use Rattle.knx_model.specs.declared.connection.TransportFrame.{TransportFrame}
-use Rattle.knx_model.specs.declared.connection.TransportFrame.TheVariants.{Connect, Disconnect, Ack, Nak, Numbered, Other}
+use Rattle.knx_model.specs.declared.connection.TransportFrame.TheVariants.{Connect, Numbered}
 use Rattle.knx_model.specs.declared.frames.cemi.Ldata.{Ldata}
 use Rattle.knx_model.specs.declared.frames.cemi.LdataCode.{LdataCode}
 use Rattle.knx_model.specs.declared.frames.cemi.LdataCode.TheVariants.{Req, Con, Ind}
-use Rattle.knx_model.specs.ClientConnection.{ClientEnd, Asked, Up, Asking, Awaiting, Ended, client_took, up_took, asking_took, client_after, client_expired, after_confirmed}
-use Rattle.knx_model.specs.Connection.{Session, frame_in, next_number}
+use Rattle.knx_model.specs.ClientConnection.{ClientEnd, Asked, Up, Asking, Awaiting, Ended}
+use Rattle.knx_model.specs.Connection.{Session}
 use Rattle.knx_model.specs.Plans.{Plan, Over, Asks as Operation}
-use Rattle.line_model.specs.Attempts.{Attempt, Attempts, Resting, Running, awaits, aged, put_so, confirmed_so, confirmed_attempt, landed, heard_so, heard_attempt, is_silent, attempts, attempts_after, MayPut}
+use Rattle.line_model.specs.Attempts.{Attempt, Attempts, Resting, Running, awaits, attempts}
 use Rattle.line_model.specs.ClientView.{Deed, Puts, Takes, Loses, Nothing}
-use Rattle.line_model.specs.Moments.{Moment, where_is, put_frame, taken_frame, confirmation_frame, error_of, confirmation_in, is_to, is_from, transport_of, put_to, heard_from, Number, Next, Outstanding, number_put, number_heard, number, is_disconnect, is_wrong, closes_by, is_loss, ends_session, is_connect, grown, stretches, Course, Unconfirmed, WithError, InSession, Left, course_from, course_after, course, session, is_acknowledged, acknowledged, answer_expected, answers}
+use Rattle.line_model.specs.Moments.{Moment, where_is, error_of, confirmation_in, is_from, transport_of, put_to, heard_from, Number, number, is_loss, stretches, Course, Unconfirmed, WithError, InSession, Left, course, session, acknowledged, answers}
 use Rattle.line_model.specs.Progress.{Reaches}
-use Rattle.line_model.specs.Reading.{ldata_in, is_req, is_con, is_ind}
+use Rattle.line_model.specs.Reading.{ldata_in, is_con, is_ind}
 use Rattle.line_model.specs.Told.{last_stretch, WentThrough}
-use Rattle.line_law.proofs.Attempting.{IsService}
 use Rattle.line_law.proofs.Reaching.{same_left, no_further}
-use Rattle.line_law.proofs.Counting.{NumberIs, ExpectedIs, AwaitsOne, LeftIs, NotEnd, Count, CountIs, heard_effect, heard_count}
+use Rattle.line_law.proofs.Counting.{NumberIs, LeftIs, Count, CountIs}
 
 -- ---- what a moment is to a device
 
@@ -137,11 +133,13 @@ pub went_through : (a : ℕ) (device : IndAddr) (plan : Plan) (l : List Moment) 
 went_through a device plan l some h w = by_stretch (stretches a l) h w where
   nothing : Reaches plan 0 [] Over → WasDone a device plan l
   nothing r = absurd (some r)
+
   by_course : (c : Course) → CourseIs a device plan c (attempts device plan l) l → WentThrough a plan (session c) → WasDone a device plan l
   by_course Unconfirmed k r = nothing r
   by_course WithError k r = nothing r
   by_course (InSession s) k r = Now (done_now plan (attempts device plan l) (number a s) (acknowledged a s) (answers a s) k r)
   by_course (Left s) k r = k.1 r some
+
   by_stretch : (ss : List (List Moment)) → StretchIs a device plan ss (attempts device plan l) l → WentThrough a plan (session (course a (last_stretch ss))) → WasDone a device plan l
   by_stretch [] k r = nothing r
   by_stretch (s ∷ older) k r = by_course (course a s) k r

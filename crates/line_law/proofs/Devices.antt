@@ -1,27 +1,23 @@
 -- A device sends, closes, loses its power and has it again; and frames come again.
-use Rattle.std.proofs.Common.{◌≡◌, ℕ, ◌⊎◌, List, [], ◌∷◌, ◌++◌, Bool, true, false, not, ◌&&◌, ◌||◌, cond, Option, Some, None, refl, sym, ◌∙◌, ap, subst, inl, inr, if◌then◌else◌, append-nil, arith}
+use Rattle.std.proofs.Common.{◌≡◌, ℕ, ◌⊎◌, List, [], ◌∷◌, ◌++◌, Bool, true, false, cond, Option, Some, None, refl, sym, ◌∙◌, ap, subst, inl, inr, if◌then◌else◌, append-nil}
 use Rattle.std.specs.Prelude.{◌==◌}
-use Rattle.knx_model.specs.declared.address.IndAddr.{IndAddr}
 use Rattle.knx_model.specs.declared.frames.cemi.Ldata.{Ldata}
-use Rattle.knx_model.specs.declared.frames.cemi.LdataCode.TheVariants.{Con, Ind}
-use Rattle.knx_model.specs.ApduReading.{option_map}
+use Rattle.knx_model.specs.declared.frames.cemi.LdataCode.TheVariants.{Ind}
 use Rattle.knx_model.specs.DeviceState.{DeviceState, cut, switched_on}
-use Rattle.knx_model.specs.DeviceFrames.{Whole, takes, taken_again, taken_last, own_frame}
+use Rattle.knx_model.specs.DeviceFrames.{Whole, takes, taken_again, taken_last}
 use Rattle.knx_model.specs.DeviceSending.{waiting_frame, pops, repeat_frame, repeats, shut}
 use Rattle.line_model.specs.Gateway.{Gateway}
 use Rattle.line_model.specs.Legal.{OfDevice, CanRepeat}
-use Rattle.line_model.specs.Reading.{is_con, is_ind}
 use Rattle.line_model.specs.Record.{Entry}
 use Rattle.line_model.specs.Tunnel.{with_gateway, after, heard as heard_by}
-use Rattle.line_model.specs.World.{World, Event, BusAgain, DevSend, DevRepeat, DevClose, GwAgain, Cut, On, AtGateway, Comes, IsLost, Devices, me, now, frame_by, waiting_at, repeat_at, is_among, changed, all_take, others_take, or_before, heard, tunnel_event, devices_after, echo_after}
-use Rattle.line_model.specs.ClientView.{View}
-use Rattle.session_law.specs.World.{World as SessionWorld, Message, Ind as Tells}
+use Rattle.line_model.specs.World.{World, BusAgain, DevSend, DevRepeat, DevClose, GwAgain, Cut, On, AtGateway, Comes, IsLost, Devices, me, now, frame_by, waiting_at, repeat_at, is_among, changed, all_take, others_take, or_before, heard}
+use Rattle.session_law.specs.World.{World as SessionWorld, Ind as Tells}
 use Rattle.session_law.specs.Device.{speaks, with_device, echoes, elsewhere, gets, gets_again, and_told, or_before as or_earlier}
 use Rattle.session_law.specs.Device as session
 use Rattle.session_law.specs.Events as event
 use Rattle.tunnel_law.proofs.Inside.{Every}
-use Rattle.line_law.proofs.Queue.{Items, is_its, is_by, message, messages, messages_append, cons, cons_append, back, back_more}
-use Rattle.line_law.proofs.Coupled.{IsOwn, IsFrameOf, IsOwned, OwnIf, Owned, IsTold, Stage, Waits, OnBus, Told, Gone, Flight, Landed, Flies, Serves, FlightIs, Last, Never, Since, JoinedIs, NeverIs, LastIs, Pipe, echo_of, DeviceSide, FlyFor, PendFor, CoupledBy, Coupled, Goes}
+use Rattle.line_law.proofs.Queue.{Items, is_by, message, messages, messages_append, cons, cons_append, back, back_more}
+use Rattle.line_law.proofs.Coupled.{IsOwn, IsFrameOf, OwnIf, Owned, IsTold, Waits, OnBus, Told, Gone, Flight, Landed, Flies, Serves, FlightIs, Last, Never, Since, LastIs, Pipe, echo_of, DeviceSide, FlyFor, PendFor, Coupled, Goes}
 use Rattle.line_law.proofs.Owned.{every_append, waiting_owned, repeat_owned}
 use Rattle.line_law.proofs.Bus.{goes_none, goes_one, after_world, mapped_at, changed_at, eqb_is, is_eqb, eqb_sym}
 

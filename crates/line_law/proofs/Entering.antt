@@ -1,22 +1,18 @@
 -- An entry of the record by which no request is put and none taken.
-use Rattle.std.proofs.Common.{◌≡◌, ◌≢◌, ℕ, suc, ◌<◌, ◌≤◌, ◌⊎◌, List, [], ◌∷◌, ◌++◌, length, Bool, true, false, not, ◌&&◌, ◌||◌, cond, Option, Some, None, refl, sym, ◌∙◌, ap, subst, inl, inr, arith, if◌then◌else◌}
-use Rattle.std.specs.Prelude.{◌==◌}
-use Rattle.knx_model.specs.declared.frames.ip.IpFrame.{IpFrame}
-use Rattle.knx_model.specs.declared.frames.ip.IpFrame.TheVariants.{ConnectRequest, ConnectResponse, StateRequest, StateResponse, DisconnectRequest, DisconnectResponse, TunnellingRequest, TunnellingAck}
-use Rattle.knx_model.specs.Connection.{has_passed}
+use Rattle.std.proofs.Common.{◌≡◌, ℕ, suc, List, [], ◌∷◌, length, Bool, true, false, ◌&&◌, cond, Option, Some, None, refl, sym, ◌∙◌, ap, subst, inl, arith, if◌then◌else◌}
 use Rattle.knx_model.specs.declared.frames.cemi.Ldata.{Ldata}
 use Rattle.knx_model.specs.Plans.{Plan}
-use Rattle.line_model.specs.ActedOnce.{Has, in_channel, IsPrefix, IsChannelOf, IsActedOnce}
+use Rattle.line_model.specs.ActedOnce.{Has}
 use Rattle.line_model.specs.ChannelLost.{confirmed, confirms, expected, delivers, is_new_request, is_lost, answer_wait, is_confirmation}
 use Rattle.line_model.specs.ChannelLost as ChannelLost
 use Rattle.line_model.specs.ClientView.{ClientChannel, Fresh, Sought, RefusedBy, Unanswered, Open, Lost, Deed, View, or_number, view_after, channel, deed, views, after_entry, goes_on, after_fresh, after_sought, sought_got, answered}
 use Rattle.line_model.specs.ClientView as view
-use Rattle.line_model.specs.Gateway.{Gateway, number_of}
-use Rattle.line_model.specs.Reading.{is_connect_request, ldata_in, RequestFrame, request_in}
-use Rattle.line_model.specs.Record.{Entry, put_in, got_in, is_renewal, is_poll}
+use Rattle.line_model.specs.Gateway.{number_of}
+use Rattle.line_model.specs.Reading.{ldata_in, RequestFrame, request_in}
+use Rattle.line_model.specs.Record.{Entry, put_in, got_in, is_renewal}
 use Rattle.line_model.specs.Tunnel.{Tunnel}
-use Rattle.line_model.specs.World.{World, me}
-use Rattle.session_law.specs.World.{World as SessionWorld, Client}
+use Rattle.line_model.specs.World.{World}
+use Rattle.session_law.specs.World.{World as SessionWorld}
 use Rattle.session_law.specs.Device.{carries, carries_lost, gets_again}
 use Rattle.session_law.specs.Events.{Event as SessionEvent, step, replay, IsLegal}
 use Rattle.session_law.specs.Events as event
@@ -26,8 +22,8 @@ use Rattle.tunnel_law.proofs.Fits.{Book, books, BookIs, IsUp, JoinedFits, Member
 use Rattle.tunnel_law.proofs.Law.{HeadIs, head_state}
 use Rattle.tunnel_law.proofs.Took.{InvT}
 use Rattle.line_law.proofs.Queue.{Items}
-use Rattle.line_law.proofs.Coupled.{Flight, Last, Never, Since, IsOut, IsLater, ChannelIs, OpenIs, JoinedIs, is_open, CoupledBy, Coupled, IsBus, AreBus, Goes}
-use Rattle.line_law.proofs.Entries.{HeadView, at_head, views_go, Moves, Outside, Goes as Going, Stays, still_kept, lost_kept}
+use Rattle.line_law.proofs.Coupled.{Flight, Last, Never, Since, IsOut, IsLater, ChannelIs, is_open, CoupledBy, IsBus, AreBus}
+use Rattle.line_law.proofs.Entries.{HeadView, views_go, Moves, Outside}
 use Rattle.line_law.proofs.Opened.{IsHere, here, not_out}
 
 -- ---- the events of the bus leave a session's client

@@ -1,23 +1,21 @@
 -- An entry of the client's record by which nothing comes or goes, the loss of the channel, and a new endpoint.
-use Rattle.std.proofs.Common.{◌≡◌, ◌≢◌, ℕ, suc, ◌+◌, ◌<◌, ◌≤◌, ◌⊎◌, List, [], ◌∷◌, ◌++◌, length, Bool, true, false, cond, Option, Some, None, refl, sym, ◌∙◌, ap, subst, inl, inr, arith, if◌then◌else◌}
-use Rattle.knx_model.specs.declared.address.IndAddr.{IndAddr}
-use Rattle.knx_model.specs.declared.frames.cemi.Ldata.{Ldata}
-use Rattle.line_model.specs.ActedOnce.{Has, in_channel, IsChannelOf}
+use Rattle.std.proofs.Common.{◌≡◌, ℕ, suc, ◌+◌, ◌≤◌, List, [], ◌∷◌, length, false, Some, None, refl, sym, ◌∙◌, ap, subst, inl, inr, arith}
+use Rattle.line_model.specs.ActedOnce.{Has, IsChannelOf}
 use Rattle.line_model.specs.ChannelLost.{confirmed}
-use Rattle.line_model.specs.ClientView.{ClientChannel, Fresh, Sought, RefusedBy, Unanswered, Open, Lost, Deed, View, unused, or_number, view_after, first_view_after, channel, deed, views, after_entry}
-use Rattle.line_model.specs.Gateway.{Channel, Gateway, number_of}
+use Rattle.line_model.specs.ClientView.{ClientChannel, Fresh, Sought, RefusedBy, Unanswered, Open, Lost, View, unused, view_after, first_view_after, channel, deed, views}
+use Rattle.line_model.specs.Gateway.{Gateway, number_of}
 use Rattle.line_model.specs.Record.{Entry, is_renewal}
 use Rattle.line_model.specs.Tunnel.{Tunnel}
-use Rattle.line_model.specs.World.{World, me}
-use Rattle.session_law.specs.World.{World as SessionWorld, Client}
+use Rattle.line_model.specs.World.{World}
+use Rattle.session_law.specs.World.{World as SessionWorld}
 use Rattle.session_law.specs.Client.{loses}
-use Rattle.session_law.specs.Events.{step, Loses, Pass}
+use Rattle.session_law.specs.Events.{step, Pass}
 use Rattle.tunnel_law.proofs.Fits.{Book, books}
-use Rattle.tunnel_law.proofs.Inside.{Every, has_newest, has_below}
+use Rattle.tunnel_law.proofs.Inside.{has_newest}
 use Rattle.tunnel_law.proofs.Law.{views_of, views_are}
 use Rattle.tunnel_law.proofs.Took.{InvT}
-use Rattle.line_law.proofs.Queue.{Items, messages, back}
-use Rattle.line_law.proofs.Coupled.{Flight, Landed, Flies, FlightIs, Last, Never, Since, IsOut, IsLater, ChannelIs, OpenIs, JoinedIs, NeverIs, LastIs, Pipe, DeviceSide, FlyFor, InFlight, PendFor, is_open, CoupledBy, Coupled}
+use Rattle.line_law.proofs.Queue.{Items}
+use Rattle.line_law.proofs.Coupled.{Flight, Last, Never, Since, IsOut, IsLater, ChannelIs, OpenIs, LastIs, is_open, Coupled}
 
 -- ---- the present endpoint's view
 

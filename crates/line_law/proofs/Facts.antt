@@ -1,18 +1,18 @@
 -- What the law of the tunnel says of a run of the line, a moment at a time.
-use Rattle.std.proofs.Common.{◌≡◌, ◌≢◌, ℕ, suc, ◌<◌, List, [], ◌∷◌, length, Bool, true, false, Option, Some, None, refl, sym, ◌∙◌, ap, subst, inl, inr, arith}
+use Rattle.std.proofs.Common.{◌≡◌, ℕ, ◌<◌, List, [], ◌∷◌, length, Option, Some, None, refl, sym, ◌∙◌, ap, subst, inl, inr, arith}
 use Rattle.knx_model.specs.declared.frames.cemi.Ldata.{Ldata}
-use Rattle.line_model.specs.ActedOnce.{Has, in_channel, IsPrefix, IsChannelOf, IsActedOnce}
-use Rattle.line_model.specs.ClientView.{View, views}
+use Rattle.line_model.specs.ActedOnce.{Has, in_channel, IsPrefix, IsActedOnce}
+use Rattle.line_model.specs.ClientView.{View}
 use Rattle.line_model.specs.Fresh.{IsFresh}
-use Rattle.line_model.specs.Gateway.{Channel, Gateway, number_of, next_put}
+use Rattle.line_model.specs.Gateway.{Channel, number_of, next_put}
 use Rattle.line_model.specs.Legal.{IsLegal, MayHappen}
-use Rattle.line_model.specs.Record.{Item, Entry, noted, item_of, item_at, record_of}
+use Rattle.line_model.specs.Record.{Entry, noted, item_at, record_of}
 use Rattle.line_model.specs.Renews.{RenewsRightly}
 use Rattle.line_model.specs.Sendings.{SendsRightly}
-use Rattle.line_model.specs.Tunnel.{Tunnel, TunnelEvent, Commissions, fresh, puts, puts_next, after}
+use Rattle.line_model.specs.Tunnel.{Tunnel, Commissions, puts, puts_next, after}
 use Rattle.line_model.specs.World.{World, Event, me, now, replay, step, tunnel_event}
 use Rattle.tunnel_law.proofs.Both.{unique}
-use Rattle.tunnel_law.proofs.Fits.{Book, new_book, books, BookIs, Named, JoinedFits, Member}
+use Rattle.tunnel_law.proofs.Fits.{new_book, books, BookIs, Named, JoinedFits, Member}
 use Rattle.tunnel_law.proofs.Inside.{has_below}
 use Rattle.tunnel_law.proofs.Law.{Booked, booked, views_are, may_do, renews_before, sends_before, books_noted, first}
 use Rattle.tunnel_law.proofs.Steps.{after_kept, step_kept}

@@ -1,54 +1,24 @@
 -- The session with a device follows the line, event by event.
-use Rattle.std.proofs.Common.{◌≡◌, ◌≢◌, ℕ, suc, ◌+◌, ◌<◌, ◌≤◌, ◌⊎◌, List, [], ◌∷◌, ◌++◌, length, Bool, true, false, not, ◌&&◌, ◌||◌, cond, Option, Some, None, refl, sym, ◌∙◌, ap, subst, inl, inr, arith, if◌then◌else◌}
-use Rattle.std.specs.Prelude.{◌==◌, slice_get, take}
-use Rattle.knx_model.specs.declared.address.IndAddr.{IndAddr}
+use Rattle.std.proofs.Common.{◌≡◌, ℕ, suc, ◌≤◌, ◌⊎◌, List, [], ◌∷◌, Bool, true, false, ◌||◌, cond, Option, Some, None, refl, sym, ◌∙◌, ap, subst, inl, inr, arith, if◌then◌else◌}
 use Rattle.knx_model.specs.declared.frames.cemi.Ldata.{Ldata}
-use Rattle.knx_model.specs.DeviceConnection.{DeviceEnd, Closed}
-use Rattle.knx_model.specs.DeviceState.{DeviceState}
-use Rattle.knx_model.specs.GoodPlan.{IsSendable}
-use Rattle.knx_model.specs.Plans.{Plan}
 use Rattle.line_model.specs.declared.group.GroupTurn.{GroupTurn}
 use Rattle.line_model.specs.declared.log.LogEntry.{LogEntry}
-use Rattle.line_model.specs.ActedOnce.{Has, IsActedOnce, IsChannelOf, ActedOnce}
-use Rattle.line_model.specs.Asks.{IsRightDeed, IsRightEntry, EachRight, moment_of}
 use Rattle.line_model.specs.Attempts.{attempts}
 use Rattle.line_model.specs.ClientView.{ClientChannel, Fresh, Sought, RefusedBy, Unanswered, Open, Lost, Deed, View, unused, channel, deed, views, after_entry, goes_on, after_fresh}
 use Rattle.line_model.specs.ClientView as view
-use Rattle.line_model.specs.Fresh.{IsFresh, IsAtRest}
-use Rattle.line_model.specs.Gateway.{Channel, Gateway, next_put}
-use Rattle.line_model.specs.Legal.{IsLegal, MayHappen}
-use Rattle.line_model.specs.Log.{Job, JobState, Held, job_of, log_before, state_of, IsLog, SameDevice, OneDownloaderPerDevice}
-use Rattle.line_model.specs.Moments.{Moment, moments}
-use Rattle.line_model.specs.Network.{Sent, OfSent, IsUnderWay, changed_at, once_more}
+use Rattle.line_model.specs.Gateway.{Channel, next_put}
+use Rattle.line_model.specs.Log.{Job, Held, job_of, log_before, state_of, IsLog, SameDevice, OneDownloaderPerDevice}
+use Rattle.line_model.specs.Moments.{Moment}
 use Rattle.line_model.specs.Reading.{is_connect_request}
-use Rattle.line_model.specs.Record.{Item, Put, Renewed, Got, Quiet, Entry, entry, Placed, placed, placed_if, entries, got, noted, item_at, record_of, is_renewal, put_in}
-use Rattle.line_model.specs.Renews.{RenewsRightly, RenewsSo, has_renewed, is_just_renewed, MayLeave}
-use Rattle.line_model.specs.Sendings.{SendsRightly}
-use Rattle.line_model.specs.Tunnel.{Tunnel, Commissions, fresh, puts, puts_next, sends_up, with_down, after}
-use Rattle.line_model.specs.World as line
-use Rattle.line_model.specs.World.{World, Event, me, now, step}
-use Rattle.session_law.specs.World as session
-use Rattle.session_law.specs.World.{World as SessionWorld, Client}
-use Rattle.session_law.specs.Events.{Event as SessionEvent, replay}
-use Rattle.session_law.specs.Events as event
-use Rattle.load_law.specs.Download.{Follows}
-use Rattle.tunnel_law.proofs.Fits.{books}
-use Rattle.tunnel_law.proofs.Took.{InvT}
-use Rattle.line_law.proofs.Coupled.{Owned, Never, DeviceSide, is_open, Coupled, Goes}
-use Rattle.line_law.proofs.Owned.{owned_step}
-use Rattle.line_law.proofs.Bus.{after_world, bus_kept, torn_kept, worn_kept}
-use Rattle.line_law.proofs.Devices as devices
-use Rattle.line_law.proofs.Putting.{tunnel_kept, next_kept}
-use Rattle.line_law.proofs.Facts.{inv_always, inv_after, once_after}
-use Rattle.line_law.proofs.Taking.{goes_on as goes_to}
-use Rattle.line_law.proofs.Tunnels as tunnels
-use Rattle.line_law.proofs.Entries.{HeadView, head_view, renewed_world, renewed_kept, later_world, pass_kept}
-use Rattle.line_law.proofs.Entering.{buses_client, buses_follow}
+use Rattle.line_model.specs.Record.{Renewed, Entry, entry, is_renewal, put_in}
+use Rattle.line_model.specs.Renews.{RenewsRightly, has_renewed, is_just_renewed, MayLeave}
+use Rattle.line_model.specs.Tunnel.{Tunnel, puts, puts_next}
+use Rattle.session_law.specs.World.{Client}
+use Rattle.line_law.proofs.Coupled.{is_open}
 use Rattle.line_law.proofs.Attempting.{AttemptIs}
-use Rattle.line_law.proofs.Telling.{still_attempt}
 use Rattle.line_law.proofs.Logs.{AreUpto, held_before, held_later, one_held, after_last, after_more, entries_of, moments_upto, upto_more}
 use Rattle.line_law.proofs.Logs as logs
-use Rattle.line_law.proofs.Stepping.{HeldJob, HeldPlan, Attempted, AllAttempted, AttemptedOn, EntryGoes, entry_next}
+use Rattle.line_law.proofs.Stepping.{HeldJob, Attempted, AllAttempted, AttemptedOn}
 
 -- ---- the gateway's next frame leaves the rest of the tunnel
 

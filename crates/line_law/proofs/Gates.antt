@@ -1,22 +1,19 @@
 -- What happens at the gateway alone: it closes its channel, makes the next one, acts on a request, and puts its oldest frame for the client.
-use Rattle.std.proofs.Common.{◌≡◌, ◌≢◌, ℕ, suc, ◌+◌, ◌<◌, ◌≤◌, ◌⊎◌, List, [], ◌∷◌, ◌++◌, take, drop, length, Bool, true, false, not, ◌&&◌, cond, Option, Some, None, refl, sym, ◌∙◌, ap, subst, inl, inr, if◌then◌else◌, append-nil, length-append, arith}
-use Rattle.std.specs.Prelude.{◌==◌}
+use Rattle.std.proofs.Common.{◌≡◌, ℕ, suc, ◌<◌, ◌≤◌, ◌⊎◌, List, [], ◌∷◌, ◌++◌, take, length, Option, Some, None, refl, sym, ◌∙◌, ap, subst, inl, inr, arith}
 use Rattle.knx_model.specs.declared.address.IndAddr.{IndAddr}
 use Rattle.knx_model.specs.declared.frames.cemi.Ldata.{Ldata}
-use Rattle.knx_model.specs.Cemi.{Written as cemi_octets}
-use Rattle.line_model.specs.ActedOnce.{Has, in_channel, IsPrefix, IsChannelOf}
+use Rattle.line_model.specs.ActedOnce.{Has, in_channel, IsChannelOf}
 use Rattle.line_model.specs.ClientView.{ClientChannel, Fresh, Sought, RefusedBy, Unanswered, Open, Lost, View, channel, views}
-use Rattle.line_model.specs.Gateway.{Channel, Gateway, Request, number_of, newest_place, place, to_bus, put_after, next_put, is_put}
-use Rattle.line_model.specs.Reading.{ldata_in, is_con, is_req}
+use Rattle.line_model.specs.Gateway.{Channel, Gateway, number_of, newest_place}
 use Rattle.line_model.specs.Record.{Entry}
-use Rattle.line_model.specs.Tunnel.{Tunnel, with_gateway}
+use Rattle.line_model.specs.Tunnel.{with_gateway}
 use Rattle.line_model.specs.World.{World, me}
 use Rattle.session_law.specs.World.{World as SessionWorld, Message}
 use Rattle.session_law.specs.Device.{drops}
 use Rattle.session_law.specs.Events.{Drops}
 use Rattle.tunnel_law.proofs.Inside.{Every, every_map, has_below}
-use Rattle.line_law.proofs.Queue.{Items, is_its, messages, messages_append, cons, cons_append, puts_of, back, back_none, take_front, none_front, none_back}
-use Rattle.line_law.proofs.Coupled.{IsTold, Stage, Waits, OnBus, Told, Gone, Flight, Landed, Flies, NotServing, Serves, StageIs, FliesSo, FlightIs, Last, Never, Since, IsLater, ChannelIs, ConAt, IsLow, JoinedIs, NeverIs, LastIs, Pipe, DeviceSide, FlyFor, InFlight, PendFor, CoupledBy, Coupled, Goes}
+use Rattle.line_law.proofs.Queue.{Items, messages, messages_append, cons, cons_append, back, back_none, take_front, none_front}
+use Rattle.line_law.proofs.Coupled.{IsTold, Stage, Waits, OnBus, Told, Gone, Flight, Landed, Flies, NotServing, Serves, FliesSo, FlightIs, Last, Never, Since, IsLater, ChannelIs, JoinedIs, NeverIs, LastIs, FlyFor, InFlight, CoupledBy, Coupled, Goes}
 use Rattle.line_law.proofs.Owned.{every_front}
 use Rattle.line_law.proofs.Bus.{goes_one, channel_flies}
 

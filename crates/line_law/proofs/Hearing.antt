@@ -1,23 +1,21 @@
 -- The attempt of a job and the session's client take a frame of the device.
-use Rattle.std.proofs.Common.{◌≡◌, ◌≢◌, ℕ, suc, ◌⊎◌, List, [], ◌∷◌, ◌++◌, drop, length, Bool, true, false, not, ◌&&◌, ◌||◌, cond, Option, Some, None, refl, sym, ◌∙◌, ap, subst, inl, inr, arith, if◌then◌else◌, IsTrue}
-use Rattle.std.specs.Prelude.{◌==◌, is_some, bytes_eq}
+use Rattle.std.proofs.Common.{◌≡◌, ℕ, List, ◌∷◌, Bool, true, false, ◌&&◌, cond, Option, Some, None, refl, sym, ◌∙◌, ap, subst}
 use Rattle.std.proofs.lemmas.Slice.Eq.{bytes_eq-Decides}
 use Rattle.knx_model.specs.declared.address.IndAddr.{IndAddr}
 use Rattle.knx_model.specs.declared.connection.ClientTook.{ClientTook}
 use Rattle.knx_model.specs.declared.connection.ClientTook.TheVariants as heard
 use Rattle.knx_model.specs.declared.connection.TransportFrame.{TransportFrame}
-use Rattle.knx_model.specs.declared.connection.TransportFrame.TheVariants.{Connect, Disconnect, Ack, Nak, Numbered, Other}
 use Rattle.knx_model.specs.declared.plan.Expect.{Expect}
 use Rattle.knx_model.specs.declared.plan.Expect.TheVariants.{AckOnly, Is, Note}
-use Rattle.knx_model.specs.ClientConnection.{ClientEnd, Asked, Up, Asking, Awaiting, Ended, client_took, client_after, client_stayed, client_answered, client_acknowledged}
+use Rattle.knx_model.specs.ClientConnection.{ClientEnd, Asked, Up, Asking, Awaiting, Ended, client_after, client_stayed, client_answered, client_acknowledged}
 use Rattle.knx_model.specs.Connection.{Session, acknowledged}
-use Rattle.knx_model.specs.Plans.{Plan, Over, Asks as Operation, Suits, followed}
-use Rattle.line_model.specs.Attempts.{Attempt, Attempts, Resting, Running, awaits, answered, with_reply, owing, heard_attempt}
+use Rattle.knx_model.specs.Plans.{Plan, Asks as Operation, Suits, followed}
+use Rattle.line_model.specs.Attempts.{Attempt, awaits, with_reply, owing, heard_attempt}
 use Rattle.line_model.specs.Progress.{suits}
 use Rattle.session_law.specs.World.{Client}
 use Rattle.session_law.specs.Client.{hears}
 use Rattle.load_law.specs.Download.{Went, Answered}
-use Rattle.line_law.proofs.Attempting.{NotConnect, IsService, FlyFits, IsAwaited, Stands, InPlan, IsWith, Runs, AttemptIs}
+use Rattle.line_law.proofs.Attempting.{NotConnect, FlyFits, IsAwaited, Stands, InPlan, IsWith, Runs, AttemptIs}
 
 -- ---- an answer that suits
 

@@ -1,5 +1,5 @@
 -- The oldest of what was put and isn't taken.
-use Rattle.std.proofs.Common.{◌≡◌, ◌≢◌, ℕ, suc, ◌+◌, ◌<◌, ◌≤◌, ◌⊎◌, List, [], ◌∷◌, ◌++◌, length, Bool, true, false, cond, Option, Some, None, refl, sym, ◌∙◌, ap, subst, inl, inr, arith, append_assoc, length-append, if◌then◌else◌}
+use Rattle.std.proofs.Common.{◌≡◌, ℕ, suc, ◌+◌, ◌≤◌, ◌⊎◌, List, [], ◌∷◌, ◌++◌, length, Bool, true, false, cond, refl, sym, ◌∙◌, ap, inl, inr, arith, append_assoc, length-append}
 use Rattle.std.specs.Prelude.{◌==◌}
 use Rattle.knx_model.specs.declared.frames.cemi.Ldata.{Ldata}
 use Rattle.knx_model.specs.Cemi.{Written as cemi_octets}
@@ -67,14 +67,17 @@ oldest base (x ∷ y ∷ l) newer content sorted low e =
   where
     rest : List (List ℕ)
     rest = in_channel base (puts_of (y ∷ l))
+
     by_place : (b : Bool) → (x.0 == base) ≡ b → ◌≡◌ {A = List (List ℕ)} (cond b (cemi_octets x.1 ∷ rest) rest) (newer ++ content ∷ []) → ((x.0 ≡ base) × (rest ≡ [])) ⊎ ((k : List (List ℕ)) × (rest ≡ k ++ content ∷ []))
     by_place true q k =
         let at : x.0 ≡ base = grind (arith, q) in
         elim (first_or (cemi_octets x.1) rest newer content k) [ inl one ↦ inl (at, one.0) | inr more ↦ inr more ]
     by_place false q k = inr (newer, k)
+
     full : (b : Bool) → b ≡ true → ◌≡◌ {A = List (List ℕ)} (cond b (cemi_octets y.1 ∷ in_channel base (puts_of l)) (in_channel base (puts_of l))) [] → ⊥
     full true q k = let z : cemi_octets y.1 ∷ in_channel base (puts_of l) ≡ [] = k in cc
     full false q k = let z : false ≡ true = q in cc
+
     empty_rest : x.0 ≡ base → rest ≡ [] → ⊥
     empty_rest at none =
         let high : y.0 ≤ x.0 = sorted.0.0 in

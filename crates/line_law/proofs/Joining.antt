@@ -1,22 +1,21 @@
 -- The client gets a channel: what the gateway put in earlier channels never comes, and what it put in this one does.
-use Rattle.std.proofs.Common.{◌≡◌, ◌≢◌, ℕ, suc, ◌<◌, ◌≤◌, ◌⊎◌, List, [], ◌∷◌, ◌++◌, drop, length, Bool, true, false, cond, Option, Some, None, refl, sym, ◌∙◌, ap, subst, inl, inr, arith, append_assoc, if◌then◌else◌}
+use Rattle.std.proofs.Common.{◌≡◌, ℕ, ◌<◌, ◌≤◌, ◌⊎◌, List, [], ◌∷◌, ◌++◌, drop, length, Bool, true, false, cond, Some, refl, sym, ◌∙◌, ap, subst, inl, inr, arith, append_assoc}
 use Rattle.std.specs.Prelude.{◌==◌}
 use Rattle.std.specs.List.{AllByRecursion}
 use Rattle.knx_model.specs.declared.frames.cemi.Ldata.{Ldata}
-use Rattle.knx_model.specs.Cemi.{Written as cemi_octets}
 use Rattle.line_model.specs.ActedOnce.{Has, in_channel, IsPrefix, IsChannelOf}
 use Rattle.line_model.specs.ClientView.{ClientChannel, Fresh, Sought, RefusedBy, Unanswered, Open, Lost, Deed, Nothing, View, unused, view_after, first_view_after, channel, deed, views, after_entry, goes_on}
 use Rattle.line_model.specs.ChannelLost.{is_lost}
 use Rattle.line_model.specs.Gateway.{Gateway, number_of, newest_place}
 use Rattle.line_model.specs.Reading.{is_con}
 use Rattle.line_model.specs.Record.{Entry, is_renewal}
-use Rattle.line_model.specs.World.{World, me}
-use Rattle.session_law.specs.World.{World as SessionWorld, Message}
+use Rattle.line_model.specs.World.{World}
+use Rattle.session_law.specs.World.{World as SessionWorld}
 use Rattle.session_law.specs.Client.{joins}
-use Rattle.session_law.specs.Events.{IsInd, Joins, step, MayHappen}
+use Rattle.session_law.specs.Events.{IsInd, Joins, MayHappen}
 use Rattle.tunnel_law.proofs.Inside.{Every, every_map}
-use Rattle.line_law.proofs.Queue.{Items, messages, messages_append, cons, cons_append, puts_of, puts_append, back, back_none, back_parts, drop_front, all_inds, none_append, none_front, none_back}
-use Rattle.line_law.proofs.Coupled.{IsTold, Flight, Landed, Flies, NotServing, Serves, FlightIs, Last, Never, Since, IsOut, IsLater, ChannelIs, OpenIs, ConAt, IsLow, JoinedIs, NeverIs, LastIs, IsSorted, Pipe, DeviceSide, PendFor, is_open, CoupledBy, Coupled}
+use Rattle.line_law.proofs.Queue.{Items, messages, messages_append, cons, puts_of, puts_append, back, back_parts, drop_front, all_inds}
+use Rattle.line_law.proofs.Coupled.{IsTold, Flight, Landed, Serves, Last, Never, Since, IsOut, IsLater, ChannelIs, ConAt, IsLow, LastIs, IsSorted, is_open, Coupled}
 use Rattle.line_law.proofs.Owned.{every_append, every_front, every_rest}
 use Rattle.line_law.proofs.Gates.{newest_least}
 use Rattle.line_law.proofs.Acting.{UpOnce}
@@ -106,6 +105,7 @@ no_cons (x ∷ l) w h = by_code (no_cons l (x.1 ∷ w) h) where
   by_first : (b : Bool) → is_con x.1.code ≡ b → ◌≡◌ {A = List Ldata} (cond b (x.1 ∷ cons w) (cons w)) [] → NoCon x × (cons w ≡ [])
   by_first true e q = absurd (let z : x.1 ∷ cons w ≡ [] = q in cc)
   by_first false e q = (e, q)
+
   by_code : Every NoCon l × (cons (x.1 ∷ w) ≡ []) → Every NoCon (x ∷ l) × (cons w ≡ [])
   by_code q = let p = by_first (is_con x.1.code) refl q.1 in ((p.0, q.0), p.1)
 

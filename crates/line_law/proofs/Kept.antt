@@ -1,6 +1,6 @@
 -- What each device keeps at every moment, and that it is untouched before its first load job is taken.
-use Rattle.std.proofs.Common.{◌≡◌, ◌≢◌, ℕ, zero, suc, ◌<◌, ◌≤◌, ◌⊎◌, List, [], ◌∷◌, ◌++◌, length, Bool, true, false, cond, Option, Some, None, refl, sym, ◌∙◌, ap, subst, inl, inr, arith, if◌then◌else◌, append-nil}
-use Rattle.std.specs.Prelude.{◌==◌, nat_le, nat_lt}
+use Rattle.std.proofs.Common.{◌≡◌, ℕ, suc, ◌<◌, ◌≤◌, List, [], ◌∷◌, ◌++◌, length, Bool, true, false, cond, Option, Some, None, refl, sym, subst, inl, arith, append-nil}
+use Rattle.std.specs.Prelude.{nat_le}
 use Rattle.std.specs.List.{AllByRecursion}
 use Rattle.knx_model.specs.Device.{NonVolatile}
 use Rattle.knx_model.specs.DeviceState.{DeviceState}
@@ -9,17 +9,17 @@ use Rattle.line_model.specs.declared.group.GroupTurn.{GroupTurn}
 use Rattle.line_model.specs.declared.log.LogEntry.{LogEntry}
 use Rattle.line_model.specs.Headline.{IsGoodJob}
 use Rattle.line_model.specs.Legal.{AtEveryMoment}
-use Rattle.line_model.specs.Log.{Job, loads, job_of, log_before, IsLog, OneDownloaderPerDevice}
-use Rattle.line_model.specs.OldStoppedOrNew.{first_events, world_at, Both, RunsJob, OldStoppedOr, IsCase, load_taken, IsUntouched}
+use Rattle.line_model.specs.Log.{Job, loads, log_before, IsLog, OneDownloaderPerDevice}
+use Rattle.line_model.specs.OldStoppedOrNew.{first_events, Both, RunsJob, OldStoppedOr, IsCase, load_taken, IsUntouched}
 use Rattle.line_model.specs.World as line
 use Rattle.line_model.specs.World.{World, Event, me}
 use Rattle.session_law.specs.World.{World as SessionWorld, fresh}
 use Rattle.session_law.specs.Events.{Event as SessionEvent, replay}
-use Rattle.session_law.proofs.Books.{Books, empty, books}
+use Rattle.session_law.proofs.Books.{books}
 use Rattle.session_law.proofs.Steps.{fresh_inv}
 use Rattle.load_law.specs.Download.{Follows}
 use Rattle.load_law.proofs.Checked.{settled_first, unchanged_kept}
-use Rattle.line_law.proofs.Stepping.{HeldJob, HeldPlan}
+use Rattle.line_law.proofs.Stepping.{HeldPlan}
 use Rattle.line_law.proofs.Traces.{IsRun, run_before}
 use Rattle.line_law.proofs.Runs.{Trace, follower_now, trace_legal, trace_always, trace_follows, none_always}
 use Rattle.line_law.proofs.Cases.{good_job, load_now, IsCheck, Unmoved, unmoved_more, no_load}

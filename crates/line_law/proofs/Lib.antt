@@ -35,3 +35,8 @@ mod CourseSteps
 mod CourseKept
 mod Whole
 mod Went
+mod Told
+mod DoneAt
+mod Stays
+mod Silent
+mod Headline

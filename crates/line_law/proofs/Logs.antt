@@ -1,5 +1,5 @@
 -- Which job of a device is held, by the entries up to a moment; and the moments since it was taken.
-use Rattle.std.proofs.Common.{◌≡◌, ◌≢◌, ℕ, suc, ◌<◌, ◌≤◌, ◌⊎◌, List, [], ◌∷◌, ◌++◌, length, Bool, true, false, not, ◌&&◌, cond, Option, Some, None, refl, sym, ◌∙◌, ap, subst, inl, inr, arith, if◌then◌else◌}
+use Rattle.std.proofs.Common.{◌≡◌, ℕ, suc, ◌<◌, ◌≤◌, ◌⊎◌, List, [], ◌∷◌, length, Bool, true, false, ◌&&◌, cond, Option, Some, None, refl, sym, ◌∙◌, ap, subst, inl, inr, arith}
 use Rattle.std.specs.Prelude.{◌==◌, nat_lt, nat_le}
 use Rattle.std.specs.List.{filter}
 use Rattle.line_model.specs.declared.group.GroupTurn.{GroupTurn}
@@ -14,34 +14,34 @@ use Rattle.tunnel_law.proofs.Inside.{Every}
 
 -- ---- one entry more
 
-before_in : (n : ℕ) (e : LogEntry) (log : List LogEntry) (b : Bool) → nat_lt e.at n ≡ b → log_before n (e ∷ log) ≡ cond b (e ∷ log_before n log) (log_before n log)
+pub before_in : (n : ℕ) (e : LogEntry) (log : List LogEntry) (b : Bool) → nat_lt e.at n ≡ b → log_before n (e ∷ log) ≡ cond b (e ∷ log_before n log) (log_before n log)
 before_in n e log b h = ap (λ z. cond {A = List LogEntry} z (e ∷ log_before n log) (log_before n log)) h
 
-after_other : (k : ℕ) (e : LogEntry) (s : JobState) → takes_it k e.what ≡ false → ends_it k e.what ≡ false → state_after k e s ≡ s
+pub after_other : (k : ℕ) (e : LogEntry) (s : JobState) → takes_it k e.what ≡ false → ends_it k e.what ≡ false → state_after k e s ≡ s
 after_other k e s t d = rw t (rw d refl)
 
 -- what an entry is to a job
-data IsTo (k : ℕ) (e : LogEntry) : Type 0 where
+pub data IsTo (k : ℕ) (e : LogEntry) : Type 0 where
   TakesIt : takes_it k e.what ≡ true → IsTo k e
   EndsIt : takes_it k e.what ≡ false → ends_it k e.what ≡ true → IsTo k e
   Else : takes_it k e.what ≡ false → ends_it k e.what ≡ false → IsTo k e
 
-is_to : (k : ℕ) (e : LogEntry) → IsTo k e
+pub is_to : (k : ℕ) (e : LogEntry) → IsTo k e
 is_to k e = by_both (takes_it k e.what) (ends_it k e.what) refl refl where
   by_both : (t d : Bool) → takes_it k e.what ≡ t → ends_it k e.what ≡ d → IsTo k e
   by_both true d p q = TakesIt p
   by_both false true p q = EndsIt p q
   by_both false false p q = Else p q
 
-took_state : (k : ℕ) (e : LogEntry) (s : JobState) (worker since : ℕ) → takes_it k e.what ≡ true → state_after k e s ≡ Held worker since → since ≡ e.at
+pub took_state : (k : ℕ) (e : LogEntry) (s : JobState) (worker since : ℕ) → takes_it k e.what ≡ true → state_after k e s ≡ Held worker since → since ≡ e.at
 took_state k e s worker since t h = let z : Held e.worker e.at ≡ Held worker since = sym (let y : state_after k e s ≡ Held e.worker e.at = rw t refl in y) ∙ h in cc
 
-ended_state : (k : ℕ) (e : LogEntry) (s : JobState) (worker since : ℕ) → takes_it k e.what ≡ false → ends_it k e.what ≡ true → state_after k e s ≡ Held worker since → ⊥
+pub ended_state : (k : ℕ) (e : LogEntry) (s : JobState) (worker since : ℕ) → takes_it k e.what ≡ false → ends_it k e.what ≡ true → state_after k e s ≡ Held worker since → ⊥
 ended_state k e s worker since t d h = let z : Over ≡ Held worker since = sym (let y : state_after k e s ≡ Over = rw t (rw d refl) in y) ∙ h in cc
 
 -- ---- a job was taken before the moment
 
-less : (m n : ℕ) → (nat_lt m n ≡ true) ⊎ (nat_lt m n ≡ false)
+pub less : (m n : ℕ) → (nat_lt m n ≡ true) ⊎ (nat_lt m n ≡ false)
 less m n = by_bool (nat_lt m n) refl where
   by_bool : (b : Bool) → nat_lt m n ≡ b → (nat_lt m n ≡ true) ⊎ (nat_lt m n ≡ false)
   by_bool true e = inl e
@@ -81,6 +81,7 @@ held_later k n worker since (e ∷ log) h =
     by_both lt (EndsIt t d) g f = absurd (ended_state k e _ worker since t d g)
     by_both lt (Else t d) g f =
         elim (f (sym (after_other k e _ t d) ∙ g)) [ inl at ↦ inl at | inr was ↦ inr (ap (state_of k) (before_in (suc n) e log true lt) ∙ after_other k e _ t d ∙ was) ]
+
     by_one : nat_lt e.at (suc n) ≡ false → nat_lt e.at (suc (suc n)) ≡ true → IsTo k e → state_after k e (state_of k (log_before (suc (suc n)) log)) ≡ Held worker since
         → (state_of k (log_before (suc (suc n)) log) ≡ Held worker since → (since ≡ suc n) ⊎ (state_of k (log_before (suc n) log) ≡ Held worker since)) → (since ≡ suc n) ⊎ (state_of k (log_before (suc n) (e ∷ log)) ≡ Held worker since)
     by_one ge lt (TakesIt t) g f = inl (let at : since ≡ e.at = took_state k e _ worker since t g in grind (arith, lt, ge, at))
@@ -89,13 +90,13 @@ held_later k n worker since (e ∷ log) h =
 
 -- ---- one at most of each device
 
-all_before : (jobs : List Job) (turns : List GroupTurn) (count n m : ℕ) (log : List LogEntry) → IsLog jobs turns count log → latest log ≤ m → m < n → log_before n log ≡ log
+pub all_before : (jobs : List Job) (turns : List GroupTurn) (count n m : ℕ) (log : List LogEntry) → IsLog jobs turns count log → latest log ≤ m → m < n → log_before n log ≡ log
 all_before jobs turns count n m [] h l lt = refl
 all_before jobs turns count n m (e ∷ log) h l lt =
     let first : nat_lt e.at n ≡ true = grind (arith, l, lt) in
     before_in n e log true first ∙ ap (λ z. e ∷ z) (all_before jobs turns count n e.at log h.1 h.0.later (omega (arith, l, lt)))
 
-same_eqb : (n m : ℕ) → (n == m) ≡ true → n ≡ m
+pub same_eqb : (n m : ℕ) → (n == m) ≡ true → n ≡ m
 same_eqb n m h = grind (arith, h)
 
 taken_job : (k : ℕ) (what : LogWhat) → takes_it k what ≡ true → what ≡ Took k

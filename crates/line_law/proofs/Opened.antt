@@ -1,23 +1,18 @@
 -- In an open channel: the client puts a request, and takes one of the gateway.
-use Rattle.std.proofs.Common.{◌≡◌, ◌≢◌, ℕ, suc, ◌+◌, ◌<◌, ◌≤◌, ◌⊎◌, List, [], ◌∷◌, ◌++◌, length, Bool, true, false, not, ◌&&◌, cond, Option, Some, None, refl, sym, ◌∙◌, ap, subst, inl, inr, arith, append_assoc, append-nil, length-append, if◌then◌else◌}
-use Rattle.std.specs.Prelude.{◌==◌}
+use Rattle.std.proofs.Common.{◌≡◌, ℕ, ◌≤◌, ◌⊎◌, List, ◌∷◌, Bool, true, false, Some, refl, sym, ◌∙◌, ap, subst, inl, inr}
 use Rattle.knx_model.specs.declared.address.IndAddr.{IndAddr}
 use Rattle.knx_model.specs.declared.frames.cemi.Ldata.{Ldata}
-use Rattle.knx_model.specs.declared.frames.cemi.LdataCode.TheVariants.{Con, Ind}
-use Rattle.knx_model.specs.Cemi.{Written as cemi_octets}
-use Rattle.line_model.specs.ActedOnce.{Has, in_channel, IsPrefix, IsChannelOf}
+use Rattle.line_model.specs.ActedOnce.{Has, IsChannelOf}
 use Rattle.line_model.specs.ChannelLost.{confirmed}
 use Rattle.line_model.specs.ClientView.{ClientChannel, Fresh, Sought, RefusedBy, Unanswered, Open, Lost, Deed, View, view_after, channel, deed, views}
 use Rattle.line_model.specs.ClientView as view
-use Rattle.line_model.specs.Gateway.{Gateway, number_of, newest_place}
-use Rattle.line_model.specs.Reading.{ldata_in, is_con, is_ind, is_req}
+use Rattle.line_model.specs.Gateway.{Gateway, number_of}
+use Rattle.line_model.specs.Reading.{ldata_in, is_req}
 use Rattle.line_model.specs.Record.{Entry, is_renewal}
 use Rattle.line_model.specs.World.{World, me, on_bus}
-use Rattle.session_law.specs.World.{World as SessionWorld, Client}
-use Rattle.tunnel_law.proofs.Inside.{Every, every_map}
-use Rattle.line_law.proofs.Queue.{Items, is_its, is_by, message, messages, cons, puts_of, puts_append, back, back_last}
-use Rattle.line_law.proofs.Coupled.{IsOwn, IsTold, Stage, Waits, OnBus, Told, Gone, Flight, Landed, Flies, FliesSo, FlightIs, Last, Never, Since, IsOut, ChannelIs, OpenIs, ConAt, IsLow, JoinedIs, NeverIs, LastIs, IsSorted, Pipe, DeviceSide, FlyFor, InFlight, PendFor, is_open, CoupledBy, Coupled}
-use Rattle.line_law.proofs.Owned.{every_append, every_front, every_rest}
+use Rattle.session_law.specs.World.{World as SessionWorld}
+use Rattle.line_law.proofs.Queue.{Items, is_its}
+use Rattle.line_law.proofs.Coupled.{Waits, Flight, Landed, Flies, Last, Never, Since, IsOut, ChannelIs, OpenIs, JoinedIs, is_open, CoupledBy, Coupled}
 use Rattle.line_law.proofs.Entries.{HeadView, at_head, views_go}
 
 -- ---- the view of an open channel
@@ -125,6 +120,7 @@ pub is_free : (a : ℕ) (w : World) (r : List Entry) (s : SessionWorld) (c : ℕ
 is_free a w r s c l is free q = (joined, by_pending s.client.pending refl q.last q.by) where
   joined : s.client.joined ≡ true
   joined = q.by.joined ∙ ap is_open is
+
   by_pending : (b : Bool) → s.client.pending ≡ b → (last : Last) → CoupledBy a w r s q.items q.older last → s.client.pending ≡ false
   by_pending false e last h = e
   by_pending true e Never h = absurd (h.pending joined e)

@@ -1,5 +1,5 @@
 -- The frames that devices send are their own, whatever happens.
-use Rattle.std.proofs.Common.{◌≡◌, ℕ, ◌⊎◌, List, [], ◌∷◌, ◌++◌, drop, Bool, true, false, not, ◌&&◌, cond, Option, Some, None, refl, sym, ◌∙◌, ap, subst, inl, inr, if◌then◌else◌}
+use Rattle.std.proofs.Common.{◌≡◌, ℕ, List, [], ◌∷◌, ◌++◌, drop, Bool, true, false, cond, Option, Some, None, refl, subst}
 use Rattle.std.specs.Prelude.{◌==◌}
 use Rattle.knx_model.specs.declared.address.IndAddr.{IndAddr}
 use Rattle.knx_model.specs.declared.config.Image.{Image}
@@ -16,9 +16,9 @@ use Rattle.knx_model.specs.ApduReading.{service_in, option_map}
 use Rattle.knx_model.specs.DeviceConnection.{DeviceEnd, Closed, Idle, Answering, device_after, device_answered, after_answer, partner_of}
 use Rattle.knx_model.specs.Device.{NonVolatile, runs, effect_in, answer_in}
 use Rattle.knx_model.specs.DeviceState.{DeviceState, cut, switched_on, moved, value_of}
-use Rattle.knx_model.specs.DeviceFrames.{Outcome, Whole, Torn, Worn, own_frame, queued, queued_to, queued_if, with_answer, served, acted, sender, connection_took, kept_after, taken_alone, taken_group, telegram_acted, telegram_taken, answered_by, with_response, group_service, after_frame, after_outcome, takes_so, takes, took_of, taken_again, taken_last}
+use Rattle.knx_model.specs.DeviceFrames.{Outcome, Whole, Torn, Worn, own_frame, queued, queued_to, queued_if, with_answer, acted, sender, connection_took, kept_after, taken_alone, taken_group, telegram_taken, answered_by, with_response, group_service, after_frame, after_outcome, takes_so, takes, took_of, taken_again, taken_last}
 use Rattle.knx_model.specs.DeviceSending.{first_frame, waiting_frame, pops, outstanding_frame, repeat_frame, repeats, shut_from, shut}
-use Rattle.line_model.specs.World.{World, Event, Bus, BusTorn, BusWorn, BusAgain, DevSend, DevRepeat, DevClose, GwAgain, Cut, On, Devices, changed, all_take, one_takes, others_take, devices_after, echo_after, frame_by, waiting_at, repeat_at, next_frame, is_among, or_before, none_if, now, step}
+use Rattle.line_model.specs.World.{World, Event, Bus, BusTorn, BusWorn, BusAgain, DevSend, DevRepeat, DevClose, Cut, On, Devices, changed, all_take, one_takes, others_take, devices_after, echo_after, frame_by, waiting_at, repeat_at, next_frame, is_among, or_before, none_if, now, step}
 use Rattle.tunnel_law.proofs.Inside.{Every}
 use Rattle.line_law.proofs.Coupled.{IsOwn, IsFrameOf, IsOwned, OwnIf, Owned}
 

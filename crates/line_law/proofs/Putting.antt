@@ -1,17 +1,16 @@
 -- The gateway puts its oldest frame for the client: what is on its way to the client stays the same.
-use Rattle.std.proofs.Common.{◌≡◌, ◌≢◌, ℕ, ◌≤◌, ◌⊎◌, List, [], ◌∷◌, ◌++◌, drop, Bool, true, false, cond, Option, Some, None, refl, sym, ◌∙◌, ap, subst, inl, inr, arith, if◌then◌else◌}
+use Rattle.std.proofs.Common.{◌≡◌, ℕ, ◌≤◌, ◌⊎◌, List, [], ◌∷◌, drop, Bool, true, false, cond, Option, Some, None, refl, sym, ◌∙◌, ap, subst, inl, inr, arith}
 use Rattle.knx_model.specs.declared.frames.cemi.Ldata.{Ldata}
 use Rattle.knx_model.specs.Cemi.{Written as cemi_octets}
-use Rattle.line_model.specs.ActedOnce.{IsChannelOf}
 use Rattle.line_model.specs.Gateway.{Channel, Gateway, newest_place, place, put_after, next_put, is_put}
 use Rattle.line_model.specs.Reading.{is_con}
 use Rattle.line_model.specs.Record.{Entry}
-use Rattle.line_model.specs.Tunnel.{Tunnel, with_gateway, puts, puts_next}
-use Rattle.line_model.specs.World.{World, me}
+use Rattle.line_model.specs.Tunnel.{Tunnel, puts, puts_next}
+use Rattle.line_model.specs.World.{World}
 use Rattle.session_law.specs.World.{World as SessionWorld}
 use Rattle.tunnel_law.proofs.Inside.{Every}
-use Rattle.line_law.proofs.Queue.{Items, messages, cons, puts_of, back}
-use Rattle.line_law.proofs.Coupled.{IsTold, NotServing, Serves, FlightIs, Last, Never, Since, ConAt, IsLow, JoinedIs, NeverIs, LastIs, Pipe, DeviceSide, CoupledBy, Coupled}
+use Rattle.line_law.proofs.Queue.{Items, messages, cons, back}
+use Rattle.line_law.proofs.Coupled.{IsTold, Serves, Last, Never, Since, ConAt, LastIs, Coupled}
 use Rattle.line_law.proofs.Gates.{gate_world, flight_to, newest_least}
 
 -- the gateway after it put the frame

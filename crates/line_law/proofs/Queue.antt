@@ -1,6 +1,6 @@
 -- What is on its way to the client: the frames that the gateway put and the client hasn't taken, then those that wait at the gateway; and what of it is
 -- for the session with one device.
-use Rattle.std.proofs.Common.{◌≡◌, ℕ, ◌≤◌, ◌⊎◌, List, [], ◌∷◌, ◌++◌, take, drop, length, Bool, true, false, not, ◌&&◌, cond, Option, Some, None, refl, sym, ◌∙◌, ap, subst, arith, inl, inr, append_assoc, append-nil, if◌then◌else◌}
+use Rattle.std.proofs.Common.{◌≡◌, ℕ, List, [], ◌∷◌, ◌++◌, take, drop, length, Bool, true, false, not, ◌&&◌, cond, refl, sym, ◌∙◌, ap, append_assoc, if◌then◌else◌}
 use Rattle.std.specs.Prelude.{◌==◌}
 use Rattle.std.specs.List.{AllByRecursion}
 use Rattle.knx_model.specs.declared.frames.cemi.Ldata.{Ldata}
@@ -8,7 +8,6 @@ use Rattle.knx_model.specs.Cemi.{Written as cemi_octets}
 use Rattle.line_model.specs.Reading.{is_con, is_ind}
 use Rattle.session_law.specs.World.{Message, Con, Ind}
 use Rattle.session_law.specs.Events.{IsInd}
-
 
 -- ---- what a frame is for the session with a device: the confirmation of a frame to it, or a frame that it sent
 

@@ -1,8 +1,6 @@
 -- What the gateway writes of a frame is read as that frame, or not at all where the TPDU is none that is sent.
 use Rattle.std.proofs.Common.{◌≡◌, ℕ, suc, ◌+◌, ◌*◌, ◌-◌, ◌/◌, ◌%◌, ◌<◌, ◌≤◌, ◌⊎◌, List, [], ◌∷◌, drop, length, Bool, true, false, ◌&&◌, ◌||◌, Option, Some, None, refl, sym, ◌∙◌, ap, subst, arith, inl, inr, if◌then◌else◌}
 use Rattle.std.specs.Prelude.{◌==◌, nat_le, nat_lt, slice_index}
-use Rattle.std.proofs.lemmas.Grind.{common_steps}
-use Rattle.knx_model.specs.declared.connection.TransportFrame.{TransportFrame}
 use Rattle.knx_model.specs.declared.connection.TransportFrame.TheVariants.{Other}
 use Rattle.knx_model.specs.declared.frames.cemi.Ldata.{Ldata}
 use Rattle.knx_model.specs.declared.frames.cemi.LdataCode.{LdataCode}

@@ -1,10 +1,9 @@
 -- A run of the line is followed by a run of the session with each device.
-use Rattle.std.proofs.Common.{◌≡◌, ◌≢◌, ℕ, suc, ◌+◌, ◌<◌, ◌≤◌, ◌⊎◌, List, [], ◌∷◌, ◌++◌, length, Bool, true, false, not, ◌&&◌, ◌||◌, cond, Option, Some, None, refl, sym, ◌∙◌, ap, subst, inl, inr, arith, if◌then◌else◌}
-use Rattle.std.specs.Prelude.{◌==◌, nat_le}
-use Rattle.knx_model.specs.declared.address.IndAddr.{IndAddr}
+use Rattle.std.proofs.Common.{◌≡◌, ℕ, suc, ◌<◌, List, [], ◌∷◌, ◌++◌, length, Bool, true, false, cond, Option, Some, None, refl, sym, ◌∙◌, ap, subst, arith}
+use Rattle.std.specs.Prelude.{◌==◌}
 use Rattle.knx_model.specs.declared.frames.cemi.Ldata.{Ldata}
 use Rattle.knx_model.specs.ApduReading.{option_map}
-use Rattle.knx_model.specs.DeviceConnection.{DeviceEnd, Closed}
+use Rattle.knx_model.specs.DeviceConnection.{Closed}
 use Rattle.knx_model.specs.DeviceState.{DeviceState}
 use Rattle.knx_model.specs.DeviceFrames.{Outcome, Whole, Torn, Worn, takes}
 use Rattle.knx_model.specs.GoodPlan.{IsSendable}
@@ -13,9 +12,8 @@ use Rattle.line_model.specs.declared.group.GroupTurn.{GroupTurn}
 use Rattle.line_model.specs.declared.log.LogEntry.{LogEntry}
 use Rattle.line_model.specs.Fresh.{IsFresh, IsAtRest}
 use Rattle.line_model.specs.Log.{Job, job_of, log_before, IsLog, OneDownloaderPerDevice}
-use Rattle.line_model.specs.OldStoppedOrNew.{first_events}
 use Rattle.line_model.specs.Record.{record_of, placed}
-use Rattle.line_model.specs.Tunnel.{Tunnel, fresh as fresh_tunnel}
+use Rattle.line_model.specs.Tunnel.{Tunnel}
 use Rattle.line_model.specs.World as line
 use Rattle.line_model.specs.World.{World, Event, Bus, BusTorn, BusWorn, BusAgain, DevSend, DevRepeat, DevClose, Cut, On, me, Devices, changed, all_take, one_takes, others_take, devices_after, is_among, next_frame, waiting_at, now, step}
 use Rattle.session_law.specs.World.{World as SessionWorld, fresh}
@@ -23,7 +21,7 @@ use Rattle.session_law.specs.Events as event
 use Rattle.session_law.specs.Events.{Event as SessionEvent, replay, IsLegal}
 use Rattle.load_law.specs.Download.{MayAsk, Follows}
 use Rattle.tunnel_law.proofs.Inside.{Every}
-use Rattle.line_law.proofs.Coupled.{IsFrameOf, OwnIf, Owned, IsOwned, Never, echo_of, Coupled}
+use Rattle.line_law.proofs.Coupled.{IsFrameOf, OwnIf, Owned, Never, echo_of, Coupled}
 use Rattle.line_law.proofs.Owned.{owned_step}
 use Rattle.line_law.proofs.Stepping.{HeldPlan, AllAttempted}
 use Rattle.line_law.proofs.Traces.{IsRun, run_before, Adds, StepBy, Follower, event_step}
@@ -105,9 +103,11 @@ module _ (jobs : List Job) (turns : List GroupTurn) (count : ℕ) (log : List Lo
       let s : SessionWorld = replay (fresh (me start) d) past in
       let g : StepBy jobs log a (length events) (step (line.replay start events) e) (record_of start (e ∷ events)) (moments (placed start events)) (placed start (e ∷ events)) s
       = event_step jobs turns count log form alone can a start events s (follower_now t.1) e h (owned_always start events h.begins) in
-      let whole : replay s g.more ≡ replay (fresh (me start) d) (g.more ++ past) = sym (replay_more (fresh (me start) d) g.more past) in
-      (g.more ++ past, Goes e g.more t.1 g.legal g.follows (subst (Follower jobs log a start (e ∷ events)) whole (record { coupled = g.coupled; attempted = g.attempted })) g.adds
-          (subst (λ y. AllAttempted jobs (log_before (suc (length events)) log) a (moments (placed start (e ∷ events))) y.client) whole g.late))
+      let whole : replay s g.more ≡ replay (fresh (me start) d) (g.more ++ past) = sym (replay_more (fresh (me start) d) g.more past) in (
+        g.more ++ past,
+        Goes e g.more t.1 g.legal g.follows (subst (Follower jobs log a start (e ∷ events)) whole (record { coupled = g.coupled; attempted = g.attempted })) g.adds
+            (subst (λ y. AllAttempted jobs (log_before (suc (length events)) log) a (moments (placed start (e ∷ events))) y.client) whole g.late),
+      )
 
 -- ---- the jobs whose plans are gone through
 
@@ -147,6 +147,7 @@ trace_follows {jobs = jobs} {log = log} {a = a} {start = start} {d = d} Q f (Goe
   where
     here : (m : ℕ) → m < suc m
     here m = omega arith
+
     later : (m k : ℕ) → m < k → m < suc k
     later m k lt = omega (arith, lt)
 
@@ -174,7 +175,7 @@ none_others t left_out (Some f) devices a e = by_group f.group where
   by_group true = none_all t left_out (Some f) devices a e
   by_group false = e
 
-none_step : (w : World) (e : Event) (a : ℕ) → w.devices a ≡ None → devices_after w e a ≡ None
+pub none_step : (w : World) (e : Event) (a : ℕ) → w.devices a ≡ None → devices_after w e a ≡ None
 none_step w (Bus left_out) a h = none_all (now w) left_out (next_frame w) w.devices a h
 none_step w (BusTorn fresh_ octets) a h = none_one (now w) (Torn fresh_ octets) (next_frame w) w.devices a h
 none_step w (BusWorn octets) a h = none_one (now w) (Worn octets) (next_frame w) w.devices a h

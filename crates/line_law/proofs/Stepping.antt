@@ -1,5 +1,5 @@
 -- An entry of the record that is no renewal: the session follows it, and so do the attempts of the job that is held.
-use Rattle.std.proofs.Common.{◌≡◌, ◌≢◌, ℕ, suc, ◌<◌, ◌≤◌, ◌⊎◌, List, [], ◌∷◌, ◌++◌, length, Bool, true, false, not, ◌&&◌, ◌||◌, cond, Option, Some, None, refl, sym, ◌∙◌, ap, subst, inl, inr, arith, if◌then◌else◌}
+use Rattle.std.proofs.Common.{◌≡◌, ℕ, suc, ◌⊎◌, List, [], ◌∷◌, Bool, true, false, not, ◌&&◌, cond, Option, Some, None, refl, sym, ◌∙◌, ap, subst, inl, inr, arith}
 use Rattle.std.specs.Prelude.{◌==◌, is_some}
 use Rattle.knx_model.specs.declared.frames.cemi.Ldata.{Ldata}
 use Rattle.knx_model.specs.Connection.{frame_in}
@@ -7,18 +7,18 @@ use Rattle.knx_model.specs.GoodPlan.{IsSendable}
 use Rattle.knx_model.specs.Plans.{Plan}
 use Rattle.line_model.specs.declared.group.GroupTurn.{GroupTurn}
 use Rattle.line_model.specs.declared.log.LogEntry.{LogEntry}
-use Rattle.line_model.specs.ActedOnce.{IsActedOnce, IsChannelOf}
-use Rattle.line_model.specs.Asks.{IsRightRequest, IsRightDeed, IsTurn, IsOfJob, IsQuiet, HasPlace}
-use Rattle.line_model.specs.Attempts.{Attempts, Resting, Running, aged, is_silent, attempts, attempts_after, MayPut}
+use Rattle.line_model.specs.ActedOnce.{IsActedOnce}
+use Rattle.line_model.specs.Asks.{IsRightRequest, IsRightDeed, IsOfJob, IsQuiet, HasPlace}
+use Rattle.line_model.specs.Attempts.{Attempts, Resting, Running, aged, attempts, attempts_after, MayPut}
 use Rattle.line_model.specs.ChannelLost.{confirmed, is_new_request, is_confirmation}
 use Rattle.line_model.specs.ClientView.{ClientChannel, Open, Lost, Deed, View, or_number, channel, deed, views}
 use Rattle.line_model.specs.ClientView as view
 use Rattle.line_model.specs.Log.{Job, Held, job_of, state_of}
-use Rattle.line_model.specs.Moments.{Moment, moments, between, where_is, put_frame}
+use Rattle.line_model.specs.Moments.{Moment, moments, where_is, put_frame}
 use Rattle.line_model.specs.Reading.{ldata_in, is_req}
 use Rattle.line_model.specs.Record.{Entry, Placed, entries, is_renewal}
 use Rattle.line_model.specs.Told.{PutsTurn}
-use Rattle.line_model.specs.World.{World, me, now}
+use Rattle.line_model.specs.World.{World, me}
 use Rattle.session_law.specs.World.{World as SessionWorld, Client}
 use Rattle.session_law.specs.Events.{Event as SessionEvent, step, replay, IsLegal}
 use Rattle.session_law.specs.Events as event
@@ -27,17 +27,16 @@ use Rattle.tunnel_law.proofs.Fits.{books}
 use Rattle.tunnel_law.proofs.Took.{InvT}
 use Rattle.line_law.proofs.Queue.{is_its}
 use Rattle.line_law.proofs.Coupled.{IsOut, is_open, Coupled}
-use Rattle.line_law.proofs.Acting.{UpOnce}
 use Rattle.line_law.proofs.Entries.{HeadView, Moves, Outside, Goes, Stays, still_kept, lost_kept}
 use Rattle.line_law.proofs.Entering.{number_stays, number_by, Brings, views_stay, UpPlace, up_place, Still, Turn, IsStill, IsLost, Joins, Puts, Takes}
 use Rattle.line_law.proofs.Turning.{turn}
 use Rattle.line_law.proofs.Joining.{joins_kept}
-use Rattle.line_law.proofs.Opened.{PutsSo, PutBy, put_kept, is_free}
-use Rattle.line_law.proofs.Takes.{client_told, TakesSo, TakesGoes, take_kept}
+use Rattle.line_law.proofs.Opened.{PutsSo, put_kept, is_free}
+use Rattle.line_law.proofs.Takes.{client_told, TakesGoes, take_kept}
 use Rattle.knx_model.specs.declared.connection.TransportFrame.{TransportFrame}
 use Rattle.knx_model.specs.declared.connection.TransportFrame.TheVariants.{Connect, Disconnect, Ack, Nak, Numbered, Other}
 use Rattle.line_model.specs.Moments.{put_to, transport_of, is_to}
-use Rattle.line_law.proofs.Attempting.{IsService, Runs, AttemptIs}
+use Rattle.line_law.proofs.Attempting.{IsService, AttemptIs}
 use Rattle.line_law.proofs.Courses.{NotService}
 use Rattle.line_law.proofs.CourseKept.{Free, PutsSo as PutsAllowed}
 use Rattle.line_law.proofs.Telling.{aged_runs, take_attempt, still_attempt, lost_attempt, none_runs}
@@ -217,6 +216,7 @@ module _ (jobs : List Job) (turns : List GroupTurn) (log : List LogEntry) (a : �
       silent_event z event.Cut i = tt
       silent_event z event.On i = tt
       silent_event z (event.Pass ms) i = tt
+
       silent_follows : (z : SessionWorld) (y : List SessionEvent) → AsksNothing y → Follows (HeldPlan jobs log a) z y
       silent_follows z [] i = tt
       silent_follows z (q ∷ y) i = (silent_event (replay z y) q i.0, silent_follows z y i.1)

@@ -1,22 +1,16 @@
 -- The gateway takes a datagram, sends of itself, and closes: the client has nothing of it yet.
-use Rattle.std.proofs.Common.{◌≡◌, ◌≢◌, ℕ, suc, List, [], ◌∷◌, ◌++◌, length, Bool, true, false, ◌&&◌, cond, Option, Some, None, refl, sym, ◌∙◌, ap, subst}
-use Rattle.std.specs.Prelude.{◌==◌, slice_get}
+use Rattle.std.proofs.Common.{◌≡◌, ℕ, List, ◌∷◌, length, Bool, true, false, cond, Option, Some, None, refl, sym, ap, subst}
+use Rattle.std.specs.Prelude.{◌==◌}
 use Rattle.knx_model.specs.declared.frames.ip.IpFrame.{IpFrame}
 use Rattle.knx_model.specs.declared.frames.ip.IpFrame.TheVariants.{ConnectRequest, ConnectResponse, StateRequest, StateResponse, DisconnectRequest, DisconnectResponse, TunnellingRequest, TunnellingAck}
-use Rattle.line_model.specs.ActedOnce.{Has, IsChannelOf}
-use Rattle.line_model.specs.Gateway.{Channel, Gateway, GatewayTook, Request, hears, took, gateway_took, names, closed, closed_if_open, connects, makes, new_channel, number_of, request_took, acts_on, settles, acknowledged, next_number, answers as replies, drops as ignores}
-use Rattle.line_model.specs.Network.{Sent, changed_at, once_more}
-use Rattle.line_model.specs.Reading.{datagram_in}
+use Rattle.line_model.specs.Gateway.{Channel, Gateway, GatewayTook, took, names, closed, closed_if_open, connects, makes, new_channel, number_of, request_took, acts_on, settles, acknowledged, next_number, answers as replies, drops as ignores}
 use Rattle.line_model.specs.Record.{Entry}
-use Rattle.line_model.specs.Tunnel.{Tunnel, with_gateway, with_up, sends_down_if, answers, takes_frame, takes_sent, refuses, repeated, repeats_request, repeats, closes}
 use Rattle.line_model.specs.World.{World}
 use Rattle.session_law.specs.World.{World as SessionWorld}
-use Rattle.load_law.specs.Download.{AsksNothing}
 use Rattle.line_law.proofs.Coupled.{Coupled, Goes}
 use Rattle.line_law.proofs.Bus.{goes_none}
 use Rattle.line_law.proofs.Gates.{gate_world, SameOpen, with_channel, channel_kept, shut_gate, shut_kept, made_gate, IsNew, makes_kept}
-use Rattle.line_law.proofs.Acting.{UpOnce, acted_gate, acts_kept}
-use Rattle.line_law.proofs.Putting.{tunnel_kept}
+use Rattle.line_law.proofs.Acting.{UpOnce, acts_kept}
 
 -- ---- events of the session stay where the line's world changes elsewhere
 
@@ -53,8 +47,10 @@ module _ (a : ℕ) (w : World) (r : List Entry) (s : SessionWorld) (from t : ℕ
     made k n =
         goes_on a (gate_world w (shut_gate w.tunnel.gateway)) (gate_world w (made_gate (shut_gate w.tunnel.gateway) (new_channel from (number_of (length w.tunnel.gateway.makers)) t) from)) r r s
         (λ z q. makes_kept a (gate_world w (shut_gate w.tunnel.gateway)) r z (new_channel from (number_of (length w.tunnel.gateway.makers)) t) from refl n q) k
+
     shut : closed w.tunnel.gateway ≡ shut_gate w.tunnel.gateway
     shut = ap (closed_if_open w.tunnel.gateway) is
+
     by_endpoint : (b : Bool) → ((cond {A = GatewayTook} b (replies (ConnectResponse c.number 0 (Some w.tunnel.gateway.tunnel)) w.tunnel.gateway) (replies (ConnectResponse (number_of (length w.tunnel.gateway.makers)) 0 (Some w.tunnel.gateway.tunnel)) (makes (closed w.tunnel.gateway) from t))).after.makers ≡ from ∷ w.tunnel.gateway.makers → IsNew w.tunnel.gateway.makers r from)
         → To (cond {A = GatewayTook} b (replies (ConnectResponse c.number 0 (Some w.tunnel.gateway.tunnel)) w.tunnel.gateway) (replies (ConnectResponse (number_of (length w.tunnel.gateway.makers)) 0 (Some w.tunnel.gateway.tunnel)) (makes (closed w.tunnel.gateway) from t))).after
     by_endpoint true n = goes_none a w r s h

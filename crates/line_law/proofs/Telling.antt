@@ -1,8 +1,7 @@
 -- What an attempt makes of what is taken is what the session's client makes of it.
-use Rattle.std.proofs.Common.{◌≡◌, ◌≢◌, ℕ, suc, ◌⊎◌, List, [], ◌∷◌, ◌++◌, Bool, true, false, not, ◌&&◌, ◌||◌, cond, Option, Some, None, refl, sym, ◌∙◌, ap, subst, inl, inr, if◌then◌else◌}
+use Rattle.std.proofs.Common.{◌≡◌, ℕ, List, Bool, true, false, not, ◌&&◌, ◌||◌, cond, Option, Some, None, refl, sym, ◌∙◌, ap, subst, if◌then◌else◌}
 use Rattle.std.specs.Prelude.{◌==◌, is_some}
 use Rattle.knx_model.specs.declared.address.IndAddr.{IndAddr}
-use Rattle.knx_model.specs.declared.connection.ClientTook.{ClientTook}
 use Rattle.knx_model.specs.declared.connection.ClientTook.TheVariants as heard
 use Rattle.knx_model.specs.declared.connection.TransportFrame.{TransportFrame}
 use Rattle.knx_model.specs.declared.connection.TransportFrame.TheVariants.{Other}
@@ -12,16 +11,16 @@ use Rattle.knx_model.specs.declared.frames.cemi.LdataCode.TheVariants.{Req, Con,
 use Rattle.knx_model.specs.ClientConnection.{ClientEnd, Asked, Up, Asking, Awaiting, Ended, device_of, client_took, up_took, asking_took, client_expired}
 use Rattle.knx_model.specs.Connection.{frame_in}
 use Rattle.knx_model.specs.Plans.{Plan}
-use Rattle.line_model.specs.Attempts.{Attempt, Attempts, Resting, Running, is_silent, aged, confirmed_so, confirmed_attempt, heard_so, heard_attempt, attempts_after}
+use Rattle.line_model.specs.Attempts.{Attempt, Attempts, Resting, Running, is_silent, confirmed_so, confirmed_attempt, heard_so, heard_attempt, attempts_after}
 use Rattle.line_model.specs.ClientView as view
 use Rattle.line_model.specs.ClientView.{Deed}
-use Rattle.line_model.specs.Moments.{Moment, where_is, error_of, transport_of, is_from, is_loss}
+use Rattle.line_model.specs.Moments.{where_is, error_of, transport_of, is_from}
 use Rattle.line_model.specs.Reading.{ldata_in, is_con, is_ind}
 use Rattle.session_law.specs.World.{Client}
-use Rattle.session_law.specs.Client.{hears, confirmed, frame_from, is_from as is_of}
+use Rattle.session_law.specs.Client.{hears, confirmed, frame_from}
 use Rattle.line_law.proofs.Queue.{is_its, is_by}
-use Rattle.line_law.proofs.Takes.{client_told, nothing_took}
-use Rattle.line_law.proofs.Attempting.{IsWith, Runs, AttemptIs, con_none, con_attempt}
+use Rattle.line_law.proofs.Takes.{client_told}
+use Rattle.line_law.proofs.Attempting.{IsWith, Runs, AttemptIs, con_attempt}
 use Rattle.line_law.proofs.Hearing.{hears_nothing, hear_attempt}
 
 -- ---- the time alone
@@ -102,7 +101,7 @@ take_attempt a device plan (Resting k) c content now at e h its = tt
 take_attempt a device plan (Running k t) c content now at e h its =
     let older : Runs a plan (record t { lapsed = t.lapsed || is_silent (client_expired t.end now) }) c = aged_runs a plan t c (t.lapsed || is_silent (client_expired t.end now)) h in
     let P : ℕ → Type 0 = λ z. AttemptIs a plan (heard_so now (confirmed_so now (Running k (record t { lapsed = t.lapsed || is_silent (client_expired t.end now) })) (error_of (where_is (λ (x : Ldata). is_con x.code) (ldata_in content))))
-        (transport_of (where_is (is_from z) (where_is (λ (x : Ldata). is_ind x.code) (ldata_in content))))) (client_told a now c (ldata_in content)) in
+    (transport_of (where_is (is_from z) (where_is (λ (x : Ldata). is_ind x.code) (ldata_in content))))) (client_told a now c (ldata_in content)) in
     subst P (sym e) (told_by a plan k (record t { lapsed = t.lapsed || is_silent (client_expired t.end now) }) c now (ldata_in content) older its)
 
 -- nothing comes or goes, or the channel is lost

@@ -1,42 +1,34 @@
 -- Each event of the line: the session with a device follows it, and so do the attempts of the job that is held.
-use Rattle.std.proofs.Common.{◌≡◌, ◌≢◌, ℕ, suc, ◌+◌, ◌<◌, ◌≤◌, ◌⊎◌, List, [], ◌∷◌, ◌++◌, length, Bool, true, false, not, ◌&&◌, ◌||◌, cond, Option, Some, None, refl, sym, ◌∙◌, ap, subst, inl, inr, arith, if◌then◌else◌}
+use Rattle.std.proofs.Common.{◌≡◌, ℕ, suc, ◌≤◌, ◌⊎◌, List, [], ◌∷◌, ◌++◌, length, false, Option, Some, None, refl, sym, ◌∙◌, ap, subst, inl, inr, arith}
 use Rattle.std.specs.Prelude.{◌==◌, slice_get, take}
-use Rattle.knx_model.specs.declared.address.IndAddr.{IndAddr}
 use Rattle.knx_model.specs.declared.frames.cemi.Ldata.{Ldata}
-use Rattle.knx_model.specs.DeviceConnection.{DeviceEnd, Closed}
-use Rattle.knx_model.specs.DeviceState.{DeviceState}
 use Rattle.knx_model.specs.GoodPlan.{IsSendable}
-use Rattle.knx_model.specs.Plans.{Plan}
 use Rattle.line_model.specs.declared.group.GroupTurn.{GroupTurn}
 use Rattle.line_model.specs.declared.log.LogEntry.{LogEntry}
-use Rattle.line_model.specs.ActedOnce.{Has, IsActedOnce, IsChannelOf, ActedOnce}
-use Rattle.line_model.specs.Asks.{IsRightDeed, IsRightEntry, EachRight, moment_of}
+use Rattle.line_model.specs.ActedOnce.{Has, IsActedOnce, ActedOnce}
+use Rattle.line_model.specs.Asks.{IsRightDeed, IsRightEntry, EachRight}
 use Rattle.line_model.specs.Attempts.{attempts}
 use Rattle.line_model.specs.ClientView.{ClientChannel, Fresh, Sought, RefusedBy, Unanswered, Open, Lost, Deed, View, unused, channel, deed, views, after_entry, goes_on, after_fresh}
 use Rattle.line_model.specs.ClientView as view
-use Rattle.line_model.specs.Fresh.{IsFresh, IsAtRest}
-use Rattle.line_model.specs.Gateway.{Channel, Gateway, next_put}
-use Rattle.line_model.specs.Legal.{IsLegal, MayHappen}
-use Rattle.line_model.specs.Log.{Job, JobState, Held, job_of, log_before, state_of, IsLog, SameDevice, OneDownloaderPerDevice}
+use Rattle.line_model.specs.Fresh.{IsFresh}
+use Rattle.line_model.specs.Legal.{IsLegal}
+use Rattle.line_model.specs.Log.{Job, job_of, log_before, IsLog, OneDownloaderPerDevice}
 use Rattle.knx_model.specs.declared.connection.TransportFrame.{TransportFrame}
 use Rattle.line_model.specs.Moments.{Moment, moments, put_to}
-use Rattle.line_model.specs.Network.{Sent, OfSent, IsUnderWay, changed_at, once_more}
-use Rattle.line_model.specs.Reading.{is_connect_request}
-use Rattle.line_model.specs.Record.{Item, Put, Renewed, Got, Quiet, Entry, entry, Placed, placed, placed_if, entries, got, noted, item_at, record_of, is_renewal, put_in}
-use Rattle.line_model.specs.Renews.{RenewsRightly, RenewsSo, has_renewed, is_just_renewed, MayLeave}
+use Rattle.line_model.specs.Network.{Sent, OfSent, changed_at, once_more}
+use Rattle.line_model.specs.Record.{Item, Put, Renewed, Got, Quiet, Entry, entry, Placed, placed, placed_if, entries, got, noted, item_at, record_of, is_renewal}
+use Rattle.line_model.specs.Renews.{RenewsRightly}
 use Rattle.line_model.specs.Sendings.{SendsRightly}
-use Rattle.line_model.specs.Tunnel.{Tunnel, Commissions, fresh, puts, puts_next, sends_up, with_down, after}
+use Rattle.line_model.specs.Tunnel.{Tunnel, Commissions, sends_up, with_down}
 use Rattle.line_model.specs.World as line
 use Rattle.line_model.specs.World.{World, Event, me, now, step}
-use Rattle.session_law.specs.World as session
-use Rattle.session_law.specs.World.{World as SessionWorld, Client}
+use Rattle.session_law.specs.World.{World as SessionWorld}
 use Rattle.session_law.specs.Events.{Event as SessionEvent, replay}
 use Rattle.session_law.specs.Events as event
 use Rattle.load_law.specs.Download.{MayAsk, Follows, AsksNothing}
 use Rattle.tunnel_law.proofs.Fits.{books}
 use Rattle.tunnel_law.proofs.Took.{InvT}
-use Rattle.line_law.proofs.Coupled.{Owned, Never, DeviceSide, is_open, Coupled, Goes}
-use Rattle.line_law.proofs.Owned.{owned_step}
+use Rattle.line_law.proofs.Coupled.{Owned, is_open, Coupled, Goes}
 use Rattle.line_law.proofs.Bus.{after_world, bus_kept, torn_kept, worn_kept}
 use Rattle.line_law.proofs.Devices as devices
 use Rattle.line_law.proofs.Putting.{tunnel_kept, next_kept}
@@ -45,13 +37,12 @@ use Rattle.line_law.proofs.Taking.{goes_on as goes_to}
 use Rattle.line_law.proofs.Tunnels as tunnels
 use Rattle.line_law.proofs.Entries.{HeadView, head_view, renewed_world, renewed_kept, later_world, pass_kept}
 use Rattle.line_law.proofs.Entering.{buses_client, buses_follow, buses_silent}
-use Rattle.line_law.proofs.Attempting.{AttemptIs, IsService}
+use Rattle.line_law.proofs.Attempting.{IsService}
 use Rattle.line_law.proofs.CourseKept.{PutsSo as PutsAllowed}
 use Rattle.line_law.proofs.Telling.{still_attempt}
 use Rattle.line_law.proofs.Logs.{AreUpto, held_before, held_later, one_held, after_last, after_more, entries_of, moments_upto, upto_more}
 use Rattle.line_law.proofs.Logs as logs
-use Rattle.line_law.proofs.Stepping.{HeldJob, HeldPlan, Attempted, AllAttempted, AttemptedOn, EntryGoes, entry_next}
-
+use Rattle.line_law.proofs.Stepping.{HeldJob, HeldPlan, Attempted, AllAttempted, EntryGoes, entry_next}
 -- ---- the gateway's next frame leaves the rest of the tunnel
 use Rattle.tunnel_law.proofs.Law.{renews_before, sends_before}
 use Rattle.line_model.specs.Record.{item_of}
@@ -186,12 +177,15 @@ module _ (jobs : List Job) (turns : List GroupTurn) (count : ℕ) (log : List Lo
     where
       same_place : (m : ℕ) → m ≤ m
       same_place m = omega arith
+
       replay_more : (l : List SessionEvent) → replay s (l ++ first) ≡ replay (replay s first) l
       replay_more [] = refl
       replay_more (y ∷ l) = ap (λ q. event.step q y) (replay_more l)
+
       legal_more : (l : List SessionEvent) → event.IsLegal (replay s first) l → event.IsLegal s first → event.IsLegal s (l ++ first)
       legal_more [] h k = k
       legal_more (y ∷ l) h k = (subst (λ q. event.MayHappen q y) (sym (replay_more l)) h.0, legal_more l h.1 k)
+
       follows_more : (l : List SessionEvent) → Follows (HeldPlan jobs (log_before (suc (length events)) log) a) (replay s first) l → Follows (HeldPlan jobs (log_before (suc (length events)) log) a) s first → Follows (HeldPlan jobs (log_before (suc (length events)) log) a) s (l ++ first)
       follows_more [] h k = k
       follows_more (y ∷ l) h k = (subst (λ q. MayAsk (HeldPlan jobs (log_before (suc (length events)) log) a) q y) (sym (replay_more l)) h.0, follows_more l h.1 k)
@@ -244,13 +238,13 @@ module _ (jobs : List Job) (turns : List GroupTurn) (count : ℕ) (log : List Lo
         coupled = next_kept a (renewed_world w1) (x ∷ r) s (renewed_kept a w1 r x s refl (renewed_fresh (channel r) t) shut none f.coupled);
         attempted = subst (λ z. AllAttempted jobs (log_before (suc (suc (length events))) log) a (record { what = z; now = t; at = suc (length events) } ∷ moments (placed start events)) s.client) (sym deed_is)
             (attempted_more jobs turns count log form alone a (length events) (record { what = view.Nothing; now = t; at = suc (length events) }) (moments (placed start events)) s.client refl
-                (here (suc (length events)), upto_more (length events) (moments (placed start events)) (moments_upto start events))
-                (λ q. still_attempt a q.job.device q.job.plan (attempts q.job.device q.job.plan (logs.after q.since (moments (placed start events)))) s.client t (suc (length events)) (f.attempted q)));
+            (here (suc (length events)), upto_more (length events) (moments (placed start events)) (moments_upto start events))
+            (λ q. still_attempt a q.job.device q.job.plan (attempts q.job.device q.job.plan (logs.after q.since (moments (placed start events)))) s.client t (suc (length events)) (f.attempted q)));
         adds = One (record { what = deed (channel (entries (placed start events))) x; now = t; at = suc (length events) }) refl refl (inl tt)
             (λ q y put. absurd (let z : None ≡ Some y = sym (ap (put_to a) deed_is) ∙ put in cc));
         late = subst (λ z. AllAttempted jobs (log_before (suc (length events)) log) a (record { what = z; now = t; at = suc (length events) } ∷ moments (placed start events)) s.client) (sym deed_is)
             (attempted_late jobs turns count log form alone a (length events) (record { what = view.Nothing; now = t; at = suc (length events) }) (moments (placed start events)) s.client refl
-                (λ q. still_attempt a q.job.device q.job.plan (attempts q.job.device q.job.plan (logs.after q.since (moments (placed start events)))) s.client t (suc (length events)) (f.attempted q)));
+            (λ q. still_attempt a q.job.device q.job.plan (attempts q.job.device q.job.plan (logs.after q.since (moments (placed start events)))) s.client t (suc (length events)) (f.attempted q)));
       }
     where
       here : (m : ℕ) → m ≤ m
@@ -260,14 +254,19 @@ module _ (jobs : List Job) (turns : List GroupTurn) (count : ℕ) (log : List Lo
   event_step e run own = by_event e run (inv_always start events run.begins run.legal.1 before.renews before.sends) (inv_always start (e ∷ events) run.begins run.legal run.renews run.sends) run.once.0 where
     before : IsRun jobs turns log start events
     before = run_before jobs turns log start e events run
+
     c : Coupled a (line.replay start events) (record_of start events) s
     c = f.coupled
+
     named : s.device.address.raw ≡ a
     named = (own.devices a s.device f.coupled.by.side.device).named
+
     w1 : World
     w1 = line.replay start events
+
     r : List Entry
     r = record_of start events
+
     by_event : (y : Event) → IsRun jobs turns log start (y ∷ events) → InvT (books (record_of start events)) (line.replay start events).tunnel → InvT (books (record_of start (y ∷ events))) (step (line.replay start events) y).tunnel
         → IsActedOnce (step (line.replay start events) y).tunnel.gateway (record_of start (y ∷ events)) → StepBy jobs log a (length events) (step (line.replay start events) y) (record_of start (y ∷ events)) (moments (placed start events)) (placed start (y ∷ events)) s
     by_event (Send octets) h i k once =

@@ -1,12 +1,12 @@
 -- The events of the tunnel of which the client's record has no entry.
-use Rattle.std.proofs.Common.{◌≡◌, ◌≢◌, ℕ, suc, List, [], ◌∷◌, ◌++◌, Bool, true, false, cond, Option, Some, None, refl, sym, ◌∙◌, ap, subst}
+use Rattle.std.proofs.Common.{◌≡◌, ℕ, List, ◌∷◌, Bool, true, false, cond, Option, Some, None, refl, sym, ◌∙◌, ap, subst}
 use Rattle.std.specs.Prelude.{◌==◌, slice_get}
 use Rattle.knx_model.specs.declared.frames.ip.IpFrame.{IpFrame}
-use Rattle.line_model.specs.Gateway.{Channel, Gateway, GatewayTook, Request, hears, took, gateway_took, closed, closed_if_open}
+use Rattle.line_model.specs.Gateway.{Channel, Gateway, GatewayTook, Request, hears, took, gateway_took, closed_if_open}
 use Rattle.line_model.specs.Network.{Sent, changed_at, once_more, gone}
 use Rattle.line_model.specs.Reading.{datagram_in}
 use Rattle.line_model.specs.Record.{Entry}
-use Rattle.line_model.specs.Tunnel.{Tunnel, with_gateway, with_up, with_down, sends_down, sends_down_if, answers, takes_frame, takes_sent, refuses, repeated, repeats_request, repeats, closes, after}
+use Rattle.line_model.specs.Tunnel.{Tunnel, with_gateway, with_up, with_down, sends_down_if, answers, takes_frame, takes_sent, refuses, repeated, repeats_request, repeats, closes}
 use Rattle.line_model.specs.World.{World, Up, UpRefused, LoseUp, LoseDown, GwRepeat, GwClose}
 use Rattle.session_law.specs.World.{World as SessionWorld}
 use Rattle.tunnel_law.proofs.Fits.{books}

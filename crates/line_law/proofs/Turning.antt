@@ -1,7 +1,6 @@
 -- How the client's channel goes on at an entry that is no renewal.
-use Rattle.std.proofs.Common.{◌≡◌, ◌≢◌, ℕ, suc, ◌<◌, ◌≤◌, ◌⊎◌, List, [], ◌∷◌, Bool, true, false, not, ◌&&◌, cond, Option, Some, None, refl, sym, ◌∙◌, ap, subst, if◌then◌else◌}
+use Rattle.std.proofs.Common.{◌≡◌, ℕ, List, [], ◌∷◌, Bool, true, false, ◌&&◌, Option, Some, None, refl, sym, ◌∙◌, ap, subst, if◌then◌else◌}
 use Rattle.std.specs.Prelude.{◌==◌}
-use Rattle.knx_model.specs.declared.address.IndAddr.{IndAddr}
 use Rattle.knx_model.specs.declared.frames.ip.IpFrame.{IpFrame}
 use Rattle.knx_model.specs.declared.frames.ip.IpFrame.TheVariants.{ConnectRequest, ConnectResponse, StateRequest, StateResponse, DisconnectRequest, DisconnectResponse, TunnellingRequest, TunnellingAck}
 use Rattle.knx_model.specs.Connection.{has_passed}
@@ -12,7 +11,7 @@ use Rattle.line_model.specs.Reading.{is_connect_request}
 use Rattle.line_model.specs.Record.{Entry, put_in, got_in, is_renewal, is_poll}
 use Rattle.line_law.proofs.Coupled.{Flight, IsOut, IsLater, ChannelIs, is_open}
 use Rattle.line_law.proofs.Entries.{Moves, Outside, Goes, Stays}
-use Rattle.line_law.proofs.Entering.{Still, Turn, IsStill, IsLost, Joins, Puts, Takes, not_renewed, deed_open, deed_lost, Brought, Neither, Put, Take, brought}
+use Rattle.line_law.proofs.Entering.{Turn, IsStill, IsLost, Joins, Puts, Takes, not_renewed, deed_open, deed_lost, Brought, Neither, Put, Take, brought}
 
 still_of : (r : List Entry) (x : Entry) (c d : ClientChannel) → channel r ≡ c → channel (x ∷ r) ≡ d → Moves c d → deed c x ≡ view.Nothing → Turn r x
 still_of r x c d e k m n = IsStill (record { moves = subst (λ z. Moves z (channel (x ∷ r))) (sym e) (subst (λ z. Moves c z) (sym k) m); none = ap (λ z. deed z x) e ∙ n })
@@ -103,6 +102,7 @@ open_turn r x c l true e lost k = IsLost c l e k (ap (λ z. deed z x) e ∙ deed
 open_turn r x c l false e lost k = by_brought (brought c l x) where
   at : deed (channel r) x ≡ view.deed_in c l x
   at = ap (λ z. deed z x) e ∙ deed_open c l x lost
+
   by_brought : Brought c l x → Turn r x
   by_brought (Neither none same) = still_of r x (Open c l) (Open c (x ∷ l)) e k (Goes same) (deed_open c l x lost ∙ none)
   by_brought (Put content is new) = Puts c l content e k (at ∙ is) new

@@ -1,8 +1,7 @@
 -- In a run of a session: what the record says of a job's session stands beside its attempt, and where this was done the session was.
-use Rattle.std.proofs.Common.{◌≡◌, ◌≢◌, ℕ, suc, ◌<◌, ◌≤◌, ◌⊎◌, List, [], ◌∷◌, ◌++◌, length, Bool, true, false, cond, Option, Some, None, refl, sym, ◌∙◌, ap, subst, inl, inr, arith, append_assoc}
+use Rattle.std.proofs.Common.{◌≡◌, ℕ, suc, ◌≤◌, List, [], ◌∷◌, ◌++◌, length, Option, Some, None, refl, sym, ◌∙◌, ap, subst, inl, inr, arith, append_assoc}
 use Rattle.knx_model.specs.declared.connection.TransportFrame.{TransportFrame}
-use Rattle.knx_model.specs.ClientConnection.{ClientEnd, Asked, Up, Asking, Awaiting, Ended, awaits_nothing}
-use Rattle.knx_model.specs.Connection.{Session}
+use Rattle.knx_model.specs.ClientConnection.{Up, awaits_nothing}
 use Rattle.knx_model.specs.DeviceState.{DeviceState}
 use Rattle.knx_model.specs.GoodPlan.{IsSendable}
 use Rattle.knx_model.specs.Plans.{Plan, Over}
@@ -13,12 +12,12 @@ use Rattle.line_model.specs.Log.{Job, job_of, log_before, IsLog, OneDownloaderPe
 use Rattle.line_model.specs.Moments.{Moment, moments, put_to, stretches}
 use Rattle.line_model.specs.Record.{placed}
 use Rattle.line_model.specs.World.{World, Event, me}
-use Rattle.session_law.specs.World.{World as SessionWorld, Client, fresh}
+use Rattle.session_law.specs.World.{World as SessionWorld, fresh}
 use Rattle.session_law.specs.Events.{Event as SessionEvent, replay}
-use Rattle.load_law.specs.Download.{Went, IsDone, AsksNothing}
-use Rattle.line_law.proofs.Attempting.{IsService, InPlan, Stands, AttemptIs}
+use Rattle.load_law.specs.Download.{IsDone, AsksNothing}
+use Rattle.line_law.proofs.Attempting.{IsService, InPlan, AttemptIs}
 use Rattle.line_law.proofs.Courses.{NotService, DoneNow, WasDone, Now, Later, StretchIs, kind}
-use Rattle.line_law.proofs.CourseKept.{course_kept, PutsSo}
+use Rattle.line_law.proofs.CourseKept.{course_kept}
 use Rattle.line_law.proofs.Following.{later_job}
 use Rattle.line_law.proofs.Logs.{AreUpto, after, after_last, after_more, held_before, moments_upto}
 use Rattle.line_law.proofs.Stepping.{HeldJob, AllAttempted}

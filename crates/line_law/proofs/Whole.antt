@@ -1,11 +1,10 @@
 -- What the hub keeps to is a run that the lemmas are about.
-use Rattle.std.proofs.Common.{◌≡◌, List, subst}
+use Rattle.std.proofs.Common.{List, subst}
 use Rattle.line_model.specs.declared.group.GroupTurn.{GroupTurn}
 use Rattle.line_model.specs.declared.log.LogEntry.{LogEntry}
-use Rattle.line_model.specs.ActedOnce.{ActedOnce}
 use Rattle.line_model.specs.Headline.{KeepsFull}
 use Rattle.line_model.specs.Log.{Job}
-use Rattle.line_model.specs.Record.{Entry, record_of}
+use Rattle.line_model.specs.Record.{record_of}
 use Rattle.line_model.specs.Renews.{RenewsRightly}
 use Rattle.line_model.specs.Sendings.{SendsRightly}
 use Rattle.line_model.specs.World.{World, Event}

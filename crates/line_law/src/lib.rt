@@ -2,21 +2,12 @@
 //! worn.
 #![tactic(auto)]
 
-ghost use Rattle.std.specs.Prelude.{List};
-ghost use Rattle.std.specs.List.{AllByRecursion};
-ghost use Rattle.line_model.specs.declared.group.GroupTurn.{GroupTurn};
-ghost use Rattle.line_model.specs.declared.log.LogEntry.{LogEntry};
-ghost use Rattle.line_model.specs.Headline.{IsGoodJob, KeepsFull};
-ghost use Rattle.line_model.specs.Legal.{AtEveryMoment};
-ghost use Rattle.line_model.specs.Log.{Job};
-ghost use Rattle.line_model.specs.OldStoppedOrNew.{RunsJob, IsCase, IsUntouched};
-ghost use Rattle.line_model.specs.World.{World, Event};
+ghost use Rattle.line_model.specs.Headline.{EveryInterleaving};
 
-/// At every moment of every run, whatever is lost, repeated, cut, torn or worn, each device keeps its starting content, or is stopped, or runs
-/// the image of a load job of it; and it is untouched before its first load job is taken.
-pub fn devices_keep_stop_or_run()
-    ensures case { (jobs : List Job) (turns : List GroupTurn) (start : World) (events : List Event) (log : List LogEntry) → AllByRecursion IsGoodJob jobs → KeepsFull jobs turns start events log
-        → AtEveryMoment (IsCase (RunsJob jobs) start) events }
-    ensures untouched { (jobs : List Job) (turns : List GroupTurn) (start : World) (events : List Event) (log : List LogEntry) → AllByRecursion IsGoodJob jobs → KeepsFull jobs turns start events log
-        → IsUntouched jobs start events log }
+/// Over every fresh start, every legal list of events and every disciplined record and log: at every moment each device keeps its starting content,
+/// or is stopped, or runs the image of a load job of it; it is untouched before its first load job is taken, and from done to its next load job what
+/// it keeps stays; done is told only where the device runs the job's image; each group telegram acts on exactly the objects that the running
+/// configuration links; and no tunnelling request acts twice.
+pub fn every_interleaving()
+    ensures { EveryInterleaving }
 {}

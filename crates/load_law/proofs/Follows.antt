@@ -212,7 +212,7 @@ module _ (IsJob : Plan → Type 0) (Holds Case : NonVolatile → Type 0) (Ends :
 
   -- ---- what it promises
 
-  right_at : (w : World) (b : Books) → WorldInv w b → LoadInv w b → IsRightFor IsJob Case Ends w
+  pub right_at : (w : World) (b : Books) → WorldInv w b → LoadInv w b → IsRightFor IsJob Case Ends w
   right_at w b h l =
       record {
         case = l.case;
