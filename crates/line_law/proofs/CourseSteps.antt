@@ -21,7 +21,7 @@ use Rattle.line_model.specs.Moments.{Number, Next, Outstanding, closes_by, is_ac
 use Rattle.line_model.specs.Progress.{Reaches}
 use Rattle.session_law.proofs.Frames.{numbered_read}
 use Rattle.line_law.proofs.Reaching.{acknowledged_one}
-use Rattle.line_law.proofs.Counting.{NumberIs, ExpectedIs, LeftIs, Count}
+use Rattle.line_law.proofs.Counts.{NumberIs, ExpectedIs, LeftIs, Count}
 use Rattle.line_law.proofs.Courses.{Idle}
 
 -- ---- the end of an attempt stays ended

@@ -26,7 +26,7 @@ use Rattle.line_law.proofs.Cases.{good_job, OfDevice, Case, Ends, Any, plans_goo
 use Rattle.line_law.proofs.Courses.{WasDone, went_through}
 use Rattle.line_law.proofs.Logs.{after}
 use Rattle.line_law.proofs.Runs.{Trace, trace_legal, trace_follows}
-use Rattle.line_law.proofs.Stepping.{HeldJob}
+use Rattle.line_law.proofs.HeldJobs.{HeldJob}
 use Rattle.line_law.proofs.Told.{held_then, form_at, true_at, before_at, nothing_between, between_first, first_full, not_over}
 use Rattle.line_law.proofs.Went.{DoneBefore, stretch_at, was_at}
 
