@@ -1,29 +1,21 @@
 -- A frame of the client goes over the bus: its confirmation waits for the client, and each session sees it.
-use Rattle.std.proofs.Common.{◌≡◌, ℕ, ◌⊎◌, List, [], ◌∷◌, ◌++◌, drop, Bool, true, false, not, ◌&&◌, cond, Option, Some, None, refl, sym, ◌∙◌, ap, subst, inl, inr, append-nil, arith}
+use Rattle.std.proofs.Common.{◌≡◌, ℕ, List, [], ◌∷◌, Bool, true, false, not, ◌&&◌, cond, Option, Some, refl, ◌∙◌, ap, subst, arith}
 use Rattle.std.specs.Prelude.{◌==◌}
 use Rattle.knx_model.specs.declared.frames.cemi.Ldata.{Ldata}
-use Rattle.knx_model.specs.declared.frames.cemi.LdataCode.TheVariants.{Con}
 use Rattle.knx_model.specs.ApduReading.{option_map}
-use Rattle.knx_model.specs.Cemi.{Written as cemi_octets}
 use Rattle.knx_model.specs.DeviceState.{DeviceState}
 use Rattle.knx_model.specs.DeviceFrames.{Outcome, Whole, Torn, Worn, took_of, is_taken, takes}
 use Rattle.knx_model.specs.DeviceSending.{first_frame}
-use Rattle.line_model.specs.ClientView.{ClientChannel, Fresh, Sought, RefusedBy, Unanswered, Open, Lost, View, channel}
-use Rattle.line_model.specs.Gateway.{Gateway}
+use Rattle.line_model.specs.ClientView.{View}
 use Rattle.line_model.specs.Legal.{GoesOver, GoesSo}
-use Rattle.line_model.specs.Reading.{ldata_in, is_con}
+use Rattle.line_model.specs.Reading.{ldata_in}
 use Rattle.line_model.specs.Record.{Entry}
-use Rattle.line_model.specs.Tunnel.{with_gateway, after, carried as carried_by}
-use Rattle.line_model.specs.World.{World, Event, Bus, BusTorn, BusWorn, tunnel_event, devices_after, echo_after, me, now, Devices, on_bus, next_frame, is_among, is_confirmed, confirmation, carried, all_take, one_takes, none_if}
-use Rattle.session_law.specs.World.{World as SessionWorld, Con as Confirms}
-use Rattle.session_law.specs.Device.{carries, carries_lost, elsewhere, gets}
-use Rattle.session_law.specs.Events.{Event as SessionEvent, Bus as Carries, BusLost, Group, Elsewhere, step, MayHappen}
-use Rattle.tunnel_law.proofs.Inside.{Every}
-use Rattle.line_law.proofs.Queue.{Items, is_its, message, messages, messages_append, cons, cons_append, back, back_more}
-use Rattle.line_law.proofs.Coupled.{IsTold, Stage, Waits, OnBus, Told, Gone, Landed, Flies, Serves, FliesSo, Last, Never, Since, ChannelIs, OpenIs, JoinedIs, LastIs, Pipe, DeviceSide, PendFor, CoupledBy, Coupled, IsBus, Goes}
-use Rattle.line_law.proofs.Owned.{every_append}
-use Rattle.line_law.proofs.ReadBack.{written_in, read_range}
-use Rattle.line_law.proofs.OnBus.{goes_none, goes_one, IsOnBus, never_full, on_bus_now, open_flies, channel_flies, ConOf, cons_one, cons_more, serves_bus, told_pipe, told_world, told_kept, con_of, con_by, other_con, same_its, its_con, others_con, bus_mine, bus_lost, bus_other, bus_group}
+use Rattle.line_model.specs.Tunnel.{after}
+use Rattle.line_model.specs.World.{World, Event, Bus, BusTorn, BusWorn, tunnel_event, devices_after, echo_after, me, now, Devices, on_bus, next_frame, is_among, confirmation, carried, all_take, one_takes, none_if}
+use Rattle.session_law.specs.World.{World as SessionWorld}
+use Rattle.line_law.proofs.Queue.{Items, is_its}
+use Rattle.line_law.proofs.Coupled.{Waits, OnBus, Told, Gone, Landed, Flies, Last, Never, Since, CoupledBy, Coupled, Goes}
+use Rattle.line_law.proofs.OnBus.{IsOnBus, on_bus_now, told_world, con_of, bus_mine, bus_lost, bus_other, bus_group}
 
 -- ---- which devices take it
 

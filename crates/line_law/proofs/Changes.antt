@@ -5,21 +5,20 @@ use Rattle.knx_model.specs.declared.frames.cemi.Ldata.{Ldata}
 use Rattle.knx_model.specs.declared.frames.cemi.LdataCode.TheVariants.{Ind}
 use Rattle.knx_model.specs.DeviceState.{DeviceState, cut, switched_on}
 use Rattle.knx_model.specs.DeviceFrames.{Whole, takes, taken_again, taken_last}
-use Rattle.knx_model.specs.DeviceSending.{waiting_frame, pops, repeat_frame, repeats, shut}
+use Rattle.knx_model.specs.DeviceSending.{shut}
 use Rattle.line_model.specs.Gateway.{Gateway}
-use Rattle.line_model.specs.Legal.{OfDevice, CanRepeat}
 use Rattle.line_model.specs.Record.{Entry}
 use Rattle.line_model.specs.Tunnel.{with_gateway, after, heard as heard_by}
-use Rattle.line_model.specs.World.{World, BusAgain, DevSend, DevRepeat, DevClose, GwAgain, Cut, On, AtGateway, Comes, IsLost, Devices, me, now, frame_by, waiting_at, repeat_at, is_among, changed, all_take, others_take, or_before, heard}
+use Rattle.line_model.specs.World.{World, BusAgain, DevClose, GwAgain, Cut, On, Comes, Devices, me, now, changed, heard}
 use Rattle.session_law.specs.World.{World as SessionWorld, Ind as Tells}
 use Rattle.session_law.specs.Device.{speaks, with_device, echoes, elsewhere, gets, gets_again, and_told, or_before as or_earlier}
 use Rattle.session_law.specs.Device as session
 use Rattle.session_law.specs.Events as event
 use Rattle.tunnel_law.proofs.Inside.{Every}
 use Rattle.line_law.proofs.Queue.{Items, is_by, message, messages, messages_append, cons, cons_append, back, back_more}
-use Rattle.line_law.proofs.Coupled.{IsOwn, IsFrameOf, OwnIf, Owned, IsTold, Waits, OnBus, Told, Gone, Flight, Landed, Flies, Serves, FlightIs, Last, Never, Since, LastIs, Pipe, echo_of, DeviceSide, FlyFor, PendFor, Coupled, Goes}
-use Rattle.line_law.proofs.Owned.{every_append, waiting_owned, repeat_owned}
-use Rattle.line_law.proofs.Bus.{after_world, mapped_at, changed_at, eqb_is, is_eqb, eqb_sym}
+use Rattle.line_law.proofs.Coupled.{IsOwn, OwnIf, Owned, IsTold, Waits, OnBus, Told, Gone, Flight, Landed, Flies, Serves, FlightIs, Last, Never, Since, LastIs, Pipe, echo_of, DeviceSide, FlyFor, PendFor, Coupled, Goes}
+use Rattle.line_law.proofs.Owned.{every_append}
+use Rattle.line_law.proofs.Bus.{after_world, changed_at}
 use Rattle.line_law.proofs.OnBus.{goes_none, goes_one}
 
 -- ---- frames of devices come to the gateway

@@ -1,23 +1,19 @@
 -- In a session the record's counts are the attempt's: the number, how many services were acknowledged, and the answers.
-use Rattle.std.proofs.Common.{◌≡◌, ℕ, suc, ◌%◌, ◌<◌, ◌≤◌, ◌⊎◌, List, [], ◌∷◌, ◌++◌, reverse, length, Bool, true, false, not, ◌&&◌, cond, Option, Some, refl, sym, ◌∙◌, ap, subst, inl, inr, arith, if◌then◌else◌}
-use Rattle.std.specs.Prelude.{◌==◌}
+use Rattle.std.proofs.Common.{◌≡◌, ℕ, suc, ◌%◌, ◌≤◌, ◌⊎◌, List, [], ◌∷◌, ◌++◌, reverse, length, Bool, true, false, ◌&&◌, cond, Option, Some, refl, sym, ◌∙◌, ap, subst, inl, inr, arith}
 use Rattle.std.proofs.lemmas.List.{reverse-append}
 use Rattle.std.proofs.lemmas.Slice.Eq.{bytes_eq-Decides}
 use Rattle.knx_model.specs.declared.connection.ClientTook.{ClientTook}
 use Rattle.knx_model.specs.declared.connection.ClientTook.TheVariants as heard
-use Rattle.knx_model.specs.declared.connection.TransportFrame.{TransportFrame}
-use Rattle.knx_model.specs.declared.connection.TransportFrame.TheVariants.{Connect, Disconnect, Ack, Nak, Numbered, Other}
 use Rattle.knx_model.specs.declared.plan.Expect.{Expect}
 use Rattle.knx_model.specs.declared.plan.Expect.TheVariants.{AckOnly, Is, Note}
-use Rattle.knx_model.specs.ClientConnection.{ClientEnd, Asked, Up, Asking, Awaiting, Ended, Question, client_took, up_took, asking_took, client_after, client_stayed, client_answered, client_acknowledged}
-use Rattle.knx_model.specs.Connection.{Session, frame_in, next_number, acknowledged}
-use Rattle.knx_model.specs.GoodPlan.{awaits_answer}
+use Rattle.knx_model.specs.ClientConnection.{ClientEnd, Asked, Up, Asking, Awaiting, Ended, client_after, client_answered}
+use Rattle.knx_model.specs.Connection.{Session, next_number}
 use Rattle.knx_model.specs.Plans.{Plan, Asks as Operation, Suits, followed}
-use Rattle.line_model.specs.Attempts.{Attempt, Attempts, Resting, Running, awaits, with_reply, owing, heard_attempt}
-use Rattle.line_model.specs.Moments.{Number, Next, Outstanding, number_heard, closes_by, is_acknowledged, answer_expected}
+use Rattle.line_model.specs.Attempts.{Attempt, awaits, with_reply, owing, heard_attempt}
+use Rattle.line_model.specs.Moments.{Number}
 use Rattle.line_model.specs.Progress.{Reaches, suits}
 use Rattle.line_law.proofs.Reaching.{Texts, too_many, answered_one, suits_next}
-use Rattle.line_law.proofs.Counts.{NumberIs, ExpectedIs, AwaitsOne, LeftIs, Spoilt, NotEnd, Count, CountIs, Effect, Drops, Agains, Naks, Acks, Answers, data_by, numbered_effect, not_false, ack_dropped, up_effect, own_ack, asking_effect, heard_effect, stayed_number, stayed_expected, stayed_awaits, stayed_count, acked_by, acked_expected, acked_awaits, acked_count}
+use Rattle.line_law.proofs.Counts.{NumberIs, ExpectedIs, AwaitsOne, LeftIs, Spoilt, Count, CountIs, Effect, Drops, Agains, Naks, Acks, Answers, stayed_count, acked_count}
 
 -- ---- an answer
 

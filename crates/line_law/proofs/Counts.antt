@@ -1,22 +1,19 @@
 -- How the record's count of a session stands beside its attempt.
-use Rattle.std.proofs.Common.{◌≡◌, ℕ, suc, ◌%◌, ◌<◌, ◌≤◌, ◌⊎◌, List, [], ◌∷◌, ◌++◌, reverse, length, Bool, true, false, not, ◌&&◌, cond, Option, Some, refl, sym, ◌∙◌, ap, subst, inl, inr, arith, if◌then◌else◌}
+use Rattle.std.proofs.Common.{◌≡◌, ℕ, suc, ◌%◌, ◌<◌, ◌≤◌, List, ◌∷◌, ◌++◌, reverse, length, Bool, true, false, not, ◌&&◌, cond, Option, Some, refl, sym, ◌∙◌, ap, subst, arith, if◌then◌else◌}
 use Rattle.std.specs.Prelude.{◌==◌}
-use Rattle.std.proofs.lemmas.List.{reverse-append}
-use Rattle.std.proofs.lemmas.Slice.Eq.{bytes_eq-Decides}
 use Rattle.knx_model.specs.declared.connection.ClientTook.{ClientTook}
 use Rattle.knx_model.specs.declared.connection.ClientTook.TheVariants as heard
 use Rattle.knx_model.specs.declared.connection.TransportFrame.{TransportFrame}
 use Rattle.knx_model.specs.declared.connection.TransportFrame.TheVariants.{Connect, Disconnect, Ack, Nak, Numbered, Other}
 use Rattle.knx_model.specs.declared.plan.Expect.{Expect}
-use Rattle.knx_model.specs.declared.plan.Expect.TheVariants.{AckOnly, Is, Note}
-use Rattle.knx_model.specs.ClientConnection.{ClientEnd, Asked, Up, Asking, Awaiting, Ended, Question, client_took, up_took, asking_took, client_after, client_stayed, client_answered, client_acknowledged}
+use Rattle.knx_model.specs.ClientConnection.{ClientEnd, Asked, Up, Asking, Awaiting, Ended, Question, client_took, up_took, asking_took, client_stayed, client_acknowledged}
 use Rattle.knx_model.specs.Connection.{Session, frame_in, next_number, acknowledged}
 use Rattle.knx_model.specs.GoodPlan.{awaits_answer}
-use Rattle.knx_model.specs.Plans.{Plan, Asks as Operation, Suits, followed}
-use Rattle.line_model.specs.Attempts.{Attempt, Attempts, Resting, Running, awaits, with_reply, owing, heard_attempt}
+use Rattle.knx_model.specs.Plans.{Plan, Asks as Operation}
+use Rattle.line_model.specs.Attempts.{Attempt, Attempts, Resting, Running, awaits}
 use Rattle.line_model.specs.Moments.{Number, Next, Outstanding, number_heard, closes_by, is_acknowledged, answer_expected}
-use Rattle.line_model.specs.Progress.{Reaches, suits}
-use Rattle.line_law.proofs.Reaching.{Texts, too_many, answered_one, suits_next}
+use Rattle.line_model.specs.Progress.{Reaches}
+use Rattle.line_law.proofs.Reaching.{Texts}
 
 -- ---- counts
 

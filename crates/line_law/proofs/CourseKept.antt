@@ -1,24 +1,24 @@
 -- Each moment keeps what the record says of a session beside what it says of the attempt.
-use Rattle.std.proofs.Common.{◌≡◌, ℕ, suc, List, [], ◌∷◌, drop, reverse, length, Bool, true, false, ◌||◌, cond, Option, Some, None, refl, sym, ◌∙◌, ap, subst, inl, inr, arith, if◌then◌else◌}
+use Rattle.std.proofs.Common.{◌≡◌, ℕ, suc, List, [], ◌∷◌, drop, reverse, length, Bool, true, false, ◌||◌, cond, Option, Some, None, refl, sym, ◌∙◌, ap, subst, if◌then◌else◌}
 use Rattle.knx_model.specs.declared.address.IndAddr.{IndAddr}
 use Rattle.knx_model.specs.declared.connection.ClientTook.{ClientTook}
 use Rattle.knx_model.specs.declared.connection.ClientTook.TheVariants as heard
 use Rattle.knx_model.specs.declared.connection.TransportFrame.{TransportFrame}
 use Rattle.knx_model.specs.declared.connection.TransportFrame.TheVariants.{Connect, Disconnect, Ack, Nak, Numbered, Other}
-use Rattle.knx_model.specs.ClientConnection.{ClientEnd, Asked, Up, Asking, Awaiting, Ended, client_took, client_stayed, client_expired, after_confirmed}
+use Rattle.knx_model.specs.ClientConnection.{ClientEnd, Ended, client_took, client_stayed, client_expired}
 use Rattle.knx_model.specs.Connection.{frame_in}
 use Rattle.knx_model.specs.GoodPlan.{IsSendable}
 use Rattle.knx_model.specs.Plans.{Plan, Over}
-use Rattle.line_model.specs.Attempts.{Attempt, Attempts, Resting, Running, begun, awaits, aged, put_so, put_attempt, confirmed_so, confirmed_attempt, landed, heard_so, heard_attempt, is_silent, attempts, attempts_after, MayPut, MayAsk}
+use Rattle.line_model.specs.Attempts.{Attempt, Attempts, Resting, Running, begun, aged, put_so, put_attempt, confirmed_so, confirmed_attempt, heard_so, heard_attempt, is_silent, attempts, attempts_after, MayPut}
 use Rattle.line_model.specs.Moments.{Moment, confirmation_in, put_to, heard_from, Number, Next, number_put, number_heard, number, is_disconnect, closes_by, is_loss, ends_session, is_connect, grown, stretches, Course, Unconfirmed, WithError, InSession, Left, course_from, course_after, course, is_acknowledged, acknowledged, answer_expected, answers}
 use Rattle.line_model.specs.Progress.{Reaches}
 use Rattle.line_model.specs.Told.{WentThrough}
 use Rattle.line_law.proofs.Counting.{heard_count}
-use Rattle.line_law.proofs.Counts.{NumberIs, ExpectedIs, LeftIs, NotEnd, Count, CountIs, stayed_count, heard_effect}
+use Rattle.line_law.proofs.Counts.{Count, CountIs, stayed_count, heard_effect}
 use Rattle.line_law.proofs.Courses.{Kind, Lost, Plain, Put, Confirmed, Hears, NotService, WasDone, Now, Later, Begun, Idle, AtRest, CourseIs, StretchIs, done_now}
 use Rattle.line_model.specs.Attempts.{first, put_other}
 use Rattle.line_law.proofs.CourseSteps.{ended_confirmed, ended_took, asked_took, Closes, end_closes, closed_idle, numbered_count, ended_asks}
-use Rattle.line_law.proofs.Landing.{confirmed_none, heard_none, aged_count, aged_idle, aged_begun, aged_rest, landed_number, landed_expected, landed_awaits, landed_count, con_count, begun_count, Allowed, aged_allowed, Free, PutsSo}
+use Rattle.line_law.proofs.Landing.{confirmed_none, heard_none, aged_count, aged_idle, aged_begun, aged_rest, con_count, begun_count, Allowed, aged_allowed, Free, PutsSo}
 
 module _ (a : ℕ) (device : IndAddr) (plan : Plan) (can : IsSendable plan) (m : Moment) (l : List Moment) where
   abbrev t : Attempts

@@ -1,19 +1,19 @@
 -- The gateway's channel goes on, or is closed.
-use Rattle.std.proofs.Common.{◌≡◌, ℕ, suc, ◌<◌, ◌≤◌, ◌⊎◌, List, [], ◌∷◌, ◌++◌, take, length, Option, Some, None, refl, sym, ◌∙◌, ap, subst, inl, inr, arith}
+use Rattle.std.proofs.Common.{◌≡◌, ℕ, suc, ◌⊎◌, List, [], ◌∷◌, ◌++◌, take, length, Option, Some, None, refl, sym, ◌∙◌, ap, subst, inl, inr, arith}
 use Rattle.knx_model.specs.declared.address.IndAddr.{IndAddr}
 use Rattle.knx_model.specs.declared.frames.cemi.Ldata.{Ldata}
-use Rattle.line_model.specs.ActedOnce.{Has, in_channel, IsChannelOf}
-use Rattle.line_model.specs.ClientView.{ClientChannel, Fresh, Sought, RefusedBy, Unanswered, Open, Lost, View, channel, views}
-use Rattle.line_model.specs.Gateway.{Channel, Gateway, number_of, newest_place}
+use Rattle.line_model.specs.ActedOnce.{in_channel}
+use Rattle.line_model.specs.ClientView.{ClientChannel, View, channel}
+use Rattle.line_model.specs.Gateway.{Channel, Gateway}
 use Rattle.line_model.specs.Record.{Entry}
 use Rattle.line_model.specs.Tunnel.{with_gateway}
 use Rattle.line_model.specs.World.{World, me}
 use Rattle.session_law.specs.World.{World as SessionWorld, Message}
 use Rattle.session_law.specs.Device.{drops}
 use Rattle.session_law.specs.Events.{Drops}
-use Rattle.tunnel_law.proofs.Inside.{Every, every_map, has_below}
+use Rattle.tunnel_law.proofs.Inside.{Every}
 use Rattle.line_law.proofs.Queue.{Items, messages, messages_append, cons, cons_append, back, back_none, take_front, none_front}
-use Rattle.line_law.proofs.Coupled.{IsTold, Stage, Waits, OnBus, Told, Gone, Flight, Landed, Flies, NotServing, Serves, FliesSo, FlightIs, Last, Never, Since, IsLater, ChannelIs, JoinedIs, NeverIs, LastIs, FlyFor, InFlight, CoupledBy, Coupled, Goes}
+use Rattle.line_law.proofs.Coupled.{IsTold, Stage, Waits, OnBus, Told, Gone, Flight, Landed, Flies, NotServing, Serves, FliesSo, FlightIs, Last, Never, Since, ChannelIs, JoinedIs, NeverIs, LastIs, FlyFor, InFlight, CoupledBy, Coupled, Goes}
 use Rattle.line_law.proofs.Owned.{every_front}
 use Rattle.line_law.proofs.OnBus.{goes_one, channel_flies}
 

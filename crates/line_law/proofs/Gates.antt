@@ -1,22 +1,16 @@
 -- What happens at the gateway alone: it closes its channel, makes the next one, acts on a request, and puts its oldest frame for the client.
-use Rattle.std.proofs.Common.{◌≡◌, ℕ, suc, ◌<◌, ◌≤◌, ◌⊎◌, List, [], ◌∷◌, ◌++◌, take, length, Option, Some, None, refl, sym, ◌∙◌, ap, subst, inl, inr, arith}
-use Rattle.knx_model.specs.declared.address.IndAddr.{IndAddr}
+use Rattle.std.proofs.Common.{◌≡◌, ℕ, ◌<◌, ◌≤◌, ◌⊎◌, List, [], ◌∷◌, length, Some, None, refl, sym, ◌∙◌, ap, subst, inl, inr, arith}
 use Rattle.knx_model.specs.declared.frames.cemi.Ldata.{Ldata}
-use Rattle.line_model.specs.ActedOnce.{Has, in_channel, IsChannelOf}
+use Rattle.line_model.specs.ActedOnce.{Has, IsChannelOf}
 use Rattle.line_model.specs.ClientView.{ClientChannel, Fresh, Sought, RefusedBy, Unanswered, Open, Lost, View, channel, views}
 use Rattle.line_model.specs.Gateway.{Channel, Gateway, number_of, newest_place}
 use Rattle.line_model.specs.Record.{Entry}
-use Rattle.line_model.specs.Tunnel.{with_gateway}
-use Rattle.line_model.specs.World.{World, me}
-use Rattle.session_law.specs.World.{World as SessionWorld, Message}
-use Rattle.session_law.specs.Device.{drops}
-use Rattle.session_law.specs.Events.{Drops}
-use Rattle.tunnel_law.proofs.Inside.{Every, every_map, has_below}
-use Rattle.line_law.proofs.Queue.{Items, messages, messages_append, cons, cons_append, back, back_none, take_front, none_front}
-use Rattle.line_law.proofs.Coupled.{IsTold, Stage, Waits, OnBus, Told, Gone, Flight, Landed, Flies, NotServing, Serves, FliesSo, FlightIs, Last, Never, Since, IsLater, ChannelIs, JoinedIs, NeverIs, LastIs, FlyFor, InFlight, CoupledBy, Coupled, Goes}
-use Rattle.line_law.proofs.Owned.{every_front}
-use Rattle.line_law.proofs.OnBus.{goes_one, channel_flies}
-use Rattle.line_law.proofs.GateCloses.{gate_world, flight_to, SameOpen, stays_open, stays_none, with_channel, channel_serving, channel_last, channel_kept, shut_gate, front_cons, ShutFlight, gone, one_or_none, shut_flight, shut_coming, shut_told, shut_by, shut_kept}
+use Rattle.line_model.specs.World.{World}
+use Rattle.session_law.specs.World.{World as SessionWorld}
+use Rattle.tunnel_law.proofs.Inside.{every_map, has_below}
+use Rattle.line_law.proofs.Queue.{Items, cons, back}
+use Rattle.line_law.proofs.Coupled.{Flight, Serves, Last, Never, Since, IsLater, ChannelIs, LastIs, Coupled}
+use Rattle.line_law.proofs.GateCloses.{gate_world, flight_to}
 
 -- ---- it makes the next channel
 

@@ -1,49 +1,26 @@
 -- The job of a device that is held, and its attempts.
-use Rattle.std.proofs.Common.{◌≡◌, ℕ, suc, ◌⊎◌, List, [], ◌∷◌, Bool, true, false, not, ◌&&◌, cond, Option, Some, None, refl, sym, ◌∙◌, ap, subst, inl, inr, arith}
-use Rattle.std.specs.Prelude.{◌==◌, is_some}
-use Rattle.knx_model.specs.declared.frames.cemi.Ldata.{Ldata}
-use Rattle.knx_model.specs.Connection.{frame_in}
-use Rattle.knx_model.specs.GoodPlan.{IsSendable}
+use Rattle.std.proofs.Common.{◌≡◌, ℕ, ◌⊎◌, List, Bool, true, false, not, ◌&&◌, Option, Some, refl, sym, arith}
+use Rattle.std.specs.Prelude.{◌==◌}
 use Rattle.knx_model.specs.Plans.{Plan}
-use Rattle.line_model.specs.declared.group.GroupTurn.{GroupTurn}
 use Rattle.line_model.specs.declared.log.LogEntry.{LogEntry}
-use Rattle.line_model.specs.ActedOnce.{IsActedOnce}
-use Rattle.line_model.specs.Asks.{IsRightRequest, IsRightDeed, IsOfJob, IsQuiet, HasPlace}
-use Rattle.line_model.specs.Attempts.{Attempts, Resting, Running, aged, attempts, attempts_after, MayPut}
-use Rattle.line_model.specs.ChannelLost.{confirmed, is_new_request, is_confirmation}
-use Rattle.line_model.specs.ClientView.{ClientChannel, Open, Lost, Deed, View, or_number, channel, deed, views}
-use Rattle.line_model.specs.ClientView as view
+use Rattle.line_model.specs.Attempts.{Attempts, Resting, Running, aged, attempts, attempts_after}
+use Rattle.line_model.specs.ClientView.{ClientChannel, Open, or_number}
 use Rattle.line_model.specs.Log.{Job, Held, job_of, state_of}
-use Rattle.line_model.specs.Moments.{Moment, moments, where_is, put_frame}
-use Rattle.line_model.specs.Reading.{ldata_in, is_req}
-use Rattle.line_model.specs.Record.{Entry, Placed, entries, is_renewal}
-use Rattle.line_model.specs.Told.{PutsTurn}
-use Rattle.line_model.specs.World.{World, me}
+use Rattle.line_model.specs.Moments.{Moment}
+use Rattle.line_model.specs.Record.{Entry}
+use Rattle.line_model.specs.World.{World}
 use Rattle.session_law.specs.World.{World as SessionWorld, Client}
-use Rattle.session_law.specs.Events.{Event as SessionEvent, step, replay, IsLegal}
-use Rattle.session_law.specs.Events as event
-use Rattle.load_law.specs.Download.{MayAsk, Follows, IsSilent, AsksNothing}
-use Rattle.tunnel_law.proofs.Fits.{books}
-use Rattle.tunnel_law.proofs.Took.{InvT}
-use Rattle.line_law.proofs.Queue.{is_its}
-use Rattle.line_law.proofs.Coupled.{IsOut, is_open, Coupled}
-use Rattle.line_law.proofs.Entries.{HeadView, Moves, Outside, Goes, Stays, still_kept, lost_kept}
-use Rattle.line_law.proofs.Entering.{number_stays, number_by, Brings, views_stay, UpPlace, up_place, Still, Turn, IsStill, IsLost, Joins, Puts, Takes}
-use Rattle.line_law.proofs.Turning.{turn}
-use Rattle.line_law.proofs.Joining.{joins_kept}
-use Rattle.line_law.proofs.Opened.{PutsSo, put_kept, is_free}
-use Rattle.line_law.proofs.Takes.{take_kept}
-use Rattle.line_law.proofs.TakesAny.{client_told, TakesGoes}
+use Rattle.session_law.specs.Events.{Event as SessionEvent, replay, IsLegal}
+use Rattle.load_law.specs.Download.{Follows, AsksNothing}
+use Rattle.line_law.proofs.Coupled.{Coupled}
+use Rattle.line_law.proofs.Entries.{Moves, Outside, Goes, Stays}
+use Rattle.line_law.proofs.Entering.{number_stays}
 use Rattle.knx_model.specs.declared.connection.TransportFrame.{TransportFrame}
-use Rattle.knx_model.specs.declared.connection.TransportFrame.TheVariants.{Connect, Disconnect, Ack, Nak, Numbered, Other}
-use Rattle.line_model.specs.Moments.{put_to, transport_of, is_to}
+use Rattle.line_model.specs.Moments.{put_to}
 use Rattle.line_law.proofs.Attempting.{IsService, AttemptIs}
-use Rattle.line_law.proofs.Courses.{NotService}
-use Rattle.line_law.proofs.Landing.{Free, PutsSo as PutsAllowed}
-use Rattle.line_law.proofs.Telling.{aged_runs, take_attempt, still_attempt, lost_attempt, none_runs}
-use Rattle.line_law.proofs.Asking.{asks_kept}
-use Rattle.line_law.proofs.Requests.{PutsGoes, other_step}
-use Rattle.line_law.proofs.Logs.{AreUpto, after, between_is, upto_more}
+use Rattle.line_law.proofs.Landing.{PutsSo as PutsAllowed}
+use Rattle.line_law.proofs.Telling.{aged_runs}
+use Rattle.line_law.proofs.Logs.{after}
 
 -- ---- the job of a device that is held
 

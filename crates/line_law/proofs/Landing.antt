@@ -1,23 +1,15 @@
 -- The time, and a confirmation, beside what the record says of a session.
-use Rattle.std.proofs.Common.{◌≡◌, ℕ, suc, List, [], ◌∷◌, drop, reverse, length, Bool, true, false, ◌||◌, cond, Option, Some, None, refl, sym, ◌∙◌, ap, subst, inl, inr, arith, if◌then◌else◌}
+use Rattle.std.proofs.Common.{◌≡◌, ℕ, List, [], reverse, length, Bool, true, false, Option, Some, None, refl, sym, ◌∙◌, subst, inl, inr, arith}
 use Rattle.knx_model.specs.declared.address.IndAddr.{IndAddr}
-use Rattle.knx_model.specs.declared.connection.ClientTook.{ClientTook}
-use Rattle.knx_model.specs.declared.connection.ClientTook.TheVariants as heard
 use Rattle.knx_model.specs.declared.connection.TransportFrame.{TransportFrame}
 use Rattle.knx_model.specs.declared.connection.TransportFrame.TheVariants.{Connect, Disconnect, Ack, Nak, Numbered, Other}
-use Rattle.knx_model.specs.ClientConnection.{ClientEnd, Asked, Up, Asking, Awaiting, Ended, client_took, client_stayed, client_expired, after_confirmed}
+use Rattle.knx_model.specs.ClientConnection.{ClientEnd, Asked, Up, Asking, Awaiting, Ended, after_confirmed}
 use Rattle.knx_model.specs.Connection.{frame_in}
-use Rattle.knx_model.specs.GoodPlan.{IsSendable}
-use Rattle.knx_model.specs.Plans.{Plan, Over}
-use Rattle.line_model.specs.Attempts.{Attempt, Attempts, Resting, Running, begun, awaits, aged, put_so, put_attempt, confirmed_so, confirmed_attempt, landed, heard_so, heard_attempt, is_silent, attempts, attempts_after, MayPut, MayAsk}
-use Rattle.line_model.specs.Moments.{Moment, confirmation_in, put_to, heard_from, Number, Next, number_put, number_heard, number, is_disconnect, closes_by, is_loss, ends_session, is_connect, grown, stretches, Course, Unconfirmed, WithError, InSession, Left, course_from, course_after, course, is_acknowledged, acknowledged, answer_expected, answers}
-use Rattle.line_model.specs.Progress.{Reaches}
-use Rattle.line_model.specs.Told.{WentThrough}
-use Rattle.line_law.proofs.Counting.{heard_count}
-use Rattle.line_law.proofs.Counts.{NumberIs, ExpectedIs, LeftIs, NotEnd, Count, CountIs, stayed_count, heard_effect}
-use Rattle.line_law.proofs.Courses.{Kind, Lost, Plain, Put, Confirmed, Hears, NotService, WasDone, Now, Later, Begun, Idle, AtRest, CourseIs, StretchIs, done_now}
-use Rattle.line_model.specs.Attempts.{first, put_other}
-use Rattle.line_law.proofs.CourseSteps.{ended_confirmed, ended_took, asked_took, Closes, end_closes, closed_idle, numbered_count, ended_asks}
+use Rattle.knx_model.specs.Plans.{Plan}
+use Rattle.line_model.specs.Attempts.{Attempt, Attempts, Resting, Running, awaits, aged, confirmed_so, confirmed_attempt, landed, heard_so, MayPut, MayAsk}
+use Rattle.line_model.specs.Moments.{Number, Next}
+use Rattle.line_law.proofs.Counts.{NumberIs, ExpectedIs, LeftIs, NotEnd, Count, CountIs}
+use Rattle.line_law.proofs.Courses.{Begun, Idle, AtRest}
 
 -- ---- the time alone
 

@@ -1,20 +1,16 @@
 -- A frame goes over the bus: what each session sees of it.
-use Rattle.std.proofs.Common.{◌≡◌, ℕ, ◌⊎◌, List, [], ◌∷◌, ◌++◌, drop, Bool, true, false, not, ◌&&◌, cond, Option, Some, None, refl, sym, ◌∙◌, ap, subst, inl, inr, append-nil, arith}
+use Rattle.std.proofs.Common.{◌≡◌, ℕ, ◌⊎◌, List, [], ◌∷◌, ◌++◌, drop, Bool, true, false, not, ◌&&◌, Option, Some, None, refl, sym, ◌∙◌, ap, subst, inl, inr, append-nil}
 use Rattle.std.specs.Prelude.{◌==◌}
 use Rattle.knx_model.specs.declared.frames.cemi.Ldata.{Ldata}
 use Rattle.knx_model.specs.declared.frames.cemi.LdataCode.TheVariants.{Con}
-use Rattle.knx_model.specs.ApduReading.{option_map}
 use Rattle.knx_model.specs.Cemi.{Written as cemi_octets}
-use Rattle.knx_model.specs.DeviceState.{DeviceState}
-use Rattle.knx_model.specs.DeviceFrames.{Outcome, Whole, Torn, Worn, took_of, is_taken, takes}
-use Rattle.knx_model.specs.DeviceSending.{first_frame}
+use Rattle.knx_model.specs.DeviceFrames.{Outcome, Whole, took_of, is_taken, takes}
 use Rattle.line_model.specs.ClientView.{ClientChannel, Fresh, Sought, RefusedBy, Unanswered, Open, Lost, View, channel}
 use Rattle.line_model.specs.Gateway.{Gateway}
-use Rattle.line_model.specs.Legal.{GoesOver, GoesSo}
 use Rattle.line_model.specs.Reading.{ldata_in, is_con}
 use Rattle.line_model.specs.Record.{Entry}
-use Rattle.line_model.specs.Tunnel.{with_gateway, after, carried as carried_by}
-use Rattle.line_model.specs.World.{World, Event, Bus, BusTorn, BusWorn, tunnel_event, devices_after, echo_after, me, now, Devices, on_bus, next_frame, is_among, is_confirmed, confirmation, carried, all_take, one_takes, none_if}
+use Rattle.line_model.specs.Tunnel.{with_gateway, carried as carried_by}
+use Rattle.line_model.specs.World.{World, me, now, Devices, on_bus, is_confirmed, confirmation}
 use Rattle.session_law.specs.World.{World as SessionWorld, Con as Confirms}
 use Rattle.session_law.specs.Device.{carries, carries_lost, elsewhere, gets}
 use Rattle.session_law.specs.Events.{Event as SessionEvent, Bus as Carries, BusLost, Group, Elsewhere, step, MayHappen}

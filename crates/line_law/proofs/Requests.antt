@@ -1,36 +1,25 @@
 -- What a job's attempt puts to its device.
-use Rattle.std.proofs.Common.{◌≡◌, ℕ, suc, ◌+◌, ◌%◌, ◌⊎◌, List, [], ◌∷◌, drop, length, Bool, true, false, ◌&&◌, ◌||◌, cond, Option, Some, None, refl, sym, ◌∙◌, ap, subst, inl, inr, arith, if◌then◌else◌}
+use Rattle.std.proofs.Common.{◌≡◌, ℕ, ◌+◌, ◌%◌, ◌⊎◌, List, [], ◌∷◌, length, Bool, true, false, ◌&&◌, cond, Option, Some, None, refl, sym, ◌∙◌, ap, inl, inr, arith, if◌then◌else◌}
 use Rattle.std.specs.Prelude.{◌==◌, is_some, nat_le, nat_lt}
 use Rattle.knx_model.specs.declared.address.IndAddr.{IndAddr}
-use Rattle.knx_model.specs.declared.connection.ClientExpired.{ClientExpired}
-use Rattle.knx_model.specs.declared.connection.ClientExpired.TheVariants as over
 use Rattle.knx_model.specs.declared.connection.TransportFrame.{TransportFrame}
 use Rattle.knx_model.specs.declared.connection.TransportFrame.TheVariants.{Connect, Disconnect, Ack, Nak, Numbered, Other}
 use Rattle.knx_model.specs.declared.frames.cemi.Ldata.{Ldata}
 use Rattle.knx_model.specs.declared.frames.tpdu.Tpdu.TheVariants as tpdu
-use Rattle.knx_model.specs.declared.plan.Expect.{Expect}
-use Rattle.knx_model.specs.declared.plan.Expect.TheVariants.{AckOnly, Is, Note}
 use Rattle.knx_model.specs.Apdu.{Written, most_octets}
-use Rattle.knx_model.specs.ClientConnection.{ClientEnd, Asked, Up, Asking, Awaiting, Ended, Question, awaits_nothing, client_sent, after_send, client_asked, client_stayed, client_expired, after_overdue, client_repeated, has_answer}
-use Rattle.knx_model.specs.Connection.{Session, IsApdu, control_frame, frame_in, disconnect}
+use Rattle.knx_model.specs.Connection.{control_frame, frame_in, disconnect}
 use Rattle.knx_model.specs.DeviceFrames.{own_frame}
-use Rattle.knx_model.specs.GoodPlan.{IsSendable, awaits_answer}
-use Rattle.knx_model.specs.Plans.{Plan, Asks as Operation}
-use Rattle.line_model.specs.Attempts.{Attempt, Attempts, Resting, Running, first, sent_of, sends_numbered, put_so, is_silent, aged, confirmed_so, heard_so, attempts_after, MayPut, MayAsk as MayAskSo, IsNext, Owes}
+use Rattle.knx_model.specs.Plans.{Plan}
+use Rattle.line_model.specs.Attempts.{Attempts, Resting, Running, put_so, aged, confirmed_so, heard_so, attempts_after}
 use Rattle.line_model.specs.ClientView as view
 use Rattle.line_model.specs.Moments.{where_is, transport_of, is_to}
 use Rattle.line_model.specs.Reading.{ldata_in, is_req}
 use Rattle.line_model.specs.World.{on_bus}
 use Rattle.session_law.specs.World.{World as SessionWorld}
-use Rattle.session_law.specs.Client.{asks_so, waits_so, replies_so}
-use Rattle.session_law.specs.Events.{Event as SessionEvent, Connects, Asks, Waits, Replies, Leaves, step, MayHappen}
-use Rattle.load_law.specs.Download.{Went, Acknowledged, IsSilent, MayAsk}
-use Rattle.load_law.proofs.Walked.{sendable}
-use Rattle.line_law.proofs.Queue.{is_its}
+use Rattle.session_law.specs.Events.{Event as SessionEvent, step, MayHappen}
+use Rattle.load_law.specs.Download.{IsSilent, MayAsk}
 use Rattle.line_law.proofs.Opened.{PutBy}
-use Rattle.line_law.proofs.Attempting.{NotConnect, IsService, FlyFits, Stands, InPlan, IsWith, Runs, AttemptIs}
-use Rattle.line_law.proofs.Hearing.{stayed_with, stayed_stands}
-use Rattle.line_law.proofs.Telling.{aged_runs}
+use Rattle.line_law.proofs.Attempting.{AttemptIs}
 use Rattle.line_law.proofs.Courses.{NotService}
 
 -- ---- the octets of a T_Connect and of a T_Disconnect

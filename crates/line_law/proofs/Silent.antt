@@ -1,21 +1,13 @@
 -- A device without power, put where there is none: nothing on the line changes by it. So what is told of a device that isn't there isn't so.
-use Rattle.std.proofs.Common.{◌≡◌, ◌≢◌, ℕ, List, [], ◌∷◌, length, Bool, true, false, not, ◌&&◌, ◌||◌, cond, Option, Some, None, refl, sym, ◌∙◌, ap, subst, arith, if◌then◌else◌}
+use Rattle.std.proofs.Common.{◌≡◌, ℕ, List, [], ◌∷◌, length, Bool, true, false, cond, Option, Some, None, refl, sym, ◌∙◌, ap, subst, arith, if◌then◌else◌}
 use Rattle.std.specs.Prelude.{◌==◌}
-use Rattle.knx_model.specs.declared.frames.cemi.Ldata.{Ldata}
-use Rattle.knx_model.specs.declared.frames.cemi.LdataCode.TheVariants.{Con}
-use Rattle.knx_model.specs.ApduReading.{option_map}
-use Rattle.knx_model.specs.DeviceState.{DeviceState, device_with}
-use Rattle.knx_model.specs.DeviceFrames.{Outcome, Whole, Torn, Worn, takes}
-use Rattle.knx_model.specs.DeviceSending.{waiting_frame, repeat_frame, pops}
+use Rattle.knx_model.specs.DeviceState.{DeviceState}
 use Rattle.line_model.specs.Fresh.{IsFresh, IsAtRest}
-use Rattle.line_model.specs.Legal.{OfDevice, GoesSo, DevicesAllow, MayHappen, IsLegal}
-use Rattle.line_model.specs.Record.{noted, record_of, placed_if, placed, item_of, item_at}
-use Rattle.line_model.specs.Tunnel as tunnel
-use Rattle.line_model.specs.Tunnel.{TunnelEvent, Commissions}
-use Rattle.line_model.specs.World.{World, Event, Send, From, Renew, Up, UpRefused, Down, LoseUp, LoseDown, Bus, BusTorn, BusWorn, BusAgain, DevSend, DevRepeat, DevClose, GwAgain, GwRepeat, GwClose, Cut, On, Pass, Devices, now, next_frame, frame_by, waiting_at, is_among, takes_it, carried, heard, tunnel_event, changed, all_take, one_takes, others_take, devices_after, or_before, echo_after, step, replay}
-use Rattle.line_law.proofs.Runs.{none_step}
-use Rattle.line_law.proofs.Told.{empty_device}
-use Rattle.line_law.proofs.Unpowered.{silent, with_devices, Beside, eqb_is, elsewhere, elsewhere_some, of_same, some_same, takes_same, carried_same, waiting_same, event_same, echo_same, allowed_by, allowed_same, may_same, item_same, step_same, changed_same, all_same, one_same, others_same, devices_same, flip, unchanged, all_silent, one_silent, others_silent, still_silent, beside_step}
+use Rattle.line_model.specs.Legal.{DevicesAllow, MayHappen, IsLegal}
+use Rattle.line_model.specs.Record.{noted, record_of, placed_if, placed, item_at}
+use Rattle.line_model.specs.Tunnel.{Commissions}
+use Rattle.line_model.specs.World.{World, Event, Devices, now, devices_after, step, replay}
+use Rattle.line_law.proofs.Unpowered.{silent, with_devices, Beside, eqb_is, may_same, item_same, step_same, beside_step}
 
 -- ---- a whole run
 

@@ -1,5 +1,5 @@
 -- An entry of the record that is no renewal: the session follows it, and so do the attempts of the job that is held.
-use Rattle.std.proofs.Common.{◌≡◌, ℕ, suc, ◌⊎◌, List, [], ◌∷◌, Bool, true, false, not, ◌&&◌, cond, Option, Some, None, refl, sym, ◌∙◌, ap, subst, inl, inr, arith}
+use Rattle.std.proofs.Common.{◌≡◌, ℕ, suc, ◌⊎◌, List, [], ◌∷◌, Bool, true, false, not, ◌&&◌, cond, Option, Some, None, refl, sym, ◌∙◌, ap, subst, inl, inr}
 use Rattle.std.specs.Prelude.{◌==◌, is_some}
 use Rattle.knx_model.specs.declared.frames.cemi.Ldata.{Ldata}
 use Rattle.knx_model.specs.Connection.{frame_in}
@@ -9,11 +9,11 @@ use Rattle.line_model.specs.declared.group.GroupTurn.{GroupTurn}
 use Rattle.line_model.specs.declared.log.LogEntry.{LogEntry}
 use Rattle.line_model.specs.ActedOnce.{IsActedOnce}
 use Rattle.line_model.specs.Asks.{IsRightRequest, IsRightDeed, IsOfJob, IsQuiet, HasPlace}
-use Rattle.line_model.specs.Attempts.{Attempts, Resting, Running, aged, attempts, attempts_after, MayPut}
+use Rattle.line_model.specs.Attempts.{Attempts, Resting, Running, attempts, attempts_after, MayPut}
 use Rattle.line_model.specs.ChannelLost.{confirmed, is_new_request, is_confirmation}
 use Rattle.line_model.specs.ClientView.{ClientChannel, Open, Lost, Deed, View, or_number, channel, deed, views}
 use Rattle.line_model.specs.ClientView as view
-use Rattle.line_model.specs.Log.{Job, Held, job_of, state_of}
+use Rattle.line_model.specs.Log.{Job}
 use Rattle.line_model.specs.Moments.{Moment, moments, where_is, put_frame}
 use Rattle.line_model.specs.Reading.{ldata_in, is_req}
 use Rattle.line_model.specs.Record.{Entry, Placed, entries, is_renewal}
@@ -27,8 +27,8 @@ use Rattle.tunnel_law.proofs.Fits.{books}
 use Rattle.tunnel_law.proofs.Took.{InvT}
 use Rattle.line_law.proofs.Queue.{is_its}
 use Rattle.line_law.proofs.Coupled.{IsOut, is_open, Coupled}
-use Rattle.line_law.proofs.Entries.{HeadView, Moves, Outside, Goes, Stays, still_kept, lost_kept}
-use Rattle.line_law.proofs.Entering.{number_stays, number_by, Brings, views_stay, UpPlace, up_place, Still, Turn, IsStill, IsLost, Joins, Puts, Takes}
+use Rattle.line_law.proofs.Entries.{HeadView, still_kept, lost_kept}
+use Rattle.line_law.proofs.Entering.{number_by, Brings, views_stay, UpPlace, up_place, Still, Turn, IsStill, IsLost, Joins, Puts, Takes}
 use Rattle.line_law.proofs.Turning.{turn}
 use Rattle.line_law.proofs.Joining.{joins_kept}
 use Rattle.line_law.proofs.Opened.{PutsSo, put_kept, is_free}
@@ -40,11 +40,11 @@ use Rattle.line_model.specs.Moments.{put_to, transport_of, is_to}
 use Rattle.line_law.proofs.Attempting.{IsService, AttemptIs}
 use Rattle.line_law.proofs.Courses.{NotService}
 use Rattle.line_law.proofs.Landing.{Free, PutsSo as PutsAllowed}
-use Rattle.line_law.proofs.Telling.{aged_runs, take_attempt, still_attempt, lost_attempt, none_runs}
+use Rattle.line_law.proofs.Telling.{take_attempt, still_attempt, lost_attempt, none_runs}
 use Rattle.line_law.proofs.Asking.{asks_kept}
 use Rattle.line_law.proofs.Requests.{PutsGoes, other_step}
 use Rattle.line_law.proofs.Logs.{AreUpto, after, between_is, upto_more}
-use Rattle.line_law.proofs.HeldJobs.{HeldJob, HeldPlan, Attempted, AllAttempted, AttemptedOn, EntryGoes, moves_number, aged_attempt, eqb_is, its_is}
+use Rattle.line_law.proofs.HeldJobs.{HeldJob, HeldPlan, AllAttempted, AttemptedOn, EntryGoes, moves_number, aged_attempt, eqb_is, its_is}
 
 module _ (jobs : List Job) (turns : List GroupTurn) (log : List LogEntry) (a : ℕ) (w : World) (r : List Entry) (older : List Placed) (x : Entry) (at : ℕ) (s : SessionWorld) (same : entries older ≡ r) (kept : is_renewal x.what ≡ false) (h : HeadView r w.tunnel.present)
     (inv : InvT (books (x ∷ r)) w.tunnel) (once : IsActedOnce w.tunnel.gateway (x ∷ r)) (named : s.device.address.raw ≡ a) (time : s.now ≡ x.now) (upto : AreUpto at (moments older)) (one : (p q : HeldJob jobs log a) → (p.job ≡ q.job) × (p.since ≡ q.since))

@@ -1,7 +1,6 @@
 -- The client takes a request of the gateway in its channel: each session takes what is for it.
-use Rattle.std.proofs.Common.{◌≡◌, ℕ, ◌≤◌, ◌⊎◌, List, [], ◌∷◌, ◌++◌, Bool, true, false, not, ◌&&◌, cond, Option, Some, None, refl, sym, ◌∙◌, ap, subst, inl, inr, arith, append_assoc, if◌then◌else◌}
+use Rattle.std.proofs.Common.{◌≡◌, ℕ, ◌⊎◌, List, [], ◌∷◌, Bool, true, false, not, ◌&&◌, cond, Option, Some, None, refl, sym, ◌∙◌, ap, subst, inl, inr, if◌then◌else◌}
 use Rattle.std.specs.Prelude.{◌==◌}
-use Rattle.knx_model.specs.declared.address.IndAddr.{IndAddr}
 use Rattle.knx_model.specs.declared.connection.ClientTook.TheVariants as heard
 use Rattle.knx_model.specs.declared.connection.TransportFrame.{TransportFrame}
 use Rattle.knx_model.specs.declared.connection.TransportFrame.TheVariants.{Other}
@@ -10,31 +9,25 @@ use Rattle.knx_model.specs.declared.frames.cemi.LdataCode.TheVariants.{Ind}
 use Rattle.knx_model.specs.Cemi.{Written as cemi_octets}
 use Rattle.knx_model.specs.ClientConnection.{ClientEnd, Asked, Up, Asking, Awaiting, Ended, device_of, client_took, client_after}
 use Rattle.knx_model.specs.Connection.{frame_in}
-use Rattle.line_model.specs.ActedOnce.{Has, in_channel, IsPrefix, IsChannelOf}
+use Rattle.line_model.specs.ActedOnce.{in_channel, IsPrefix, IsChannelOf}
 use Rattle.line_model.specs.ChannelLost.{confirmed as is_confirmed, is_confirmation}
-use Rattle.line_model.specs.ClientView.{ClientChannel, Open, Deed, View, view_after, channel, deed, views}
-use Rattle.line_model.specs.ClientView as view
-use Rattle.line_model.specs.Gateway.{Gateway, newest_place}
+use Rattle.line_model.specs.ClientView.{View}
+use Rattle.line_model.specs.Gateway.{Gateway}
 use Rattle.line_model.specs.Reading.{ldata_in, is_con, is_ind}
-use Rattle.line_model.specs.Record.{Entry, is_renewal}
+use Rattle.line_model.specs.Record.{Entry}
 use Rattle.line_model.specs.World.{World, me}
 use Rattle.session_law.specs.World.{World as SessionWorld, Client, Message, Con as Confirms, Ind as Tells}
 use Rattle.session_law.specs.Client.{confirmed, hears, is_from, frame_from, takes_oldest}
-use Rattle.session_law.specs.Events.{Event as SessionEvent, Takes, replay, IsLegal}
-use Rattle.load_law.specs.Download.{AsksNothing}
-use Rattle.tunnel_law.proofs.Inside.{Every}
-use Rattle.line_law.proofs.Queue.{Items, is_its, is_by, message, messages, cons, puts_of, puts_append, back, back_last}
-use Rattle.line_law.proofs.Coupled.{IsOwn, IsTold, Waits, OnBus, Told, Gone, Flight, Landed, Flies, FlightIs, Last, Never, Since, ChannelIs, OpenIs, ConAt, IsLow, IsSorted, Pipe, FlyFor, InFlight, PendFor, is_open, CoupledBy, Coupled}
-use Rattle.line_law.proofs.Owned.{every_front}
+use Rattle.session_law.specs.Events.{Takes}
+use Rattle.line_law.proofs.Queue.{Items, is_its, is_by, message, messages, cons, back}
+use Rattle.line_law.proofs.Coupled.{IsOwn, IsTold, Waits, OnBus, Told, Gone, Flight, Landed, Flies, FlightIs, Last, Never, Since, OpenIs, InFlight, is_open, CoupledBy, Coupled}
 use Rattle.line_law.proofs.ReadBack.{IsRead, Read, Unread, own_read}
 use Rattle.line_law.proofs.Changes.{own_ind}
 use Rattle.line_law.proofs.GateCloses.{flight_to}
-use Rattle.line_law.proofs.Acting.{in_same}
-use Rattle.line_law.proofs.Entries.{HeadView, views_go}
-use Rattle.line_law.proofs.Joining.{sorted_front}
-use Rattle.line_law.proofs.Opened.{IsHere, here, head_late, not_out}
-use Rattle.line_law.proofs.Items.{in_append, one_more, Oldest, oldest}
-use Rattle.line_law.proofs.TakesAny.{coming_is, taken_pipe, queue, told, taken_by, client_told, TakesSo, TakesGoes, fly_view, in_view, taken_view, is_here, go, number_is, view_at, channel_at, first}
+use Rattle.line_law.proofs.Entries.{HeadView}
+use Rattle.line_law.proofs.Opened.{not_out}
+use Rattle.line_law.proofs.Items.{Oldest}
+use Rattle.line_law.proofs.TakesAny.{coming_is, queue, told, taken_by, client_told, TakesSo, TakesGoes, fly_view, in_view, is_here, channel_at, first}
 
 -- ---- a frame of a device
 

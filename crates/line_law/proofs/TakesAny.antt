@@ -1,15 +1,8 @@
 -- A frame is taken by the client: what its session makes of it.
-use Rattle.std.proofs.Common.{◌≡◌, ℕ, ◌≤◌, ◌⊎◌, List, [], ◌∷◌, ◌++◌, Bool, true, false, not, ◌&&◌, cond, Option, Some, None, refl, sym, ◌∙◌, ap, subst, inl, inr, arith, append_assoc, if◌then◌else◌}
-use Rattle.std.specs.Prelude.{◌==◌}
+use Rattle.std.proofs.Common.{◌≡◌, ℕ, ◌≤◌, List, [], ◌∷◌, ◌++◌, true, false, ◌&&◌, Option, Some, None, refl, sym, ◌∙◌, ap, subst, inl, arith, append_assoc, if◌then◌else◌}
 use Rattle.knx_model.specs.declared.address.IndAddr.{IndAddr}
-use Rattle.knx_model.specs.declared.connection.ClientTook.TheVariants as heard
-use Rattle.knx_model.specs.declared.connection.TransportFrame.{TransportFrame}
-use Rattle.knx_model.specs.declared.connection.TransportFrame.TheVariants.{Other}
 use Rattle.knx_model.specs.declared.frames.cemi.Ldata.{Ldata}
-use Rattle.knx_model.specs.declared.frames.cemi.LdataCode.TheVariants.{Ind}
-use Rattle.knx_model.specs.Cemi.{Written as cemi_octets}
-use Rattle.knx_model.specs.ClientConnection.{ClientEnd, Asked, Up, Asking, Awaiting, Ended, device_of, client_took, client_after}
-use Rattle.knx_model.specs.Connection.{frame_in}
+use Rattle.knx_model.specs.ClientConnection.{device_of, client_took}
 use Rattle.line_model.specs.ActedOnce.{Has, in_channel, IsPrefix, IsChannelOf}
 use Rattle.line_model.specs.ChannelLost.{confirmed as is_confirmed, is_confirmation}
 use Rattle.line_model.specs.ClientView.{ClientChannel, Open, Deed, View, view_after, channel, deed, views}
@@ -18,21 +11,18 @@ use Rattle.line_model.specs.Gateway.{Gateway, newest_place}
 use Rattle.line_model.specs.Reading.{ldata_in, is_con, is_ind}
 use Rattle.line_model.specs.Record.{Entry, is_renewal}
 use Rattle.line_model.specs.World.{World, me}
-use Rattle.session_law.specs.World.{World as SessionWorld, Client, Message, Con as Confirms, Ind as Tells}
-use Rattle.session_law.specs.Client.{confirmed, hears, is_from, frame_from, takes_oldest}
-use Rattle.session_law.specs.Events.{Event as SessionEvent, Takes, replay, IsLegal}
+use Rattle.session_law.specs.World.{World as SessionWorld, Client, Message}
+use Rattle.session_law.specs.Client.{confirmed, hears, frame_from}
+use Rattle.session_law.specs.Events.{Event as SessionEvent, replay, IsLegal}
 use Rattle.load_law.specs.Download.{AsksNothing}
 use Rattle.tunnel_law.proofs.Inside.{Every}
-use Rattle.line_law.proofs.Queue.{Items, is_its, is_by, message, messages, cons, puts_of, puts_append, back, back_last}
-use Rattle.line_law.proofs.Coupled.{IsOwn, IsTold, Waits, OnBus, Told, Gone, Flight, Landed, Flies, FlightIs, Last, Never, Since, ChannelIs, OpenIs, ConAt, IsLow, IsSorted, Pipe, FlyFor, InFlight, PendFor, is_open, CoupledBy, Coupled}
+use Rattle.line_law.proofs.Queue.{Items, is_its, is_by, message, messages, puts_of, puts_append, back, back_last}
+use Rattle.line_law.proofs.Coupled.{IsTold, Waits, OnBus, Told, Gone, Flight, Landed, Flies, FlightIs, Since, ChannelIs, OpenIs, ConAt, IsLow, IsSorted, Pipe, FlyFor, InFlight, PendFor, is_open, CoupledBy, Coupled}
 use Rattle.line_law.proofs.Owned.{every_front}
-use Rattle.line_law.proofs.ReadBack.{IsRead, Read, Unread, own_read}
-use Rattle.line_law.proofs.Changes.{own_ind}
-use Rattle.line_law.proofs.GateCloses.{flight_to}
 use Rattle.line_law.proofs.Acting.{in_same}
 use Rattle.line_law.proofs.Entries.{HeadView, views_go}
 use Rattle.line_law.proofs.Joining.{sorted_front}
-use Rattle.line_law.proofs.Opened.{IsHere, here, head_late, not_out}
+use Rattle.line_law.proofs.Opened.{IsHere, here, head_late}
 use Rattle.line_law.proofs.Items.{in_append, one_more, Oldest, oldest}
 
 -- ---- what the client of a session makes of a frame that was taken

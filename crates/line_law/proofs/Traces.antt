@@ -1,25 +1,21 @@
 -- Each event of the line: the session with a device follows it, and so do the attempts of the job that is held.
 use Rattle.std.proofs.Common.{◌≡◌, ℕ, suc, ◌≤◌, ◌⊎◌, List, [], ◌∷◌, ◌++◌, length, false, Option, Some, None, refl, sym, ◌∙◌, ap, subst, inl, inr, arith}
 use Rattle.std.specs.Prelude.{◌==◌, slice_get, take}
-use Rattle.knx_model.specs.declared.frames.cemi.Ldata.{Ldata}
 use Rattle.knx_model.specs.GoodPlan.{IsSendable}
 use Rattle.line_model.specs.declared.group.GroupTurn.{GroupTurn}
 use Rattle.line_model.specs.declared.log.LogEntry.{LogEntry}
-use Rattle.line_model.specs.ActedOnce.{Has, IsActedOnce, ActedOnce}
+use Rattle.line_model.specs.ActedOnce.{Has, IsActedOnce}
 use Rattle.line_model.specs.Asks.{IsRightDeed, IsRightEntry, EachRight}
 use Rattle.line_model.specs.Attempts.{attempts}
 use Rattle.line_model.specs.ClientView.{ClientChannel, Fresh, Sought, RefusedBy, Unanswered, Open, Lost, Deed, View, unused, channel, deed, views, after_entry, goes_on, after_fresh}
 use Rattle.line_model.specs.ClientView as view
-use Rattle.line_model.specs.Fresh.{IsFresh}
-use Rattle.line_model.specs.Legal.{IsLegal}
 use Rattle.line_model.specs.Log.{Job, job_of, log_before, IsLog, OneDownloaderPerDevice}
 use Rattle.knx_model.specs.declared.connection.TransportFrame.{TransportFrame}
 use Rattle.line_model.specs.Moments.{Moment, moments, put_to}
 use Rattle.line_model.specs.Network.{Sent, OfSent, changed_at, once_more}
 use Rattle.line_model.specs.Record.{Item, Put, Renewed, Got, Quiet, Entry, entry, Placed, placed, placed_if, entries, got, noted, item_at, record_of, is_renewal}
 use Rattle.line_model.specs.Renews.{RenewsRightly}
-use Rattle.line_model.specs.Sendings.{SendsRightly}
-use Rattle.line_model.specs.Tunnel.{Tunnel, Commissions, sends_up, with_down}
+use Rattle.line_model.specs.Tunnel.{Tunnel, sends_up, with_down}
 use Rattle.line_model.specs.World as line
 use Rattle.line_model.specs.World.{World, Event, me, now, step}
 use Rattle.session_law.specs.World.{World as SessionWorld}
@@ -45,12 +41,9 @@ use Rattle.line_law.proofs.Logs.{AreUpto, held_before, held_later, one_held, aft
 use Rattle.line_law.proofs.Logs as logs
 use Rattle.line_law.proofs.Stepping.{entry_next}
 use Rattle.line_law.proofs.HeldJobs.{HeldJob, HeldPlan, Attempted, AllAttempted, EntryGoes}
-use Rattle.line_law.proofs.RunsBefore.{IsRun, asks_by, once_by, run_before, once_now, carried_none, heard_none}
-use Rattle.tunnel_law.proofs.Law.{renews_before, sends_before}
-use Rattle.line_model.specs.Record.{item_of}
+use Rattle.line_law.proofs.RunsBefore.{IsRun, run_before, carried_none, heard_none}
 use Rattle.line_model.specs.World.{AtGateway, Comes, IsLost, carried, heard, next_frame, waiting_at, repeat_at, Send, From, Renew, Up, UpRefused, Down, LoseUp, LoseDown, Bus, BusTorn, BusWorn, BusAgain, DevSend, DevRepeat, DevClose, GwAgain, GwRepeat, GwClose, Cut, On, Pass}
 use Rattle.line_law.proofs.Following.{attempted_late, stays_present, renewed_fresh, renewed_nothing, shut_by, one_job, attempted_same, attempted_more}
-
 
 -- ---- the events of the session that follow one of the line
 

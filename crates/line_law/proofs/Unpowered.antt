@@ -1,5 +1,5 @@
 -- A device without power, put where there is none, beside the devices that are there: one event.
-use Rattle.std.proofs.Common.{◌≡◌, ◌≢◌, ℕ, List, [], ◌∷◌, length, Bool, true, false, not, ◌&&◌, ◌||◌, cond, Option, Some, None, refl, sym, ◌∙◌, ap, subst, arith, if◌then◌else◌}
+use Rattle.std.proofs.Common.{◌≡◌, ◌≢◌, ℕ, List, [], ◌∷◌, Bool, true, false, not, ◌&&◌, ◌||◌, cond, Option, Some, None, refl, sym, ◌∙◌, ap, subst, arith}
 use Rattle.std.specs.Prelude.{◌==◌}
 use Rattle.knx_model.specs.declared.frames.cemi.Ldata.{Ldata}
 use Rattle.knx_model.specs.declared.frames.cemi.LdataCode.TheVariants.{Con}
@@ -7,12 +7,11 @@ use Rattle.knx_model.specs.ApduReading.{option_map}
 use Rattle.knx_model.specs.DeviceState.{DeviceState, device_with}
 use Rattle.knx_model.specs.DeviceFrames.{Outcome, Whole, Torn, Worn, takes}
 use Rattle.knx_model.specs.DeviceSending.{waiting_frame, repeat_frame, pops}
-use Rattle.line_model.specs.Fresh.{IsFresh, IsAtRest}
-use Rattle.line_model.specs.Legal.{OfDevice, GoesSo, DevicesAllow, MayHappen, IsLegal}
-use Rattle.line_model.specs.Record.{noted, record_of, placed_if, placed, item_of, item_at}
+use Rattle.line_model.specs.Legal.{OfDevice, GoesSo, DevicesAllow, MayHappen}
+use Rattle.line_model.specs.Record.{item_of, item_at}
 use Rattle.line_model.specs.Tunnel as tunnel
 use Rattle.line_model.specs.Tunnel.{TunnelEvent, Commissions}
-use Rattle.line_model.specs.World.{World, Event, Send, From, Renew, Up, UpRefused, Down, LoseUp, LoseDown, Bus, BusTorn, BusWorn, BusAgain, DevSend, DevRepeat, DevClose, GwAgain, GwRepeat, GwClose, Cut, On, Pass, Devices, now, next_frame, frame_by, waiting_at, is_among, takes_it, carried, heard, tunnel_event, changed, all_take, one_takes, others_take, devices_after, or_before, echo_after, step, replay}
+use Rattle.line_model.specs.World.{World, Event, Send, From, Renew, Up, UpRefused, Down, LoseUp, LoseDown, Bus, BusTorn, BusWorn, BusAgain, DevSend, DevRepeat, DevClose, GwAgain, GwRepeat, GwClose, Cut, On, Pass, Devices, now, next_frame, frame_by, waiting_at, is_among, takes_it, carried, heard, tunnel_event, changed, all_take, one_takes, others_take, devices_after, or_before, echo_after, step}
 use Rattle.line_law.proofs.Runs.{none_step}
 use Rattle.line_law.proofs.Told.{empty_device}
 
