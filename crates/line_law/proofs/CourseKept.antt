@@ -17,7 +17,8 @@ use Rattle.line_law.proofs.Counting.{heard_count}
 use Rattle.line_law.proofs.Counts.{Count, CountIs, stayed_count, heard_effect}
 use Rattle.line_law.proofs.Courses.{Kind, Lost, Plain, Put, Confirmed, Hears, NotService, WasDone, Now, Later, Begun, Idle, AtRest, CourseIs, StretchIs, done_now}
 use Rattle.line_model.specs.Attempts.{first, put_other}
-use Rattle.line_law.proofs.CourseSteps.{ended_confirmed, ended_took, asked_took, Closes, end_closes, closed_idle, numbered_count, ended_asks}
+use Rattle.line_law.proofs.CourseSteps.{Closes, end_closes, closed_idle, numbered_count, ended_asks}
+use Rattle.line_law.proofs.CourseEnds.{ended_confirmed, ended_took, asked_took}
 use Rattle.line_law.proofs.Landing.{confirmed_none, heard_none, aged_count, aged_idle, aged_begun, aged_rest, con_count, begun_count, Allowed, aged_allowed, Free, PutsSo}
 
 module _ (a : ℕ) (device : IndAddr) (plan : Plan) (can : IsSendable plan) (m : Moment) (l : List Moment) where

@@ -27,6 +27,7 @@ mod Asking
 mod Logs
 mod Entering
 mod Turning
+mod NothingAsked
 mod HeldJobs
 mod Stepping
 mod Following
@@ -39,6 +40,7 @@ mod Reaching
 mod Counts
 mod Counting
 mod Courses
+mod CourseEnds
 mod CourseSteps
 mod Landing
 mod CourseKept

@@ -45,6 +45,7 @@ use Rattle.line_law.proofs.Asking.{asks_kept}
 use Rattle.line_law.proofs.Requests.{PutsGoes, other_step}
 use Rattle.line_law.proofs.Logs.{AreUpto, after, between_is, upto_more}
 use Rattle.line_law.proofs.HeldJobs.{HeldJob, HeldPlan, AllAttempted, AttemptedOn, EntryGoes, moves_number, aged_attempt, eqb_is, its_is}
+use Rattle.line_law.proofs.NothingAsked.{silent_follows}
 
 module _ (jobs : List Job) (turns : List GroupTurn) (log : List LogEntry) (a : ℕ) (w : World) (r : List Entry) (older : List Placed) (x : Entry) (at : ℕ) (s : SessionWorld) (same : entries older ≡ r) (kept : is_renewal x.what ≡ false) (h : HeadView r w.tunnel.present)
     (inv : InvT (books (x ∷ r)) w.tunnel) (once : IsActedOnce w.tunnel.gateway (x ∷ r)) (named : s.device.address.raw ≡ a) (time : s.now ≡ x.now) (upto : AreUpto at (moments older)) (one : (p q : HeldJob jobs log a) → (p.job ≡ q.job) × (p.since ≡ q.since))
@@ -136,7 +137,7 @@ module _ (jobs : List Job) (turns : List GroupTurn) (log : List LogEntry) (a : �
       record {
         more = t.more;
         legal = t.legal;
-        follows = silent_follows s t.more t.silent;
+        follows = silent_follows (HeldPlan jobs log a) s t.more t.silent;
         coupled = t.coupled;
         attempted = with_deed (view.Takes content) d (replay s t.more).client (λ p.
             subst (λ z. AttemptedOn a (moments older) (record { what = view.Takes content; now = x.now; at = suc at }) p.job p.since z) (sym (t.client ∙ ap (λ z. client_told a z s.client (ldata_in content)) time))
@@ -144,33 +145,6 @@ module _ (jobs : List Job) (turns : List GroupTurn) (log : List LogEntry) (a : �
         asks = inl t.silent;
         puts = λ p y z. absurd (no_put (view.Takes content) d refl y z);
       }
-    where
-      silent_event : (z : SessionWorld) (y : SessionEvent) → IsSilent y → MayAsk (HeldPlan jobs log a) z y
-      silent_event z event.Connects i = tt
-      silent_event z (event.Asks apdu) i = absurd i
-      silent_event z event.Waits i = tt
-      silent_event z event.Replies i = tt
-      silent_event z event.Leaves i = tt
-      silent_event z event.Takes i = tt
-      silent_event z event.Loses i = tt
-      silent_event z (event.Joins j) i = tt
-      silent_event z (event.Drops j) i = tt
-      silent_event z (event.Bus outcome) i = tt
-      silent_event z event.BusLost i = tt
-      silent_event z event.BusAgain i = tt
-      silent_event z (event.Group f) i = tt
-      silent_event z event.Elsewhere i = tt
-      silent_event z (event.DevSend g) i = tt
-      silent_event z (event.DevRepeat g) i = tt
-      silent_event z event.DevClose i = tt
-      silent_event z event.GwAgain i = tt
-      silent_event z event.Cut i = tt
-      silent_event z event.On i = tt
-      silent_event z (event.Pass ms) i = tt
-
-      silent_follows : (z : SessionWorld) (y : List SessionEvent) → AsksNothing y → Follows (HeldPlan jobs log a) z y
-      silent_follows z [] i = tt
-      silent_follows z (q ∷ y) i = (silent_event (replay z y) q i.0, silent_follows z y i.1)
 
   -- ---- a request is put
 
