@@ -1,27 +1,11 @@
 -- The end of an attempt stays ended.
-use Rattle.std.proofs.Common.{◌≡◌, ℕ, zero, suc, ◌+◌, ◌%◌, List, [], ◌∷◌, reverse, length, Bool, true, false, not, ◌&&◌, cond, Option, Some, None, refl, sym, ◌∙◌, ap, subst, inl, inr, arith, if◌then◌else◌}
-use Rattle.std.specs.Prelude.{◌==◌, nat_le, nat_lt}
+use Rattle.std.proofs.Common.{◌≡◌, ℕ, Bool, true, false, Option, Some, None, ap}
 use Rattle.knx_model.specs.declared.address.IndAddr.{IndAddr}
-use Rattle.knx_model.specs.declared.connection.ClientTook.{ClientTook}
 use Rattle.knx_model.specs.declared.connection.ClientTook.TheVariants as heard
-use Rattle.knx_model.specs.declared.connection.ClientExpired.TheVariants as over
 use Rattle.knx_model.specs.declared.connection.TransportFrame.{TransportFrame}
 use Rattle.knx_model.specs.declared.connection.TransportFrame.TheVariants.{Connect, Disconnect, Ack, Nak, Numbered, Other}
-use Rattle.knx_model.specs.declared.frames.tpdu.Tpdu.{Tpdu}
-use Rattle.knx_model.specs.declared.frames.tpdu.Tpdu.TheVariants as tpdu
-use Rattle.knx_model.specs.declared.plan.Expect.{Expect}
-use Rattle.knx_model.specs.declared.plan.Expect.TheVariants.{AckOnly, Is, Note}
-use Rattle.knx_model.specs.Apdu.{most_octets}
-use Rattle.knx_model.specs.ClientConnection.{client_asked, question_overdue, question_expired, ClientEnd, Asked, Up, Asking, Awaiting, Ended, Question, client_took, up_took, asking_took, client_sent, after_send, client_expired, after_overdue, client_repeated, after_confirmed, has_answer}
-use Rattle.knx_model.specs.Connection.{ack_wait, idle_wait, most_repeats, has_passed, Session, IsApdu, control_frame, disconnect, frame_in, next_number, numbered_data}
-use Rattle.knx_model.specs.GoodPlan.{IsSendable, awaits_answer}
-use Rattle.knx_model.specs.Plans.{Plan, Over, Asks as Operation}
-use Rattle.line_model.specs.Attempts.{Attempt, awaits, sent_of, sends_numbered, confirmed_attempt, heard_attempt, MayAsk, IsNext, IsRepeat}
-use Rattle.line_model.specs.Moments.{Number, Next, Outstanding, closes_by, is_acknowledged, answer_expected}
-use Rattle.line_model.specs.Progress.{Reaches}
-use Rattle.session_law.proofs.Frames.{numbered_read}
-use Rattle.line_law.proofs.Reaching.{acknowledged_one}
-use Rattle.line_law.proofs.Counts.{NumberIs, ExpectedIs, LeftIs, Count}
+use Rattle.knx_model.specs.ClientConnection.{ClientEnd, Asked, Ended, client_took, after_confirmed}
+use Rattle.line_model.specs.Attempts.{Attempt, confirmed_attempt}
 use Rattle.line_law.proofs.Courses.{Idle}
 
 -- ---- the end of an attempt stays ended

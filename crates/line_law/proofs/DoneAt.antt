@@ -15,11 +15,10 @@ use Rattle.line_model.specs.Record.{placed}
 use Rattle.line_model.specs.Told.{last_stretch, session_since, WentThrough, OfJob, OfHeld, ToldTruly, IsTrue}
 use Rattle.line_model.specs.World.{World, Event, me}
 use Rattle.session_law.specs.World.{World as SessionWorld, fresh}
-use Rattle.session_law.specs.Events as event
 use Rattle.session_law.specs.Events.{Event as SessionEvent, replay, IsLegal}
 use Rattle.session_law.proofs.Books.{books}
 use Rattle.session_law.proofs.Steps.{WorldInv, fresh_inv, always}
-use Rattle.load_law.specs.Download.{MayAsk, Follows, IsSilent, AsksNothing}
+use Rattle.load_law.specs.Download.{Follows}
 use Rattle.load_law.proofs.Checked.{settled_done}
 use Rattle.load_law.proofs.Follows.{LoadInv, fresh_load, load_always, right_at}
 use Rattle.line_law.proofs.Cases.{good_job, OfDevice, Case, Ends, Any, plans_good, held_of, IsCheck, Unmoved, unmoved_more}

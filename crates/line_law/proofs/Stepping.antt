@@ -22,7 +22,7 @@ use Rattle.line_model.specs.World.{World, me}
 use Rattle.session_law.specs.World.{World as SessionWorld, Client}
 use Rattle.session_law.specs.Events.{Event as SessionEvent, step, replay, IsLegal}
 use Rattle.session_law.specs.Events as event
-use Rattle.load_law.specs.Download.{MayAsk, Follows, IsSilent, AsksNothing}
+use Rattle.load_law.specs.Download.{IsSilent, AsksNothing}
 use Rattle.tunnel_law.proofs.Fits.{books}
 use Rattle.tunnel_law.proofs.Took.{InvT}
 use Rattle.line_law.proofs.Queue.{is_its}
