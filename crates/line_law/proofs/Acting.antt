@@ -11,8 +11,9 @@ use Rattle.line_model.specs.World.{World}
 use Rattle.session_law.specs.World.{World as SessionWorld}
 use Rattle.line_law.proofs.Queue.{Items, back}
 use Rattle.line_law.proofs.Coupled.{Waits, OnBus, Told, Gone, Flight, Landed, Flies, FliesSo, Last, Never, Since, JoinedIs, CoupledBy, Coupled}
-use Rattle.line_law.proofs.Bus.{channel_flies}
-use Rattle.line_law.proofs.Gates.{gate_world, newest_least}
+use Rattle.line_law.proofs.OnBus.{channel_flies}
+use Rattle.line_law.proofs.Gates.{newest_least}
+use Rattle.line_law.proofs.GateCloses.{gate_world}
 
 -- ---- it acts on a request
 

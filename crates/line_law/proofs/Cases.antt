@@ -22,7 +22,7 @@ use Rattle.load_law.specs.Download.{MayAsk, Follows}
 use Rattle.load_law.proofs.Walked.{AllGoodFor}
 use Rattle.load_law.proofs.Follows.{LoadInv, load_always, fresh_load}
 use Rattle.load_law.proofs.Checked.{ChangesNothing, Unchanged, unchanged_step}
-use Rattle.line_law.proofs.Stepping.{HeldPlan}
+use Rattle.line_law.proofs.HeldJobs.{HeldPlan}
 use Rattle.line_law.proofs.Runs.{Trace, replay_more, trace_legal, trace_follows}
 
 -- ---- the jobs of a device

@@ -16,7 +16,7 @@ use Rattle.line_model.specs.Progress.{Reaches}
 use Rattle.line_model.specs.Reading.{ldata_in, is_con, is_ind}
 use Rattle.line_model.specs.Told.{last_stretch, WentThrough}
 use Rattle.line_law.proofs.Reaching.{same_left, no_further}
-use Rattle.line_law.proofs.Counting.{NumberIs, LeftIs, Count, CountIs}
+use Rattle.line_law.proofs.Counts.{NumberIs, LeftIs, Count, CountIs}
 
 -- ---- what a moment is to a device
 

@@ -15,18 +15,18 @@ use Rattle.line_model.specs.Record.{placed}
 use Rattle.line_model.specs.Told.{last_stretch, session_since, WentThrough, OfJob, OfHeld, ToldTruly, IsTrue}
 use Rattle.line_model.specs.World.{World, Event, me}
 use Rattle.session_law.specs.World.{World as SessionWorld, fresh}
-use Rattle.session_law.specs.Events as event
 use Rattle.session_law.specs.Events.{Event as SessionEvent, replay, IsLegal}
 use Rattle.session_law.proofs.Books.{books}
 use Rattle.session_law.proofs.Steps.{WorldInv, fresh_inv, always}
-use Rattle.load_law.specs.Download.{MayAsk, Follows, IsSilent, AsksNothing}
+use Rattle.load_law.specs.Download.{Follows}
 use Rattle.load_law.proofs.Checked.{settled_done}
 use Rattle.load_law.proofs.Follows.{LoadInv, fresh_load, load_always, right_at}
 use Rattle.line_law.proofs.Cases.{good_job, OfDevice, Case, Ends, Any, plans_good, held_of, IsCheck, Unmoved, unmoved_more}
 use Rattle.line_law.proofs.Courses.{WasDone, went_through}
 use Rattle.line_law.proofs.Logs.{after}
+use Rattle.line_law.proofs.NothingAsked.{silent_follows}
 use Rattle.line_law.proofs.Runs.{Trace, trace_legal, trace_follows}
-use Rattle.line_law.proofs.Stepping.{HeldJob}
+use Rattle.line_law.proofs.HeldJobs.{HeldJob}
 use Rattle.line_law.proofs.Told.{held_then, form_at, true_at, before_at, nothing_between, between_first, first_full, not_over}
 use Rattle.line_law.proofs.Went.{DoneBefore, stretch_at, was_at}
 
@@ -39,33 +39,6 @@ legal_earlier start (y ∷ more) past h = legal_earlier start more past h.1
 follows_earlier : (IsJob : Plan → Type 0) (start : SessionWorld) (more past : List SessionEvent) → Follows IsJob start (more ++ past) → Follows IsJob start past
 follows_earlier IsJob start [] past h = h
 follows_earlier IsJob start (y ∷ more) past h = follows_earlier IsJob start more past h.1
-
-silent_asks : (IsJob : Plan → Type 0) (z : SessionWorld) (y : SessionEvent) → IsSilent y → MayAsk IsJob z y
-silent_asks IsJob z event.Connects i = tt
-silent_asks IsJob z (event.Asks apdu) i = absurd i
-silent_asks IsJob z event.Waits i = tt
-silent_asks IsJob z event.Replies i = tt
-silent_asks IsJob z event.Leaves i = tt
-silent_asks IsJob z event.Takes i = tt
-silent_asks IsJob z event.Loses i = tt
-silent_asks IsJob z (event.Joins j) i = tt
-silent_asks IsJob z (event.Drops j) i = tt
-silent_asks IsJob z (event.Bus outcome) i = tt
-silent_asks IsJob z event.BusLost i = tt
-silent_asks IsJob z event.BusAgain i = tt
-silent_asks IsJob z (event.Group f) i = tt
-silent_asks IsJob z event.Elsewhere i = tt
-silent_asks IsJob z (event.DevSend g) i = tt
-silent_asks IsJob z (event.DevRepeat g) i = tt
-silent_asks IsJob z event.DevClose i = tt
-silent_asks IsJob z event.GwAgain i = tt
-silent_asks IsJob z event.Cut i = tt
-silent_asks IsJob z event.On i = tt
-silent_asks IsJob z (event.Pass ms) i = tt
-
-silent_follows : (IsJob : Plan → Type 0) (z : SessionWorld) (y : List SessionEvent) → AsksNothing y → Follows IsJob z y
-silent_follows IsJob z [] i = tt
-silent_follows IsJob z (q ∷ y) i = (silent_asks IsJob (replay z y) q i.0, silent_follows IsJob z y i.1)
 
 -- ---- what is so there
 

@@ -18,7 +18,7 @@ use Rattle.line_law.proofs.Coupled.{is_open}
 use Rattle.line_law.proofs.Attempting.{AttemptIs}
 use Rattle.line_law.proofs.Logs.{AreUpto, held_before, held_later, one_held, after_last, after_more, entries_of, moments_upto, upto_more}
 use Rattle.line_law.proofs.Logs as logs
-use Rattle.line_law.proofs.Stepping.{HeldJob, Attempted, AllAttempted, AttemptedOn}
+use Rattle.line_law.proofs.HeldJobs.{HeldJob, Attempted, AllAttempted, AttemptedOn}
 
 -- ---- the gateway's next frame leaves the rest of the tunnel
 

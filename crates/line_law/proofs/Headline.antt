@@ -20,10 +20,11 @@ use Rattle.line_model.specs.World.{World, Event, Devices}
 use Rattle.telegram_law.proofs.Telegrams.{telegrams_act_right}
 use Rattle.tunnel_law.proofs.Line.{line_once}
 use Rattle.line_law.proofs.Kept.{run_first, case_always, untouched_always}
-use Rattle.line_law.proofs.Silent.{silent, with_devices, Beside, joined, joined_beside, joined_fresh, Same, same_run}
+use Rattle.line_law.proofs.Silent.{joined, joined_beside, joined_fresh, Same, same_run}
+use Rattle.line_law.proofs.Unpowered.{silent, with_devices, Beside}
 use Rattle.line_law.proofs.Stays.{runs_there, stays_always}
 use Rattle.line_law.proofs.Told.{unloaded}
-use Rattle.line_law.proofs.Traces.{IsRun}
+use Rattle.line_law.proofs.RunsBefore.{IsRun}
 use Rattle.line_law.proofs.Whole.{is_run}
 
 module _ (jobs : List Job) (turns : List GroupTurn) (log : List LogEntry) (good : AllByRecursion IsGoodJob jobs) (start : World) (events : List Event) (form : IsLog jobs turns (length events) log) (alone : OneDownloaderPerDevice jobs log) (truly : ToldTruly jobs turns (placed start events) log) (run : IsRun jobs turns log start events) where

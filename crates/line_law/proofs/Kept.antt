@@ -19,8 +19,8 @@ use Rattle.session_law.proofs.Books.{books}
 use Rattle.session_law.proofs.Steps.{fresh_inv}
 use Rattle.load_law.specs.Download.{Follows}
 use Rattle.load_law.proofs.Checked.{settled_first, unchanged_kept}
-use Rattle.line_law.proofs.Stepping.{HeldPlan}
-use Rattle.line_law.proofs.Traces.{IsRun, run_before}
+use Rattle.line_law.proofs.HeldJobs.{HeldPlan}
+use Rattle.line_law.proofs.RunsBefore.{IsRun, run_before}
 use Rattle.line_law.proofs.Runs.{Trace, follower_now, trace_legal, trace_always, trace_follows, none_always}
 use Rattle.line_law.proofs.Cases.{good_job, load_now, IsCheck, Unmoved, unmoved_more, no_load}
 

@@ -11,7 +11,8 @@ use Rattle.session_law.specs.World.{World as SessionWorld}
 use Rattle.tunnel_law.proofs.Inside.{Every}
 use Rattle.line_law.proofs.Queue.{Items, messages, cons, back}
 use Rattle.line_law.proofs.Coupled.{IsTold, Serves, Last, Never, Since, ConAt, LastIs, Coupled}
-use Rattle.line_law.proofs.Gates.{gate_world, flight_to, newest_least}
+use Rattle.line_law.proofs.Gates.{newest_least}
+use Rattle.line_law.proofs.GateCloses.{gate_world, flight_to}
 
 -- the gateway after it put the frame
 abbrev put_gate : Gateway → Channel → Ldata → ℕ → Gateway

@@ -23,8 +23,9 @@ use Rattle.load_law.specs.Download.{MayAsk, Follows}
 use Rattle.tunnel_law.proofs.Inside.{Every}
 use Rattle.line_law.proofs.Coupled.{IsFrameOf, OwnIf, Owned, Never, echo_of, Coupled}
 use Rattle.line_law.proofs.Owned.{owned_step}
-use Rattle.line_law.proofs.Stepping.{HeldPlan, AllAttempted}
-use Rattle.line_law.proofs.Traces.{IsRun, run_before, Adds, StepBy, Follower, event_step}
+use Rattle.line_law.proofs.HeldJobs.{HeldPlan, AllAttempted}
+use Rattle.line_law.proofs.Traces.{Adds, StepBy, Follower, event_step}
+use Rattle.line_law.proofs.RunsBefore.{IsRun, run_before}
 use Rattle.line_model.specs.Moments.{moments}
 
 -- ---- the beginning

@@ -28,9 +28,9 @@ use Rattle.line_law.proofs.DoneAt.{DoneAt, HeldThen, held_now, done_at}
 use Rattle.line_law.proofs.Kept.{trace_of, run_first, first_length, both_some, both_none}
 use Rattle.line_law.proofs.Logs.{IsTo, TakesIt, EndsIt, Else, is_to, ended_state, after_other, before_in, all_before, one_held, same_eqb}
 use Rattle.line_law.proofs.Runs.{Trace, Begins, Goes, follower_now, trace_legal, follows_map, none_always}
-use Rattle.line_law.proofs.Stepping.{HeldPlan}
+use Rattle.line_law.proofs.HeldJobs.{HeldPlan}
 use Rattle.line_law.proofs.Told.{first_first}
-use Rattle.line_law.proofs.Traces.{IsRun}
+use Rattle.line_law.proofs.RunsBefore.{IsRun}
 
 -- ---- which jobs are held after it
 

@@ -8,8 +8,9 @@ use Rattle.line_model.specs.Record.{Entry}
 use Rattle.line_model.specs.World.{World}
 use Rattle.session_law.specs.World.{World as SessionWorld}
 use Rattle.line_law.proofs.Coupled.{Coupled, Goes}
-use Rattle.line_law.proofs.Bus.{goes_none}
-use Rattle.line_law.proofs.Gates.{gate_world, SameOpen, with_channel, channel_kept, shut_gate, shut_kept, made_gate, IsNew, makes_kept}
+use Rattle.line_law.proofs.OnBus.{goes_none}
+use Rattle.line_law.proofs.Gates.{made_gate, IsNew, makes_kept}
+use Rattle.line_law.proofs.GateCloses.{gate_world, SameOpen, with_channel, channel_kept, shut_gate, shut_kept}
 use Rattle.line_law.proofs.Acting.{UpOnce, acts_kept}
 
 -- ---- events of the session stay where the line's world changes elsewhere

@@ -19,7 +19,7 @@ use Rattle.line_model.specs.Reading.{ldata_in, is_con, is_ind}
 use Rattle.session_law.specs.World.{Client}
 use Rattle.session_law.specs.Client.{hears, confirmed, frame_from}
 use Rattle.line_law.proofs.Queue.{is_its, is_by}
-use Rattle.line_law.proofs.Takes.{client_told}
+use Rattle.line_law.proofs.TakesAny.{client_told}
 use Rattle.line_law.proofs.Attempting.{IsWith, Runs, AttemptIs, con_attempt}
 use Rattle.line_law.proofs.Hearing.{hears_nothing, hear_attempt}
 

@@ -12,8 +12,10 @@ use Rattle.session_law.specs.World.{World as SessionWorld}
 use Rattle.tunnel_law.proofs.Fits.{books}
 use Rattle.tunnel_law.proofs.Took.{InvT}
 use Rattle.line_law.proofs.Coupled.{Coupled, Goes}
-use Rattle.line_law.proofs.Bus.{goes_none, after_world}
-use Rattle.line_law.proofs.Gates.{gate_world, SameOpen, with_channel, channel_kept, shut_kept, IsNew}
+use Rattle.line_law.proofs.Bus.{after_world}
+use Rattle.line_law.proofs.OnBus.{goes_none}
+use Rattle.line_law.proofs.Gates.{IsNew}
+use Rattle.line_law.proofs.GateCloses.{gate_world, SameOpen, with_channel, channel_kept, shut_kept}
 use Rattle.line_law.proofs.Acting.{UpOnce}
 use Rattle.line_law.proofs.Putting.{tunnel_kept}
 use Rattle.line_law.proofs.Facts.{new_place}

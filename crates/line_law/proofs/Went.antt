@@ -20,7 +20,7 @@ use Rattle.line_law.proofs.Courses.{NotService, DoneNow, WasDone, Now, Later, St
 use Rattle.line_law.proofs.CourseKept.{course_kept}
 use Rattle.line_law.proofs.Following.{later_job}
 use Rattle.line_law.proofs.Logs.{AreUpto, after, after_last, after_more, held_before, moments_upto}
-use Rattle.line_law.proofs.Stepping.{HeldJob, AllAttempted}
+use Rattle.line_law.proofs.HeldJobs.{HeldJob, AllAttempted}
 use Rattle.line_law.proofs.Traces.{Adds, Same, One}
 use Rattle.line_law.proofs.Runs.{Trace, Begins, Goes}
 

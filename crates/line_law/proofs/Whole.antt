@@ -10,7 +10,7 @@ use Rattle.line_model.specs.Sendings.{SendsRightly}
 use Rattle.line_model.specs.World.{World, Event}
 use Rattle.tunnel_law.proofs.Line.{line_once}
 use Rattle.line_law.proofs.Logs.{entries_of}
-use Rattle.line_law.proofs.Traces.{IsRun}
+use Rattle.line_law.proofs.RunsBefore.{IsRun}
 
 pub is_run : (jobs : List Job) (turns : List GroupTurn) (start : World) (events : List Event) (log : List LogEntry) → KeepsFull jobs turns start events log → IsRun jobs turns log start events
 is_run jobs turns start events log k =
