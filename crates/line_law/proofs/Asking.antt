@@ -14,7 +14,7 @@ use Rattle.knx_model.specs.ClientConnection.{ClientEnd, Asked, Up, Asking, Await
 use Rattle.knx_model.specs.Connection.{Session, IsApdu, control_frame, frame_in, disconnect}
 use Rattle.knx_model.specs.GoodPlan.{IsSendable, awaits_answer}
 use Rattle.knx_model.specs.Plans.{Plan, Asks as Operation}
-use Rattle.line_model.specs.Attempts.{Attempt, Attempts, Resting, Running, first, sent_of, sends_numbered, put_so, is_silent, aged, attempts_after, MayPut, MayAsk as MayAskSo, IsNext, Owes}
+use Rattle.line_model.specs.Attempts.{Attempt, Attempts, Resting, Running, first, sent_of, sends_numbered, put_so, is_silent, attempts_after, MayPut, MayAsk as MayAskSo, IsNext, Owes}
 use Rattle.line_model.specs.ClientView as view
 use Rattle.line_model.specs.Reading.{ldata_in, is_req}
 use Rattle.session_law.specs.World.{World as SessionWorld}
@@ -25,7 +25,6 @@ use Rattle.load_law.proofs.Walked.{sendable}
 use Rattle.line_law.proofs.Queue.{is_its}
 use Rattle.line_law.proofs.Attempting.{NotConnect, IsService, FlyFits, Stands, InPlan, IsWith, Runs, AttemptIs}
 use Rattle.line_law.proofs.Hearing.{stayed_with, stayed_stands}
-use Rattle.line_law.proofs.Telling.{aged_runs}
 use Rattle.line_law.proofs.Courses.{NotService}
 use Rattle.line_law.proofs.Requests.{connect_octets, disconnect_octets, put_step, PutsGoes, fly_is, not_flying}
 
@@ -184,25 +183,25 @@ module _ (a : ℕ) (address : IndAddr) (IsJob : Plan → Type 0) (device : IndAd
 
   -- ---- whichever it is
 
-  put_running : (x : TransportFrame) (k : ℕ) (t : Attempt) → frame_in f.tpdu ≡ x → Runs a plan (record t { lapsed = t.lapsed || is_silent (client_expired t.end now) }) s.client → MayPut (Running k t) now f.tpdu x
-      → Put (put_so device plan now (aged now (Running k t)) (Some x))
+  put_running : (x : TransportFrame) (k : ℕ) (t : Attempt) → frame_in f.tpdu ≡ x → Runs a plan t s.client → MayPut (Running k t) now f.tpdu x
+      → Put (put_so device plan now (Running k t) (Some x))
   put_running Connect k t e h may = absurd may
-  put_running Disconnect k t e h may = leaves k (record t { lapsed = t.lapsed || is_silent (client_expired t.end now) }) h e
-  put_running (Ack n) k t e h may = replies k (record t { lapsed = t.lapsed || is_silent (client_expired t.end now) }) h (Ack n) tt may
-  put_running (Nak n) k t e h may = replies k (record t { lapsed = t.lapsed || is_silent (client_expired t.end now) }) h (Nak n) tt may
+  put_running Disconnect k t e h may = leaves k t h e
+  put_running (Ack n) k t e h may = replies k t h (Ack n) tt may
+  put_running (Nak n) k t e h may = replies k t h (Nak n) tt may
   put_running (Numbered n apdu) k t e h may =
-      numbered k (record t { lapsed = t.lapsed || is_silent (client_expired t.end now) }) h n apdu e
+      numbered k t h n apdu e
       (record { owes_nothing = may.owes_nothing; which = elim may.which [ inl q ↦ inl (record { session = q.session; up = q.up; goes_on = q.goes_on; expect = q.expect; next = q.next; head = q.head; as_sent = q.as_sent }) | inr q ↦ inr q ] })
   put_running Other k t e h may = absurd may
 
-  put_goes : (x : TransportFrame) (t : Attempts) → frame_in f.tpdu ≡ x → AttemptIs a plan t s.client → MayPut t now f.tpdu x → Put (put_so device plan now (aged now t) (Some x))
+  put_goes : (x : TransportFrame) (t : Attempts) → frame_in f.tpdu ≡ x → AttemptIs a plan t s.client → MayPut t now f.tpdu x → Put (put_so device plan now t (Some x))
   put_goes Connect (Resting k) e h may = connects (suc k) e
   put_goes Disconnect (Resting k) e h may = absurd may
   put_goes (Ack n) (Resting k) e h may = absurd may
   put_goes (Nak n) (Resting k) e h may = absurd may
   put_goes (Numbered n apdu) (Resting k) e h may = absurd may
   put_goes Other (Resting k) e h may = absurd may
-  put_goes x (Running k t) e h may = put_running x k t e (aged_runs a plan t s.client (t.lapsed || is_silent (client_expired t.end now)) h) may
+  put_goes x (Running k t) e h may = put_running x k t e (h) may
 
   -- in the attempts of the job
   pub asks_kept : (t : Attempts) (content : List ℕ) (at : ℕ) → ldata_in content ≡ Some f → is_req f.code ≡ true → AttemptIs a plan t s.client → MayPut t now f.tpdu (frame_in f.tpdu) → Put (attempts_after device plan (record { what = view.Puts content; now = now; at = at }) t)

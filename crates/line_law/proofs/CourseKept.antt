@@ -9,7 +9,7 @@ use Rattle.knx_model.specs.ClientConnection.{ClientEnd, Ended, client_took, clie
 use Rattle.knx_model.specs.Connection.{frame_in}
 use Rattle.knx_model.specs.GoodPlan.{IsSendable}
 use Rattle.knx_model.specs.Plans.{Plan, Over}
-use Rattle.line_model.specs.Attempts.{Attempt, Attempts, Resting, Running, begun, aged, put_so, put_attempt, confirmed_so, confirmed_attempt, heard_so, heard_attempt, is_silent, attempts, attempts_after, MayPut}
+use Rattle.line_model.specs.Attempts.{Attempt, Attempts, Resting, Running, begun, put_so, put_attempt, confirmed_so, confirmed_attempt, heard_so, heard_attempt, is_silent, attempts, attempts_after, MayPut}
 use Rattle.line_model.specs.Moments.{Moment, confirmation_in, put_to, heard_from, Number, Next, number_put, number_heard, number, is_disconnect, closes_by, is_loss, ends_session, is_connect, grown, stretches, Course, Unconfirmed, WithError, InSession, Left, course_from, course_after, course, is_acknowledged, acknowledged, answer_expected, answers}
 use Rattle.line_model.specs.Progress.{Reaches}
 use Rattle.line_model.specs.Told.{WentThrough}
@@ -19,7 +19,7 @@ use Rattle.line_law.proofs.Courses.{Kind, Lost, Plain, Put, Confirmed, Hears, No
 use Rattle.line_model.specs.Attempts.{first, put_other}
 use Rattle.line_law.proofs.CourseSteps.{Closes, end_closes, closed_idle, numbered_count, ended_asks}
 use Rattle.line_law.proofs.CourseEnds.{ended_confirmed, ended_took, asked_took}
-use Rattle.line_law.proofs.Landing.{confirmed_none, heard_none, aged_count, aged_idle, aged_begun, aged_rest, con_count, begun_count, Allowed, aged_allowed, Free, PutsSo}
+use Rattle.line_law.proofs.Landing.{confirmed_none, heard_none, Allowed, allowed, Free, PutsSo}
 
 module _ (a : ℕ) (device : IndAddr) (plan : Plan) (can : IsSendable plan) (m : Moment) (l : List Moment) where
   abbrev t : Attempts
@@ -91,11 +91,11 @@ module _ (a : ℕ) (device : IndAddr) (plan : Plan) (can : IsSendable plan) (m :
   lost_course e p h k (Left s) q = left_kept s (Resting k) None p tt tt q
 
   -- ---- nothing comes or goes
-  plain_course : is_loss m.what ≡ false → put_to a m.what ≡ None → confirmation_in m.what ≡ None → heard_from a m.what ≡ None → (c : Course) → CourseIs a device plan c (attempts device plan l) l → Kept (course_after a m c) (aged m.now (attempts device plan l))
-  plain_course e p c h Unconfirmed q = unconfirmed_by false None (aged m.now (attempts device plan l)) e c (aged_begun plan (attempts device plan l) m.now q)
+  plain_course : is_loss m.what ≡ false → put_to a m.what ≡ None → confirmation_in m.what ≡ None → heard_from a m.what ≡ None → (c : Course) → CourseIs a device plan c (attempts device plan l) l → Kept (course_after a m c) (attempts device plan l)
+  plain_course e p c h Unconfirmed q = unconfirmed_by false None (attempts device plan l) e c (q)
   plain_course e p c h WithError q = tt
-  plain_course e p c h (InSession s) q = on None None p h s (aged m.now (attempts device plan l)) (ends None None p h s false e) (aged_count plan (attempts device plan l) m.now (number a s) (acknowledged a s) (answers a s) q)
-  plain_course e p c h (Left s) q = left_kept s (aged m.now (attempts device plan l)) None p tt (aged_idle (attempts device plan l) m.now q.0) q
+  plain_course e p c h (InSession s) q = on None None p h s (attempts device plan l) (ends None None p h s false e) (q)
+  plain_course e p c h (Left s) q = left_kept s (attempts device plan l) None p tt (q.0) q
 
   -- ---- a confirmation comes
   con_on : (k : ℕ) (u : Attempt) (error : Bool) (o : Number) (acked : ℕ) (ans : List (List ℕ)) → Count plan u o acked ans → CountIs plan (confirmed_attempt k u m.now error u.flying) o acked ans
@@ -115,13 +115,6 @@ module _ (a : ℕ) (device : IndAddr) (plan : Plan) (can : IsSendable plan) (m :
   con_course (Running k u) error e p c h (InSession s) q f = on None None p h s (confirmed_attempt k u m.now error u.flying) (ends None None p h s false e) (con_on k u error (number a s) (acknowledged a s) (answers a s) q)
   con_course (Resting k) error e p c h (Left s) q f = (tt, λ w some. Later (q.1 w some) (not_service None p tt))
   con_course (Running k u) error e p c h (Left s) q f = (ended_confirmed u k m.now error u.flying q.0, λ w some. Later (q.1 w some) (not_service None p tt))
-
-  -- the same course of an attempt that has aged
-  aged_course : (c : Course) → CourseIs a device plan c (attempts device plan l) l → CourseIs a device plan c (aged m.now (attempts device plan l)) l
-  aged_course Unconfirmed q = aged_begun plan (attempts device plan l) m.now q
-  aged_course WithError q = tt
-  aged_course (InSession s) q = aged_count plan (attempts device plan l) m.now (number a s) (acknowledged a s) (answers a s) q
-  aged_course (Left s) q = (aged_idle (attempts device plan l) m.now q.0, q.1)
 
   con_rest : (u : Attempts) (o : Option Bool) → AtRest u → AtRest (confirmed_so m.now u o)
   con_rest (Resting k) o h = h
@@ -182,14 +175,14 @@ module _ (a : ℕ) (device : IndAddr) (plan : Plan) (can : IsSendable plan) (m :
 
   -- ---- whichever it is
   after_is : device.raw ≡ a → (b : Bool) (p h : Option TransportFrame) (c : Option Bool) → is_loss m.what ≡ b → put_to a m.what ≡ p → confirmation_in m.what ≡ c → heard_from a m.what ≡ h
-      → attempts_after device plan m (attempts device plan l) ≡ (if b then Resting (begun (attempts device plan l)) else heard_so m.now (confirmed_so m.now (put_so device plan m.now (aged m.now (attempts device plan l)) p) c) h)
+      → attempts_after device plan m (attempts device plan l) ≡ (if b then Resting (begun (attempts device plan l)) else heard_so m.now (confirmed_so m.now (put_so device plan m.now (attempts device plan l) p) c) h)
   after_is raw b p h c e q k f =
       let t : Attempts = attempts device plan l in
-      ap (λ z. cond {A = Attempts} (is_loss m.what) (Resting (begun t)) (heard_so m.now (confirmed_so m.now (put_so device plan m.now (aged m.now t) (put_to z m.what)) (confirmation_in m.what)) (heard_from z m.what))) raw
-      ∙ ap (λ z. cond {A = Attempts} z (Resting (begun t)) (heard_so m.now (confirmed_so m.now (put_so device plan m.now (aged m.now t) (put_to a m.what)) (confirmation_in m.what)) (heard_from a m.what))) e
-      ∙ ap (λ z. cond {A = Attempts} b (Resting (begun t)) (heard_so m.now (confirmed_so m.now (put_so device plan m.now (aged m.now t) z) (confirmation_in m.what)) (heard_from a m.what))) q
-      ∙ ap (λ z. cond {A = Attempts} b (Resting (begun t)) (heard_so m.now (confirmed_so m.now (put_so device plan m.now (aged m.now t) p) z) (heard_from a m.what))) k
-      ∙ ap (λ z. cond {A = Attempts} b (Resting (begun t)) (heard_so m.now (confirmed_so m.now (put_so device plan m.now (aged m.now t) p) c) z)) f
+      ap (λ z. cond {A = Attempts} (is_loss m.what) (Resting (begun t)) (heard_so m.now (confirmed_so m.now (put_so device plan m.now t (put_to z m.what)) (confirmation_in m.what)) (heard_from z m.what))) raw
+      ∙ ap (λ z. cond {A = Attempts} z (Resting (begun t)) (heard_so m.now (confirmed_so m.now (put_so device plan m.now t (put_to a m.what)) (confirmation_in m.what)) (heard_from a m.what))) e
+      ∙ ap (λ z. cond {A = Attempts} b (Resting (begun t)) (heard_so m.now (confirmed_so m.now (put_so device plan m.now t z) (confirmation_in m.what)) (heard_from a m.what))) q
+      ∙ ap (λ z. cond {A = Attempts} b (Resting (begun t)) (heard_so m.now (confirmed_so m.now (put_so device plan m.now t p) z) (heard_from a m.what))) k
+      ∙ ap (λ z. cond {A = Attempts} b (Resting (begun t)) (heard_so m.now (confirmed_so m.now (put_so device plan m.now t p) c) z)) f
 
   abbrev Done : Type 0
   Done = StretchIs a device plan (stretches a (m ∷ l)) (attempts_after device plan m (attempts device plan l)) (m ∷ l)
@@ -198,8 +191,8 @@ module _ (a : ℕ) (device : IndAddr) (plan : Plan) (can : IsSendable plan) (m :
   with_after u e h = subst (λ z. StretchIs a device plan (stretches a (m ∷ l)) z (m ∷ l)) (sym e) h
 
   put_other_kept : (t : Attempts) (x : TransportFrame) (octets : List ℕ) → is_loss m.what ≡ false → put_to a m.what ≡ Some x → confirmation_in m.what ≡ None → heard_from a m.what ≡ None → frame_in octets ≡ x → is_connect (Some x) ≡ false → MayPut t m.now octets x → Free t
-      → ((c : Course) → CourseIs a device plan c (attempts device plan l) l → CourseIs a device plan c (aged m.now t) l) → (AtRest (attempts device plan l) → AtRest t) → StretchIs a device plan (stretches a l) (attempts device plan l) l
-      → StretchIs a device plan (grown m (stretches a l)) (put_other (aged m.now t) m.now x) (m ∷ l)
+      → ((c : Course) → CourseIs a device plan c (attempts device plan l) l → CourseIs a device plan c t l) → (AtRest (attempts device plan l) → AtRest t) → StretchIs a device plan (stretches a l) (attempts device plan l) l
+      → StretchIs a device plan (grown m (stretches a l)) (put_other t m.now x) (m ∷ l)
   put_other_kept (Resting k) Connect octets e p c h read n may free f g s = absurd (cc)
   put_other_kept (Resting k) Disconnect octets e p c h read n may free f g s = absurd may
   put_other_kept (Resting k) (Ack j) octets e p c h read n may free f g s = absurd may
@@ -207,20 +200,20 @@ module _ (a : ℕ) (device : IndAddr) (plan : Plan) (can : IsSendable plan) (m :
   put_other_kept (Resting k) (Numbered j apdu) octets e p c h read n may free f g s = absurd may
   put_other_kept (Resting k) Other octets e p c h read n may free f g s = absurd may
   put_other_kept (Running k u) x octets e p c h read n may free f g s =
-      grown_kept (put_other (aged m.now (Running k u)) m.now x) (λ r. absurd (g r))
-      (λ y q. put_running k (record u { lapsed = u.lapsed || is_silent (client_expired u.end m.now) }) x octets e p c h read (aged_allowed k u (u.lapsed || is_silent (client_expired u.end m.now)) m.now octets x may) free y q (f y q)) (stretches a l) s
+      grown_kept (put_other (Running k u) m.now x) (λ r. absurd (g r))
+      (λ y q. put_running k u x octets e p c h read (allowed k u m.now octets x may) free y q (f y q)) (stretches a l) s
 
-  other_kind : (x : TransportFrame) → is_connect (Some x) ≡ false → put_so device plan m.now (aged m.now (attempts device plan l)) (Some x) ≡ put_other (aged m.now (attempts device plan l)) m.now x → device.raw ≡ a → is_loss m.what ≡ false → put_to a m.what ≡ Some x → confirmation_in m.what ≡ None
+  other_kind : (x : TransportFrame) → is_connect (Some x) ≡ false → put_so device plan m.now (attempts device plan l) (Some x) ≡ put_other (attempts device plan l) m.now x → device.raw ≡ a → is_loss m.what ≡ false → put_to a m.what ≡ Some x → confirmation_in m.what ≡ None
       → heard_from a m.what ≡ None → PutsSo (attempts device plan l) m.now x → StretchIs a device plan (stretches a l) (attempts device plan l) l → Done
   other_kind x n so raw e p c h may s =
-      let u : Attempts = put_other (aged m.now (attempts device plan l)) m.now x in
+      let u : Attempts = put_other (attempts device plan l) m.now x in
       with_after u (after_is raw false (Some x) None None e p c h ∙ ap (λ z. heard_so m.now (confirmed_so m.now z None) None) so ∙ heard_none m.now (confirmed_so m.now u None) ∙ confirmed_none m.now u)
-      (stretch_by (Some x) u p n (put_other_kept (attempts device plan l) x may.octets e p c h may.reads n may.may may.free (λ y q. aged_course y q) (λ q. q) s))
+      (stretch_by (Some x) u p n (put_other_kept (attempts device plan l) x may.octets e p c h may.reads n may.may may.free (λ y q. q) (λ q. q) s))
 
   put_kind : (x : TransportFrame) → device.raw ≡ a → is_loss m.what ≡ false → put_to a m.what ≡ Some x → confirmation_in m.what ≡ None → heard_from a m.what ≡ None → PutsSo (attempts device plan l) m.now x → StretchIs a device plan (stretches a l) (attempts device plan l) l → Done
   put_kind Connect raw e p c h may s =
-      with_after (Running (suc (begun (aged m.now (attempts device plan l)))) (first device plan)) (after_is raw false (Some Connect) None None e p c h)
-      (subst (λ b. StretchIs a device plan (cond {A = List (List Moment)} b ([] ∷ stretches a l) (grown m (stretches a l))) (Running (suc (begun (aged m.now (attempts device plan l)))) (first device plan)) (m ∷ l)) (sym (ap is_connect p)) (device, refl, refl, refl, refl))
+      with_after (Running (suc (begun (attempts device plan l))) (first device plan)) (after_is raw false (Some Connect) None None e p c h)
+      (subst (λ b. StretchIs a device plan (cond {A = List (List Moment)} b ([] ∷ stretches a l) (grown m (stretches a l))) (Running (suc (begun (attempts device plan l))) (first device plan)) (m ∷ l)) (sym (ap is_connect p)) (device, refl, refl, refl, refl))
   put_kind Disconnect raw e p c h may s = other_kind Disconnect refl refl raw e p c h may s
   put_kind (Ack j) raw e p c h may s = other_kind (Ack j) refl refl raw e p c h may s
   put_kind (Nak j) raw e p c h may s = other_kind (Nak j) refl refl raw e p c h may s
@@ -233,15 +226,15 @@ module _ (a : ℕ) (device : IndAddr) (plan : Plan) (can : IsSendable plan) (m :
       with_after (Resting k) (after_is raw true (put_to a m.what) (heard_from a m.what) (confirmation_in m.what) e refl refl refl)
       (stretch_by None (Resting k) p refl (grown_kept (Resting k) (λ q. tt) (λ y q. lost_course e p h k y q) (stretches a l) s))
   course_kept raw (Plain e p c h) allowed s =
-      let u : Attempts = aged m.now (attempts device plan l) in
+      let u : Attempts = (attempts device plan l) in
       with_after u (after_is raw false None None None e p c h ∙ heard_none m.now (confirmed_so m.now u None) ∙ confirmed_none m.now u)
-      (stretch_by None u p refl (grown_kept u (aged_rest (attempts device plan l) m.now) (λ y q. plain_course e p c h y q) (stretches a l) s))
+      (stretch_by None u p refl (grown_kept u (λ q. q) (λ y q. plain_course e p c h y q) (stretches a l) s))
   course_kept raw (Put x e p c h) allowed s = put_kind x raw e p c h (allowed x p) s
   course_kept raw (Confirmed error e p c h) allowed s =
-      let u : Attempts = confirmed_so m.now (aged m.now (attempts device plan l)) (Some error) in
+      let u : Attempts = confirmed_so m.now (attempts device plan l) (Some error) in
       with_after u (after_is raw false None None (Some error) e p c h ∙ heard_none m.now u)
-      (stretch_by None u p refl (grown_kept u (λ q. con_rest (aged m.now (attempts device plan l)) (Some error) (aged_rest (attempts device plan l) m.now q)) (λ y q. con_course (aged m.now (attempts device plan l)) error e p c h y (aged_course y q) (λ z. z)) (stretches a l) s))
+      (stretch_by None u p refl (grown_kept u (λ q. con_rest (attempts device plan l) (Some error) (q)) (λ y q. con_course (attempts device plan l) error e p c h y (q) (λ z. z)) (stretches a l) s))
   course_kept raw (Hears y e p c h) allowed s =
-      let u : Attempts = heard_so m.now (aged m.now (attempts device plan l)) (Some y) in
-      with_after u (after_is raw false None (Some y) None e p c h ∙ ap (λ z. heard_so m.now z (Some y)) (confirmed_none m.now (aged m.now (attempts device plan l))))
-      (stretch_by None u p refl (grown_kept u (λ q. hear_rest (aged m.now (attempts device plan l)) (Some y) (aged_rest (attempts device plan l) m.now q)) (λ z q. hear_course (aged m.now (attempts device plan l)) y e p c h z q (aged_course z q)) (stretches a l) s))
+      let u : Attempts = heard_so m.now (attempts device plan l) (Some y) in
+      with_after u (after_is raw false None (Some y) None e p c h ∙ ap (λ z. heard_so m.now z (Some y)) (confirmed_none m.now (attempts device plan l)))
+      (stretch_by None u p refl (grown_kept u (λ q. hear_rest (attempts device plan l) (Some y) (q)) (λ z q. hear_course (attempts device plan l) y e p c h z q (q)) (stretches a l) s))

@@ -3,7 +3,7 @@ use Rattle.std.proofs.Common.{◌≡◌, ℕ, ◌⊎◌, List, Bool, true, false
 use Rattle.std.specs.Prelude.{◌==◌}
 use Rattle.knx_model.specs.Plans.{Plan}
 use Rattle.line_model.specs.declared.log.LogEntry.{LogEntry}
-use Rattle.line_model.specs.Attempts.{Attempts, Resting, Running, aged, attempts, attempts_after}
+use Rattle.line_model.specs.Attempts.{Attempts, Resting, Running, attempts, attempts_after}
 use Rattle.line_model.specs.ClientView.{ClientChannel, Open, or_number}
 use Rattle.line_model.specs.Log.{Job, Held, job_of, state_of}
 use Rattle.line_model.specs.Moments.{Moment}
@@ -19,7 +19,6 @@ use Rattle.knx_model.specs.declared.connection.TransportFrame.{TransportFrame}
 use Rattle.line_model.specs.Moments.{put_to}
 use Rattle.line_law.proofs.Attempting.{IsService, AttemptIs}
 use Rattle.line_law.proofs.Landing.{PutsSo as PutsAllowed}
-use Rattle.line_law.proofs.Telling.{aged_runs}
 use Rattle.line_law.proofs.Logs.{after}
 
 -- ---- the job of a device that is held
@@ -62,10 +61,6 @@ pub moves_number : {c d : ClientChannel} → Moves c d → (number : Option ℕ)
 moves_number (Outside {c} {d} f g o p q) number h = number_stays d number q
 moves_number (Goes {c} {l} {more} same) number h = sym (h c l refl)
 moves_number Stays number h = refl
-
-pub aged_attempt : (a : ℕ) (plan : Plan) (t : Attempts) (c : Client) (t2 : ℕ) → AttemptIs a plan t c → AttemptIs a plan (aged t2 t) c
-aged_attempt a plan (Resting k) c t2 h = tt
-aged_attempt a plan (Running k t) c t2 h = aged_runs a plan t c _ h
 
 pub eqb_is : (x y : ℕ) → (x == y) ≡ true → x ≡ y
 eqb_is x y e = grind arith

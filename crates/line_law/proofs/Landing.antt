@@ -6,7 +6,7 @@ use Rattle.knx_model.specs.declared.connection.TransportFrame.TheVariants.{Conne
 use Rattle.knx_model.specs.ClientConnection.{ClientEnd, Asked, Up, Asking, Awaiting, Ended, after_confirmed}
 use Rattle.knx_model.specs.Connection.{frame_in}
 use Rattle.knx_model.specs.Plans.{Plan}
-use Rattle.line_model.specs.Attempts.{Attempt, Attempts, Resting, Running, awaits, aged, confirmed_so, confirmed_attempt, landed, heard_so, MayPut, MayAsk}
+use Rattle.line_model.specs.Attempts.{Attempt, Attempts, Resting, Running, awaits, confirmed_so, confirmed_attempt, landed, heard_so, MayPut, MayAsk}
 use Rattle.line_model.specs.Moments.{Number, Next}
 use Rattle.line_law.proofs.Counts.{NumberIs, ExpectedIs, LeftIs, NotEnd, Count, CountIs}
 use Rattle.line_law.proofs.Courses.{Begun, Idle, AtRest}
@@ -20,22 +20,6 @@ confirmed_none now (Running k t) = refl
 pub heard_none : (now : ℕ) (t : Attempts) → heard_so now t None ≡ t
 heard_none now (Resting k) = refl
 heard_none now (Running k t) = refl
-
-pub aged_count : (plan : Plan) (t : Attempts) (now : ℕ) (o : Number) (acked : ℕ) (ans : List (List ℕ)) → CountIs plan t o acked ans → CountIs plan (aged now t) o acked ans
-aged_count plan (Resting k) now o acked ans h = h
-aged_count plan (Running k t) now o acked ans h = record { sent = h.sent; number_is = h.number_is; expected_is = h.expected_is; plain = h.plain; left_is = h.left_is; spoilt = h.spoilt }
-
-pub aged_idle : (t : Attempts) (now : ℕ) → Idle t → Idle (aged now t)
-aged_idle (Resting k) now h = h
-aged_idle (Running k t) now h = h
-
-pub aged_begun : (plan : Plan) (t : Attempts) (now : ℕ) → Begun plan t → Begun plan (aged now t)
-aged_begun plan (Resting k) now h = h
-aged_begun plan (Running k t) now h = h
-
-pub aged_rest : (t : Attempts) (now : ℕ) → AtRest t → AtRest (aged now t)
-aged_rest (Resting k) now h = h
-aged_rest (Running k t) now h = h
 
 -- ---- a confirmation
 
@@ -104,14 +88,14 @@ Allowed u now octets (Nak j) = Unit {0}
 Allowed u now octets (Numbered j apdu) = MayAsk u now apdu octets
 Allowed u now octets Other = ⊥
 
-pub aged_allowed : (k : ℕ) (u : Attempt) (b : Bool) (now : ℕ) (octets : List ℕ) (x : TransportFrame) → MayPut (Running k u) now octets x → Allowed (record u { lapsed = b }) now octets x
-aged_allowed k u b now octets Connect h = h
-aged_allowed k u b now octets Disconnect h = tt
-aged_allowed k u b now octets (Ack j) h = tt
-aged_allowed k u b now octets (Nak j) h = tt
-aged_allowed k u b now octets (Numbered j apdu) h =
+pub allowed : (k : ℕ) (u : Attempt) (now : ℕ) (octets : List ℕ) (x : TransportFrame) → MayPut (Running k u) now octets x → Allowed u now octets x
+allowed k u now octets Connect h = h
+allowed k u now octets Disconnect h = tt
+allowed k u now octets (Ack j) h = tt
+allowed k u now octets (Nak j) h = tt
+allowed k u now octets (Numbered j apdu) h =
     record { owes_nothing = h.owes_nothing; which = elim h.which [ inl q ↦ inl (record { session = q.session; up = q.up; goes_on = q.goes_on; expect = q.expect; next = q.next; head = q.head; as_sent = q.as_sent }) | inr due ↦ inr due ] }
-aged_allowed k u b now octets Other h = h
+allowed k u now octets Other h = h
 
 abbrev pub Free : Attempts → Type 0
 Free (Resting k) = Unit {0}

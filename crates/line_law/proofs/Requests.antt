@@ -10,7 +10,7 @@ use Rattle.knx_model.specs.Apdu.{Written, most_octets}
 use Rattle.knx_model.specs.Connection.{control_frame, frame_in, disconnect}
 use Rattle.knx_model.specs.DeviceFrames.{own_frame}
 use Rattle.knx_model.specs.Plans.{Plan}
-use Rattle.line_model.specs.Attempts.{Attempts, Resting, Running, put_so, aged, confirmed_so, heard_so, attempts_after}
+use Rattle.line_model.specs.Attempts.{Attempts, Resting, Running, put_so, confirmed_so, heard_so, attempts_after}
 use Rattle.line_model.specs.ClientView as view
 use Rattle.line_model.specs.Moments.{where_is, transport_of, is_to}
 use Rattle.line_model.specs.Reading.{ldata_in, is_req}
@@ -78,23 +78,23 @@ heard_none now (Resting k) = refl
 heard_none now (Running k t) = refl
 
 pub put_step : (a : ℕ) (device : IndAddr) (plan : Plan) (t : Attempts) (content : List ℕ) (f : Ldata) (now at : ℕ) → device.raw ≡ a → ldata_in content ≡ Some f → is_req f.code ≡ true → is_to a f ≡ true
-    → attempts_after device plan (record { what = view.Puts content; now = now; at = at }) t ≡ put_so device plan now (aged now t) (Some (frame_in f.tpdu))
+    → attempts_after device plan (record { what = view.Puts content; now = now; at = at }) t ≡ put_so device plan now t (Some (frame_in f.tpdu))
 put_step a device plan t content f now at e reads req its =
     let put : transport_of (where_is (is_to device.raw) (where_is (λ (x : Ldata). is_req x.code) (ldata_in content))) ≡ Some (frame_in f.tpdu)
     = ap (λ o. transport_of (where_is (is_to device.raw) (where_is (λ (x : Ldata). is_req x.code) o))) reads ∙ rw req (ap (λ b. transport_of (cond {A = Option Ldata} b (Some f) None)) (ap (λ z. is_to z f) e ∙ its)) in
-    heard_none now (confirmed_so now (put_so device plan now (aged now t) (transport_of (where_is (is_to device.raw) (where_is (λ (x : Ldata). is_req x.code) (ldata_in content))))) None)
-    ∙ confirmed_none now (put_so device plan now (aged now t) (transport_of (where_is (is_to device.raw) (where_is (λ (x : Ldata). is_req x.code) (ldata_in content)))))
-    ∙ ap (put_so device plan now (aged now t)) put
+    heard_none now (confirmed_so now (put_so device plan now t (transport_of (where_is (is_to device.raw) (where_is (λ (x : Ldata). is_req x.code) (ldata_in content))))) None)
+    ∙ confirmed_none now (put_so device plan now t (transport_of (where_is (is_to device.raw) (where_is (λ (x : Ldata). is_req x.code) (ldata_in content)))))
+    ∙ ap (put_so device plan now t) put
 
 -- one that isn't for its device changes nothing
 pub other_step : (a : ℕ) (device : IndAddr) (plan : Plan) (t : Attempts) (content : List ℕ) (f : Ldata) (now at : ℕ) → device.raw ≡ a → ldata_in content ≡ Some f → is_req f.code ≡ true → is_to a f ≡ false
-    → attempts_after device plan (record { what = view.Puts content; now = now; at = at }) t ≡ aged now t
+    → attempts_after device plan (record { what = view.Puts content; now = now; at = at }) t ≡ t
 other_step a device plan t content f now at e reads req its =
     let put : transport_of (where_is (is_to device.raw) (where_is (λ (x : Ldata). is_req x.code) (ldata_in content))) ≡ None
     = ap (λ o. transport_of (where_is (is_to device.raw) (where_is (λ (x : Ldata). is_req x.code) o))) reads ∙ rw req (ap (λ b. transport_of (cond {A = Option Ldata} b (Some f) None)) (ap (λ z. is_to z f) e ∙ its)) in
-    heard_none now (confirmed_so now (put_so device plan now (aged now t) (transport_of (where_is (is_to device.raw) (where_is (λ (x : Ldata). is_req x.code) (ldata_in content))))) None)
-    ∙ confirmed_none now (put_so device plan now (aged now t) (transport_of (where_is (is_to device.raw) (where_is (λ (x : Ldata). is_req x.code) (ldata_in content)))))
-    ∙ ap (put_so device plan now (aged now t)) put
+    heard_none now (confirmed_so now (put_so device plan now t (transport_of (where_is (is_to device.raw) (where_is (λ (x : Ldata). is_req x.code) (ldata_in content))))) None)
+    ∙ confirmed_none now (put_so device plan now t (transport_of (where_is (is_to device.raw) (where_is (λ (x : Ldata). is_req x.code) (ldata_in content)))))
+    ∙ ap (put_so device plan now t) put
 
 -- ---- what the session puts
 

@@ -44,7 +44,7 @@ use Rattle.line_law.proofs.Telling.{take_attempt, still_attempt, lost_attempt, n
 use Rattle.line_law.proofs.Asking.{asks_kept}
 use Rattle.line_law.proofs.Requests.{PutsGoes, other_step}
 use Rattle.line_law.proofs.Logs.{AreUpto, after, between_is, upto_more}
-use Rattle.line_law.proofs.HeldJobs.{HeldJob, HeldPlan, AllAttempted, AttemptedOn, EntryGoes, moves_number, aged_attempt, eqb_is, its_is}
+use Rattle.line_law.proofs.HeldJobs.{HeldJob, HeldPlan, AllAttempted, AttemptedOn, EntryGoes, moves_number, eqb_is, its_is}
 use Rattle.line_law.proofs.NothingAsked.{silent_follows}
 
 module _ (jobs : List Job) (turns : List GroupTurn) (log : List LogEntry) (a : ℕ) (w : World) (r : List Entry) (older : List Placed) (x : Entry) (at : ℕ) (s : SessionWorld) (same : entries older ≡ r) (kept : is_renewal x.what ≡ false) (h : HeadView r w.tunnel.present)
@@ -174,7 +174,7 @@ module _ (jobs : List Job) (turns : List GroupTurn) (log : List LogEntry) (a : �
         attempted = with_deed (view.Puts content) p.puts s.client (λ q.
             subst (λ z. AttemptIs a q.job.plan z s.client)
             (sym (other_step a q.job.device q.job.plan (attempts q.job.device q.job.plan (after q.since (moments older))) content f x.now (suc at) q.of_device p.reads p.request its))
-            (aged_attempt a q.job.plan (attempts q.job.device q.job.plan (after q.since (moments older))) s.client x.now (before q)));
+            ((before q)));
         asks = inl tt;
         puts = λ k y z. absurd (no_put (view.Puts content) p.puts (put_is content f p.reads p.request ∙ ap (λ b. transport_of (cond {A = Option Ldata} b (Some f) None)) its) y z);
       }

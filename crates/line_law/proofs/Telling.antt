@@ -25,9 +25,6 @@ use Rattle.line_law.proofs.Hearing.{hears_nothing, hear_attempt}
 
 -- ---- the time alone
 
-pub aged_runs : (a : ℕ) (plan : Plan) (t : Attempt) (c : Client) (b : Bool) → Runs a plan t c → Runs a plan (record t { lapsed = b }) c
-aged_runs a plan t c b h = record { end_is = h.end_is; owed_is = h.owed_is; flies = h.flies; fits = h.fits; with_it = h.with_it; joined = h.joined; stands = h.stands }
-
 -- ---- what is told
 
 heard_none : (now : ℕ) (t : Attempts) → heard_so now t None ≡ t
@@ -99,15 +96,15 @@ pub take_attempt : (a : ℕ) (device : IndAddr) (plan : Plan) (t : Attempts) (c 
     → AttemptIs a plan (attempts_after device plan (record { what = view.Takes content; now = now; at = at }) t) (client_told a now c (ldata_in content))
 take_attempt a device plan (Resting k) c content now at e h its = tt
 take_attempt a device plan (Running k t) c content now at e h its =
-    let older : Runs a plan (record t { lapsed = t.lapsed || is_silent (client_expired t.end now) }) c = aged_runs a plan t c (t.lapsed || is_silent (client_expired t.end now)) h in
-    let P : ℕ → Type 0 = λ z. AttemptIs a plan (heard_so now (confirmed_so now (Running k (record t { lapsed = t.lapsed || is_silent (client_expired t.end now) })) (error_of (where_is (λ (x : Ldata). is_con x.code) (ldata_in content))))
+    let older : Runs a plan t c = h in
+    let P : ℕ → Type 0 = λ z. AttemptIs a plan (heard_so now (confirmed_so now (Running k t) (error_of (where_is (λ (x : Ldata). is_con x.code) (ldata_in content))))
     (transport_of (where_is (is_from z) (where_is (λ (x : Ldata). is_ind x.code) (ldata_in content))))) (client_told a now c (ldata_in content)) in
-    subst P (sym e) (told_by a plan k (record t { lapsed = t.lapsed || is_silent (client_expired t.end now) }) c now (ldata_in content) older its)
+    subst P (sym e) (told_by a plan k t c now (ldata_in content) older its)
 
 -- nothing comes or goes, or the channel is lost
 pub still_attempt : (a : ℕ) (device : IndAddr) (plan : Plan) (t : Attempts) (c : Client) (now at : ℕ) → AttemptIs a plan t c → AttemptIs a plan (attempts_after device plan (record { what = view.Nothing; now = now; at = at }) t) c
 still_attempt a device plan (Resting k) c now at h = tt
-still_attempt a device plan (Running k t) c now at h = aged_runs a plan t c (t.lapsed || is_silent (client_expired t.end now)) h
+still_attempt a device plan (Running k t) c now at h = h
 
 pub lost_attempt : (a : ℕ) (device : IndAddr) (plan : Plan) (t : Attempts) (c : Client) (now at : ℕ) → AttemptIs a plan (attempts_after device plan (record { what = view.Loses; now = now; at = at }) t) c
 lost_attempt a device plan t c now at = tt
