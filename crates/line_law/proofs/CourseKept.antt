@@ -19,7 +19,7 @@ use Rattle.line_law.proofs.Courses.{Kind, Lost, Plain, Put, Confirmed, Hears, No
 use Rattle.line_model.specs.Attempts.{first, put_other}
 use Rattle.line_law.proofs.CourseSteps.{Closes, end_closes, closed_idle, numbered_count, ended_asks}
 use Rattle.line_law.proofs.CourseEnds.{ended_confirmed, ended_took, asked_took}
-use Rattle.line_law.proofs.Landing.{confirmed_none, heard_none, Allowed, allowed, Free, PutsSo}
+use Rattle.line_law.proofs.Landing.{confirmed_none, heard_none, con_count, begun_count, Allowed, allowed, Free, PutsSo}
 
 module _ (a : ℕ) (device : IndAddr) (plan : Plan) (can : IsSendable plan) (m : Moment) (l : List Moment) where
   abbrev t : Attempts

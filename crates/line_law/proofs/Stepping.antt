@@ -174,7 +174,7 @@ module _ (jobs : List Job) (turns : List GroupTurn) (log : List LogEntry) (a : �
         attempted = with_deed (view.Puts content) p.puts s.client (λ q.
             subst (λ z. AttemptIs a q.job.plan z s.client)
             (sym (other_step a q.job.device q.job.plan (attempts q.job.device q.job.plan (after q.since (moments older))) content f x.now (suc at) q.of_device p.reads p.request its))
-            ((before q)));
+            (before q));
         asks = inl tt;
         puts = λ k y z. absurd (no_put (view.Puts content) p.puts (put_is content f p.reads p.request ∙ ap (λ b. transport_of (cond {A = Option Ldata} b (Some f) None)) its) y z);
       }
