@@ -193,3 +193,11 @@ takes_free (Lost turn) jobs l reserved held = tt
 pub one_downloader : (jobs : List Job) (log : List LogEntry) → IsReserved jobs log → OneDownloaderPerDevice jobs log
 one_downloader jobs [] reserved = tt
 one_downloader jobs (e ∷ log) reserved = (takes_free e.what jobs log reserved.1 reserved.0, one_downloader jobs log reserved.1)
+
+-- ---- a job that is held in the reservation is held by the log
+
+pub held_by_log : (jobs : List Job) (log : List LogEntry) (job worker : ℕ) → IsReserved jobs log → stage_of (reservation_after jobs log) job ≡ Some (Held worker) → (since : ℕ) × (state_of job log ≡ logs.Held worker since)
+held_by_log jobs l job worker reserved held =
+    let there : job_of jobs job ≢ None = is_there jobs job (from_1 (reservation_after jobs l).stages job (Held worker) held) (omega (arith, within (reservation_after jobs l).stages job (Held worker) held, length_is jobs l)) in
+    let stage : stage_of (reservation_after jobs l) job ≡ Some (stage_in (state_of job l)) = stage_is jobs l job reserved there in
+    held_in_log (state_of job l) worker (cc)

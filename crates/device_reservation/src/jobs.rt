@@ -1,7 +1,7 @@
 //! The jobs of a run.
 
-ghost use Rattle.std.specs.Prelude.{◌≡◌, ℕ, ◌<◌, ◌^◌, ◌↔◌, length, IfOk, IsTrue};
-ghost use Rattle.device_reservation.specs.Reservation.{IsFirstFree, AllWait, AllTaken, IsHeld, none_taken, after_take, job_ended, EarlierAreOver, NoneHeldTwice};
+ghost use Rattle.std.specs.Prelude.{◌≡◌, ℕ, ◌<◌, ◌^◌, ◌↔◌, length, IfOk, IsTrue, Some};
+ghost use Rattle.device_reservation.specs.Reservation.{device_of, IsFirstFree, AllWait, AllTaken, IsHeld, none_taken, after_take, job_ended, EarlierAreOver, NoneHeldTwice};
 
 use crate::bits::Bits;
 use crate::chains::Chains;
@@ -93,6 +93,14 @@ impl Jobs {
             return false;
         }
         matches!(self.stages.get(job as usize - 1), Some(Stage::Held(_)))
+    }
+
+    /// The device of a job that is held.
+    pub fn device_of(&self, job: u32) -> IndAddr
+        requires { IsHeld self.now job }
+        ensures { device_of self.now job ≡ Some result }
+    {
+        self.devices[job as usize - 1]
     }
 
     /// Ends a job that is held. The next job of its device may begin.

@@ -15,9 +15,7 @@ use crate::given::serve;
 use crate::sending::{frame_to, queue, queue_if};
 use crate::service::effect_in;
 use crate::worn::Memory;
-use knx_model::{
-    ApduOctets, FrameSupport, IndAddr, Ldata, NoMemory, Octets, Took, WriteKind,
-};
+use knx_model::{ApduOctets, FrameSupport, IndAddr, Ldata, NoMemory, Octets, Took, WriteKind};
 use std::alloc::Global;
 use transport_conn::{DeviceConn, DeviceTook};
 

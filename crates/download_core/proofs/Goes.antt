@@ -1,16 +1,13 @@
 -- What a downloader gives to be sent may be put, and is then what the line's view has of it.
-use Rattle.std.proofs.Common.{◌≡◌, ◌<◌, ◌⊎◌, inl, inr, ℕ, suc, Bool, true, false, is_some, List, [], ◌∷◌, map, drop, Option, Some, None, refl, ap, sym, subst, ◌∙◌, arith}
-use Rattle.std.proofs.lemmas.Grind.{common_steps}
+use Rattle.std.proofs.Common.{◌≡◌, ◌<◌, ◌⊎◌, inl, ℕ, suc, Bool, true, false, is_some, List, [], ◌∷◌, map, drop, Option, Some, None, refl, ap, sym, subst, ◌∙◌}
 use Rattle.knx_model.specs.declared.address.IndAddr.{IndAddr}
 use Rattle.knx_model.specs.declared.connection.TransportFrame.{TransportFrame}
 use Rattle.knx_model.specs.declared.connection.TransportFrame.TheVariants as frame
-use Rattle.knx_model.specs.declared.connection.ClientExpired.{ClientExpired}
-use Rattle.knx_model.specs.declared.connection.ClientExpired.TheVariants as due
 use Rattle.knx_model.specs.declared.plan.Expect.{Expect}
 use Rattle.knx_model.specs.declared.plan.Expect.TheVariants.{AckOnly, Is, Note}
-use Rattle.knx_model.specs.Connection.{Session, frame_in, numbered_data, disconnect, IsApdu, IsNumber}
-use Rattle.knx_model.specs.ConnectionLaws.{Sends, Waits}
-use Rattle.knx_model.specs.ClientConnection.{ClientEnd, Asked, Up, Asking, Awaiting, Ended as NoConnection, Question, IsClientEnd, awaits_nothing, client_sent, after_send, client_expired, after_overdue, question_expired}
+use Rattle.knx_model.specs.Connection.{Session, HasNumbers, at_time, frame_in, numbered_data, disconnect, IsApdu, IsNumber}
+use Rattle.knx_model.specs.ConnectionLaws.{Sends}
+use Rattle.knx_model.specs.ClientConnection.{ClientEnd, Asked, Up, Asking, Awaiting, Ended as NoConnection, IsClientEnd, awaits_nothing, client_stayed, client_sent, after_send}
 use Rattle.knx_model.specs.Plans.{Plan, Asks}
 use Rattle.knx_model.specs.GoodPlan.{IsSendable}
 use Rattle.transport_conn.proofs.Carried.{frame_read}
@@ -18,36 +15,35 @@ use Rattle.transport_conn.proofs.Numbers.{client_numbers}
 use Rattle.line_model.specs.Attempts as line
 use Rattle.line_model.specs.Attempts.{Attempts, MayPut, MayAsk, IsNext, IsRepeat, IsOver, IsDone, is_asking, is_silent, awaits, sent_of, sends_numbered, put_attempt, first, most_attempts}
 use Rattle.download_core.specs.declared.did.Did.TheVariants as did
-use Rattle.download_core.specs.declared.flight.Flight.TheVariants.{Frame}
 use Rattle.download_core.specs.declared.outcome.Outcome.{Outcome}
 use Rattle.download_core.specs.declared.signs.Signs.{Signs}
 use Rattle.download_core.specs.Attempt.{Attempt, Phase, Running, Leaving, first_attempt}
 use Rattle.download_core.specs.Steps.{connect, replied, asked, stands_after}
 use Rattle.download_core.specs.Fits.{Knows, Leaves, IsFrame, IsReply, IsAck, IsNak, AreReplies, one_octet, plan_of, StandsWith, IsEnd, FitsPhase, earlier}
-use Rattle.download_core.proofs.Told.{told, older, knows_older}
+use Rattle.download_core.proofs.Told.{told}
 
 pub record Goes (device : IndAddr) (plan : Plan) (signs : Signs) (phase : Phase) (now : ℕ) (tpdu : List ℕ) (t : Attempts) (f : TransportFrame) : Type 0 where
   pub may : MayPut t now tpdu f
-  pub fits : FitsPhase signs phase now (told device plan now (Some f) None None t)
+  pub fits : FitsPhase signs phase (told device plan now (Some f) None None t)
 
 pub is_sent : (a b : List ℕ) → did.Send a ≡ did.Send b → a ≡ b
 is_sent a b h = cc h
 
 -- ---- the frames
 
-connect_read : frame_in connect ≡ frame.Connect
+pub connect_read : frame_in connect ≡ frame.Connect
 connect_read = frame_read connect frame.Connect refl
 
-disconnect_read : frame_in disconnect ≡ frame.Disconnect
+pub disconnect_read : frame_in disconnect ≡ frame.Disconnect
 disconnect_read = frame_read disconnect frame.Disconnect refl
 
-numbered_read : (n : ℕ) (apdu : List ℕ) → n < 16 → IsApdu apdu → frame_in (numbered_data n apdu) ≡ frame.Numbered n apdu
+pub numbered_read : (n : ℕ) (apdu : List ℕ) → n < 16 → IsApdu apdu → frame_in (numbered_data n apdu) ≡ frame.Numbered n apdu
 numbered_read n apdu l a = frame_read (numbered_data n apdu) (frame.Numbered n apdu) (l, a, refl)
 
 -- ---- an attempt begins
 
-knows_first : (device : IndAddr) (plan : Plan) (now : ℕ) → IsSendable plan → Knows (first_attempt device plan now) (first device plan)
-knows_first device plan now s = record {
+knows_first : (device : IndAddr) (plan : Plan) → IsSendable plan → Knows (first_attempt device plan) (first device plan)
+knows_first device plan s = record {
   end = refl;
   owed = refl;
   replies = tt;
@@ -61,27 +57,51 @@ knows_first device plan now s = record {
 }
 
 pub begins_with : (device : IndAddr) (plan : Plan) (signs : Signs) (now k : ℕ) (tpdu : List ℕ) (t : Attempts) → IsSendable plan → t ≡ line.Resting k → k ≡ earlier signs → k < most_attempts → tpdu ≡ connect
-    → Goes device plan signs (Running (first_attempt device plan now)) now tpdu t (frame_in tpdu)
+    → Goes device plan signs (Running (first_attempt device plan)) now tpdu t (frame_in tpdu)
 begins_with device plan signs now k tpdu t s e n l c =
-    subst (λ (u : List ℕ). Goes device plan signs (Running (first_attempt device plan now)) now u t (frame_in u)) (sym c)
-    (subst (Goes device plan signs (Running (first_attempt device plan now)) now connect t) (sym connect_read)
-    (subst (λ (u : Attempts). Goes device plan signs (Running (first_attempt device plan now)) now connect u frame.Connect) (sym e)
-    (record { may = l; fits = (first device plan, ap (λ (j : ℕ). line.Running (suc j) (first device plan)) n, knows_first device plan now s) })))
+    subst (λ (u : List ℕ). Goes device plan signs (Running (first_attempt device plan)) now u t (frame_in u)) (sym c)
+    (subst (Goes device plan signs (Running (first_attempt device plan)) now connect t) (sym connect_read)
+    (subst (λ (u : Attempts). Goes device plan signs (Running (first_attempt device plan)) now connect u frame.Connect) (sym e)
+    (record { may = l; fits = (first device plan, ap (λ (j : ℕ). line.Running (suc j) (first device plan)) n, knows_first device plan s) })))
 
 -- ---- what is owed
 
-knows_replied : (a : Attempt) (x : line.Attempt) (now y n : ℕ) (rest : List ℕ) (f : TransportFrame) → IsReply (Some f) → a.owed ≡ y ∷ rest → Knows a x → Knows (replied a now) (record x { owed = drop 1 x.owed; flying = Some f })
-knows_replied a x now y n rest f r o k = record {
-  end = k.end;
+stayed_end : (e : ClientEnd) (now : ℕ) → IsEnd e → IsEnd (client_stayed e now)
+stayed_end (Asked d) now k = tt
+stayed_end (Up s) now k = tt
+stayed_end (Asking s q) now k = k
+stayed_end (Awaiting s) now k = tt
+stayed_end NoConnection now k = tt
+
+pub stayed_awaits : (e : ClientEnd) (now : ℕ) → awaits (client_stayed e now) ≡ awaits e
+stayed_awaits (Asked d) now = refl
+stayed_awaits (Up s) now = refl
+stayed_awaits (Asking s q) now = refl
+stayed_awaits (Awaiting s) now = refl
+stayed_awaits NoConnection now = refl
+
+timed_numbers : (s : Session) (now : ℕ) → HasNumbers s → HasNumbers (at_time s now)
+timed_numbers s now k = record { expected = k.expected; number = k.number }
+
+stayed_numbers : (e : ClientEnd) (now : ℕ) → IsClientEnd e → IsClientEnd (client_stayed e now)
+stayed_numbers (Asked d) now k = tt
+stayed_numbers (Up s) now k = timed_numbers s now k
+stayed_numbers (Asking s q) now k = timed_numbers s now k
+stayed_numbers (Awaiting s) now k = timed_numbers s now k
+stayed_numbers NoConnection now k = tt
+
+knows_replied : (a : Attempt) (x : line.Attempt) (now y : ℕ) (rest : List ℕ) (f : TransportFrame) → IsReply (Some f) → a.owed ≡ y ∷ rest → Knows a x → Knows (replied a now) (record x { end = client_stayed x.end now; owed = drop 1 x.owed; flying = Some f })
+knows_replied a x now y rest f r o k = record {
+  end = ap (λ (e : ClientEnd). client_stayed e now) k.end;
   owed = ap (drop 1) k.owed ∙ ap (λ (l : List ℕ). drop 1 (map one_octet l)) o ∙ ap (λ (l : List ℕ). map one_octet (drop 1 l)) (sym o);
   replies = subst (λ (l : List ℕ). AreReplies (drop 1 l)) (sym o) (subst AreReplies o k.replies).1;
   flying = r;
   closing = k.closing;
   left = k.left;
-  stands = k.stands;
+  stands = λ e. subst (λ (b : Bool). StandsWith b a.standing) (sym (stayed_awaits a.conn now)) (k.stands e);
   sendable = k.sendable;
-  numbers = k.numbers;
-  repeats = k.repeats;
+  numbers = stayed_numbers a.conn now k.numbers;
+  repeats = stayed_end a.conn now k.repeats;
 }
 
 owes : (a : Attempt) (x : line.Attempt) (y : ℕ) (rest : List ℕ) → a.owed ≡ y ∷ rest → Knows a x → x.owed ≡ (y ∷ []) ∷ map one_octet rest
@@ -99,11 +119,11 @@ reply_goes device plan signs a x now y rest frame.Other (IsAck n e) o k = absurd
 reply_goes device plan signs a x now y rest frame.Other (IsNak n e) o k = absurd (cc e)
 reply_goes device plan signs a x now y rest (frame.Ack m) r o k = record {
   may = (map one_octet rest, owes a x y rest o k);
-  fits = (record (older now x) { owed = drop 1 x.owed; flying = Some (frame.Ack m) }, refl, knows_replied a (older now x) now y m rest (frame.Ack m) (IsAck m refl) o (knows_older a x now k));
+  fits = (record x { end = client_stayed x.end now; owed = drop 1 x.owed; flying = Some (frame.Ack m) }, refl, knows_replied a x now y rest (frame.Ack m) (IsAck m refl) o k);
 }
 reply_goes device plan signs a x now y rest (frame.Nak m) r o k = record {
   may = (map one_octet rest, owes a x y rest o k);
-  fits = (record (older now x) { owed = drop 1 x.owed; flying = Some (frame.Nak m) }, refl, knows_replied a (older now x) now y m rest (frame.Nak m) (IsNak m refl) o (knows_older a x now k));
+  fits = (record x { end = client_stayed x.end now; owed = drop 1 x.owed; flying = Some (frame.Nak m) }, refl, knows_replied a x now y rest (frame.Nak m) (IsNak m refl) o k);
 }
 
 -- ---- T_Disconnect
@@ -116,7 +136,7 @@ pub leaves_by : (device : IndAddr) (plan : Plan) (signs : Signs) (outcome : Outc
 leaves_by device plan signs outcome x now tpdu c m =
     subst (λ (u : List ℕ). Goes device plan signs (Leaving outcome) now u (line.Running (suc (earlier signs)) x) (frame_in u)) (sym c)
     (subst (Goes device plan signs (Leaving outcome) now disconnect (line.Running (suc (earlier signs)) x)) (sym disconnect_read)
-    (record { may = m; fits = (put_attempt (older now x) now frame.Disconnect, refl, leaves_so (older now x) now) }))
+    (record { may = m; fits = (put_attempt x now frame.Disconnect, refl, leaves_so x now) }))
 
 pub not_asking : (conn : ClientEnd) → awaits_nothing conn ≡ true → is_asking conn ≡ false
 not_asking (Asked d) h = refl
@@ -134,7 +154,7 @@ up_frame : (s : Session) (apdu : List ℕ) (now : ℕ) → IsFrame (after_send (
 unfolding after_send
 up_frame s apdu now = (s.number, apdu, refl)
 
-up_sent : (s : Session) (apdu : List ℕ) → client_sent (Up s) apdu ≡ Some (numbered_data s.number apdu)
+pub up_sent : (s : Session) (apdu : List ℕ) → client_sent (Up s) apdu ≡ Some (numbered_data s.number apdu)
 unfolding client_sent
 up_sent s apdu = refl
 
@@ -194,72 +214,8 @@ ask_goes device plan signs a x s apdu expect next now tpdu c p w o k d =
         which = inl (record { session = s; up = k.end ∙ c; goes_on = k.closing ∙ ap is_some w; expect = expect; next = next; head = k.left w ∙ p; as_sent = same });
       };
       fits = (
-        put_attempt (older now x) now (frame.Numbered s.number apdu),
+        put_attempt x now (frame.Numbered s.number apdu),
         refl,
-        subst (Knows (asked a (Asks apdu expect next) apdu now)) (sym (put_asked (older now x) apdu (numbered_data s.number apdu) s.number now same)) (knows_asked a (older now x) s apdu expect next now c p w (knows_older a x now k)),
+        subst (Knows (asked a (Asks apdu expect next) apdu now)) (sym (put_asked x apdu (numbered_data s.number apdu) s.number now same)) (knows_asked a x s apdu expect next now c p w k),
       );
     }))
-
--- ---- an operation again
-
-due_frame : (s : Session) (q : Question) (o : Option ℕ) (now : ℕ) (g : List ℕ) → question_expired q o now ≡ due.Repeat g → g ≡ q.frame
-due_frame s q None now g h = absurd (cc h)
-due_frame s q (Some since) now g h = grind (arith, common_steps)
-
--- what is put again is numbered data, of a connection that asks
-pub record Repeats (e : ClientEnd) (g : List ℕ) (now : ℕ) : Type 0 where
-  pub n : ℕ
-  pub apdu : List ℕ
-  pub reads : frame_in g ≡ frame.Numbered n apdu
-  pub unsent : client_sent e apdu ≡ None
-  pub flies : IsFrame (after_overdue e now (due.Repeat g)) (Some (frame.Numbered n apdu))
-  pub ends : IsEnd (after_overdue e now (due.Repeat g))
-  pub awaited : awaits (after_overdue e now (due.Repeat g)) ≡ awaits e
-
-repeats_at : (e : ClientEnd) (now : ℕ) (g : List ℕ) → client_expired e now ≡ due.Repeat g → IsEnd e → Repeats e g now
-unfolding client_expired after_overdue client_sent
-repeats_at (Asked d) now g h k = absurd (cc h)
-repeats_at (Up s) now g h k = absurd (cc h)
-repeats_at (Asking s q) now g h k = record { n = k.0; apdu = k.1; reads = ap frame_in (due_frame s q q.confirmed now g h) ∙ k.2; unsent = refl; flies = (k.0, k.1, refl); ends = k; awaited = refl }
-repeats_at (Awaiting s) now g h k = grind (arith, common_steps)
-repeats_at NoConnection now g h k = absurd (cc h)
-
-any_frame : (e : ClientEnd) (now : ℕ) (f g : List ℕ) → after_overdue e now (due.Repeat f) ≡ after_overdue e now (due.Repeat g)
-unfolding after_overdue
-any_frame e now f g = refl
-
-abbrev repeated : Attempt → List ℕ → ℕ → Attempt
-repeated a g now = record a { conn = after_overdue a.conn now (due.Repeat g); flight = Frame; put = now }
-
-put_repeated : (x : line.Attempt) (apdu : List ℕ) (n now : ℕ) → client_sent x.end apdu ≡ None → put_attempt x now (frame.Numbered n apdu) ≡ record x { end = after_overdue x.end now (due.Repeat []); flying = Some (frame.Numbered n apdu) }
-put_repeated x apdu n now e = ap (λ (o : Option (List ℕ)). record (sends_numbered x apdu now o) { flying = Some (frame.Numbered n apdu) }) e
-
-knows_repeated : (a : Attempt) (x : line.Attempt) (g : List ℕ) (now : ℕ) (r : Repeats a.conn g now) → client_expired a.conn now ≡ due.Repeat g → Knows a x
-    → Knows (repeated a g now) (record x { end = after_overdue x.end now (due.Repeat []); flying = Some (frame.Numbered r.n r.apdu) })
-knows_repeated a x g now r h k = record {
-  end = ap (λ (e : ClientEnd). after_overdue e now (due.Repeat [])) k.end ∙ any_frame a.conn now [] g;
-  owed = k.owed;
-  replies = k.replies;
-  flying = r.flies;
-  closing = k.closing;
-  left = k.left;
-  stands = λ e. subst (λ (b : Bool). StandsWith b a.standing) (sym r.awaited) (k.stands e);
-  sendable = k.sendable;
-  numbers = subst (λ (d : ClientExpired). IsClientEnd (after_overdue a.conn now d)) h (client_numbers a.conn (Waits now) k.numbers);
-  repeats = r.ends;
-}
-
-pub repeat_goes : (device : IndAddr) (plan : Plan) (signs : Signs) (a : Attempt) (x : line.Attempt) (now : ℕ) (g : List ℕ) → client_expired a.conn now ≡ due.Repeat g → a.owed ≡ [] → Knows a x
-    → Goes device plan signs (Running (repeated a g now)) now g (line.Running (suc (earlier signs)) x) (frame_in g)
-repeat_goes device plan signs a x now g h o k =
-    let r = repeats_at a.conn now g h k.repeats in
-    let unsent : client_sent x.end r.apdu ≡ None = ap (λ (e : ClientEnd). client_sent e r.apdu) k.end ∙ r.unsent in
-    subst (Goes device plan signs (Running (repeated a g now)) now g (line.Running (suc (earlier signs)) x)) (sym r.reads)
-    (record {
-      may = record { owes_nothing = k.owed ∙ ap (map one_octet) o; which = inr (ap (λ (e : ClientEnd). client_expired e now) k.end ∙ h) };
-      fits = (
-        put_attempt (older now x) now (frame.Numbered r.n r.apdu),
-        refl,
-        subst (Knows (repeated a g now)) (sym (put_repeated (older now x) r.apdu r.n now unsent)) (knows_repeated a (older now x) g now r h (knows_older a x now k)),
-      );
-    })

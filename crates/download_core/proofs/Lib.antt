@@ -1,12 +1,33 @@
-pub mod Numbers
-pub mod Sendable
-pub mod Ends
-pub mod Told
-pub mod Confirmed
-pub mod Expired
-pub mod Goes
-pub mod Sent
-pub mod Heard
-pub mod Hears
-pub mod Results
-pub mod Causes
+mod Numbers
+mod Sendable
+mod Told
+mod Confirmed
+mod Replies
+mod Learns
+mod Hears
+mod Goes
+mod Repeats
+mod Sent
+mod Reaching
+mod Readings
+mod Sessions
+mod Acked
+mod Puts
+mod Tally
+mod Outcomes
+mod Conns
+mod HeardIn
+mod HeardConn
+mod Comes
+mod Answered
+mod Fares
+mod EndsBy
+mod SentBy
+mod SentFares
+mod Stretches
+mod Record
+mod SentRecord
+mod Running
+mod Exactly
+mod Decided
+mod Turns

@@ -5,7 +5,7 @@ use Rattle.knx_model.specs.declared.connection.ClientTook.{ClientTook}
 use Rattle.knx_model.specs.declared.connection.ClientTook.TheVariants as heard
 use Rattle.knx_model.specs.declared.connection.ClientExpired.TheVariants as due
 use Rattle.knx_model.specs.Connection.{Session, next_number, acknowledged, numbered_data}
-use Rattle.knx_model.specs.ClientConnection.{ClientEnd, Asked, Up, Asking, Awaiting, Ended, awaits_nothing, after_confirmed, client_after, client_sent, after_send, after_overdue}
+use Rattle.knx_model.specs.ClientConnection.{ClientEnd, Asked, Up, Asking, Awaiting, Ended, awaits_nothing, after_confirmed, client_after, client_stayed, client_sent, after_send, after_overdue}
 use Rattle.knx_model.specs.Plans.{Plan}
 use Rattle.download_core.specs.declared.run.Run.{Run}
 use Rattle.download_core.specs.Keeps.{KeepsNumber, KeepsRun}
@@ -78,3 +78,10 @@ sends_number n Ended apdu u k = grind (arith, common_steps)
 -- after a frame of the device
 pub heard_keeps : (left : ℕ → Plan) (r : Run) (conn : ClientEnd) (now : ℕ) (t : ClientTook) → KeepsRun left r → conn ≡ client_after r.conn now t → KeepsRun left (record r { conn = conn })
 heard_keeps left r conn now t k e = record { four_bits = k.four_bits; number = subst (KeepsNumber r.number) (sym e) (heard_number r.number r.conn now t k.number); position = k.position }
+
+pub stayed_number : (n : ℕ) (e : ClientEnd) (now : ℕ) → KeepsNumber n e → KeepsNumber n (client_stayed e now)
+stayed_number n (Asked d) now k = k
+stayed_number n (Up s) now k = k
+stayed_number n (Asking s q) now k = k
+stayed_number n (Awaiting s) now k = k
+stayed_number n Ended now k = tt

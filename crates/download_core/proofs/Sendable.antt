@@ -1,5 +1,5 @@
 -- Each operation that is left of a job's plan can be sent, whatever was noted.
-use Rattle.std.proofs.Common.{ℕ, zero, suc, List, [], ◌∷◌, drop, ◌+◌, None, subst}
+use Rattle.std.proofs.Common.{◌≢◌, ℕ, zero, suc, List, [], ◌∷◌, drop, ◌+◌, None, subst}
 use Rattle.knx_model.specs.declared.plan.Expect.{Expect}
 use Rattle.knx_model.specs.declared.plan.Expect.TheVariants.{AckOnly, Is, Note}
 use Rattle.knx_model.specs.declared.plan.Op.TheVariants.{Send}
@@ -7,7 +7,7 @@ use Rattle.knx_model.specs.declared.plan.PieceSize.{PieceSize}
 use Rattle.knx_model.specs.Connection.{IsApdu}
 use Rattle.knx_model.specs.LoadPlan.{load_operations, check_operations}
 use Rattle.knx_model.specs.Operations.{Operation}
-use Rattle.knx_model.specs.Plans.{Plan, IsHead}
+use Rattle.knx_model.specs.Plans.{Plan, Over, IsHead}
 use Rattle.knx_model.specs.GoodPlan.{IsSendable}
 use Rattle.download_plan.specs.Left.{Listening, left_of, load_left, check_left}
 use Rattle.download_plan.proofs.Octets.{AllWritable, octets_sendable}
@@ -48,3 +48,15 @@ apdu_at apdu Note plan rest h s = (subst IsSendable h.1 s).0
 
 pub question_sendable : (plan : JobPlan) (q : Question) → IsAt (job_left plan) q → IsApdu q.apdu
 question_sendable plan q h = apdu_at q.apdu q.expect (job_left plan q.place) (job_left plan (q.place + 1)) h (job_sendable plan q.place)
+
+load_begins : (p : Listening) → load_left p 0 ≢ Over
+unfolding load_left
+load_begins p h = absurd (cc h)
+
+check_begins : (p : Listening) → check_left p 0 ≢ Over
+unfolding check_left
+check_begins p h = absurd (cc h)
+
+pub job_begins : (plan : JobPlan) → job_left plan 0 ≢ Over
+job_begins (Load p) h = load_begins p h
+job_begins (Check p) h = check_begins p h

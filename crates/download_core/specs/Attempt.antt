@@ -1,14 +1,14 @@
 -- What the downloader of a job knows (ISO/IEC 14543-3-2, transport layer): of each attempt the client's end of its connection, what is left of
 -- its plan, what is owed to the device, what isn't confirmed, and what it comes to.
 --
---  +---------+ T_Connect put  +---------+ wrong T_ACK, silent  +---------+ T_Disconnect put  +---------+
+--  +---------+ T_Connect put  +---------+     a wrong T_ACK    +---------+ T_Disconnect put  +---------+
 --  | Resting | -------------> | Running | -------------------> | Closing | ----------------> | Leaving |
 --  +---------+       +------> +---------+                      +---------+       +---------> +---------+
 --                    |          |    |                              |            |                |
 --                    |          |    +------------------------------|------------+                | it is confirmed, or
---                    |          |        done, refused: T_Disconnect put                          | the channel is lost
---                    |          |                                   | T_Disconnect of the device  v
---                    |          |                                   | or the channel is lost   +-------+
+--                    |          |    done, refused, silent: T_Disconnect put                      | the channel is lost
+--                    |          |                                   |                             v
+--                    |          |                                   | the channel is lost      +-------+
 --                    |          +-----------------------------------+------------------------> | Ended | -> told
 --                    |             T_Disconnect of the device, the channel is lost, no connect +-------+
 --                    +--------------------------------------------------------------------------+  fewer than three failed
@@ -39,13 +39,12 @@ pub record Attempt : Type 0 where
   pub sent : ℕ  -- how many operations were sent
   pub owed : List ℕ  -- the T_ACKs and T_NAKs that are owed, each of one octet, the oldest first
   pub flight : Flight
-  pub put : ℕ  -- when something was put to the device last
   pub wrong : Option Refusal  -- the first answer that wasn't the expected one
 
 pub data Phase : Type 0 where
   Resting : Phase  -- no attempt began
   Running : Attempt → Phase
-  Closing : ClientEnd → Flight → Outcome → Phase  -- T_Disconnect is to be put
+  Closing : Flight → Outcome → Phase  -- a wrong T_ACK closed the connection, and T_Disconnect is to be put
   Leaving : Outcome → Phase  -- T_Disconnect isn't confirmed
   Ended : Outcome → Phase  -- the last attempt has ended
 
@@ -57,8 +56,8 @@ pub record DownloaderState : Type 0 where
 
 -- ---- an attempt begins
 
-abbrev pub first_attempt : IndAddr → Plan → ℕ → Attempt
-first_attempt device plan now = record { conn = Asked device; standing = Next plan; sent = 0; owed = []; flight = Frame; put = now; wrong = None }
+abbrev pub first_attempt : IndAddr → Plan → Attempt
+first_attempt device plan = record { conn = Asked device; standing = Next plan; sent = 0; owed = []; flight = Frame; wrong = None }
 
 abbrev pub with_sign : Signs → Sign → Signs
 with_sign Zero s = One s

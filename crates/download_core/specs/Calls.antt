@@ -1,18 +1,15 @@
--- What a downloader knows after it was told a confirmation, a frame of the device, the time, or that the channel was lost.
-use Rattle.std.specs.Prelude.{ℕ, ◌==◌, ◌||◌, Bool, List, Option, Some, None, if◌then◌else◌}
+-- What a downloader knows after it was told a confirmation, a frame of the device, or that the channel was lost.
+use Rattle.std.specs.Prelude.{ℕ, Bool, List, Option, Some, None}
 use Rattle.knx_model.specs.declared.log.Sign.TheVariants as sign
 use Rattle.knx_model.specs.declared.connection.ClientConfirmed.{ClientConfirmed}
 use Rattle.knx_model.specs.declared.connection.ClientConfirmed.TheVariants as told
 use Rattle.knx_model.specs.declared.connection.ClientTook.{ClientTook}
 use Rattle.knx_model.specs.declared.connection.ClientTook.TheVariants as heard
-use Rattle.knx_model.specs.declared.connection.ClientExpired.{ClientExpired}
-use Rattle.knx_model.specs.declared.connection.ClientExpired.TheVariants as due
 use Rattle.knx_model.specs.declared.connection.TransportFrame.{TransportFrame}
-use Rattle.knx_model.specs.Connection.{frame_in, has_passed, ack_wait}
-use Rattle.knx_model.specs.ClientConnection.{ClientEnd, client_confirmed, after_confirmed, client_took, client_after, client_expired, client_deadline}
+use Rattle.knx_model.specs.Connection.{frame_in}
+use Rattle.knx_model.specs.ClientConnection.{ClientEnd, client_confirmed, after_confirmed, client_took, client_after, client_deadline}
 use Rattle.download_core.specs.declared.flight.Flight.{Flight}
 use Rattle.download_core.specs.declared.flight.Flight.TheVariants.{Nothing, Frame, Reply}
-use Rattle.download_core.specs.declared.outcome.Outcome.{Outcome}
 use Rattle.download_core.specs.declared.outcome.Outcome.TheVariants.{Failed}
 use Rattle.download_core.specs.Attempt.{Attempt, Phase, Resting, Running, Closing, Leaving, Ended, DownloaderState, with_reply, answered, comes_to}
 
@@ -32,16 +29,10 @@ attempt_confirmed a Nothing error now = Running a
 attempt_confirmed a Frame error now = connected a (client_confirmed a.conn error) (after_confirmed a.conn error now)
 attempt_confirmed a Reply error now = Running (landed a a.conn)
 
--- while T_Disconnect is to be put, what the connection knows changes as ever
-abbrev pub closing_confirmed : ClientEnd → Flight → Bool → ℕ → ClientEnd
-closing_confirmed conn Nothing error now = conn
-closing_confirmed conn Frame error now = after_confirmed conn error now
-closing_confirmed conn Reply error now = conn
-
 abbrev pub phase_confirmed : Phase → Bool → ℕ → Phase
 phase_confirmed Resting error now = Resting
 phase_confirmed (Running a) error now = attempt_confirmed a a.flight error now
-phase_confirmed (Closing conn flight outcome) error now = Closing (closing_confirmed conn flight error now) Nothing outcome
+phase_confirmed (Closing flight outcome) error now = Closing Nothing outcome
 phase_confirmed (Leaving outcome) error now = Ended outcome
 phase_confirmed (Ended outcome) error now = Ended outcome
 
@@ -64,17 +55,12 @@ attempt_heard a conn (heard.Answer apdu ack) = Running (owing (answered a apdu) 
 attempt_heard a conn (heard.Again ack) = Running (owing a conn ack)
 attempt_heard a conn (heard.Nak nak) = Running (owing a conn nak)
 attempt_heard a conn (heard.Closed None) = Ended (comes_to a sign.Closed)
-attempt_heard a conn (heard.Closed (Some disconnect)) = Closing conn a.flight (comes_to a sign.Closed)
-
--- while the client's own T_Disconnect is to be put, only the device's counts
-abbrev pub closing_heard : ClientEnd → Flight → Outcome → ClientTook → Phase
-closing_heard conn flight outcome (heard.Closed None) = Ended outcome
-closing_heard conn flight outcome _ = Closing conn flight outcome
+attempt_heard a conn (heard.Closed (Some disconnect)) = Closing a.flight (comes_to a sign.Closed)
 
 abbrev pub phase_heard : Phase → TransportFrame → ℕ → Phase
 phase_heard Resting frame now = Resting
 phase_heard (Running a) frame now = attempt_heard a (client_after a.conn now (client_took a.conn frame)) (client_took a.conn frame)
-phase_heard (Closing conn flight outcome) frame now = closing_heard (client_after conn now (client_took conn frame)) flight outcome (client_took conn frame)
+phase_heard (Closing flight outcome) frame now = Closing flight outcome
 phase_heard (Leaving outcome) frame now = Leaving outcome
 phase_heard (Ended outcome) frame now = Ended outcome
 
@@ -86,38 +72,19 @@ taken s tpdu now = in_phase s (phase_heard s.phase (frame_in tpdu) now)
 abbrev pub phase_lost : Phase → Phase
 phase_lost Resting = Resting
 phase_lost (Running a) = Ended (comes_to a sign.TunnelLost)
-phase_lost (Closing conn flight outcome) = Ended outcome
+phase_lost (Closing flight outcome) = Ended outcome
 phase_lost (Leaving outcome) = Ended outcome
 phase_lost (Ended outcome) = Ended outcome
 
 abbrev pub lost : DownloaderState → DownloaderState
 lost s = in_phase s (phase_lost s.phase)
 
--- ---- the time: an attempt is silent where its connection is and, in place of an answer, nothing was put for as long either
-
-abbrev pub silence : ℕ → ClientExpired → ℕ → Option ℕ
-silence put due.Nothing now = None
-silence put (due.Repeat frame) now = None
-silence put (due.Silent ms) now = if (ms == ack_wait) || has_passed ms put now then Some ms else None
-
-abbrev pub silenced : Attempt → Option ℕ → Phase
-silenced a None = Running a
-silenced a (Some ms) = Closing a.conn a.flight (Failed (sign.Silent ms))
-
-abbrev pub phase_expired : Phase → ℕ → Phase
-phase_expired Resting now = Resting
-phase_expired (Running a) now = silenced a (silence a.put (client_expired a.conn now) now)
-phase_expired (Closing conn flight outcome) now = Closing conn flight outcome
-phase_expired (Leaving outcome) now = Leaving outcome
-phase_expired (Ended outcome) now = Ended outcome
-
-abbrev pub expired : DownloaderState → ℕ → DownloaderState
-expired s now = in_phase s (phase_expired s.phase now)
+-- ---- the time: nothing is settled by it alone, since a frame that is taken late still counts until T_Disconnect is put
 
 -- the nearest time at which a wait of the connection has passed
 abbrev pub phase_deadline : Phase → Option ℕ
 phase_deadline Resting = None
 phase_deadline (Running a) = client_deadline a.conn
-phase_deadline (Closing conn flight outcome) = None
+phase_deadline (Closing flight outcome) = None
 phase_deadline (Leaving outcome) = None
 phase_deadline (Ended outcome) = None

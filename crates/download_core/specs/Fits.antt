@@ -1,16 +1,16 @@
 -- The downloader of a job knows what the line's view says of the attempts of its job: how many began, and of the one that runs the client's
 -- end of its connection, what is left of its plan, what is owed to the device, and what was put and isn't confirmed. While it is to put
 -- T_Disconnect it has come to its end in the line's view too.
-use Rattle.std.specs.Prelude.{◌≡◌, ◌⊎◌, ℕ, suc, ◌||◌, Bool, true, false, is_some, List, [], ◌∷◌, map, Option, Some, None}
+use Rattle.std.specs.Prelude.{◌≡◌, ℕ, suc, Bool, true, false, is_some, List, [], ◌∷◌, map, Option, Some, None}
 use Rattle.knx_model.specs.declared.connection.TransportFrame.{TransportFrame}
 use Rattle.knx_model.specs.declared.connection.TransportFrame.TheVariants as frame
 use Rattle.knx_model.specs.declared.plan.Expect.TheVariants.{AckOnly}
 use Rattle.knx_model.specs.Connection.{frame_in}
-use Rattle.knx_model.specs.ClientConnection.{ClientEnd, Asked, Up, Asking, Awaiting, Ended as NoConnection, IsClientEnd, client_expired}
+use Rattle.knx_model.specs.ClientConnection.{ClientEnd, Asked, Up, Asking, Awaiting, Ended as NoConnection, IsClientEnd}
 use Rattle.knx_model.specs.Plans.{Plan, Over, Asks}
 use Rattle.knx_model.specs.GoodPlan.{IsSendable}
 use Rattle.line_model.specs.Attempts as line
-use Rattle.line_model.specs.Attempts.{Attempts, awaits, is_silent}
+use Rattle.line_model.specs.Attempts.{Attempts, awaits}
 use Rattle.download_core.specs.declared.flight.Flight.{Flight}
 use Rattle.download_core.specs.declared.flight.Flight.TheVariants.{Nothing, Frame, Reply}
 use Rattle.download_core.specs.declared.signs.Signs.{Signs}
@@ -76,13 +76,6 @@ IsEnd (Asking s q) = (n : ℕ) × (apdu : List ℕ) × (frame_in q.frame ≡ fra
 IsEnd (Awaiting s) = Unit {0}
 IsEnd NoConnection = Unit {0}
 
-abbrev pub IsConnected : ClientEnd → Type 0
-IsConnected (Asked device) = ⊥
-IsConnected (Up s) = Unit {0}
-IsConnected (Asking s q) = Unit {0}
-IsConnected (Awaiting s) = Unit {0}
-IsConnected NoConnection = Unit {0}
-
 -- ---- an attempt that runs
 
 pub record Knows (a : Attempt) (x : line.Attempt) : Type 0 where
@@ -97,18 +90,13 @@ pub record Knows (a : Attempt) (x : line.Attempt) : Type 0 where
   pub numbers : IsClientEnd a.conn
   pub repeats : IsEnd a.conn
 
--- ---- an attempt that has come to its end: a wait has passed, or the connection is closed
+-- ---- an attempt that has come to its end: a wrong T_ACK closed its connection
 
-pub record IsBroken (x : line.Attempt) : Type 0 where
+pub record Closes (flight : Flight) (x : line.Attempt) : Type 0 where
   pub end : x.end ≡ NoConnection
   pub owes_nothing : x.owed ≡ []
   pub closing : x.closing ≡ true
-
-pub record Closes (conn : ClientEnd) (flight : Flight) (now : ℕ) (x : line.Attempt) : Type 0 where
-  pub end : x.end ≡ conn
-  pub flying : IsFlight flight conn x.flying
-  pub connected : IsConnected conn
-  pub why : ((x.lapsed || is_silent (client_expired x.end now)) ≡ true) ⊎ IsBroken x
+  pub flying : IsFlight flight NoConnection x.flying
 
 pub record Leaves (x : line.Attempt) : Type 0 where
   pub end : x.end ≡ NoConnection
@@ -119,13 +107,12 @@ pub record Leaves (x : line.Attempt) : Type 0 where
 abbrev pub OfLast : Signs → (line.Attempt → Type 0) → Attempts → Type 0
 OfLast signs P t = (x : line.Attempt) × (t ≡ line.Running (suc (earlier signs)) x) × P x
 
-abbrev pub FitsPhase : Signs → Phase → ℕ → Attempts → Type 0
-FitsPhase signs Resting now t = (signs ≡ Zero) × (t ≡ line.Resting 0)
-FitsPhase signs (Running a) now t = OfLast signs (Knows a) t
-FitsPhase signs (Closing conn flight outcome) now t = OfLast signs (Closes conn flight now) t
-FitsPhase signs (Leaving outcome) now t = OfLast signs Leaves t
-FitsPhase signs (Ended outcome) now t = t ≡ line.Resting (suc (earlier signs))
+abbrev pub FitsPhase : Signs → Phase → Attempts → Type 0
+FitsPhase signs Resting t = (signs ≡ Zero) × (t ≡ line.Resting 0)
+FitsPhase signs (Running a) t = OfLast signs (Knows a) t
+FitsPhase signs (Closing flight outcome) t = OfLast signs (Closes flight) t
+FitsPhase signs (Leaving outcome) t = OfLast signs Leaves t
+FitsPhase signs (Ended outcome) t = t ≡ line.Resting (suc (earlier signs))
 
--- at this time
-abbrev pub Fits : DownloaderState → ℕ → Attempts → Type 0
-Fits s now t = FitsPhase s.signs s.phase now t
+abbrev pub Fits : DownloaderState → Attempts → Type 0
+Fits s t = FitsPhase s.signs s.phase t

@@ -24,12 +24,12 @@ standing_of left (at.Next k) = Next (left k)
 standing_of left (at.AnswerOf q) = AnswerOf (left q.place)
 
 abbrev pub attempt_of : (ℕ → Plan) → Run → Attempt
-attempt_of left r = record { conn = r.conn; standing = standing_of left r.position; sent = r.sent; owed = r.owed; flight = r.flight; put = r.put; wrong = r.wrong }
+attempt_of left r = record { conn = r.conn; standing = standing_of left r.position; sent = r.sent; owed = r.owed; flight = r.flight; wrong = r.wrong }
 
 abbrev pub phase_of : (ℕ → Plan) → Kept → Phase
 phase_of left kept.Resting = Resting
 phase_of left (kept.Running r) = Running (attempt_of left r)
-phase_of left (kept.Closing conn flight outcome) = Closing conn flight outcome
+phase_of left (kept.Closing flight outcome) = Closing flight outcome
 phase_of left (kept.Leaving outcome) = Leaving outcome
 phase_of left (kept.Ended outcome) = Ended outcome
 
@@ -74,7 +74,7 @@ pub record KeepsRun (left : ℕ → Plan) (r : Run) : Type 0 where
 abbrev pub KeepsPhase : (ℕ → Plan) → Kept → Type 0
 KeepsPhase left kept.Resting = Unit {0}
 KeepsPhase left (kept.Running r) = KeepsRun left r
-KeepsPhase left (kept.Closing conn flight outcome) = Unit {0}
+KeepsPhase left (kept.Closing flight outcome) = Unit {0}
 KeepsPhase left (kept.Leaving outcome) = Unit {0}
 KeepsPhase left (kept.Ended outcome) = Unit {0}
 

@@ -4,6 +4,8 @@ pub mod Calls
 pub mod Steps
 pub mod Keeps
 pub mod Fits
+pub mod InSession
+pub mod Record
 pub mod Follows
-pub mod Results
-pub mod Causes
+pub mod Tells
+pub mod Turns

@@ -1,5 +1,6 @@
--- What a downloader does next, and what it knows once that is done. It puts nothing while a frame of it has no confirmation; what is owed to the
--- device goes first, then an operation that is due again, then the next one; and T_Disconnect where the attempt is done or refused.
+-- What a downloader does next, and what it knows once that is done. It puts nothing while a frame of it has no confirmation; then it puts
+-- T_Disconnect where the attempt is silent; else what is owed to the device, then an operation that is due again, then the next one, and
+-- T_Disconnect where the attempt is done or refused.
 use Rattle.std.specs.Prelude.{ℕ, ◌+◌, Bool, true, false, List, [], ◌∷◌, drop, Option, Some, None, if◌then◌else◌}
 use Rattle.knx_model.specs.declared.frames.tpdu.Tpdu.TheVariants as tpdu
 use Rattle.knx_model.specs.declared.plan.Expect.TheVariants.{AckOnly}
@@ -7,7 +8,7 @@ use Rattle.knx_model.specs.declared.connection.ClientExpired.{ClientExpired}
 use Rattle.knx_model.specs.declared.connection.ClientExpired.TheVariants as due
 use Rattle.knx_model.specs.Apdu.{Written}
 use Rattle.knx_model.specs.Connection.{disconnect}
-use Rattle.knx_model.specs.ClientConnection.{ClientEnd, awaits_nothing, client_sent, after_send, client_expired, after_overdue}
+use Rattle.knx_model.specs.ClientConnection.{ClientEnd, awaits_nothing, client_stayed, client_sent, after_send, client_expired, after_overdue}
 use Rattle.knx_model.specs.Plans.{Plan, Over, Asks}
 use Rattle.download_core.specs.declared.did.Did.{Did}
 use Rattle.download_core.specs.declared.did.Did.TheVariants as did
@@ -19,8 +20,9 @@ use Rattle.download_core.specs.declared.outcome.Outcome.TheVariants.{Failed, Don
 use Rattle.download_core.specs.declared.signs.Signs.{Signs}
 use Rattle.download_core.specs.declared.signs.Signs.TheVariants.{Two}
 use Rattle.knx_model.specs.declared.log.Sign.{Sign}
+use Rattle.knx_model.specs.declared.log.Sign.TheVariants as sign
 use Rattle.download_core.specs.Attempt.{Standing, Next, AnswerOf, Attempt, Phase, Resting, Running, Closing, Leaving, Ended, DownloaderState, first_attempt, with_sign}
-use Rattle.download_core.specs.Calls.{in_phase, expired}
+use Rattle.download_core.specs.Calls.{in_phase}
 
 abbrev pub connect : List ℕ
 connect = Written tpdu.Connect
@@ -42,17 +44,23 @@ abbrev pub free_did : Attempt → Option Refusal → Did
 free_did a None = standing_did a.conn a.standing
 free_did a (Some wrong) = did.Send disconnect
 
+-- the outstanding operation again, where it is due
 abbrev pub due_did : ClientExpired → Did
 due_did due.Nothing = did.Wait
 due_did (due.Repeat frame) = did.Send frame
 due_did (due.Silent ms) = did.Wait
 
-abbrev pub paid_did : Attempt → List ℕ → ℕ → Did
-paid_did a [] now = if awaits_nothing a.conn then free_did a a.wrong else due_did (client_expired a.conn now)
-paid_did a (reply ∷ rest) now = did.Send (reply ∷ [])
+abbrev pub paid_did : Attempt → List ℕ → ClientExpired → Did
+paid_did a [] over = if awaits_nothing a.conn then free_did a a.wrong else due_did over
+paid_did a (reply ∷ rest) over = did.Send (reply ∷ [])
+
+-- T_Disconnect where a wait has passed that ends the attempt
+abbrev pub timed_did : Attempt → ClientExpired → Did
+timed_did a (due.Silent ms) = did.Send disconnect
+timed_did a over = paid_did a a.owed over
 
 abbrev pub attempt_did : Attempt → Flight → ℕ → Did
-attempt_did a Nothing now = paid_did a a.owed now
+attempt_did a Nothing now = timed_did a (client_expired a.conn now)
 attempt_did a _ now = did.Wait
 
 abbrev pub closing_did : Flight → Did
@@ -62,26 +70,23 @@ closing_did _ = did.Wait
 -- the third failed attempt ends the job
 abbrev pub failed_did : Signs → Sign → Did
 failed_did (Two first second) third = did.Failed (first ∷ second ∷ third ∷ [])
-failed_did _ sign = did.Send connect
+failed_did _ why = did.Send connect
 
 abbrev pub ended_did : Signs → Outcome → Did
-ended_did signs (Failed sign) = failed_did signs sign
+ended_did signs (Failed why) = failed_did signs why
 ended_did signs Done = did.Done
 ended_did signs (Refused wrong) = did.Refused wrong.op wrong.got wrong.expected
 
 abbrev pub phase_did : Signs → Phase → ℕ → Did
 phase_did signs Resting now = did.Send connect
 phase_did signs (Running a) now = attempt_did a a.flight now
-phase_did signs (Closing conn flight outcome) now = closing_did flight
+phase_did signs (Closing flight outcome) now = closing_did flight
 phase_did signs (Leaving outcome) now = did.Wait
 phase_did signs (Ended outcome) now = ended_did signs outcome
 
-abbrev pub did_of : DownloaderState → ℕ → Did
-did_of s now = phase_did s.signs s.phase now
-
 -- what a step answers at this time
 abbrev pub next_did : DownloaderState → ℕ → Did
-next_did s now = did_of (expired s now) now
+next_did s now = phase_did s.signs s.phase now
 
 -- ---- after what was to be sent was put
 
@@ -91,7 +96,7 @@ stands_after (Asks apdu AckOnly next) = Next (next None)
 stands_after (Asks apdu expect next) = AnswerOf (Asks apdu expect next)
 
 abbrev pub asked : Attempt → Plan → List ℕ → ℕ → Attempt
-asked a plan apdu now = record a { conn = after_send a.conn apdu now; standing = stands_after plan; sent = a.sent + 1; flight = Frame; put = now }
+asked a plan apdu now = record a { conn = after_send a.conn apdu now; standing = stands_after plan; sent = a.sent + 1; flight = Frame }
 
 abbrev pub standing_sent : Attempt → Standing → ℕ → Phase
 standing_sent a (Next Over) now = Leaving Done
@@ -104,30 +109,38 @@ free_sent a (Some wrong) now = Leaving (Refused wrong)
 
 abbrev pub due_sent : Attempt → ClientExpired → ℕ → Attempt
 due_sent a due.Nothing now = a
-due_sent a (due.Repeat frame) now = record a { conn = after_overdue a.conn now (due.Repeat frame); flight = Frame; put = now }
+due_sent a (due.Repeat frame) now = record a { conn = after_overdue a.conn now (due.Repeat frame); flight = Frame }
 due_sent a (due.Silent ms) now = a
 
+-- a T_ACK or T_NAK begins the wait for an answer anew
 abbrev pub replied : Attempt → ℕ → Attempt
-replied a now = record a { owed = drop 1 a.owed; flight = Reply; put = now }
+replied a now = record a { conn = client_stayed a.conn now; owed = drop 1 a.owed; flight = Reply }
 
-abbrev pub paid_sent : Attempt → List ℕ → ℕ → Phase
-paid_sent a [] now = if awaits_nothing a.conn then free_sent a a.wrong now else Running (due_sent a (client_expired a.conn now) now)
-paid_sent a (reply ∷ rest) now = Running (replied a now)
+abbrev pub paid_sent : Attempt → List ℕ → ClientExpired → ℕ → Phase
+paid_sent a [] over now = if awaits_nothing a.conn then free_sent a a.wrong now else Running (due_sent a over now)
+paid_sent a (reply ∷ rest) over now = Running (replied a now)
 
-abbrev pub begins : DownloaderState → Signs → ℕ → DownloaderState
-begins s signs now = record s { signs = signs; phase = Running (first_attempt s.device s.plan now) }
+abbrev pub timed_sent : Attempt → ClientExpired → ℕ → Phase
+timed_sent a (due.Silent ms) now = Leaving (Failed (sign.Silent ms))
+timed_sent a over now = paid_sent a a.owed over now
 
-abbrev pub ended_sent : DownloaderState → Outcome → ℕ → DownloaderState
-ended_sent s (Failed sign) now = begins s (with_sign s.signs sign) now
-ended_sent s Done now = s
-ended_sent s (Refused wrong) now = s
+abbrev pub attempt_sent : Attempt → ℕ → Phase
+attempt_sent a now = timed_sent a (client_expired a.conn now) now
+
+abbrev pub begins : DownloaderState → Signs → DownloaderState
+begins s signs = record s { signs = signs; phase = Running (first_attempt s.device s.plan) }
+
+abbrev pub ended_sent : DownloaderState → Outcome → DownloaderState
+ended_sent s (Failed why) = begins s (with_sign s.signs why)
+ended_sent s Done = s
+ended_sent s (Refused wrong) = s
 
 abbrev pub phase_sent : DownloaderState → Phase → ℕ → DownloaderState
-phase_sent s Resting now = begins s s.signs now
-phase_sent s (Running a) now = in_phase s (paid_sent a a.owed now)
-phase_sent s (Closing conn flight outcome) now = in_phase s (Leaving outcome)
+phase_sent s Resting now = begins s s.signs
+phase_sent s (Running a) now = in_phase s (attempt_sent a now)
+phase_sent s (Closing flight outcome) now = in_phase s (Leaving outcome)
 phase_sent s (Leaving outcome) now = s
-phase_sent s (Ended outcome) now = ended_sent s outcome now
+phase_sent s (Ended outcome) now = ended_sent s outcome
 
 abbrev pub sent : DownloaderState → ℕ → DownloaderState
 sent s now = phase_sent s s.phase now
@@ -141,4 +154,4 @@ is_send (did.Refused op got expected) = false
 
 -- after a step at this time
 abbrev pub stepped : DownloaderState → ℕ → DownloaderState
-stepped s now = if is_send (next_did s now) then sent (expired s now) now else expired s now
+stepped s now = if is_send (next_did s now) then sent s now else s

@@ -4,9 +4,9 @@ ghost use Rattle.std.specs.Prelude.{◌≡◌};
 ghost use Rattle.download_core.specs.declared.signs.Signs.TheVariants.{Zero};
 ghost use Rattle.download_core.specs.JobPlans.{job_left};
 ghost use Rattle.download_core.specs.Attempt.{Resting};
-ghost use Rattle.download_core.specs.Calls.{confirmed, taken, lost, expired, phase_deadline};
+ghost use Rattle.download_core.specs.Calls.{confirmed, taken, lost, phase_deadline};
 ghost use Rattle.download_core.specs.Keeps.{state_of};
-ghost use Rattle.download_core.specs.Steps.{did_of, next_did, closing_did, ended_did, failed_did, sent, stepped};
+ghost use Rattle.download_core.specs.Steps.{next_did, closing_did, ended_did, failed_did, sent, stepped};
 
 use crate::did::Did;
 use crate::flight::Flight;
@@ -79,21 +79,22 @@ impl Downloader {
         self.phase = phase.lost(&self.plan);
     }
 
-    /// The time has come to `now`: the attempt may be silent.
-    pub fn expire(&mut self, now: u64)
-        ensures { state_of self.new ≡ expired (state_of self.old) now }
-    {
-        let phase = mem::replace(&mut self.phase, Phase::Resting);
-        self.phase = phase.expired(now);
-    }
+    /// The time has come to `now`. Nothing is settled by that alone: a frame that is taken late still counts, until `step` puts the T_Disconnect
+    /// that ends a silent attempt.
+    pub fn expire(&mut self, _now: u64)
+        ensures { state_of self.new ≡ state_of self.old }
+    {}
 
     /// What `step` would answer at this time; nothing changes.
     pub fn next(&self, now: u64) -> Did
         ensures { result ≡ next_did (state_of self.now) now }
     {
         match &self.phase {
-            Phase::Running(run) if run.silence(now).is_some() => closing_did(run.flight),
-            _ => self.did(now),
+            Phase::Resting => Did::Send(connect()),
+            Phase::Running(run) => run.did(&self.plan, now),
+            Phase::Closing { flight, .. } => closing_did(*flight),
+            Phase::Leaving(_) => Did::Wait,
+            Phase::Ended(outcome) => ended_did(self.signs, outcome),
         }
     }
 
@@ -102,8 +103,7 @@ impl Downloader {
         ensures answer { result ≡ next_did (state_of self.old) now }
         ensures next { state_of self.new ≡ stepped (state_of self.old) now }
     {
-        self.expire(now);
-        let did = self.did(now);
+        let did = self.next(now);
         if matches!(did, Did::Send(_)) {
             self.sent(now);
         }
@@ -117,27 +117,15 @@ impl Downloader {
         self.phase.deadline()
     }
 
-    fn did(&self, now: u64) -> Did
-        ensures { result ≡ did_of (state_of self.now) now }
-    {
-        match &self.phase {
-            Phase::Resting => Did::Send(connect()),
-            Phase::Running(run) => run.did(&self.plan, now),
-            Phase::Closing { flight, .. } => closing_did(*flight),
-            Phase::Leaving(_) => Did::Wait,
-            Phase::Ended(outcome) => ended_did(self.signs, outcome),
-        }
-    }
-
     /// What was to be sent was put.
     fn sent(&mut self, now: u64)
         ensures { state_of self.new ≡ sent (state_of self.old) now }
     {
         match mem::replace(&mut self.phase, Phase::Resting) {
-            Phase::Resting => self.phase = Phase::Running(Run::begin(self.device, now)),
+            Phase::Resting => self.phase = Phase::Running(Run::begin(self.device)),
             Phase::Ended(Outcome::Failed(sign)) => {
                 self.signs = self.signs.with(sign);
-                self.phase = Phase::Running(Run::begin(self.device, now));
+                self.phase = Phase::Running(Run::begin(self.device));
             }
             Phase::Running(run) => self.phase = run.sent(&self.plan, now),
             Phase::Closing { outcome, .. } => self.phase = Phase::Leaving(outcome),

@@ -3,7 +3,7 @@
 ghost use Rattle.std.specs.Prelude.{◌≡◌, ◌<◌};
 ghost use Rattle.knx_model.specs.declared.frames.tpdu.Tpdu.TheVariants as tpdu;
 ghost use Rattle.knx_model.specs.Apdu.{Written};
-ghost use Rattle.knx_model.specs.Connection.{numbered_data, next_number, has_passed, IsApdu};
+ghost use Rattle.knx_model.specs.Connection.{numbered_data, next_number, IsApdu};
 
 use apdu_frames::{NUMBERED, encode};
 use knx_model::{ApduOctets, Tpdu};
@@ -45,11 +45,4 @@ pub fn next_number(number: u8) -> u8
     ensures fits { result < 16 }
 {
     (number + 1) % 16
-}
-
-/// Whether a wait has passed that began at `since`.
-pub fn has_passed(wait: u64, since: u64, now: u64) -> bool
-    ensures { result ≡ has_passed wait since now }
-{
-    now.saturating_sub(since) >= wait
 }

@@ -26,7 +26,8 @@ pub use downloader::Downloader;
 pub use flight::Flight;
 pub use job_plan::JobPlan;
 pub use laws::{
-    each_operation_can_be_sent, failures_have_causes, follows_the_line, results_are_right,
+    each_operation_can_be_sent, ends_are_told_truly, flights_are_known, follows_the_record,
+    steps_are_turns, steps_exactly,
 };
 pub use outcome::{Outcome, Refusal};
 pub use signs::Signs;

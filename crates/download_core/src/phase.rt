@@ -4,16 +4,14 @@ ghost use Rattle.std.specs.Prelude.{◌≡◌, ℕ};
 ghost use Rattle.knx_model.specs.Connection.{frame_in};
 ghost use Rattle.knx_model.specs.Plans.{Plan};
 ghost use Rattle.download_core.specs.JobPlans.{job_left};
-ghost use Rattle.download_core.specs.Calls.{phase_confirmed, phase_heard, phase_lost, phase_expired, phase_deadline, closing_confirmed, closing_heard};
-ghost use Rattle.knx_model.specs.ClientConnection.{client_took, client_after};
+ghost use Rattle.download_core.specs.Calls.{phase_confirmed, phase_heard, phase_lost, phase_deadline};
 ghost use Rattle.download_core.specs.Keeps.{phase_of, KeepsPhase};
 
 use crate::flight::Flight;
 use crate::job_plan::JobPlan;
 use crate::outcome::Outcome;
 use crate::run::Run;
-use knx_model::{ClientTook, Sign};
-use transport_conn::ClientConn;
+use knx_model::Sign;
 
 /// Where the attempts of a job are. The drawing stands beside the definitions.
 #[derive(Drop)]
@@ -21,12 +19,8 @@ pub enum Phase {
     /// No attempt began.
     Resting,
     Running(Run),
-    /// T_Disconnect is to be put.
-    Closing {
-        conn: ClientConn,
-        flight: Flight,
-        outcome: Outcome,
-    },
+    /// A wrong T_ACK closed the connection, and T_Disconnect is to be put.
+    Closing { flight: Flight, outcome: Outcome },
     /// T_Disconnect isn't confirmed.
     Leaving(Outcome),
     /// The last attempt has ended.
@@ -41,12 +35,7 @@ impl Phase {
     {
         match self {
             Phase::Running(run) => run.confirmed(error, now),
-            Phase::Closing {
-                conn,
-                flight,
-                outcome,
-            } => Phase::Closing {
-                conn: confirmed_conn(conn, flight, error, now),
+            Phase::Closing { outcome, .. } => Phase::Closing {
                 flight: Flight::Nothing,
                 outcome,
             },
@@ -64,12 +53,7 @@ impl Phase {
     {
         match self {
             Phase::Running(run) => run.heard(plan, tpdu, now),
-            Phase::Closing {
-                conn,
-                flight,
-                outcome,
-            } => closing_heard(conn, flight, outcome, tpdu, now),
-            Phase::Resting | Phase::Leaving(_) | Phase::Ended(_) => self,
+            Phase::Resting | Phase::Closing { .. } | Phase::Leaving(_) | Phase::Ended(_) => self,
         }
     }
 
@@ -87,17 +71,6 @@ impl Phase {
         }
     }
 
-    /// After the time has come to `now`.
-    pub fn expired(self, now: u64) -> Phase
-        ensures next { (left : ℕ → Plan) → phase_of left result ≡ phase_expired (phase_of left self) now }
-        ensures keeps { (left : ℕ → Plan) → KeepsPhase left self → KeepsPhase left result }
-    {
-        match self {
-            Phase::Running(run) => run.expired(now),
-            phase => phase,
-        }
-    }
-
     /// The nearest time at which a wait of the connection has passed.
     pub fn deadline(&self) -> Option<u64>
         ensures { (left : ℕ → Plan) → result ≡ phase_deadline (phase_of left self.now) }
@@ -106,36 +79,5 @@ impl Phase {
             Phase::Running(run) => run.conn.deadline(),
             Phase::Resting | Phase::Closing { .. } | Phase::Leaving(_) | Phase::Ended(_) => None,
         }
-    }
-}
-
-/// After a confirmation while T_Disconnect is to be put.
-fn confirmed_conn(mut conn: ClientConn, flight: Flight, error: bool, now: u64) -> ClientConn
-    ensures { result ≡ closing_confirmed conn flight error now }
-{
-    if flight == Flight::Frame {
-        conn.confirmed(error, now);
-    }
-    conn
-}
-
-/// After a frame of the device while T_Disconnect is to be put: only the device's own counts.
-fn closing_heard(
-    mut conn: ClientConn,
-    flight: Flight,
-    outcome: Outcome,
-    tpdu: &[u8],
-    now: u64,
-) -> Phase
-    ensures next { (left : ℕ → Plan) → phase_of left result ≡ closing_heard (client_after conn now (client_took conn (frame_in tpdu.now))) flight outcome (client_took conn (frame_in tpdu.now)) }
-    ensures keeps { (left : ℕ → Plan) → KeepsPhase left result }
-{
-    match conn.take(tpdu, now) {
-        ClientTook::Closed { answer: None } => Phase::Ended(outcome),
-        _ => Phase::Closing {
-            conn,
-            flight,
-            outcome,
-        },
     }
 }

@@ -2,15 +2,13 @@
 
 ghost use Rattle.std.specs.Prelude.{◌≡◌, ℕ};
 ghost use Rattle.knx_model.specs.Connection.{frame_in};
-ghost use Rattle.knx_model.specs.ClientConnection.{client_expired};
 ghost use Rattle.knx_model.specs.Plans.{Plan};
 ghost use Rattle.download_core.specs.JobPlans.{job_left};
 ghost use Rattle.download_core.specs.Attempt.{Running, first_attempt, is_over, comes_to, answered, or_else, refusal};
-ghost use Rattle.download_core.specs.Calls.{attempt_confirmed, phase_heard, phase_expired, silence, owing};
+ghost use Rattle.download_core.specs.Calls.{attempt_confirmed, phase_heard, owing};
 ghost use Rattle.download_core.specs.Keeps.{phase_of, attempt_of, standing_of, KeepsRun, KeepsPhase};
 
 use crate::flight::Flight;
-use crate::frame::has_passed;
 use crate::job_plan::JobPlan;
 use crate::outcome::{Outcome, Refusal};
 use crate::owed::Owed;
@@ -18,13 +16,8 @@ use crate::phase::Phase;
 use crate::position::Position;
 use crate::question::next_question;
 use crate::suits::{is_wanted, wanted};
-use knx_model::{
-    ApduOctets, ClientConfirmed, ClientExpired, ClientTook, IndAddr, PlanSource, Sign,
-};
+use knx_model::{ApduOctets, ClientConfirmed, ClientTook, IndAddr, PlanSource, Sign};
 use transport_conn::ClientConn;
-
-/// How long a T_ACK is awaited, in milliseconds.
-const ACK_WAIT_MS: u32 = 3_000;
 
 /// An attempt that runs.
 #[derive(Drop)]
@@ -37,16 +30,14 @@ pub struct Run {
     pub sent: u32,
     pub owed: Owed,
     pub flight: Flight,
-    /// When something was put to the device last.
-    pub put: u64,
     /// The first answer that wasn't the expected one.
     pub wrong: Option<Refusal>,
 }
 
 impl Run {
     /// An attempt whose T_Connect is put now.
-    pub fn begin(device: IndAddr, now: u64) -> Run
-        ensures value { (left : ℕ → Plan) → attempt_of left result ≡ first_attempt device (left 0) now }
+    pub fn begin(device: IndAddr) -> Run
+        ensures value { (left : ℕ → Plan) → attempt_of left result ≡ first_attempt device (left 0) }
         ensures keeps { (left : ℕ → Plan) → KeepsRun left result }
     {
         Run {
@@ -56,7 +47,6 @@ impl Run {
             sent: 0,
             owed: Owed::new(),
             flight: Flight::Frame,
-            put: now,
             wrong: None,
         }
     }
@@ -100,7 +90,6 @@ impl Run {
             ClientTook::Again { ack } | ClientTook::Nak(ack) => Phase::Running(self.owing(&ack)),
             ClientTook::Closed { answer: None } => Phase::Ended(outcome),
             ClientTook::Closed { answer: Some(_) } => Phase::Closing {
-                conn: self.conn,
                 flight: self.flight,
                 outcome,
             },
@@ -177,34 +166,6 @@ impl Run {
         match &self.position {
             Position::Next(place) => next_question(plan, *place).is_none(),
             Position::AnswerOf(_) => false,
-        }
-    }
-
-    /// How long it has been silent, where that ends it.
-    pub fn silence(&self, now: u64) -> Option<u32>
-        ensures { result ≡ silence self.now.put (client_expired self.now.conn now) now }
-    {
-        match self.conn.would_expire(now) {
-            ClientExpired::Silent { ms }
-                if ms == ACK_WAIT_MS || has_passed(u64::from(ms), self.put, now) => { Some(ms) }
-            ClientExpired::Nothing | ClientExpired::Repeat(_) | ClientExpired::Silent { .. } => {
-                None
-            }
-        }
-    }
-
-    /// After the time has come to `now`.
-    pub fn expired(self, now: u64) -> Phase
-        ensures next { (left : ℕ → Plan) → phase_of left result ≡ phase_expired (Running (attempt_of left self)) now }
-        ensures keeps { (left : ℕ → Plan) → KeepsRun left self → KeepsPhase left result }
-    {
-        match self.silence(now) {
-            None => Phase::Running(self),
-            Some(ms) => Phase::Closing {
-                conn: self.conn,
-                flight: self.flight,
-                outcome: Outcome::Failed(Sign::Silent { ms }),
-            },
         }
     }
 }

@@ -6,7 +6,7 @@ ghost use Rattle.download_core.specs.declared.flight.Flight.TheVariants.{Nothing
 ghost use Rattle.knx_model.specs.Connection.{IsApdu, IsNumber};
 ghost use Rattle.knx_model.specs.Plans.{Plan};
 ghost use Rattle.download_core.specs.JobPlans.{job_left};
-ghost use Rattle.download_core.specs.Steps.{attempt_did, free_did, standing_did, due_did, sends, paid_sent, free_sent, standing_sent, due_sent, replied, asked};
+ghost use Rattle.download_core.specs.Steps.{attempt_did, paid_did, free_did, standing_did, due_did, sends, attempt_sent, paid_sent, free_sent, standing_sent, due_sent, replied, asked};
 ghost use Rattle.download_core.specs.Keeps.{phase_of, attempt_of, standing_of, KeepsRun, KeepsPhase, IsAt, KeepsNumber};
 
 use crate::did::Did;
@@ -18,7 +18,7 @@ use crate::phase::Phase;
 use crate::position::Position;
 use crate::question::{Question, next_question};
 use crate::run::Run;
-use knx_model::{ClientExpired, Expect};
+use knx_model::{ClientExpired, Expect, Sign};
 
 impl Run {
     /// What is to be done next.
@@ -29,10 +29,21 @@ impl Run {
         if self.flight != Flight::Nothing {
             return Did::Wait;
         }
+        match self.conn.would_expire(now) {
+            ClientExpired::Silent { .. } => Did::Send(disconnect()),
+            over => self.paid_did(plan, over),
+        }
+    }
+
+    /// What is owed to the device, and else what the connection lets do.
+    fn paid_did(&self, plan: &JobPlan, over: ClientExpired) -> Did
+        requires { KeepsRun (job_left plan.now) self.now }
+        ensures { result ≡ paid_did (attempt_of (job_left plan.now) self.now) self.now.owed over }
+    {
         match self.owed.first() {
             Some(reply) => Did::Send(reply),
             None if self.conn.awaits_nothing() => self.free_did(plan),
-            None => self.due_did(now),
+            None => due_did(over),
         }
     }
 
@@ -63,39 +74,42 @@ impl Run {
         }
     }
 
-    /// The outstanding operation again, where it is due.
-    fn due_did(&self, now: u64) -> Did
-        ensures { result ≡ due_did (client_expired self.now.conn now) }
-    {
-        match self.conn.would_expire(now) {
-            ClientExpired::Repeat(frame) => Did::Send(frame),
-            ClientExpired::Nothing | ClientExpired::Silent { .. } => Did::Wait,
-        }
-    }
-
     /// After what was to be sent was put.
     pub fn sent(self, plan: &JobPlan, now: u64) -> Phase
         requires { KeepsRun (job_left plan.now) self }
-        ensures next { phase_of (job_left plan.now) result ≡ paid_sent (attempt_of (job_left plan.now) self) self.owed now }
+        ensures next { phase_of (job_left plan.now) result ≡ attempt_sent (attempt_of (job_left plan.now) self) now }
+        ensures keeps { KeepsPhase (job_left plan.now) result }
+    {
+        match self.conn.would_expire(now) {
+            ClientExpired::Silent { ms } => Phase::Leaving(Outcome::Failed(Sign::Silent { ms })),
+            over => self.paid_sent(plan, over, now),
+        }
+    }
+
+    fn paid_sent(self, plan: &JobPlan, over: ClientExpired, now: u64) -> Phase
+        requires due { over ≡ client_expired self.conn now }
+        requires keeps { KeepsRun (job_left plan.now) self }
+        ensures next { phase_of (job_left plan.now) result ≡ paid_sent (attempt_of (job_left plan.now) self) self.owed over now }
         ensures keeps { KeepsPhase (job_left plan.now) result }
     {
         match self.owed.first() {
             Some(_) => Phase::Running(self.replied(now)),
             None if self.conn.awaits_nothing() => self.free_sent(plan, now),
-            None => Phase::Running(self.due_sent(now)),
+            None => Phase::Running(self.due_sent(&over, now)),
         }
     }
 
     /// After the oldest T_ACK or T_NAK that was owed was put.
-    fn replied(self, now: u64) -> Run
+    #[tactic(auto, using(crate::proofs::Numbers::stayed_number))]
+    fn replied(mut self, now: u64) -> Run
         ensures next { (left : ℕ → Plan) → attempt_of left result ≡ replied (attempt_of left self) now }
         ensures keeps { (left : ℕ → Plan) → KeepsRun left self → KeepsRun left result }
     {
+        self.conn.replied(now);
         let owed = self.owed.rest();
         Run {
             owed,
             flight: Flight::Reply,
-            put: now,
             ..self
         }
     }
@@ -130,16 +144,16 @@ impl Run {
 
     /// After the outstanding operation was put again, where it was due.
     #[tactic(auto, using(crate::proofs::Numbers::repeated_number))]
-    fn due_sent(mut self, now: u64) -> Run
-        ensures next { (left : ℕ → Plan) → attempt_of left result ≡ due_sent (attempt_of left self) (client_expired self.conn now) now }
+    fn due_sent(mut self, over: &ClientExpired, now: u64) -> Run
+        requires { over.now ≡ client_expired self.conn now }
+        ensures next { (left : ℕ → Plan) → attempt_of left result ≡ due_sent (attempt_of left self) over.now now }
         ensures keeps { (left : ℕ → Plan) → KeepsRun left self → KeepsRun left result }
     {
-        match self.conn.would_expire(now) {
+        match over {
             ClientExpired::Repeat(_) => {
                 self.conn.expire(now);
                 Run {
                     flight: Flight::Frame,
-                    put: now,
                     ..self
                 }
             }
@@ -167,8 +181,17 @@ impl Run {
             position,
             sent: self.sent + 1,
             flight: Flight::Frame,
-            put: now,
             ..self
         }
+    }
+}
+
+/// The outstanding operation again, where it is due.
+fn due_did(over: ClientExpired) -> Did
+    ensures { result ≡ due_did over }
+{
+    match over {
+        ClientExpired::Repeat(frame) => Did::Send(frame),
+        ClientExpired::Nothing | ClientExpired::Silent { .. } => Did::Wait,
     }
 }

@@ -1,28 +1,23 @@
 -- What the line as it is held allows may happen in its worlds.
-use Rattle.std.proofs.Common.{◌≡◌, ◌≢◌, ℕ, ◌+◌, ◌-◌, ◌<◌, ◌≤◌, ◌⊎◌, inl, inr, Bool, true, false, not, ◌&&◌, ◌==◌, List, [], ◌∷◌, map, Option, Some, None, refl, ap, sym, subst, ◌∙◌, arith, if◌then◌else◌}
-use Rattle.std.specs.Prelude.{slice_get, nat_lt, option_map}
+use Rattle.std.proofs.Common.{◌≡◌, ◌≢◌, ℕ, inl, inr, List, [], Option, Some, None, refl, ap, sym, subst, ◌∙◌}
+use Rattle.std.specs.Prelude.{slice_get, option_map}
 use Rattle.std.proofs.lemmas.Bool.{cases_lt}
 use Rattle.knx_model.specs.declared.frames.cemi.Ldata.{Ldata}
-use Rattle.knx_model.specs.declared.frames.ip.IpFrame.TheVariants.{ConnectRequest}
 use Rattle.knx_model.specs.ApduReading.{option_map as mapped}
 use Rattle.knx_model.specs.DeviceState.{DeviceState}
 use Rattle.knx_model.specs.DeviceFrames.{Outcome, Torn, Worn, MayTake}
 use Rattle.knx_model.specs.DeviceSending.{first_frame}
-use Rattle.line_model.specs.Deliveries.{is_under_way}
 use Rattle.line_model.specs.GatewayEnd.{GatewayEnd}
-use Rattle.line_model.specs.Gateway.{Channel}
-use Rattle.line_model.specs.Legal.{MayHappen, DevicesAllow, OfDevice, CanRepeat, GoesSo, IsFor}
+use Rattle.line_model.specs.Legal.{MayHappen, OfDevice, CanRepeat, GoesSo}
 use Rattle.line_model.specs.Network.{Sent, IsUnderWay, OfSent, MayArrive, MayReach, WasSent}
-use Rattle.line_model.specs.Reading.{datagram_in}
 use Rattle.line_model.specs.Tunnel as tunnel
 use Rattle.line_model.specs.Tunnel.{Tunnel, Mode, Commissions, Serves, HasOutstanding, IsConnectRequest, IsOpen, made}
 use Rattle.line_model.specs.World.{World, Event, AtGateway, Comes, IsLost, Send, From, Renew, Up, UpRefused, Down, LoseUp, LoseDown, Bus, BusTorn, BusWorn, BusAgain, DevSend, DevRepeat, DevClose, GwAgain, GwRepeat, GwClose, Cut, On, Pass, carried, heard, next_frame, on_bus, repeat_at, waiting_at}
 use Rattle.network_sim.specs.Window.{Window, kept_of, window_of}
 use Rattle.network_sim.proofs.Longest.{reads_alike}
 use Rattle.network_sim.proofs.Windows.{got_kept, kept_length, none_kept}
-use Rattle.line_sim.specs.Allowed.{Allows, HasOneClient, HasAnyClient, IsForOne, MayGoSo, MayGetDown}
+use Rattle.line_sim.specs.Allowed.{Allows, HasOneClient, HasAnyClient, MayGoSo, MayGetDown}
 use Rattle.line_sim.specs.Line.{LineNow, IsNow, frame_due}
-use Rattle.line_sim.specs.Places.{device_at}
 
 -- ---- datagrams
 

@@ -1,5 +1,5 @@
 -- Bits of words, and the device parts that they stand for.
-use Rattle.std.proofs.Common.{◌≡◌, ◌≢◌, ℕ, ◌+◌, ◌-◌, ◌*◌, ◌/◌, ◌%◌, ◌^◌, ◌<◌, ◌≤◌, ◌==◌, ◌⊎◌, inl, inr, min, Bool, true, false, List, length, refl, ap, sym, subst, ◌∙◌, arith, if◌then◌else◌, bit_and, slice_index}
+use Rattle.std.proofs.Common.{◌≡◌, ◌≢◌, ℕ, ◌+◌, ◌-◌, ◌*◌, ◌/◌, ◌%◌, ◌^◌, ◌<◌, ◌≤◌, ◌==◌, inl, inr, min, Bool, true, false, List, length, refl, ap, sym, subst, ◌∙◌, arith, if◌then◌else◌, bit_and, slice_index}
 use Rattle.std.specs.Int.{bit_at, trailing_zeros, w64}
 use Rattle.std.proofs.Math.ListN.{set}
 use Rattle.std.proofs.lemmas.List.{get_or-set_same, get_or-set_other}
@@ -124,8 +124,8 @@ pub none_up_to : (words : List ℕ) (from word start bit : ℕ) → bit ≤ 64 �
 none_up_to words from word start bit h begins none earlier p le lt = elim (cases_lt p (word * 64)) [
   | inl less ↦ earlier p le less
   | inr more ↦
-    let word_is : p / 64 ≡ word = omega (arith, more, lt, h) in
-    let place : from ≤ 64 * word + p % 64 = omega (arith, le, word_is) in
-    let small : p % 64 < bit = omega (arith, lt, word_is) in
-    lacks_bit words p (ap (λ (k : ℕ). bit_at (slice_index words k) (p % 64)) word_is ∙ none (p % 64) (begins (p % 64) place) small)
+      let word_is : p / 64 ≡ word = omega (arith, more, lt, h) in
+      let place : from ≤ 64 * word + p % 64 = omega (arith, le, word_is) in
+      let small : p % 64 < bit = omega (arith, lt, word_is) in
+      lacks_bit words p (ap (λ (k : ℕ). bit_at (slice_index words k) (p % 64)) word_is ∙ none (p % 64) (begins (p % 64) place) small)
 ]

@@ -5,7 +5,6 @@ use Rattle.std.proofs.lemmas.Bool.{cases_lt}
 use Rattle.std.proofs.lemmas.List.{get_or_push, take_more}
 use Rattle.std.proofs.Math.ListN.{get_or-append}
 use Rattle.knx_model.specs.declared.device.Took.TheVariants.{Taken, NotMine, TooLong, Off}
-use Rattle.knx_model.specs.declared.device.Took.{Took}
 use Rattle.knx_model.specs.declared.frames.cemi.Ldata.{Ldata}
 use Rattle.knx_model.specs.ApduReading.{option_map}
 use Rattle.knx_model.specs.DeviceState.{DeviceState}
@@ -13,9 +12,9 @@ use Rattle.knx_model.specs.DeviceFrames.{Whole, is_too_long, takes, took_of}
 use Rattle.device_sim.proofs.Taken.{not_taken}
 use Rattle.device_sim.specs.declared.brought.Brought.{Brought}
 use Rattle.device_sim.specs.declared.brought.Brought.TheVariants.{NotTaken}
-use Rattle.line_model.specs.World.{Devices, all_take, is_among}
+use Rattle.line_model.specs.World.{is_among}
 use Rattle.line_sim.specs.Group.{IsBroughtAt, AreBrought, brought_there}
-use Rattle.line_sim.specs.Places.{DevicesNow, AreDevices, ComesTo, device_at, device_in, device_part, line_part}
+use Rattle.line_sim.specs.Places.{DevicesNow, ComesTo, device_at, device_in, device_part, line_part}
 
 -- ---- a frame for one device alone
 
@@ -75,12 +74,12 @@ pub brought_more : (n : DevicesNow) (left_out : List ℕ) (frame : Ldata) (part 
     → (k : ℕ) → k < part + 1 → IsBroughtAt n left_out frame k (slice_index_or more k NotTaken)
 brought_more n left_out frame part all more one is long before here k h = elim (cases_lt k part) [
   | inl less ↦
-    let within : k < length all = omega (arith, less, long) in
-    subst (IsBroughtAt n left_out frame k) (sym (ap (λ (xs : List Brought). slice_index_or xs k NotTaken) is ∙ get_or-append all (one ∷ []) NotTaken k within)) (before k less)
+      let within : k < length all = omega (arith, less, long) in
+      subst (IsBroughtAt n left_out frame k) (sym (ap (λ (xs : List Brought). slice_index_or xs k NotTaken) is ∙ get_or-append all (one ∷ []) NotTaken k within)) (before k less)
   | inr more_than ↦
-    let at : k ≡ part = omega (arith, h, more_than) in
-    let there : slice_index_or more k NotTaken ≡ one = ap (λ (xs : List Brought). slice_index_or xs k NotTaken) is ∙ get_or_push all one NotTaken k (long ∙ sym at) in
-    subst (IsBroughtAt n left_out frame k) (sym there) (subst (λ (i : ℕ). IsBroughtAt n left_out frame i one) (sym at) here)
+      let at : k ≡ part = omega (arith, h, more_than) in
+      let there : slice_index_or more k NotTaken ≡ one = ap (λ (xs : List Brought). slice_index_or xs k NotTaken) is ∙ get_or_push all one NotTaken k (long ∙ sym at) in
+      subst (IsBroughtAt n left_out frame k) (sym there) (subst (λ (i : ℕ). IsBroughtAt n left_out frame i one) (sym at) here)
 ]
 
 -- all places have got what was brought to them: so the frame came
@@ -134,9 +133,9 @@ pub behind_more : (old mid new : List (Option DeviceState)) (frame : Ldata) (bro
     → (k : ℕ) → part - 1 ≤ k → k < 256 → device_in new k ≡ brought_there frame (device_in old k) (slice_index_or brought k NotTaken)
 behind_more old mid new frame brought part one some is before behind here others k h lt = elim (same_or_other k (part - 1)) [
   | inl e ↦
-    let less : part - 1 < part = omega arith in
-    ap (device_in new) e ∙ here ∙ ap (λ (o : Option DeviceState). brought_there frame o one) (before (part - 1) less) ∙ ap (brought_there frame (device_in old (part - 1))) is
-    ∙ ap (λ (i : ℕ). brought_there frame (device_in old i) (slice_index_or brought i NotTaken)) (sym e)
+      let less : part - 1 < part = omega arith in
+      ap (device_in new) e ∙ here ∙ ap (λ (o : Option DeviceState). brought_there frame o one) (before (part - 1) less) ∙ ap (brought_there frame (device_in old (part - 1))) is
+      ∙ ap (λ (i : ℕ). brought_there frame (device_in old i) (slice_index_or brought i NotTaken)) (sym e)
   | inr ne ↦ let more : part ≤ k = omega (arith, h, ne) in others k ne ∙ behind k more lt
 ]
 

@@ -1,10 +1,9 @@
 -- Up to the nearest time there is nothing to send, and then there is.
-use Rattle.std.proofs.Common.{◌≡◌, ◌≢◌, ℕ, ◌+◌, ◌-◌, ◌<◌, ◌≤◌, ◌⊎◌, ◌↔◌, inl, inr, min, Bool, true, false, List, [], ◌∷◌, Option, Some, None, refl, ap, sym, subst, ◌∙◌, arith, if◌then◌else◌}
+use Rattle.std.proofs.Common.{◌≡◌, ◌≢◌, ℕ, ◌+◌, ◌<◌, ◌≤◌, ◌⊎◌, ◌↔◌, inl, inr, Bool, true, false, List, [], ◌∷◌, Option, Some, None, refl, ap, sym, subst, ◌∙◌, arith, if◌then◌else◌}
 use Rattle.std.specs.Prelude.{nat_le, nat_lt, IfNone, IfSome}
 use Rattle.std.proofs.lemmas.Bool.{cases_lt}
 use Rattle.knx_model.specs.declared.connection.DeviceExpired.{DeviceExpired}
 use Rattle.knx_model.specs.declared.connection.DeviceExpired.TheVariants as expired
-use Rattle.knx_model.specs.declared.device.Sending.{Sending}
 use Rattle.knx_model.specs.declared.frames.cemi.Ldata.{Ldata}
 use Rattle.knx_model.specs.Connection.{Session, last_time, wait_end, earlier_time, idle_wait, ack_wait, most_repeats}
 use Rattle.knx_model.specs.ConnectionLaws.{Reached}
@@ -13,7 +12,7 @@ use Rattle.knx_model.specs.DeviceSending.{due_sending, next_sending, sending_of}
 use Rattle.knx_model.specs.DeviceState.{DeviceState}
 use Rattle.line_model.specs.Fresh.{HasNothingToSend, Settled, SettledFor}
 use Rattle.line_model.specs.Gateway.{Gateway, Channel, Request, GatewayExpired, Nothing, Repeat, Closing, channel_expired, gateway_expired, client_wait, acknowledgement_wait}
-use Rattle.line_model.specs.GatewayEnd.{GatewayEnd, channel_deadline, end_of, request_deadline}
+use Rattle.line_model.specs.GatewayEnd.{GatewayEnd, channel_deadline, request_deadline}
 use Rattle.line_model.specs.Tunnel.{Mode}
 use Rattle.line_model.specs.World.{World, now}
 use Rattle.transport_conn.proofs.DeviceEnd.{due, reached}

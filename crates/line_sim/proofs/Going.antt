@@ -1,5 +1,5 @@
 -- The datagram that goes next, and one that goes once more, may come.
-use Rattle.std.proofs.Common.{◌≡◌, ℕ, zero, suc, ◌+◌, ◌-◌, ◌<◌, ◌≤◌, Bool, true, false, not, ◌&&◌, ◌==◌, is_some, List, [], ◌∷◌, length, Option, Some, None, refl, ap, sym, subst, ◌∙◌, arith, if◌then◌else◌}
+use Rattle.std.proofs.Common.{◌≡◌, ℕ, zero, suc, ◌+◌, ◌-◌, Bool, true, false, not, ◌&&◌, ◌==◌, List, [], ◌∷◌, length, Option, Some, None, refl, ap, sym, subst, ◌∙◌, arith, if◌then◌else◌}
 use Rattle.std.specs.Prelude.{IfSome, nat_lt, slice_get}
 use Rattle.line_model.specs.Deliveries.{is_under_way, oldest, or_here}
 use Rattle.line_model.specs.Network.{Sent, IsUnderWay, OfSent, oldest_age, most_deliveries, channel_numbers}

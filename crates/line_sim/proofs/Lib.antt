@@ -11,4 +11,5 @@ pub mod Settling
 pub mod Allowing
 pub mod Ready
 pub mod Going
+pub mod Counting
 pub mod Lines

@@ -1,11 +1,10 @@
 -- What is held of the line after each event.
-use Rattle.std.proofs.Common.{◌≡◌, ℕ, ◌==◌, Bool, true, false, not, ◌&&◌, ◌||◌, is_some, nat_lt, List, [], ◌∷◌, Option, Some, None, refl, ap, sym, subst, ◌∙◌, arith, if◌then◌else◌}
-use Rattle.knx_model.specs.ApduReading.{option_map}
+use Rattle.std.proofs.Common.{◌≡◌, ℕ, Bool, true, false, not, ◌&&◌, ◌||◌, is_some, nat_lt, List, [], ◌∷◌, Option, Some, None, refl, ap, sym, subst, ◌∙◌, if◌then◌else◌}
 use Rattle.knx_model.specs.declared.frames.cemi.Ldata.{Ldata}
 use Rattle.knx_model.specs.declared.device.WriteKind.{WriteKind}
 use Rattle.knx_model.specs.Device.{Effect, Nothing, is_write, written_front}
 use Rattle.knx_model.specs.DeviceState.{DeviceState}
-use Rattle.knx_model.specs.DeviceFrames.{Outcome, Whole, Torn, Worn, worn_octets, connection_took, effect_delivered, effect_of_frame, is_taken, takes, taken_again, took_of, would_write, write_kind}
+use Rattle.knx_model.specs.DeviceFrames.{Outcome, Torn, Worn, worn_octets, connection_took, effect_delivered, effect_of_frame, is_taken, takes, taken_again, took_of, would_write, write_kind}
 use Rattle.knx_model.specs.DeviceSending.{pops, waiting_frame, repeat_frame, repeats}
 use Rattle.line_model.specs.Counts.{write_of}
 use Rattle.line_model.specs.Deliveries.{effect_at}

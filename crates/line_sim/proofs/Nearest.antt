@@ -1,5 +1,5 @@
 -- The nearest of the times of the devices, part by part.
-use Rattle.std.proofs.Common.{◌≡◌, ℕ, ◌+◌, ◌*◌, ◌/◌, ◌%◌, ◌<◌, ◌≤◌, ◌⊎◌, ◌==◌, inl, inr, min, Bool, true, false, List, Option, Some, None, refl, ap, sym, subst, ◌∙◌, arith, if◌then◌else◌}
+use Rattle.std.proofs.Common.{◌≡◌, ℕ, ◌+◌, ◌*◌, ◌/◌, ◌<◌, ◌≤◌, ◌⊎◌, ◌==◌, inl, inr, min, Bool, true, false, List, Option, Some, None, refl, ap, sym, ◌∙◌, arith, if◌then◌else◌}
 use Rattle.std.proofs.lemmas.Bool.{cases_lt}
 use Rattle.knx_model.specs.declared.frames.cemi.Ldata.{Ldata}
 use Rattle.knx_model.specs.DeviceConnection.{DeviceEnd, device_deadline, device_expired}
@@ -17,11 +17,14 @@ least_of_both None None end e = cc
 least_of_both None (Some b) end e = ((λ t f. cc), (λ t f. let same : end ≡ t = cc in omega arith), inr e)
 least_of_both (Some a) None end e = ((λ t f. let same : end ≡ t = cc in omega arith), (λ t f. cc), inl e)
 least_of_both (Some a) (Some b) end e =
-    let is : min a b ≡ end = cc in
-    ((λ t f. let same : a ≡ t = cc in omega arith), (λ t f. let same : b ≡ t = cc in omega arith), elim (cases_lt b a) [
-      | inl less ↦ inr (ap (λ (x : ℕ). Some x) (omega (arith, is, less)))
-      | inr more ↦ inl (ap (λ (x : ℕ). Some x) (omega (arith, is, more)))
-    ])
+    let is : min a b ≡ end = cc in (
+      (λ t f. let same : a ≡ t = cc in omega arith),
+      (λ t f. let same : b ≡ t = cc in omega arith),
+      elim (cases_lt b a) [
+        | inl less ↦ inr (ap (λ (x : ℕ). Some x) (omega (arith, is, less)))
+        | inr more ↦ inl (ap (λ (x : ℕ). Some x) (omega (arith, is, more)))
+      ],
+    )
 
 pub neither : (one other : Option ℕ) → nearer one other ≡ None → (one ≡ None) × (other ≡ None)
 neither None None e = (refl, refl)

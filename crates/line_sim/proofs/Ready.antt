@@ -1,17 +1,15 @@
 -- What a device or the gateway has to send it may send, and a memory write may be worn.
-use Rattle.std.proofs.Common.{◌≡◌, ◌≢◌, ℕ, ◌-◌, ◌<◌, Bool, true, false, not, ◌&&◌, is_some, List, [], ◌∷◌, length, map, Option, Some, None, refl, ap, sym, subst, ◌∙◌, arith, if◌then◌else◌}
+use Rattle.std.proofs.Common.{◌≡◌, ◌≢◌, ℕ, ◌-◌, Bool, true, false, not, ◌&&◌, List, [], ◌∷◌, Option, Some, None, refl, ap, ◌∙◌, arith, if◌then◌else◌}
 use Rattle.std.proofs.lemmas.List.{length-map}
-use Rattle.knx_model.specs.declared.connection.DeviceExpired.{DeviceExpired}
 use Rattle.knx_model.specs.declared.connection.DeviceExpired.TheVariants as expired
 use Rattle.knx_model.specs.declared.device.Sending.TheVariants.{Repeat}
-use Rattle.knx_model.specs.declared.device.WriteKind.{WriteKind}
 use Rattle.knx_model.specs.declared.device.WriteKind.TheVariants.{Memory}
 use Rattle.knx_model.specs.declared.frames.cemi.Ldata.{Ldata}
 use Rattle.knx_model.specs.declared.frames.ip.IpFrame.{IpFrame}
 use Rattle.knx_model.specs.Connection.{disconnect, has_passed, idle_wait}
 use Rattle.knx_model.specs.Device.{Effect, Nothing, is_write}
-use Rattle.knx_model.specs.DeviceConnection.{DeviceEnd, Closed, Idle, Answering, Outstanding, device_expired, is_due}
-use Rattle.knx_model.specs.DeviceFrames.{AreOctets, MayTake, MayWear, Worn, complements, connection_took, effect_delivered, effect_of_frame, is_taken, octets_sent, took_of, would_write, worn_octets, write_kind}
+use Rattle.knx_model.specs.DeviceConnection.{DeviceEnd, Closed, Idle, Answering, device_expired}
+use Rattle.knx_model.specs.DeviceFrames.{AreOctets, MayTake, Worn, complements, connection_took, effect_delivered, effect_of_frame, is_taken, octets_sent, took_of, would_write, worn_octets, write_kind}
 use Rattle.knx_model.specs.DeviceSending.{due_sending, next_sending, outstanding_frame, repeat_frame, sending_of}
 use Rattle.knx_model.specs.DeviceState.{DeviceState}
 use Rattle.line_model.specs.Gateway as gateway
@@ -23,7 +21,7 @@ use Rattle.line_model.specs.Tunnel as tunnel
 use Rattle.line_model.specs.Tunnel.{Tunnel, Mode}
 use Rattle.line_model.specs.World.{World, AtGateway, DevRepeat, GwClose, GwRepeat, now, repeat_at}
 use Rattle.line_sim.specs.declared.gateway.Due.TheVariants as due
-use Rattle.line_sim.specs.Allowed.{IsForOne, MayGoSo}
+use Rattle.line_sim.specs.Allowed.{MayGoSo}
 use Rattle.line_sim.specs.Gateways.{due_of}
 use Rattle.line_sim.specs.Line.{LineNow, effect_due, effect_on, frame_due, write_at, write_due}
 use Rattle.line_sim.specs.Places.{device_at, sending_at}
@@ -109,11 +107,14 @@ may_wear n h = by_frame (frame_due n) h
   where
     by_device : (frame : Ldata) (o : Option DeviceState) → write_of o (Some frame) ≡ Some Memory → (frame.group ≡ false) × OfDevice (λ d. MayTake d frame (Worn (worn_octets (effect_at o frame)))) o
     by_device frame None h = cc
-    by_device frame (Some d) h = (write_is_alone d frame h, record {
-      write = h;
-      each = length-map (octets_sent (effect_of_frame d frame)) (λ (octet : ℕ). 255 - octet);
-      eight_bits = complements_are_octets (octets_sent (effect_of_frame d frame));
-    })
+    by_device frame (Some d) h = (
+      write_is_alone d frame h,
+      record {
+        write = h;
+        each = length-map (octets_sent (effect_of_frame d frame)) (λ (octet : ℕ). 255 - octet);
+        eight_bits = complements_are_octets (octets_sent (effect_of_frame d frame));
+      },
+    )
 
     by_frame : (o : Option Ldata) → write_at n.devices o ≡ Some Memory → MayGoSo n (Worn (worn_octets (effect_on n.devices o))) o
     by_frame None h = cc

@@ -1,5 +1,5 @@
 -- When nothing but time can go on.
-use Rattle.std.proofs.Common.{◌≡◌, ℕ, ◌+◌, ◌<◌, ◌↔◌, Bool, true, false, ◌&&◌, IsTrue, List, [], ◌∷◌, length, Option, Some, None, refl, ap, sym, subst, ◌∙◌, arith}
+use Rattle.std.proofs.Common.{◌≡◌, ℕ, ◌↔◌, Bool, true, false, ◌&&◌, IsTrue, List, [], ◌∷◌, Option, Some, None, refl, ap, sym, ◌∙◌}
 use Rattle.std.specs.Prelude.{IfNone, IfSome}
 use Rattle.knx_model.specs.declared.device.Sending.{Sending}
 use Rattle.knx_model.specs.DeviceState.{DeviceState}
@@ -13,7 +13,7 @@ use Rattle.line_model.specs.Tunnel.{Mode, Commissions, Serves, made}
 use Rattle.line_model.specs.World.{World, next_frame, now, on_bus}
 use Rattle.network_sim.specs.declared.place.Reach.{Reach}
 use Rattle.network_sim.specs.declared.place.Reach.TheVariants.{Every, To}
-use Rattle.network_sim.specs.Arriving.{AllOver, passes}
+use Rattle.network_sim.specs.Arriving.{AllOver}
 use Rattle.network_sim.proofs.Over.{all_over}
 use Rattle.line_sim.specs.declared.gateway.Due.{Due}
 use Rattle.line_sim.specs.declared.gateway.Due.TheVariants as due
@@ -58,11 +58,11 @@ where_none (Some s) p e = cc
 pub nothing_exactly : (w : World) (r : Option (ℕ × Sending)) (d : Due) (is_none is_nothing_due : Bool) → IfSome r (λ s. sending_at (w.devices s.0) (now w) ≡ Some s.1) → IfNone r ((a : ℕ) → sending_at (w.devices a) (now w) ≡ None)
     → d ≡ due_of (gateway_expired w.tunnel.gateway (now w)) → IsTrue is_none ↔ (r ≡ None) → IsTrue is_nothing_due ↔ (d ≡ due.Nothing) → IsTrue (is_none && is_nothing_due) ↔ HasNothingToSend w (now w)
 nothing_exactly w r d is_none is_nothing_due found none is one other = (
-    (λ h. let both = both_true is_none is_nothing_due h in record {
-      devices = all_silent w (where_none r none (one.0 both.0));
-      gateway = is_nothing (gateway_expired w.tunnel.gateway (now w)) (sym is ∙ other.0 both.1);
-    }),
-    (λ nothing. and_true is_none is_nothing_due (one.1 (nobody w r found nothing)) (other.1 (is ∙ ap due_of nothing.gateway)))
+  (λ h. let both = both_true is_none is_nothing_due h in record {
+    devices = all_silent w (where_none r none (one.0 both.0));
+    gateway = is_nothing (gateway_expired w.tunnel.gateway (now w)) (sym is ∙ other.0 both.1);
+  }),
+  (λ nothing. and_true is_none is_nothing_due (one.1 (nobody w r found nothing)) (other.1 (is ∙ ap due_of nothing.gateway))),
 )
 
 pub for_world : (P : World → ℕ × Sending → Type 0) (Q : World → Type 0) (r : Option (ℕ × Sending)) (w : World) → IfSome r (λ s. (v : World) → Q v → P v s) → Q w → IfSome r (P w)
@@ -78,13 +78,13 @@ none_for_world P Q (Some s) w h q = tt
 pub settled_exactly : (reach : Reach) (w : World) (up down bus silent : Bool) → IsTrue up ↔ AllOver Every (made w.tunnel) w.tunnel.network.up → IsTrue down ↔ AllOver reach (made w.tunnel) w.tunnel.network.down
     → IsTrue bus ↔ (w.tunnel.gateway.bus ≡ []) → IsTrue silent ↔ HasNothingToSend w (now w) → IsTrue ((up && down) && (bus && silent)) ↔ IsSettledWithin reach w
 settled_exactly reach w up down bus silent of_up of_down of_bus of_silent = (
-    (λ h. let halves = both_true (up && down) (bus && silent) h in let over = both_true up down halves.0 in let still = both_true bus silent halves.1 in record {
-      up = of_up.0 over.0;
-      down = of_down.0 over.1;
-      bus = of_bus.0 still.0;
-      nothing_to_send = of_silent.0 still.1;
-    }),
-    (λ s. and_true (up && down) (bus && silent) (and_true up down (of_up.1 s.up) (of_down.1 s.down)) (and_true bus silent (of_bus.1 s.bus) (of_silent.1 s.nothing_to_send)))
+  (λ h. let halves = both_true (up && down) (bus && silent) h in let over = both_true up down halves.0 in let still = both_true bus silent halves.1 in record {
+    up = of_up.0 over.0;
+    down = of_down.0 over.1;
+    bus = of_bus.0 still.0;
+    nothing_to_send = of_silent.0 still.1;
+  }),
+  (λ s. and_true (up && down) (bus && silent) (and_true up down (of_up.1 s.up) (of_down.1 s.down)) (and_true bus silent (of_bus.1 s.bus) (of_silent.1 s.nothing_to_send))),
 )
 
 pub settled_in_run : (w : World) → IsSettledWithin (To w.tunnel.present) w ↔ Settled Commissions w

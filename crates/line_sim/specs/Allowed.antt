@@ -1,5 +1,5 @@
 -- Which events the line as it is held allows: one row an event, as of a world, but read off what is held.
-use Rattle.std.specs.Prelude.{◌≡◌, ◌≢◌, ℕ, false, List, [], Option, Some, None, slice_get}
+use Rattle.std.specs.Prelude.{◌≡◌, ◌≢◌, ℕ, false, [], Option, Some, None, slice_get}
 use Rattle.knx_model.specs.declared.frames.cemi.Ldata.{Ldata}
 use Rattle.knx_model.specs.DeviceFrames.{Outcome, Torn, Worn, MayTake}
 use Rattle.line_model.specs.Legal.{OfDevice, CanRepeat}

@@ -1,14 +1,14 @@
 -- The line as it is held: the tunnel, the devices, and the bus's last frame where a device sent it; and of which worlds it is a picture.
-use Rattle.std.specs.Prelude.{◌≡◌, ℕ, ◌-◌, ◌^◌, ◌<◌, Bool, false, not, length, Option, Some, None}
+use Rattle.std.specs.Prelude.{◌≡◌, ℕ, ◌-◌, ◌*◌, ◌^◌, ◌<◌, ◌≤◌, Bool, false, not, length, Option, Some, None}
 use Rattle.knx_model.specs.declared.device.WriteKind.{WriteKind}
 use Rattle.knx_model.specs.declared.frames.cemi.Ldata.{Ldata}
 use Rattle.knx_model.specs.declared.frames.cemi.LdataCode.TheVariants.{Con}
 use Rattle.knx_model.specs.ApduReading.{option_map}
 use Rattle.knx_model.specs.Device.{Effect, Nothing}
-use Rattle.knx_model.specs.DeviceState.{DeviceState}
 use Rattle.knx_model.specs.DeviceSending.{first_frame}
 use Rattle.line_model.specs.Counts.{takes_alone, write_of}
 use Rattle.line_model.specs.Deliveries.{effect_at}
+use Rattle.line_model.specs.Tunnel.{Tunnel, made}
 use Rattle.line_model.specs.World.{World, frame_by, on_bus}
 use Rattle.line_sim.specs.Places.{DevicesNow, AreDevices, device_at}
 use Rattle.line_sim.specs.Tunnels.{TunnelNow, IsTunnel}
@@ -71,3 +71,12 @@ pub record AreCounted (w : World) : Type 0 where
   pub up : length w.tunnel.network.up < 2 ^ 64 - 1
   pub down : length w.tunnel.network.down < 2 ^ 64 - 1
   pub acted : length w.tunnel.gateway.acted < 2 ^ 64 - 1
+
+-- what so many events of a run bring a tunnel to, at most: each brings one endpoint, channel, request and datagram of the client, and two
+-- datagrams of the gateway
+pub record IsCounted (events : ℕ) (t : Tunnel) : Type 0 where
+  pub endpoint : t.present ≤ events
+  pub channels : made t ≤ events
+  pub requests : length t.gateway.acted ≤ events
+  pub up : length t.network.up ≤ events
+  pub down : length t.network.down ≤ 2 * events

@@ -1,19 +1,19 @@
 //! The laws of a line as it is held: which events may happen, and that its counts stay small.
 
-ghost use Rattle.std.specs.Prelude.{◌≡◌, ℕ, List, None, Some, nat_lt, is_some, true};
+ghost use Rattle.std.specs.Prelude.{◌≡◌, ℕ, List, None, Some, length, nat_lt, is_some, true};
 ghost use Rattle.knx_model.specs.declared.device.Sending.TheVariants.{Waiting, Repeat, Closing};
 ghost use Rattle.knx_model.specs.declared.device.WriteKind.TheVariants.{Memory};
 ghost use Rattle.knx_model.specs.Device.{written_front};
 ghost use Rattle.knx_model.specs.DeviceFrames.{AreOctets, worn_octets};
-ghost use Rattle.line_model.specs.Fresh.{Settled};
+ghost use Rattle.line_model.specs.Fresh.{IsFresh, Settled};
 ghost use Rattle.line_model.specs.Deliveries.{next_down, next_up};
-ghost use Rattle.line_model.specs.Legal.{MayHappen};
-ghost use Rattle.line_model.specs.Tunnel.{Mode};
-ghost use Rattle.line_model.specs.World.{World, Event, AtGateway, BusTorn, BusWorn, DevSend, DevRepeat, DevClose, GwRepeat, GwClose, next_frame, now};
+ghost use Rattle.line_model.specs.Legal.{IsLegal, MayHappen};
+ghost use Rattle.line_model.specs.Tunnel.{Mode, Commissions};
+ghost use Rattle.line_model.specs.World.{World, Event, AtGateway, BusTorn, BusWorn, DevSend, DevRepeat, DevClose, GwRepeat, GwClose, next_frame, now, replay};
 ghost use Rattle.line_sim.specs.declared.gateway.Due.TheVariants as due;
 ghost use Rattle.line_sim.specs.Allowed.{Allows};
 ghost use Rattle.line_sim.specs.Gateways.{due_of};
-ghost use Rattle.line_sim.specs.Line.{LineNow, IsNow, effect_due, write_due};
+ghost use Rattle.line_sim.specs.Line.{LineNow, IsCounted, IsNow, effect_due, write_due};
 ghost use Rattle.line_sim.specs.Places.{sending_at};
 ghost use Rattle.line_model.specs.Gateway.{gateway_expired};
 
@@ -41,4 +41,9 @@ pub fn what_is_due_is_allowed()
 pub fn what_is_settled()
     ensures { (mode : Mode) (w : World) → next_up w ≡ None → next_down mode w ≡ None → next_frame w ≡ None → ((device : ℕ) → sending_at (w.devices device) (now w) ≡ None)
         → due_of (gateway_expired w.tunnel.gateway (now w)) ≡ due.Nothing → Settled mode w }
+{}
+
+/// A run counts no farther than it has events: so a caller that knows their number knows that one more can be counted.
+pub fn events_bound_the_counts()
+    ensures { (start : World) (events : List Event) → IsFresh start → IsLegal Commissions start events → IsCounted (length events) (replay start events).tunnel }
 {}

@@ -16,10 +16,9 @@ mod tunnel;
 pub use device_sim::Device;
 pub use devices::Devices;
 pub use gateway::Due;
-pub use knx_model::{Datagram, IndAddr, Ldata, NoMemory, Sending, WriteKind};
+pub use knx_model::{ApduOctets, Datagram, IndAddr, Ldata, NoMemory, Octets, Sending, WriteKind};
 pub use laws::{
-    what_is_allowed_may_happen, what_is_due_is_allowed,
-    what_is_settled,
+    events_bound_the_counts, what_is_allowed_may_happen, what_is_due_is_allowed, what_is_settled,
 };
 pub use line::Line;
 pub use tunnel::AtGateway;

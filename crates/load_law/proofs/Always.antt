@@ -9,6 +9,7 @@ use Rattle.knx_model.specs.Connection.{is_with}
 use Rattle.knx_model.specs.Device.{Fits, HasCapacities}
 use Rattle.knx_model.specs.DeviceConnection.{DeviceEnd, Closed, Idle, Answering, device_took}
 use Rattle.knx_model.specs.DeviceState.{DeviceState}
+use Rattle.knx_model.specs.GoodPlan.{OldStoppedOrImage}
 use Rattle.knx_model.specs.LoadPlan.{load_plan}
 use Rattle.session_law.specs.World.{World, fresh}
 use Rattle.session_law.specs.Events.{Event, On, step, replay, IsLegal, AtEveryMoment}
@@ -20,7 +21,7 @@ use Rattle.load_law.specs.Download.{Follows, CanEndDone, IsLoadOrCheck}
 use Rattle.load_law.proofs.Follows.{LoadInv, load_always, fresh_load}
 use Rattle.load_law.proofs.Short.{load_fits}
 use Rattle.load_law.proofs.Ends.{then_done, from_here}
-use Rattle.load_law.proofs.Jobs.{jobs_good}
+use Rattle.load_law.proofs.Jobs.{RunsIt, jobs_good}
 
 -- a device takes its partner's T_Connect
 connects : (me : IndAddr) (e : DeviceEnd) (ds gs : List (List ℕ)) → ConnIs me e ds gs → device_took e (record { raw = me.raw }) Connect ≡ took.Connected
@@ -54,6 +55,6 @@ pub can_always : (image : Image) (me : IndAddr) (d : DeviceState) (events : List
     → AtEveryMoment (λ past. CanEndDone (IsLoadOrCheck image) (load_plan image) (replay (fresh me d) past)) events
 can_always image me d [] fits has legal follows = from_moment image (fresh me d) empty fits (fresh_inv me d) has
 can_always image me d (e ∷ events) fits has legal follows =
-    let l : LoadInv (IsLoadOrCheck image) HasCapacities image d.frames d.kept (jobs_good image fits) (replay (fresh me d) (e ∷ events)) (books (fresh me d) (e ∷ events))
-    = load_always (IsLoadOrCheck image) HasCapacities image d.frames d.kept (jobs_good image fits) (fresh me d) (e ∷ events) (fresh_inv me d) (fresh_load (IsLoadOrCheck image) HasCapacities image d.frames d.kept (jobs_good image fits) me d refl refl has) legal follows in
+    let l : LoadInv (IsLoadOrCheck image) HasCapacities (OldStoppedOrImage d.kept image) (RunsIt image) d.frames (jobs_good image d.kept fits) (replay (fresh me d) (e ∷ events)) (books (fresh me d) (e ∷ events))
+    = load_always (IsLoadOrCheck image) HasCapacities (OldStoppedOrImage d.kept image) (RunsIt image) d.frames (jobs_good image d.kept fits) (fresh me d) (e ∷ events) (fresh_inv me d) (fresh_load (IsLoadOrCheck image) HasCapacities (OldStoppedOrImage d.kept image) (RunsIt image) d.frames (jobs_good image d.kept fits) me d refl (inl refl) has) legal follows in
     (from_moment image (replay (fresh me d) (e ∷ events)) (books (fresh me d) (e ∷ events)) fits (always (fresh me d) (e ∷ events) (fresh_inv me d) legal) l.holds, can_always image me d events fits has legal.1 follows.1)

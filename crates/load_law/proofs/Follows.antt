@@ -2,7 +2,6 @@
 use Rattle.std.proofs.Common.{◌≡◌, ℕ, suc, ◌≤◌, List, [], ◌∷◌, length, Bool, true, false, cond, Option, Some, None, refl, sym, ◌∙◌, ap, subst, arith, inl, inr}
 use Rattle.std.proofs.lemmas.Bool.{false≢true}
 use Rattle.knx_model.specs.declared.address.IndAddr.{IndAddr}
-use Rattle.knx_model.specs.declared.config.Image.{Image}
 use Rattle.knx_model.specs.declared.device.FrameSupport.{FrameSupport}
 use Rattle.knx_model.specs.declared.frames.cemi.Ldata.{Ldata}
 use Rattle.knx_model.specs.declared.connection.TransportFrame.{TransportFrame}
@@ -28,7 +27,7 @@ use Rattle.session_law.proofs.Sides.{fly_ready}
 use Rattle.session_law.proofs.Heard.{tail_same}
 use Rattle.session_law.proofs.Books.{Books, empty, asks_book, carries_book, again_book, gets_book, books_after, books}
 use Rattle.session_law.proofs.Steps.{items, FlyMine, WorldInv, fly_small, ready_small, transport_alone, fresh_inv, always}
-use Rattle.load_law.specs.Download.{Went, MayAsk, Follows, IsRight}
+use Rattle.load_law.specs.Download.{Went, MayAsk, Follows, IsDone}
 use Rattle.load_law.proofs.Answers.{Texts, want}
 use Rattle.load_law.proofs.Walked.{AllGoodFor, Trail, On, count, few, walked}
 use Rattle.load_law.proofs.Loads.{InStep, Load, got_load, shut_load, spoke_load}
@@ -54,9 +53,14 @@ pub record AllOver (sent accepted asked : Texts) (o : Seen) : Type 0 where
   pub delivered_is : o.delivered ≡ sent
   pub given_is : o.given ≡ accepted
 
-module _ (IsJob : Plan → Type 0) (Holds : NonVolatile → Type 0) (image : Image) (frames : FrameSupport) (first : NonVolatile) (good : AllGoodFor IsJob Holds image) where
+-- the content is right, and where an attempt of a job is done, the device keeps what that is for
+pub record IsRightFor (IsJob : Plan → Type 0) (Case : NonVolatile → Type 0) (Ends : Plan → NonVolatile → Type 0) (w : World) : Type 0 where
+  pub case : Case w.device.kept
+  pub done : (plan : Plan) → IsJob plan → IsDone plan w → Ends plan w.device.kept
+
+module _ (IsJob : Plan → Type 0) (Holds Case : NonVolatile → Type 0) (Ends : Plan → NonVolatile → Type 0) (frames : FrameSupport) (good : AllGoodFor IsJob Holds Case Ends) where
   abbrev Loaded : Texts → Seen → Type 0
-  Loaded = Load IsJob Holds image frames first good
+  Loaded = Load IsJob Holds Case Ends frames good
 
   session_over : (me : IndAddr) (asked : Texts) (fly : Option TransportFrame) (coming : List Arrival) (owed : Texts) (number expected : ℕ) (sent accepted : Texts) (o : Seen) (plan rest : Plan) → IsJob plan → Side me asked fly o → Loaded asked o
       → InSession asked fly coming owed false number expected sent accepted o → Went plan sent accepted rest → AllOver sent accepted asked o
@@ -89,18 +93,18 @@ module _ (IsJob : Plan → Type 0) (Holds : NonVolatile → Type 0) (image : Ima
       over_by w.me b.asked (transport_if w.flying) (items w) (seen_of w.device b.delivered b.given) w.client.end w.client.joined w.client.pending w.client.owed w.client.sent w.client.accepted plan rest job h.inv.side l h.inv.phase up went
 
   -- what it keeps is then what it kept after the last service
-  latest_is : (asked : Texts) (o : Seen) (sent accepted : Texts) → AllOver sent accepted asked o → (l : Loaded asked o) → l.latest ≡ o.kept
+  pub latest_is : (asked : Texts) (o : Seen) (sent accepted : Texts) → AllOver sent accepted asked o → (l : Loaded asked o) → l.latest ≡ o.kept
   latest_is asked o sent accepted over l = elim l.reached [
     | inl e ↦ e
     | inr s ↦ absurd (let g : length asked ≡ suc (length o.delivered) = s.0 in let e : length asked ≡ length o.delivered = ap (λ (z : Texts). length z) (over.sent_is ∙ sym over.delivered_is) in omega arith)
   ]
 
-  leads_on : (asked : Texts) (o : Seen) (sent accepted : Texts) (plan rest : Plan) → IsJob plan → AllOver sent accepted asked o → Loaded asked o → Went plan sent accepted rest → On image frames first rest o.kept
+  leads_on : (asked : Texts) (o : Seen) (sent accepted : Texts) (plan rest : Plan) → IsJob plan → AllOver sent accepted asked o → Loaded asked o → Went plan sent accepted rest → On Case (Ends plan) frames rest o.kept
   leads_on asked o sent accepted plan rest job over l went =
       let t : Trail frames l.start sent accepted o.kept
       = subst (λ (z : NonVolatile). Trail frames l.start sent accepted z) (latest_is asked o sent accepted over l)
       (subst (λ (z : Texts). Trail frames l.start sent z l.latest) over.given_is (subst (λ (z : Texts). Trail frames l.start z o.given l.latest) over.delivered_is l.trail)) in
-      walked image frames first Holds plan (good.good plan job) (good.sendable plan job) rest sent accepted l.start o.kept l.began l.held went t
+      walked Case (Ends plan) frames Holds plan (good.good plan job) (good.sendable plan job) rest sent accepted l.start o.kept l.began l.held went t
 
   -- ---- each event
 
@@ -156,7 +160,7 @@ module _ (IsJob : Plan → Type 0) (Holds : NonVolatile → Type 0) (image : Ima
       let fly : FlyIs (Some s) b.asked = subst (λ (z : Option TransportFrame). FlyIs z b.asked) at h.inv.side.fly_is in
       let got : GotIs w.me w.device frame w.now outcome b.delivered b.given s = got_mine w.me w.device frame w.now outcome b.delivered b.given mine.0 mine.1 (fly_small s b.asked fly) h.inv.side.connection in
       let asked' : Texts = or_anew (took_alone w.device frame) b.asked in
-      got_load IsJob Holds image frames first good w.me b.asked asked' s o _ got.0 (is_taken (took_of w.device frame)) (fly_ready s b.asked b.delivered h.inv.side.prefix h.inv.side.one fly)
+      got_load IsJob Holds Case Ends frames good w.me b.asked asked' s o _ got.0 (is_taken (took_of w.device frame)) (fly_ready s b.asked b.delivered h.inv.side.prefix h.inv.side.one fly)
       (anew_same got.0 b.asked asked' (got.2 b.asked)) (anew_step got.0 b.asked asked' (got.2 b.asked)) l got.1
 
   lost_load : (w : World) (b : Books) (fl : Option Ldata) → LoadInv w b → LoadInv (carries_lost w fl) b
@@ -167,7 +171,7 @@ module _ (IsJob : Plan → Type 0) (Holds : NonVolatile → Type 0) (image : Ima
   group_load w b frame g h l =
       let o : Seen = seen_of w.device b.delivered b.given in
       let got : GotIs w.me w.device frame w.now Whole b.delivered b.given Other = got_group w.me w.device frame w.now b.delivered b.given g h.inv.side.connection in
-      got_load IsJob Holds image frames first good w.me b.asked b.asked Other o _ got.0 (is_taken (took_of w.device frame)) tt (λ z. refl) (λ z. absurd (opens_other w.me Whole o got.0 (is_taken (took_of w.device frame)) _ got.1 z)) l got.1
+      got_load IsJob Holds Case Ends frames good w.me b.asked b.asked Other o _ got.0 (is_taken (took_of w.device frame)) tt (λ z. refl) (λ z. absurd (opens_other w.me Whole o got.0 (is_taken (took_of w.device frame)) _ got.1 z)) l got.1
 
   again_load : (w : World) (b : Books) (r : Option Ldata) → w.device.last ≡ r → LastMine w.me r → WorldInv w b → LoadInv w b → LoadInv (gets_again w r) (again_book w b r)
   again_load w b None e mine h l = l
@@ -181,9 +185,9 @@ module _ (IsJob : Plan → Type 0) (Holds : NonVolatile → Type 0) (image : Ima
       let opens : got.0 ≡ true → InStep IsJob b.asked [] [] = λ z.
       let none = again_opens w.me Whole s o b.asked got.0 (is_taken (took_of w.device frame)) _ last got.1 z in
       subst (λ (x : Texts). InStep IsJob b.asked x []) none.0 (subst (λ (y : Texts). InStep IsJob b.asked b.delivered y) none.1 l.in_step) in
-      got_load IsJob Holds image frames first good w.me b.asked b.asked s o _ got.0 (is_taken (took_of w.device frame)) last.0 (λ z. refl) opens l got.1
+      got_load IsJob Holds Case Ends frames good w.me b.asked b.asked s o _ got.0 (is_taken (took_of w.device frame)) last.0 (λ z. refl) opens l got.1
 
-  step_load : (w : World) (b : Books) (e : Event) → MayHappen w e → MayAsk IsJob w e → WorldInv w b → LoadInv w b → LoadInv (step w e) (books_after w b e)
+  pub step_load : (w : World) (b : Books) (e : Event) → MayHappen w e → MayAsk IsJob w e → WorldInv w b → LoadInv w b → LoadInv (step w e) (books_after w b e)
   step_load w b Connects may al h l = l
   step_load w b (Asks apdu) may al h l = asks_load w b apdu (client_sent w.client.end apdu) h l al
   step_load w b Waits may al h l = waits_load w b (client_expired w.client.end w.now) l
@@ -198,17 +202,17 @@ module _ (IsJob : Plan → Type 0) (Holds : NonVolatile → Type 0) (image : Ima
   step_load w b BusAgain may al h l = again_load w b w.device.last refl h.last h l
   step_load w b (Group frame) may al h l = group_load w b frame may h l
   step_load w b Elsewhere may al h l = l
-  step_load w b (DevSend gateway) may al h l = spoke_load IsJob Holds image frames first good w.me b.asked (seen_of w.device b.delivered b.given) _ _ l (pops_seen w.me w.device b.delivered b.given)
-  step_load w b (DevRepeat gateway) may al h l = spoke_load IsJob Holds image frames first good w.me b.asked (seen_of w.device b.delivered b.given) _ _ l (repeats_seen w.me w.device w.now b.delivered b.given may h.inv.side.connection)
-  step_load w b DevClose may al h l = shut_load IsJob Holds image frames first good b.asked (seen_of w.device b.delivered b.given) _ l (shut_seen w.device b.delivered b.given)
+  step_load w b (DevSend gateway) may al h l = spoke_load IsJob Holds Case Ends frames good w.me b.asked (seen_of w.device b.delivered b.given) _ _ l (pops_seen w.me w.device b.delivered b.given)
+  step_load w b (DevRepeat gateway) may al h l = spoke_load IsJob Holds Case Ends frames good w.me b.asked (seen_of w.device b.delivered b.given) _ _ l (repeats_seen w.me w.device w.now b.delivered b.given may h.inv.side.connection)
+  step_load w b DevClose may al h l = shut_load IsJob Holds Case Ends frames good b.asked (seen_of w.device b.delivered b.given) _ l (shut_seen w.device b.delivered b.given)
   step_load w b GwAgain may al h l = l
-  step_load w b Cut may al h l = shut_load IsJob Holds image frames first good b.asked (seen_of w.device b.delivered b.given) _ l (cut_is w.device b.delivered b.given)
-  step_load w b PowerOn may al h l = shut_load IsJob Holds image frames first good b.asked (seen_of w.device b.delivered b.given) _ l (on_seen w.device b.delivered b.given)
+  step_load w b Cut may al h l = shut_load IsJob Holds Case Ends frames good b.asked (seen_of w.device b.delivered b.given) _ l (cut_is w.device b.delivered b.given)
+  step_load w b PowerOn may al h l = shut_load IsJob Holds Case Ends frames good b.asked (seen_of w.device b.delivered b.given) _ l (on_seen w.device b.delivered b.given)
   step_load w b (Pass ms) may al h l = l
 
   -- ---- what it promises
 
-  right_at : (w : World) (b : Books) → WorldInv w b → LoadInv w b → IsRight IsJob image first w
+  pub right_at : (w : World) (b : Books) → WorldInv w b → LoadInv w b → IsRightFor IsJob Case Ends w
   right_at w b h l =
       record {
         case = l.case;
@@ -219,15 +223,15 @@ module _ (IsJob : Plan → Type 0) (Holds : NonVolatile → Type 0) (image : Ima
   load_always start [] h l legal f = l
   load_always start (e ∷ events) h l legal f = step_load (replay start events) (books start events) e legal.0 f.0 (always start events h legal.1) (load_always start events h l legal.1 f.1)
 
-  pub right_always : (start : World) (events : List Event) → WorldInv start empty → LoadInv start empty → IsLegal start events → Follows IsJob start events → AtEveryMoment (λ past. IsRight IsJob image first (replay start past)) events
+  pub right_always : (start : World) (events : List Event) → WorldInv start empty → LoadInv start empty → IsLegal start events → Follows IsJob start events → AtEveryMoment (λ past. IsRightFor IsJob Case Ends (replay start past)) events
   right_always start [] h l legal f = right_at start empty h l
   right_always start (e ∷ events) h l legal f =
       (right_at (replay start (e ∷ events)) (books start (e ∷ events)) (always start (e ∷ events) h legal) (load_always start (e ∷ events) h l legal f), right_always start events h l legal.1 f.1)
 
-  pub fresh_load : (me : IndAddr) (d : DeviceState) → d.frames ≡ frames → d.kept ≡ first → Holds d.kept → LoadInv (fresh me d) empty
-  fresh_load me d e f holds = record { same_frames = e; case = inl f; holds = holds; in_step = tt; start = d.kept; latest = d.kept; began = inl f; held = holds; trail = (refl, refl); reached = inl refl }
+  pub fresh_load : (me : IndAddr) (d : DeviceState) → d.frames ≡ frames → Case d.kept → Holds d.kept → LoadInv (fresh me d) empty
+  fresh_load me d e f holds = record { same_frames = e; case = f; holds = holds; in_step = tt; start = d.kept; latest = d.kept; began = f; held = holds; trail = (refl, refl); reached = inl refl }
 
-pub each_moment : (IsJob : Plan → Type 0) (Holds : NonVolatile → Type 0) (image : Image) (me : IndAddr) (d : DeviceState) (events : List Event) → AllGoodFor IsJob Holds image → Holds d.kept → IsLegal (fresh me d) events → Follows IsJob (fresh me d) events
-    → AtEveryMoment (λ past. IsRight IsJob image d.kept (replay (fresh me d) past)) events
-each_moment IsJob Holds image me d events good holds legal f =
-    right_always IsJob Holds image d.frames d.kept good (fresh me d) events (fresh_inv me d) (fresh_load IsJob Holds image d.frames d.kept good me d refl refl holds) legal f
+pub each_moment : (IsJob : Plan → Type 0) (Holds Case : NonVolatile → Type 0) (Ends : Plan → NonVolatile → Type 0) (me : IndAddr) (d : DeviceState) (events : List Event) → AllGoodFor IsJob Holds Case Ends → Holds d.kept → Case d.kept → IsLegal (fresh me d) events
+    → Follows IsJob (fresh me d) events → AtEveryMoment (λ past. IsRightFor IsJob Case Ends (replay (fresh me d) past)) events
+each_moment IsJob Holds Case Ends me d events good holds case legal f =
+    right_always IsJob Holds Case Ends d.frames good (fresh me d) events (fresh_inv me d) (fresh_load IsJob Holds Case Ends d.frames good me d refl case holds) legal f

@@ -1,11 +1,12 @@
-mod Answers
-mod Walked
-mod Loads
-mod Follows
-mod Quiet
-mod Short
-mod Calm
-mod Ends
-mod Capacities
-mod Jobs
-mod Always
+pub mod Answers
+pub mod Walked
+pub mod Loads
+pub mod Follows
+pub mod Quiet
+pub mod Short
+pub mod Calm
+pub mod Ends
+pub mod Capacities
+pub mod Jobs
+pub mod Always
+pub mod Checked

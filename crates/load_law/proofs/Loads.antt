@@ -2,7 +2,6 @@
 use Rattle.std.proofs.Common.{◌≡◌, ℕ, suc, ◌%◌, ◌⊎◌, List, [], ◌∷◌, length, Bool, true, false, Option, Some, None, refl, sym, ◌∙◌, ap, subst, arith, inl, inr}
 use Rattle.std.proofs.lemmas.Bool.{false≢true}
 use Rattle.knx_model.specs.declared.address.IndAddr.{IndAddr}
-use Rattle.knx_model.specs.declared.config.Image.{Image}
 use Rattle.knx_model.specs.declared.device.FrameSupport.{FrameSupport}
 use Rattle.knx_model.specs.declared.plan.Expect.{Expect}
 use Rattle.knx_model.specs.declared.connection.TransportFrame.{TransportFrame}
@@ -20,7 +19,7 @@ use Rattle.session_law.proofs.Invariant.{Ready}
 use Rattle.session_law.proofs.Sides.{next_one, ready_numbered}
 use Rattle.load_law.specs.Download.{Went}
 use Rattle.load_law.proofs.Answers.{Texts}
-use Rattle.load_law.proofs.Walked.{AllGoodFor, Trail, Case, On, walked}
+use Rattle.load_law.proofs.Walked.{AllGoodFor, Trail, On, walked}
 
 -- a power cut tore the next one
 abbrev pub Spoiled : Texts → Texts → DeviceEnd → Type 0
@@ -44,27 +43,25 @@ abbrev pub InStep : (Plan → Type 0) → Texts → Texts → Texts → Type 0
 InStep IsJob [] delivered given = Unit {0}
 InStep IsJob (apdu ∷ older) delivered given = (p : Planned IsJob apdu older) × (length delivered ≡ length older → given ≡ p.accepted)
 
-module _ (IsJob : Plan → Type 0) (Holds : NonVolatile → Type 0) (image : Image) (frames : FrameSupport) (first : NonVolatile) (all : AllGoodFor IsJob Holds image) where
-  abbrev pub IsCase : NonVolatile → Type 0
-  IsCase = Case image frames first
-
+module _ (IsJob : Plan → Type 0) (Holds Case : NonVolatile → Type 0) (Ends : Plan → NonVolatile → Type 0) (frames : FrameSupport) (all : AllGoodFor IsJob Holds Case Ends) where
   pub record Load (asked : Texts) (o : Seen) : Type 0 where
     pub same_frames : o.frames ≡ frames
-    pub case : IsCase o.kept
+    pub case : Case o.kept
     pub holds : Holds o.kept
     pub in_step : InStep IsJob asked o.delivered o.given
     pub start : NonVolatile  -- what it kept when its session began
     pub latest : NonVolatile  -- and after the service that it delivered last
-    pub began : IsCase start
+    pub began : Case start
     pub held : Holds start
     pub trail : Trail frames start o.delivered o.given latest
     pub reached : (latest ≡ o.kept) ⊎ Spoiled asked o.delivered o.connection
 
   -- the next operation leads on from what the device keeps
   pub record Next (apdu : List ℕ) (kept : NonVolatile) : Type 0 where
+    pub plan : Plan
     pub expect : Expect
     pub next : Option (List ℕ) → Plan
-    pub on : On image frames first (Operation apdu expect next) kept
+    pub on : On Case (Ends plan) frames (Operation apdu expect next) kept
 
   not_closed : (o : Seen) → extra o.connection ≡ 0 → o.connection ≡ Closed → ⊥
   not_closed o ex e = let h : extra o.connection ≡ 1 = ap extra e in omega arith
@@ -72,11 +69,11 @@ module _ (IsJob : Plan → Type 0) (Holds : NonVolatile → Type 0) (image : Ima
   latest_kept : (asked : Texts) (o : Seen) → extra o.connection ≡ 0 → (h : Load asked o) → h.latest ≡ o.kept
   latest_kept asked o ex h = elim h.reached [ inl e ↦ e | inr s ↦ absurd (not_closed o ex s.1) ]
 
-  next_by : (asked : Texts) (apdu : List ℕ) (delivered given : Texts) (start kept : NonVolatile) → asked ≡ apdu ∷ delivered → InStep IsJob asked delivered given → IsCase start → Holds start → Trail frames start delivered given kept → Next apdu kept
+  next_by : (asked : Texts) (apdu : List ℕ) (delivered given : Texts) (start kept : NonVolatile) → asked ≡ apdu ∷ delivered → InStep IsJob asked delivered given → Case start → Holds start → Trail frames start delivered given kept → Next apdu kept
   next_by asked apdu delivered given start kept e step case held t =
       let s : InStep IsJob (apdu ∷ delivered) delivered given = subst (λ (z : Texts). InStep IsJob z delivered given) e step in
       let same : given ≡ s.0.accepted = s.1 refl in
-      record { expect = s.0.expect; next = s.0.next; on = walked image frames first Holds s.0.plan (all.good s.0.plan s.0.job) (all.sendable s.0.plan s.0.job) (Operation apdu s.0.expect s.0.next) delivered s.0.accepted start kept case held s.0.went (subst (λ (z : Texts). Trail frames start delivered z kept) same t) }
+      record { plan = s.0.plan; expect = s.0.expect; next = s.0.next; on = walked Case (Ends s.0.plan) frames Holds s.0.plan (all.good s.0.plan s.0.job) (all.sendable s.0.plan s.0.job) (Operation apdu s.0.expect s.0.next) delivered s.0.accepted start kept case held s.0.went (subst (λ (z : Texts). Trail frames start delivered z kept) same t) }
 
   -- the service that is delivered is the next operation
   delivers : (asked : Texts) (s : TransportFrame) (o : Seen) (apdu : List ℕ) → Ready s asked o.delivered → Load asked o → extra o.connection ≡ 0 → s ≡ Numbered (length o.delivered % 16) apdu → (asked ≡ apdu ∷ o.delivered) × Next apdu o.kept
@@ -85,7 +82,7 @@ module _ (IsJob : Plan → Type 0) (Holds : NonVolatile → Type 0) (image : Ima
       let t : Trail frames h.start o.delivered o.given o.kept = subst (λ (z : NonVolatile). Trail frames h.start o.delivered o.given z) (latest_kept asked o ex h) h.trail in
       (e, next_by asked apdu o.delivered o.given h.start o.kept e h.in_step h.began h.held t)
 
-  taken_case : (apdu : List ℕ) (kept : NonVolatile) (outcome : Outcome) → Next apdu kept → IsCase (kept_after kept (effect_in apdu) outcome)
+  taken_case : (apdu : List ℕ) (kept : NonVolatile) (outcome : Outcome) → Next apdu kept → Case (kept_after kept (effect_in apdu) outcome)
   taken_case apdu kept outcome n = n.on.1 outcome
 
   -- after a service was delivered nothing is outstanding for the plan
@@ -110,7 +107,7 @@ module _ (IsJob : Plan → Type 0) (Holds : NonVolatile → Type 0) (image : Ima
       let step : InStep IsJob asked (apdu ∷ o.delivered) (and_octets a o.given) = stepped asked apdu o.delivered o.given (and_octets a o.given) d.0 h.in_step in
       record {
         same_frames = fe ∙ h.same_frames;
-        case = subst IsCase (sym ke) (taken_case apdu o.kept outcome d.1);
+        case = subst Case (sym ke) (taken_case apdu o.kept outcome d.1);
         holds = subst Holds (sym ke) (all.kept o.kept apdu outcome h.holds);
         in_step = subst (λ (z : Texts). InStep IsJob asked z n.given) (sym de) (subst (λ (z : Texts). InStep IsJob asked (apdu ∷ o.delivered) z) (sym ge) step);
         start = h.start;

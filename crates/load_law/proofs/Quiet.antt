@@ -1,7 +1,6 @@
 -- From a done attempt on, what the device keeps stays until a service is sent.
 use Rattle.std.proofs.Common.{◌≡◌, ℕ, suc, ◌%◌, List, [], ◌∷◌, ◌++◌, length, Bool, true, false, cond, Option, Some, None, refl, sym, ◌∙◌, ap, subst, arith, inl, inr, if◌then◌else◌}
 use Rattle.knx_model.specs.declared.address.IndAddr.{IndAddr}
-use Rattle.knx_model.specs.declared.config.Image.{Image}
 use Rattle.knx_model.specs.declared.frames.cemi.Ldata.{Ldata}
 use Rattle.knx_model.specs.declared.connection.TransportFrame.{TransportFrame}
 use Rattle.knx_model.specs.declared.connection.TransportFrame.TheVariants.{Numbered, Other}
@@ -36,7 +35,7 @@ pub record Still (b : Bool) (o n : Seen) : Type 0 where
   pub ds : n.delivered ≡ (if b then [] else o.delivered)
 
 module _ (me : IndAddr) (asked : Texts) (s : TransportFrame) (o : Seen) (r : Ready s asked o.delivered) (quiet : asked ≡ o.delivered) where
-  nothing_new : (apdu : List ℕ) → s ≡ Numbered (length o.delivered % 16) apdu → ⊥
+  pub nothing_new : (apdu : List ℕ) → s ≡ Numbered (length o.delivered % 16) apdu → ⊥
   nothing_new apdu se =
       let e : asked ≡ apdu ∷ o.delivered = next_one asked o.delivered apdu (ready_numbered s _ apdu asked o.delivered se r) in
       let g : length o.delivered ≡ suc (length o.delivered) = ap (λ (z : Texts). length z) (sym quiet ∙ e) in
@@ -163,13 +162,13 @@ stays start (e ∷ later) earlier h legal na q =
     = quiet_step (replay start (later ++ earlier)) (books start (later ++ earlier)) e legal.0 na.0 (always start (later ++ earlier) h legal.1) t.quiet in
     record { quiet = u.quiet; kept = u.kept ∙ t.kept }
 
-pub done_stays : (IsJob : Plan → Type 0) (Holds : NonVolatile → Type 0) (plan : Plan) (image : Image) (me : IndAddr) (d : DeviceState) (later earlier : List Event) → AllGoodFor IsJob Holds image → Holds d.kept → IsJob plan → IsLegal (fresh me d) (later ++ earlier)
+pub done_stays : (IsJob : Plan → Type 0) (Holds Case : NonVolatile → Type 0) (Ends : Plan → NonVolatile → Type 0) (plan : Plan) (me : IndAddr) (d : DeviceState) (later earlier : List Event) → AllGoodFor IsJob Holds Case Ends → Holds d.kept → Case d.kept → IsJob plan → IsLegal (fresh me d) (later ++ earlier)
     → Follows IsJob (fresh me d) earlier → IsDone plan (replay (fresh me d) earlier) → AsksNothing later → (replay (fresh me d) (later ++ earlier)).device.kept ≡ (replay (fresh me d) earlier).device.kept
-done_stays IsJob Holds plan image me d later earlier good holds job legal f done na =
+done_stays IsJob Holds Case Ends plan me d later earlier good holds case job legal f done na =
     let start : World = fresh me d in
     let w : World = replay start earlier in
     let b : Books = books start earlier in
     let h : WorldInv w b = always start earlier (fresh_inv me d) (front_legal start later earlier legal) in
-    let l = load_always IsJob Holds image d.frames d.kept good start earlier (fresh_inv me d) (fresh_load IsJob Holds image d.frames d.kept good me d refl refl holds) (front_legal start later earlier legal) f in
-    let all = over_at IsJob Holds image d.frames d.kept good w b plan Over job h l done.over done.all in
+    let l = load_always IsJob Holds Case Ends d.frames good start earlier (fresh_inv me d) (fresh_load IsJob Holds Case Ends d.frames good me d refl case holds) (front_legal start later earlier legal) f in
+    let all = over_at IsJob Holds Case Ends d.frames good w b plan Over job h l done.over done.all in
     (stays start later earlier (fresh_inv me d) legal na (all.sent_is ∙ sym all.delivered_is)).kept

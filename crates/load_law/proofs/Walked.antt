@@ -1,15 +1,14 @@
 -- What a device keeps leads on, after it took and answered the services of a plan as far as a client went through it.
-use Rattle.std.proofs.Common.{◌≡◌, ℕ, suc, ◌≤◌, List, [], ◌∷◌, length, true, Option, Some, None, refl, sym, ◌∙◌, ap, subst, arith, inl, inr}
-use Rattle.knx_model.specs.declared.config.Image.{Image}
+use Rattle.std.proofs.Common.{◌≡◌, ℕ, suc, ◌≤◌, List, [], ◌∷◌, length, true, Option, Some, None, refl, sym, ◌∙◌, ap, subst, arith}
 use Rattle.knx_model.specs.declared.device.FrameSupport.{FrameSupport}
 use Rattle.knx_model.specs.declared.plan.Expect.{Expect}
 use Rattle.knx_model.specs.declared.plan.Expect.TheVariants.{AckOnly, Is, Note}
 use Rattle.knx_model.specs.ClientConnection.{has_answer}
-use Rattle.knx_model.specs.Device.{NonVolatile, runs, answer_in}
+use Rattle.knx_model.specs.Device.{NonVolatile, answer_in}
 use Rattle.knx_model.specs.DeviceFrames.{Outcome}
-use Rattle.knx_model.specs.GoodPlan.{Beginning, WholeRun, kept_by, IsNotTorn, OldStoppedOrImage, IsSendable, awaits_answer}
+use Rattle.knx_model.specs.GoodPlan.{Beginning, WholeRun, kept_by, IsNotTorn, IsSendable, awaits_answer}
 use Rattle.knx_model.specs.Plans.{Plan, Asks as Operation, Suits}
-use Rattle.knx_model.proofs.Leads.{Leads, Leads-by_runs, Leads-weaker}
+use Rattle.knx_model.proofs.Leads.{Leads, Leads-by_runs}
 use Rattle.session_law.proofs.Taken.{and_octets}
 use Rattle.load_law.specs.Download.{Went, NotBegun, Acknowledged, Answered}
 use Rattle.load_law.proofs.Answers.{Texts, no_answer, one_if, want, want_more}
@@ -33,7 +32,7 @@ few frames start (apdu ∷ older) given kept t =
 
 -- ---- a client went through a plan that can be sent
 
-sendable : (plan rest : Plan) (sent accepted : Texts) → IsSendable plan → Went plan sent accepted rest → IsSendable rest
+pub sendable : (plan rest : Plan) (sent accepted : Texts) → IsSendable plan → Went plan sent accepted rest → IsSendable rest
 sendable plan _ _ _ s NotBegun = s
 sendable plan _ _ _ s (Acknowledged apdu next sent accepted w) = (sendable plan (Operation apdu AckOnly next) sent accepted s w).2 None
 sendable plan _ _ _ s (Answered apdu expect next got sent accepted w suits) = (sendable plan (Operation apdu expect next) sent accepted s w).2 (Some got)
@@ -55,33 +54,26 @@ count plan _ _ _ s (Answered apdu expect next got sent accepted w suits) =
     let one : one_if (has_answer apdu) ≡ 1 = ap one_if (answered_one apdu expect got suits (sendable plan (Operation apdu expect next) sent accepted s w).1) in
     omega arith
 
--- ---- plans that are good for devices of which something holds, which no service takes from them
+-- ---- plans that are good for devices of which something holds, which no service takes from them: any beginning leaves a right content, and all of it
+-- what the plan is for
 
-pub record IsGoodFor (Holds : NonVolatile → Type 0) (plan : Plan) (image : Image) : Type 0 where
-  pub beginnings : (frames : FrameSupport) (start end : NonVolatile) → Holds start → Beginning (answer_in frames) plan start end → OldStoppedOrImage start image end
-  pub whole_runs : (frames : FrameSupport) (start end : NonVolatile) → Holds start → WholeRun (answer_in frames) plan start end → runs end ≡ Some image
+pub record IsGoodFor (Holds Case Ends : NonVolatile → Type 0) (plan : Plan) : Type 0 where
+  pub beginnings : (frames : FrameSupport) (start end : NonVolatile) → Holds start → Case start → Beginning (answer_in frames) plan start end → Case end
+  pub whole_runs : (frames : FrameSupport) (start end : NonVolatile) → Holds start → Case start → WholeRun (answer_in frames) plan start end → Ends end
 
-pub record AllGoodFor (IsJob : Plan → Type 0) (Holds : NonVolatile → Type 0) (image : Image) : Type 0 where
+pub record AllGoodFor (IsJob : Plan → Type 0) (Holds Case : NonVolatile → Type 0) (Ends : Plan → NonVolatile → Type 0) : Type 0 where
   pub kept : (nv : NonVolatile) (apdu : List ℕ) (outcome : Outcome) → Holds nv → Holds (kept_by nv apdu outcome)
-  pub good : (plan : Plan) → IsJob plan → IsGoodFor Holds plan image
+  pub good : (plan : Plan) → IsJob plan → IsGoodFor Holds Case (Ends plan) plan
   pub sendable : (plan : Plan) → IsJob plan → IsSendable plan
 
 -- ---- so what the device keeps leads on
 
-module _ (image : Image) (frames : FrameSupport) (first : NonVolatile) where
-  abbrev pub Case : NonVolatile → Type 0
-  Case = OldStoppedOrImage first image
-
-  abbrev pub Runs : NonVolatile → Type 0
-  Runs nv = runs nv ≡ Some image
-
+module _ (Case Ends : NonVolatile → Type 0) (frames : FrameSupport) where
   abbrev pub On : Plan → NonVolatile → Type 0
-  On = Leads (answer_in frames) Case Runs
+  On = Leads (answer_in frames) Case Ends
 
-  begun : (Holds : NonVolatile → Type 0) (plan : Plan) → IsGoodFor Holds plan image → (start : NonVolatile) → Case start → Holds start → On plan start
-  begun Holds plan good start case holds =
-      Leads-weaker (answer_in frames) (OldStoppedOrImage start image) Case Runs Runs (λ u h. elim h [ inl same ↦ subst Case (sym same) case | inr other ↦ inr other ]) (λ u h. h) plan start
-      (Leads-by_runs (answer_in frames) (OldStoppedOrImage start image) Runs plan start (λ end b. good.beginnings frames start end holds b) (λ end r. good.whole_runs frames start end holds r))
+  begun : (Holds : NonVolatile → Type 0) (plan : Plan) → IsGoodFor Holds Case Ends plan → (start : NonVolatile) → Case start → Holds start → On plan start
+  begun Holds plan good start case holds = Leads-by_runs (answer_in frames) Case Ends plan start (λ end b. good.beginnings frames start end holds case b) (λ end r. good.whole_runs frames start end holds case r)
 
   goes_on : (apdu : List ℕ) (expect : Expect) (next : Option (List ℕ) → Plan) (nv kept : NonVolatile) (outcome : Outcome) (o : Option (List ℕ)) → answer_in frames nv apdu ≡ o → Suits apdu expect o → IsNotTorn outcome → kept ≡ kept_by nv apdu outcome
       → On (Operation apdu expect next) nv → On (next o) kept
@@ -98,7 +90,7 @@ module _ (image : Image) (frames : FrameSupport) (first : NonVolatile) where
       let more : rest ≡ accepted = cc in
       goes_on apdu expect next nv kept outcome (Some got) (e ∙ ap (λ (z : List ℕ). Some z) (sym is)) suits whole ke (f more)
 
-  pub walked : (Holds : NonVolatile → Type 0) (plan : Plan) → IsGoodFor Holds plan image → IsSendable plan → (rest : Plan) (sent given : Texts) (start kept : NonVolatile) → Case start → Holds start → Went plan sent given rest → Trail frames start sent given kept → On rest kept
+  pub walked : (Holds : NonVolatile → Type 0) (plan : Plan) → IsGoodFor Holds Case Ends plan → IsSendable plan → (rest : Plan) (sent given : Texts) (start kept : NonVolatile) → Case start → Holds start → Went plan sent given rest → Trail frames start sent given kept → On rest kept
   walked Holds plan good can _ _ _ start kept case holds NotBegun t = subst (λ (z : NonVolatile). On plan z) (sym t.1) (begun Holds plan good start case holds)
   walked Holds plan good can _ _ _ start kept case holds (Acknowledged apdu next sent accepted w) t =
       let none : answer_in frames t.0 apdu ≡ None = no_answer frames t.0 apdu (sym (sendable plan (Operation apdu AckOnly next) sent accepted can w).1) in

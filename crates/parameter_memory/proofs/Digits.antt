@@ -1,12 +1,14 @@
 -- Octets, their bits, and the numbers that bits write.
-use Rattle.std.proofs.Common.{◌≡◌, ℕ, zero, suc, ◌+◌, ◌*◌, ◌/◌, ◌%◌, ◌^◌, ◌<◌, ◌≤◌, List, [], ◌∷◌, ◌++◌, length, get_or, take, drop, fold, refl, sym, ap, ◌∙◌, subst, add-one, arith}
-use Rattle.std.proofs.lemmas.List.{drop_more, take_more, get_or_append_left, get_or-append-add}
-use Rattle.std.proofs.lemmas.List.Concat.{flat_map-append}
+use Rattle.std.proofs.Common.{◌≡◌, ◌≢◌, ◌⊎◌, inl, inr, nat_eq, ℕ, zero, suc, ◌+◌, ◌-◌, ◌*◌, ◌/◌, ◌%◌, ◌^◌, ◌<◌, ◌≤◌, List, [], ◌∷◌, ◌++◌, length, get_or, set, replicate, take, drop, fold, refl, sym, ap, ◌∙◌, subst, add-one, arith}
+use Rattle.std.specs.Int.{bit_at, bit_not, w8}
+use Rattle.std.specs.Int.Bits.{bit_and, bit_or}
+use Rattle.std.proofs.lemmas.List.{take_more, get_or_append_left, get_or-append-add, get_or-replicate, length-replicate, get_or-set_same, get_or-set_other, length-set, set-append_left, set-append_right, ext_get_or}
 use Rattle.std.proofs.lemmas.Nat.{mod-pow-add}
+use Rattle.std.proofs.lemmas.Nat.Bits.{shr_and_one, bit_at-zero, bit_at_set_same, bit_at_set_other, bit_at_clear_same, bit_at_clear_other}
 use Rattle.std.proofs.Math.Nat.{pow-suc, pow-le-pow_right, mod-eq_of_lt}
 use Rattle.knx_model.specs.Parameters.{octet_bits, bits_of, bits_value}
 use Rattle.std.proofs.lemmas.List.Elements.{All-head, All-tail, All-nil, All-append, All-from_recursion}
-use Rattle.parameter_memory.specs.Bits.{value_bits, AreBits, AreOctets}
+use Rattle.parameter_memory.specs.Bits.{digit, value_bits, AreBits, AreOctets}
 
 pub at_octet : (memory : List ℕ) (i j : ℕ) → i < length memory → j < 8 → get_or (bits_of memory) (i * 8 + j) 0 ≡ get_or (octet_bits (get_or memory i 0)) j 0
 unfolding bits_of
@@ -22,6 +24,82 @@ pub bit_of_octet : (memory : List ℕ) (bit : ℕ) → bit < 8 * length memory �
 bit_of_octet memory bit lt =
     let place : bit / 8 * 8 + bit % 8 ≡ bit = omega arith in
     subst (λ (n : ℕ). get_or (bits_of memory) n 0 ≡ get_or (octet_bits (get_or memory (bit / 8) 0)) (bit % 8) 0) place (at_octet memory (bit / 8) (bit % 8) (omega arith) (omega arith))
+
+-- ---- one bit is read and written
+
+-- the bit at a place of an octet, the highest first
+octet_place : (o j : ℕ) → j < 8 → get_or (octet_bits o) j 0 ≡ bit_at o (7 - j)
+octet_place o zero lt = refl
+octet_place o (suc zero) lt = refl
+octet_place o (suc (suc zero)) lt = refl
+octet_place o (suc (suc (suc zero))) lt = refl
+octet_place o (suc (suc (suc (suc zero)))) lt = refl
+octet_place o (suc (suc (suc (suc (suc zero))))) lt = refl
+octet_place o (suc (suc (suc (suc (suc (suc zero)))))) lt = refl
+octet_place o (suc (suc (suc (suc (suc (suc (suc zero))))))) lt = omega arith
+octet_place o (suc (suc (suc (suc (suc (suc (suc (suc j)))))))) lt = absurd (omega arith)
+
+pub bit_read : (memory : List ℕ) (bit : ℕ) → bit < 8 * length memory → bit_and (get_or memory (bit / 8) 0 / 2 ^ (7 - bit % 8)) 1 ≡ get_or (bits_of memory) bit 0
+bit_read memory bit lt =
+    let o : ℕ = get_or memory (bit / 8) 0 in
+    shr_and_one o (7 - bit % 8) ∙ sym (octet_place o (bit % 8) (omega arith)) ∙ sym (bit_of_octet memory bit lt)
+
+-- the bits of octets that are 0
+pub blank_bit : (n bit : ℕ) → bit < 8 * n → get_or (bits_of (replicate n 0)) bit 0 ≡ 0
+blank_bit n bit lt =
+    let len : length (replicate {A = ℕ} n 0) ≡ n = length-replicate {A = ℕ} n 0 in
+    let octet : get_or (replicate {A = ℕ} n 0) (bit / 8) 0 ≡ 0 = get_or-replicate {A = ℕ} n (bit / 8) 0 0 (omega arith) in
+    let within : bit < 8 * length (replicate {A = ℕ} n 0) = omega (arith, len, lt) in
+    bit_of_octet (replicate n 0) bit within ∙ ap (λ (o : ℕ). get_or (octet_bits o) (bit % 8) 0) octet ∙ octet_place 0 (bit % 8) (omega arith) ∙ bit_at-zero (7 - bit % 8)
+
+same_or_not : (i j : ℕ) → (i ≡ j) ⊎ (i ≢ j)
+same_or_not i j = grind arith
+
+place_changed : (o n j b i : ℕ) → j < 8 → i < 8 → bit_at n (7 - j) ≡ b → ((k : ℕ) → k < 8 → k ≢ 7 - j → bit_at n k ≡ bit_at o k) → get_or (octet_bits n) i 0 ≡ get_or (set (octet_bits o) j b) i 0
+place_changed o n j b i lt less here others = elim (same_or_not i j) [
+  | inl e ↦ octet_place n i less ∙ ap (λ (k : ℕ). bit_at n (7 - k)) e ∙ here ∙ sym (get_or-set_same (octet_bits o) j b 0 lt) ∙ ap (λ (k : ℕ). get_or (set (octet_bits o) j b) k 0) (sym e)
+  | inr ne ↦ octet_place n i less ∙ others (7 - i) (omega arith) (omega arith) ∙ sym (octet_place o i less) ∙ sym (get_or-set_other (octet_bits o) j i b 0 ne)
+]
+
+-- an octet that differs in one bit
+octet_changed : (o n j b : ℕ) → j < 8 → bit_at n (7 - j) ≡ b → ((k : ℕ) → k < 8 → k ≢ 7 - j → bit_at n k ≡ bit_at o k) → octet_bits n ≡ set (octet_bits o) j b
+octet_changed o n j b lt here others = ext_get_or 0 (octet_bits n) (set (octet_bits o) j b) (sym (length-set (octet_bits o) j b)) (λ i less. place_changed o n j b i lt less here others)
+
+pub bit_is_set : (o j : ℕ) → j < 8 → octet_bits (bit_or o (1 * 2 ^ (7 - j) % 256)) ≡ set (octet_bits o) j 1
+bit_is_set o j lt =
+    let within : 7 - j < 8 = omega arith in
+    octet_changed o (bit_or o (1 * 2 ^ (7 - j) % 256)) j 1 lt (bit_at_set_same w8 o (7 - j) within) (λ k less ne. bit_at_set_other w8 o (7 - j) within k ne)
+
+pub bit_is_cleared : (o j : ℕ) → j < 8 → octet_bits (bit_and o (bit_not w8 (1 * 2 ^ (7 - j) % 256))) ≡ set (octet_bits o) j 0
+bit_is_cleared o j lt =
+    let within : 7 - j < 8 = omega arith in
+    octet_changed o (bit_and o (bit_not w8 (1 * 2 ^ (7 - j) % 256))) j 0 lt (bit_at_clear_same w8 o (7 - j) within) (λ k less ne. bit_at_clear_other w8 o (7 - j) within k less ne)
+
+octet_set : (memory : List ℕ) (i j o b : ℕ) → i < length memory → j < 8 → octet_bits o ≡ set (octet_bits (get_or memory i 0)) j b → bits_of (set memory i o) ≡ set (bits_of memory) (i * 8 + j) b
+unfolding bits_of
+octet_set [] i j o b lt few e = absurd (omega arith)
+octet_set (m ∷ ms) zero j o b lt few e =
+    let place : 0 * 8 + j ≡ j = omega arith in
+    ap (λ bits. bits ++ bits_of ms) e ∙ sym (set-append_left (octet_bits m) (bits_of ms) j b few) ∙ ap (λ (n : ℕ). set (bits_of (m ∷ ms)) n b) (sym place)
+octet_set (m ∷ ms) (suc i) j o b lt few e =
+    let place : suc i * 8 + j - 8 ≡ i * 8 + j = omega arith in
+    ap (λ bits. octet_bits m ++ bits) (octet_set ms i j o b (omega arith) few e ∙ ap (λ (n : ℕ). set (bits_of ms) n b) (sym place)) ∙ sym (set-append_right (octet_bits m) (bits_of ms) 8 (suc i * 8 + j) b refl (omega arith))
+
+-- a memory of which one octet differs in one bit
+pub bit_written : (memory : List ℕ) (bit o b : ℕ) → bit < 8 * length memory → octet_bits o ≡ set (octet_bits (get_or memory (bit / 8) 0)) (bit % 8) b → bits_of (set memory (bit / 8) o) ≡ set (bits_of memory) bit b
+bit_written memory bit o b lt e =
+    let place : bit / 8 * 8 + bit % 8 ≡ bit = omega arith in
+    subst (λ (n : ℕ). bits_of (set memory (bit / 8) o) ≡ set (bits_of memory) n b) place (octet_set memory (bit / 8) (bit % 8) o b (omega arith) (omega arith) e)
+
+small_digit : (n : ℕ) → n < 2 → digit (nat_eq n 1) ≡ n
+small_digit zero lt = refl
+small_digit (suc zero) lt = refl
+small_digit (suc (suc n)) lt = absurd (omega arith)
+
+pub digit_of : (value k : ℕ) → digit (nat_eq (bit_and (value / 2 ^ k) 1) 1) ≡ value / 2 ^ k % 2
+digit_of value k =
+    let bit : bit_and (value / 2 ^ k) 1 ≡ value / 2 ^ k % 2 = shr_and_one value k in
+    ap (λ (n : ℕ). digit (nat_eq n 1)) bit ∙ small_digit (value / 2 ^ k % 2) (omega arith)
 
 -- one more bit
 fold_push : (n b : ℕ) (bits : List ℕ) → fold (λ n bit. n * 2 + bit) n (bits ++ b ∷ []) ≡ fold (λ n bit. n * 2 + bit) n bits * 2 + b
@@ -46,42 +124,6 @@ value_fold (suc width) value n =
     let low : value % 2 ^ suc width ≡ (value / 2 ^ width % 2) * 2 ^ width + value % 2 ^ width = subst (λ (k : ℕ). value % 2 ^ k ≡ (value / 2 ^ width % 2) * 2 ^ width + value % 2 ^ width) one (mod-pow-add value 1 width) in
     value_fold width value (n * 2 + value / 2 ^ width % 2) ∙ rw (low, power) (spread n (value / 2 ^ width % 2) (2 ^ width) (value % 2 ^ width))
 
-next : (bits : List ℕ) (i j : ℕ) → j ≡ i + 1 → i < length bits → drop i bits ≡ get_or bits i 0 ∷ drop j bits
-next bits i j e lt = rw e (drop_more bits i 0 lt)
-
-pub eight : (bits : List ℕ) (at : ℕ) → at + 8 ≤ length bits → take 8 (drop at bits) ≡ get_or bits at 0 ∷ get_or bits (at + 1) 0 ∷ get_or bits (at + 2) 0 ∷ get_or bits (at + 3) 0 ∷ get_or bits (at + 4) 0 ∷ get_or bits (at + 5) 0 ∷ get_or bits (at + 6) 0 ∷ get_or bits (at + 7) 0 ∷ []
-eight bits at h =
-    let d0 : drop at bits ≡ get_or bits at 0 ∷ drop (at + 1) bits = next bits at (at + 1) (omega arith) (omega arith) in
-    let d1 : drop (at + 1) bits ≡ get_or bits (at + 1) 0 ∷ drop (at + 2) bits = next bits (at + 1) (at + 2) (omega arith) (omega arith) in
-    let d2 : drop (at + 2) bits ≡ get_or bits (at + 2) 0 ∷ drop (at + 3) bits = next bits (at + 2) (at + 3) (omega arith) (omega arith) in
-    let d3 : drop (at + 3) bits ≡ get_or bits (at + 3) 0 ∷ drop (at + 4) bits = next bits (at + 3) (at + 4) (omega arith) (omega arith) in
-    let d4 : drop (at + 4) bits ≡ get_or bits (at + 4) 0 ∷ drop (at + 5) bits = next bits (at + 4) (at + 5) (omega arith) (omega arith) in
-    let d5 : drop (at + 5) bits ≡ get_or bits (at + 5) 0 ∷ drop (at + 6) bits = next bits (at + 5) (at + 6) (omega arith) (omega arith) in
-    let d6 : drop (at + 6) bits ≡ get_or bits (at + 6) 0 ∷ drop (at + 7) bits = next bits (at + 6) (at + 7) (omega arith) (omega arith) in
-    let d7 : drop (at + 7) bits ≡ get_or bits (at + 7) 0 ∷ drop (at + 8) bits = next bits (at + 7) (at + 8) (omega arith) (omega arith) in
-    rw (d0, d1, d2, d3, d4, d5, d6, d7) refl
-
-same_eight : {a b c d e f g h a' b' c' d' e' f' g' h' : ℕ} → a ≡ a' → b ≡ b' → c ≡ c' → d ≡ d' → e ≡ e' → f ≡ f' → g ≡ g' → h ≡ h' → a ∷ b ∷ c ∷ d ∷ e ∷ f ∷ g ∷ h ∷ [] ≡ a' ∷ b' ∷ c' ∷ d' ∷ e' ∷ f' ∷ g' ∷ h' ∷ []
-same_eight ea eb ec ed ee ef eg eh = rw (ea, eb, ec, ed, ee, ef, eg, eh) refl
-
--- the octet of eight bits
-pub octet_of_bits : (a b c d e f g h : ℕ) → a < 2 → b < 2 → c < 2 → d < 2 → e < 2 → f < 2 → g < 2 → h < 2 → octet_bits (a * 128 + b * 64 + c * 32 + d * 16 + e * 8 + f * 4 + g * 2 + h) ≡ a ∷ b ∷ c ∷ d ∷ e ∷ f ∷ g ∷ h ∷ []
-octet_of_bits a b c d e f g h la lb lc ld le lf lg lh =
-    let o : ℕ = a * 128 + b * 64 + c * 32 + d * 16 + e * 8 + f * 4 + g * 2 + h in
-    let ea : o / 128 % 2 ≡ a = omega arith in
-    let eb : o / 64 % 2 ≡ b = omega arith in
-    let ec : o / 32 % 2 ≡ c = omega arith in
-    let ed : o / 16 % 2 ≡ d = omega arith in
-    let ee : o / 8 % 2 ≡ e = omega arith in
-    let ef : o / 4 % 2 ≡ f = omega arith in
-    let eg : o / 2 % 2 ≡ g = omega arith in
-    let eh : o % 2 ≡ h = omega arith in
-    same_eight ea eb ec ed ee ef eg eh
-
-pub bits_push : (octets : List ℕ) (o : ℕ) → bits_of (octets ++ o ∷ []) ≡ bits_of octets ++ octet_bits o
-unfolding bits_of
-bits_push octets o = flat_map-append octet_bits octets (o ∷ [])
-
 pub length-bits_of : (octets : List ℕ) → length (bits_of octets) ≡ 8 * length octets
 unfolding bits_of
 length-bits_of [] = omega arith
@@ -92,18 +134,6 @@ pub doubled : (value bit k : ℕ) → value < 2 ^ k → bit < 2 → value * 2 + 
 doubled value bit k small digit =
     let power : 2 ^ (k + 1) ≡ 2 ^ k * 2 = rw add-one (refl_pow k) in
     omega (arith, power, small, digit)
-
-abbrev none : List ℕ
-none = []
-
-take_none : (n : ℕ) → take n none ≡ none
-take_none zero = refl
-take_none (suc n) = refl
-
-pub take_plus : (n m : ℕ) (xs : List ℕ) → take (n + m) xs ≡ take n xs ++ take m (drop n xs)
-take_plus zero m xs = let e : 0 + m ≡ m = omega arith in ap (λ (k : ℕ). take k xs) e
-take_plus (suc n) m [] = take_none (suc n + m) ∙ sym (take_none m)
-take_plus (suc n) m (x ∷ xs) = let e : suc n + m ≡ suc (n + m) = omega arith in rw e (ap (λ ys. x ∷ ys) (take_plus n m xs))
 
 -- bits of one number of digits that write one number are the same
 pub same_digits : (n m : ℕ) (xs ys : List ℕ) → length xs ≡ length ys → AreBits xs → AreBits ys → fold (λ n bit. n * 2 + bit) n xs ≡ fold (λ n bit. n * 2 + bit) m ys → (n ≡ m) × (xs ≡ ys)
@@ -149,11 +179,11 @@ holds_in_32 width n small short =
 pub small_rest : (value most : ℕ) → value < most → 0 * most + value % most ≡ value
 small_rest value most lt = let rest : value % most ≡ value = mod-eq_of_lt lt in omega (arith, rest)
 
-digit : (o d : ℕ) → o / d % 2 < 2
-digit o d = omega arith
+below_2 : (o d : ℕ) → o / d % 2 < 2
+below_2 o d = omega arith
 
 bit_small : (o : ℕ) → AreBits (octet_bits o)
-bit_small o = All-from_recursion (λ b. b < 2) (octet_bits o) (digit o 128, (digit o 64, (digit o 32, (digit o 16, (digit o 8, (digit o 4, (digit o 2, (omega arith, tt))))))))
+bit_small o = All-from_recursion (λ b. b < 2) (octet_bits o) (below_2 o 128, (below_2 o 64, (below_2 o 32, (below_2 o 16, (below_2 o 8, (below_2 o 4, (below_2 o 2, (omega arith, tt))))))))
 
 pub bits_are : (octets : List ℕ) → AreBits (bits_of octets)
 unfolding bits_of

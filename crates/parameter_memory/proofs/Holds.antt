@@ -1,19 +1,18 @@
 -- Fields that are written one after another.
-use Rattle.std.proofs.Common.{◌≡◌, ◌≢◌, ◌⊎◌, inl, inr, ℕ, zero, suc, ◌+◌, ◌*◌, ◌^◌, ◌<◌, ◌≤◌, Bool, true, false, nat_eq, List, [], ◌∷◌, ◌++◌, length, get_or, map, take, drop, All, Contains, if◌then◌else◌, Result, Ok, Err, IfOk, refl, sym, ap, ◌∙◌, subst, arith}
+use Rattle.std.proofs.Common.{◌≡◌, ◌≢◌, ◌⊎◌, inl, inr, ℕ, zero, suc, ◌+◌, ◌*◌, ◌^◌, ◌<◌, ◌≤◌, Bool, true, false, nat_eq, List, [], ◌∷◌, ◌++◌, length, get_or, map, replicate, take, drop, All, Contains, if◌then◌else◌, refl, sym, ap, ◌∙◌, subst, arith}
 use Rattle.std.specs.List.{IsDistinct}
 use Rattle.std.proofs.lemmas.Bool.Decides.{nat_tests}
-use Rattle.std.proofs.lemmas.List.{get_or_append_left, get_or_push, length_push, get_or-take, length-take-le, get_or-map, length-map, take_more, get_or_default}
-use Rattle.std.proofs.lemmas.List.Elements.{All-push, All-map}
+use Rattle.std.proofs.lemmas.List.{length-replicate, get_or_append_left, get_or_push, length_push, get_or-take, length-take-le, get_or-map, length-map, take_more, get_or_default}
+use Rattle.std.proofs.lemmas.List.Elements.{All-nil, All-push, All-map, All-replicate}
 use Rattle.std.proofs.lemmas.Map.Keys.{apart_from_distinct}
 use Rattle.knx_model.specs.declared.catalogue.model.Model.{Model}
 use Rattle.knx_model.specs.declared.catalogue.model.ModelField.{ModelField}
 use Rattle.knx_model.specs.declared.config.ParamValue.{ParamValue}
-use Rattle.knx_model.specs.declared.no_memory.NoMemory.{NoMemory}
 use Rattle.knx_model.specs.Models.{AreApart, AllApart, IsField, IsModel}
 use Rattle.knx_model.specs.Parameters.{bits_value, bits_of, field_value, is_of_field, set_value, laid_field, laid, first_bit, IsOutside, HoldsParameters, IsSetting, AreSettings}
 use Rattle.parameter_memory.specs.Bits.{AreOctets, value_bits, overwrite, IsBeside, HoldsFields}
-use Rattle.parameter_memory.proofs.Digits.{value_fold, small_rest}
-use Rattle.parameter_memory.proofs.Written.{length-value_bits, bits-value_bits, length-overwrite, bits-overwrite, beside, apart, written}
+use Rattle.parameter_memory.proofs.Digits.{value_fold, small_rest, blank_bit, length-bits_of}
+use Rattle.parameter_memory.proofs.Written.{length-value_bits, length-overwrite, beside, apart, written}
 
 -- ---- one field is written
 
@@ -42,7 +41,6 @@ keeps_bit bits at width value b h =
 pub next_default : (bits : List ℕ) (fs : List ModelField) (f : ModelField) (value : ModelField → ℕ) → HoldsFields bits fs value → f.bit + f.width ≤ length bits → value f < 2 ^ f.width → All (λ g. AreApart g f) fs
     → HoldsFields (overwrite bits f.bit (value_bits f.width (value f))) (fs ++ f ∷ []) value
 next_default bits fs f value holds within small far = record {
-  digits = bits-overwrite bits f.bit (value_bits f.width (value f)) holds.digits (bits-value_bits f.width (value f));
   fields_hold = All-push (λ g. bits_value (take g.width (drop g.bit (overwrite bits f.bit (value_bits f.width (value f))))) ≡ value g) fs f
       (λ k d lt. keeps bits f.bit f.width (value f) (get_or fs k d).bit (get_or fs k d).width (far k d lt) ∙ holds.fields_hold k d lt)
       (holds_it bits f.bit f.width (value f) within small);
@@ -67,7 +65,6 @@ changed bits p before after g within small (inr (far, is)) old = keeps bits p.bi
 pub next_setting : (bits : List ℕ) (fs : List ModelField) (p : ParamValue) (before after : ModelField → ℕ) (f : ModelField) → HoldsFields bits fs before → p.bit + p.width ≤ length bits → p.value < 2 ^ p.width
     → All (Changes p before after) fs → Contains fs f → f.bit ≡ p.bit → f.width ≡ p.width → HoldsFields (overwrite bits p.bit (value_bits p.width p.value)) fs after
 next_setting bits fs p before after f holds within small each (j, less, is) at wide = record {
-  digits = bits-overwrite bits p.bit (value_bits p.width p.value) holds.digits (bits-value_bits p.width p.value);
   fields_hold = λ k d lt. changed bits p before after (get_or fs k d) within small (each k d lt) (holds.fields_hold k d lt);
   others = λ b lt out.
       let lt_old : b < length bits = omega (arith, lt, length-overwrite bits p.bit (value_bits p.width p.value)) in
@@ -176,19 +173,24 @@ sets m s i d bits model settings less size holds =
 
 -- ---- a memory holds what its bits hold
 
+pub zero_octets : (n : ℕ) → AreOctets (replicate n 0)
+zero_octets n = All-replicate (λ o. o < 256) n 0 (omega arith)
+
+-- a memory of octets that are 0 holds no fields
+pub blank : (n : ℕ) → HoldsFields (bits_of (replicate n 0)) [] (set_value [])
+blank n = record {
+  fields_hold = All-nil (λ f. bits_value (take f.width (drop f.bit (bits_of (replicate n 0)))) ≡ set_value [] f);
+  others = λ b lt out. blank_bit n b (omega (arith, lt, length-bits_of (replicate n 0), length-replicate {A = ℕ} n 0));
+}
+
 unmapped : (b : ℕ) (s : List ParamValue) (fs : List ModelField) → All (IsOutside b) (map (laid_field s) fs) → All (IsBeside b) fs
 unmapped b s fs out = λ k d lt. subst (IsOutside b) (get_or-map (laid_field s) fs k d (laid_field s d) lt) (out k (laid_field s d) (omega (arith, lt, length-map fs (laid_field s))))
 
-pub holds_memory : (m : Model) (s : List ParamValue) (bits memory : List ℕ) → HoldsFields bits m.parameters (set_value s) → bits_of memory ≡ bits → AreOctets memory → length memory ≡ m.params → length bits ≡ 8 * m.params → HoldsParameters memory m.params (laid m s)
+pub holds_memory : (m : Model) (s : List ParamValue) (memory : List ℕ) → HoldsFields (bits_of memory) m.parameters (set_value s) → AreOctets memory → length memory ≡ m.params → HoldsParameters memory m.params (laid m s)
 unfolding laid field_value
-holds_memory m s bits memory holds is octets len size = record {
+holds_memory m s memory holds octets len = record {
   length = len;
   octets = octets;
-  fields = All-map (λ p. bits_value (take p.width (drop p.bit (bits_of memory))) ≡ p.value) (laid_field s) m.parameters (λ k d lt. rw is (holds.fields_hold k d lt));
-  others = λ b lt out. rw is (holds.others b (omega (arith, size, lt)) (unmapped b s m.parameters out));
+  fields = All-map (λ p. bits_value (take p.width (drop p.bit (bits_of memory))) ≡ p.value) (laid_field s) m.parameters holds.fields_hold;
+  others = λ b lt out. holds.others b (omega (arith, len, length-bits_of memory, lt)) (unmapped b s m.parameters out);
 }
-
-pub holds_result : (m : Model) (s : List ParamValue) (bits read : List ℕ) (r : Result (List ℕ) NoMemory) → HoldsFields bits m.parameters (set_value s) → read ≡ bits → length bits ≡ 8 * m.params
-    → IfOk r (λ memory. bits_of memory ≡ read) → IfOk r AreOctets → IfOk r (λ memory. length memory ≡ m.params) → IfOk r (λ memory. HoldsParameters memory m.params (laid m s))
-holds_result m s bits read (Ok memory) holds same size is octets len = holds_memory m s bits memory holds (is ∙ same) octets len size
-holds_result m s bits read (Err e) holds same size is octets len = tt

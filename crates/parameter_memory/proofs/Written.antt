@@ -1,24 +1,15 @@
 -- Bits that are overwritten.
 use Rattle.std.proofs.Common.{◌≡◌, ◌⊎◌, inl, inr, ℕ, zero, suc, ◌+◌, ◌-◌, ◌/◌, ◌%◌, ◌^◌, ◌<◌, ◌≤◌, ◌≢◌, List, [], ◌∷◌, length, get_or, set, take, drop, refl, ap, ◌∙◌, subst, arith}
 use Rattle.std.proofs.lemmas.List.{length-set, drop_more, get_or-set_same, get_or-set_other, drop-set-lt, drop-set-add, take-set-le}
-use Rattle.std.proofs.lemmas.List.Elements.{All-set, All-head, All-tail, All-nil, All-cons}
-use Rattle.parameter_memory.specs.Bits.{value_bits, overwrite, AreBits}
+use Rattle.parameter_memory.specs.Bits.{value_bits, overwrite}
 
 pub length-value_bits : (width value : ℕ) → length (value_bits width value) ≡ width
 length-value_bits zero value = refl
 length-value_bits (suc width) value = ap suc (length-value_bits width value)
 
-pub bits-value_bits : (width value : ℕ) → AreBits (value_bits width value)
-bits-value_bits zero value = All-nil (λ b. b < 2)
-bits-value_bits (suc width) value = All-cons (λ b. b < 2) (value / 2 ^ width % 2) (value_bits width value) (omega arith) (bits-value_bits width value)
-
 pub length-overwrite : (bits : List ℕ) (at : ℕ) (xs : List ℕ) → length (overwrite bits at xs) ≡ length bits
 length-overwrite bits at [] = refl
 length-overwrite bits at (x ∷ xs) = length-overwrite (set bits at x) (at + 1) xs ∙ length-set bits at x
-
-pub bits-overwrite : (bits : List ℕ) (at : ℕ) (xs : List ℕ) → AreBits bits → AreBits xs → AreBits (overwrite bits at xs)
-bits-overwrite bits at [] h g = h
-bits-overwrite bits at (x ∷ xs) h g = bits-overwrite (set bits at x) (at + 1) xs (All-set (λ b. b < 2) bits at x (All-head (λ b. b < 2) x xs g) h) (All-tail (λ b. b < 2) x xs g)
 
 -- a bit beside them stays
 pub beside : (bits : List ℕ) (at : ℕ) (xs : List ℕ) (b : ℕ) → (b < at) ⊎ (at + length xs ≤ b) → get_or (overwrite bits at xs) b 0 ≡ get_or bits b 0

@@ -1,5 +1,5 @@
 -- A parameter memory as bits, while fields are written into it.
-use Rattle.std.specs.Prelude.{◌≡◌, ◌⊎◌, ℕ, zero, suc, ◌+◌, ◌/◌, ◌%◌, ◌^◌, ◌<◌, ◌≤◌, List, [], ◌∷◌, length, take, drop, set, All, slice_index}
+use Rattle.std.specs.Prelude.{◌≡◌, ◌⊎◌, ℕ, zero, suc, ◌+◌, ◌/◌, ◌%◌, ◌^◌, ◌<◌, ◌≤◌, Bool, true, false, List, [], ◌∷◌, length, take, drop, set, All, slice_index}
 use Rattle.knx_model.specs.declared.catalogue.model.ModelField.{ModelField}
 use Rattle.knx_model.specs.declared.config.ParamValue.{ParamValue}
 use Rattle.knx_model.specs.Parameters.{bits_value}
@@ -9,6 +9,11 @@ AreBits bits = All (λ b. b < 2) bits
 
 abbrev pub AreOctets : List ℕ → Type 0
 AreOctets octets = All (λ o. o < 256) octets
+
+-- a bit that is set or not
+abbrev pub digit : Bool → ℕ
+digit true = 1
+digit false = 0
 
 -- the bits of a value, the highest first
 abbrev pub value_bits : ℕ → ℕ → List ℕ
@@ -26,7 +31,6 @@ IsBeside b f = (b < f.bit) ⊎ (f.bit + f.width ≤ b)
 
 -- each field holds its value, and the bits of no field are 0
 pub record HoldsFields (bits : List ℕ) (fields : List ModelField) (value : ModelField → ℕ) : Type 0 where
-  pub digits : AreBits bits
   pub fields_hold : All (λ f. bits_value (take f.width (drop f.bit bits)) ≡ value f) fields
   pub others : (b : ℕ) → b < length bits → All (IsBeside b) fields → slice_index bits b ≡ 0
 

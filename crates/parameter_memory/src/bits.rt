@@ -1,52 +1,30 @@
-//! Octets from bits, the highest bit of an octet first.
+//! Values written into a parameter memory. Bit 0 is the highest of the first octet.
 
-ghost use Rattle.std.specs.Prelude.{◌≡◌, ◌+◌, ◌*◌, ◌/◌, ◌<◌, ◌≤◌, ◌^◌, length, take, drop, All, IfOk, [], ◌∷◌};
+ghost use Rattle.std.specs.Prelude.{◌≡◌, ◌+◌, ◌*◌, ◌<◌, ◌≤◌, ◌^◌, length, set};
 ghost use Rattle.knx_model.specs.Parameters.{octet_bits, bits_of};
-ghost use Rattle.parameter_memory.specs.Bits.{AreBits, AreOctets, overwrite, value_bits};
+ghost use Rattle.parameter_memory.specs.Bits.{AreOctets, digit, overwrite, value_bits};
 
-use knx_model::{NoMemory, Octets};
-use std::alloc::Global;
+/// An octet with the bit at a place set or cleared; place 0 is the highest.
+#[tactic(auto, using(crate::proofs::Digits::bit_is_set, crate::proofs::Digits::bit_is_cleared))]
+fn with_bit(octet: u8, place: usize, is_set: bool) -> u8
+    requires { place < 8 }
+    ensures { octet_bits result ≡ set (octet_bits octet) place (digit is_set) }
+{
+    let mask = 1 << (7 - place);
+    if is_set { octet | mask } else { octet & !mask }
+}
 
 /// Writes the bits of a value, the highest first.
-pub fn write_value(bits: &mut [u8], at: usize, width: usize, value: u32)
+pub fn write_value(memory: &mut [u8], at: usize, width: usize, value: u32)
+    requires near { at < 2 ^ 32 }
     requires short { width ≤ 32 }
-    requires within { at + width ≤ length bits.old }
-    ensures { bits.new ≡ overwrite bits.old at (value_bits width value) }
+    requires within { at + width ≤ 8 * length memory.old }
+    ensures octets { AreOctets memory.old → AreOctets memory.new }
+    ensures bits { bits_of memory.new ≡ overwrite (bits_of memory.old) at (value_bits width value) }
 {
     for place in 0..width {
-        bits[at + place] = ((value >> (width - place - 1)) % 2) as u8;
+        let bit = at + place;
+        let is_set = value >> (width - place - 1) & 1 == 1;
+        memory[bit / 8] = with_bit(memory[bit / 8], bit % 8, is_set);
     }
-}
-
-/// The octet of the eight bits from here on.
-#[tactic(auto, using(crate::proofs::Digits::eight, crate::proofs::Digits::octet_of_bits))]
-fn octet_at(bits: &[u8], at: usize) -> u8
-    requires within { at + 8 ≤ length bits.now }
-    requires bits { AreBits bits.now }
-    ensures bits { octet_bits result ≡ take 8 (drop at bits.now) }
-    ensures fits { result < 256 }
-{
-    bits[at] * 128
-        + bits[at + 1] * 64
-        + bits[at + 2] * 32
-        + bits[at + 3] * 16
-        + bits[at + 4] * 8
-        + bits[at + 5] * 4
-        + bits[at + 6] * 2
-        + bits[at + 7]
-}
-
-/// The octets of bits, eight for each.
-pub fn octets_of(alloc: Global, bits: &[u8], len: u16) -> Result<Octets, NoMemory>
-    requires len { length bits.now ≡ 8 * len }
-    requires bits { AreBits bits.now }
-    ensures bits { IfOk result (λ octets. bits_of octets ≡ bits.now) }
-    ensures octets { IfOk result (λ octets. AreOctets octets) }
-    ensures len { IfOk result (λ octets. length octets ≡ len) }
-{
-    let mut octets = Octets::new(alloc);
-    for k in 0..usize::from(len) {
-        octets.push(octet_at(bits, 8 * k))?;
-    }
-    Ok(octets)
 }

@@ -3,24 +3,24 @@
 ghost use Rattle.std.specs.Prelude.{◌≡◌, ◌+◌, ◌*◌, ◌<◌, ◌≤◌, ◌^◌, [], length, All, IfOk};
 ghost use Rattle.knx_model.specs.declared.catalogue.model.Model.{Model as DeviceModel};
 ghost use Rattle.knx_model.specs.Models.{AllApart, IsField, IsModel};
-ghost use Rattle.knx_model.specs.Parameters.{HoldsParameters, laid, set_value, AreSettings};
-ghost use Rattle.parameter_memory.specs.Bits.{HoldsFields, LiesWithin};
+ghost use Rattle.knx_model.specs.Parameters.{HoldsParameters, bits_of, laid, set_value, AreSettings};
+ghost use Rattle.parameter_memory.specs.Bits.{AreOctets, HoldsFields, LiesWithin};
 
-use crate::bits::{octets_of, write_value};
+use crate::bits::write_value;
 use knx_model::{Model, ModelField, NoMemory, Octets, ParamValue};
 use std::alloc::Global;
 
 /// Writes the defaults of the fields.
-fn write_defaults(bits: &mut [u8], fields: &[ModelField], params: u16)
-    requires size { length bits.old ≡ 8 * params }
-    requires fields { All (IsField params) fields.now }
+fn write_defaults(memory: &mut [u8], fields: &[ModelField])
+    requires fields { All (IsField (length memory.old)) fields.now }
     requires apart { AllApart fields.now }
-    requires blank { HoldsFields bits.old [] (set_value []) }
-    ensures { HoldsFields bits.new fields.now (set_value []) }
+    requires blank { HoldsFields (bits_of memory.old) [] (set_value []) }
+    ensures octets { AreOctets memory.old → AreOctets memory.new }
+    ensures holds { HoldsFields (bits_of memory.new) fields.now (set_value []) }
 {
     for field in fields {
         write_value(
-            bits,
+            memory,
             field.bit as usize,
             usize::from(field.width),
             field.default,
@@ -29,13 +29,14 @@ fn write_defaults(bits: &mut [u8], fields: &[ModelField], params: u16)
 }
 
 /// Writes the values of the settings.
-fn write_settings(bits: &mut [u8], settings: &[ParamValue])
-    requires { All (LiesWithin (length bits.old)) settings.now }
-    ensures { (m : DeviceModel) → IsModel m → AreSettings m settings.now → length bits.old ≡ 8 * m.params → HoldsFields bits.old m.parameters (set_value []) → HoldsFields bits.new m.parameters (set_value settings.now) }
+fn write_settings(memory: &mut [u8], settings: &[ParamValue])
+    requires { All (LiesWithin (8 * length memory.old)) settings.now }
+    ensures octets { AreOctets memory.old → AreOctets memory.new }
+    ensures holds { (m : DeviceModel) → IsModel m → AreSettings m settings.now → length memory.old ≡ m.params → HoldsFields (bits_of memory.old) m.parameters (set_value []) → HoldsFields (bits_of memory.new) m.parameters (set_value settings.now) }
 {
     for setting in settings {
         write_value(
-            bits,
+            memory,
             setting.bit as usize,
             usize::from(setting.width),
             setting.value,
@@ -50,12 +51,8 @@ pub fn lay(alloc: Global, model: &Model, settings: &[ParamValue]) -> Result<Octe
     requires settings { AreSettings model.now settings.now }
     ensures { IfOk result (λ memory. HoldsParameters memory model.now.params (laid model.now settings.now)) }
 {
-    let mut bits = vec![in alloc; 0; 8 * usize::from(model.params)]?;
-    write_defaults(
-        bits.as_mut_slice(),
-        model.parameters.as_slice(),
-        model.params,
-    );
-    write_settings(bits.as_mut_slice(), settings);
-    octets_of(alloc, bits.as_slice(), model.params)
+    let mut memory = vec![in alloc; 0; usize::from(model.params)]?;
+    write_defaults(memory.as_mut_slice(), model.parameters.as_slice());
+    write_settings(memory.as_mut_slice(), settings);
+    Ok(Octets::from_vec(memory))
 }

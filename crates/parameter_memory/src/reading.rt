@@ -4,23 +4,13 @@ ghost use Rattle.std.specs.Prelude.{◌≡◌, ◌+◌, ◌*◌, ◌<◌, ◌≤
 ghost use Rattle.knx_model.specs.Parameters.{bits_of, bits_value, field_value};
 
 /// A bit, where bit 0 is the highest of the first octet.
-#[tactic(auto, using(crate::proofs::Digits::bit_of_octet))]
+#[tactic(auto, using(crate::proofs::Digits::bit_read))]
 fn bit_at(memory: &[u8], bit: usize) -> u8
     requires { bit < 8 * length memory.now }
     ensures value { result ≡ slice_index (bits_of memory.now) bit }
     ensures small { result < 2 }
 {
-    let octet = memory[bit / 8];
-    match bit % 8 {
-        0 => octet / 128 % 2,
-        1 => octet / 64 % 2,
-        2 => octet / 32 % 2,
-        3 => octet / 16 % 2,
-        4 => octet / 8 % 2,
-        5 => octet / 4 % 2,
-        6 => octet / 2 % 2,
-        _ => octet % 2,
-    }
+    memory[bit / 8] >> (7 - bit % 8) & 1
 }
 
 /// The number that bits write, the highest first.

@@ -1,7 +1,7 @@
 -- What the rules ask of a model, in the words of what is known of it.
 use Rattle.std.proofs.Common.{◌≡◌, ℕ, Bool, ◌&&◌, not, List, Option, Some, None, refl, ap, ◌∙◌}
 use Rattle.std.specs.Prelude.{is_some, is_none}
-use Rattle.std.specs.Option.{option_map, option_or}
+use Rattle.std.specs.Option.{option_map}
 use Rattle.knx_model.specs.declared.catalogue.model.Model.{Model}
 use Rattle.knx_model.specs.declared.catalogue.model.ModelField.{ModelField}
 use Rattle.knx_model.specs.declared.catalogue.model.ModelObject.{ModelObject}
@@ -13,10 +13,6 @@ use Rattle.project_check.specs.Keys.{range_of, is_outside}
 use Rattle.project_check.specs.Knowing.{range_in}
 use Rattle.project_check.proofs.Named.{none_not}
 use Rattle.project_check.proofs.Steps.{sized}
-
-pub or_same : (a b : Option ℕ) → option_or a b ≡ or_else a b
-or_same None b = refl
-or_same (Some n) b = refl
 
 sized_object : (o : Option ModelObject) → is_some (size_of_object o) ≡ is_some o
 sized_object None = refl

@@ -1,4 +1,4 @@
--- The sizes of the first `link` lines of groups.
+-- The group objects of the first `link` lines of groups.
 use Rattle.std.proofs.Common.{◌≡◌, ℕ, ◌+◌, ◌<◌, Bool, true, false, cond, eqb, List, [], ◌∷◌, ◌++◌, length, get_or, take, Option, Some, None, refl, ap, ◌∙◌}
 use Rattle.std.specs.Option.{option_map, option_or}
 use Rattle.std.proofs.lemmas.List.{take_more}
@@ -7,14 +7,15 @@ use Rattle.knx_model.specs.declared.project.Statement.{Statement}
 use Rattle.knx_model.specs.declared.project.What.{What}
 use Rattle.knx_model.specs.declared.project.What.TheVariants.{Title, Group, Device, Object, Link as LinkStated, Flags, Param}
 use Rattle.knx_model.specs.Rules.{first_some, linked_in}
-use Rattle.project_check.specs.Knowing.{size_at, linked_size}
+use Rattle.project_check.specs.Knowing.{known_at, linked_object}
 use Rattle.project_check.specs.Links.{link_in, lines_of, links_from}
+use Rattle.project_check.specs.declared.known.KnownObject.{KnownObject}
 use Rattle.project_check.specs.declared.links.LinkLine.{LinkLine}
 
--- the size of the group object of a group's first line
-abbrev pub size_in_lines : List NamedModel → List Statement → ℕ → List LinkLine → Option (Option ℕ)
-size_in_lines catalogue ss g [] = None
-size_in_lines catalogue ss g (l ∷ ls) = option_or (linked_size catalogue ss g l.link) (size_in_lines catalogue ss g ls)
+-- what is known of the group object of a group's first line
+abbrev pub object_in_lines : List NamedModel → List Statement → ℕ → List LinkLine → Option KnownObject
+object_in_lines catalogue ss g [] = None
+object_in_lines catalogue ss g (l ∷ ls) = option_or (linked_object catalogue ss g l.link) (object_in_lines catalogue ss g ls)
 
 or_none : {X : Type 0} (o : Option X) → option_or o None ≡ o
 or_none None = refl
@@ -25,22 +26,22 @@ or_or None b c = refl
 or_or (Some x) b c = refl
 
 -- with one line more
-size_more : (catalogue : List NamedModel) (ss : List Statement) (g : ℕ) (ls : List LinkLine) (l : LinkLine) → size_in_lines catalogue ss g (ls ++ l ∷ []) ≡ option_or (size_in_lines catalogue ss g ls) (linked_size catalogue ss g l.link)
-size_more catalogue ss g [] l = or_none (linked_size catalogue ss g l.link)
-size_more catalogue ss g (m ∷ ls) l = ap (option_or (linked_size catalogue ss g m.link)) (size_more catalogue ss g ls l) ∙ or_or (linked_size catalogue ss g m.link) (size_in_lines catalogue ss g ls) (linked_size catalogue ss g l.link)
+object_more : (catalogue : List NamedModel) (ss : List Statement) (g : ℕ) (ls : List LinkLine) (l : LinkLine) → object_in_lines catalogue ss g (ls ++ l ∷ []) ≡ option_or (object_in_lines catalogue ss g ls) (linked_object catalogue ss g l.link)
+object_more catalogue ss g [] l = or_none (linked_object catalogue ss g l.link)
+object_more catalogue ss g (m ∷ ls) l = ap (option_or (linked_object catalogue ss g m.link)) (object_more catalogue ss g ls l) ∙ or_or (linked_object catalogue ss g m.link) (object_in_lines catalogue ss g ls) (linked_object catalogue ss g l.link)
 
 -- up to a place of the list, and with the line at it
-pub size_to : (catalogue : List NamedModel) (ss : List Statement) (g : ℕ) (ls : List LinkLine) (i : ℕ) (l : LinkLine) → i < length ls
-    → size_in_lines catalogue ss g (take (i + 1) ls) ≡ option_or (size_in_lines catalogue ss g (take i ls)) (linked_size catalogue ss g (get_or ls i l).link)
-size_to catalogue ss g ls i l lt = ap (size_in_lines catalogue ss g) (take_more ls i l lt) ∙ size_more catalogue ss g (take i ls) (get_or ls i l)
+pub object_to : (catalogue : List NamedModel) (ss : List Statement) (g : ℕ) (ls : List LinkLine) (i : ℕ) (l : LinkLine) → i < length ls
+    → object_in_lines catalogue ss g (take (i + 1) ls) ≡ option_or (object_in_lines catalogue ss g (take i ls)) (linked_object catalogue ss g (get_or ls i l).link)
+object_to catalogue ss g ls i l lt = ap (object_in_lines catalogue ss g) (take_more ls i l lt) ∙ object_more catalogue ss g (take i ls) (get_or ls i l)
 
 first_or : {X Y : Type 0} (f : X → Y) (b : Bool) (x : X) (rest : Option X) (more : Option Y) → more ≡ option_map f rest → option_or (cond b (Some (f x)) None) more ≡ option_map f (elim (cond b (Some x) None) as (λ _. Option X) [ None ↦ rest | Some y ↦ Some y ])
 first_or f true x rest more e = refl
 first_or f false x rest more e = e
 
-line_first : (catalogue : List NamedModel) (all : List Statement) (g place : ℕ) (what : What) (lines : List LinkLine) (rest : Option (ℕ × ℕ)) → size_in_lines catalogue all g lines ≡ option_map (size_at catalogue all) rest
-    → size_in_lines catalogue all g (lines_of place (link_in what) ++ lines) ≡ option_map (size_at catalogue all) (elim (linked_in g what) as (λ _. Option (ℕ × ℕ)) [ None ↦ rest | Some x ↦ Some x ])
-line_first catalogue all g place (LinkStated device object group) lines rest e = first_or (size_at catalogue all) (eqb group.raw g) (device.raw, object) rest (size_in_lines catalogue all g lines) e
+line_first : (catalogue : List NamedModel) (all : List Statement) (g place : ℕ) (what : What) (lines : List LinkLine) (rest : Option (ℕ × ℕ)) → object_in_lines catalogue all g lines ≡ option_map (known_at catalogue all) rest
+    → object_in_lines catalogue all g (lines_of place (link_in what) ++ lines) ≡ option_map (known_at catalogue all) (elim (linked_in g what) as (λ _. Option (ℕ × ℕ)) [ None ↦ rest | Some x ↦ Some x ])
+line_first catalogue all g place (LinkStated device object group) lines rest e = first_or (known_at catalogue all) (eqb group.raw g) (device.raw, object) rest (object_in_lines catalogue all g lines) e
 line_first catalogue all g place (Title name) lines rest e = e
 line_first catalogue all g place (Group group name) lines rest e = e
 line_first catalogue all g place (Device device model) lines rest e = e
@@ -49,6 +50,6 @@ line_first catalogue all g place (Flags device object flags) lines rest e = e
 line_first catalogue all g place (Param device name value) lines rest e = e
 
 -- the first line of a group among the lines is that of the text
-pub first_sized : (catalogue : List NamedModel) (all : List Statement) (g place : ℕ) (ss : List Statement) → size_in_lines catalogue all g (links_from place ss) ≡ option_map (size_at catalogue all) (first_some (linked_in g) ss)
-first_sized catalogue all g place [] = refl
-first_sized catalogue all g place (s ∷ ss) = line_first catalogue all g place s.what (links_from (place + 1) ss) (first_some (linked_in g) ss) (first_sized catalogue all g (place + 1) ss)
+pub first_object : (catalogue : List NamedModel) (all : List Statement) (g place : ℕ) (ss : List Statement) → object_in_lines catalogue all g (links_from place ss) ≡ option_map (known_at catalogue all) (first_some (linked_in g) ss)
+first_object catalogue all g place [] = refl
+first_object catalogue all g place (s ∷ ss) = line_first catalogue all g place s.what (links_from (place + 1) ss) (first_some (linked_in g) ss) (first_object catalogue all g (place + 1) ss)

@@ -1,7 +1,7 @@
 -- One statement more.
 use Rattle.std.proofs.Common.{◌≡◌, ℕ, ◌+◌, Bool, true, false, cond, eqb, ◌||◌, List, [], ◌∷◌, ◌++◌, Option, Some, None, refl, sym, ap, ◌∙◌, subst, arith}
 use Rattle.std.specs.Prelude.{is_some}
-use Rattle.std.specs.Option.{option_map, option_or}
+use Rattle.std.specs.Option.{option_or}
 use Rattle.std.specs.HashSet.{contains}
 use Rattle.std.specs.HashMap.{get}
 use Rattle.std.proofs.lemmas.Bool.{or_left, or_right}
@@ -35,10 +35,6 @@ or_none {X = X} f s = elim (f s.what) as (λ r. elim r as (λ _. Option X) [ Non
 pub first_more : {X : Type 0} (f : What → Option X) (ss : List Statement) (s : Statement) → first_some f (ss ++ s ∷ []) ≡ option_or (first_some f ss) (f s.what)
 first_more f [] s = or_none f s
 first_more {X = X} f (t ∷ ss) s = elim (f t.what) as (λ r. elim r as (λ _. Option X) [ None ↦ first_some f (ss ++ s ∷ []) | Some x ↦ Some x ] ≡ option_or (elim r as (λ _. Option X) [ None ↦ first_some f ss | Some x ↦ Some x ]) (f s.what)) [ None ↦ first_more f ss s | Some x ↦ refl ]
-
--- the same of what is found
-pub map_first_more : {X Y : Type 0} (g : X → Y) (f : What → Option X) (ss : List Statement) (s : Statement) → option_map g (first_some f (ss ++ s ∷ [])) ≡ option_or (option_map g (first_some f ss)) (option_map g (f s.what))
-map_first_more g f ss s = ap (option_map g) (first_more f ss s) ∙ elim (first_some f ss) as (λ r. option_map g (option_or r (f s.what)) ≡ option_or (option_map g r) (option_map g (f s.what))) [ None ↦ refl | Some x ↦ refl ]
 
 one_more : (b : Bool) (n : ℕ) → n + (0 + cond b 1 0) ≡ cond b (n + 1) n
 one_more true n = omega arith

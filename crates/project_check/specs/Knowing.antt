@@ -1,6 +1,5 @@
 -- What is known of statements and models, as it is kept in sets and maps.
-use Rattle.std.specs.Prelude.{◌≡◌, ℕ, ◌+◌, ◌==◌, min, Bool, true, false, nat_le, List, Option, Some, None, IfSome, is_some, bytes_eq, slice_get, if◌then◌else◌}
-use Rattle.std.specs.Bool.{nat_eq}
+use Rattle.std.specs.Prelude.{◌≡◌, ℕ, ◌+◌, ◌<◌, ◌==◌, min, Bool, true, false, nat_le, List, Option, Some, None, IfSome, is_some, bytes_eq, slice_get, slice_index_or, if◌then◌else◌}
 use Rattle.std.specs.Borrow.{Bor}
 use Rattle.std.specs.Option.{option_map}
 use Rattle.std.specs.HashSet.{HashSet, contains}
@@ -49,7 +48,7 @@ range_at name f = if bytes_eq f.name name then Some (range_of f) else None
 
 -- the maps are those of the model
 pub record Indexes (index : ModelIndex) (m : Model) : Type 0 where
-  pub sizes : (n : ℕ) → get nat_eq index.sizes n ≡ option_map code_of (object_in m.objects n)
+  pub sizes : (n : ℕ) → n < 256 → slice_index_or index.sizes n None ≡ option_map code_of (object_in m.objects n)
   pub ranges : (name : List ℕ) → get_by (λ key. bytes_eq name key.now) index.ranges ≡ option_map range_of (field_in m.parameters name)
 
 -- the maps are those of the model, where there is one
@@ -100,22 +99,22 @@ range_in (Some m) name = option_map range_of (field_in m.parameters name)
 abbrev pub known_parameter : List NamedModel → List Statement → ℕ → List ℕ → KnownParameter
 known_parameter catalogue ss d name = record { modelled = is_some (model_of catalogue ss d); range = range_in (model_of catalogue ss d) name }
 
--- the size of a group object
-abbrev pub size_at : List NamedModel → List Statement → ℕ × ℕ → Option ℕ
-size_at catalogue ss o = size_of catalogue ss o.0 o.1
+-- what is known of a device's object
+abbrev pub known_at : List NamedModel → List Statement → ℕ × ℕ → KnownObject
+known_at catalogue ss o = known_object catalogue ss o.0 o.1
 
--- the size of the group object of a link to the group
-abbrev pub linked_size : List NamedModel → List Statement → ℕ → Link → Option (Option ℕ)
-linked_size catalogue ss g link = if link.group == g then Some (size_of catalogue ss link.device link.object) else None
+-- what is known of the group object of a link to the group
+abbrev pub linked_object : List NamedModel → List Statement → ℕ → Link → Option KnownObject
+linked_object catalogue ss g link = if link.group == g then Some (known_object catalogue ss link.device link.object) else None
 
--- the sizes are those of the group objects of the groups' first `link` lines
-abbrev pub FirstSizes : List NamedModel → List Statement → List (Option (Option ℕ)) → Type 0
-FirstSizes catalogue ss sizes = Holds sizes (λ g. option_map (size_at catalogue ss) (first_linked ss g))
+-- this is known of the group objects of the groups' first `link` lines
+abbrev pub FirstObjects : List NamedModel → List Statement → List (Option KnownObject) → Type 0
+FirstObjects catalogue ss objects = Holds objects (λ g. option_map (known_at catalogue ss) (first_linked ss g))
 
 pub record DeclaresAll (catalogue : List NamedModel) (w : Whole) (ss : List Statement) : Type 0 where
   pub models : AreNamed catalogue w.models.now ss
   pub declared : Declares catalogue w.declared ss
-  pub first_sizes : FirstSizes catalogue ss w.first_sizes
+  pub first_objects : FirstObjects catalogue ss w.first_objects
   pub first_repeat : IsFirstRepeat ss w.first_repeat
 
 -- the model that a `device` line names stands in a line of the text

@@ -7,10 +7,11 @@ ghost use Rattle.std.specs.HashMap.{get};
 ghost use Rattle.knx_model.specs.declared.catalogue.model.Model.{Model};
 ghost use Rattle.knx_model.specs.declared.catalogue.model.NamedModel.{NamedModel};
 ghost use Rattle.knx_model.specs.declared.project.Statement.{Statement as Stated};
-ghost use Rattle.knx_model.specs.Rules.{some_line, first_some, declares_group, declares_device, size_in, model_in, model_of};
+ghost use Rattle.knx_model.specs.Rules.{some_line, first_some, declares_group, declares_device, size_in, model_in, model_of, or_else};
 ghost use Rattle.project_check.specs.Keys.{object_eq, names_model};
-ghost use Rattle.project_check.specs.Knowing.{Holds, AreNamed, IsNamed, KeepsModels, Declares, Indexes, FirstSizes, known_object, linked_size, known_parameter};
+ghost use Rattle.project_check.specs.Knowing.{Holds, AreNamed, IsNamed, KeepsModels, Declares, Indexes, FirstObjects, known_object, linked_object, known_parameter};
 ghost use Rattle.project_check.specs.Links.{link_lines};
+ghost use Rattle.project_check.specs.declared.known.KnownObject.{KnownObject as Known};
 
 use crate::by_address::ByAddress;
 use crate::group_object::GroupObject;
@@ -156,52 +157,68 @@ impl<'b, 'a> Declared<'b, 'a> {
         }
     }
 
+    /// The size code of a group object in its first `object` line.
+    fn line_size(&self, object: GroupObject) -> Option<u8>
+        ensures { (catalogue : List NamedModel) (ss : List Stated) → Declares catalogue self.now ss → result ≡ first_some (size_in object.device object.number) ss }
+    {
+        self.sizes.get(&object).copied()
+    }
+
+    /// A size code that is known, or else that of the first `object` line.
+    fn size_or_line(&self, size: Option<u8>, object: GroupObject) -> Option<u8>
+        ensures { (catalogue : List NamedModel) (ss : List Stated) → Declares catalogue self.now ss → result ≡ or_else size (first_some (size_in object.device object.number) ss) }
+    {
+        match size {
+            Some(size) => Some(size),
+            None => self.line_size(object),
+        }
+    }
+
     /// What is known of a group object.
     pub fn known_object(&self, object: GroupObject) -> KnownObject
         ensures { (catalogue : List NamedModel) (ss : List Stated) → Declares catalogue self.now ss → result ≡ known_object catalogue ss object.device object.number }
     {
-        let line_size = self.sizes.get(&object).copied();
         match self.model(object.device) {
             Some(index) => KnownObject {
                 modelled: true,
-                size: index.size_of(object.number).or(line_size),
+                size: self.size_or_line(index.size_of(object.number), object),
             },
             None => KnownObject {
                 modelled: false,
-                size: line_size,
+                size: self.line_size(object),
             },
         }
     }
 }
 
-/// Adds the size code of the group object of a link, where it is the group's first.
-fn add_first_size(
-    first_sizes: &mut ByAddress<Option<Option<u8>>>,
+/// Adds what is known of the group object of a link, where it is the group's first.
+fn add_first_object(
+    first_objects: &mut ByAddress<Option<KnownObject>>,
     declared: &Declared<'_, '_>,
     link: Link,
 )
-    ensures { (catalogue : List NamedModel) (ss : List Stated) → Declares catalogue declared.now ss → (f : ℕ → Option (Option ℕ)) → Holds first_sizes.old f → Holds first_sizes.new (λ g. option_or (f g) (linked_size catalogue ss g link)) }
+    ensures { (catalogue : List NamedModel) (ss : List Stated) → Declares catalogue declared.now ss → (f : ℕ → Option Known) → Holds first_objects.old f → Holds first_objects.new (λ g. option_or (f g) (linked_object catalogue ss g link)) }
 {
-    if first_sizes.get(link.group).is_none() {
+    if first_objects.get(link.group).is_none() {
         let object = GroupObject {
             device: link.device,
             number: link.object,
         };
-        first_sizes.set(link.group, Some(declared.known_object(object).size));
+        first_objects.set(link.group, Some(declared.known_object(object)));
     }
 }
 
-/// The size code of the group object of the first `link` line of each group.
-pub fn first_sizes(
+/// What is known of the group object of the first `link` line of each group; none where a group has no such line.
+pub fn first_objects(
     alloc: Global,
     declared: &Declared<'_, '_>,
     links: &[LinkLine],
-) -> Result<ByAddress<Option<Option<u8>>>, AllocError>
-    ensures { IfOk result (λ sizes. (catalogue : List NamedModel) (ss : List Stated) → Declares catalogue declared.now ss → links.now ≡ link_lines ss → FirstSizes catalogue ss sizes) }
+) -> Result<ByAddress<Option<KnownObject>>, AllocError>
+    ensures { IfOk result (λ objects. (catalogue : List NamedModel) (ss : List Stated) → Declares catalogue declared.now ss → links.now ≡ link_lines ss → FirstObjects catalogue ss objects) }
 {
-    let mut sizes = ByAddress::new(alloc, None)?;
+    let mut objects = ByAddress::new(alloc, None)?;
     for line in links {
-        add_first_size(&mut sizes, declared, line.link);
+        add_first_object(&mut objects, declared, line.link);
     }
-    Ok(sizes)
+    Ok(objects)
 }

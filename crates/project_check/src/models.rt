@@ -1,9 +1,8 @@
 //! Models, by what lines ask of them.
 
-ghost use Rattle.std.specs.Prelude.{◌≡◌, ℕ, List, IfOk, OnOk, bytes_eq};
+ghost use Rattle.std.specs.Prelude.{◌≡◌, ◌<◌, ℕ, List, None, length, slice_index_or, IfOk, OnOk, bytes_eq};
 ghost use Rattle.std.specs.Option.{option_map, option_or};
-ghost use Rattle.std.specs.Bool.{nat_eq};
-ghost use Rattle.std.specs.HashMap.{get, get_by};
+ghost use Rattle.std.specs.HashMap.{get_by};
 ghost use Rattle.knx_model.specs.declared.catalogue.model.Model.{Model as DeviceModel};
 ghost use Rattle.knx_model.specs.Models.{inline, model_named, object_in, field_in};
 ghost use Rattle.knx_model.specs.Rules.{size_in_model};
@@ -24,29 +23,31 @@ pub struct Range {
 /// A model's size codes by object number, and its ranges by parameter name.
 #[derive(Drop)]
 pub struct ModelIndex<'a> {
-    pub sizes: HashMap<u8, u8>,
+    pub sizes: [Option<u8>; 256],
     pub ranges: HashMap<&'a [u8], Range>,
 }
 
 /// Adds the size code of an object, where it is the first of its number.
-fn add_size(sizes: &mut HashMap<u8, u8>, object: &ModelObject) -> Result<(), AllocError>
-    ensures { OnOk result ((n : ℕ) → get nat_eq sizes.new n ≡ option_or (get nat_eq sizes.old n) (code_at n object.now)) }
+fn add_size(sizes: &mut [Option<u8>; 256], object: &ModelObject)
+    ensures whole { length sizes.new ≡ 256 }
+    ensures each { (n : ℕ) → n < 256 → slice_index_or sizes.new n None ≡ option_or (slice_index_or sizes.old n None) (code_at n object.now) }
 {
-    if !sizes.contains_key(&object.n) {
-        sizes.insert(object.n, object.size)?;
+    let number = usize::from(object.n);
+    if sizes[number].is_none() {
+        sizes[number] = Some(object.size);
     }
-    Ok(())
 }
 
 /// The size codes of objects, by their numbers.
-fn sizes_of(alloc: Global, objects: &[ModelObject]) -> Result<HashMap<u8, u8>, AllocError>
-    ensures { IfOk result (λ sizes. (n : ℕ) → get nat_eq sizes n ≡ option_map code_of (object_in objects.now n)) }
+fn sizes_of(objects: &[ModelObject]) -> [Option<u8>; 256]
+    ensures whole { length result ≡ 256 }
+    ensures each { (n : ℕ) → n < 256 → slice_index_or result n None ≡ option_map code_of (object_in objects.now n) }
 {
-    let mut sizes = HashMap::new(alloc);
+    let mut sizes = [None; 256];
     for object in objects {
-        add_size(&mut sizes, object)?;
+        add_size(&mut sizes, object);
     }
-    Ok(sizes)
+    sizes
 }
 
 /// Adds the range of a parameter, where it is the first of its name.
@@ -87,7 +88,7 @@ impl<'a> ModelIndex<'a> {
         ensures { Indexes result inline }
     {
         ModelIndex {
-            sizes: HashMap::new(alloc),
+            sizes: [None; 256],
             ranges: HashMap::new(alloc),
         }
     }
@@ -97,7 +98,7 @@ impl<'a> ModelIndex<'a> {
         ensures { IfOk result (λ index. Indexes index model.now) }
     {
         Ok(ModelIndex {
-            sizes: sizes_of(alloc, model.objects.as_slice())?,
+            sizes: sizes_of(model.objects.as_slice()),
             ranges: ranges_of(alloc, model.parameters.as_slice())?,
         })
     }
@@ -123,7 +124,7 @@ impl<'a> ModelIndex<'a> {
     pub fn size_of(&self, number: u8) -> Option<u8>
         ensures { (m : DeviceModel) → Indexes self.now m → result ≡ size_in_model (Some m) number }
     {
-        self.sizes.get(&number).copied()
+        self.sizes[usize::from(number)]
     }
 
     /// The range of the model's parameter of a name.

@@ -11,9 +11,10 @@ ghost use Rattle.project_check.specs.Links.{is_at};
 
 use crate::broken::first_broken_rule;
 use crate::by_address::ByAddress;
-use crate::declared::{Declared, first_sizes};
+use crate::declared::{Declared, first_objects};
 use crate::earlier::{MOST_DEVICES, MOST_LINKS, Repeated};
 use crate::group_object::GroupObject;
+use crate::known::KnownObject;
 use crate::links::{first_repeat, link_lines};
 use crate::named_models::NamedModels;
 use knx_model::{GroupAddr, IndAddr, Statement, What, Why};
@@ -29,13 +30,13 @@ const TOO_MANY_LINKS: Why = Why::TooMany {
     limit: MOST_LINKS as u32,
 };
 
-/// What is known of a whole text: what it declares, the size code of the group object of the first link of each group, none where
+/// What is known of a whole text: what it declares, what is known of the group object of the first link of each group, none where
 /// the group has no link, and the place of the first `link` line that repeats an earlier one.
 #[derive(Drop)]
 pub struct Whole<'b, 'a> {
     pub models: &'b NamedModels<'a>,
     pub declared: Declared<'b, 'a>,
-    pub first_sizes: ByAddress<Option<Option<u8>>>,
+    pub first_objects: ByAddress<Option<KnownObject>>,
     pub first_repeat: Option<usize>,
 }
 
@@ -60,11 +61,11 @@ impl<'b, 'a> Whole<'b, 'a> {
     {
         let declared = Declared::by_all(alloc, models, statements)?;
         let links = link_lines(alloc, statements)?;
-        let first_sizes = first_sizes(alloc, &declared, links.as_slice())?;
+        let first_objects = first_objects(alloc, &declared, links.as_slice())?;
         Ok(Whole {
             models,
             declared,
-            first_sizes,
+            first_objects,
             first_repeat: first_repeat(links),
         })
     }
@@ -144,7 +145,7 @@ impl<'b, 'a> Whole<'b, 'a> {
     fn first_size(&self, group: u16) -> Option<u8>
         ensures { (catalogue : List NamedModel) (all : List Stated) → DeclaresAll catalogue self.now all → result ≡ size_of_first catalogue all (first_linked all group) }
     {
-        self.first_sizes.get(group).flatten()
+        self.first_objects.get(group)?.size
     }
 
     /// Whether a size is known and another than that of a group's first `link` line, where the device of the line is declared.

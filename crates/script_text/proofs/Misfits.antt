@@ -1,11 +1,7 @@
 -- The first word of a line that isn't what its place wants is refused as its place says.
 use Rattle.std.proofs.Common.{◌≡◌, ℕ, Bool, List, [], ◌∷◌, ◌++◌, Err, refl}
-use Rattle.knx_model.specs.declared.address.IndAddr.{IndAddr}
 use Rattle.knx_model.specs.declared.refusal.Why.{Why}
 use Rattle.knx_model.specs.declared.refusal.Why.TheVariants.{BadAddress, BadNumber}
-use Rattle.knx_model.specs.declared.script.ScriptWhat.{ScriptWhat}
-use Rattle.knx_model.specs.declared.script.ScriptWhat.TheVariants.{LoseUp, LoseDown, RepeatUp, RepeatDown, LoseTo, LoseFrom, RepeatTo, Worn, CloseAfter, DropChannel}
-use Rattle.knx_model.specs.Answers.{◌>>=◌}
 use Rattle.knx_model.specs.Numbers.{number_value}
 use Rattle.knx_model.specs.Addresses.{group_value, ind_value}
 use Rattle.knx_model.specs.Places.{Place, FirstMisfit, a_group, a_device, a_number, a_count, a_status, a_service}

@@ -10,7 +10,7 @@ use Rattle.knx_model.specs.declared.connection.TransportFrame.TheVariants.{Conne
 use Rattle.knx_model.specs.declared.connection.DeviceTook.{DeviceTook}
 use Rattle.knx_model.specs.declared.connection.ClientExpired.{ClientExpired}
 use Rattle.knx_model.specs.Connection.{frame_in}
-use Rattle.knx_model.specs.ClientConnection.{ClientEnd, Asked, Up, Asking, Awaiting, Ended, device_of, client_sent, client_expired, after_overdue}
+use Rattle.knx_model.specs.ClientConnection.{ClientEnd, Asked, Up, Asking, Awaiting, Ended, device_of, client_sent, client_stayed, client_expired, after_overdue}
 use Rattle.knx_model.specs.DeviceConnection.{DeviceEnd}
 use Rattle.knx_model.specs.DeviceState.{DeviceState}
 use Rattle.knx_model.specs.DeviceFrames.{Outcome, Whole, took_of, is_taken, connection_took, sender}
@@ -147,9 +147,16 @@ waits_counts w b over.Nothing c = c
 waits_counts w b (over.Repeat tpdu) c = goes_on w.client.end (waits_so w (over.Repeat tpdu)).client.end w.client.sent w.client.accepted w.delivered w.given b.asked b.delivered b.given (repeated_out w.client.end w.now tpdu) c
 waits_counts w b (over.Silent ms) c = goes_on w.client.end (waits_so w (over.Silent ms)).client.end w.client.sent w.client.accepted w.delivered w.given b.asked b.delivered b.given (λ h. silent_out w.client.end w.now ms) c
 
+stayed_out : (end : ClientEnd) (now : ℕ) → IsOut end → IsOut (client_stayed end now)
+stayed_out (Asked device) now h = tt
+stayed_out (Up s) now h = h
+stayed_out (Asking s q) now h = h
+stayed_out (Awaiting s) now h = h
+stayed_out Ended now h = tt
+
 replies_counts : (w : World) (b : Books) (l : Texts) → CountsAt w b → CountsAt (replies_so w l) b
 replies_counts w b [] c = c
-replies_counts w b (reply ∷ rest) c = c
+replies_counts w b (reply ∷ rest) c = goes_on w.client.end (client_stayed w.client.end w.now) w.client.sent w.client.accepted w.delivered w.given b.asked b.delivered b.given (stayed_out w.client.end w.now) c
 
 takes_counts : (w : World) (b : Books) (l : List Message) → w.coming ≡ l → WorldInv w b → WorldInv (takes_oldest w l) b → CountsAt w b → CountsAt (takes_oldest w l) b
 takes_counts w b [] e h n c = c

@@ -13,10 +13,11 @@ use Rattle.session_law.proofs.Arrivals.{Arrival, Confirmation, Frame, NotAck, No
 use Rattle.session_law.proofs.Placed.{AckAt, AnswerAt, placed_more, placed_skip, placed_snoc, placed_end}
 use Rattle.session_law.proofs.Seen.{Seen, extra}
 use Rattle.session_law.proofs.Invariant.{GivenAt, WaitIs, ups, InSession, AskedIs, Pending, OwedOk, QuestionIs, PhaseIs, Invariant, tail_length, extra_le, Acks, Answers}
+use Rattle.std.specs.Prelude.{nat_lt}
 use Rattle.std.proofs.lemmas.Bool.{false≢true}
 use Rattle.knx_model.specs.declared.connection.ClientTook.{ClientTook}
 use Rattle.knx_model.specs.Apdu.{Written}
-use Rattle.session_law.specs.Client.{hears, owed_after, and_answer}
+use Rattle.session_law.specs.Client.{most_owed, with_reply, hears, owed_after, and_answer}
 use Rattle.session_law.proofs.Frames.{ack_read, nak_read}
 use Rattle.session_law.proofs.Hearing.{Hearing, CDrops, CAcked, CAnswer, CAgain, CNak, CCloses, CClosesBy, up_hearing, asking_hearing, AckPlace, ack_place, AnswerPlace, answer_place}
 
@@ -31,6 +32,15 @@ tail_same xs ys zs a b len = same_back a.0 b.0 xs ys (sym a.1 ∙ b.1) len
 
 tail_more : (x : List ℕ) (xs zs : List (List ℕ)) → IsFirstOf (x ∷ xs) zs → IsFirstOf xs zs
 tail_more x xs zs t = (t.0 ++ x ∷ [], t.1 ∙ sym (append_assoc t.0 (x ∷ []) xs))
+
+-- ---- one more frame is owed, or none
+
+or_none : (P : List (List ℕ) → Type 0) (b : Bool) (more owed : List (List ℕ)) → P more → P owed → P (cond b more owed)
+or_none P true more owed h k = h
+or_none P false more owed h k = k
+
+or_owed : (P : List (List ℕ) → Type 0) (owed : List (List ℕ)) (reply : List ℕ) → P (owed ++ reply ∷ []) → P owed → P (with_reply owed reply)
+or_owed P owed reply h k = or_none P (nat_lt (length owed) most_owed) (owed ++ reply ∷ []) owed h k
 
 -- ---- the client's session after an item
 
@@ -90,7 +100,7 @@ module _ (asked : List (List ℕ)) (fly : Option TransportFrame) (x : TransportF
       (placed_snoc AckAt NotAck low (ups o.last fly owed) (Frame (frame_in reply)) a n le at (ap (λ z. Frame z) e) h)
 
   -- the answer before comes again
-  again_item : (n : ℕ) (apdu : List ℕ) → x ≡ Numbered n apdu → next_number n ≡ expected → InSession asked fly rest (owed ++ Written (tpdu.Ack n) ∷ []) waits number expected sent accepted o × (n < 16)
+  again_item : (n : ℕ) (apdu : List ℕ) → x ≡ Numbered n apdu → next_number n ≡ expected → InSession asked fly rest (with_reply owed (Written (tpdu.Ack n))) waits number expected sent accepted o × (n < 16)
   again_item n apdu e nx =
       let p : AnswerPlace o.given (length accepted - 1) n apdu (rest ++ o.unsent) = answer_place x o.given (length accepted - 1) n apdu (rest ++ o.unsent) e ss.answers in
       let bound : length o.given ≤ extra o.connection + length accepted = ss.bound in
@@ -100,27 +110,27 @@ module _ (asked : List (List ℕ)) (fly : Option TransportFrame) (x : TransportF
       let ei : expected ≡ length accepted % 16 = ss.expected_is in
       let ni : n ≡ p.a % 16 = p.number in
       let at : suc p.a ≡ length accepted = omega arith in
-      let small : n < 16 = omega arith in (
-        record {
-          same = ss.same;
-          done = ss.done;
-          number_is = ss.number_is;
-          expected_is = ss.expected_is;
-          waiting = ss.waiting;
-          told = ss.told;
-          acks = rest_acks;
-          answers = rest_answers;
-          heard_is = ss.heard_is;
-          bound = ss.bound;
-          ups_are = ups_ack (length o.given - (1 + extra o.connection)) (length accepted) p.a (Written (tpdu.Ack n)) (ack_read n small ∙ ap (λ (k : ℕ). Ack k) ni) (omega arith) at ss.ups_are;
-          flies = ss.flies;
-        },
-        small,
-      )
+      let small : n < 16 = omega arith in
+      let owes_it : InSession asked fly rest (owed ++ Written (tpdu.Ack n) ∷ []) waits number expected sent accepted o
+      = record {
+        same = ss.same;
+        done = ss.done;
+        number_is = ss.number_is;
+        expected_is = ss.expected_is;
+        waiting = ss.waiting;
+        told = ss.told;
+        acks = rest_acks;
+        answers = rest_answers;
+        heard_is = ss.heard_is;
+        bound = ss.bound;
+        ups_are = ups_ack (length o.given - (1 + extra o.connection)) (length accepted) p.a (Written (tpdu.Ack n)) (ack_read n small ∙ ap (λ (k : ℕ). Ack k) ni) (omega arith) at ss.ups_are;
+        flies = ss.flies;
+      } in
+      (or_owed (λ l. InSession asked fly rest l waits number expected sent accepted o) owed (Written (tpdu.Ack n)) owes_it drop_item, small)
 
-  -- the next answer
-  next_item : (apdu : List ℕ) → x ≡ Numbered expected apdu → InSession asked fly rest (owed ++ Written (tpdu.Ack expected) ∷ []) waits number (next_number expected) sent (apdu ∷ accepted) o
-  next_item apdu e =
+  -- the next answer, with what is owed then
+  next_with : (apdu : List ℕ) (owed' : List (List ℕ)) → x ≡ Numbered expected apdu → Acks (length o.given - (1 + extra o.connection)) (ups o.last fly owed') (suc (length accepted)) → InSession asked fly rest owed' waits number (next_number expected) sent (apdu ∷ accepted) o
+  next_with apdu owed' e up =
       let p : AnswerPlace o.given (length accepted - 1) expected apdu (rest ++ o.unsent) = answer_place x o.given (length accepted - 1) expected apdu (rest ++ o.unsent) e ss.answers in
       let bound : length o.given ≤ extra o.connection + length accepted = ss.bound in
       let ex : extra o.connection ≤ 1 = extra_le o.connection in
@@ -141,10 +151,21 @@ module _ (asked : List (List ℕ)) (fly : Option TransportFrame) (x : TransportF
         answers = subst (λ (k : ℕ). Answers o.given k (rest ++ o.unsent)) (at ∙ (let q : length accepted ≡ suc (length accepted) - 1 = omega arith in q)) p.others;
         heard_is = subst (λ (z : List (List ℕ)). IsFirstOf (apdu ∷ z) o.given) older p.right.2;
         bound = omega arith;
-        ups_are = ups_ack (length o.given - (1 + extra o.connection)) (suc (length accepted)) (length accepted) (Written (tpdu.Ack expected)) (ack_read expected (omega arith) ∙ ap (λ (k : ℕ). Ack k) ei) (omega arith) refl
-            (placed_more AckAt NotAck (length o.given - (1 + extra o.connection)) (ups o.last fly owed) (length accepted) (suc (length accepted)) (omega arith) ss.ups_are);
+        ups_are = up;
         flies = ss.flies;
       }
+
+  more_accepted : Acks (length o.given - (1 + extra o.connection)) (ups o.last fly owed) (suc (length accepted))
+  more_accepted = placed_more AckAt NotAck (length o.given - (1 + extra o.connection)) (ups o.last fly owed) (length accepted) (suc (length accepted)) (omega arith) ss.ups_are
+
+  next_item : (apdu : List ℕ) → x ≡ Numbered expected apdu → InSession asked fly rest (with_reply owed (Written (tpdu.Ack expected))) waits number (next_number expected) sent (apdu ∷ accepted) o
+  next_item apdu e =
+      let bound : length o.given ≤ extra o.connection + length accepted = ss.bound in
+      let ei : expected ≡ length accepted % 16 = ss.expected_is in
+      or_owed (λ l. InSession asked fly rest l waits number (next_number expected) sent (apdu ∷ accepted) o) owed (Written (tpdu.Ack expected))
+      (next_with apdu (owed ++ Written (tpdu.Ack expected) ∷ []) e
+      (ups_ack (length o.given - (1 + extra o.connection)) (suc (length accepted)) (length accepted) (Written (tpdu.Ack expected)) (ack_read expected (omega arith) ∙ ap (λ (k : ℕ). Ack k) ei) (omega arith) refl more_accepted))
+      (next_with apdu owed e more_accepted)
 
   -- its service was acknowledged
   acked_item : IsFirstOf o.delivered asked → waits ≡ true → x ≡ Ack number → InSession asked fly rest owed false (next_number number) expected sent accepted o
@@ -175,11 +196,13 @@ module _ (asked : List (List ℕ)) (fly : Option TransportFrame) (x : TransportF
       }
 
   -- another number
-  nak_item : (n : ℕ) (apdu : List ℕ) → x ≡ Numbered n apdu → InSession asked fly rest (owed ++ Written (tpdu.Nak n) ∷ []) waits number expected sent accepted o × (n < 16)
+  nak_item : (n : ℕ) (apdu : List ℕ) → x ≡ Numbered n apdu → InSession asked fly rest (with_reply owed (Written (tpdu.Nak n))) waits number expected sent accepted o × (n < 16)
   nak_item n apdu e =
       let p : AnswerPlace o.given (length accepted - 1) n apdu (rest ++ o.unsent) = answer_place x o.given (length accepted - 1) n apdu (rest ++ o.unsent) e ss.answers in
-      let small : n < 16 = omega (arith, p.number) in
-      (owes (Written (tpdu.Nak n)) (subst (λ (z : TransportFrame). IsntAck z) (sym (nak_read n small)) tt), small)
+      let small : n < 16 = omega (arith, p.number) in (
+        or_owed (λ l. InSession asked fly rest l waits number expected sent accepted o) owed (Written (tpdu.Nak n)) (owes (Written (tpdu.Nak n)) (subst (λ (z : TransportFrame). IsntAck z) (sym (nak_read n small)) tt)) drop_item,
+        small,
+      )
 
   small_expected : expected < 16
   small_expected = omega (arith, ss.expected_is)
@@ -189,6 +212,9 @@ module _ (asked : List (List ℕ)) (fly : Option TransportFrame) (x : TransportF
 owed_append : (l k : List (List ℕ)) → OwedOk l → OwedOk k → OwedOk (l ++ k)
 owed_append [] k h q = q
 owed_append (r ∷ l) k h q = (h.0, owed_append l k h.1 q)
+
+owed_with : (l : List (List ℕ)) (reply : List ℕ) → OwedOk l → OwedOk (reply ∷ []) → OwedOk (with_reply l reply)
+owed_with l reply h q = or_owed OwedOk l reply (owed_append l (reply ∷ []) h q) h
 
 owed_one : (reply : List ℕ) (s : TransportFrame) → frame_in reply ≡ s → IsntData s → IsntConnect s → OwedOk (reply ∷ [])
 owed_one reply s e d c = ((subst (λ (z : TransportFrame). IsntData z) (sym e) d, subst (λ (z : TransportFrame). IsntConnect z) (sym e) c), tt)
@@ -240,15 +266,15 @@ module _ (joined pending : Bool) (owed sent accepted asked : List (List ℕ)) (f
   up_took_kept s ss k CDrops = dropped (Up s) joined pending owed sent accepted asked fly rest o now ok (pend_plain pending fly x rest pend, drop_item asked fly x rest owed false s.number s.expected sent accepted o ss)
   up_took_kept s ss k (CAcked w e) = absurd (false≢true w)
   up_took_kept s ss k (CAnswer apdu e) = (
-    owed_append owed _ ok (owed_ack s.expected (small_expected asked fly x rest owed false s.number s.expected sent accepted o ss)),
+    owed_with owed _ ok (owed_ack s.expected (small_expected asked fly x rest owed false s.number s.expected sent accepted o ss)),
     (pend_plain pending fly x rest pend, next_item asked fly x rest owed false s.number s.expected sent accepted o ss apdu (is_data t x s.expected apdu is e)),
   )
   up_took_kept s ss k (CAgain n apdu e ne nx) =
       let r = again_item asked fly x rest owed false s.number s.expected sent accepted o ss n apdu (is_data t x n apdu is e) nx in
-      (owed_append owed _ ok (owed_ack n r.1), (pend_plain pending fly x rest pend, r.0))
+      (owed_with owed _ ok (owed_ack n r.1), (pend_plain pending fly x rest pend, r.0))
   up_took_kept s ss k (CNak n apdu e) =
       let r = nak_item asked fly x rest owed false s.number s.expected sent accepted o ss n apdu (is_data t x n apdu is e) in
-      (owed_append owed _ ok (owed_nak n r.1), (pend_plain pending fly x rest pend, r.0))
+      (owed_with owed _ ok (owed_nak n r.1), (pend_plain pending fly x rest pend, r.0))
   up_took_kept s ss k CCloses = (tt, λ j. pend_plain pending fly x rest pend)
   up_took_kept s ss k CClosesBy = (tt, λ j. pend_plain pending fly x rest pend)
 
@@ -257,15 +283,15 @@ module _ (joined pending : Bool) (owed sent accepted asked : List (List ℕ)) (f
   awaiting_took_kept s ss k CDrops = dropped (Awaiting s) joined pending owed sent accepted asked fly rest o now ok (pend_plain pending fly x rest pend, drop_item asked fly x rest owed false s.number s.expected sent accepted o ss)
   awaiting_took_kept s ss k (CAcked w e) = absurd (false≢true w)
   awaiting_took_kept s ss k (CAnswer apdu e) = (
-    owed_append owed _ ok (owed_ack s.expected (small_expected asked fly x rest owed false s.number s.expected sent accepted o ss)),
+    owed_with owed _ ok (owed_ack s.expected (small_expected asked fly x rest owed false s.number s.expected sent accepted o ss)),
     (pend_plain pending fly x rest pend, next_item asked fly x rest owed false s.number s.expected sent accepted o ss apdu (is_data t x s.expected apdu is e)),
   )
   awaiting_took_kept s ss k (CAgain n apdu e ne nx) =
       let r = again_item asked fly x rest owed false s.number s.expected sent accepted o ss n apdu (is_data t x n apdu is e) nx in
-      (owed_append owed _ ok (owed_ack n r.1), (pend_plain pending fly x rest pend, r.0))
+      (owed_with owed _ ok (owed_ack n r.1), (pend_plain pending fly x rest pend, r.0))
   awaiting_took_kept s ss k (CNak n apdu e) =
       let r = nak_item asked fly x rest owed false s.number s.expected sent accepted o ss n apdu (is_data t x n apdu is e) in
-      (owed_append owed _ ok (owed_nak n r.1), (pend_plain pending fly x rest pend, r.0))
+      (owed_with owed _ ok (owed_nak n r.1), (pend_plain pending fly x rest pend, r.0))
   awaiting_took_kept s ss k CCloses = (tt, λ j. pend_plain pending fly x rest pend)
   awaiting_took_kept s ss k CClosesBy = (tt, λ j. pend_plain pending fly x rest pend)
 
@@ -281,15 +307,15 @@ module _ (joined pending : Bool) (owed sent accepted asked : List (List ℕ)) (f
   asking_took_kept s q qi ss k (CAcked w e) =
       (ok, acked_phase s q.awaits (acked_item asked fly x rest owed true s.number s.expected sent accepted o ss prefix refl (is_ack t x s.number is e)))
   asking_took_kept s q qi ss k (CAnswer apdu e) = (
-    owed_append owed _ ok (owed_ack s.expected (small_expected asked fly x rest owed true s.number s.expected sent accepted o ss)),
+    owed_with owed _ ok (owed_ack s.expected (small_expected asked fly x rest owed true s.number s.expected sent accepted o ss)),
     (pend_plain pending fly x rest pend, next_item asked fly x rest owed true s.number s.expected sent accepted o ss apdu (is_data t x s.expected apdu is e), qi),
   )
   asking_took_kept s q qi ss k (CAgain n apdu e ne nx) =
       let r = again_item asked fly x rest owed true s.number s.expected sent accepted o ss n apdu (is_data t x n apdu is e) nx in
-      (owed_append owed _ ok (owed_ack n r.1), (pend_plain pending fly x rest pend, r.0, qi))
+      (owed_with owed _ ok (owed_ack n r.1), (pend_plain pending fly x rest pend, r.0, qi))
   asking_took_kept s q qi ss k (CNak n apdu e) =
       let r = nak_item asked fly x rest owed true s.number s.expected sent accepted o ss n apdu (is_data t x n apdu is e) in
-      (owed_append owed _ ok (owed_nak n r.1), (pend_plain pending fly x rest pend, r.0, qi))
+      (owed_with owed _ ok (owed_nak n r.1), (pend_plain pending fly x rest pend, r.0, qi))
   asking_took_kept s q qi ss k CCloses = (tt, λ j. pend_plain pending fly x rest pend)
   asking_took_kept s q qi ss k CClosesBy = (tt, λ j. pend_plain pending fly x rest pend)
 

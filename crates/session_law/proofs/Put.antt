@@ -4,7 +4,7 @@ use Rattle.knx_model.specs.declared.address.IndAddr.{IndAddr}
 use Rattle.knx_model.specs.declared.connection.TransportFrame.{TransportFrame}
 use Rattle.knx_model.specs.declared.connection.TransportFrame.TheVariants.{Connect, Disconnect, Ack, Nak, Numbered, Other}
 use Rattle.knx_model.specs.Connection.{frame_in, numbered_data, IsApdu}
-use Rattle.knx_model.specs.ClientConnection.{ClientEnd, Asked, Up, Asking, Awaiting, Ended, client_sent, after_send}
+use Rattle.knx_model.specs.ClientConnection.{ClientEnd, Asked, Up, Asking, Awaiting, Ended, client_sent, after_send, client_stayed}
 use Rattle.session_law.specs.World.{Client}
 use Rattle.session_law.proofs.Arrivals.{Arrival, Frame, NoConfirmation, NotAck, IsntData, IsntConnect, arrival_if, owed_arrivals}
 use Rattle.session_law.proofs.Placed.{AckAt, placed_insert}
@@ -146,23 +146,23 @@ reply_sess asked fly coming reply rest waits number expected sent accepted o e n
     let none : Acks (length o.given - (1 + extra o.connection)) (ups o.last None (reply ∷ rest)) (length accepted) = subst (λ (z : Option TransportFrame). Acks (length o.given - (1 + extra o.connection)) (ups o.last z (reply ∷ rest)) (length accepted)) e ss.ups_are in
     record { same = ss.same; done = ss.done; number_is = ss.number_is; expected_is = ss.expected_is; waiting = ss.waiting; told = ss.told; acks = ss.acks; answers = ss.answers; heard_is = ss.heard_is; bound = ss.bound; ups_are = none; flies = ne }
 
-reply_phase : (end : ClientEnd) (joined pending : Bool) (sent accepted asked : List (List ℕ)) (fly : Option TransportFrame) (coming : List Arrival) (o : Seen) (reply : List ℕ) (rest : List (List ℕ)) → pending ≡ false → IsntConnect (frame_in reply)
-    → PhaseIs end joined pending (reply ∷ rest) sent accepted asked fly coming o → PhaseIs end joined true rest sent accepted asked (Some (frame_in reply)) coming o
-reply_phase (Asked device) joined pending sent accepted asked fly coming o reply rest e ne h = absurd (let g : reply ∷ rest ≡ [] = h.1 in cc)
-reply_phase (Up t) joined pending sent accepted asked fly coming o reply rest e ne h =
+reply_phase : (end : ClientEnd) (joined pending : Bool) (sent accepted asked : List (List ℕ)) (fly : Option TransportFrame) (coming : List Arrival) (o : Seen) (reply : List ℕ) (rest : List (List ℕ)) (now : ℕ) → pending ≡ false → IsntConnect (frame_in reply)
+    → PhaseIs end joined pending (reply ∷ rest) sent accepted asked fly coming o → PhaseIs (client_stayed end now) joined true rest sent accepted asked (Some (frame_in reply)) coming o
+reply_phase (Asked device) joined pending sent accepted asked fly coming o reply rest now e ne h = absurd (let g : reply ∷ rest ≡ [] = h.1 in cc)
+reply_phase (Up t) joined pending sent accepted asked fly coming o reply rest now e ne h =
     let q : (fly ≡ None) × NoConfirmation coming = subst (λ (b : Bool). Pending b fly coming) e h.0 in
     (inl (frame_in reply, refl, q.1), reply_sess asked fly coming reply rest false t.number t.expected sent accepted o q.0 ne h.1)
-reply_phase (Asking t q) joined pending sent accepted asked fly coming o reply rest e ne h =
+reply_phase (Asking t q) joined pending sent accepted asked fly coming o reply rest now e ne h =
     let p : (fly ≡ None) × NoConfirmation coming = subst (λ (b : Bool). Pending b fly coming) e h.0 in
     (inl (frame_in reply, refl, p.1), reply_sess asked fly coming reply rest true t.number t.expected sent accepted o p.0 ne h.1, h.2)
-reply_phase (Awaiting t) joined pending sent accepted asked fly coming o reply rest e ne h =
+reply_phase (Awaiting t) joined pending sent accepted asked fly coming o reply rest now e ne h =
     let q : (fly ≡ None) × NoConfirmation coming = subst (λ (b : Bool). Pending b fly coming) e h.0 in
     (inl (frame_in reply, refl, q.1), reply_sess asked fly coming reply rest false t.number t.expected sent accepted o q.0 ne h.1)
-reply_phase Ended joined pending sent accepted asked fly coming o reply rest e ne h = λ j. let q : (fly ≡ None) × NoConfirmation coming = subst (λ (b : Bool). Pending b fly coming) e (h j) in inl (frame_in reply, refl, q.1)
+reply_phase Ended joined pending sent accepted asked fly coming o reply rest now e ne h = λ j. let q : (fly ≡ None) × NoConfirmation coming = subst (λ (b : Bool). Pending b fly coming) e (h j) in inl (frame_in reply, refl, q.1)
 
-pub reply_kept : (me : IndAddr) (asked : List (List ℕ)) (c : Client) (fly : Option TransportFrame) (coming : List Arrival) (o : Seen) (reply : List ℕ) (rest : List (List ℕ)) → c.owed ≡ reply ∷ rest → c.pending ≡ false → Invariant me asked c fly coming o
-    → Invariant me asked (record { end = c.end; joined = c.joined; pending = true; owed = rest; sent = c.sent; accepted = c.accepted }) (Some (frame_in reply)) coming o
-reply_kept me asked c fly coming o reply rest w e inv =
+pub reply_kept : (me : IndAddr) (asked : List (List ℕ)) (c : Client) (fly : Option TransportFrame) (coming : List Arrival) (o : Seen) (reply : List ℕ) (rest : List (List ℕ)) (now : ℕ) → c.owed ≡ reply ∷ rest → c.pending ≡ false → Invariant me asked c fly coming o
+    → Invariant me asked (record { end = client_stayed c.end now; joined = c.joined; pending = true; owed = rest; sent = c.sent; accepted = c.accepted }) (Some (frame_in reply)) coming o
+reply_kept me asked c fly coming o reply rest now w e inv =
     let ok : OwedOk (reply ∷ rest) = subst (λ (z : List (List ℕ)). OwedOk z) w inv.owed_ok in
     let h : PhaseIs c.end c.joined c.pending (reply ∷ rest) c.sent c.accepted asked fly coming o = subst (λ (z : List (List ℕ)). PhaseIs c.end c.joined c.pending z c.sent c.accepted asked fly coming o) w inv.phase in
-    record { owed_ok = ok.1; whole = inv.whole; side = side_with me asked fly (Some (frame_in reply)) o (reply_fly (frame_in reply) asked ok.0.0) inv.side; phase = reply_phase c.end c.joined c.pending c.sent c.accepted asked fly coming o reply rest e ok.0.1 h }
+    record { owed_ok = ok.1; whole = inv.whole; side = side_with me asked fly (Some (frame_in reply)) o (reply_fly (frame_in reply) asked ok.0.0) inv.side; phase = reply_phase c.end c.joined c.pending c.sent c.accepted asked fly coming o reply rest now e ok.0.1 h }

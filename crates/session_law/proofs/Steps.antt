@@ -76,7 +76,7 @@ asks_step w b apdu (Some octets) e h may =
 replies_step : (w : World) (b : Books) (l : List (List ℕ)) → w.client.owed ≡ l → WorldInv w b → MayHappen w Replies → WorldInv (replies_so w l) b
 replies_step w b [] e h may = h
 replies_step w b (reply ∷ rest) e h may =
-    record { flying = (refl, refl); last = h.last; inv = reply_kept w.me b.asked w.client (transport_if w.flying) (items w) (seen_of w.device b.delivered b.given) reply rest e may h.inv }
+    record { flying = (refl, refl); last = h.last; inv = reply_kept w.me b.asked w.client (transport_if w.flying) (items w) (seen_of w.device b.delivered b.given) reply rest w.now e may h.inv }
 
 waits_step : (w : World) (b : Books) (x : ClientExpired) → Due w.client.end x → WorldInv w b → MayHappen w Waits → WorldInv (waits_so w x) b
 waits_step w b x DNothing h may = h

@@ -1,6 +1,6 @@
 -- What the client does (ISO/IEC 14543-3-2, transport layer): it puts a T_Connect, a service, the same service again, what it owes, or a
 -- T_Disconnect; and it takes what comes, confirmations and frames of the device, each as its end of the connection says.
-use Rattle.std.specs.Prelude.{ℕ, Bool, true, false, not, ◌&&◌, ◌==◌, List, [], ◌∷◌, ◌++◌, drop, Option, Some, None, if◌then◌else◌}
+use Rattle.std.specs.Prelude.{ℕ, Bool, true, false, not, ◌&&◌, ◌==◌, nat_lt, List, [], ◌∷◌, ◌++◌, length, drop, Option, Some, None, if◌then◌else◌}
 use Rattle.knx_model.specs.declared.address.IndAddr.{IndAddr}
 use Rattle.knx_model.specs.declared.frames.cemi.Ldata.{Ldata}
 use Rattle.knx_model.specs.declared.frames.tpdu.Tpdu.TheVariants as tpdu
@@ -14,7 +14,7 @@ use Rattle.knx_model.specs.declared.connection.ClientExpired.{ClientExpired}
 use Rattle.knx_model.specs.declared.connection.ClientExpired.TheVariants as over
 use Rattle.knx_model.specs.Apdu.{Written}
 use Rattle.knx_model.specs.Connection.{frame_in, disconnect}
-use Rattle.knx_model.specs.ClientConnection.{Asked, Ended, device_of, client_sent, after_send, client_took, client_after, client_expired, after_overdue, client_confirmed, after_confirmed}
+use Rattle.knx_model.specs.ClientConnection.{Asked, Ended, device_of, client_sent, after_send, client_took, client_after, client_stayed, client_expired, after_overdue, client_confirmed, after_confirmed}
 use Rattle.knx_model.specs.DeviceFrames.{own_frame}
 use Rattle.session_law.specs.World.{Message, Con, Ind, Client, World}
 
@@ -44,10 +44,10 @@ waits_so w (over.Silent ms) = record w { client = record w.client { end = after_
 abbrev pub waits : World → World
 waits w = waits_so w (client_expired w.client.end w.now)
 
--- the oldest frame that it owes
+-- the oldest frame that it owes; its wait for an answer begins anew
 abbrev pub replies_so : World → List (List ℕ) → World
 replies_so w [] = w
-replies_so w (reply ∷ rest) = puts w (record w.client { owed = rest }) reply
+replies_so w (reply ∷ rest) = puts w (record w.client { end = client_stayed w.client.end w.now; owed = rest }) reply
 
 abbrev pub replies : World → World
 replies w = replies_so w w.client.owed
@@ -92,13 +92,20 @@ is_from (Some device) frame = not frame.group && (frame.source == device.raw)
 abbrev pub frame_from : Option IndAddr → Ldata → TransportFrame
 frame_from device frame = if is_from device frame then frame_in frame.tpdu else Other
 
+-- so many frames it owes at most; one more is none, and the device sends its frame again
+abbrev pub most_owed : ℕ
+most_owed = 64
+
+abbrev pub with_reply : List (List ℕ) → List ℕ → List (List ℕ)
+with_reply owed reply = if nat_lt (length owed) most_owed then owed ++ reply ∷ [] else owed
+
 -- what it owes then
 abbrev pub owed_after : ClientTook → List (List ℕ) → List (List ℕ)
 owed_after heard.Dropped owed = owed
 owed_after heard.Acked owed = owed
-owed_after (heard.Answer apdu ack) owed = owed ++ ack ∷ []
-owed_after (heard.Again ack) owed = owed ++ ack ∷ []
-owed_after (heard.Nak nak) owed = owed ++ nak ∷ []
+owed_after (heard.Answer apdu ack) owed = with_reply owed ack
+owed_after (heard.Again ack) owed = with_reply owed ack
+owed_after (heard.Nak nak) owed = with_reply owed nak
 owed_after (heard.Closed answer) owed = []
 
 abbrev pub and_answer : ClientTook → List (List ℕ) → List (List ℕ)

@@ -5,7 +5,8 @@ use Rattle.std.specs.Prelude.{ℕ, Bool, false, List, [], Option, None}
 use Rattle.knx_model.specs.declared.address.IndAddr.{IndAddr}
 use Rattle.knx_model.specs.declared.frames.cemi.Ldata.{Ldata}
 use Rattle.knx_model.specs.ClientConnection.{ClientEnd, Ended}
-use Rattle.knx_model.specs.DeviceState.{DeviceState, at_rest}
+use Rattle.knx_model.specs.DeviceConnection.{Closed}
+use Rattle.knx_model.specs.DeviceState.{DeviceState}
 
 -- what is on its way to the client: L_Data.con of its own frame, with error or without, and L_Data.ind of the device's frames
 pub data Message : Type 0 where
@@ -31,7 +32,7 @@ pub record World : Type 0 where
   pub delivered : List (List ℕ)  -- the services that the device delivered since the last T_Connect whose confirmation without error the client took
   pub given : List (List ℕ)  -- the answers that the device gave since then
 
--- a client without channel, and a device that has only what it keeps without power
+-- a client without channel, and a device without connection that has nothing to send and got no frame
 abbrev pub fresh : IndAddr → DeviceState → World
 fresh me d = record {
   me = me;
@@ -39,7 +40,7 @@ fresh me d = record {
   client = record { end = Ended; joined = false; pending = false; owed = []; sent = []; accepted = [] };
   flying = None;
   coming = [];
-  device = at_rest d;
+  device = record d { connection = Closed; unsent = []; last = None };
   echo = None;
   delivered = [];
   given = [];

@@ -1,5 +1,5 @@
 -- The links that lines give a device.
-use Rattle.std.proofs.Common.{◌≡◌, ℕ, ◌+◌, ◌*◌, ◌<◌, ◌≤◌, Bool, true, false, cond, ◌||◌, not, List, [], ◌∷◌, ◌++◌, length, get_or, set, take, map, eqb, All, None, refl, sym, ap, ◌∙◌, subst, arith, inl, inr, zero-add, replicate}
+use Rattle.std.proofs.Common.{◌≡◌, ℕ, ◌+◌, ◌<◌, ◌≤◌, Bool, true, false, ◌||◌, not, List, [], ◌∷◌, ◌++◌, length, get_or, set, take, eqb, All, None, refl, sym, ap, ◌∙◌, arith, inl, inr, zero-add, replicate}
 use Rattle.std.specs.List.{AllPairs, enumerate_from, list_any}
 use Rattle.std.proofs.lemmas.Bool.Decides.{eqb_tells}
 use Rattle.std.proofs.lemmas.List.{get_or_default, get_or-map, length-map, take_more, take_all, get_or-replicate, length-replicate, get_or-set_same, get_or-set_other, length-set}

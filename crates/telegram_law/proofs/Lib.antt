@@ -1,3 +1,3 @@
 mod Long
 mod Telegram
-mod Telegrams
+pub mod Telegrams

@@ -1,10 +1,10 @@
 //! The client's end of a tunnel.
 
-ghost use Rattle.std.specs.Prelude.{◌≡◌, true, is_some};
+ghost use Rattle.std.specs.Prelude.{◌≡◌, ◌↔◌, IsTrue, true, is_some};
 ghost use Rattle.std.specs.Result.{result_ok, result_err};
 ghost use Rattle.knx_model.specs.KnxNetIp.{Written};
 ghost use Rattle.knx_model.specs.declared.frames.ip.IpFrame.TheVariants.{ConnectRequest};
-ghost use Rattle.line_model.specs.ClientEnd.{Idle, Seeking, MayConnect, IsCemi, open_end, channel_put, put_refused, after_put, channel_expired, after_expired, channel_deadline, channel_left, after_leave, lost};
+ghost use Rattle.line_model.specs.ClientEnd.{Idle, Seeking, MayConnect, IsCemi, open_end, channel_put, put_refused, after_put, channel_expired, after_expired, channel_deadline, channel_left, after_leave, is_over, lost};
 ghost use Rattle.line_model.specs.ClientFrames.{HasTunnelIfUp, channel_took, after_took};
 ghost use Rattle.tunnel_channel.specs.Follows.{NewFollows, ConnectFollows, PutFollows, TakeFollows, ExpireFollows, LostFollows, LeaveFollows};
 
@@ -109,6 +109,34 @@ impl Channel {
         let request = self.state.disconnect_request();
         self.state.leave();
         request
+    }
+
+    /// Whether the time alone has ended the channel, or the wait for one.
+    pub fn is_over(&self, now: u64) -> bool
+        ensures { result ≡ is_over self.now now }
+    {
+        self.state.is_over(now)
+    }
+
+    /// Whether a channel is open.
+    pub fn is_open(&self) -> bool
+        ensures { result ≡ is_some (open_end self.now) }
+    {
+        self.state.is_open()
+    }
+
+    /// Whether a channel may be sought: none is open, and none is sought.
+    pub fn may_connect(&self) -> bool
+        ensures { IsTrue result ↔ MayConnect self.now }
+    {
+        self.state.may_connect()
+    }
+
+    /// Why a request can't be put now.
+    pub fn refuses(&self) -> Option<PutRefused>
+        ensures { result ≡ put_refused self.now }
+    {
+        self.state.refuses()
     }
 
     /// The nearest time at which something becomes due; None exactly where no wait runs.

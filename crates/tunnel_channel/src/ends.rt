@@ -68,6 +68,17 @@ impl Ends {
         self.unanswered >= MOST_UNANSWERED && has_passed(HEARTBEAT_WAIT_MS, self.beat, now)
     }
 
+    /// Why a request can't be put now.
+    pub fn refuses(&self) -> Option<PutRefused>
+        ensures { result ≡ put_in_channel (Some self.now) }
+    {
+        if self.request.is_free() {
+            None
+        } else {
+            Some(PutRefused::Busy)
+        }
+    }
+
     /// Whether the answer to a heartbeat is awaited.
     pub fn is_awaited(&self, now: u64) -> bool
         ensures { result ≡ is_awaited self.now now }

@@ -1,7 +1,7 @@
 //! Where the client's end of a tunnel is, and where it goes.
 
-ghost use Rattle.std.specs.Prelude.{◌≡◌};
-ghost use Rattle.line_model.specs.ClientEnd.{is_over, channel_expired, after_expired, channel_deadline, with_channel, repeated, beaten, lost, channel_left, after_leave};
+ghost use Rattle.std.specs.Prelude.{◌≡◌, ◌↔◌, IsTrue, is_some};
+ghost use Rattle.line_model.specs.ClientEnd.{MayConnect, open_end, put_refused, is_over, channel_expired, after_expired, channel_deadline, with_channel, repeated, beaten, lost, channel_left, after_leave};
 ghost use Rattle.line_model.specs.ClientFrames.{channel_took, after_took, acknowledged, delivered, answered, gone, channel_given};
 ghost use Rattle.tunnel_channel.specs.Ends.{client_end, MayBeat};
 
@@ -9,7 +9,7 @@ use crate::ends::{Ends, disconnect_request};
 use crate::took::{leaving_took, open_took, seeking_took};
 use crate::wait::{CONNECT_WAIT_MS, end_of, has_passed};
 use knx_model::{Datagram, IpFrame};
-use line_model::{ChannelExpired, ChannelTook};
+use line_model::{ChannelExpired, ChannelTook, PutRefused};
 use std::mem;
 
 /// Where the client's end is, with what is known there.
@@ -45,13 +45,37 @@ pub enum State {
 
 impl State {
     /// Whether the time alone has ended the channel, or the wait for one.
-    fn is_over(&self, now: u64) -> bool
+    pub fn is_over(&self, now: u64) -> bool
         ensures { result ≡ is_over (client_end self.now) now }
     {
         match self {
             State::Seeking { since } => has_passed(CONNECT_WAIT_MS, *since, now),
             State::Open(ends) | State::Leaving(ends) => ends.is_over(now),
             State::Idle | State::JustLost { .. } => false,
+        }
+    }
+
+    /// Whether a channel is open.
+    pub fn is_open(&self) -> bool
+        ensures { result ≡ is_some (open_end (client_end self.now)) }
+    {
+        matches!(self, State::Open(_) | State::Leaving(_))
+    }
+
+    /// Whether no channel is open and none is sought.
+    pub fn may_connect(&self) -> bool
+        ensures { IsTrue result ↔ MayConnect (client_end self.now) }
+    {
+        matches!(self, State::Idle | State::JustLost { .. })
+    }
+
+    /// Why a request can't be put now.
+    pub fn refuses(&self) -> Option<PutRefused>
+        ensures { result ≡ put_refused (client_end self.now) }
+    {
+        match self {
+            State::Open(ends) | State::Leaving(ends) => ends.refuses(),
+            State::Idle | State::Seeking { .. } | State::JustLost { .. } => Some(PutRefused::NotUp),
         }
     }
 

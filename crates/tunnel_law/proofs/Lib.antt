@@ -1,24 +1,24 @@
-mod Numbers
-mod Read
-mod Inside
-mod Fits
-mod Client
-mod Sends
-mod Takes
-mod Events
-mod Makes
-mod Acts
-mod Took
-mod Steps
-mod Law
-mod Line
-mod Down
-mod Mirror
-mod Puts
-mod Gets
-mod Replies
-mod Books
-mod Both
-mod Taken
-mod Whole
-mod Joined
+pub mod Numbers
+pub mod Read
+pub mod Inside
+pub mod Fits
+pub mod Client
+pub mod Sends
+pub mod Takes
+pub mod Events
+pub mod Makes
+pub mod Acts
+pub mod Took
+pub mod Steps
+pub mod Law
+pub mod Line
+pub mod Down
+pub mod Mirror
+pub mod Puts
+pub mod Gets
+pub mod Replies
+pub mod Books
+pub mod Both
+pub mod Taken
+pub mod Whole
+pub mod Joined

@@ -13,8 +13,8 @@ mod group;
 mod taking;
 
 use crate::parts::Parts;
-pub use due::nearer;
 use device_sim::Device;
+pub use due::nearer;
 use knx_model::{IndAddr, Ldata, NoMemory};
 use std::alloc::Global;
 use std::marker::Model;

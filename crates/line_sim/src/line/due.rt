@@ -55,10 +55,7 @@ impl Line {
         ensures settled { IfSome result (λ end. (mode : Mode) (w : World) → IsNow self.now w → Settled mode w → (ms : ℕ) → now w + ms ≤ end → SettledFor mode w ms) }
     {
         deadline_is_nearest();
-        nearer(
-            self.devices.deadline(),
-            self.tunnel.gateway.end.deadline(),
-        )
+        nearer(self.devices.deadline(), self.tunnel.gateway.end.deadline())
     }
 
     /// Whether nothing but time can go on: no datagram is under way up, nor down to the client's present endpoint, no frame waits for the bus,
@@ -80,7 +77,9 @@ impl Line {
         ensures { (w : World) → IsNow self.now w → (IsTrue result ↔ IsSettledWithin reach w) }
     {
         let is_over = both(
-            self.tunnel.up.is_over(Reach::Every, self.tunnel.gateway.made),
+            self.tunnel
+                .up
+                .is_over(Reach::Every, self.tunnel.gateway.made),
             self.tunnel.down.is_over(reach, self.tunnel.gateway.made),
         );
         let is_silent = both(self.frame_due().is_none(), self.has_nothing_to_send());

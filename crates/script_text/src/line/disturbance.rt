@@ -4,7 +4,7 @@
 ghost use Rattle.std.specs.Prelude.{◌<◌, ◌%◌, IfOk, IsTrue};
 ghost use Rattle.knx_model.specs.Answers.{Answers};
 ghost use Rattle.knx_model.specs.Words.{words};
-ghost use Rattle.knx_model.specs.ScriptText.{n_says, device_n_says, cut_says, worn_says, close_says, refuse_says, off_says, standard_says, lose_says, repeat_says, drop_says, is_script_what};
+ghost use Rattle.knx_model.specs.ScriptText.{n_says, device_n_says, cut_says, refuse_says, off_says, standard_says, lose_says, repeat_says, drop_says, is_script_what};
 
 use crate::fields::{count_field, number_field, status_field};
 use knx_model::{IndAddr, ScriptWhat, Why, device_field, next_field, no_more};
@@ -22,7 +22,7 @@ fn n_in(rest: &[u8]) -> Result<u32, Why>
 
 /// `D N`, the last words of their line.
 #[tactic(auto, unfolding(knx_model::specs::ScriptText::device_n_says))]
-fn device_n_in(rest: &[u8]) -> Result<(IndAddr, u32), Why>
+pub fn device_n_in(rest: &[u8]) -> Result<(IndAddr, u32), Why>
     ensures read { Answers (λ x. x) result (device_n_says (words rest.now)) }
     ensures fits { IfOk result (λ x. (0 < x.0.raw % 256) × (x.0.raw % 256 < 255) × (0 < x.1)) }
 {
@@ -95,24 +95,6 @@ pub fn cut_line_in(rest: &[u8]) -> Result<ScriptWhat, Why>
     let (k, rest) = number_field(rest)?;
     no_more(rest)?;
     Ok(ScriptWhat::Cut { device, n, k })
-}
-
-/// `worn D N`
-pub fn worn_line_in(rest: &[u8]) -> Result<ScriptWhat, Why>
-    ensures read { Answers (λ x. x) result (worn_says (words rest.now)) }
-    ensures spelled { IfOk result (λ what. IsTrue (is_script_what what)) }
-{
-    let (device, n) = device_n_in(rest)?;
-    Ok(ScriptWhat::Worn(device, n))
-}
-
-/// `close D N`
-pub fn close_line_in(rest: &[u8]) -> Result<ScriptWhat, Why>
-    ensures read { Answers (λ x. x) result (close_says (words rest.now)) }
-    ensures spelled { IfOk result (λ what. IsTrue (is_script_what what)) }
-{
-    let (device, n) = device_n_in(rest)?;
-    Ok(ScriptWhat::CloseAfter(device, n))
 }
 
 /// `refuse N HH`

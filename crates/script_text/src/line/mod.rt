@@ -9,11 +9,11 @@ mod disturbance;
 mod telegram;
 
 use disturbance::{
-    close_line_in, cut_line_in, drop_line_in, lose_line_in, off_line_in, refuse_line_in,
-    repeat_line_in, standard_line_in, worn_line_in,
+    cut_line_in, device_n_in, drop_line_in, lose_line_in, off_line_in, refuse_line_in,
+    repeat_line_in, standard_line_in,
 };
 use knx_model::{ScriptWhat, Why, first_word, line_text};
-use telegram::{group_line_in, then_line_in};
+use telegram::{telegram_in, then_line_in};
 
 /// The greatest number of lines of a script.
 const MOST_LINES: u32 = 65_536;
@@ -31,9 +31,11 @@ fn after_word_in(word: &[u8], rest: &[u8]) -> Result<ScriptWhat, Why>
     } else if word == b"cut".as_slice() {
         cut_line_in(rest)
     } else if word == b"worn".as_slice() {
-        worn_line_in(rest)
+        let (device, n) = device_n_in(rest)?;
+        Ok(ScriptWhat::Worn(device, n))
     } else if word == b"close".as_slice() {
-        close_line_in(rest)
+        let (device, n) = device_n_in(rest)?;
+        Ok(ScriptWhat::CloseAfter(device, n))
     } else if word == b"refuse".as_slice() {
         refuse_line_in(rest)
     } else if word == b"drop".as_slice() {
@@ -43,7 +45,7 @@ fn after_word_in(word: &[u8], rest: &[u8]) -> Result<ScriptWhat, Why>
     } else if word == b"standard".as_slice() {
         standard_line_in(rest)
     } else if word == b"group".as_slice() {
-        group_line_in(rest)
+        telegram_in(false, rest)
     } else if word == b"then".as_slice() {
         then_line_in(rest)
     } else {

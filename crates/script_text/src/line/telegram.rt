@@ -3,14 +3,14 @@
 ghost use Rattle.std.specs.Prelude.{IfOk, IsTrue};
 ghost use Rattle.knx_model.specs.Answers.{Answers};
 ghost use Rattle.knx_model.specs.Words.{words};
-ghost use Rattle.knx_model.specs.ScriptText.{telegram_says, group_says, then_says, is_script_what};
+ghost use Rattle.knx_model.specs.ScriptText.{telegram_says, then_says, is_script_what};
 
 use crate::fields::service_field;
 use knx_model::{ScriptWhat, Why, group_field, next_field, no_more};
 
 /// `GA V`, of a telegram that is sent while the jobs run or after them.
 #[tactic(auto, unfolding(knx_model::specs::ScriptText::telegram_says))]
-fn telegram_in(after: bool, rest: &[u8]) -> Result<ScriptWhat, Why>
+pub fn telegram_in(after: bool, rest: &[u8]) -> Result<ScriptWhat, Why>
     ensures read { Answers (λ x. x) result (telegram_says after (words rest.now)) }
     ensures spelled { IfOk result (λ what. IsTrue (is_script_what what)) }
 {
@@ -22,14 +22,6 @@ fn telegram_in(after: bool, rest: &[u8]) -> Result<ScriptWhat, Why>
         group,
         service,
     })
-}
-
-/// `group GA V`
-pub fn group_line_in(rest: &[u8]) -> Result<ScriptWhat, Why>
-    ensures read { Answers (λ x. x) result (group_says (words rest.now)) }
-    ensures spelled { IfOk result (λ what. IsTrue (is_script_what what)) }
-{
-    telegram_in(false, rest)
 }
 
 /// `then group GA V`

@@ -21,7 +21,7 @@
 ghost use Rattle.std.specs.Prelude.{◌≡◌};
 ghost use Rattle.std.specs.Result.{result_ok};
 ghost use Rattle.knx_model.specs.Connection.{IsApdu, frame_in};
-ghost use Rattle.knx_model.specs.ClientConnection.{IsClientEnd, awaits_nothing, device_of, client_confirmed, after_confirmed, client_sent, after_send, client_took, client_after, client_expired, after_overdue, client_deadline, Asked};
+ghost use Rattle.knx_model.specs.ClientConnection.{IsClientEnd, awaits_nothing, device_of, client_confirmed, after_confirmed, client_sent, after_send, client_took, client_after, client_stayed, client_expired, after_overdue, client_deadline, Asked};
 
 mod question;
 mod steps;
@@ -168,6 +168,14 @@ impl ClientConn {
             State::Asking(session, _) => asking_took(session, frame),
             State::Asked(_) | State::Ended => ClientTook::Dropped,
         }
+    }
+
+    /// After a T_ACK or T_NAK of this end was sent: the wait for an answer begins anew. It takes no memory.
+    pub fn replied(&mut self, now: u64)
+        ensures { self.new ≡ client_stayed self.old now }
+    {
+        let state = mem::replace(&mut self.state, State::Ended);
+        self.state = state.at_time(now);
     }
 
     /// What has become due.

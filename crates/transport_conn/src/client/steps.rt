@@ -34,8 +34,8 @@ impl State {
         }
     }
 
-    /// After a frame was taken that brought nothing new.
-    fn at_time(self, now: u64) -> State
+    /// After a frame was taken that brought nothing new, or a T_ACK or T_NAK was sent.
+    pub fn at_time(self, now: u64) -> State
         ensures { client_end result ≡ client_stayed (client_end self) now }
     {
         match self {

@@ -1,4 +1,4 @@
-use Rattle.std.proofs.Common.{◌≡◌, ◌++◌, length, take, map}
+use Rattle.std.proofs.Common.{◌≡◌, ◌++◌, length, take}
 use Rattle.std.specs.List.{flat_map}
 use Rattle.knx_model.specs.Tables.{two, pair}
 use Rattle.table_compiler.specs.Order.{pair_of}

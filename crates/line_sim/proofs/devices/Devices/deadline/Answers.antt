@@ -1,4 +1,4 @@
-use Rattle.std.proofs.Common.{◌≡◌, ◌≤◌, List, Option, ap, sym, ◌∙◌, subst, arith}
+use Rattle.std.proofs.Common.{◌≡◌, ◌≤◌, List, Option, ap, subst, arith}
 use Rattle.knx_model.specs.DeviceState.{DeviceState}
 use Rattle.line_sim.specs.Places.{DevicesNow}
 use Rattle.line_sim.proofs.Nearest.{AllQuiet, nearest_at_end, nearest_of_all, nearest_with, quiet_between}

@@ -1,7 +1,7 @@
 use Rattle.std.proofs.Common.{◌≡◌, ◌≤◌, ◌<◌, ◌*◌, ◌+◌, ℕ, List, Option, None, ap, sym, ◌∙◌, subst, arith}
 use Rattle.knx_model.specs.DeviceState.{DeviceState}
 use Rattle.line_sim.specs.Places.{DevicesNow, device_at, sending_at}
-use Rattle.line_sim.proofs.Nearest.{AllQuiet, AreSilent, all_silent, quiet_between, silent_at_end, silent_before, silent_with}
+use Rattle.line_sim.proofs.Nearest.{AllQuiet, all_silent, quiet_between, silent_at_end, silent_before, silent_with}
 use Rattle.line_sim.proofs.devices.Devices.next_sender.Goals as goal
 
 pub returns-in-Some-sending_in-clause-least : goal.returns-in-Some-sending_in-clause-least

@@ -1,8 +1,7 @@
-use Rattle.std.proofs.Common.{ap, ◌∙◌, nat_lt}
-use Rattle.knx_model.specs.Device.{written_front}
+use Rattle.std.proofs.Common.{ap, ◌∙◌}
 use Rattle.knx_model.specs.DeviceState.{DeviceState}
-use Rattle.knx_model.specs.DeviceFrames.{Whole, Torn, Worn, effect_of_frame, worn_octets}
-use Rattle.line_sim.proofs.Named.{takes_named, again_named}
+use Rattle.knx_model.specs.DeviceFrames.{Whole}
+use Rattle.line_sim.proofs.Named.{takes_named}
 use Rattle.line_sim.proofs.Places.{changed_keeps}
 use Rattle.line_sim.proofs.devices.Devices.take_alone.Goals as goal
 

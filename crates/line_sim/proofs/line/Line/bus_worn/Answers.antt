@@ -1,6 +1,5 @@
 use Rattle.std.proofs.Common.{◌≡◌, true, is_some, None, refl, ap, subst, ◌∙◌}
 use Rattle.knx_model.specs.DeviceFrames.{worn_octets}
-use Rattle.knx_model.specs.declared.device.WriteKind.{WriteKind}
 use Rattle.knx_model.specs.declared.frames.cemi.Ldata.{Ldata}
 use Rattle.line_model.specs.Tunnel as tunnel
 use Rattle.line_model.specs.Tunnel.{Carried}

@@ -1,4 +1,4 @@
-use Rattle.std.proofs.Common.{◌≡◌, [], Some, refl, subst, ◌∙◌}
+use Rattle.std.proofs.Common.{◌≡◌, [], Some, refl, subst}
 use Rattle.knx_model.specs.declared.frames.cemi.Ldata.{Ldata}
 use Rattle.line_model.specs.Tunnel as tunnel
 use Rattle.line_model.specs.World.{World, DevSend, heard, step}

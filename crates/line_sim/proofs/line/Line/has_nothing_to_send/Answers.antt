@@ -1,7 +1,6 @@
 use Rattle.std.proofs.Common.{◌≡◌, ℕ, ◌&&◌, ◌↔◌, Bool, IsTrue, None, Some, rules, sym, subst}
-use Rattle.knx_model.specs.declared.device.Sending.{Sending}
 use Rattle.line_model.specs.Fresh.{HasNothingToSend}
-use Rattle.line_model.specs.World.{World, now}
+use Rattle.line_model.specs.World.{now}
 use Rattle.line_sim.specs.Line.{IsNow}
 use Rattle.line_sim.specs.Places.{sending_at}
 use Rattle.line_sim.proofs.Settling.{for_world, none_for_world, nothing_exactly}

@@ -1,4 +1,4 @@
-use Rattle.std.proofs.Common.{◌≡◌, ◌&&◌, ◌↔◌, ℕ, Bool, IsTrue, [], rules, sym, ap, subst, ◌∙◌}
+use Rattle.std.proofs.Common.{◌≡◌, ◌&&◌, ◌↔◌, ℕ, Bool, IsTrue, [], rules, sym, subst}
 use Rattle.line_model.specs.Tunnel.{made}
 use Rattle.network_sim.specs.declared.place.Reach.TheVariants.{Every}
 use Rattle.network_sim.specs.Arriving.{AllOver}

@@ -1,11 +1,11 @@
-use Rattle.std.proofs.Common.{◌≡◌, ℕ, Option, subst}
+use Rattle.std.proofs.Common.{◌≡◌, subst}
 use Rattle.std.specs.Prelude.{IfSome}
 use Rattle.line_model.specs.Tunnel.{Mode}
 use Rattle.network_sim.specs.declared.place.Reach.TheVariants.{Every}
 use Rattle.network_sim.specs.Arriving.{MayCome}
 use Rattle.line_sim.specs.Line.{LineNow}
 use Rattle.line_sim.specs.Tunnels.{tunnel_now}
-use Rattle.line_sim.proofs.Going.{allowed_up, next_comes}
+use Rattle.line_sim.proofs.Going.{allowed_up}
 use Rattle.line_sim.proofs.line.Line.next_up.Goals as goal
 
 pub returns-clause-allowed : goal.returns-clause-allowed

@@ -1,5 +1,4 @@
-use Rattle.std.proofs.Common.{◌≡◌, ◌-◌, ℕ, Bool, Some, sym, subst, ◌∙◌}
-use Rattle.network_sim.specs.Window.{kept_age}
+use Rattle.std.proofs.Common.{◌≡◌, ◌-◌, ℕ, sym, subst, ◌∙◌}
 use Rattle.network_sim.specs.Arriving.{MayCome}
 use Rattle.line_sim.proofs.Going.{again_comes, is_age, not_kept}
 use Rattle.line_sim.proofs.line.counted.again.Goals as goal

@@ -9,6 +9,6 @@ returns c = λ catalogue named.
     record {
       models = named;
       declared = declared;
-      first_sizes = c.in_ok-first_sizes.ensures catalogue ss declared (c.as_slice.ensures.value ∙ lines);
+      first_objects = c.in_ok-first_objects.ensures catalogue ss declared (c.as_slice.ensures.value ∙ lines);
       first_repeat = c.first_repeat.ensures ss lines;
     }

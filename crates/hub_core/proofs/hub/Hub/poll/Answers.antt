@@ -1,0 +1,14 @@
+use Rattle.std.proofs.Common.{◌≡◌, ◌∙◌, sym, ap, refl, false, Some}
+use Rattle.hub_core.proofs.Works as works
+use Rattle.hub_core.proofs.Keeps as keeps
+use Rattle.tunnel_link.proofs.Stories.{goes_again}
+use Rattle.hub_core.proofs.hub.Hub.poll.Goals as goal
+
+pub returns-clause-grows : goal.returns-clause-grows
+returns-clause-grows g c = rw (← c.self.view_is) (goes_again _ _ _ c.poll.ensures.grows c.take_in.ensures.grows)
+
+pub invariant_of-self : goal.invariant_of-self
+invariant_of-self g c = keeps.goes _ _ c.self.inside.work _ _ c.poll.ensures.events (keeps.none_inside _ _ c.self.view_is c.requires.stands) c.self.invariant
+
+pub invariant_of-self-2 : goal.invariant_of-self-2
+invariant_of-self-2 g c = keeps.goes _ _ c.self.inside.work _ _ c.poll.ensures.events (keeps.none_inside _ _ c.self.view_is c.requires.stands) c.self.invariant

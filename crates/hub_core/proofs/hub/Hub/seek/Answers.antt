@@ -1,0 +1,7 @@
+use Rattle.std.proofs.Common.{◌≡◌, ◌∙◌, sym, ap, refl, false, Some}
+use Rattle.hub_core.proofs.Works as works
+use Rattle.hub_core.proofs.Keeps as keeps
+use Rattle.hub_core.proofs.hub.Hub.seek.Goals as goal
+
+pub invariant_of-self : goal.invariant_of-self
+invariant_of-self g c = keeps.goes _ _ c.self.inside.work _ _ c.seek.ensures.events (keeps.none_inside _ _ c.self.view_is c.requires.stands) c.self.invariant

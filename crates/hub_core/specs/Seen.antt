@@ -1,0 +1,25 @@
+-- What contracts see of a hub: its link, the devices of its jobs in their order, its group telegrams, its log, the newest entry first, why it has
+-- ended, and how many indications were counted as missed. After a fault each later call answers that fault, and the link stays as it is.
+use Rattle.std.specs.Prelude.{◌≡◌, ℕ, List, Option, Some, None, Result, Err}
+use Rattle.knx_model.specs.declared.address.IndAddr.{IndAddr}
+use Rattle.line_model.specs.declared.fault.HubFault.{HubFault}
+use Rattle.line_model.specs.declared.group.GroupTurn.{GroupTurn}
+use Rattle.line_model.specs.declared.log.LogEntry.{LogEntry}
+
+pub record Seen (L : Type 0) : Type 0 where
+  pub link : L
+  pub devices : List IndAddr
+  pub turns : List GroupTurn
+  pub log : List LogEntry
+  pub fault : Option HubFault
+  pub missed : ℕ
+
+-- the same jobs and the same group telegrams
+pub record SameRun {L : Type 0} (old new : Seen L) : Type 0 where
+  pub devices : new.devices ≡ old.devices
+  pub turns : new.turns ≡ old.turns
+
+-- a call of a hub that had this fault before, its answer, the fault after it, and that its link stayed as it was
+abbrev pub StaysEnded : {X : Type 0} → Option HubFault → Result X HubFault → Option HubFault → Type 0 → Type 0
+StaysEnded None result after stayed = Unit {0}
+StaysEnded (Some fault) result after stayed = (result ≡ Err fault) × (after ≡ Some fault) × stayed

@@ -1,0 +1,115 @@
+//! The closing.
+
+ghost use Rattle.std.specs.Prelude.{◌≡◌, IfErr, OnOk, Some, None};
+ghost use Rattle.tunnel_link.specs.Goes.{GoesOn};
+ghost use Rattle.hub_core.specs.Seen.{SameRun, StaysEnded};
+
+use super::Hub;
+use crate::answers::Finished;
+use crate::closing::Closing;
+use line_model::{HubFault, Link};
+
+impl<L: Link> Hub<L> {
+    /// One step of the closing: it listens, then asks to end the channel, then waits for the answer. No job and no group telegram is unfinished.
+    pub fn finish(&mut self) -> Result<Finished, HubFault>
+        ensures grows { GoesOn (L.story self.old.link) (L.story self.new.link) }
+        ensures run { SameRun self.old self.new }
+        ensures log { self.new.log ≡ self.old.log }
+        ensures ended { StaysEnded self.old.fault result self.new.fault (self.new.link ≡ self.old.link) }
+        ensures fault { IfErr result (λ fault. self.new.fault ≡ Some fault) }
+    {
+        if let Some(fault) = self.tunnel.fault() {
+            return Err(fault);
+        }
+        if self.is_over() {
+            return Ok(Finished::Over);
+        }
+        self.act()?;
+        self.goes_on()
+    }
+
+    /// Asks to end the channel once the listening is over, and else makes one poll.
+    fn goes_on(&mut self) -> Result<Finished, HubFault>
+        requires stands { self.old.fault ≡ None }
+        ensures grows { GoesOn (L.story self.old.link) (L.story self.new.link) }
+        ensures fault { IfErr result (λ fault. self.new.fault ≡ Some fault) }
+        ensures stands { OnOk result (self.new.fault ≡ None) }
+        ensures run { SameRun self.old self.new }
+        ensures log { self.new.log ≡ self.old.log }
+    {
+        let now = self.tunnel.now();
+        if self.closing().asks(now) {
+            self.leave(now)
+        } else {
+            self.listen()
+        }
+    }
+
+    /// Asks to end the channel.
+    fn leave(&mut self, now: u64) -> Result<Finished, HubFault>
+        requires stands { self.old.fault ≡ None }
+        ensures grows { GoesOn (L.story self.old.link) (L.story self.new.link) }
+        ensures fault { IfErr result (λ fault. self.new.fault ≡ Some fault) }
+        ensures stands { OnOk result (self.new.fault ≡ None) }
+        ensures run { SameRun self.old self.new }
+        ensures log { self.new.log ≡ self.old.log }
+    {
+        if self.tunnel.leave()? {
+            self.work.asked(now);
+            return Ok(Finished::Going);
+        }
+        Ok(Finished::Over)
+    }
+
+    /// Makes one poll.
+    fn listen(&mut self) -> Result<Finished, HubFault>
+        requires stands { self.old.fault ≡ None }
+        ensures grows { GoesOn (L.story self.old.link) (L.story self.new.link) }
+        ensures fault { IfErr result (λ fault. self.new.fault ≡ Some fault) }
+        ensures stands { OnOk result (self.new.fault ≡ None) }
+        ensures run { SameRun self.old self.new }
+        ensures log { self.new.log ≡ self.old.log }
+    {
+        let polled = self.poll()?;
+        if polled.got {
+            let now = self.tunnel.now();
+            self.work.closing = Some(self.closing().got(now));
+        }
+        match polled.heard {
+            Some(indication) => Ok(Finished::Heard(indication)),
+            None if self.is_over() => Ok(Finished::Over),
+            None => Ok(Finished::Going),
+        }
+    }
+
+    /// How far the closing is, which begins with the first call.
+    fn closing(&mut self) -> Closing
+        requires stands { self.old.fault ≡ None }
+        ensures link { self.new.link ≡ self.old.link }
+        ensures run { SameRun self.old self.new }
+        ensures log { self.new.log ≡ self.old.log }
+        ensures stands { self.new.fault ≡ None }
+    {
+        match self.work.closing {
+            Some(closing) => closing,
+            None => {
+                let closing = Closing::begin(self.tunnel.now());
+                self.work.closing = Some(closing);
+                closing
+            }
+        }
+    }
+
+    /// Whether the closing is over.
+    fn is_over(&mut self) -> bool
+        requires stands { self.old.fault ≡ None }
+        ensures link { self.new.link ≡ self.old.link }
+        ensures run { SameRun self.old self.new }
+        ensures log { self.new.log ≡ self.old.log }
+        ensures stands { self.new.fault ≡ None }
+    {
+        let now = self.tunnel.now();
+        let is_open = self.tunnel.is_open();
+        self.closing().is_over(is_open, now)
+    }
+}

@@ -1,0 +1,159 @@
+//! The hub.
+
+mod finish;
+mod group;
+mod pump;
+mod turn;
+
+ghost use Rattle.std.specs.Prelude.{◌≡◌, ◌≤◌, ◌<◌, ◌+◌, ◌-◌, ◌^◌, min, length, map, reverse, List, [], IfOk, IfErr, Some, None};
+ghost use Rattle.line_model.specs.Log.{Job, IsLog, OneDownloaderPerDevice};
+ghost use Rattle.hub_core.specs.Books.{AreJobsOf};
+ghost use Rattle.hub_core.specs.Seen.{SameRun};
+ghost use Rattle.hub_core.specs.declared.job.HubJob.{HubJob as JobOfHub};
+ghost use Rattle.tunnel_link.specs.Goes.{Keeps};
+ghost use Rattle.std.specs.List.{AllByRecursion};
+ghost use Rattle.line_model.specs.LinkStory.{IsNewLink};
+ghost use Rattle.hub_core.specs.Requests.{IsTurnInRange};
+
+use crate::end::HubEnd;
+use crate::job::HubJob;
+use crate::work::Work;
+use device_reservation::one_downloader_per_device;
+use knx_model::{List, NoMemory};
+use line_model::{GroupTurn, HubFault, Link};
+use std::alloc::Global;
+use std::marker::Model;
+use tunnel_link::Tunnel;
+
+/// All jobs of a line and its group telegrams over one tunnel.
+///
+/// ```text
+///   worker:        turn(w), and pump where it answers Wait or Later
+///   group thread:  send_group(k), and pump where it answers Wait
+///   at the end:    finish, until it answers Over
+/// ```
+///
+/// After a fault each later call answers that fault, and nothing more is done on the link.
+#[derive(Drop)]
+pub struct Hub<L: Link> {
+    tunnel: Tunnel<L>,
+    work: Work,
+    /// A channel was open.
+    met: bool,
+    missed: u64,
+}
+
+impl<L: Link> Model for Hub<L> {
+    ghost use Rattle.hub_core.specs.Seen.{Seen};
+
+    ghost Value = { Seen L };
+
+    ghost use Rattle.hub_core.specs.Keeps.{Keeps};
+
+    ghost view = { λ h. record { link = h.tunnel.link; devices = h.work.reservation.devices; turns = h.work.telegrams.turns; log = h.work.journal; fault = h.tunnel.known.fault; missed = h.missed } };
+
+    ghost invariant = { λ h. Keeps (L.place h.tunnel.link) h.work h.tunnel.known.fault };
+}
+
+impl<L: Link> Hub<L> {
+    /// A hub for these jobs and group telegrams, with 1 to 8 workers, over a link on which nothing was done. It takes all memory of the hub, and
+    /// does nothing on the link. For want of memory the link is handed back.
+    pub fn begin(
+        alloc: Global,
+        jobs: List<HubJob>,
+        groups: List<GroupTurn>,
+        workers: u8,
+        link: L,
+    ) -> Result<Hub<L>, (L, NoMemory)>
+        requires some_worker { 1 ≤ workers }
+        requires few_workers { workers ≤ 8 }
+        requires few_jobs { length jobs < 4294967296 }
+        requires few_groups { length groups < 4294967296 }
+        requires sendable { AllByRecursion IsTurnInRange groups }
+        requires new { IsNewLink (L.story link) }
+        ensures link { IfOk result (λ hub. hub.link ≡ link) }
+        ensures devices { IfOk result (λ hub. hub.devices ≡ map (λ (j : JobOfHub). j.device) jobs) }
+        ensures turns { IfOk result (λ hub. hub.turns ≡ groups) }
+        ensures log { IfOk result (λ hub. hub.log ≡ []) }
+        ensures fault { IfOk result (λ hub. hub.fault ≡ None) }
+        ensures missed { IfOk result (λ hub. hub.missed ≡ 0) }
+        ensures handed_back { IfErr result (λ e. e.0 ≡ link) }
+    {
+        match Work::new(alloc, jobs, groups, workers) {
+            Ok(work) => Ok(Hub {
+                tunnel: Tunnel::begin(link),
+                work,
+                met: false,
+                missed: 0,
+            }),
+            Err(no_memory) => Err((link, no_memory)),
+        }
+    }
+
+    /// One indication more was missed.
+    pub fn missed(&mut self)
+        ensures link { self.new.link ≡ self.old.link }
+        ensures fault { self.new.fault ≡ self.old.fault }
+        ensures run { SameRun self.old self.new }
+        ensures log { self.new.log ≡ self.old.log }
+        ensures missed { self.new.missed ≡ min (self.old.missed + 1) (2 ^ 64 - 1) }
+    {
+        self.missed = self.missed.saturating_add(1);
+    }
+
+    /// Hands the link back, and what is told of the run.
+    pub fn close(self) -> HubEnd<L>
+        ensures link { result.link ≡ self.link }
+        ensures fault { result.fault ≡ self.fault }
+        ensures log { result.log ≡ reverse self.log }
+        ensures missed { result.missed ≡ self.missed }
+    {
+        let Hub {
+            tunnel,
+            work,
+            met: _,
+            missed,
+        } = self;
+        let dropped = tunnel.dropped();
+        let fault = tunnel.fault();
+        HubEnd {
+            link: tunnel.end(),
+            log: work.into_log(),
+            missed,
+            dropped,
+            fault,
+        }
+    }
+
+    /// What its type keeps: what its link tells is legal; and the log is one of these jobs and telegrams, with one downloader for each device. The jobs are
+    /// any of its devices.
+    pub fn keeps(&self)
+        ensures legal { Keeps (L.story self.now.link) }
+        ensures form { (jobs : List Job) → AreJobsOf self.now.devices jobs → IsLog jobs self.now.turns (L.place self.now.link) self.now.log }
+        ensures alone { (jobs : List Job) → AreJobsOf self.now.devices jobs → OneDownloaderPerDevice jobs self.now.log }
+    {
+        one_downloader_per_device();
+        let _work = &self.work;
+        self.tunnel.keeps();
+    }
+
+    /// There was no memory.
+    fn out_of_memory(&mut self, no_memory: NoMemory) -> HubFault
+        ensures link { self.new.link ≡ self.old.link }
+        ensures fault { self.new.fault ≡ Some result }
+        ensures run { SameRun self.old self.new }
+        ensures log { self.new.log ≡ self.old.log }
+    {
+        self.fail(HubFault::NoMemory(no_memory))
+    }
+
+    /// The run ends so.
+    fn fail(&mut self, fault: HubFault) -> HubFault
+        ensures link { self.new.link ≡ self.old.link }
+        ensures fault { self.new.fault ≡ Some result }
+        ensures run { SameRun self.old self.new }
+        ensures log { self.new.log ≡ self.old.log }
+    {
+        self.tunnel.fail(fault)
+    }
+}

@@ -1,0 +1,47 @@
+-- How a link's story goes on, and what a client's end of a tunnel keeps of it: the start stays, the entries or the events that there were are a
+-- tail, and what is added is legal.
+use Rattle.std.specs.Prelude.{◌≡◌, List, ◌++◌, None, true}
+use Rattle.line_model.specs.Tunnel.{Commissions}
+use Rattle.line_model.specs.World.{World, Event}
+use Rattle.line_model.specs.Legal.{IsLegal}
+use Rattle.line_model.specs.Fresh.{IsFresh}
+use Rattle.line_model.specs.Record.{Entry}
+use Rattle.line_model.specs.LinkStory.{Story, Untold, Recorded, Full}
+use Rattle.line_model.specs.ClientEnd.{Idle}
+use Rattle.tunnel_link.specs.declared.known.Known.{Known}
+use Rattle.tunnel_link.specs.declared.tries.Tries.TheVariants.{Zero}
+
+-- ---- a story goes on from the one before
+
+abbrev pub GoesOn : Story → Story → Type 0
+GoesOn Untold after = after ≡ Untold
+GoesOn (Recorded r) after = (more : List Entry) × (after ≡ Recorded (more ++ r))
+GoesOn (Full start events) after = (more : List Event) × (after ≡ Full start (more ++ events))
+
+-- ---- what is kept of it
+
+-- the events are legal, from a fresh start
+pub record IsLegalRun (start : World) (events : List Event) : Type 0 where
+  pub fresh : IsFresh start
+  pub legal : IsLegal Commissions start events
+
+abbrev pub Keeps : Story → Type 0
+Keeps Untold = Unit {0}
+Keeps (Recorded r) = Unit {0}
+Keeps (Full start events) = IsLegalRun start events
+
+-- it goes on so, and legally
+pub record Goes (before after : Story) : Type 0 where
+  pub on : GoesOn before after
+  pub keeps : Keeps before → Keeps after
+
+-- ---- what the client knows at first
+
+abbrev pub new_known : Known
+new_known = record { channel = Idle; flight = record { acknowledged = None; confirmed = true }; tries = Zero; dropped = 0; taken = 0; fault = None }
+
+-- ---- what contracts see of a client's end of a tunnel over a link
+
+pub record Seen (L : Type 0) : Type 0 where
+  pub link : L
+  pub known : Known

@@ -1,0 +1,65 @@
+//! What a poll brought, and what became of the channel.
+
+use knx_model::{Datagram, IndAddr, Ldata};
+
+/// What became of the channel.
+#[derive(Clone, Copy, Debug, Drop, PartialEq, Eq)]
+pub enum Loss {
+    /// It wasn't lost.
+    Stays,
+    /// It was lost, and the gateway isn't told: it ended the channel itself.
+    Ended,
+    /// It was lost, and the gateway was told by a disconnect request.
+    Told,
+}
+
+/// What a poll brought.
+#[derive(Drop)]
+pub struct Came {
+    pub what: What,
+    /// What became of the channel in it, after what came.
+    pub loss: Loss,
+}
+
+/// What a poll brought, and the datagram that is to be sent at once.
+#[derive(Drop)]
+pub struct Answer {
+    pub what: What,
+    pub loss: Loss,
+    pub sends: Option<Datagram>,
+}
+
+/// What was got in a poll.
+#[derive(Drop)]
+pub enum What {
+    /// The wait ended without a datagram.
+    Quiet,
+    /// A datagram that acts on nothing.
+    Dropped,
+    /// A datagram that is for the tunnel alone.
+    Tunnel,
+    /// The response that opened a channel, with the individual address of the tunnel.
+    Up { tunnel: IndAddr },
+    /// The gateway's next request, with this frame of the link layer.
+    Frame(Ldata),
+}
+
+impl Answer {
+    /// This was got, and no more is to be done.
+    pub fn only(what: What) -> Answer {
+        Answer {
+            what,
+            loss: Loss::Stays,
+            sends: None,
+        }
+    }
+
+    /// This was got, and a datagram is to be sent.
+    pub fn with(what: What, datagram: Datagram) -> Answer {
+        Answer {
+            what,
+            loss: Loss::Stays,
+            sends: Some(datagram),
+        }
+    }
+}

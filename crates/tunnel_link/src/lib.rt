@@ -1,0 +1,21 @@
+//! The client's end of a tunnel over a link (ISO 22510, Core and Tunnelling): the part of a hub that knows of no job. It sends what the
+//! channel asks for, takes what comes, keeps the one place in flight, and counts the tries and the datagrams that are dropped. Its type keeps
+//! that all it did on the link was right.
+#![tactic(auto)]
+
+mod acted;
+mod came;
+mod flight;
+mod frames;
+mod known;
+mod sending;
+mod tries;
+mod tunnel;
+
+pub use acted::Acted;
+pub use came::{Answer, Came, Loss, What};
+pub use flight::Flight;
+pub use known::Known;
+pub use line_model::{HubFault, Link, LinkFault, Polled, Try};
+pub use tries::Tries;
+pub use tunnel::Tunnel;
