@@ -11,10 +11,10 @@ ghost use Rattle.bus_sim.specs.RunNow.{Calls, owed_in, seen};
 ghost use Rattle.bus_sim.specs.Turns.{Gets, Happens};
 ghost use Rattle.bus_sim.specs.Went.{IsRight, Stays};
 
-use crate::limits::past_all_memory;
 use crate::owed::Owed;
 use crate::run::Run;
-use knx_model::{Datagram, NoMemory};
+use crate::stopped::Stopped;
+use knx_model::{Datagram};
 
 impl Run {
     /// What the script calls for first.
@@ -25,14 +25,14 @@ impl Run {
     }
 
     /// The client's datagram of a number comes to the gateway again.
-    pub fn deliver_again(&mut self, number: u64) -> Result<(), NoMemory>
+    pub fn deliver_again(&mut self, number: u64) -> Result<(), Stopped>
         requires { Calls (seen self.old) (model.DeliverAgain number) }
         ensures happens { OnOk result (Happens self.old self.new) }
         ensures err { OnErr result (Stays self.old self.new) }
     {
         match self.again_up(number) {
             Some(age) => self.deliver_up(age),
-            None => Err(past_all_memory(self.alloc)),
+            None => Err(Stopped::AtEnd),
         }
     }
 
@@ -45,14 +45,14 @@ impl Run {
     }
 
     /// The gateway's datagram of a number comes to the client again.
-    pub fn reach_again(&mut self, number: u64) -> Result<Datagram, NoMemory>
+    pub fn reach_again(&mut self, number: u64) -> Result<Datagram, Stopped>
         requires { Calls (seen self.old) (model.ReachAgain number) }
         ensures gets { IfOk result (λ octets. Gets octets self.old self.new) }
         ensures err { OnErr result (Stays self.old self.new) }
     {
         match self.again_down(number) {
             Some(age) => self.down(age),
-            None => Err(past_all_memory(self.alloc)),
+            None => Err(Stopped::AtEnd),
         }
     }
 
@@ -65,7 +65,7 @@ impl Run {
     }
 
     /// A device takes its last frame again.
-    pub fn frame_again(&mut self, device: u16) -> Result<(), NoMemory>
+    pub fn frame_again(&mut self, device: u16) -> Result<(), Stopped>
         requires { Calls (seen self.old) (model.BringAgain device) }
         ensures happens { OnOk result (Happens self.old self.new) }
         ensures err { OnErr result (Stays self.old self.new) }
@@ -73,7 +73,7 @@ impl Run {
         if self.can_repeat(device) {
             self.bring_again(device)
         } else {
-            Err(past_all_memory(self.alloc))
+            Err(Stopped::AtEnd)
         }
     }
 
@@ -84,7 +84,7 @@ impl Run {
     }
 
     /// The power of a device returns.
-    pub fn power_again(&mut self, device: u16) -> Result<(), NoMemory>
+    pub fn power_again(&mut self, device: u16) -> Result<(), Stopped>
         requires { Calls (seen self.old) (model.PowerReturns device) }
         ensures happens { OnOk result (Happens self.old self.new) }
         ensures err { OnErr result (Stays self.old self.new) }
@@ -92,12 +92,12 @@ impl Run {
         if self.has(device) {
             self.power_returns(device)
         } else {
-            Err(past_all_memory(self.alloc))
+            Err(Stopped::AtEnd)
         }
     }
 
     /// The connection of a device closes.
-    pub fn connection_closes(&mut self, device: u16) -> Result<(), NoMemory>
+    pub fn connection_closes(&mut self, device: u16) -> Result<(), Stopped>
         requires { Calls (seen self.old) (model.ConnectionCloses device) }
         ensures happens { OnOk result (Happens self.old self.new) }
         ensures err { OnErr result (Stays self.old self.new) }
@@ -105,7 +105,7 @@ impl Run {
         if self.has(device) {
             self.dev_close(device)
         } else {
-            Err(past_all_memory(self.alloc))
+            Err(Stopped::AtEnd)
         }
     }
 
@@ -121,7 +121,7 @@ impl Run {
     }
 
     /// The channel closes.
-    pub fn channel_closes(&mut self) -> Result<(), NoMemory>
+    pub fn channel_closes(&mut self) -> Result<(), Stopped>
         requires { Calls (seen self.old) model.ChannelCloses }
         ensures happens { OnOk result (Happens self.old self.new) }
         ensures err { OnErr result (Stays self.old self.new) }
@@ -129,7 +129,7 @@ impl Run {
         if self.has_channel() {
             self.gw_close()
         } else {
-            Err(past_all_memory(self.alloc))
+            Err(Stopped::AtEnd)
         }
     }
 

@@ -95,24 +95,13 @@ impl SimBus {
         }
     }
 
-    /// The run, which begins where none was loaded.
-    fn begun(&mut self) -> Result<(), NoMemory>
-        ensures { self.new ≡ self.old }
+    /// The run, to be driven; None where none was loaded.
+    pub fn into_run(self) -> Option<Run>
+        ensures { self ≡ bus_of result }
     {
-        if self.run.is_none() {
-            let begun = Beginning {
-                tunnel: DEFAULT_TUNNEL,
-                devices: List::new(self.alloc),
-                script: List::new(self.alloc),
-            };
-            self.run = Some(Run::begin(self.alloc, begun)?);
-        }
-        Ok(())
+        self.run
     }
 }
-
-/// The tunnel's address where there is no project: 1.1.255.
-const DEFAULT_TUNNEL: IndAddr = IndAddr { raw: 0x11FF };
 
 /// A run that can begin, or the refusal of the first line that names a stranger.
 #[derive(Drop)]
@@ -145,56 +134,5 @@ fn want_of(want: NoMemory) -> Refused
     Refused {
         line: 0,
         why: Why::NoMemory(want),
-    }
-}
-
-impl Link for SimBus {
-    ghost use Rattle.std.specs.Prelude.{length};
-    ghost use Rattle.bus_sim.specs.RunNow.{story, time};
-
-    ghost story = { story };
-
-    ghost clock = { time };
-
-    ghost place = { λ b. length b.events };
-
-    ghost faults = { λ b. 0 };
-
-    fn send(&mut self, octets: &[u8]) -> Result<(), LinkFault> {
-        self.begun()?;
-        match &mut self.run {
-            Some(run) => Ok(run.send(octets)?),
-            None => Err(LinkFault::NoMemory(past_all_memory(self.alloc))),
-        }
-    }
-
-    fn renew(&mut self) -> Result<(), LinkFault> {
-        self.begun()?;
-        match &mut self.run {
-            Some(run) => Ok(run.renew()?),
-            None => Err(LinkFault::NoMemory(past_all_memory(self.alloc))),
-        }
-    }
-
-    fn poll(&mut self, into: &mut [u8; 512], wait_ms: u32) -> Result<Polled, LinkFault> {
-        self.begun()?;
-        match &mut self.run {
-            Some(run) => Ok(run.poll(into, wait_ms)?),
-            None => Err(LinkFault::NoMemory(past_all_memory(self.alloc))),
-        }
-    }
-
-    fn now(&self) -> u64 {
-        match &self.run {
-            Some(run) => run.now(),
-            None => 0,
-        }
-    }
-
-    fn at(&self) -> u64 {
-        match &self.run {
-            Some(run) => run.events.len(),
-            None => 0,
-        }
     }
 }

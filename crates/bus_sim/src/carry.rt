@@ -19,7 +19,8 @@ use crate::happened::Happened;
 use crate::owed::{Caused, NOTHING, Owed};
 use crate::room::make_room;
 use crate::run::Run;
-use knx_model::{IndAddr, Ldata, NoMemory, WriteKind};
+use crate::stopped::Stopped;
+use knx_model::{IndAddr, Ldata, WriteKind};
 
 /// How the client's frame goes over the bus.
 #[derive(Clone, Copy, Debug, Drop, PartialEq, Eq)]
@@ -34,7 +35,7 @@ pub enum Carriage {
 
 impl Run {
     /// The client's frame goes over the bus as the script wants it. At `Err` nothing has happened.
-    pub fn carry(&mut self, frame: &Ldata) -> Result<(), NoMemory>
+    pub fn carry(&mut self, frame: &Ldata) -> Result<(), Stopped>
         requires due { Some frame.now ≡ next_frame (world self.old) }
         requires free { NothingCalled (seen self.old) }
         ensures went { OnOk result (Went self.old (carried self.old frame.now) self.new) }
@@ -90,7 +91,7 @@ impl Run {
     }
 
     /// It goes whole, lost for one device or for none.
-    fn bus(&mut self, frame: &Ldata, lost: Option<u16>) -> Result<(), NoMemory>
+    fn bus(&mut self, frame: &Ldata, lost: Option<u16>) -> Result<(), Stopped>
         requires due { Some frame.now ≡ next_frame (world self.old) }
         requires free { NothingCalled (seen self.old) }
         requires so { Bus (option_to_list lost) ≡ carried self.old frame.now }
@@ -98,7 +99,7 @@ impl Run {
         ensures right { OnOk result (IsRight self.old (Bus (option_to_list lost))) }
         ensures err { OnErr result (Stays self.old self.new) }
     {
-        make_room(self.alloc, &mut self.events, &mut self.owed, &self.line, 0)?;
+        make_room(&mut self.events, &mut self.owed, &self.line, 0)?;
         self.line.names();
         let device = frame.destination;
         let comes = comes_to(frame, lost);
@@ -128,7 +129,7 @@ impl Run {
     }
 
     /// The device that it is for takes it torn, after so many octets of the write.
-    fn bus_torn(&mut self, frame: &Ldata, k: u32) -> Result<(), NoMemory>
+    fn bus_torn(&mut self, frame: &Ldata, k: u32) -> Result<(), Stopped>
         requires due { Some frame.now ≡ next_frame (world self.old) }
         requires write { is_some (write_due self.old.line) ≡ true }
         requires free { NothingCalled (seen self.old) }
@@ -138,9 +139,7 @@ impl Run {
         ensures err { OnErr result (Stays self.old self.new) }
     {
         let octets = self.line.torn_octets(self.alloc, k)?;
-        make_room(
-            self.alloc,
-            &mut self.events,
+        make_room(&mut self.events,
             &mut self.owed,
             &self.line,
             octets.len(),
@@ -167,7 +166,7 @@ impl Run {
     }
 
     /// The device that it is for takes it over worn memory.
-    fn bus_worn(&mut self, frame: &Ldata) -> Result<(), NoMemory>
+    fn bus_worn(&mut self, frame: &Ldata) -> Result<(), Stopped>
         requires due { Some frame.now ≡ next_frame (world self.old) }
         requires write { write_due self.old.line ≡ Some Memory }
         requires free { NothingCalled (seen self.old) }
@@ -177,9 +176,7 @@ impl Run {
         ensures err { OnErr result (Stays self.old self.new) }
     {
         let octets = self.line.worn_octets();
-        make_room(
-            self.alloc,
-            &mut self.events,
+        make_room(&mut self.events,
             &mut self.owed,
             &self.line,
             octets.len(),

@@ -7,17 +7,15 @@ ghost use Rattle.bus_sim.specs.Went.{Stays, Went};
 use crate::happened::Happened;
 use crate::room::make_room;
 use crate::run::Run;
-use knx_model::NoMemory;
+use crate::stopped::Stopped;
 
 impl Run {
     /// The client sends a datagram. At `Err` nothing has happened.
-    pub fn send(&mut self, octets: &[u8]) -> Result<(), NoMemory>
+    pub fn send(&mut self, octets: &[u8]) -> Result<(), Stopped>
         ensures went { OnOk result (Went self.old (Send octets.now) self.new) }
         ensures err { OnErr result (Stays self.old self.new) }
     {
-        make_room(
-            self.alloc,
-            &mut self.events,
+        make_room(&mut self.events,
             &mut self.owed,
             &self.line,
             octets.len(),
@@ -30,11 +28,11 @@ impl Run {
     }
 
     /// The client takes the next endpoint. At `Err` nothing has happened.
-    pub fn renew(&mut self) -> Result<(), NoMemory>
+    pub fn renew(&mut self) -> Result<(), Stopped>
         ensures went { OnOk result (Went self.old Renew self.new) }
         ensures err { OnErr result (Stays self.old self.new) }
     {
-        make_room(self.alloc, &mut self.events, &mut self.owed, &self.line, 0)?;
+        make_room(&mut self.events, &mut self.owed, &self.line, 0)?;
         self.line.renew();
         self.owed.wait(&self.line);
         self.events.push(Happened::Renew, &[]);

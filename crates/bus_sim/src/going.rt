@@ -15,12 +15,12 @@ ghost use Rattle.bus_sim.specs.Went.{Stays, world};
 
 use crate::run::Run;
 use crate::turn::Turn;
-use knx_model::NoMemory;
+use crate::stopped::Stopped;
 use line_sim::{Due, what_is_settled};
 
 impl Run {
     /// Nothing is called for.
-    pub fn go_on(&mut self, left: u32) -> Result<Turn, NoMemory>
+    pub fn go_on(&mut self, left: u32) -> Result<Turn, Stopped>
         requires time { now (world self.old) + left ≤ last_time }
         requires free { NothingCalled (seen self.old) }
         ensures turns { IfOk result (λ turn. Turns turn left self.old self.new) }
@@ -33,7 +33,7 @@ impl Run {
     }
 
     /// And no datagram goes to the client.
-    fn go_on_up(&mut self, left: u32) -> Result<Turn, NoMemory>
+    fn go_on_up(&mut self, left: u32) -> Result<Turn, Stopped>
         requires time { now (world self.old) + left ≤ last_time }
         requires free { NothingCalled (seen self.old) }
         requires down { next_down Commissions (world self.old) ≡ None }
@@ -50,7 +50,7 @@ impl Run {
     }
 
     /// And none to the gateway.
-    fn go_on_bus(&mut self, left: u32) -> Result<Turn, NoMemory>
+    fn go_on_bus(&mut self, left: u32) -> Result<Turn, Stopped>
         requires time { now (world self.old) + left ≤ last_time }
         requires free { NothingCalled (seen self.old) }
         requires down { next_down Commissions (world self.old) ≡ None }
@@ -68,7 +68,7 @@ impl Run {
     }
 
     /// And no frame waits for the bus.
-    fn go_on_gateway(&mut self, left: u32) -> Result<Turn, NoMemory>
+    fn go_on_gateway(&mut self, left: u32) -> Result<Turn, Stopped>
         requires time { now (world self.old) + left ≤ last_time }
         requires free { NothingCalled (seen self.old) }
         requires down { next_down Commissions (world self.old) ≡ None }
@@ -91,7 +91,7 @@ impl Run {
     }
 
     /// And the gateway has nothing to send: a device sends, or time passes.
-    fn at_devices(&mut self, left: u32) -> Result<Turn, NoMemory>
+    fn at_devices(&mut self, left: u32) -> Result<Turn, Stopped>
         requires time { now (world self.old) + left ≤ last_time }
         requires free { NothingCalled (seen self.old) }
         requires down { next_down Commissions (world self.old) ≡ None }
@@ -114,7 +114,7 @@ impl Run {
     }
 
     /// Nothing but time can go on: it passes until something is due, or the wait is over.
-    fn let_pass(&mut self, left: u32) -> Result<Turn, NoMemory>
+    fn let_pass(&mut self, left: u32) -> Result<Turn, Stopped>
         requires time { now (world self.old) + left ≤ last_time }
         requires free { NothingCalled (seen self.old) }
         requires settled { Settled Commissions (world self.old) }

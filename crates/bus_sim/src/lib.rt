@@ -1,5 +1,5 @@
-//! The simulated line as a link: a whole line in memory, gateway, bus and devices, that loses, repeats, tears, wears, closes and cuts just where a
-//! script says so, and that a hub drives as it drives a socket.
+//! A run of the simulated line: a whole line in memory, gateway, bus and devices, that loses, repeats, tears, wears, closes and cuts just where a
+//! script says so, and that a client drives datagram by datagram.
 #![tactic(auto)]
 
 mod again;
@@ -13,18 +13,20 @@ mod deliver;
 mod events;
 mod going;
 mod happened;
-mod limits;
 mod nexts;
 mod owed;
 mod poll;
 mod room;
 mod run;
 mod sends;
+mod stopped;
 #[cfg(test)]
 mod tests;
 mod turn;
 
 pub use bus::SimBus;
-pub use line_model::{Link, LinkFault, Polled};
+pub use line_model::Polled;
 pub use line_sim::{Device, IndAddr, NoMemory};
+pub use run::Run;
 pub use script_text::{Refused, Script};
+pub use stopped::Stopped;

@@ -21,7 +21,8 @@ ghost use Rattle.bus_sim.specs.Went.{IsRight, Stays, world};
 
 use crate::run::Run;
 use crate::turn::Turn;
-use knx_model::{Ldata, NoMemory, Sending};
+use crate::stopped::Stopped;
+use knx_model::{Ldata, Sending};
 use line_sim::{Due, what_is_due_is_allowed};
 
 impl Run {
@@ -35,7 +36,7 @@ impl Run {
     }
 
     /// The gateway's datagram that goes next is lost, or the client gets it.
-    pub fn next_down(&mut self, age: usize) -> Result<Turn, NoMemory>
+    pub fn next_down(&mut self, age: usize) -> Result<Turn, Stopped>
         requires free { NothingCalled (seen self.old) }
         requires next { next_down Commissions (world self.old) ≡ Some age }
         requires deliverable { OfSent IsDeliverable (slice_get self.old.line.tunnel.down.kept age) }
@@ -71,7 +72,7 @@ impl Run {
     }
 
     /// The client's datagram that goes next is lost, or delivered.
-    pub fn next_up(&mut self, age: usize) -> Result<(), NoMemory>
+    pub fn next_up(&mut self, age: usize) -> Result<(), Stopped>
         requires free { NothingCalled (seen self.old) }
         requires next { next_up (world self.old) ≡ Some age }
         requires deliverable { OfSent IsDeliverable (slice_get self.old.line.tunnel.up.kept age) }
@@ -104,7 +105,7 @@ impl Run {
     }
 
     /// It goes over the bus.
-    pub fn next_frame(&mut self, frame: &Ldata) -> Result<(), NoMemory>
+    pub fn next_frame(&mut self, frame: &Ldata) -> Result<(), Stopped>
         requires free { NothingCalled (seen self.old) }
         requires due { Some frame.now ≡ next_frame (world self.old) }
         ensures happens { OnOk result (Happens self.old self.new) }
@@ -121,7 +122,7 @@ impl Run {
     }
 
     /// The gateway sends its outstanding request again.
-    pub fn gateway_repeats(&mut self) -> Result<(), NoMemory>
+    pub fn gateway_repeats(&mut self) -> Result<(), Stopped>
         requires free { NothingCalled (seen self.old) }
         requires due { due_of (gateway_expired (world self.old).tunnel.gateway (now (world self.old))) ≡ due.Repeat }
         ensures happens { OnOk result (Happens self.old self.new) }
@@ -132,7 +133,7 @@ impl Run {
     }
 
     /// It closes its channel.
-    pub fn gateway_closes(&mut self) -> Result<(), NoMemory>
+    pub fn gateway_closes(&mut self) -> Result<(), Stopped>
         requires free { NothingCalled (seen self.old) }
         requires due { due_of (gateway_expired (world self.old).tunnel.gateway (now (world self.old))) ≡ due.Closed }
         ensures happens { OnOk result (Happens self.old self.new) }
@@ -152,7 +153,7 @@ impl Run {
     }
 
     /// It sends it.
-    pub fn device_sends(&mut self, device: u16, sending: Sending) -> Result<(), NoMemory>
+    pub fn device_sends(&mut self, device: u16, sending: Sending) -> Result<(), Stopped>
         requires free { NothingCalled (seen self.old) }
         requires found { sending_at ((world self.old).devices device) (now (world self.old)) ≡ Some sending }
         requires repeats { sending ≡ Repeat → IsDue self.old.line.devices device self.old.line.tunnel.now }

@@ -6,20 +6,20 @@ ghost use Rattle.line_model.specs.World.{now};
 ghost use Rattle.bus_sim.specs.Polls.{PolledSo, EndedSo, GoesOnFrom};
 ghost use Rattle.bus_sim.specs.Went.{world};
 
-use crate::limits::past_all_memory;
 use crate::run::Run;
 use crate::turn::Turn;
-use knx_model::{Datagram, NoMemory};
+use crate::stopped::Stopped;
+use knx_model::{Datagram};
 use line_model::Polled;
 
 impl Run {
     /// The line goes on until the client gets a datagram, which stands in the buffer then, or so many milliseconds have passed.
-    pub fn poll(&mut self, into: &mut [u8; 512], wait_ms: u32) -> Result<Polled, NoMemory>
+    pub fn poll(&mut self, into: &mut [u8; 512], wait_ms: u32) -> Result<Polled, Stopped>
         ensures polled { IfOk result (λ polled. PolledSo polled into.new wait_ms self.old self.new) }
         ensures err { OnErr result (GoesOnFrom self.old self.new) }
     {
         if self.now() > u64::MAX - u64::from(wait_ms) {
-            return Err(past_all_memory(self.alloc));
+            return Err(Stopped::AtEnd);
         }
         match self.run_for(wait_ms)? {
             Some(octets) => Ok(Polled::Got(fill(into, &octets))),
@@ -36,7 +36,7 @@ impl Run {
     }
 
     /// What the client gets within so many milliseconds; None where it gets nothing, and they have passed.
-    fn run_for(&mut self, wait: u32) -> Result<Option<Datagram>, NoMemory>
+    fn run_for(&mut self, wait: u32) -> Result<Option<Datagram>, Stopped>
         requires { now (world self.old) + wait ≤ last_time }
         ensures ended { IfOk result (λ got. EndedSo got wait self.old self.new) }
         ensures err { OnErr result (GoesOnFrom self.old self.new) }

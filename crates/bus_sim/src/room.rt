@@ -7,23 +7,20 @@ ghost use Rattle.line_sim.specs.Line.{AreCounted, IsNow};
 ghost use Rattle.line_sim.specs.Tunnels.{greatest_endpoint};
 
 use crate::events::Events;
-use crate::limits::past_all_memory;
 use crate::owed::Owing;
-use knx_model::NoMemory;
+use crate::stopped::Stopped;
 use line_sim::Line;
-use std::alloc::Global;
 
 /// A run has fewer events than this.
 const MOST_EVENTS: u64 = 1 << 62;
 
 /// Takes memory for one more event, so many octets of its own, and what it may call for.
 pub fn make_room(
-    alloc: Global,
     events: &mut Events,
     owed: &mut Owing,
     line: &Line,
     octets: usize,
-) -> Result<(), NoMemory>
+) -> Result<(), Stopped>
     ensures events { events.new.list ≡ events.old.list }
     ensures owed { owed.new.list ≡ owed.old.list }
     ensures room { OnOk result (1 ≤ events.new.room) }
@@ -35,7 +32,7 @@ pub fn make_room(
     ensures few { OnOk result (length events.old.list + 1 < 2 ^ 62) }
 {
     if events.len() >= MOST_EVENTS - 1 || !line.can_count() {
-        return Err(past_all_memory(alloc));
+        return Err(Stopped::AtEnd);
     }
     events.reserve(octets)?;
     owed.reserve()?;

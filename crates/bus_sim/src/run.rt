@@ -18,13 +18,13 @@ use std::marker::Model;
 /// calls for.
 #[derive(Drop)]
 pub struct Run {
-    pub alloc: Global,
-    pub begun: Beginning,
-    pub events: Events,
-    pub index: ScriptIndex,
-    pub line: Line,
-    pub counts: Counts,
-    pub owed: Owing,
+    pub(crate) alloc: Global,
+    pub(crate) begun: Beginning,
+    pub(crate) events: Events,
+    pub(crate) index: ScriptIndex,
+    pub(crate) line: Line,
+    pub(crate) counts: Counts,
+    pub(crate) owed: Owing,
 }
 
 impl Model for Run {

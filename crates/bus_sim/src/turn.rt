@@ -8,10 +8,10 @@ ghost use Rattle.bus_sim.specs.RunNow.{Calls, seen};
 ghost use Rattle.bus_sim.specs.Turns.{Turns, Happens};
 ghost use Rattle.bus_sim.specs.Went.{Stays, world};
 
-use crate::limits::past_all_memory;
 use crate::owed::Owed;
 use crate::run::Run;
-use knx_model::{Datagram, NoMemory};
+use crate::stopped::Stopped;
+use knx_model::{Datagram};
 
 /// What a turn of the line was.
 #[derive(Drop)]
@@ -30,7 +30,7 @@ impl Run {
     /// One turn of the line, while so much of a wait is left. What the script calls for goes first; then a datagram to the client, one to the
     /// gateway, a frame that waits for the bus, what the gateway has due, and the device with the least address that has something to send.
     /// Where there is none of these, time passes, until something is due or the wait is over. At `Err` nothing has happened.
-    pub fn turn(&mut self, left: u32) -> Result<Turn, NoMemory>
+    pub fn turn(&mut self, left: u32) -> Result<Turn, Stopped>
         requires { now (world self.old) + left ≤ last_time }
         ensures turns { IfOk result (λ turn. Turns turn left self.old self.new) }
         ensures err { OnErr result (Stays self.old self.new) }
@@ -42,7 +42,7 @@ impl Run {
     }
 
     /// What the script calls for happens.
-    fn meet(&mut self, owed: Owed) -> Result<Turn, NoMemory>
+    fn meet(&mut self, owed: Owed) -> Result<Turn, Stopped>
         requires { Calls (seen self.old) (meant owed) }
         ensures turns { IfOk result (λ turn. (left : ℕ) → Turns turn left self.old self.new) }
         ensures err { OnErr result (Stays self.old self.new) }
@@ -54,7 +54,7 @@ impl Run {
     }
 
     /// What the script calls for happens at once, and the client gets nothing.
-    fn meet_other(&mut self, owed: Owed) -> Result<Turn, NoMemory>
+    fn meet_other(&mut self, owed: Owed) -> Result<Turn, Stopped>
         requires { Calls (seen self.old) (meant owed) }
         ensures turns { IfOk result (λ turn. (left : ℕ) → Turns turn left self.old self.new) }
         ensures err { OnErr result (Stays self.old self.new) }
@@ -64,14 +64,14 @@ impl Run {
     }
 
     /// The same, but for what the client gets, which doesn't happen here.
-    fn happen(&mut self, owed: Owed) -> Result<(), NoMemory>
+    fn happen(&mut self, owed: Owed) -> Result<(), Stopped>
         requires { Calls (seen self.old) (meant owed) }
         ensures happens { OnOk result (Happens self.old self.new) }
         ensures err { OnErr result (Stays self.old self.new) }
     {
         match owed {
             Owed::DeliverAgain(number) => self.deliver_again(number),
-            Owed::ReachAgain(_) => Err(past_all_memory(self.alloc)),
+            Owed::ReachAgain(_) => Err(Stopped::AtEnd),
             Owed::BringAgain(device) => self.frame_again(device),
             Owed::PowerReturns(device) => self.power_again(device),
             Owed::ConnectionCloses(device) => self.connection_closes(device),
