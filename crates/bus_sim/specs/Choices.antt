@@ -15,13 +15,11 @@ use Rattle.bus_sim.specs.declared.carry.Carriage.{Carriage}
 use Rattle.bus_sim.specs.declared.carry.Carriage.TheVariants.{Whole, Torn, Worn}
 use Rattle.bus_sim.specs.declared.deliver.Delivery.{Delivery}
 use Rattle.bus_sim.specs.declared.deliver.Delivery.TheVariants.{Taken, Refused}
-use Rattle.bus_sim.specs.declared.run.Run.{Run}
-use Rattle.bus_sim.specs.RunNow.{RunNow, start, script}
-use Rattle.bus_sim.specs.Went.{seen}
+use Rattle.bus_sim.specs.RunNow.{RunState, seen, start, script}
 
 -- ---- datagrams
 
-abbrev pub delivered : Run → ℕ → Event
+abbrev pub delivered : RunState → ℕ → Event
 delivered r age = delivery (script (seen r)) (start (seen r)) (seen r).events age
 
 abbrev pub event_so : Delivery → ℕ → Event
@@ -30,7 +28,7 @@ event_so (Refused status) age = UpRefused age status
 
 -- ---- frames of the client
 
-abbrev pub carried : Run → Ldata → Event
+abbrev pub carried : RunState → Ldata → Event
 carried r frame = carriage_of (script (seen r)) (start (seen r)) (seen r).events frame
 
 abbrev pub carried_so : Carriage → LineNow → Event
@@ -46,5 +44,5 @@ CanGo Worn n = write_due n ≡ Some Memory
 
 -- ---- frames of devices
 
-abbrev pub heard_so : Run → ℕ → AtGateway
+abbrev pub heard_so : RunState → ℕ → AtGateway
 heard_so r device = at_gateway (loses_from (script (seen r)) device (suc (frames_from device (start (seen r)) (seen r).events)))

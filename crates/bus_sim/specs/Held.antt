@@ -1,8 +1,7 @@
 -- What is held of a run beside its start and its events: the script's index, the line, the counts, and what the script calls for before anything
 -- else; each is what start and events say.
-use Rattle.std.specs.Prelude.{◌≡◌, ◌^◌, ◌<◌, List, length, None}
+use Rattle.std.specs.Prelude.{◌≡◌, ◌≢◌, ℕ, ◌^◌, ◌<◌, true, List, length, None}
 use Rattle.knx_model.specs.ScriptText.{are_script_lines, first_stranger}
-use Rattle.std.specs.Prelude.{true}
 use Rattle.line_model.specs.Owed.{Owed}
 use Rattle.line_model.specs.StartOf.{line_of}
 use Rattle.line_sim.specs.Line.{LineNow, IsNow}
@@ -26,5 +25,6 @@ pub record IsHeld (r : RunNow) (index : ScriptIndex) (line : LineNow) (counts : 
   pub counted : AreCounts counts (start r) r.events
   pub on_line : counts.line ≡ line_of r.begun.tunnel.raw
   pub called : owed ≡ owed_in r
+  pub placed : (address : ℕ) → line_of address ≢ counts.line → (world r).devices address ≡ None
   pub few : length r.events < 2 ^ 62
   pub keeps : Keeps r

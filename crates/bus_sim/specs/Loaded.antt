@@ -4,16 +4,14 @@ use Rattle.std.specs.Prelude.{◌≡◌, [], Option, Some, None}
 use Rattle.knx_model.specs.declared.refusal.Refused.{Refused}
 use Rattle.knx_model.specs.declared.refusal.Why.{Why}
 use Rattle.knx_model.specs.declared.refusal.Why.TheVariants.{NoMemory}
-use Rattle.bus_sim.specs.declared.run.Run.{Run}
 use Rattle.bus_sim.specs.Begun.{nothing_loaded}
-use Rattle.bus_sim.specs.RunNow.{RunNow}
-use Rattle.bus_sim.specs.Went.{seen}
+use Rattle.bus_sim.specs.RunNow.{RunNow, RunState, seen}
 
 -- before a run is loaded nothing has happened on a line without devices
 abbrev pub nothing_run : RunNow
 nothing_run = record { begun = nothing_loaded; events = [] }
 
-abbrev pub bus_of : Option Run → RunNow
+abbrev pub bus_of : Option RunState → RunNow
 bus_of None = nothing_run
 bus_of (Some r) = seen r
 

@@ -3,14 +3,12 @@ use Rattle.std.specs.Prelude.{◌≡◌, ℕ, ◌+◌, ◌≤◌, List, [], take
 use Rattle.line_model.specs.declared.outside.link.Polled.{Polled}
 use Rattle.line_model.specs.LinkStory.{GoesOn}
 use Rattle.line_model.specs.Polled.{PollsAs}
-use Rattle.bus_sim.specs.declared.run.Run.{Run}
-use Rattle.bus_sim.specs.RunNow.{start, story, time}
-use Rattle.bus_sim.specs.Went.{seen}
+use Rattle.bus_sim.specs.RunNow.{RunState, seen, start, story, time}
 
 -- the same run, with more events that are not the client's
-pub record GoesOnFrom (old new : Run) : Type 0 where
+pub record GoesOnFrom (old new : RunState) : Type 0 where
   pub same : new.begun ≡ old.begun
   pub goes : GoesOn (start (seen old)) (seen old).events (seen new).events
 
-abbrev pub PolledSo : Polled → List ℕ → ℕ → Run → Run → Type 0
+abbrev pub PolledSo : Polled → List ℕ → ℕ → RunState → RunState → Type 0
 PolledSo polled into wait old new = PollsAs polled into wait (time (seen new)) (story (seen old)) (story (seen new))

@@ -9,12 +9,22 @@ use Rattle.line_model.specs.Lines.{Script}
 use Rattle.line_model.specs.Owed.{Owed, owed}
 use Rattle.line_model.specs.Follows.{Follows, IsNext}
 use Rattle.line_model.specs.LinkStory.{Story, Full, IsForeign}
+use Rattle.line_sim.specs.Line.{LineNow}
 use Rattle.bus_sim.specs.Begun.{said, start_of}
 use Rattle.bus_sim.specs.declared.beginning.Beginning.{Beginning}
 
 pub record RunNow : Type 0 where
   pub begun : Beginning
   pub events : List Event
+
+-- a run with the line as it is held
+pub record RunState : Type 0 where
+  pub begun : Beginning
+  pub events : List Event
+  pub line : LineNow
+
+abbrev pub seen : RunState → RunNow
+seen r = record { begun = r.begun; events = r.events }
 
 abbrev pub start : RunNow → World
 start r = start_of r.begun

@@ -1,5 +1,14 @@
 //! The client's frames go over the bus.
 
+ghost use Rattle.std.specs.Prelude.{◌≡◌, [], Some, OnOk, OnErr, is_some, nat_lt, true, option_to_list};
+ghost use Rattle.knx_model.specs.declared.device.WriteKind.TheVariants.{Memory};
+ghost use Rattle.knx_model.specs.Device.{written_front};
+ghost use Rattle.knx_model.specs.DeviceFrames.{worn_octets};
+ghost use Rattle.line_model.specs.World.{Bus, BusTorn, BusWorn, next_frame};
+ghost use Rattle.line_sim.specs.Line.{effect_due, write_due};
+ghost use Rattle.bus_sim.specs.Went.{Stays, Went, IsRight, world};
+ghost use Rattle.bus_sim.specs.Choices.{carried, carried_so, CanGo};
+
 use crate::called::{connection_closes, frame_again};
 use crate::counts::Met;
 use crate::happened::Happened;
@@ -20,15 +29,6 @@ pub enum Carriage {
 }
 
 impl Run {
-    ghost use Rattle.std.specs.Prelude.{◌≡◌, [], Some, OnOk, OnErr, is_some, nat_lt, true, option_to_list};
-    ghost use Rattle.knx_model.specs.declared.device.WriteKind.TheVariants.{Memory};
-    ghost use Rattle.knx_model.specs.Device.{written_front};
-    ghost use Rattle.knx_model.specs.DeviceFrames.{worn_octets};
-    ghost use Rattle.line_model.specs.World.{Bus, BusTorn, BusWorn, next_frame};
-    ghost use Rattle.line_sim.specs.Line.{effect_due, write_due};
-    ghost use Rattle.bus_sim.specs.Went.{Stays, Went, IsRight, world};
-    ghost use Rattle.bus_sim.specs.Choices.{carried, carried_so, CanGo};
-
     /// The client's frame goes over the bus as the script wants it. At `Err` nothing has happened.
     pub fn carry(&mut self, frame: &Ldata) -> Result<(), NoMemory>
         requires due { Some frame.now ≡ next_frame (world self.old) }

@@ -1,15 +1,15 @@
 //! What the client does.
 
+ghost use Rattle.std.specs.Prelude.{OnOk, OnErr};
+ghost use Rattle.line_model.specs.World.{Send, Renew};
+ghost use Rattle.bus_sim.specs.Went.{Stays, Went};
+
 use crate::happened::Happened;
 use crate::room::make_room;
 use crate::run::Run;
 use knx_model::NoMemory;
 
 impl Run {
-    ghost use Rattle.std.specs.Prelude.{OnOk, OnErr};
-    ghost use Rattle.line_model.specs.World.{Send, Renew};
-    ghost use Rattle.bus_sim.specs.Went.{Stays, Went};
-
     /// The client sends a datagram. At `Err` nothing has happened.
     pub fn send(&mut self, octets: &[u8]) -> Result<(), NoMemory>
         ensures went { OnOk result (Went self.old (Send octets.now) self.new) }

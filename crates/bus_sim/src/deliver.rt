@@ -1,5 +1,12 @@
 //! Datagrams are delivered, lost and refused.
 
+ghost use Rattle.std.specs.Prelude.{◌≡◌, OnOk, OnErr, IfOk, slice_get};
+ghost use Rattle.line_model.specs.Network.{OfSent};
+ghost use Rattle.line_model.specs.World.{Up, UpRefused, Down, LoseUp, LoseDown};
+ghost use Rattle.network_sim.specs.Window.{IsDeliverable};
+ghost use Rattle.bus_sim.specs.Went.{Stays, Went, IsRight, world};
+ghost use Rattle.bus_sim.specs.Choices.{delivered, event_so};
+
 use crate::called::{channel_closes, comes_again, reaches_again};
 use crate::happened::Happened;
 use crate::owed::{Caused, NOTHING};
@@ -17,13 +24,6 @@ pub enum Delivery {
 }
 
 impl Run {
-    ghost use Rattle.std.specs.Prelude.{◌≡◌, OnOk, OnErr, IfOk, slice_get};
-    ghost use Rattle.line_model.specs.Network.{OfSent};
-    ghost use Rattle.line_model.specs.World.{Up, UpRefused, Down, LoseUp, LoseDown};
-    ghost use Rattle.network_sim.specs.Window.{IsDeliverable};
-    ghost use Rattle.bus_sim.specs.Went.{Stays, Went, IsRight, world};
-    ghost use Rattle.bus_sim.specs.Choices.{delivered, event_so};
-
     /// The client gets the gateway's datagram of an age. At `Err` nothing has happened.
     pub fn down(&mut self, age: usize) -> Result<Datagram, NoMemory>
         requires deliverable { OfSent IsDeliverable (slice_get self.old.line.tunnel.down.kept age) }

@@ -1,11 +1,11 @@
 //! What the script calls for directly after an event.
 
-ghost use Rattle.std.specs.Prelude.{◌≡◌, ◌+◌, ◌≤◌, [], ◌∷◌, ◌++◌, drop, option_map, option_to_list, OnOk, if◌then◌else◌};
+ghost use Rattle.std.specs.Prelude.{◌≡◌, ◌+◌, ◌≤◌, [], ◌++◌, drop, map, option_map, option_to_list, OnOk, vec_len, vec_capacity};
 ghost use Rattle.std.specs.List.{filter};
 ghost use Rattle.line_model.specs.Owed.{is_possible};
 ghost use Rattle.line_model.specs.Tunnel.{Commissions};
 ghost use Rattle.line_model.specs.World.{World};
-ghost use Rattle.line_sim.specs.Line.{IsNow};
+ghost use Rattle.line_sim.specs.Line.{AreCounted, IsNow};
 ghost use Rattle.bus_sim.specs.Owing.{all_caused, first_of, meant};
 
 use knx_model::NoMemory;
@@ -92,7 +92,7 @@ impl Owing {
     /// An event of the line met what came first, where there was anything, and calls for more. Of all that what isn't possible any more is dropped.
     pub fn meet(&mut self, caused: Caused, line: &Line)
         requires { 3 ≤ self.old.room }
-        ensures { (w : World) → IsNow line.now w → self.new.list ≡ filter (is_possible Commissions w) (drop 1 self.old.list ++ all_caused caused) }
+        ensures { (w : World) → IsNow line.now w → AreCounted w → self.new.list ≡ filter (is_possible Commissions w) (drop 1 self.old.list ++ all_caused caused) }
     {
         if !self.items.is_empty() {
             self.items.remove(0);
@@ -103,7 +103,7 @@ impl Owing {
 
     /// The client did something: what isn't possible any more is dropped.
     pub fn wait(&mut self, line: &Line)
-        ensures { (w : World) → IsNow line.now w → self.new.list ≡ filter (is_possible Commissions w) self.old.list }
+        ensures { (w : World) → IsNow line.now w → AreCounted w → self.new.list ≡ filter (is_possible Commissions w) self.old.list }
     {
         drop_impossible(&mut self.items, line);
     }
@@ -123,7 +123,7 @@ fn join_one(items: &mut Vec<Owed>, owed: Option<Owed>)
     requires { vec_len items.old + 1 ≤ vec_capacity items.old }
     ensures items { items.new.items ≡ items.old.items ++ option_to_list owed }
     ensures len { vec_len items.new ≤ vec_len items.old + 1 }
-    ensures capacity { vec_capacity items.new ≡ vec_capacity items.old }
+    ensures capacity { vec_capacity items.old ≤ vec_capacity items.new }
 {
     if let Some(owed) = owed {
         let _ = items.push(owed);
@@ -132,14 +132,14 @@ fn join_one(items: &mut Vec<Owed>, owed: Option<Owed>)
 
 /// What isn't possible any more is dropped.
 fn drop_impossible(items: &mut Vec<Owed>, line: &Line)
-    ensures { (w : World) → IsNow line.now w → map meant items.new.items ≡ filter (is_possible Commissions w) (map meant items.old.items) }
+    ensures { (w : World) → IsNow line.now w → AreCounted w → map meant items.new.items ≡ filter (is_possible Commissions w) (map meant items.old.items) }
 {
     items.retain(|owed| is_possible(line, *owed));
 }
 
 /// Whether it can still happen.
 fn is_possible(line: &Line, owed: Owed) -> bool
-    ensures { (w : World) → IsNow line.now w → result ≡ is_possible Commissions w (meant owed) }
+    ensures { (w : World) → IsNow line.now w → AreCounted w → result ≡ is_possible Commissions w (meant owed) }
 {
     match owed {
         Owed::DeliverAgain(number) => line.again_up(number).is_some(),

@@ -1,6 +1,10 @@
 //! A poll: the line goes on until the client gets a datagram or the wait is over.
 
-ghost use Rattle.std.specs.Prelude.{◌≡◌, ◌≤◌, length, take};
+ghost use Rattle.std.specs.Prelude.{◌≡◌, ◌+◌, ◌≤◌, IfOk, OnErr, take};
+ghost use Rattle.knx_model.specs.Connection.{last_time};
+ghost use Rattle.line_model.specs.World.{now};
+ghost use Rattle.bus_sim.specs.Polls.{PolledSo, GoesOnFrom};
+ghost use Rattle.bus_sim.specs.Went.{world};
 
 use crate::limits::past_all_memory;
 use crate::run::Run;
@@ -9,12 +13,6 @@ use knx_model::{Datagram, NoMemory};
 use line_model::Polled;
 
 impl Run {
-    ghost use Rattle.std.specs.Prelude.{◌≡◌, ◌+◌, ◌≤◌, IfOk, OnErr};
-    ghost use Rattle.knx_model.specs.Connection.{last_time};
-    ghost use Rattle.line_model.specs.World.{now};
-    ghost use Rattle.bus_sim.specs.Polls.{PolledSo, GoesOnFrom};
-    ghost use Rattle.bus_sim.specs.Went.{world};
-
     /// The line goes on until the client gets a datagram, which stands in the buffer then, or so many milliseconds have passed.
     pub fn poll(&mut self, into: &mut [u8; 512], wait_ms: u32) -> Result<Polled, NoMemory>
         ensures polled { IfOk result (λ polled. PolledSo polled into.new wait_ms self.old self.new) }

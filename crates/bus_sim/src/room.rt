@@ -1,6 +1,10 @@
 //! Memory for what comes next, taken before anything changes.
 
 ghost use Rattle.std.specs.Prelude.{◌≡◌, ◌≤◌, ◌^◌, ◌<◌, ◌+◌, length, OnOk};
+ghost use Rattle.line_model.specs.World.{World};
+ghost use Rattle.line_sim.specs.Gateways.{CanCount};
+ghost use Rattle.line_sim.specs.Line.{AreCounted, IsNow};
+ghost use Rattle.line_sim.specs.Tunnels.{greatest_endpoint};
 
 use crate::events::Events;
 use crate::limits::past_all_memory;

@@ -1,6 +1,8 @@
 //! A run of the simulated line.
 
-ghost use Rattle.bus_sim.specs.Held.{IsHeld};
+ghost use Rattle.std.specs.Prelude.{◌≡◌, [], IfOk};
+ghost use Rattle.bus_sim.specs.Held.{IsLoaded};
+ghost use Rattle.bus_sim.specs.RunNow.{Keeps, seen};
 
 use crate::beginning::Beginning;
 use crate::counts::Counts;
@@ -10,6 +12,7 @@ use knx_model::NoMemory;
 use line_sim::Line;
 use script_index::ScriptIndex;
 use std::alloc::Global;
+use std::marker::Model;
 
 /// A run: what it began with, and all that happened since; the line as it is now; and, of the script, its index, what was counted and what it
 /// calls for.
@@ -22,16 +25,20 @@ pub struct Run {
     pub line: Line,
     pub counts: Counts,
     pub owed: Owing,
-    pub ghost held: { IsHeld (record { begun = begun; events = events.list }) index line counts owed.list },
+}
+
+impl Model for Run {
+    ghost use Rattle.bus_sim.specs.RunNow.{RunState};
+    ghost use Rattle.bus_sim.specs.Held.{IsHeld};
+
+    ghost Value = { RunState };
+
+    ghost view = { λ r. record { begun = r.begun; events = r.events.list; line = r.line } };
+
+    ghost invariant = { λ r. IsHeld (record { begun = r.begun; events = r.events.list }) r.index r.line r.counts r.owed.list };
 }
 
 impl Run {
-    ghost use Rattle.std.specs.Prelude.{◌≡◌, [], IfOk};
-    ghost use Rattle.line_model.specs.Fresh.{IsFresh};
-    ghost use Rattle.bus_sim.specs.Held.{IsLoaded};
-    ghost use Rattle.bus_sim.specs.RunNow.{Keeps};
-    ghost use Rattle.bus_sim.specs.Went.{seen};
-
     /// A run on which nothing has happened.
     pub fn begin(alloc: Global, begun: Beginning) -> Result<Run, NoMemory>
         requires { IsLoaded begun }

@@ -1,5 +1,16 @@
 //! What devices and the gateway do of themselves, power that returns, and the time.
 
+ghost use Rattle.std.specs.Prelude.{◌≡◌, ◌+◌, ◌≤◌, [], Some, OnOk, OnErr};
+ghost use Rattle.knx_model.specs.Connection.{last_time};
+ghost use Rattle.line_model.specs.World.{BusAgain, DevSend, DevRepeat, DevClose, GwRepeat, GwClose, On, Pass, now};
+ghost use Rattle.line_sim.specs.Places.{IsDue};
+ghost use Rattle.line_sim.specs.Tunnels.{at_gateway};
+ghost use Rattle.line_sim.specs.Gateways.{due_of};
+ghost use Rattle.line_model.specs.Gateway.{gateway_expired};
+ghost use Rattle.line_sim.specs.declared.gateway.Due.TheVariants as due;
+ghost use Rattle.bus_sim.specs.Went.{Stays, Went, IsRight, world};
+ghost use Rattle.bus_sim.specs.Choices.{heard_so};
+
 use crate::called::connection_closes;
 use crate::counts::Met;
 use crate::happened::Happened;
@@ -18,17 +29,6 @@ const SENT: Met = Met {
 };
 
 impl Run {
-    ghost use Rattle.std.specs.Prelude.{◌≡◌, ◌+◌, ◌≤◌, [], Some, OnOk, OnErr};
-    ghost use Rattle.knx_model.specs.Connection.{last_time};
-    ghost use Rattle.line_model.specs.World.{BusAgain, DevSend, DevRepeat, DevClose, GwRepeat, GwClose, On, Pass, now};
-    ghost use Rattle.line_sim.specs.Places.{IsDue};
-    ghost use Rattle.line_sim.specs.Tunnels.{at_gateway};
-    ghost use Rattle.line_sim.specs.Gateways.{due_of};
-    ghost use Rattle.line_model.specs.Gateway.{gateway_expired};
-    ghost use Rattle.line_sim.specs.declared.gateway.Due.TheVariants as due;
-    ghost use Rattle.bus_sim.specs.Went.{Stays, Went, IsRight, world};
-    ghost use Rattle.bus_sim.specs.Choices.{heard_so};
-
     /// Whether the next frame of a device is lost for the gateway.
     fn at_gateway(&self, device: u16) -> AtGateway
         ensures { at_gateway result ≡ heard_so self.now device }

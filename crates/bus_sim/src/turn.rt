@@ -1,5 +1,16 @@
 //! One turn of the line.
 
+ghost use Rattle.std.specs.Prelude.{◌≡◌, ℕ, ◌+◌, ◌≤◌, ◌∷◌, Some, None, OnOk, OnErr, IfOk};
+ghost use Rattle.knx_model.specs.Connection.{last_time};
+ghost use Rattle.line_model.specs.Deliveries.{next_up, next_down};
+ghost use Rattle.line_model.specs.Owed.{Owed as Called};
+ghost use Rattle.line_model.specs.Tunnel.{Commissions};
+ghost use Rattle.line_model.specs.World.{now, next_frame};
+ghost use Rattle.bus_sim.specs.Owing.{meant};
+ghost use Rattle.bus_sim.specs.RunNow.{owed_in};
+ghost use Rattle.bus_sim.specs.Turns.{Turns};
+ghost use Rattle.bus_sim.specs.Went.{Stays, world};
+
 use crate::limits::past_all_memory;
 use crate::owed::Owed;
 use crate::run::Run;
@@ -20,17 +31,6 @@ pub enum Turn {
 }
 
 impl Run {
-    ghost use Rattle.std.specs.Prelude.{◌≡◌, ◌+◌, ◌≤◌, [], ◌∷◌, Some, None, OnOk, OnErr, IfOk};
-    ghost use Rattle.knx_model.specs.Connection.{last_time};
-    ghost use Rattle.line_model.specs.Deliveries.{next_up, next_down};
-    ghost use Rattle.line_model.specs.Owed.{Owed as Called};
-    ghost use Rattle.line_model.specs.Tunnel.{Commissions};
-    ghost use Rattle.line_model.specs.World.{now, next_frame};
-    ghost use Rattle.bus_sim.specs.Owing.{meant};
-    ghost use Rattle.bus_sim.specs.RunNow.{owed_in};
-    ghost use Rattle.bus_sim.specs.Turns.{Turns};
-    ghost use Rattle.bus_sim.specs.Went.{Stays, seen, world};
-
     /// One turn of the line, while so much of a wait is left. What the script calls for goes first; then a datagram to the client, one to the
     /// gateway, a frame that waits for the bus, what the gateway has due, and the device with the least address that has something to send.
     /// Where there is none of these, time passes, until something is due or the wait is over. At `Err` nothing has happened.
