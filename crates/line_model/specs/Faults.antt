@@ -13,7 +13,7 @@ use Rattle.line_model.specs.declared.fault.Try.TheVariants.{Status, NoAnswer}
 use Rattle.line_model.specs.declared.log.LogEntry.{LogEntry}
 use Rattle.line_model.specs.Reading.{state_response_in}
 use Rattle.line_model.specs.Record.{Entry, got_in, is_got}
-use Rattle.line_model.specs.ChannelLost.{answers_beat, beats}
+use Rattle.line_model.specs.ChannelLost.{answers_beat, beats, has_lapsed}
 use Rattle.line_model.specs.ClientView.{ClientChannel, Sought, RefusedBy, Unanswered, Open, channel}
 use Rattle.line_model.specs.Log.{Job, JobUnfinished}
 
@@ -33,10 +33,11 @@ abbrev pub tries : List Entry → List Try
 tries [] = []
 tries (x ∷ r) = tries_after (channel r) (channel (x ∷ r)) (tries r)
 
--- ---- how many datagrams were taken, awaited connection state responses aside; those that are dropped count too
+-- ---- how many datagrams were taken, awaited connection state responses aside; those that are dropped count too, and in a channel that is lost
+-- by the time nothing is awaited
 
 abbrev pub answers_heartbeat : ClientChannel → Entry → Bool
-answers_heartbeat (Open c l) x = answers_beat c (beats c l) x.now (state_response_in (got_in x.what))
+answers_heartbeat (Open c l) x = answers_beat c (beats c l) x.now (state_response_in (got_in x.what)) && not (has_lapsed c l x.now)
 answers_heartbeat _ x = false
 
 abbrev pub is_counted : List Entry → Entry → Bool

@@ -2,7 +2,7 @@
 -- sending, a new endpoint and a poll may do to that. A sending adds itself; a poll adds legal events that are not the client's, and then the
 -- datagram that is got, or a quiet wait. A call that fails may have added its own sending, or legal events without a datagram. Where a link
 -- tells something, time moves in polls alone.
-use Rattle.std.specs.Prelude.{◌≡◌, ℕ, ◌+◌, ◌-◌, ◌^◌, ◌≤◌, ◌⊎◌, min, Bool, true, false, List, [], ◌∷◌, ◌++◌, length, Option, Some, None}
+use Rattle.std.specs.Prelude.{◌≡◌, ℕ, ◌+◌, ◌≤◌, ◌⊎◌, Bool, true, false, List, [], ◌∷◌, ◌++◌, length, Option, Some, None}
 use Rattle.line_model.specs.Tunnel.{Commissions}
 use Rattle.line_model.specs.World.{World, Event, Send, From, Renew, Down, Pass, now, replay}
 use Rattle.line_model.specs.Legal.{MayHappen}
@@ -32,19 +32,16 @@ abbrev pub newest_time : List Entry → ℕ
 newest_time [] = 0
 newest_time (x ∷ r) = x.now
 
--- a number of 64 bits stands still at its greatest
-abbrev pub capped : ℕ → ℕ
-capped n = min n (2 ^ 64 - 1)
-
+-- both exactly: a link that tells something fails before either is greater than a number of 64 bits
 abbrev pub IsTime : ℕ → Story → Type 0
 IsTime clock Untold = Unit {0}
-IsTime clock (Recorded r) = clock ≡ capped (newest_time r)
-IsTime clock (Full start events) = clock ≡ capped (now (replay start events))
+IsTime clock (Recorded r) = clock ≡ newest_time r
+IsTime clock (Full start events) = clock ≡ now (replay start events)
 
 abbrev pub IsPlace : ℕ → Story → Type 0
 IsPlace place Untold = Unit {0}
-IsPlace place (Recorded r) = place ≡ capped (length r)
-IsPlace place (Full start events) = place ≡ capped (length events)
+IsPlace place (Recorded r) = place ≡ length r
+IsPlace place (Full start events) = place ≡ length events
 
 -- nothing was done on it, and its world is fresh
 abbrev pub IsNewLink : Story → Type 0

@@ -15,7 +15,7 @@ use Rattle.line_model.specs.Signs.{Every, IsntConfirmation}
 use Rattle.line_model.specs.Log.{Job, Held, job_of, turn_of, state_of, ends_it, turn_place, JobUnfinished, IsNextTurn}
 use Rattle.line_model.specs.Told.{IsTrue, PutsTurn, PutsNoGroup}
 use Rattle.line_model.specs.Renews.{last_beat}
-use Rattle.line_model.specs.Attempts.{Attempt, Attempts, Resting, Running, attempts, most_attempts, MayAsk, MayDisconnect, Owes}
+use Rattle.line_model.specs.Attempts.{Attempt, Attempts, Resting, Running, begun, attempts, most_attempts, MayAsk, MayDisconnect, Owes}
 use Rattle.line_model.specs.Asks.{HasPlace}
 use Rattle.line_model.specs.Closing.{Closing, Listening, Leaving, listening_wait}
 
@@ -142,16 +142,13 @@ pub record LastsUntil (IsDue : ℕ → Type 0) (now wait : ℕ) : Type 0 where
   pub no_longer : (deadline : ℕ) → IsDue deadline → now < deadline → now + wait ≤ deadline
   pub as_long : (wait ≡ longest_poll) ⊎ ((deadline : ℕ) × IsDue deadline × (now < deadline) × (now + wait ≡ deadline))
 
-abbrev pub IsRunning : Attempts → Type 0
-IsRunning (Resting k) = ⊥
-IsRunning (Running k a) = Unit {0}
-
--- for job k, of which so much came and waits: something came that waits for its worker, or an attempt of it runs and the worker's turn wouldn't wait
+-- for job k, of which so much came and waits: something came that waits for its worker, or an attempt of it has sent its T_Connect and the
+-- worker's turn wouldn't wait
 pub record HasWork (jobs : List Job) (turns : List GroupTurn) (log : List LogEntry) (places : List Placed) (at now k came : ℕ) : Type 0 where
   pub job : Job
   pub since : ℕ
   pub holds : IsHeldJob jobs log k job since
-  pub why : (came ≢ 0) ⊎ (IsRunning (attempts_of job since at places) × ¬ TurnWaits jobs turns log places at now k came)
+  pub why : (came ≢ 0) ⊎ ((1 ≤ begun (attempts_of job since at places)) × ¬ TurnWaits jobs turns log places at now k came)
 
 -- `came k` of what came for job k waits for its worker. Where a worker has work the poll only looks; else it lasts until the nearest deadline.
 pub record PollsSo (jobs : List Job) (turns : List GroupTurn) (log : List LogEntry) (places : List Placed) (at now : ℕ) (closing : Option Closing) (came : ℕ → ℕ) (wait : ℕ) : Type 0 where

@@ -6,7 +6,7 @@ use Rattle.knx_model.specs.declared.frames.ip.IpFrame.TheVariants.{ConnectReques
 use Rattle.line_model.specs.declared.gateway_end.GatewayTook.{GatewayTook as Answer}
 use Rattle.line_model.specs.Gateway.{Gateway, GatewayTook, Channel, next_number, took, hears, gateway_took, request_took, acknowledged, connects, names, drops, answers, makes, closed_if_open, is_put}
 use Rattle.line_model.specs.GatewayEnd.{GatewayEnd, TookAs, endpoint_of}
-use Rattle.line_model.specs.LinkStory.{capped}
+use Rattle.network_sim.specs.Window.{capped}
 use Rattle.line_sim.specs.Gateways.{GatewayNow, IsGateway, CanCount, and_one, is_another, is_left, makes_one, dropped_if, joined}
 
 -- the queues and counts after a frame

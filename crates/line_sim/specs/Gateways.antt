@@ -9,7 +9,7 @@ use Rattle.knx_model.specs.Cemi.{Written as cemi_octets}
 use Rattle.knx_model.specs.KnxNetIp.{Written}
 use Rattle.line_model.specs.Gateway.{Gateway, Channel, GatewayExpired, Nothing, Repeat, Closing, put_after, request_of, to_bus}
 use Rattle.line_model.specs.GatewayEnd.{GatewayEnd, end_of}
-use Rattle.line_model.specs.LinkStory.{capped}
+use Rattle.network_sim.specs.Window.{capped}
 use Rattle.line_model.specs.Reading.{ldata_in}
 use Rattle.line_sim.specs.declared.gateway.Gateway.{Gateway as HeldGateway}
 use Rattle.line_sim.specs.declared.gateway.Due.{Due}

@@ -9,7 +9,7 @@ ghost use Rattle.knx_model.specs.ApduReading.{option_map as mapped};
 ghost use Rattle.knx_model.specs.DeviceSending.{first_frame};
 ghost use Rattle.line_model.specs.Tunnel.{carried, heard};
 ghost use Rattle.line_model.specs.World.{on_bus};
-ghost use Rattle.line_model.specs.LinkStory.{capped};
+ghost use Rattle.network_sim.specs.Window.{capped};
 ghost use Rattle.line_sim.specs.Gateways.{IsGateway, CanCount, gateway_now, and_one, is_another, due_of, is_left, makes_one, dropped_if, joined, put_letter, put_gateway, told_letter, farewell_letter};
 
 use crate::frames::{asked_for, octets_of, on_bus};

@@ -3,14 +3,13 @@ use Rattle.std.proofs.Common.{◌≡◌, ℕ, ◌-◌, ◌^◌, ◌<◌, ◌≤�
 use Rattle.std.specs.Prelude.{nat_lt, slice_get, option_map}
 use Rattle.std.proofs.lemmas.Bool.{cases_lt}
 use Rattle.std.proofs.lemmas.List.{length-take, length-map}
-use Rattle.line_model.specs.LinkStory.{capped}
 use Rattle.line_model.specs.Counts.{age_of}
 use Rattle.line_model.specs.Owed.{goes_again, passes_again}
 use Rattle.line_model.specs.Network.{Sent}
 use Rattle.network_sim.specs.declared.place.Reach.{Reach}
 use Rattle.network_sim.specs.declared.place.Reach.TheVariants.{Every, To}
 use Rattle.network_sim.specs.Arriving.{passes}
-use Rattle.network_sim.specs.Window.{Window, CanTell, window_of, kept_of, kept_age, age_while_kept}
+use Rattle.network_sim.specs.Window.{capped, Window, CanTell, window_of, kept_of, kept_age, age_while_kept}
 use Rattle.network_sim.proofs.Windows.{got_kept}
 
 -- two ages that are one, or of which neither is kept

@@ -5,9 +5,8 @@ use Rattle.std.proofs.lemmas.Bool.{cases_lt}
 use Rattle.std.proofs.lemmas.List.{take-take, take-map, length-take, length-map}
 use Rattle.std.proofs.lemmas.Option.{same_Some, slice_get-map, slice_get_past}
 use Rattle.circular_buffer.specs.Buffer.{Buffer, buffer}
-use Rattle.line_model.specs.LinkStory.{capped}
 use Rattle.line_model.specs.Network.{Sent, changed_at, once_more, gone}
-use Rattle.network_sim.specs.Window.{Window, window_of, at_sent, is_waiting, kept_of, sent_too, changed_there}
+use Rattle.network_sim.specs.Window.{capped, Window, window_of, at_sent, is_waiting, kept_of, sent_too, changed_there}
 
 -- ---- one more
 

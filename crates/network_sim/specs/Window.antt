@@ -2,9 +2,12 @@
 -- younger ones were sent. Of each its octets are kept so far as it is read. What is kept is said of each whole list that it is of.
 use Rattle.std.specs.Prelude.{◌≡◌, ℕ, suc, ◌-◌, ◌^◌, ◌<◌, ◌⊎◌, Bool, false, not, ◌&&◌, ◌==◌, nat_lt, List, ◌∷◌, map, take, length, min, if◌then◌else◌, Option, Some, None}
 use Rattle.line_model.specs.Counts.{age_of}
-use Rattle.line_model.specs.LinkStory.{capped}
 use Rattle.line_model.specs.Network.{Sent, oldest_age, most_deliveries, changed_at}
 use Rattle.network_sim.specs.Readable.{readable}
+
+-- a number of 64 bits stands still at its greatest
+abbrev pub capped : ℕ → ℕ
+capped n = min n (2 ^ 64 - 1)
 
 pub record Window : Type 0 where
   pub count : ℕ  -- how many were sent in all; a number of 64 bits, which stands still at its greatest

@@ -35,7 +35,8 @@ pub enum Polled {
     Quiet,
 }
 
-/// Sends datagrams to the gateway and gets those that come.
+/// Sends datagrams to the gateway and gets those that come. A link that tells something of itself fails before its time or its place would pass
+/// the greatest number of 64 bits.
 pub trait Link: Drop {
     ghost use Rattle.line_model.specs.LinkStory.{Story};
     ghost use Rattle.std.specs.Prelude.{ℕ};

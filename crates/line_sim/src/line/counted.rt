@@ -4,7 +4,6 @@
 ghost use Rattle.std.specs.Prelude.{◌≡◌, ◌^◌, ◌<◌, ◌↔◌, IfSome, IsTrue, List, is_some, length, slice_get};
 ghost use Rattle.line_model.specs.Counts.{age_of, number_at, takes_alone, write_of};
 ghost use Rattle.line_model.specs.Deliveries.{goes_up, goes_down};
-ghost use Rattle.line_model.specs.LinkStory.{capped};
 ghost use Rattle.line_model.specs.Network.{OfSent, Sent, oldest_age};
 ghost use Rattle.line_model.specs.Owed.{passes_again};
 ghost use Rattle.line_model.specs.Tunnel.{IsOpen, Mode, Commissions, Serves};
@@ -13,7 +12,7 @@ ghost use Rattle.line_sim.specs.Allowed.{Allows};
 ghost use Rattle.line_sim.specs.Gateways.{CanCount, greatest_count};
 ghost use Rattle.line_sim.specs.Line.{AreCounted, IsNow, last_at};
 ghost use Rattle.line_sim.specs.Tunnels.{greatest_endpoint};
-ghost use Rattle.network_sim.specs.Window.{CanTell, IsAlikeToScripts, IsDeliverable, age_while_kept, window_of};
+ghost use Rattle.network_sim.specs.Window.{capped, CanTell, IsAlikeToScripts, IsDeliverable, age_while_kept, window_of};
 ghost use Rattle.network_sim.specs.Arriving.{MayCome, passes};
 
 use super::Line;
