@@ -1,0 +1,56 @@
+//! The record of a port.
+
+ghost use Rattle.std.specs.Prelude.{◌≡◌, []};
+ghost use Rattle.line_fixed.specs.Fixed.{with_entry};
+ghost use Rattle.line_fixed.specs.Items.{told};
+
+use knx_model::{NoMemory, Octets};
+use std::alloc::Global;
+use std::marker::Model;
+
+/// What was done at a port.
+#[derive(Drop)]
+pub enum PortItem {
+    /// A datagram of a client was taken.
+    Took { from: u32, octets: Octets },
+    /// A wait ended without a datagram.
+    Quiet,
+    /// A datagram was given to a client.
+    Gave { to: u32, octets: Octets },
+}
+
+/// What was done at a port; contracts see the newest first.
+#[derive(Drop)]
+pub struct Items {
+    /// The oldest first.
+    items: Vec<PortItem>,
+}
+
+impl Model for Items {
+    ghost use Rattle.std.specs.Prelude.{List};
+    ghost use Rattle.line_model.specs.PortStory.{PortItem as Told};
+    ghost use Rattle.line_fixed.specs.Items.{newest_first};
+
+    ghost Value = { List Told };
+
+    ghost view = { λ s. newest_first s.items.items };
+}
+
+impl Items {
+    /// Nothing was done. It takes no memory.
+    pub fn new(alloc: Global) -> Items
+        ensures { result ≡ [] }
+    {
+        Items {
+            items: Vec::new(alloc),
+        }
+    }
+
+    /// Adds what is done now. At `Err` nothing has changed.
+    pub fn add(&mut self, item: PortItem) -> Result<(), NoMemory>
+        ensures { self.new ≡ with_entry result (told item) self.old }
+    {
+        self.items.push(item)?;
+        Ok(())
+    }
+}
