@@ -1,4 +1,4 @@
 pub mod Entries
-pub mod Items
+pub mod PortItems
 pub mod Fixed
 pub mod Dialling

@@ -1,11 +1,12 @@
 //! The record of a link, each entry with its time. Equal entries in a row are kept as one entry and a number.
 
-ghost use Rattle.std.specs.Prelude.{◌≡◌, ◌<◌, ◌+◌, ◌⊎◌, [], ◌∷◌, IfNone, IfSome, length};
-ghost use Rattle.std.specs.Bool.{OnFalse, OnTrue};
+ghost use Rattle.std.specs.Prelude.{◌≡◌, ◌<◌, ◌+◌, ◌-◌, ◌⊎◌, [], ◌∷◌, IfNone, IfSome, length, slice_get};
+ghost use Rattle.std.specs.Bool.{OnTrue};
+ghost use Rattle.std.specs.Option.{IsSomeAnd};
 ghost use Rattle.knx_model.specs.Outside.{greatest_count};
 ghost use Rattle.line_model.specs.LinkStory.{newest_time};
 ghost use Rattle.line_model.specs.Record.{entry};
-ghost use Rattle.line_fixed.specs.Entries.{told, whole};
+ghost use Rattle.line_fixed.specs.Entries.{entry_of, told, whole};
 ghost use Rattle.line_fixed.specs.Fixed.{with_entry};
 
 use crate::item::{Item, Stretch};
@@ -33,19 +34,37 @@ impl Model for Entries {
     ghost invariant = { λ e. e.len ≡ length (whole e.stretches.items) };
 }
 
-/// Counts one more entry with the newest stretch, where it is the same as those. Answers whether it was.
-fn lengthen(stretches: &mut Vec<Stretch>, what: &Item, now: u64) -> bool
-    requires { length (whole stretches.old.items) < greatest_count }
-    ensures same { OnTrue result (whole stretches.new.items ≡ entry (told what.now) now ∷ whole stretches.old.items) }
-    ensures another { OnFalse result (stretches.new ≡ stretches.old) }
+/// Whether an entry is the same as the newest ones.
+fn repeats(stretches: &[Stretch], what: &Item, now: u64) -> bool
+    ensures { OnTrue result (IsSomeAnd (slice_get stretches.now (length stretches.now - 1)) (λ newest. entry_of newest ≡ entry (told what.now) now)) }
 {
-    match stretches.last_mut() {
-        Some(newest) if newest.now == now && newest.what.is_same(what) => {
-            newest.more += 1;
-            true
-        }
-        _ => false,
+    match stretches.last() {
+        Some(newest) => newest.now == now && newest.what.is_same(what),
+        None => false,
     }
+}
+
+/// Counts one more of the newest entries.
+fn lengthen(stretches: &mut Vec<Stretch>)
+    requires { length (whole stretches.old.items) < greatest_count }
+    ensures { IfSome (slice_get stretches.old.items (length stretches.old.items - 1)) (λ newest. whole stretches.new.items ≡ entry_of newest ∷ whole stretches.old.items) }
+{
+    if let Some(newest) = stretches.last_mut() {
+        newest.more += 1;
+    }
+}
+
+/// Adds an entry. At `Err` nothing has changed.
+fn grow(stretches: &mut Vec<Stretch>, what: Item, now: u64) -> Result<(), NoMemory>
+    requires { length (whole stretches.old.items) < greatest_count }
+    ensures { whole stretches.new.items ≡ with_entry result (entry (told what) now) (whole stretches.old.items) }
+{
+    if repeats(stretches.as_slice(), &what, now) {
+        lengthen(stretches);
+        return Ok(());
+    }
+    stretches.push(Stretch { what, now, more: 0 })?;
+    Ok(())
 }
 
 impl Entries {
@@ -93,9 +112,7 @@ impl Entries {
         requires { length self.old < greatest_count }
         ensures { self.new ≡ with_entry result (entry (told what) now) self.old }
     {
-        if !lengthen(&mut self.stretches, &what, now) {
-            self.stretches.push(Stretch { what, now, more: 0 })?;
-        }
+        grow(&mut self.stretches, what, now)?;
         self.len += 1;
         Ok(())
     }

@@ -6,10 +6,10 @@ mod dialer;
 mod entries;
 mod failing;
 mod item;
-mod items;
 mod link;
 mod next;
 mod port;
+mod port_items;
 #[cfg(test)]
 mod tests;
 
@@ -17,7 +17,7 @@ pub use dialer::{Address, FixedDialer};
 pub use entries::Entries;
 pub use failing::FailingLink;
 pub use item::{Item, Stretch};
-pub use items::{Items, PortItem};
+pub use port_items::{PortItem, PortItems};
 pub use knx_model::{List, NoMemory, Octets};
 pub use line_model::{DialFailed, Dialer, Link, LinkFault, Polled, Port, PortFault, PortPolled};
 pub use link::FixedLink;

@@ -1,13 +1,13 @@
 //! A port of fixed data.
 
-ghost use Rattle.std.specs.Prelude.{◌≡◌, ◌≤◌, ◌↔◌, [], Contains, Err, IfOk, OnErr, OnOk, option_copied, slice_get};
+ghost use Rattle.std.specs.Prelude.{◌≡◌, ◌≤◌, ◌↔◌, [], Contains, Err, IfOk, OnErr, OnOk, slice_get};
 ghost use Rattle.knx_model.specs.Outside.{one_more};
 ghost use Rattle.line_model.specs.PortStory.{Adds, FailsWhere, Gave, GivesOrNot, Recorded, TakesSo};
 ghost use Rattle.line_model.specs.declared.outside.port.PortFault.TheVariants.{Failed};
 ghost use Rattle.line_fixed.specs.Fixed.{AnswersPort, took, with_answer, with_entry, with_port_fault};
-ghost use Rattle.line_fixed.specs.Items.{told};
+ghost use Rattle.line_fixed.specs.PortItems.{told};
 
-use crate::items::{Items, PortItem};
+use crate::port_items::{PortItems, PortItem};
 use crate::next::{LONGEST_GOT, copy_into};
 use knx_model::{List, NoMemory, Octets, front};
 use line_model::{Port, PortFault, PortPolled};
@@ -23,7 +23,7 @@ pub struct FixedPort {
     /// How many calls of `take` were answered.
     pub answered: usize,
     /// What was done.
-    pub items: Items,
+    pub items: PortItems,
     pub calls: u64,
     pub faults: u64,
 }
@@ -40,7 +40,7 @@ impl FixedPort {
             gives,
             fails,
             answered: 0,
-            items: Items::new(alloc),
+            items: PortItems::new(alloc),
             calls: 0,
             faults: 0,
         }
@@ -62,16 +62,17 @@ impl FixedPort {
     }
 }
 
-/// What a taking of a datagram, or of none, is in the record, and its answer.
+/// What the next taking of a datagram, or of none, is in the record, and its answer.
 fn taken(
     alloc: Global,
-    next: Option<&(u32, Octets)>,
+    gives: &[(u32, Octets)],
+    answered: usize,
     into: &mut [u8; LONGEST_GOT],
 ) -> Result<(PortItem, PortPolled), NoMemory>
-    ensures item { IfOk result (λ r. told r.0 ≡ took (option_copied next.entry)) }
-    ensures answer { IfOk result (λ r. AnswersPort r.1 into.new (option_copied next.entry)) }
+    ensures item { IfOk result (λ r. told r.0 ≡ took (slice_get gives.now answered)) }
+    ensures answer { IfOk result (λ r. AnswersPort r.1 into.new (slice_get gives.now answered)) }
 {
-    match next {
+    match gives.get(answered) {
         Some((from, octets)) => {
             let from = *from;
             let got = Octets::from_slice(alloc, front(octets.as_slice(), LONGEST_GOT))?;
@@ -102,8 +103,7 @@ impl Port for FixedPort {
         ensures answer { IfOk result (λ polled. AnswersPort polled into.new (slice_get self.old.gives self.old.answered)) }
     {
         self.begin()?;
-        let next = self.gives.as_slice().get(self.answered);
-        let (item, polled) = taken(self.alloc, next, into)?;
+        let (item, polled) = taken(self.alloc, self.gives.as_slice(), self.answered, into)?;
         self.items.add(item)?;
         self.answered = self.answered.saturating_add(1);
         Ok(polled)

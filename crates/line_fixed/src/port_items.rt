@@ -2,7 +2,7 @@
 
 ghost use Rattle.std.specs.Prelude.{◌≡◌, []};
 ghost use Rattle.line_fixed.specs.Fixed.{with_entry};
-ghost use Rattle.line_fixed.specs.Items.{told};
+ghost use Rattle.line_fixed.specs.PortItems.{told};
 
 use knx_model::{NoMemory, Octets};
 use std::alloc::Global;
@@ -21,27 +21,27 @@ pub enum PortItem {
 
 /// What was done at a port; contracts see the newest first.
 #[derive(Drop)]
-pub struct Items {
+pub struct PortItems {
     /// The oldest first.
     items: Vec<PortItem>,
 }
 
-impl Model for Items {
+impl Model for PortItems {
     ghost use Rattle.std.specs.Prelude.{List};
     ghost use Rattle.line_model.specs.PortStory.{PortItem as Told};
-    ghost use Rattle.line_fixed.specs.Items.{newest_first};
+    ghost use Rattle.line_fixed.specs.PortItems.{newest_first};
 
     ghost Value = { List Told };
 
     ghost view = { λ s. newest_first s.items.items };
 }
 
-impl Items {
+impl PortItems {
     /// Nothing was done. It takes no memory.
-    pub fn new(alloc: Global) -> Items
+    pub fn new(alloc: Global) -> PortItems
         ensures { result ≡ [] }
     {
-        Items {
+        PortItems {
             items: Vec::new(alloc),
         }
     }

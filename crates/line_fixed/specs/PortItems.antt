@@ -1,8 +1,8 @@
 -- The record of a port as it is kept, the oldest first, and as it is told, the newest first.
 use Rattle.std.specs.Prelude.{List, [], ◌∷◌, ◌++◌}
 use Rattle.line_model.specs.PortStory as of_port
-use Rattle.line_fixed.specs.declared.items.PortItem.{PortItem}
-use Rattle.line_fixed.specs.declared.items.PortItem.TheVariants as kept
+use Rattle.line_fixed.specs.declared.port_items.PortItem.{PortItem}
+use Rattle.line_fixed.specs.declared.port_items.PortItem.TheVariants as kept
 
 abbrev pub told : PortItem → of_port.PortItem
 told (kept.Took from octets) = of_port.Took from octets
