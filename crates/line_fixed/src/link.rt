@@ -98,7 +98,10 @@ fn brought(
     match next {
         Some(octets) => {
             let got = Octets::from_slice(alloc, front(octets.as_slice(), LONGEST_GOT))?;
-            Ok((Item::Got(got), Polled::Got(copy_into(octets.as_slice(), into))))
+            Ok((
+                Item::Got(got),
+                Polled::Got(copy_into(octets.as_slice(), into)),
+            ))
         }
         None => Ok((Item::Quiet, Polled::Quiet)),
     }

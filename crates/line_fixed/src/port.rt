@@ -7,8 +7,8 @@ ghost use Rattle.line_model.specs.declared.outside.port.PortFault.TheVariants.{F
 ghost use Rattle.line_fixed.specs.Fixed.{AnswersPort, took, with_answer, with_entry, with_port_fault};
 ghost use Rattle.line_fixed.specs.PortItems.{told};
 
-use crate::port_items::{PortItems, PortItem};
 use crate::next::{LONGEST_GOT, copy_into};
+use crate::port_items::{PortItem, PortItems};
 use knx_model::{List, NoMemory, Octets, front};
 use line_model::{Port, PortFault, PortPolled};
 use std::alloc::Global;
