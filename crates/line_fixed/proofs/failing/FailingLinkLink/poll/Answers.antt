@@ -7,4 +7,4 @@ pub returns-in_err-begin-clause-polled : goal.returns-in_err-begin-clause-polled
 returns-in_err-begin-clause-polled g c =
     let same : c.begin.new.self.link ≡ c.args.self.now.link = grind (arith, common_steps) in
     let failed : c.from_residual.result ≡ Err c.in_err-begin.field-0.0 = grind (arith, common_steps) in
-    rw (failed, same) (polls_nothing (g.L.Link.story c.args.self.now.link))
+    rw (failed, same) (polls_nothing c.args.wait_ms (g.L.Link.story c.args.self.now.link))
