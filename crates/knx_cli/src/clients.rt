@@ -1,6 +1,7 @@
 //! The clients of a port, each by a number: the first is 0, and each new one has the next number. A number names its client for ever.
 
-ghost use Rattle.std.specs.Prelude.{◌≡◌, [], Contains, IfNone, IfOk, IfSome, Some, slice_get};
+ghost use Rattle.std.specs.Prelude.{◌≡◌, ◌<◌, [], Contains, IfNone, IfOk, IfSome, Some, length, slice_get};
+ghost use Rattle.std.specs.List.{HoldsAt};
 ghost use Rattle.knx_cli.specs.Datagrams.{NamesOn};
 
 use std::alloc::Global;
@@ -25,7 +26,8 @@ impl Model for Clients {
 
 /// The first place of an address.
 fn position_of(addresses: &[SocketAddr], address: SocketAddr) -> Option<usize>
-    ensures found { IfSome result (λ at. slice_get addresses.now at ≡ Some address) }
+    ensures within { IfSome result (λ at. at < length addresses.now) }
+    ensures found { IfSome result (λ at. HoldsAt (λ known. known ≡ address) addresses.now at) }
     ensures absent { IfNone result (¬ Contains addresses.now address) }
 {
     addresses.iter().position(|known| *known == address)

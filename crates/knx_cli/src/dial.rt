@@ -110,3 +110,40 @@ impl<'a, R: Net + Clock + Sync> Dialer for UdpDialer<'a, R> {
         self.take_back(door.faults());
     }
 }
+
+#[cfg(test)]
+mod tests {
+    use super::*;
+    use line_model::{Link, LinkFault};
+    use std::net::Ipv4Addr;
+    use std::test::Fail;
+
+    const HOST: [u8; 4] = [127, 0, 0, 1];
+
+    #[test]
+    fn a_port_that_is_taken_is_not_bound(rt: HostRuntime) -> Result<(), Fail> {
+        let other = UdpSocket::bind(&rt, (Ipv4Addr::LOCALHOST, 0))?;
+        let taken = other.local_addr()?.port();
+        let mut dialer = UdpDialer::new(&rt, rt.alloc());
+        assert!(rt; dialer.bind(HOST, taken).is_err());
+        assert_eq!(rt; dialer.faults, 1);
+        let door = dialer.bind(HOST, 0).ok().ok_or("no port")?;
+        dialer.shut(door);
+        assert_eq!(rt; dialer.faults, 1);
+        Ok(())
+    }
+
+    #[test]
+    fn the_faults_of_a_link_are_taken_in(rt: HostRuntime) -> Result<(), Fail> {
+        let mut dialer = UdpDialer::new(&rt, rt.alloc());
+        let mut line = dialer.dial(HOST, 3671).ok().ok_or("no link")?;
+        // no datagram is so long
+        let long = Vec::from_elem(rt.alloc(), 0, 65_536)?;
+        assert_eq!(rt; line.send(&long), Err(LinkFault::Failed));
+        assert_eq!(rt; line.send(&long), Err(LinkFault::Failed));
+        assert_eq!(rt; (line.faults(), dialer.faults), (2, 0));
+        dialer.hang(line);
+        assert_eq!(rt; dialer.faults, 1);
+        Ok(())
+    }
+}

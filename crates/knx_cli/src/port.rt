@@ -1,7 +1,7 @@
 //! The port where the gateway serves its clients over UDP. It tells nothing of what it takes and gives.
 
 ghost use Rattle.std.specs.IoError.{error_kind};
-ghost use Rattle.std.specs.Prelude.{◌≡◌, ◌≤◌, [], Err, IfErr, IfOk, Ok, OnOk, slice_get};
+ghost use Rattle.std.specs.Prelude.{◌≡◌, ◌≤◌, [], Err, IfErr, IfOk, Ok, OnErr, OnOk, slice_get};
 ghost use Rattle.knx_model.specs.Outside.{one_more};
 ghost use Rattle.line_model.specs.PortStory.{Adds, FailsWhere, Gave, GivesOrNot, TakesSo, Untold};
 ghost use Rattle.knx_cli.specs.Datagrams.{GivesTo, NamesOn, PortBrings, counted, port_fault_of};
@@ -118,5 +118,68 @@ impl<S: Datagrams> Port for UdpPort<S> {
     {
         let given = self.put(to, octets);
         self.answer(given)
+    }
+}
+
+#[cfg(test)]
+mod tests {
+    use super::*;
+    use crate::dial::UdpDialer;
+    use line_model::{Dialer, Link, Polled};
+    use std::test::Fail;
+
+    const HOST: [u8; 4] = [127, 0, 0, 1];
+
+    #[test]
+    fn datagrams_go_there_and_back(rt: HostRuntime) -> Result<(), Fail> {
+        let mut dialer = UdpDialer::new(&rt, rt.alloc());
+        let mut door = dialer.bind(HOST, 0).ok().ok_or("no port")?;
+        let number = door.socket.local_addr()?.port();
+        let mut line = dialer.dial(HOST, number).ok().ok_or("no link")?;
+        let mut into = [0; LONGEST];
+        assert_eq!(rt; door.take(&mut into, 0), Ok(PortPolled::Quiet));
+        for (len, got) in [(0, 0), (5, 5), (512, 512), (513, 512), (1400, 512)] {
+            assert_eq!(rt; line.send(&[7; 1400][..len]), Ok(()));
+            assert_eq!(rt;
+                door.take(&mut into, 1000),
+                Ok(PortPolled::Got { len: got, from: 0 })
+            );
+        }
+        assert_eq!(rt; into, [7; LONGEST]);
+        assert_eq!(rt; door.give(0, b"back"), Ok(()));
+        assert_eq!(rt; line.poll(&mut into, 1000), Ok(Polled::Got(4)));
+        assert!(rt; into.starts_with(b"back"));
+        Ok(())
+    }
+
+    #[test]
+    fn a_new_endpoint_is_a_new_client(rt: HostRuntime) -> Result<(), Fail> {
+        let mut dialer = UdpDialer::new(&rt, rt.alloc());
+        let mut door = dialer.bind(HOST, 0).ok().ok_or("no port")?;
+        let number = door.socket.local_addr()?.port();
+        let mut line = dialer.dial(HOST, number).ok().ok_or("no link")?;
+        let mut other = dialer.dial(HOST, number).ok().ok_or("no other link")?;
+        let mut into = [0; LONGEST];
+        for (renews, from) in [(false, 0), (true, 2), (false, 2)] {
+            if renews {
+                assert_eq!(rt; line.renew(), Ok(()));
+            }
+            assert_eq!(rt; line.send(b"asks"), Ok(()));
+            assert_eq!(rt;
+                door.take(&mut into, 1000),
+                Ok(PortPolled::Got { len: 4, from })
+            );
+            assert_eq!(rt; other.send(b"other"), Ok(()));
+            assert_eq!(rt;
+                door.take(&mut into, 1000),
+                Ok(PortPolled::Got { len: 5, from: 1 })
+            );
+            assert_eq!(rt; door.give(from, b"answers"), Ok(()));
+            assert_eq!(rt; line.poll(&mut into, 1000), Ok(Polled::Got(7)));
+        }
+        assert_eq!(rt; other.poll(&mut into, 0), Ok(Polled::Quiet));
+        assert_eq!(rt; door.give(3, b"nobody"), Err(PortFault::Failed));
+        assert_eq!(rt; door.faults(), 1);
+        Ok(())
     }
 }
