@@ -29,6 +29,11 @@ IsAt host port address = (ip : Ipv4Addr) × (ipv4_octets ip ≡ host) × (socket
 
 -- ---- what a socket was given, the newest first, and what comes to it, in order
 
+-- it was given none
+abbrev pub IsUnused : Option (List Datagram) → Type 0
+IsUnused None = Unit {0}
+IsUnused (Some sent) = sent ≡ []
+
 -- it was given this datagram
 abbrev pub Gives : Datagram → Option (List Datagram) → Option (List Datagram) → Type 0
 Gives given None after = after ≡ None

@@ -5,7 +5,7 @@ ghost use Rattle.std.specs.Prelude.{◌≡◌, ◌≤◌, Err, IfErr, IfOk, Ok, 
 ghost use Rattle.knx_model.specs.Outside.{one_more};
 ghost use Rattle.line_model.specs.LinkStory.{Renews, RenewsOrNot, Sends, SendsOrNot, Untold};
 ghost use Rattle.line_model.specs.Polled.{FailsWhere, PollsSo};
-ghost use Rattle.knx_cli.specs.Datagrams.{Gives, LinkBrings, counted, link_fault_of};
+ghost use Rattle.knx_cli.specs.Datagrams.{Gives, IsUnused, LinkBrings, counted, link_fault_of};
 
 use crate::disk::memory_of;
 use crate::socket::{Datagrams, LONGEST, address_of, send_whole};
@@ -32,6 +32,7 @@ impl<'a, R: Net + Clock, S: Datagrams> UdpLink<'a, R, S> {
     /// A link to a gateway, of which no call was made yet.
     pub fn open(rt: &'a R, gateway: SocketAddr) -> io::Result<Self>
         ensures gateway { IfOk result (λ l. l.gateway ≡ gateway) }
+        ensures unused { IfOk result (λ l. IsUnused (S.sent l.socket)) }
         ensures faults { IfOk result (λ l. l.faults ≡ 0) }
     {
         Ok(UdpLink {
@@ -90,6 +91,7 @@ impl<'a, R: Net + Clock, S: Datagrams> UdpLink<'a, R, S> {
 
     /// Takes a socket on a free port in place of the one that it has.
     fn bind_anew(&mut self) -> io::Result<()>
+        ensures unused { OnOk result (IsUnused (S.sent self.new.socket)) }
         ensures kept { OnErr result (self.new ≡ self.old) }
         ensures others { self.new ≡ record self.old { socket = self.new.socket } }
     {
@@ -149,6 +151,7 @@ impl<R: Net + Clock, S: Datagrams> Link for UdpLink<'_, R, S> {
     fn renew(&mut self) -> Result<(), LinkFault>
         ensures renewed { OnOk result (Renews Untold Untold) }
         ensures failed { OnErr result (RenewsOrNot Untold Untold) }
+        ensures unused { OnOk result (IsUnused (S.sent self.new.socket)) }
         ensures still { OnOk result (self.new.faults ≡ self.old.faults) }
         ensures gateway { self.new.gateway ≡ self.old.gateway }
         ensures socket { OnErr result (self.new.socket ≡ self.old.socket) }

@@ -1,7 +1,7 @@
 //! Sockets for datagrams (UDP). They aren't connected: each datagram has its own address.
 
 ghost use Rattle.std.specs.Prelude.{◌≡◌, ◌≤◌, IfOk, IfSome, None, OnOk, length, take};
-ghost use Rattle.knx_cli.specs.Datagrams.{Brings, Gives, IsAt};
+ghost use Rattle.knx_cli.specs.Datagrams.{Brings, Gives, IsAt, IsUnused};
 
 use std::io::{self, ErrorKind};
 use std::net::{IpAddr, Ipv4Addr, Net, SocketAddr, UdpSocket};
@@ -21,10 +21,11 @@ pub trait Datagrams: Drop {
     /// The datagrams that come to it, in order, where it tells them.
     ghost coming: { Self → Option (List Datagram) };
 
-    /// A socket at an address.
+    /// A new socket at an address.
     fn bound<R: Net>(rt: &R, at: SocketAddr) -> io::Result<Self>
     where
-        Self: Sized;
+        Self: Sized,
+        ensures { IfOk result (λ s. IsUnused (sent s)) };
 
     /// Gives it a datagram, of which it takes a front.
     fn put(&mut self, octets: &[u8], to: SocketAddr) -> io::Result<usize>

@@ -78,6 +78,13 @@ impl Entries {
         }
     }
 
+    /// Each stretch of equal entries, the oldest first.
+    pub fn stretches(&self) -> &[Stretch]
+        ensures { whole result.now ≡ self.now }
+    {
+        self.stretches.as_slice()
+    }
+
     /// The number of entries, equal ones each counted.
     pub fn len(&self) -> u64
         ensures { result ≡ length self.now }

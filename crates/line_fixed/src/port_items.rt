@@ -2,7 +2,7 @@
 
 ghost use Rattle.std.specs.Prelude.{◌≡◌, []};
 ghost use Rattle.line_fixed.specs.Fixed.{with_entry};
-ghost use Rattle.line_fixed.specs.PortItems.{told};
+ghost use Rattle.line_fixed.specs.PortItems.{newest_first, told};
 
 use knx_model::{NoMemory, Octets};
 use std::alloc::Global;
@@ -44,6 +44,13 @@ impl PortItems {
         PortItems {
             items: Vec::new(alloc),
         }
+    }
+
+    /// What was done, the oldest first.
+    pub fn as_slice(&self) -> &[PortItem]
+        ensures { newest_first result.now ≡ self.now }
+    {
+        self.items.as_slice()
     }
 
     /// Adds what is done now. At `Err` nothing has changed.

@@ -1,8 +1,8 @@
 //! Each call of each type once, what fails where it is told to, and where datagrams are cut off.
 
 use crate::{
-    Dialer, FailingLink, FixedDialer, FixedLink, FixedPort, Link, LinkFault, List, NoMemory,
-    Octets, Polled, Port, PortFault, PortPolled,
+    Dialer, FailingLink, FixedDialer, FixedLink, FixedPort, Item, Link, LinkFault, List, NoMemory,
+    Octets, Polled, Port, PortFault, PortItem, PortPolled,
 };
 use std::alloc::Global;
 use std::test::Fail;
@@ -65,6 +65,10 @@ fn a_link_without_datagrams_is_quiet_for_the_whole_wait(rt: HostRuntime) -> Resu
     assert_eq!(rt; link.send(&[1, 2]), Ok(()));
     assert_eq!(rt; link.renew(), Ok(()));
     assert_eq!(rt; (link.now(), link.at()), (4_294_967_400, 7));
+    // the two sendings are kept as one
+    let stretches = link.entries.stretches();
+    assert_eq!(rt; stretches.len(), 6);
+    assert!(rt; matches!(stretches[4].what, Item::Put(_)) && stretches[4].more == 1);
     Ok(())
 }
 
@@ -127,6 +131,11 @@ fn a_port_gives_its_datagrams_and_takes_what_it_is_given(rt: HostRuntime) -> Res
     assert_eq!(rt; port.give(4, &[1]), Err(PortFault::Failed));
     assert_eq!(rt; port.give(4, &[1]), Ok(()));
     assert_eq!(rt; (port.calls, port.faults, into[511]), (7, 2, 6));
+    let items = port.items.as_slice();
+    assert_eq!(rt; items.len(), 5);
+    assert!(rt;
+        matches!(items[3], PortItem::Quiet) && matches!(items[4], PortItem::Gave { to: 4, .. })
+    );
     Ok(())
 }
 
