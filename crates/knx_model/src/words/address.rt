@@ -31,6 +31,7 @@ fn cut_at(word: &[u8], by: u8) -> Option<(&[u8], &[u8])>
 }
 
 /// The numbers, each up to its most, of a word that is joined of three by `by`.
+#[inline(always)]
 fn three_parts(word: &[u8], by: u8, most: (u32, u32, u32)) -> Option<(u32, u32, u32)>
     requires { digit_value by ≡ 36 }
     ensures value { result ≡ option_and_then (λ parts. option_and_then (λ a. option_and_then (λ b. option_map (λ c. (a, b, c)) (part_value most.2 parts.2)) (part_value most.1 parts.1)) (part_value most.0 parts.0)) (three (slice_split (λ b. b == by) word.now)) }

@@ -20,6 +20,7 @@ struct Letters {
 }
 
 /// Counts a letter.
+#[inline(always)]
 fn count(letters: &mut Letters, letter: u8)
     requires { (letters.old.c < 2 ^ 63) × (letters.old.r < 2 ^ 63) × (letters.old.w < 2 ^ 63) × (letters.old.t < 2 ^ 63) × (letters.old.u < 2 ^ 63) × (letters.old.i < 2 ^ 63) }
     ensures c { letters.new.c ≡ letters.old.c + (if letter == 67 then 1 else 0) }

@@ -70,6 +70,7 @@ fn three_digits(a: u8, b: u8, c: u8) -> Option<u32>
 
 /// The number that 1 to 3 decimal digits write.
 #[tactic(auto, unfolding(crate::specs::Numbers::numeral))]
+#[inline(always)]
 fn up_to_three_digits(word: &[u8]) -> Option<u32>
     ensures { result ≡ numeral 10 3 word.now }
 {
@@ -99,6 +100,7 @@ pub fn number_in(word: &[u8]) -> Option<u32>
 
 /// A part of an address: 1 to 3 decimal digits.
 #[tactic(auto, unfolding(crate::specs::Numbers::part_value))]
+#[inline(always)]
 pub fn part_in(most: u32, word: &[u8]) -> Option<u32>
     ensures value { result ≡ part_value most word.now }
     ensures within { IfSome result (λ n. n ≤ most) }
