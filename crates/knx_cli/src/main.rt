@@ -10,6 +10,8 @@ mod link;
 mod output;
 mod port;
 mod socket;
+#[cfg(test)]
+mod stops;
 mod words;
 
 use crate::disk::Disk;

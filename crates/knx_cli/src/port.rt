@@ -126,59 +126,73 @@ mod tests {
     use super::*;
     use crate::dial::UdpDialer;
     use line_model::{Dialer, Link, Polled};
+    use std::net::UdpSocket;
     use std::test::Fail;
+    use std::time::Clock;
 
     const HOST: [u8; 4] = [127, 0, 0, 1];
+
+    /// A port, and its number.
+    fn bind<R: Net + Clock + Sync>(
+        dialer: &mut UdpDialer<'_, R>,
+    ) -> io::Result<(UdpPort<UdpSocket>, u16)> {
+        let Ok(door) = dialer.bind(HOST, 0) else {
+            return Err(io::Error::from(ErrorKind::AddrInUse));
+        };
+        let number = door.socket.local_addr()?.port();
+        Ok((door, number))
+    }
+
+    /// What comes to a port: how many octets, from whom, and the first of them.
+    fn came<S: Datagrams>(door: &mut UdpPort<S>, wait_ms: u32) -> Option<(usize, u32, u8)> {
+        let mut into = [0; LONGEST];
+        match door.take(&mut into, wait_ms) {
+            Ok(PortPolled::Got { len, from }) => Some((len, from, into[0])),
+            _ => None,
+        }
+    }
+
+    /// What comes to a link: how many octets, and the first of them.
+    fn came_back<L: Link>(line: &mut L, wait_ms: u32) -> Option<(usize, u8)> {
+        let mut into = [0; LONGEST];
+        match line.poll(&mut into, wait_ms) {
+            Ok(Polled::Got(len)) => Some((len, into[0])),
+            _ => None,
+        }
+    }
 
     #[test]
     fn datagrams_go_there_and_back(rt: HostRuntime) -> Result<(), Fail> {
         let mut dialer = UdpDialer::new(&rt, rt.alloc());
-        let mut door = dialer.bind(HOST, 0).ok().ok_or("no port")?;
-        let number = door.socket.local_addr()?.port();
+        let (mut door, number) = bind(&mut dialer)?;
         let mut line = dialer.dial(HOST, number).ok().ok_or("no link")?;
-        let mut into = [0; LONGEST];
-        assert_eq!(rt; door.take(&mut into, 0), Ok(PortPolled::Quiet));
-        for (len, got) in [(0, 0), (5, 5), (512, 512), (513, 512), (1400, 512)] {
-            assert_eq!(rt; line.send(&[7; 1400][..len]), Ok(()));
-            assert_eq!(rt;
-                door.take(&mut into, 1000),
-                Ok(PortPolled::Got { len: got, from: 0 })
-            );
+        assert!(rt; came(&mut door, 0).is_none());
+        for (len, got) in [(1, 1), (512, 512), (513, 512), (1400, 512)] {
+            assert!(rt; line.send(&[7; 1400][..len]).is_ok());
+            assert_eq!(rt; came(&mut door, 1000), Some((got, 0, 7)));
         }
-        assert_eq!(rt; into, [7; LONGEST]);
-        assert_eq!(rt; door.give(0, b"back"), Ok(()));
-        assert_eq!(rt; line.poll(&mut into, 1000), Ok(Polled::Got(4)));
-        assert!(rt; into.starts_with(b"back"));
+        assert!(rt; line.send(&[]).is_ok());
+        assert_eq!(rt; came(&mut door, 1000), Some((0, 0, 0)));
+        assert!(rt; door.give(0, b"back").is_ok());
+        assert_eq!(rt; came_back(&mut line, 1000), Some((4, b'b')));
         Ok(())
     }
 
     #[test]
     fn a_new_endpoint_is_a_new_client(rt: HostRuntime) -> Result<(), Fail> {
         let mut dialer = UdpDialer::new(&rt, rt.alloc());
-        let mut door = dialer.bind(HOST, 0).ok().ok_or("no port")?;
-        let number = door.socket.local_addr()?.port();
+        let (mut door, number) = bind(&mut dialer)?;
         let mut line = dialer.dial(HOST, number).ok().ok_or("no link")?;
-        let mut other = dialer.dial(HOST, number).ok().ok_or("no other link")?;
-        let mut into = [0; LONGEST];
-        for (renews, from) in [(false, 0), (true, 2), (false, 2)] {
-            if renews {
-                assert_eq!(rt; line.renew(), Ok(()));
+        for client in 0..3 {
+            for _ in 0..2 {
+                assert!(rt; line.send(b"asks").is_ok());
+                assert_eq!(rt; came(&mut door, 1000), Some((4, client, b'a')));
             }
-            assert_eq!(rt; line.send(b"asks"), Ok(()));
-            assert_eq!(rt;
-                door.take(&mut into, 1000),
-                Ok(PortPolled::Got { len: 4, from })
-            );
-            assert_eq!(rt; other.send(b"other"), Ok(()));
-            assert_eq!(rt;
-                door.take(&mut into, 1000),
-                Ok(PortPolled::Got { len: 5, from: 1 })
-            );
-            assert_eq!(rt; door.give(from, b"answers"), Ok(()));
-            assert_eq!(rt; line.poll(&mut into, 1000), Ok(Polled::Got(7)));
+            assert!(rt; door.give(client, b"told").is_ok());
+            assert_eq!(rt; came_back(&mut line, 1000), Some((4, b't')));
+            assert!(rt; line.renew().is_ok());
         }
-        assert_eq!(rt; other.poll(&mut into, 0), Ok(Polled::Quiet));
-        assert_eq!(rt; door.give(3, b"nobody"), Err(PortFault::Failed));
+        assert!(rt; door.give(3, b"nobody").is_err());
         assert_eq!(rt; door.faults(), 1);
         Ok(())
     }
