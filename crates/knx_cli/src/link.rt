@@ -203,8 +203,10 @@ mod tests {
 
     #[test]
     fn a_quiet_wait_takes_its_time(rt: HostRuntime) -> Result<(), Fail> {
-        let mut link: UdpLink<HostRuntime, UdpSocket> =
-            UdpLink::open(&rt, address_of(GATEWAY, 3671))?;
+        let mut link: UdpLink<HostRuntime, UdpSocket> = UdpLink::open(
+            &rt,
+            address_of(GATEWAY, 3671),
+        )?;
         assert!(rt; is_quiet(&mut link, 0));
         let before = link.now();
         assert!(rt; is_quiet(&mut link, 30));
@@ -216,8 +218,10 @@ mod tests {
     #[test]
     fn a_clock_that_stops_is_a_failure(rt: HostRuntime) -> Result<(), Fail> {
         let stops = Stops::new(&rt);
-        let mut link: UdpLink<Stops<HostRuntime>, UdpSocket> =
-            UdpLink::open(&stops, address_of(GATEWAY, 3671))?;
+        let mut link: UdpLink<Stops<HostRuntime>, UdpSocket> = UdpLink::open(
+            &stops,
+            address_of(GATEWAY, 3671),
+        )?;
         stops.stop();
         assert!(rt; link.send(b"lost").is_err());
         assert!(rt; !is_quiet(&mut link, 0));

@@ -181,12 +181,15 @@ module _ (jobs : List Job) (turns : List GroupTurn) (count : ℕ) where
     where
       of_it : (k : ℕ) × Fails k e.what → (k : ℕ) × Undone k (e ∷ l)
       of_it (k, it) =
-          let was : (is_taken (state_of k l) ≡ true) × (is_over (state_of k l) ≡ false) = held e.worker (state_of k l) (ending k e.worker l e.what it.ends h.0.follows) in
-          (k, record {
-            there = there k l h.1 was.0;
-            over = ap is_over (after_end k e (state_of k l) it.taken_not it.ends);
-            untold = both_not (is_done k e.what) (tells_done k l) it.done_not (undone k l h.1 was.1);
-          })
+          let was : (is_taken (state_of k l) ≡ true) × (is_over (state_of k l) ≡ false) = held e.worker (state_of k l) (ending k e.worker l e.what it.ends h.0.follows) in (
+            k,
+            record {
+              there = there k l h.1 was.0;
+              over = ap is_over (after_end k e (state_of k l) it.taken_not it.ends);
+              untold = both_not (is_done k e.what) (tells_done k l) it.done_not (undone k l h.1 was.1);
+            },
+          )
+
       by_entry : (b : Bool) → is_failure e.what ≡ b → (k : ℕ) × Undone k (e ∷ l)
       by_entry true b = of_it (fails e.what b)
       by_entry false b =

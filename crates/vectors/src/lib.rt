@@ -11,9 +11,9 @@ mod devices;
 #[cfg(test)]
 mod field_words;
 #[cfg(test)]
-mod link_frames;
-#[cfg(test)]
 mod line_reports;
+#[cfg(test)]
+mod link_frames;
 #[cfg(test)]
 mod load_events;
 #[cfg(test)]
