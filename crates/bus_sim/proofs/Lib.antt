@@ -20,3 +20,4 @@ pub mod Later
 pub mod Repeats
 pub mod ActsOnce
 pub mod Owes
+pub mod Linked

@@ -1,4 +1,4 @@
--- What the script calls for can happen: the device that it names is there, and the channel that it closes is open.
+-- What the script calls for can happen: the device that it names is there, and the channel that it closes is opened.
 use Rattle.std.proofs.Common.{◌≡◌, ◌≢◌, ◌⊎◌, inl, inr, ℕ, zero, suc, ◌+◌, ◌-◌, ◌<◌, ◌≤◌, ◌==◌, Bool, true, false, ◌&&◌, List, [], ◌∷◌, ◌++◌, drop, length, is_some, Option, Some, None, refl, ap, sym, subst, ◌∙◌, arith, if◌then◌else◌}
 use Rattle.std.specs.Prelude.{slice_get, nat_lt}
 use Rattle.std.specs.List.{AllByRecursion, filter}
@@ -50,9 +50,9 @@ IsTunnels (what ∷ rest) = ⊥
 tunnels : (w : World) (l : List Owed) → AtTunnel w l → IsTunnels l
 tunnels w l Nothing = tt
 tunnels w l (Again number) = tt
-tunnels w l (Closes open) = tt
-tunnels w l (AgainCloses number acted open) = tt
-tunnels w l (ClosesAgain number open) = tt
+tunnels w l (Closes opened) = tt
+tunnels w l (AgainCloses number acted opened) = tt
+tunnels w l (ClosesAgain number opened) = tt
 
 abbrev pub Owes : World → List Owed → Type 0
 Owes w l = AllByRecursion (AtDevice w) l ⊎ AtTunnel w l
@@ -74,23 +74,23 @@ tunnel_left w test l (Again number) = by_test (test (DeliverAgain number))
     by_test : (t : Bool) → AtTunnel w (if t then DeliverAgain number ∷ [] else [])
     by_test true = Again number
     by_test false = Nothing
-tunnel_left w test l (Closes open) = by_test (test ChannelCloses)
+tunnel_left w test l (Closes opened) = by_test (test ChannelCloses)
   where
     by_test : (t : Bool) → AtTunnel w (if t then ChannelCloses ∷ [] else [])
-    by_test true = Closes open
+    by_test true = Closes opened
     by_test false = Nothing
-tunnel_left w test l (AgainCloses number acted open) = by_tests (test (DeliverAgain number)) (test ChannelCloses)
+tunnel_left w test l (AgainCloses number acted opened) = by_tests (test (DeliverAgain number)) (test ChannelCloses)
   where
     by_tests : (s t : Bool) → AtTunnel w (if s then DeliverAgain number ∷ (if t then ChannelCloses ∷ [] else []) else (if t then ChannelCloses ∷ [] else []))
-    by_tests true true = AgainCloses number acted open
+    by_tests true true = AgainCloses number acted opened
     by_tests true false = Again number
-    by_tests false true = Closes open
+    by_tests false true = Closes opened
     by_tests false false = Nothing
-tunnel_left w test l (ClosesAgain number open) = by_tests (test ChannelCloses) (test (DeliverAgain number))
+tunnel_left w test l (ClosesAgain number opened) = by_tests (test ChannelCloses) (test (DeliverAgain number))
   where
     by_tests : (s t : Bool) → AtTunnel w (if s then ChannelCloses ∷ (if t then DeliverAgain number ∷ [] else []) else (if t then DeliverAgain number ∷ [] else []))
-    by_tests true true = ClosesAgain number open
-    by_tests true false = Closes open
+    by_tests true true = ClosesAgain number opened
+    by_tests true false = Closes opened
     by_tests false true = Again number
     by_tests false false = Nothing
 
@@ -216,17 +216,17 @@ module _ (script : Script) (start : World) (past : List Event) where
   stays_sent octets l (inl h) = inl (all_stay (replay start past) (Send octets) l h)
   stays_sent octets l (inr Nothing) = inr Nothing
   stays_sent octets l (inr (Again number)) = inr (Again number)
-  stays_sent octets l (inr (Closes open)) = inr (Closes (open_sent (replay start past) octets open))
-  stays_sent octets l (inr (AgainCloses number acted open)) = inr (AgainCloses number (acted_sent (replay start past) octets number acted) (open_sent (replay start past) octets open))
-  stays_sent octets l (inr (ClosesAgain number open)) = inr (ClosesAgain number (open_sent (replay start past) octets open))
+  stays_sent octets l (inr (Closes opened)) = inr (Closes (open_sent (replay start past) octets opened))
+  stays_sent octets l (inr (AgainCloses number acted opened)) = inr (AgainCloses number (acted_sent (replay start past) octets number acted) (open_sent (replay start past) octets opened))
+  stays_sent octets l (inr (ClosesAgain number opened)) = inr (ClosesAgain number (open_sent (replay start past) octets opened))
 
   stays_renewed : (l : List Owed) → Owes (replay start past) l → Owes (step (replay start past) Renew) l
   stays_renewed l (inl h) = inl (all_stay (replay start past) Renew l h)
   stays_renewed l (inr Nothing) = inr Nothing
   stays_renewed l (inr (Again number)) = inr (Again number)
-  stays_renewed l (inr (Closes open)) = inr (Closes (open_renewed (replay start past) open))
-  stays_renewed l (inr (AgainCloses number acted open)) = inr (AgainCloses number (acted_renewed (replay start past) number acted) (open_renewed (replay start past) open))
-  stays_renewed l (inr (ClosesAgain number open)) = inr (ClosesAgain number (open_renewed (replay start past) open))
+  stays_renewed l (inr (Closes opened)) = inr (Closes (open_renewed (replay start past) opened))
+  stays_renewed l (inr (AgainCloses number acted opened)) = inr (AgainCloses number (acted_renewed (replay start past) number acted) (open_renewed (replay start past) opened))
+  stays_renewed l (inr (ClosesAgain number opened)) = inr (ClosesAgain number (open_renewed (replay start past) opened))
 
   client_calls : (e : Event) (l : List Owed) → MayHappen Commissions (replay start past) e → is_clients e ≡ true → Owes (replay start past) l → Owes (step (replay start past) e) (left_after e l ++ caused script start past e)
   client_calls (Send octets) l may client h = subst (Owes (step (replay start past) (Send octets))) (sym (and_nothing l)) (stays_sent octets l h)
@@ -244,7 +244,7 @@ module _ (script : Script) (start : World) (past : List Event) where
       → Owes (step (replay start past) (Up age)) (rest ++ caused script start past (Up age))
   again_met number age rest may aged (inl h) = absurd h.0
   again_met number age rest may aged (inr (Again n)) = inr (up_calls age may)
-  again_met number age rest may aged (inr (AgainCloses n acted open)) =
+  again_met number age rest may aged (inr (AgainCloses n acted opened)) =
       inr (by_test (repeats_up script (number_at (replay start past).tunnel.network.up age)) (nat_lt (requests_acted start past) (requests_acted start (Up age ∷ past)) && drops script (requests_acted start (Up age ∷ past)))
       (λ so. repeats.0 (first_true _ _ so)))
     where
@@ -260,14 +260,14 @@ module _ (script : Script) (start : World) (past : List Event) where
       → Owes (step (replay start past) (UpRefused age status)) (rest ++ caused script start past (UpRefused age status))
   refused_met number age status rest may aged (inl h) = absurd h.0
   refused_met number age status rest may aged (inr (Again n)) = inr (refused_calls age status)
-  refused_met number age status rest may aged (inr (AgainCloses n acted open)) =
+  refused_met number age status rest may aged (inr (AgainCloses n acted opened)) =
       absurd (never_connects (replay start past) (slice_get (replay start past).tunnel.network.up (age_of (replay start past).tunnel.network.up number)) acted.octets
       (subst (λ k. OfSent (λ s. _) (slice_get (replay start past).tunnel.network.up k)) aged may.tunnel.1))
 
   closing_met : (rest : List Owed) → Owes (replay start past) (ChannelCloses ∷ rest) → Owes (step (replay start past) GwClose) (rest ++ [])
   closing_met rest (inl h) = absurd h.0
-  closing_met rest (inr (Closes open)) = inr Nothing
-  closing_met rest (inr (ClosesAgain number open)) = inr (Again number)
+  closing_met rest (inr (Closes opened)) = inr Nothing
+  closing_met rest (inr (ClosesAgain number opened)) = inr (Again number)
 
   met_calls : (what : Owed) (rest : List Owed) → MayHappen Commissions (replay start past) (met script start past what) → Owes (replay start past) (what ∷ rest)
       → Owes (step (replay start past) (met script start past what)) (left_after (met script start past what) (what ∷ rest) ++ caused script start past (met script start past what))
@@ -312,8 +312,8 @@ first_can w (PowerReturns device) rest (inr h) = absurd (tunnels w _ h)
 first_can w (ConnectionCloses device) rest (inl h) = h.0
 first_can w (ConnectionCloses device) rest (inr h) = absurd (tunnels w _ h)
 first_can w ChannelCloses rest (inl h) = absurd h.0
-first_can w ChannelCloses rest (inr (Closes open)) = open
-first_can w ChannelCloses rest (inr (ClosesAgain number open)) = open
+first_can w ChannelCloses rest (inr (Closes opened)) = opened
+first_can w ChannelCloses rest (inr (ClosesAgain number opened)) = opened
 
 pub can_meet : (w : World) (l : List Owed) (what : Owed) → first_of l ≡ Some what → Owes w l → CanMeet w what
 can_meet w [] what e h = cc

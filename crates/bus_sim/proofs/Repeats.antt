@@ -80,7 +80,7 @@ heard_behind (Some c) from now number h = by_test (c.endpoint == from)
 -- it isn't acted on, and the channel stays open
 pub record Repeats (t : GatewayTook) : Type 0 where
   pub nothing : is_some t.acted ≡ false
-  pub open : is_some t.after.channel ≡ true
+  pub opened : is_some t.after.channel ≡ true
 
 repeats_if : (b : Bool) (t u : GatewayTook) → (b ≡ true → Repeats t) → (b ≡ false → Repeats u) → Repeats (if b then t else u)
 repeats_if true t u this that = this refl
@@ -91,13 +91,13 @@ is_open None number h = absurd h
 is_open (Some c) number h = refl
 
 request_repeats : (g : Gateway) (channel : Option Channel) (number : ℕ) (cemi : List ℕ) → is_some g.channel ≡ true → IsBehind channel number → Repeats (request_took g channel number cemi)
-request_repeats g None number cemi open h = absurd h
-request_repeats g (Some c) number cemi open h = repeats_if (number == c.expected) _ _ (λ e. untrue (sym h ∙ e))
-    (λ e. repeats_if (next_number number == c.expected) _ _ (λ s. record { nothing = refl; open = open }) (λ s. record { nothing = refl; open = open }))
+request_repeats g None number cemi opened h = absurd h
+request_repeats g (Some c) number cemi opened h = repeats_if (number == c.expected) _ _ (λ e. untrue (sym h ∙ e))
+    (λ e. repeats_if (next_number number == c.expected) _ _ (λ s. record { nothing = refl; opened = opened }) (λ s. record { nothing = refl; opened = opened }))
 
 took_repeats : (g : Gateway) (from now n number : ℕ) (cemi : List ℕ) → IsBehind g.channel number → Repeats (took g from now (TunnellingRequest n number cemi))
 took_repeats g from now n number cemi h = repeats_if (names from n g.channel) _ _ (λ s. request_repeats g g.channel number cemi (is_open g.channel number h) h)
-    (λ s. record { nothing = refl; open = is_open g.channel number h })
+    (λ s. record { nothing = refl; opened = is_open g.channel number h })
 
 pub repeats_nothing : (g : Gateway) (from now : ℕ) (frame : IpFrame) → IsRepeat g.channel (Some frame) → Repeats (gateway_took g from now frame)
 unfolding gateway_took

@@ -17,7 +17,7 @@ use Rattle.knx_model.specs.ScriptText.{are_script_lines, is_script_line, is_scri
 use Rattle.line_model.specs.Counts.{age_of, number_at, asks_connect, is_connect_at, connects_reached, frames_to, writes, write_of}
 use Rattle.line_model.specs.Deliveries.{next_up, next_down, delivery, refused_if, carriage, carriage_of, carried_to, written_at, write_event, torn_if, worn_if, effect_at}
 use Rattle.line_model.specs.Follows.{IsNext, IsInPlace, IsNextUp, IsNextDown, IsGatewayRepeat, IsGatewayClosing, gateway_due}
-use Rattle.line_model.specs.Fresh.{Settled, SettledFor}
+use Rattle.line_model.specs.Fresh.{HasNothingToSend, Settled, SettledFor}
 use Rattle.line_model.specs.Gateway as gateway
 use Rattle.line_model.specs.Gateway.{GatewayExpired}
 use Rattle.line_model.specs.Legal.{MayHappen, OfDevice}
@@ -263,8 +263,11 @@ goes_to old mid new e before went may foreign = record {
 pub goes_more : (old mid new : RunState) → GoesOnFrom old mid → Happens mid new → GoesOnFrom old new
 goes_more old mid new before h = goes_to old mid new h.event before h.went h.may h.foreign
 
-pub goes_past : (old mid new : RunState) (ms : ℕ) → GoesOnFrom old mid → Passes ms mid new → GoesOnFrom old new
-goes_past old mid new ms before h = goes_to old mid new (Pass ms) before h.went h.may refl
+some_time : (ms : ℕ) → 0 < ms → nat_lt 0 ms ≡ true
+some_time ms some = grind arith
+
+pub goes_past : (old mid new : RunState) (ms : ℕ) → GoesOnFrom old mid → 0 < ms → Passes ms mid new → GoesOnFrom old new
+goes_past old mid new ms before some h = goes_to old mid new (Pass ms) before h.went h.may (some_time ms some)
 
 pub goes_same : (old new : RunState) → seen new ≡ seen old → GoesOnFrom old new
 goes_same old new same = record { same = ap (λ (r : RunNow). r.begun) same; goes = subst (λ l. GoesOn (start (seen old)) old.events l) (sym (ap (λ (r : RunNow). r.events) same)) Same }
@@ -282,6 +285,9 @@ ok_delivered (Err x) old new age went right = tt
 pub ok_carried : {E : Type 0} (result : Result (Unit {0}) E) (old new : RunState) (frame : Ldata) → OnOk result (Went old (carried old frame) new) → OnOk result (IsRight (seen old) (carried old frame)) → OnOk result (Happens old new)
 ok_carried (Ok x) old new frame went right = carriage_happens old new frame went right
 ok_carried (Err x) old new frame went right = tt
+
+at_first : (now t ms : ℕ) → ms ≤ 1 → t < ms → now ≡ now + t
+at_first now t ms one early = omega (arith, one, early)
 
 module _ (b : Beginning) (es : List Event) (index : ScriptIndex) (n : LineNow) (counts : CountsNow) (o : List Owed) (h : IsHeld (record { begun = b; events = es }) index n counts o) where
   abbrev r : RunNow
@@ -374,8 +380,11 @@ module _ (b : Beginning) (es : List Event) (index : ScriptIndex) (n : LineNow) (
   settled_of v view settled = subst (λ (v : RunState). Settled Commissions (world v)) (sym view) settled
 
   pub still_until : (ms at end : ℕ) (v : RunState) → state ≡ v → Settled Commissions (world v) → at ≡ now (replay (start_of b) es)
-      → ((mode : Mode) (w : World) → IsNow n w → Settled mode w → (ms : ℕ) → now w + ms ≤ end → SettledFor mode w ms) → (ms ≡ 0) ⊎ (at + ms ≤ end) → SettledFor Commissions (replay (start_of b) es) ms
-  still_until ms at end v view settled is law (inl none) = record { settled = settled_of v view settled; still = λ t early. absurd (omega (arith, none, early)) }
+      → ((mode : Mode) (w : World) → IsNow n w → Settled mode w → (ms : ℕ) → now w + ms ≤ end → SettledFor mode w ms) → (ms ≤ 1) ⊎ (at + ms ≤ end) → SettledFor Commissions (replay (start_of b) es) ms
+  still_until ms at end v view settled is law (inl one) =
+      let w : World = replay (start_of b) es in
+      let now_settled : Settled Commissions w = settled_of v view settled in
+      record { settled = now_settled; still = λ t early. subst (HasNothingToSend w) (at_first (now w) t ms one early) now_settled.nothing_to_send }
   still_until ms at end v view settled is law (inr until) = law Commissions (replay (start_of b) es) h.pictured (settled_of v view settled) ms (subst (λ k. k + ms ≤ end) is until)
 
 -- the sender's datagram is lost

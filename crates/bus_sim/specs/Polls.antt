@@ -11,6 +11,11 @@ pub record GoesOnFrom (old new : RunState) : Type 0 where
   pub same : new.begun ≡ old.begun
   pub goes : GoesOn (start (seen old)) (seen old).events (seen new).events
 
+-- it stops within the wait, and the client got nothing
+pub record StopsWithin (wait : ℕ) (old new : RunState) : Type 0 where
+  pub goes : GoesOnFrom old new
+  pub in_time : time (seen new) ≤ time (seen old) + wait
+
 abbrev pub PolledSo : Polled → List ℕ → ℕ → RunState → RunState → Type 0
 PolledSo polled into wait old new = PollsAs polled into wait (time (seen new)) (story (seen old)) (story (seen new))
 

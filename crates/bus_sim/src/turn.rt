@@ -20,7 +20,7 @@ pub enum Turn {
     Got(Datagram),
     /// Something else happened, at once.
     Went,
-    /// So many milliseconds passed, until something was due.
+    /// So many milliseconds passed, at least one, until something was due.
     Passed(u32),
     /// The rest of the wait passed.
     Quiet,
