@@ -21,3 +21,4 @@ pub mod Repeats
 pub mod ActsOnce
 pub mod Owes
 pub mod Linked
+pub mod Meets

@@ -12,12 +12,12 @@ use Rattle.line_model.specs.Lines.{Script, closes, drops, repeats_up}
 use Rattle.line_model.specs.Network.{OfSent}
 use Rattle.line_model.specs.Owed.{Owed, DeliverAgain, ReachAgain, BringAgain, PowerReturns, ConnectionCloses, ChannelCloses, owed, owed_if, owed_of_carried, owed_of_frame, power_returns, frame_again, connection_closes, channel_closes, up_again, caused, left_after, is_clients, is_possible, met}
 use Rattle.line_model.specs.Reading.{datagram_in}
-use Rattle.line_model.specs.Tunnel.{Commissions}
+use Rattle.line_model.specs.Tunnel.{Commissions, IsConnectRequest}
 use Rattle.line_model.specs.World.{World, Event, Send, From, Renew, Up, UpRefused, Down, Bus, BusTorn, BusWorn, BusAgain, DevClose, GwClose, On, next_frame, replay, step}
 use Rattle.bus_sim.specs.Owing.{first_of}
 use Rattle.bus_sim.proofs.Owings.{and_nothing}
 use Rattle.bus_sim.proofs.Presence.{presence}
-use Rattle.bus_sim.proofs.ActsOnce.{WasActedOn, HasChannel, up_acts, up_repeats, acted_sent, acted_renewed, open_sent, open_renewed, never_connects}
+use Rattle.bus_sim.proofs.ActsOnce.{IsRepeated, WasActedOn, HasChannel, up_acts, up_repeats, acted_sent, acted_renewed, open_sent, open_renewed, never_connects}
 use Rattle.bus_sim.proofs.Turning.{of_delivery}
 
 -- ---- what is called for at devices, and what at the tunnel
@@ -61,11 +61,11 @@ Owes w l = AllByRecursion (AtDevice w) l ⊎ AtTunnel w l
 
 some_left : (P : Owed → Type 0) (test : Owed → Bool) (l : List Owed) → AllByRecursion P l → AllByRecursion P (filter test l)
 some_left P test [] h = tt
-some_left P test (x ∷ l) h = by_test (test x)
+some_left P test (x ∷ l) h = by_test (test x) (some_left P test l h.1)
   where
-    by_test : (t : Bool) → AllByRecursion P (if t then x ∷ filter test l else filter test l)
-    by_test true = (h.0, some_left P test l h.1)
-    by_test false = some_left P test l h.1
+    by_test : (t : Bool) → AllByRecursion P (filter test l) → AllByRecursion P (if t then x ∷ filter test l else filter test l)
+    by_test true rest = (h.0, rest)
+    by_test false rest = rest
 
 tunnel_left : (w : World) (test : Owed → Bool) (l : List Owed) → AtTunnel w l → AtTunnel w (filter test l)
 tunnel_left w test l Nothing = Nothing
@@ -249,7 +249,7 @@ module _ (script : Script) (start : World) (past : List Event) where
       (λ so. repeats.0 (first_true _ _ so)))
     where
       repeats : (nat_lt (requests_acted start past) (requests_acted start (Up age ∷ past)) ≡ true → ⊥) × HasChannel (step (replay start past) (Up age))
-      repeats = up_repeats (replay start past) age (subst (λ k. OfSent (λ s. _) (slice_get (replay start past).tunnel.network.up k)) (sym aged) acted.octets)
+      repeats = up_repeats (replay start past) age (subst (λ k. IsRepeated (replay start past).tunnel (slice_get (replay start past).tunnel.network.up k)) (sym aged) acted.octets)
 
       by_test : (s t : Bool) → (t ≡ true → ⊥) → AtTunnel (step (replay start past) (Up age)) (ChannelCloses ∷ (owed_if s (DeliverAgain (number_at (replay start past).tunnel.network.up age)) ++ owed_if t ChannelCloses))
       by_test s true h = absurd (h refl)
@@ -262,7 +262,7 @@ module _ (script : Script) (start : World) (past : List Event) where
   refused_met number age status rest may aged (inr (Again n)) = inr (refused_calls age status)
   refused_met number age status rest may aged (inr (AgainCloses n acted opened)) =
       absurd (never_connects (replay start past) (slice_get (replay start past).tunnel.network.up (age_of (replay start past).tunnel.network.up number)) acted.octets
-      (subst (λ k. OfSent (λ s. _) (slice_get (replay start past).tunnel.network.up k)) aged may.tunnel.1))
+      (subst (λ k. OfSent IsConnectRequest (slice_get (replay start past).tunnel.network.up k)) aged may.tunnel.1))
 
   closing_met : (rest : List Owed) → Owes (replay start past) (ChannelCloses ∷ rest) → Owes (step (replay start past) GwClose) (rest ++ [])
   closing_met rest (inl h) = absurd h.0

@@ -41,11 +41,11 @@ acts_if false t u frame this that e = that refl e
 
 connects_none : (g : Gateway) (from now : ℕ) (channel : Option Channel) → is_some (connects g from now channel).acted ≡ false
 connects_none g from now None = refl
-connects_none g from now (Some c) = by_test (c.endpoint == from) _ _
+connects_none g from now (Some c) = by_test (c.endpoint == from) _ _ _ _
   where
-    by_test : (t : Bool) (one other : Gateway) {f h : IpFrame} → is_some (if t then answers f one else answers h other).acted ≡ false
-    by_test true one other = refl
-    by_test false one other = refl
+    by_test : (t : Bool) (f h : IpFrame) (one other : Gateway) → is_some (if t then answers f one else answers h other).acted ≡ false
+    by_test true f h one other = refl
+    by_test false f h one other = refl
 
 requests_act : (g : Gateway) (channel : Option Channel) (n number : ℕ) (cemi : List ℕ) → is_some (request_took g channel number cemi).acted ≡ true → IsRepeat (request_took g channel number cemi).after.channel (Some (TunnellingRequest n number cemi))
 requests_act g None n number cemi e = untrue e

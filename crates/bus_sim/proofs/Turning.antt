@@ -15,7 +15,7 @@ use Rattle.knx_model.specs.Device.{Effect}
 use Rattle.knx_model.specs.DeviceState.{DeviceState}
 use Rattle.knx_model.specs.ScriptText.{are_script_lines, is_script_line, is_script_what, is_count}
 use Rattle.line_model.specs.Counts.{age_of, number_at, asks_connect, is_connect_at, connects_reached, frames_to, writes, write_of}
-use Rattle.line_model.specs.Deliveries.{next_up, next_down, delivery, refused_if, carriage, carriage_of, carried_to, written_at, write_event, torn_if, worn_if, effect_at}
+use Rattle.line_model.specs.Deliveries.{goes_up, goes_down, next_up, next_down, delivery, refused_if, carriage, carriage_of, carried_to, written_at, write_event, torn_if, worn_if, effect_at}
 use Rattle.line_model.specs.Follows.{IsNext, IsInPlace, IsNextUp, IsNextDown, IsGatewayRepeat, IsGatewayClosing, gateway_due}
 use Rattle.line_model.specs.Fresh.{HasNothingToSend, Settled, SettledFor}
 use Rattle.line_model.specs.Gateway as gateway
@@ -24,7 +24,7 @@ use Rattle.line_model.specs.Legal.{MayHappen, OfDevice}
 use Rattle.line_model.specs.LinkStory.{IsForeign, GoesOn, Same, More}
 use Rattle.line_model.specs.Lines.{Script, loses_up, loses_down, script_of, first_said, or_later, status_at, refuses, loses_to, cuts, wears}
 use Rattle.line_model.specs.Network.{Sent, OfSent, IsUnderWay}
-use Rattle.line_model.specs.Owed.{Owed, DeliverAgain, ReachAgain, BringAgain, owed, met, is_possible}
+use Rattle.line_model.specs.Owed.{Owed, DeliverAgain, ReachAgain, BringAgain, owed, met, is_possible, passes_again}
 use Rattle.line_model.specs.Reading.{datagram_in, is_connect_request}
 use Rattle.line_model.specs.Tunnel.{Mode, Commissions, IsConnectRequest, made}
 use Rattle.line_model.specs.World.{World, Event, Up, UpRefused, Down, Bus, BusTorn, BusWorn, BusAgain, LoseUp, LoseDown, DevSend, DevRepeat, DevClose, GwRepeat, GwClose, Pass, frame_by, next_frame, now, replay, step}
@@ -317,13 +317,16 @@ module _ (b : Beginning) (es : List Event) (index : ScriptIndex) (n : LineNow) (
       (ap Down (aged (replay (start_of b) es) h.pictured (can_tell number (replay (start_of b) es).tunnel.network.down exact.down)))
       (allowed Commissions n (replay (start_of b) es) (Down age) h.pictured allows))
 
-  -- the frame that a device got last
-  pub again_last : (device : ℕ) (v : RunState) → state ≡ v → Calls (seen v) (BringAgain device) → IsRight (seen v) (BusAgain device)
-  again_last device v view calls =
-      let called : Calls r (BringAgain device) = subst (λ (v : RunState). Calls (seen v) (BringAgain device)) (sym view) calls in
-      subst (λ (v : RunState). IsRight (seen v) (BusAgain device)) view
-      (called_right r (BringAgain device) (BusAgain device) called refl
-      (record { tunnel = tt; devices = has_last ((replay (start_of b) es).devices device) (called_possible r (BringAgain device) called) }))
+  -- what is called for is still possible
+  pub again_up_there : (number : ℕ) (result : Option ℕ) (v : RunState) → state ≡ v → Calls (seen v) (DeliverAgain number)
+      → ((w : World) → IsNow n w → CanTell number w.tunnel.network.up → is_some result ≡ passes_again (goes_up w) w.tunnel.network.up number) → is_some result ≡ true
+  again_up_there number result v view calls possible =
+      possible (replay (start_of b) es) h.pictured (can_tell number (replay (start_of b) es).tunnel.network.up exact.up) ∙ called_possible r (DeliverAgain number) (subst (λ (v : RunState). Calls (seen v) (DeliverAgain number)) (sym view) calls)
+
+  pub again_down_there : (number : ℕ) (result : Option ℕ) (v : RunState) → state ≡ v → Calls (seen v) (ReachAgain number)
+      → ((w : World) → IsNow n w → CanTell number w.tunnel.network.down → is_some result ≡ passes_again (goes_down Commissions w) w.tunnel.network.down number) → is_some result ≡ true
+  again_down_there number result v view calls possible =
+      possible (replay (start_of b) es) h.pictured (can_tell number (replay (start_of b) es).tunnel.network.down exact.down) ∙ called_possible r (ReachAgain number) (subst (λ (v : RunState). Calls (seen v) (ReachAgain number)) (sym view) calls)
 
   -- ---- what goes next
 
