@@ -1,5 +1,5 @@
 -- Neither time nor the number of events falls while a line goes on.
-use Rattle.std.proofs.Common.{◌≡◌, ℕ, suc, ◌+◌, ◌≤◌, List, [], ◌∷◌, length, take, refl, ap, sym, subst, ◌∙◌, arith}
+use Rattle.std.proofs.Common.{◌≡◌, ℕ, suc, ◌+◌, ◌≤◌, List, ◌∷◌, length, take, refl, sym, subst, arith}
 use Rattle.line_model.specs.declared.outside.link.Polled.{Polled}
 use Rattle.line_model.specs.declared.outside.link.Polled.TheVariants as answer
 use Rattle.line_model.specs.LinkStory.{Story, Untold, Recorded, Full, GoesOn, Same, More, Polls, PollsFull, PollsNothing}

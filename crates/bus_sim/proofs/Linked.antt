@@ -1,7 +1,7 @@
 -- A run as a link: what a call of the run is to the story that the link tells.
-use Rattle.std.proofs.Common.{◌≡◌, ◌⊎◌, inl, inr, ℕ, ◌+◌, ◌≤◌, List, [], ◌∷◌, Result, Ok, Err, OnOk, OnErr, IfOk, refl, ap, sym, subst, ◌∙◌, arith}
+use Rattle.std.proofs.Common.{◌≡◌, ℕ, ◌+◌, ◌≤◌, List, Result, Ok, Err, OnErr, IfOk, refl, ap, sym, subst, arith}
 use Rattle.line_model.specs.declared.outside.link.Polled.{Polled}
-use Rattle.line_model.specs.LinkStory.{Story, Full, Adds, FailsFull, PollsNothing, Same}
+use Rattle.line_model.specs.LinkStory.{Full, Adds, FailsFull, PollsNothing, Same}
 use Rattle.line_model.specs.Polled.{PollsAs}
 use Rattle.line_model.specs.Record.{Item}
 use Rattle.line_model.specs.World.{Event, now, replay}
@@ -9,7 +9,7 @@ use Rattle.bus_sim.specs.declared.beginning.Beginning.{Beginning}
 use Rattle.bus_sim.specs.Begun.{start_of}
 use Rattle.bus_sim.specs.Polls.{StopsWithin}
 use Rattle.bus_sim.specs.RunNow.{RunNow, RunState, happened, seen, start, story, time}
-use Rattle.bus_sim.proofs.Later.{IsLater, adds_later, same_later, polled_later, nothing_later}
+use Rattle.bus_sim.proofs.Later.{IsLater, adds_later, same_later}
 
 -- ---- one event of the client
 

@@ -1,12 +1,10 @@
 -- What the script calls for first is right to happen.
 use Rattle.std.proofs.Common.{◌≡◌, ◌≢◌, ℕ, true, is_some, IfSome, Option, Some, None, refl, subst}
-use Rattle.line_model.specs.Network.{Sent}
-use Rattle.line_model.specs.Owed.{Owed, DeliverAgain, ReachAgain, BringAgain, PowerReturns, ConnectionCloses, ChannelCloses}
-use Rattle.line_model.specs.Tunnel.{Commissions}
+use Rattle.line_model.specs.Owed.{Owed, BringAgain, PowerReturns, ConnectionCloses, ChannelCloses}
 use Rattle.line_model.specs.World.{BusAgain, DevClose, GwClose, On}
 use Rattle.bus_sim.specs.RunNow.{RunNow, Calls, IsRight, Keeps, owed_in, script, start, world}
-use Rattle.bus_sim.proofs.Owes.{CanMeet, can_meet, owes}
-use Rattle.bus_sim.proofs.Turning.{called_possible, called_right, has_last}
+use Rattle.bus_sim.proofs.OwesAlways.{CanMeet, can_meet, owes}
+use Rattle.bus_sim.proofs.CalledFor.{called_possible, called_right, has_last}
 
 pub is_there : {A : Type 0} (o : Option A) → is_some o ≡ true → o ≢ None
 is_there None e = cc

@@ -1,5 +1,5 @@
 -- How a poll goes on from turn to turn, and how it ends.
-use Rattle.std.proofs.Common.{◌≡◌, ℕ, suc, ◌+◌, ◌-◌, ◌^◌, ◌<◌, ◌≤◌, List, [], ◌∷◌, length, take, Option, Some, None, Result, Ok, Err, OnErr, refl, ap, sym, subst, ◌∙◌, arith}
+use Rattle.std.proofs.Common.{◌≡◌, ℕ, suc, ◌+◌, ◌-◌, ◌^◌, ◌<◌, ◌≤◌, List, ◌∷◌, length, take, Option, Some, None, Result, Ok, Err, OnErr, refl, ap, sym, subst, ◌∙◌, arith}
 use Rattle.std.specs.Prelude.{slice_get}
 use Rattle.std.proofs.lemmas.List.{take_all}
 use Rattle.line_model.specs.Legal.{MayHappen}
@@ -14,7 +14,7 @@ use Rattle.bus_sim.specs.RunNow.{RunNow, RunState, seen, start, story, time, wor
 use Rattle.bus_sim.specs.Turns.{Gets, Happens, Passes}
 use Rattle.bus_sim.specs.Went.{Went, world}
 use Rattle.bus_sim.proofs.Grows.{timeless, passes}
-use Rattle.bus_sim.proofs.Turning.{goes_more, goes_past, goes_same}
+use Rattle.bus_sim.proofs.Turning.{goes_more, goes_past}
 
 pub OnErrAny : {X E : Type 0} (result : Result X E) (P : Type 0) → P → OnErr result P
 OnErrAny (Ok x) P p = tt

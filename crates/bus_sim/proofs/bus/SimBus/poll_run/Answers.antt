@@ -1,4 +1,3 @@
-use Rattle.std.proofs.Common.{◌≡◌}
 use Rattle.line_model.specs.LinkStory.{PollsNothing}
 use Rattle.bus_sim.specs.RunNow.{seen, story}
 use Rattle.bus_sim.proofs.Linked.{nothing_polled, polled_from, stopped_from}

@@ -1,4 +1,3 @@
-use Rattle.std.proofs.Common.{◌≡◌}
 use Rattle.bus_sim.specs.RunNow.{start, story, time}
 use Rattle.bus_sim.proofs.Later.{nothing_later, polled_later}
 use Rattle.bus_sim.proofs.Linked.{still_nothing}

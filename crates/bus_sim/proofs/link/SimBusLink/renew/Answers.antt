@@ -1,4 +1,4 @@
-use Rattle.std.proofs.Common.{◌≡◌, inr, ap, ◌∙◌}
+use Rattle.std.proofs.Common.{inr, ap, ◌∙◌}
 use Rattle.line_model.specs.Record.{Renewed}
 use Rattle.line_model.specs.World.{Renew}
 use Rattle.bus_sim.specs.RunNow.{story}

@@ -1,4 +1,4 @@
-use Rattle.std.proofs.Common.{◌≡◌, subst}
+use Rattle.std.proofs.Common.{subst}
 use Rattle.std.specs.Prelude.{slice_get}
 use Rattle.line_model.specs.Network.{OfSent}
 use Rattle.line_model.specs.World.{Down}
@@ -6,7 +6,7 @@ use Rattle.network_sim.specs.Window.{IsDeliverable}
 use Rattle.bus_sim.specs.RunNow.{RunState}
 use Rattle.bus_sim.specs.Went.{IsRight}
 use Rattle.bus_sim.proofs.Meets.{of_some}
-use Rattle.bus_sim.proofs.Turning.{again_down_right, again_down_there}
+use Rattle.bus_sim.proofs.NextEvents.{again_down_right, again_down_there}
 use Rattle.bus_sim.proofs.run.Run.again_down.Goals as goal
 
 pub unwrap-requires : goal.unwrap-requires

@@ -1,4 +1,4 @@
-use Rattle.std.proofs.Common.{◌≡◌, subst}
+use Rattle.std.proofs.Common.{subst}
 use Rattle.std.specs.Prelude.{slice_get}
 use Rattle.line_model.specs.Network.{OfSent}
 use Rattle.network_sim.specs.Window.{IsDeliverable}
@@ -6,7 +6,7 @@ use Rattle.bus_sim.specs.Choices.{delivered}
 use Rattle.bus_sim.specs.RunNow.{RunState}
 use Rattle.bus_sim.specs.Went.{IsRight}
 use Rattle.bus_sim.proofs.Meets.{of_some}
-use Rattle.bus_sim.proofs.Turning.{again_up_right, again_up_there}
+use Rattle.bus_sim.proofs.NextEvents.{again_up_right, again_up_there}
 use Rattle.bus_sim.proofs.run.Run.again_up.Goals as goal
 
 pub unwrap-requires : goal.unwrap-requires

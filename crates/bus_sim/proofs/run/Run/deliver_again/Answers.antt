@@ -1,4 +1,3 @@
-use Rattle.std.proofs.Common.{◌≡◌}
 use Rattle.bus_sim.proofs.Turning.{ok_delivered}
 use Rattle.bus_sim.proofs.run.Run.deliver_again.Goals as goal
 

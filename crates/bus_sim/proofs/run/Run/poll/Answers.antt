@@ -1,4 +1,4 @@
-use Rattle.std.proofs.Common.{◌≡◌, ◌+◌, ◌≤◌, ℕ, refl, arith}
+use Rattle.std.proofs.Common.{◌+◌, ◌≤◌, ℕ, refl, arith}
 use Rattle.line_model.specs.World.{now}
 use Rattle.bus_sim.specs.Went.{world}
 use Rattle.bus_sim.proofs.Turning.{goes_same}

@@ -1,4 +1,4 @@
-use Rattle.std.proofs.Common.{◌≡◌, refl}
+use Rattle.std.proofs.Common.{refl}
 use Rattle.line_model.specs.World.{On}
 use Rattle.bus_sim.specs.RunNow.{seen}
 use Rattle.bus_sim.proofs.Meets.{power_right}

@@ -1,4 +1,4 @@
-use Rattle.std.proofs.Common.{◌≡◌, ◌<◌, ◌≤◌, refl, sym, subst}
+use Rattle.std.proofs.Common.{◌<◌, ◌≤◌, refl, sym, subst}
 use Rattle.knx_model.specs.Connection.{last_time}
 use Rattle.line_model.specs.World.{Pass}
 use Rattle.bus_sim.specs.Polls.{StopsWithin}
