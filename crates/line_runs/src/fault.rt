@@ -1,0 +1,52 @@
+//! Why the runs end early.
+
+use bus_sim::{LinkFault, Refused};
+use knx_model::NoMemory;
+use std::alloc::{AllocError, AllocFailed};
+use std::io;
+
+/// There was no memory, the line failed, what a line begins with was refused, a line of the input isn't a run, or input or output failed.
+#[derive(Debug, Drop)]
+pub enum Fault {
+    NoMemory(NoMemory),
+    Line(LinkFault),
+    Refused(Refused),
+    Words,
+    Io(io::Error),
+}
+
+impl From<NoMemory> for Fault {
+    fn from(error: NoMemory) -> Fault {
+        Fault::NoMemory(error)
+    }
+}
+
+impl From<AllocError> for Fault {
+    fn from(error: AllocError) -> Fault {
+        Fault::NoMemory(NoMemory::from(error))
+    }
+}
+
+impl<T: Drop> From<AllocFailed<T>> for Fault {
+    fn from(error: AllocFailed<T>) -> Fault {
+        Fault::NoMemory(NoMemory::from(error))
+    }
+}
+
+impl From<LinkFault> for Fault {
+    fn from(error: LinkFault) -> Fault {
+        Fault::Line(error)
+    }
+}
+
+impl From<Refused> for Fault {
+    fn from(error: Refused) -> Fault {
+        Fault::Refused(error)
+    }
+}
+
+impl From<io::Error> for Fault {
+    fn from(error: io::Error) -> Fault {
+        Fault::Io(error)
+    }
+}
