@@ -3,10 +3,10 @@
 ghost use Rattle.std.specs.Prelude.{◌≤◌, length, IfOk, IfSome};
 
 use crate::fault::Fault;
-use bus_sim::{Link, Polled, SimBus};
-use cemi_frames::encode as encode_cemi;
-use knx_model::{ApduOctets, IndAddr, IpFrame, Ldata, LdataCode};
+use bus_sim::SimBus;
+use knx_model::{Datagram, IndAddr, IpFrame};
 use knxnetip_frames::encode;
+use line_model::{Link, Polled};
 
 /// The tunnel's address, 1.1.255.
 pub const TUNNEL: IndAddr = IndAddr { raw: 0x11FF };
@@ -57,23 +57,9 @@ impl Client {
     pub fn put(&mut self, device: IndAddr, tpdu: &[u8]) -> Result<(), Fault>
         requires { length tpdu.now ≤ 64 }
     {
-        let frame = Ldata {
-            code: LdataCode::Req,
-            error: false,
-            group: false,
-            priority: 3,
-            hops: 6,
-            source: 0,
-            destination: device.raw,
-            tpdu: ApduOctets::from_slice(tpdu),
-        };
-        let request = IpFrame::TunnellingRequest {
-            channel: CHANNEL,
-            number: self.number,
-            cemi: encode_cemi(&frame),
-        };
+        let request = request(self.number, device, tpdu);
         self.number = self.number.wrapping_add(1);
-        self.send(encode(&request).as_slice())
+        self.send(request.as_slice())
     }
 
     /// Acknowledges a request of the gateway.
@@ -95,4 +81,19 @@ impl Client {
             Polled::Quiet => Ok(None),
         }
     }
+}
+
+/// A tunnelling request with an L_Data.req frame for a device.
+fn request(number: u8, device: IndAddr, tpdu: &[u8]) -> Datagram
+    requires { length tpdu.now ≤ 64 }
+{
+    let count = tpdu.len() as u8;
+    let control = if count > 16 { 0x3C } else { 0xBC };
+    let mut out = Datagram::from_slice(&[0x06, 0x10, 0x04, 0x20, 0x00]);
+    out.extend(&[count + 19, 0x04, CHANNEL, number, 0x00]);
+    out.extend(&[0x11, 0x00, control, 0x60, 0x00, 0x00]);
+    out.extend(&device.raw.to_be_bytes());
+    out.extend(&[count.wrapping_sub(1)]);
+    out.extend(tpdu);
+    out
 }

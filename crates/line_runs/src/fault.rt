@@ -1,7 +1,7 @@
 //! Why the runs end early.
 
-use bus_sim::{LinkFault, Refused};
-use knx_model::NoMemory;
+use knx_model::{NoMemory, Refused};
+use line_model::LinkFault;
 use std::alloc::{AllocError, AllocFailed};
 use std::io;
 

@@ -1,5 +1,9 @@
 //! Many requests, for the cost of an event.
 
+ghost use Rattle.std.specs.Prelude.{◌≤◌, length, IfOk};
+ghost use Rattle.bus_sim.specs.Begun.{CanLoad};
+ghost use Rattle.line_model.specs.StartOf.{default_tunnel};
+
 use crate::client::{Client, TUNNEL};
 use crate::fault::Fault;
 use bus_sim::{Script, SimBus};
@@ -14,7 +18,9 @@ const T_CONNECT: [u8; 1] = [0x80];
 const T_DISCONNECT: [u8; 1] = [0x81];
 
 /// The devices 1.1.1 and on, each blank.
-fn blank(alloc: Global, count: u8) -> Result<Vec<(IndAddr, Option<Image>)>, Fault> {
+fn blank(alloc: Global, count: u8) -> Result<Vec<(IndAddr, Option<Image>)>, Fault>
+    ensures { IfOk result (λ made. CanLoad default_tunnel made.items) }
+{
     let mut devices = Vec::new(alloc);
     for device in 0..count {
         let address = IndAddr {
@@ -26,7 +32,9 @@ fn blank(alloc: Global, count: u8) -> Result<Vec<(IndAddr, Option<Image>)>, Faul
 }
 
 /// A request is put, acknowledged and confirmed, and the confirmation acknowledged.
-fn ask(client: &mut Client, number: u8, device: IndAddr, tpdu: &[u8]) -> Result<(), Fault> {
+fn ask(client: &mut Client, number: u8, device: IndAddr, tpdu: &[u8]) -> Result<(), Fault>
+    requires { length tpdu.now ≤ 64 }
+{
     let mut octets = [0; 512];
     client.put(device, tpdu)?;
     let _ = client.get(&mut octets)?;

@@ -99,6 +99,11 @@ impl Talk {
         Ok(())
     }
 
+    /// Whether the device runs.
+    fn is_running(&self) -> bool {
+        self.client.runs(DEVICE)
+    }
+
     /// The whole conversation.
     fn go(&mut self, count: u8) -> Result<(), Fault> {
         self.client.connect()?;
@@ -110,11 +115,7 @@ impl Talk {
             self.client.put(DEVICE, tpdu)?;
             self.listen()?;
         }
-        self.tell(if self.client.runs(DEVICE) {
-            "runs"
-        } else {
-            "stopped"
-        })
+        self.tell(if self.is_running() { "runs" } else { "stopped" })
     }
 }
 
