@@ -1,3 +1,5 @@
 pub mod Ranges
 pub mod Books
 pub mod Works
+
+pub mod Growing
