@@ -1,2 +1,4 @@
 pub mod Seen
+pub mod Discipline
 pub mod Keeps
+pub mod Promises

@@ -1,13 +1,16 @@
--- What contracts see of a hub: its link, the devices of its jobs in their order, its group telegrams, its log, the newest entry first, why it has
--- ended, and how many indications were counted as missed. After a fault each later call answers that fault, and the link stays as it is.
+-- What contracts see of a hub: its link, its jobs by device and plan, their devices, in their order, its group telegrams, its log, the newest entry
+-- first, why it has ended, and how many indications were counted as missed. After a fault each later call answers that fault, and the link stays as
+-- it is.
 use Rattle.std.specs.Prelude.{◌≡◌, ℕ, List, Option, Some, None, Result, Err}
 use Rattle.knx_model.specs.declared.address.IndAddr.{IndAddr}
 use Rattle.line_model.specs.declared.fault.HubFault.{HubFault}
 use Rattle.line_model.specs.declared.group.GroupTurn.{GroupTurn}
 use Rattle.line_model.specs.declared.log.LogEntry.{LogEntry}
+use Rattle.hub_work.specs.Downloaders.{Task}
 
 pub record Seen (L : Type 0) : Type 0 where
   pub link : L
+  pub tasks : List Task
   pub devices : List IndAddr
   pub turns : List GroupTurn
   pub log : List LogEntry
@@ -16,6 +19,7 @@ pub record Seen (L : Type 0) : Type 0 where
 
 -- the same jobs and the same group telegrams
 pub record SameRun {L : Type 0} (old new : Seen L) : Type 0 where
+  pub tasks : new.tasks ≡ old.tasks
   pub devices : new.devices ≡ old.devices
   pub turns : new.turns ≡ old.turns
 
