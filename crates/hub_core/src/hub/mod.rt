@@ -49,7 +49,7 @@ impl<L: Link> Model for Hub<L> {
 
     ghost use Rattle.hub_core.specs.Keeps.{Keeps};
 
-    ghost view = { λ h. record { link = h.tunnel.link; devices = h.work.reservation.devices; turns = h.work.telegrams.turns; log = h.work.journal; fault = h.tunnel.known.fault; missed = h.missed } };
+    ghost view = { λ h. record { link = h.tunnel.link; devices = h.work.reservation.devices; turns = h.work.telegrams.turns; log = h.work.journal.entries; fault = h.tunnel.known.fault; missed = h.missed } };
 
     ghost invariant = { λ h. Keeps (L.place h.tunnel.link) h.work h.tunnel.known.fault };
 }
@@ -134,16 +134,6 @@ impl<L: Link> Hub<L> {
         one_downloader_per_device();
         let _work = &self.work;
         self.tunnel.keeps();
-    }
-
-    /// There was no memory.
-    fn out_of_memory(&mut self, no_memory: NoMemory) -> HubFault
-        ensures link { self.new.link ≡ self.old.link }
-        ensures fault { self.new.fault ≡ Some result }
-        ensures run { SameRun self.old self.new }
-        ensures log { self.new.log ≡ self.old.log }
-    {
-        self.fail(HubFault::NoMemory(no_memory))
     }
 
     /// The run ends so.
