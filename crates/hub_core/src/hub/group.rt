@@ -35,8 +35,8 @@ impl<L: Link> Hub<L> {
         match self.work.stage() {
             Stage::Unput => self.put_group(),
             Stage::UnderWay => Ok(GroupDid::Wait),
-            Stage::Confirmed => self.tell_group(k, LogWhat::Sent(k), GroupDid::Sent),
-            Stage::Lost => self.tell_group(k, LogWhat::Lost(k), GroupDid::Lost),
+            Stage::Confirmed => Ok(self.tell_group(k, LogWhat::Sent(k), GroupDid::Sent)),
+            Stage::Lost => Ok(self.tell_group(k, LogWhat::Lost(k), GroupDid::Lost)),
         }
     }
 
@@ -64,22 +64,18 @@ impl<L: Link> Hub<L> {
     }
 
     /// Tells what came of it.
-    fn tell_group(&mut self, k: u32, what: LogWhat, did: GroupDid) -> Result<GroupDid, HubFault>
+    fn tell_group(&mut self, k: u32, what: LogWhat, did: GroupDid) -> GroupDid
         requires next { IsNextTurn self.old.turns self.old.log k }
         requires what { TellsTurn k what }
         requires stands { self.old.fault ≡ None }
-        ensures grows { GoesOn (L.story self.old.link) (L.story self.new.link) }
-        ensures fault { IfErr result (λ fault. self.new.fault ≡ Some fault) }
-        ensures stands { OnOk result (self.new.fault ≡ None) }
-        ensures answer { IfOk result (λ given. given ≡ did) }
-        ensures told { OnOk result (Adds (L.place self.old.link) 0 what self.old.log self.new.log) }
-        ensures untold { OnErr result (self.new.log ≡ self.old.log) }
+        ensures link { self.new.link ≡ self.old.link }
+        ensures stands { self.new.fault ≡ None }
+        ensures answer { result ≡ did }
+        ensures told { Adds (L.place self.old.link) 0 what self.old.log self.new.log }
         ensures run { SameRun self.old self.new }
     {
         let at = self.tunnel.at();
-        match self.work.tell_telegram(at, k, what) {
-            Ok(()) => Ok(did),
-            Err(no_memory) => Err(self.out_of_memory(no_memory)),
-        }
+        self.work.tell_telegram(at, k, what);
+        did
     }
 }

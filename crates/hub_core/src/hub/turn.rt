@@ -28,12 +28,11 @@ impl<L: Link> Hub<L> {
         let at = self.tunnel.at();
         let has_place = self.tunnel.has_place();
         match self.work.turn(worker, now, at, has_place) {
-            Ok(Turn::Did(turned)) => Ok(turned),
-            Ok(Turn::Puts(cemi)) => {
+            Turn::Did(turned) => Ok(turned),
+            Turn::Puts(cemi) => {
                 self.tunnel.put(&cemi)?;
                 Ok(Turned::Moved)
             }
-            Err(no_memory) => Err(self.tunnel.fail(HubFault::NoMemory(no_memory))),
         }
     }
 }
