@@ -1,4 +1,4 @@
--- The places of a link's entries ascend, and those that a call added are above the number of events or entries that there were.
+-- The places of a link's entries ascend.
 use Rattle.std.proofs.Common.{◌≡◌, ℕ, suc, ◌<◌, ◌≤◌, List, [], ◌∷◌, ◌++◌, length, Option, Some, None, refl, sym, ◌∙◌, ap, subst, arith}
 use Rattle.std.proofs.lemmas.List.{append_cancel_right}
 use Rattle.std.specs.List.{AllByRecursion}
@@ -27,41 +27,3 @@ placed_ascend start (e ∷ events) = by_item (item_at (replay start events) e) (
 pub counted_ascend : (r : List Entry) → Ascend (counted r)
 counted_ascend [] = tt
 counted_ascend (x ∷ r) = (below_upto (length r) (suc (length r)) (counted r) (omega arith) (counted_upto r), counted_ascend r)
-
--- ---- those that were added
-
-pub record Above (n : ℕ) (old new : List Placed) : Type 0 where
-  pub added : List Placed
-  pub all : new ≡ added ++ old
-  pub above : AreAbove n added
-
-length_joined : {X : Type 0} (more old : List X) → length old ≤ length (more ++ old)
-length_joined [] old = omega arith
-length_joined (x ∷ more) old = (let h = length_joined more old in omega (arith, h))
-
-placed_more : (start : World) (more events : List Event) → Above (length events) (placed start events) (placed start (more ++ events))
-placed_more start [] events = record { added = []; all = refl; above = tt }
-placed_more start (e ∷ more) events = by_item (item_at (replay start (more ++ events)) e) (placed_more start more events) where
-  by_item : (o : Option Item) → Above (length events) (placed start events) (placed start (more ++ events))
-      → Above (length events) (placed start events) (placed_if (length (e ∷ (more ++ events))) (now (replay start (e ∷ (more ++ events)))) o (placed start (more ++ events)))
-  by_item None q = q
-  by_item (Some what) q = record {
-    added = record { at = length (e ∷ (more ++ events)); what = entry what (now (replay start (e ∷ (more ++ events)))) } ∷ q.added;
-    all = ap (λ z. record { at = length (e ∷ (more ++ events)); what = entry what (now (replay start (e ∷ (more ++ events)))) } ∷ z) q.all;
-    above = ((let h = length_joined more events in omega (arith, h)), q.above);
-  }
-
-counted_more : (more r : List Entry) → Above (length r) (counted r) (counted (more ++ r))
-counted_more [] r = record { added = []; all = refl; above = tt }
-counted_more (x ∷ more) r =
-    let q = counted_more more r in
-    record { added = record { at = length (x ∷ (more ++ r)); what = x } ∷ q.added; all = ap (λ z. record { at = length (x ∷ (more ++ r)); what = x } ∷ z) q.all; above = ((let h = length_joined more r in omega (arith, h)), q.above) }
-
-are_those : (n : ℕ) (old new added : List Placed) → Above n old new → new ≡ added ++ old → AreAbove n added
-are_those n old new added a e = subst (AreAbove n) (append_cancel_right a.added added old (sym a.all ∙ e)) a.above
-
-pub placed_above : (start : World) (more events : List Event) (added : List Placed) → placed start (more ++ events) ≡ added ++ placed start events → AreAbove (length events) added
-placed_above start more events added e = are_those (length events) (placed start events) (placed start (more ++ events)) added (placed_more start more events) e
-
-pub counted_above : (more r : List Entry) (added : List Placed) → counted (more ++ r) ≡ added ++ counted r → AreAbove (length r) added
-counted_above more r added e = are_those (length r) (counted r) (counted (more ++ r)) added (counted_more more r) e

@@ -7,16 +7,8 @@ use Rattle.line_model.specs.LinkStory.{newest_time}
 use Rattle.tunnel_link.specs.Adds.{moments_on, IsNothing, One}
 use Rattle.hub_work.specs.Follows.{IsAside, Does}
 use Rattle.hub_work.proofs.Growing.{AreAbove}
+use Rattle.hub_core.specs.Taking.{place_or, Rise}
 use Rattle.hub_core.proofs.Ascending.{Ascend}
-
-abbrev pub place_or : ℕ → List Moment → ℕ
-place_or since [] = since
-place_or since (m ∷ l) = m.at
-
--- each is later than those before it, and the first is after this place
-abbrev pub Rise : ℕ → List Moment → Type 0
-Rise since [] = Unit {0}
-Rise since (m ∷ l) = (place_or since l < m.at) × Rise since l
 
 pub every : (P Q : Moment → Type 0) (l : List Moment) → ((m : Moment) → P m → Q m) → Every P l → Every Q l
 every P Q [] f h = tt

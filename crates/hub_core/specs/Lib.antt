@@ -2,3 +2,4 @@ pub mod Seen
 pub mod Discipline
 pub mod Keeps
 pub mod Promises
+pub mod Taking

@@ -7,7 +7,7 @@ ghost use Rattle.hub_work.specs.Turns.{Adds, GroupTells, IsntTold, TellsTurn};
 ghost use Rattle.hub_core.specs.Seen.{SameRun, StaysEnded};
 
 use super::Hub;
-use hub_work::{GroupDid, Stage};
+use hub_work::{GroupDid, Stage, places_are_free};
 use line_model::{HubFault, Link, LogWhat};
 
 impl<L: Link> Hub<L> {
@@ -21,7 +21,7 @@ impl<L: Link> Hub<L> {
 
     /// One step of the group telegram `k`, from 1, which is the least that isn't told: its request is put, or it is told sent or lost.
     pub fn send_group(&mut self, k: u32) -> Result<GroupDid, HubFault>
-        requires { IsNextTurn self.old.turns self.old.log k }
+        requires next { IsNextTurn self.old.turns self.old.log k }
         ensures grows { GoesOn (L.story self.old.link) (L.story self.new.link) }
         ensures told { IfOk result (λ did. GroupTells (L.place self.old.link) k did self.old.log self.new.log) }
         ensures untold { OnErr result (self.new.log ≡ self.old.log) }
@@ -53,6 +53,8 @@ impl<L: Link> Hub<L> {
         if !self.tunnel.has_place() {
             return Ok(GroupDid::Wait);
         }
+        self.tunnel.keeps();
+        places_are_free();
         match self.work.telegram() {
             Some(cemi) => {
                 self.work.telegram_put();

@@ -3,6 +3,7 @@
 mod finish;
 mod group;
 mod pump;
+mod taking;
 mod turn;
 
 ghost use Rattle.std.specs.Prelude.{◌≡◌, ◌≤◌, ◌<◌, ◌+◌, ◌^◌, ◌-◌, min, length, map, reverse, List, [], IfOk, IfErr, Some, None};
@@ -22,7 +23,7 @@ use device_reservation::one_downloader_per_device;
 use hub_work::{HubJob, Work};
 use knx_model::{List, NoMemory};
 use line_law::every_interleaving;
-use line_model::{GroupTurn, HubFault, Link};
+use line_model::{GroupTurn, Link};
 use std::alloc::Global;
 use std::marker::Model;
 use tunnel_link::Tunnel;
@@ -144,15 +145,5 @@ impl<L: Link> Hub<L> {
         every_interleaving();
         let _work = &self.work;
         self.tunnel.keeps();
-    }
-
-    /// The run ends so.
-    fn fail(&mut self, fault: HubFault) -> HubFault
-        ensures link { self.new.link ≡ self.old.link }
-        ensures fault { self.new.fault ≡ Some result }
-        ensures run { SameRun self.old self.new }
-        ensures log { self.new.log ≡ self.old.log }
-    {
-        self.tunnel.fail(fault)
     }
 }
