@@ -1,7 +1,7 @@
 -- Each call of the client's end of a tunnel follows the link's record: where the end fits the record before the call, what it knows then fits
 -- the record with the entry that the call brings, and what it gives to be sent is a datagram that the client may send. No link is named: it
 -- holds of every record. The times of the record aren't greater than that of the call.
-use Rattle.std.specs.Prelude.{◌≡◌, ◌≢◌, ℕ, ◌≤◌, Bool, true, false, not, ◌&&◌, ◌||◌, is_none, is_some, List, [], ◌∷◌, option_map, Option, Some, None}
+use Rattle.std.specs.Prelude.{◌≡◌, ◌≢◌, ℕ, ◌≤◌, Bool, true, false, not, ◌&&◌, ◌||◌, is_none, is_some, List, [], ◌∷◌, option_map, if◌then◌else◌, Option, Some, None}
 use Rattle.knx_model.specs.declared.frames.ip.IpFrame.{IpFrame}
 use Rattle.knx_model.specs.declared.frames.ip.IpFrame.TheVariants.{ConnectRequest}
 use Rattle.knx_model.specs.KnxNetIp.{Written}
