@@ -137,6 +137,8 @@ pub record TakesFrame (after : ClientEnd) (told : ChannelTook) (over : Bool) (oc
   pub acknowledges : option_map Written (owed (entry (Got octets) now ∷ r)) ≡ acknowledgement_in told
   pub answers : (answer : List ℕ) → answer_in told ≡ Some answer → Sends after answer now (entry (Got octets) now ∷ r)
   pub owes : (answer : List ℕ) → answer_in told ≡ Some answer → IsOwed (owed (entry (Got octets) now ∷ r)) (entry (Put answer) now)
+  pub right : (answer : List ℕ) → answer_in told ≡ Some answer → RenewsSo (entry (Got octets) now ∷ r) (entry (Put answer) now)
+  pub no_deed : (answer : List ℕ) → answer_in told ≡ Some answer → deed (channel (entry (Got octets) now ∷ r)) (entry (Put answer) now) ≡ Nothing
   pub acked : over ≡ false → acknowledged_in (channel (entry (Got octets) now ∷ r)) ≡ acknowledged_by told now (acknowledged_in (channel r))
   pub confirms : over ≡ false → confirmed_in (channel (entry (Got octets) now ∷ r)) ≡ confirmed_by told (confirmed_in (channel r))
 
