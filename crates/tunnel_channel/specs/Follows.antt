@@ -1,7 +1,7 @@
 -- Each call of the client's end of a tunnel follows the link's record: where the end fits the record before the call, what it knows then fits
 -- the record with the entry that the call brings, and what it gives to be sent is a datagram that the client may send. No link is named: it
 -- holds of every record. The times of the record aren't greater than that of the call.
-use Rattle.std.specs.Prelude.{◌≡◌, ◌≢◌, ℕ, ◌≤◌, Bool, true, false, not, ◌&&◌, ◌||◌, is_none, is_some, List, [], ◌∷◌, option_map, Option, Some, None}
+use Rattle.std.specs.Prelude.{◌≡◌, ◌≢◌, ℕ, ◌≤◌, Bool, true, false, not, ◌&&◌, ◌||◌, is_none, is_some, List, [], ◌∷◌, option_map, if◌then◌else◌, Option, Some, None}
 use Rattle.knx_model.specs.declared.frames.ip.IpFrame.{IpFrame}
 use Rattle.knx_model.specs.declared.frames.ip.IpFrame.TheVariants.{ConnectRequest}
 use Rattle.knx_model.specs.KnxNetIp.{Written}
@@ -137,6 +137,8 @@ pub record TakesFrame (after : ClientEnd) (told : ChannelTook) (over : Bool) (oc
   pub acknowledges : option_map Written (owed (entry (Got octets) now ∷ r)) ≡ acknowledgement_in told
   pub answers : (answer : List ℕ) → answer_in told ≡ Some answer → Sends after answer now (entry (Got octets) now ∷ r)
   pub owes : (answer : List ℕ) → answer_in told ≡ Some answer → IsOwed (owed (entry (Got octets) now ∷ r)) (entry (Put answer) now)
+  pub right : (answer : List ℕ) → answer_in told ≡ Some answer → RenewsSo (entry (Got octets) now ∷ r) (entry (Put answer) now)
+  pub no_deed : (answer : List ℕ) → answer_in told ≡ Some answer → deed (channel (entry (Got octets) now ∷ r)) (entry (Put answer) now) ≡ Nothing
   pub acked : over ≡ false → acknowledged_in (channel (entry (Got octets) now ∷ r)) ≡ acknowledged_by told now (acknowledged_in (channel r))
   pub confirms : over ≡ false → confirmed_in (channel (entry (Got octets) now ∷ r)) ≡ confirmed_by told (confirmed_in (channel r))
 
