@@ -5,7 +5,7 @@ use Rattle.knx_model.specs.declared.address.IndAddr.{IndAddr}
 use Rattle.line_model.specs.declared.fault.HubFault.{HubFault}
 use Rattle.line_model.specs.declared.fault.HubFault.TheVariants.{NoMemory, LinkFailed, GatewayRefused, Flooded, WrongLine}
 use Rattle.line_model.specs.declared.group.Indication.{Indication}
-use Rattle.line_model.specs.ClientView.{Loses, indication_of}
+use Rattle.line_model.specs.ClientView.{indication_of}
 use Rattle.line_model.specs.Moments.{Moment, time}
 use Rattle.line_model.specs.Signs.{Every}
 use Rattle.line_model.specs.Log.{Job, JobUnfinished}
@@ -15,7 +15,7 @@ use Rattle.tunnel_link.specs.declared.came.Loss.{Loss}
 use Rattle.tunnel_link.specs.declared.came.Loss.TheVariants.{Stays, Ended, Told}
 use Rattle.tunnel_link.specs.declared.came.What.{What}
 use Rattle.tunnel_link.specs.declared.came.What.TheVariants as came
-use Rattle.tunnel_link.specs.Adds.{One, TakesAt, DoesSo}
+use Rattle.tunnel_link.specs.Adds.{One, LosesAt, TakesAt, DoesSo}
 use Rattle.hub_work.specs.declared.work.Work.{Work}
 use Rattle.hub_work.specs.Books.{AreJobsOf}
 use Rattle.hub_work.specs.Fits.{Fits}
@@ -40,13 +40,13 @@ FollowsAll AreSo now old new =
 
 -- ---- a loss, and a frame
 
-abbrev pub AsideOrLost : Loss → List Moment → Type 0
-AsideOrLost Stays l = Every (λ m. IsAside m.what) l
-AsideOrLost Ended l = One (λ (m : Moment). m.what ≡ Loses) l
-AsideOrLost Told l = One (λ (m : Moment). m.what ≡ Loses) l
+abbrev pub AsideOrLost : Loss → ℕ → List Moment → Type 0
+AsideOrLost Stays now l = Every (λ m. IsAside m.what) l
+AsideOrLost Ended now l = One (LosesAt now) l
+AsideOrLost Told now l = One (LosesAt now) l
 
 abbrev pub LosesIn : Loss → ℕ → Work → Work → Type 0
-LosesIn loss now old new = FollowsAll (AsideOrLost loss) now old new
+LosesIn loss now old new = FollowsAll (AsideOrLost loss now) now old new
 
 abbrev pub DeliversIn : What → ℕ → Work → Work → Type 0
 DeliversIn came.Quiet now old new = new ≡ old

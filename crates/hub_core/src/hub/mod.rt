@@ -12,11 +12,10 @@ ghost use Rattle.line_model.specs.Headline.{Keeps, IsGoodJob};
 ghost use Rattle.line_model.specs.LinkStory.{IsNewLink, record_in};
 ghost use Rattle.line_model.specs.Log.{Job, IsLog, OneDownloaderPerDevice};
 ghost use Rattle.hub_work.specs.Books.{AreJobsOf};
-ghost use Rattle.hub_work.specs.Downloaders.{AreJobsWith, task_of_hub_job};
 ghost use Rattle.hub_work.specs.Requests.{IsTurnInRange};
 ghost use Rattle.hub_work.specs.declared.job.HubJob.{HubJob as JobOfHub};
 ghost use Rattle.hub_core.specs.Promises.{FaultRightIn, IsRightOver, DropsIn};
-ghost use Rattle.hub_core.specs.Seen.{SameRun};
+ghost use Rattle.hub_core.specs.Seen.{AreJobs, SameRun, tasks_seen};
 
 use crate::end::HubEnd;
 use device_reservation::one_downloader_per_device;
@@ -52,9 +51,10 @@ impl<L: Link> Model for Hub<L> {
     ghost Value = { Seen L };
 
     ghost use Rattle.hub_core.specs.Keeps.{Keeps};
-    ghost use Rattle.hub_work.specs.Works.{tasks};
+    ghost use Rattle.std.specs.Prelude.{map};
+    ghost use Rattle.hub_core.specs.Seen.{hub_job_of};
 
-    ghost view = { λ h. record { link = h.tunnel.link; tasks = tasks h.work; devices = h.work.reservation.devices; turns = h.work.telegrams.turns; log = h.work.journal.entries; fault = h.tunnel.known.fault; missed = h.missed } };
+    ghost view = { λ h. record { link = h.tunnel.link; jobs = map hub_job_of h.work.downloaders; devices = h.work.reservation.devices; turns = h.work.telegrams.turns; log = h.work.journal.entries; fault = h.tunnel.known.fault; missed = h.missed } };
 
     ghost invariant = { λ h. Keeps (L.place h.tunnel.link) (L.story h.tunnel.link) h.work h.met h.tunnel.known.fault };
 }
@@ -76,7 +76,7 @@ impl<L: Link> Hub<L> {
         requires sendable { AllByRecursion IsTurnInRange groups }
         requires new { IsNewLink (L.story link) }
         ensures link { IfOk result (λ hub. hub.link ≡ link) }
-        ensures tasks { IfOk result (λ hub. hub.tasks ≡ map task_of_hub_job jobs) }
+        ensures jobs { IfOk result (λ hub. tasks_seen hub.jobs ≡ tasks_seen jobs) }
         ensures devices { IfOk result (λ hub. hub.devices ≡ map (λ (j : JobOfHub). j.device) jobs) }
         ensures turns { IfOk result (λ hub. hub.turns ≡ groups) }
         ensures log { IfOk result (λ hub. hub.log ≡ []) }
@@ -135,9 +135,9 @@ impl<L: Link> Hub<L> {
     /// client's discipline; over a link that tells its events and good jobs, so, what the law of the line says; and that it ends exactly where there is a
     /// cause. Over every link its log is one of its jobs and telegrams, with one downloader for each device.
     pub fn keeps(&self)
-        ensures headline { (jobs : List Job) → AreJobsWith self.now.tasks jobs → Keeps jobs self.now.turns (L.story self.now.link) self.now.log }
-        ensures right { (jobs : List Job) → AreJobsWith self.now.tasks jobs → AllByRecursion IsGoodJob jobs → IsRightOver jobs (L.story self.now.link) self.now.log }
-        ensures fault { (jobs : List Job) → AreJobsWith self.now.tasks jobs → FaultRightIn jobs self.now.log self.now.fault (record_in (L.story self.now.link)) }
+        ensures headline { (jobs : List Job) → AreJobs self.now.jobs jobs → Keeps jobs self.now.turns (L.story self.now.link) self.now.log }
+        ensures right { (jobs : List Job) → AreJobs self.now.jobs jobs → AllByRecursion IsGoodJob jobs → IsRightOver jobs (L.story self.now.link) self.now.log }
+        ensures fault { (jobs : List Job) → AreJobs self.now.jobs jobs → FaultRightIn jobs self.now.log self.now.fault (record_in (L.story self.now.link)) }
         ensures form { (jobs : List Job) → AreJobsOf self.now.devices jobs → IsLog jobs self.now.turns (L.place self.now.link) self.now.log }
         ensures alone { (jobs : List Job) → AreJobsOf self.now.devices jobs → OneDownloaderPerDevice jobs self.now.log }
     {

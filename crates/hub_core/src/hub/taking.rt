@@ -41,6 +41,7 @@ fn deliver(work: &mut Work, what: &What, now: u64) -> Option<Indication>
     ensures fits { DeliversIn what.now now work.old work.new }
     ensures heard { HeardIn what.now result }
 {
+    moments_go_on();
     match what {
         What::Frame(frame) => work.deliver(frame, now),
         What::Quiet | What::Dropped | What::Tunnel | What::Up { .. } => None,
@@ -52,6 +53,7 @@ pub fn lose(work: &mut Work, loss: Loss, now: u64)
     ensures books { SameBooks work.old work.new }
     ensures fits { LosesIn loss now work.old work.new }
 {
+    moments_go_on();
     match loss {
         Loss::Stays => {}
         Loss::Ended => work.lost(now),
