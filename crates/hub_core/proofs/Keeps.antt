@@ -1,5 +1,5 @@
 -- What a hub keeps is kept where its link goes on and its work leaves its books as they are.
-use Rattle.std.proofs.Common.{◌≡◌, ℕ, ◌≤◌, Bool, List, [], ◌∷◌, Option, Some, None, sym, ap, subst, arith}
+use Rattle.std.proofs.Common.{◌≡◌, ℕ, ◌≤◌, Bool, List, [], ◌∷◌, Option, Some, None, sym, ap, subst, ◌∙◌, arith}
 use Rattle.line_model.specs.declared.fault.HubFault.{HubFault}
 use Rattle.line_model.specs.declared.group.GroupTurn.{GroupTurn}
 use Rattle.line_model.specs.declared.log.LogEntry.{LogEntry}
@@ -15,6 +15,7 @@ use Rattle.hub_work.specs.Downloaders.{Task, AreJobsWith}
 use Rattle.hub_work.specs.Works.{WritesRightly, Lives, TellsRightly, Counts, KeepsBooks, SameBooks, tasks}
 use Rattle.hub_core.specs.Discipline.{TellsAndAsks}
 use Rattle.hub_core.specs.Keeps.{KeepsTold, Keeps}
+use Rattle.hub_core.specs.Seen.{Seen}
 use Rattle.hub_core.proofs.Counting.{told_before}
 
 -- ---- the books
@@ -99,3 +100,6 @@ moves p q s t w v met after f g none le same goes tolds k = record {
     by_old jobs of new told was =
         let back : AreJobsWith (tasks w) jobs = jobs_back w v same jobs of in
         tolds jobs was.0 new (k.jobs_are jobs back) was.1 told (subst (λ (h : Option HubFault). KeepsTold jobs w met h (place_of s) was.0) none (k.told jobs back was.0 was.1))
+
+pub none_inside : {L : Type 0} (a b : Seen L) → a ≡ b → b.fault ≡ None → a.fault ≡ None
+none_inside a b e none = ap (λ (s : Seen _). s.fault) e ∙ none

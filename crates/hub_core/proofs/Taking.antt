@@ -45,7 +45,7 @@ not_got_in Renewed h = refl
 not_got_in (Got octets) h = absurd (cc)
 not_got_in Quiet h = refl
 
-opens_none : (before after : ClientChannel) (x : Entry) → got_in x.what ≡ None → opens before after x ≡ None
+pub opens_none : (before after : ClientChannel) (x : Entry) → got_in x.what ≡ None → opens before after x ≡ None
 opens_none Fresh after x h = refl
 opens_none (Sought since) Fresh x h = refl
 opens_none (Sought since) (Sought other) x h = refl

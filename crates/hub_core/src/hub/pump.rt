@@ -6,7 +6,7 @@ ghost use Rattle.hub_core.specs.Seen.{SameRun, StaysEnded};
 
 use super::Hub;
 use super::taking::{Polled, ending, lose, take_in};
-use hub_work::Pumped;
+use hub_work::{Pumped, moments_go_on};
 use line_model::{HubFault, Link};
 use tunnel_link::Loss;
 
@@ -41,6 +41,7 @@ impl<L: Link> Hub<L> {
         ensures run { SameRun self.old self.new }
         ensures log { self.new.log ≡ self.old.log }
     {
+        moments_go_on();
         let acted = self.tunnel.act()?;
         let now = self.tunnel.now();
         lose(&mut self.work, acted.loss, now);
@@ -56,9 +57,14 @@ impl<L: Link> Hub<L> {
         ensures run { SameRun self.old self.new }
         ensures log { self.new.log ≡ self.old.log }
     {
+        moments_go_on();
         match self.work.closing {
             Some(_) => Ok(false),
-            None => self.tunnel.seek(),
+            None => {
+                let sought = self.tunnel.seek();
+                let _now = self.tunnel.now();
+                sought
+            }
         }
     }
 
@@ -71,6 +77,7 @@ impl<L: Link> Hub<L> {
         ensures run { SameRun self.old self.new }
         ensures log { self.new.log ≡ self.old.log }
     {
+        moments_go_on();
         let now = self.tunnel.now();
         let has_place = self.tunnel.has_place();
         let longest_ms = self.work.wait_ms(now, has_place, self.tunnel.deadline());
