@@ -19,7 +19,7 @@ use Rattle.hub_work.specs.Works.{SameBooks}
 use Rattle.hub_core.specs.Keeps.{HasOwnCause, Keeps}
 use Rattle.hub_core.specs.Taking.{FollowsAll, LosesIn}
 use Rattle.hub_core.proofs.Counting.{some_is, place_grows, places_ascend}
-use Rattle.hub_core.proofs.Keeps.{Tolds, moves}
+use Rattle.hub_core.proofs.Keeps.{books_same, same_log, Tolds, moves}
 use Rattle.hub_core.proofs.Quiet.{Asides, nothing_aside, asides_fit, fits_after, quiet_told, quiet_runs}
 use Rattle.hub_core.proofs.Requests.{nothings_put}
 use Rattle.hub_core.proofs.Taking.{NoneGot, sent_not_got}
@@ -30,7 +30,7 @@ same_refl w = record { reservation = refl; turns = refl; told = refl; held = ref
 pub not_none : (g : Option HubFault) (fault : HubFault) → g ≡ Some fault → g ≡ None → ⊥
 not_none g fault e none = absurd (let z : Some fault ≡ None = sym e ∙ none in cc)
 
-own_of_tunnel : (jobs : List Job) (log : List LogEntry) (r : List Entry) (fault : HubFault) → IsOfTunnel fault → HasOwnCause jobs log r fault
+pub own_of_tunnel : (jobs : List Job) (log : List LogEntry) (r : List Entry) (fault : HubFault) → IsOfTunnel fault → HasOwnCause jobs log r fault
 own_of_tunnel jobs log r (NoMemory want) h = tt
 own_of_tunnel jobs log r LinkFailed h = tt
 own_of_tunnel jobs log r (GatewayRefused three) h = tt
@@ -50,7 +50,7 @@ module _ (s t : Story) (w v : Work) (met : Bool) (P : List Placed → List Place
 
   pub failed : ((old added : List Placed) → P old added → Every PutsNone (moments_on old added)) → (after : Bool) (g : Option HubFault) (fault : HubFault) → g ≡ Some fault → IsOfTunnel fault → Tolds s t w v met after g
   failed puts after g fault is tunnel jobs old new are es et k =
-      quiet_told (place_of s) (place_of t) old (adds old es).added new (added_to old new es et) (place_grows s t goes) jobs w v met after g same (puts old (adds old es).added (adds old es).is)
+      quiet_told (place_of s) (place_of t) old (adds old es).added new (added_to old new es et) (place_grows s t goes) jobs w v met after g same.turns (same_log w v same) (books_same w v same (place_of s) k.books) (puts old (adds old es).added (adds old es).is)
       (λ none. absurd (not_none g fault is none))
       (λ why e. subst (HasOwnCause jobs v.journal.entries (entries new)) (same_some g fault why is e) (own_of_tunnel jobs v.journal.entries (entries new) fault tunnel)) k
 
@@ -61,8 +61,8 @@ module _ (s t : Story) (w v : Work) (met : Bool) (P : List Placed → List Place
       let is : AllNothing old added × NoneGot added × FollowsAll Asides now w v = so old added (adds old es).is in
       let le : place_of s ≤ place_of t = place_grows s t goes in
       let a : Added (place_of s) (place_of t) old added new = added_to old new es et in
-      quiet_told (place_of s) (place_of t) old added new a le jobs w v met met g same (nothings_put (moments_on old added) is.0)
-      (λ no. quiet_runs (place_of s) (place_of t) old added new a le jobs w v met same is.1
+      quiet_told (place_of s) (place_of t) old added new a le jobs w v met met g same.turns (same_log w v same) (books_same w v same (place_of s) k.books) (nothings_put (moments_on old added) is.0)
+      (λ no. quiet_runs (place_of s) (place_of t) old added new a le jobs w v met (same_log w v same) is.1
           (fits_after (place_of s) (place_of t) old added new a le Asides now w v jobs law is.2 same (places_ascend t new et) k.books (k.runs refl).fits (nothing_aside (moments_on old added) is.0) (told new et))
           (k.runs refl))
       (λ why e. absurd (not_none g why e none)) k

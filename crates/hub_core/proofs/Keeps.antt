@@ -70,36 +70,39 @@ books_later at later w le k = record {
 abbrev Tells : List Job → Work → ℕ → List Placed → Type 0
 Tells jobs w n places = TellsAndAsks jobs w.telegrams.turns w.journal.entries n places
 
-pub tells_same : (jobs : List Job) (w v : Work) (n : ℕ) (places : List Placed) → SameBooks w v → Tells jobs w n places → Tells jobs v n places
-tells_same jobs w v n places s h =
-    subst (λ (ts : List GroupTurn). TellsAndAsks jobs ts v.journal.entries n places) (sym s.turns)
-    (subst (λ (l : List LogEntry). TellsAndAsks jobs w.telegrams.turns l n places) (sym (ap (λ j. j.entries) s.journal)) h)
+pub tells_same : (jobs : List Job) (w v : Work) (n : ℕ) (places : List Placed) → v.telegrams.turns ≡ w.telegrams.turns → v.journal.entries ≡ w.journal.entries → Tells jobs w n places → Tells jobs v n places
+tells_same jobs w v n places turns logs h =
+    subst (λ (ts : List GroupTurn). TellsAndAsks jobs ts v.journal.entries n places) (sym turns)
+    (subst (λ (l : List LogEntry). TellsAndAsks jobs w.telegrams.turns l n places) (sym logs) h)
+
+pub same_log : (w v : Work) → SameBooks w v → v.journal.entries ≡ w.journal.entries
+same_log w v s = ap (λ j. j.entries) s.journal
 
 -- ---- all of it, by what is told
-
--- the jobs that a hub has stay
-jobs_back : (w v : Work) → SameBooks w v → (jobs : List Job) → AreJobsWith (tasks v) jobs → AreJobsWith (tasks w) jobs
-jobs_back w v s jobs h = subst (λ (ts : List Task). AreJobsWith ts jobs) s.tasks_are h
-
-jobs_same : (w v : Work) → SameBooks w v → ((jobs : List Job) → AreJobsWith (tasks w) jobs → AreJobsOf w.reservation.devices jobs) → (jobs : List Job) → AreJobsWith (tasks v) jobs → AreJobsOf v.reservation.devices jobs
-jobs_same w v s are jobs h = subst (λ (r : Reservation). AreJobsOf r.devices jobs) (sym s.reservation) (are jobs (jobs_back w v s jobs h))
 
 -- a call after which what is told is kept
 abbrev pub Tolds : Story → Story → Work → Work → Bool → Bool → Option HubFault → Type 0
 Tolds s t w v met after g =
     (jobs : List Job) (old new : List Placed) → AreJobsOf w.reservation.devices jobs → places_in s ≡ Some old → places_in t ≡ Some new → KeepsTold jobs w met None (place_of s) old → KeepsTold jobs v after g (place_of t) new
 
-pub moves : (p q : ℕ) (s t : Story) (w v : Work) (met after : Bool) (f g : Option HubFault) → f ≡ None → p ≤ q → SameBooks w v → GoesOn s t → Tolds s t w v met after g → Keeps p s w met f → Keeps q t v after g
-moves p q s t w v met after f g none le same goes tolds k = record {
-  books = books_same w v same q (books_later p q w le k.books);
-  jobs_are = jobs_same w v same k.jobs_are;
-  told = λ jobs of new told. by_old jobs of new told (told_before s t new goes told);
+pub moved : (p q : ℕ) (s t : Story) (w v : Work) (met after : Bool) (f g : Option HubFault) → f ≡ None → tasks v ≡ tasks w → v.reservation.devices ≡ w.reservation.devices → KeepsBooks q v → GoesOn s t → Tolds s t w v met after g → Keeps p s w met f
+    → Keeps q t v after g
+moved p q s t w v met after f g none jobs_stay devices_stay books goes tolds k = record {
+  books = books;
+  jobs_are = λ jobs of. subst (λ ds. AreJobsOf ds jobs) (sym devices_stay) (k.jobs_are jobs (back jobs of));
+  told = λ jobs of new told. by_old jobs (back jobs of) new told (told_before s t new goes told);
 }
   where
-    by_old : (jobs : List Job) → AreJobsWith (tasks v) jobs → (new : List Placed) → places_in t ≡ Some new → (old : List Placed) × (places_in s ≡ Some old) → KeepsTold jobs v after g (place_of t) new
+    back : (jobs : List Job) → AreJobsWith (tasks v) jobs → AreJobsWith (tasks w) jobs
+    back jobs of = subst (λ (ts : List Task). AreJobsWith ts jobs) jobs_stay of
+
+    by_old : (jobs : List Job) → AreJobsWith (tasks w) jobs → (new : List Placed) → places_in t ≡ Some new → (old : List Placed) × (places_in s ≡ Some old) → KeepsTold jobs v after g (place_of t) new
     by_old jobs of new told was =
-        let back : AreJobsWith (tasks w) jobs = jobs_back w v same jobs of in
-        tolds jobs was.0 new (k.jobs_are jobs back) was.1 told (subst (λ (h : Option HubFault). KeepsTold jobs w met h (place_of s) was.0) none (k.told jobs back was.0 was.1))
+        tolds jobs was.0 new (k.jobs_are jobs of) was.1 told (subst (λ (h : Option HubFault). KeepsTold jobs w met h (place_of s) was.0) none (k.told jobs of was.0 was.1))
+
+pub moves : (p q : ℕ) (s t : Story) (w v : Work) (met after : Bool) (f g : Option HubFault) → f ≡ None → p ≤ q → SameBooks w v → GoesOn s t → Tolds s t w v met after g → Keeps p s w met f → Keeps q t v after g
+moves p q s t w v met after f g none le same goes tolds k =
+    moved p q s t w v met after f g none same.tasks_are (ap (λ r. r.devices) same.reservation) (books_same w v same q (books_later p q w le k.books)) goes tolds k
 
 pub none_inside : {L : Type 0} (a b : Seen L) → a ≡ b → b.fault ≡ None → a.fault ≡ None
 none_inside a b e none = ap (λ (s : Seen _). s.fault) e ∙ none

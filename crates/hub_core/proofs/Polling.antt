@@ -29,7 +29,7 @@ use Rattle.hub_core.specs.Keeps.{HasOwnCause, Runs, KeepsTold, Keeps}
 use Rattle.hub_core.specs.Taking.{FollowsAll, TakesIn, MeetsOne, MeetsSo, NotFlooded, EndsSo}
 use Rattle.hub_core.proofs.Calls.{added_to, not_none, same_some as same_why}
 use Rattle.hub_core.proofs.Counting.{places_ascend, place_grows}
-use Rattle.hub_core.proofs.Keeps.{books_same, books_later, Tolds, moves}
+use Rattle.hub_core.proofs.Keeps.{books_same, books_later, same_log, Tolds, moves}
 use Rattle.hub_core.proofs.Quiet.{fits_after, quiet_told}
 use Rattle.hub_core.proofs.Requests.{nothings_put, loses_put, takes_put, one_puts}
 use Rattle.hub_core.proofs.Taking.{quiet_not_got, sent_not_got, none_counted, none_opened, counted_once, opens_none}
@@ -173,7 +173,7 @@ module _ (p q : ℕ) (s t : Story) (w v : Work) (met after : Bool) (f g : Option
     kept = books_same w v same (place_of t) (books_later (place_of s) (place_of t) w (place_grows s t goes) k.books)
 
     tells : (runs : g ≡ None → Runs jobs v after (place_of t) new) (cause : (why : HubFault) → g ≡ Some why → HasOwnCause jobs v.journal.entries (entries new) why) → KeepsTold jobs v after g (place_of t) new
-    tells runs cause = quiet_told (place_of s) (place_of t) old (adds old es).added new a (place_grows s t goes) jobs w v met after g same (does_puts came.what came.loss now (moments_on old (adds old es).added) does) runs cause k
+    tells runs cause = quiet_told (place_of s) (place_of t) old (adds old es).added new a (place_grows s t goes) jobs w v met after g same.turns (same_log w v same) (books_same w v same (place_of s) k.books) (does_puts came.what came.loss now (moments_on old (adds old es).added) does) runs cause k
 
     goes_on_told : g ≡ None → MeetsSo v met after came.what None → NotFlooded v taken → KeepsTold jobs v after g (place_of t) new
     goes_on_told stands meets few = tells

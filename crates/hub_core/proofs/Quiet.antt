@@ -69,24 +69,24 @@ module _ (n m : ℕ) (old added new : List Placed) (a : Added n m old added new)
       let stays : Fits jobs v now m (moments_on old added ++ moments old) = law jobs v now at m (moments_on old added ++ moments old) (books_same w v s at (books_later n at w place_between.0 books)) h place_between.1 in
       subst (λ (t : ℕ). Fits jobs v t m (moments new)) when (subst (λ (l : List Moment). Fits jobs v now m l) (sym a.moments_grow) stays)
 
-  pub quiet_told : (jobs : List Job) (w v : Work) (met after : Bool) (g : Option HubFault) → SameBooks w v → Every PutsNone (moments_on old added) → (g ≡ None → Runs jobs v after m new)
-      → ((why : HubFault) → g ≡ Some why → HasOwnCause jobs v.journal.entries (entries new) why) → KeepsTold jobs w met None n old → KeepsTold jobs v after g m new
-  quiet_told jobs w v met after g s puts runs cause k = record {
-    books = books_same w v s m (books_later n m w le k.books);
-    tells = tells_same jobs w v m new s (subst (λ (l : List Placed). TellsAndAsks jobs w.telegrams.turns w.journal.entries m l) (sym a.grow)
+  pub quiet_told : (jobs : List Job) (w v : Work) (met after : Bool) (g : Option HubFault) → v.telegrams.turns ≡ w.telegrams.turns → v.journal.entries ≡ w.journal.entries → KeepsBooks n v → Every PutsNone (moments_on old added)
+      → (g ≡ None → Runs jobs v after m new) → ((why : HubFault) → g ≡ Some why → HasOwnCause jobs v.journal.entries (entries new) why) → KeepsTold jobs w met None n old → KeepsTold jobs v after g m new
+  quiet_told jobs w v met after g turns logs books puts runs cause k = record {
+    books = books_later n m v le books;
+    tells = tells_same jobs w v m new turns logs (subst (λ (l : List Placed). TellsAndAsks jobs w.telegrams.turns w.journal.entries m l) (sym a.grow)
         (goes_on jobs w.telegrams.turns w.journal.entries n m added old le a.above (quiet_right jobs w.telegrams.turns w.journal.entries added old puts) k.tells));
     runs = runs;
     cause = cause;
   }
 
   -- nothing was got
-  pub quiet_runs : (jobs : List Job) (w v : Work) (met : Bool) → SameBooks w v → NoneGot added → Fits jobs v (time (moments new)) m (moments new) → Runs jobs w met n old → Runs jobs v met m new
-  quiet_runs jobs w v met s none fits r =
+  pub quiet_runs : (jobs : List Job) (w v : Work) (met : Bool) → v.journal.entries ≡ w.journal.entries → NoneGot added → Fits jobs v (time (moments new)) m (moments new) → Runs jobs w met n old → Runs jobs v met m new
+  quiet_runs jobs w v met logs none fits r =
       let tunnel : first_tunnel (entries new) ≡ first_tunnel (entries old) = ap (λ (l : List Placed). first_tunnel (entries l)) a.grow ∙ none_opened added old none in
       let count : datagrams_taken (entries new) ≡ datagrams_taken (entries old) = ap (λ (l : List Placed). datagrams_taken (entries l)) a.grow ∙ none_counted added old none in
       record {
         fits = fits;
         met_one = r.met_one ∙ ap is_some (sym tunnel);
-        no_flood = λ u. subst (λ (c : ℕ). c < flood) (sym count) (r.no_flood (subst (λ (l : List LogEntry). JobUnfinished jobs l) (ap (λ j. j.entries) s.journal) u));
+        no_flood = λ u. subst (λ (c : ℕ). c < flood) (sym count) (r.no_flood (subst (λ (l : List LogEntry). JobUnfinished jobs l) logs u));
         right_line = ap (first_elsewhere jobs) tunnel ∙ r.right_line;
       }
