@@ -8,3 +8,7 @@ mod Changed
 mod Stages
 mod Begun
 mod JobEvents
+mod Events
+mod Moments
+mod Crews
+mod Confirmed

@@ -49,6 +49,8 @@ pub record SameBooks (old new : Work) : Type 0 where
   pub told : new.telegrams.told ≡ old.telegrams.told
   pub held : jobs_held new.crew ≡ jobs_held old.crew
   pub journal : new.journal ≡ old.journal
+  pub unfinished : new.unfinished ≡ old.unfinished
+  pub tasks_are : tasks new ≡ tasks old
 
 -- the worker holds this
 abbrev pub IsHolder : Work → ℕ → Held → Type 0

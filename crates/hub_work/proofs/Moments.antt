@@ -1,0 +1,48 @@
+-- A hub's work fits the record after a moment that is nothing to it, a confirmation, a frame of a device, the loss of the channel, and a request.
+use Rattle.std.proofs.Common.{◌≡◌, ◌≢◌, ◌⊎◌, inl, inr, ◌↔◌, ℕ, suc, ◌+◌, ◌-◌, ◌<◌, ◌≤◌, Bool, true, false, List, [], ◌∷◌, length, map, Option, Some, None, refl, sym, ap, subst, ◌∙◌, arith}
+use Rattle.line_model.specs.declared.group.GroupTurn.{GroupTurn}
+use Rattle.line_model.specs.ClientView.{Loses}
+use Rattle.line_model.specs.Moments.{Moment, between, is_loss}
+use Rattle.line_model.specs.Log.{Job, Untaken, Held, job_of, state_of}
+use Rattle.hub_work.specs.declared.telegrams.Stage.{Stage}
+use Rattle.hub_work.specs.declared.telegrams.Stage.TheVariants.{UnderWay}
+use Rattle.hub_work.specs.declared.work.Sender.{Sender}
+use Rattle.hub_work.specs.declared.work.Sender.TheVariants.{Nobody, Worker, GroupThread}
+use Rattle.hub_work.specs.declared.work.Work.{Work}
+use Rattle.hub_work.specs.Laws.{Laws}
+use Rattle.hub_work.specs.Fits.{Fits, FitsJob, in_flight}
+use Rattle.hub_work.specs.Follows.{IsNew, IsAside}
+use Rattle.hub_work.specs.Comes.{IsNothing, Confirms}
+use Rattle.hub_work.specs.Works.{KeepsBooks, SameBooks}
+use Rattle.hub_work.specs.Telegrams.{after_confirmation}
+use Rattle.hub_work.proofs.Deeds.{aside_is_nothing}
+use Rattle.hub_work.proofs.Events.{Goes, fits_on}
+use Rattle.hub_work.proofs.JobEvents.{job_on, not_flying, aside_becomes, others_become}
+use Rattle.hub_work.proofs.Stages.{aside_telegram, settled_telegram}
+
+pub same_books : (w : Work) → SameBooks w w
+same_books w = record { reservation = refl; turns = refl; told = refl; held = refl; journal = refl; unfinished = refl; tasks_are = refl }
+
+lasts : (m : Moment) → is_loss m.what ≡ false → m.what ≢ Loses
+lasts m e is = let f : is_loss m.what ≡ true = ap is_loss is in cc
+
+-- ---- nothing
+
+nobody_to : (s : Sender) (w : ℕ) → s ≡ Nobody → s ≢ Worker w
+nobody_to s w e f = cc
+
+module _ (laws : Laws) (jobs : List Job) (old new : Work) (before now at later : ℕ) (m : Moment) (l : List Moment) (books : KeepsBooks at old) (f : Fits jobs old before at l) (n : IsNew m now at later) where
+  -- the work stays
+  pub nothing_goes : old ≡ new → IsNothing m → Goes jobs old old before now at m l
+  nothing_goes e w = record {
+    same = same_books old;
+    untaken = λ k job there e u. u;
+    held = λ k worker since job there e j.
+        job_on old old before now k worker m (between since at l) job j j.state j.there (aside_becomes laws j.state before now m (between since at l) j.fits n.time (w.to j.state.device)) (w.to job.device).put_is refl j.flight;
+    telegram = λ o x t. aside_telegram o old.telegrams.stage m x w.alone (lasts m (w.to (record { raw = 0 })).lasts) (w.to (record { raw = 0 })).confirmed_is t;
+    group = f.group;
+    free = λ e. f.free (sym (w.still l) ∙ e);
+  }
+
+pub aside_follows : (laws : Laws) (jobs : List Job) (w : Work) (before now at later : ℕ) (m : Moment) (l : List Moment) → KeepsBooks at w → Fits jobs w before at l → IsNew m now at later → IsAside m.what → Fits jobs w now later (m ∷ l)
+aside_follows laws jobs w before now at later m l books f n a = fits_on jobs w w before now at later m l books f n (nothing_goes laws jobs w w before now at later m l books f n refl (aside_is_nothing m a))
