@@ -136,7 +136,7 @@ idle_worker old before x k worker job j none = elim (cases_lt (worker - 1) (leng
 ]
 
 sender_books : (old : Work) (s : Sender) → SameBooks old (record old { sender = s })
-sender_books old s = record { reservation = refl; turns = refl; told = refl; held = refl; journal = refl; unfinished = refl; tasks_are = refl }
+sender_books old s = record { reservation = refl; turns = refl; told = refl; held = refl; journal = refl; unfinished = refl; tasks_are = refl; closing = refl }
 
 pub confirmed_books : (old : Work) (ds : List Known) (crew : List (Option Holds)) (s : Sender) (error : Bool) (now job : ℕ) → states ds ≡ changed (λ (x : DownloaderState). confirmed x error now) job (states old.downloaders) → holdings crew ≡ holdings old.crew
     → SameBooks old (record old { downloaders = ds; crew = crew; sender = s })
@@ -148,6 +148,7 @@ confirmed_books old ds crew s error now job is same = record {
   journal = refl;
   unfinished = refl;
   tasks_are = ap (map task_of_state) is ∙ tasks_stay (λ (x : DownloaderState). confirmed x error now) (λ x. refl) job (states old.downloaders);
+  closing = refl;
 }
 
 module _ (laws : Laws) (old : Work) (s : Sender) (error : Bool) (now : ℕ) (nobody : s ≡ Nobody) where
@@ -161,7 +162,7 @@ module _ (laws : Laws) (old : Work) (s : Sender) (error : Bool) (now : ℕ) (nob
   pub confirmed_of_group : (t : Telling) → t ≡ record old.telegrams { stage = after_confirmation old.telegrams.stage } → GroupThread ≡ old.sender → ConfirmationFollows old (record old { telegrams = t; sender = s }) error now
   confirmed_of_group t is sender jobs before at later m l books f n c =
       of_no_job laws jobs old (record old { telegrams = t; sender = s }) error before now at later m l books f n c
-      (record { reservation = refl; turns = ap (λ (x : Telling). x.turns) is; told = ap (λ (x : Telling). x.told) is; held = refl; journal = refl; unfinished = refl; tasks_are = refl }) nobody refl refl
+      (record { reservation = refl; turns = ap (λ (x : Telling). x.turns) is; told = ap (λ (x : Telling). x.told) is; held = refl; journal = refl; unfinished = refl; tasks_are = refl; closing = refl }) nobody refl refl
       (λ k worker x job j. not_flying old old before now k worker m x job j (group_isnt old.sender worker (sym sender)))
       (λ u. not_under_way old.telegrams.stage (sym (ap (λ (x : Telling). x.stage) is) ∙ u))
       (λ o x p. subst (λ (g : Stage). FitsTelegram o g (m ∷ x)) (sym (ap (λ (x : Telling). x.stage) is)) (confirmed_telegram o old.telegrams.stage m x c.alone (error, (c.to (record { raw = 0 })).confirmed_is) p))

@@ -21,7 +21,7 @@ use Rattle.hub_work.proofs.JobEvents.{job_on, not_flying, aside_becomes, others_
 use Rattle.hub_work.proofs.Stages.{aside_telegram, settled_telegram}
 
 pub same_books : (w : Work) → SameBooks w w
-same_books w = record { reservation = refl; turns = refl; told = refl; held = refl; journal = refl; unfinished = refl; tasks_are = refl }
+same_books w = record { reservation = refl; turns = refl; told = refl; held = refl; journal = refl; unfinished = refl; tasks_are = refl; closing = refl }
 
 lasts : (m : Moment) → is_loss m.what ≡ false → m.what ≢ Loses
 lasts m e is = let f : is_loss m.what ≡ true = ap is_loss is in cc

@@ -9,7 +9,7 @@ ghost use Rattle.hub_work.specs.Comes.{TookFollows, EndFollows, after_end};
 ghost use Rattle.hub_work.specs.Downloaders.{changed, states};
 ghost use Rattle.hub_work.specs.Requests.{request_with};
 ghost use Rattle.line_model.specs.ClientEnd.{IsCemi};
-ghost use Rattle.hub_work.specs.Turns.{Adds, IsEnd, WaitsFree, PutsCemi, EndsJob, TurnTold};
+ghost use Rattle.hub_work.specs.Turns.{Adds, IsEnd, WaitsFree, PutsCemi, PutsWhere, EndsJob, TurnTold};
 ghost use Rattle.hub_work.specs.Follows.{TurnFollows};
 ghost use Rattle.hub_work.specs.Works.{KeepsBooks, SameRun, SameBooks, IsHolder, IsTaking};
 
@@ -37,6 +37,7 @@ impl Work {
         requires worker { 1 ≤ worker }
         requires books { KeepsBooks at self.old }
         ensures free { WaitsFree self.old.reservation result }
+        ensures placed { PutsWhere has_place result }
         ensures cemi { PutsCemi result }
         ensures told { TurnTold at worker result self.old.journal.entries self.new.journal.entries }
         ensures run { SameRun self.old self.new }
@@ -100,6 +101,7 @@ impl Work {
         requires holder { IsHolder self.old worker held }
         requires books { KeepsBooks at self.old }
         ensures free { WaitsFree self.old.reservation result }
+        ensures placed { PutsWhere has_place result }
         ensures cemi { PutsCemi result }
         ensures told { TurnTold at worker result self.old.journal.entries self.new.journal.entries }
         ensures run { SameRun self.old self.new }
