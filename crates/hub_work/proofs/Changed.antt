@@ -10,7 +10,7 @@ use Rattle.hub_work.specs.declared.job.HubJob.{HubJob}
 use Rattle.device_reservation.proofs.Numbered.{by_place, from_1}
 use Rattle.hub_work.specs.Downloaders.{downloader_of, states, changed, changed_at, task_of_state, new_of_job}
 
-abbrev Change : Type 0
+abbrev pub Change : Type 0
 Change = DownloaderState → DownloaderState
 
 there_at : (f : Change) (i : ℕ) (all : List DownloaderState) (s : DownloaderState) → slice_get all i ≡ Some s → slice_get (changed_at f i all) i ≡ Some (f s)

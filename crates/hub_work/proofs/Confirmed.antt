@@ -25,9 +25,10 @@ use Rattle.hub_work.specs.Comes.{Confirms, ConfirmationFollows}
 use Rattle.hub_work.specs.Works.{KeepsBooks, SameBooks}
 use Rattle.hub_work.specs.Telegrams.{Telling, after_confirmation}
 use Rattle.hub_work.proofs.Changed.{changed_there, changed_elsewhere, tasks_stay}
-use Rattle.hub_work.proofs.Crews.{same_jobs_held, same_slot, same_worker, within_crew, crew_holds_worker}
+use Rattle.hub_work.proofs.Crews.{cases_lt, same_jobs_held, same_slot, same_worker, within_crew, crew_holds_worker}
 use Rattle.hub_work.proofs.Events.{Goes, fits_on}
 use Rattle.hub_work.proofs.JobEvents.{job_on, not_flying, others_become, confirmed_becomes, landed}
+use Rattle.hub_work.proofs.Moments.{changed_books}
 use Rattle.hub_work.proofs.Stages.{settled_telegram, confirmed_telegram, not_under_way}
 
 -- ---- of the parts that a call leaves
@@ -111,14 +112,6 @@ module _ (laws : Laws) (jobs : List Job) (old new : Work) (error : Bool) (before
 
 -- ---- each case of the call
 
-cases_lt : (a b : ℕ) → (a < b) ⊎ (b ≤ a)
-cases_lt a zero = inr (omega arith)
-cases_lt zero (suc b) = inl (omega arith)
-cases_lt (suc a) (suc b) = elim (cases_lt a b) [
-  | inl lt ↦ inl (omega arith)
-  | inr le ↦ inr (omega arith)
-]
-
 unheld : (crew : List (Option Holds)) (worker : ℕ) (x : Holding) → None ≡ held_at crew (worker - 1) → slice_get (holdings crew) (worker - 1) ≡ Some (Some x) → ⊥
 unheld crew worker x e h = none_at crew (worker - 1) e h
   where
@@ -137,19 +130,6 @@ idle_worker old before x k worker job j none = elim (cases_lt (worker - 1) (leng
 
 sender_books : (old : Work) (s : Sender) → SameBooks old (record old { sender = s })
 sender_books old s = record { reservation = refl; turns = refl; told = refl; held = refl; journal = refl; unfinished = refl; tasks_are = refl; closing = refl }
-
-pub confirmed_books : (old : Work) (ds : List Known) (crew : List (Option Holds)) (s : Sender) (error : Bool) (now job : ℕ) → states ds ≡ changed (λ (x : DownloaderState). confirmed x error now) job (states old.downloaders) → holdings crew ≡ holdings old.crew
-    → SameBooks old (record old { downloaders = ds; crew = crew; sender = s })
-confirmed_books old ds crew s error now job is same = record {
-  reservation = refl;
-  turns = refl;
-  told = refl;
-  held = same_jobs_held old.crew crew same;
-  journal = refl;
-  unfinished = refl;
-  tasks_are = ap (map task_of_state) is ∙ tasks_stay (λ (x : DownloaderState). confirmed x error now) (λ x. refl) job (states old.downloaders);
-  closing = refl;
-}
 
 module _ (laws : Laws) (old : Work) (s : Sender) (error : Bool) (now : ℕ) (nobody : s ≡ Nobody) where
   pub confirmed_of_nobody : Nobody ≡ old.sender → ConfirmationFollows old (record old { sender = s }) error now
@@ -171,7 +151,7 @@ module _ (laws : Laws) (old : Work) (s : Sender) (error : Bool) (now : ℕ) (nob
       → states ds ≡ changed (λ (x : DownloaderState). confirmed x error now) h.job (states old.downloaders) → holdings crew ≡ holdings old.crew → ConfirmationFollows old (record old { downloaders = ds; crew = crew; sender = s }) error now
   confirmed_of_worker ds crew by h sender from holds is same jobs before at later m l books f n c =
       of_job laws jobs old (record old { downloaders = ds; crew = crew; sender = s }) error before now at later m l books f n c
-      (confirmed_books old ds crew s error now h.job is same) nobody same by h (sym sender) from holds is refl
+      (changed_books old ds crew s (λ (x : DownloaderState). confirmed x error now) h.job (λ x. refl) is same) nobody same by h (sym sender) from holds is refl
 
   -- its job has ended
   pub confirmed_of_none : (by : ℕ) → Worker by ≡ old.sender → (1 ≤ by → None ≡ held_at old.crew (by - 1)) → ConfirmationFollows old (record old { sender = s }) error now

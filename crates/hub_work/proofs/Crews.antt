@@ -3,6 +3,7 @@ use Rattle.std.proofs.Common.{◌≡◌, ◌≢◌, ◌⊎◌, inl, inr, Bool, f
 use Rattle.std.specs.Prelude.{slice_get}
 use Rattle.std.proofs.lemmas.Bool.{cases_eq}
 use Rattle.knx_model.specs.declared.address.IndAddr.{IndAddr}
+use Rattle.line_model.specs.Moments.{Moment, between}
 use Rattle.line_model.specs.Log.{Job, Held, job_of, state_of}
 use Rattle.device_reservation.specs.declared.stage.Stage.TheVariants.{Held as IsHeldBy}
 use Rattle.device_reservation.specs.Reservation.{Reservation, stage_of}
@@ -13,6 +14,8 @@ use Rattle.hub_work.specs.declared.work.Work.{Work}
 use Rattle.hub_work.specs.Books.{AreJobsOf, job_in, jobs_held, held_at, is_of_device}
 use Rattle.hub_work.specs.Crew.{Holding, holding_in, holdings, begun_in, after_begun}
 use Rattle.hub_work.specs.Works.{KeepsBooks}
+use Rattle.hub_work.specs.Fits.{Fits, FitsJob}
+use Rattle.hub_work.proofs.HeldJobs.{held_in}
 
 -- ---- at a place
 
@@ -123,3 +126,58 @@ crew_holds_worker w jobs at worker h from books of e =
     let c : (since : ℕ) × (state_of h.job w.journal.entries ≡ Held (suc (worker - 1)) since) = crew_holds w jobs at (worker - 1) h books of e in
     let number : suc (worker - 1) ≡ worker = omega arith in
     (c.0, c.1 ∙ ap (λ n. Held n c.0) number)
+
+-- ---- a job that a worker at a place holds, by log and crew
+
+pub cases_lt : (a b : ℕ) → (a < b) ⊎ (b ≤ a)
+cases_lt a zero = inr (omega arith)
+cases_lt zero (suc b) = inl (omega arith)
+cases_lt (suc a) (suc b) = elim (cases_lt a b) [
+  | inl lt ↦ inl (omega arith)
+  | inr le ↦ inr (omega arith)
+]
+
+pub some_is : {X : Type 0} (x y : X) → Some x ≡ Some y → x ≡ y
+some_is x y e = cc
+
+there_is : {X : Type 0} (o : Option X) → o ≢ None → (x : X) × (o ≡ Some x)
+there_is None e = absurd (e refl)
+there_is (Some x) e = (x, refl)
+
+-- what the worker holds there is of this device
+same_held_device : (x y : Holding) → Some (Some x) ≡ Some (Some y) → x.device ≡ y.device
+same_held_device x y e = ap (λ (h : Holding). h.device) (inner x y e)
+  where
+    inner : (x y : Holding) → Some (Some x) ≡ Some (Some y) → x ≡ y
+    inner x y e = cc
+
+pub held_anywhere : (crew : List (Option Holds)) (place : ℕ) (x : Holding) → slice_get (holdings crew) place ≡ Some (Some x) → ((h : Holds) → Some h ≡ held_at crew place → h.device ≡ x.device → ⊥) → ⊥
+held_anywhere [] place x e apart = cc
+held_anywhere (None ∷ crew) zero x e apart = cc
+held_anywhere (Some h ∷ crew) zero x e apart = apart h refl (same_held_device (record { job = h.job; device = h.device; begun = h.begun }) x e)
+held_anywhere (y ∷ crew) (suc place) x e apart = held_anywhere crew place x e apart
+
+at_place : (crew : List (Option Holds)) (place : ℕ) (x : Option (Option Holding)) → (suc place - 1 < length (holdings crew) → slice_get (holdings crew) (suc place - 1) ≡ x) → place < length (holdings crew) → slice_get (holdings crew) place ≡ x
+at_place crew place x h lt =
+    let same : suc place - 1 ≡ place = omega arith in
+    subst (λ i. slice_get (holdings crew) i ≡ x) same (h (omega (arith, same)))
+
+pub record IsHeldSo (jobs : List Job) (w : Work) (at place : ℕ) (h : Holds) : Type 0 where
+  pub since : ℕ
+  pub held : state_of h.job w.journal.entries ≡ Held (suc place) since
+  pub job : Job
+  pub there : job_of jobs h.job ≡ Some job
+  pub device : job.device ≡ h.device
+
+pub held_so : (jobs : List Job) (w : Work) (now at : ℕ) (l : List Moment) (place : ℕ) (h : Holds) → KeepsBooks at w → Fits jobs w now at l → Some h ≡ held_at w.crew place → IsHeldSo jobs w at place h
+held_so jobs w now at l place h books f e =
+    let c : (since : ℕ) × (state_of h.job w.journal.entries ≡ Held (suc place) since) = crew_holds w jobs at place h books f.devices e in
+    let i : (job : Job) × (job_of jobs h.job ≡ Some job) = there_is (job_of jobs h.job) (held_in jobs w.telegrams.turns at w.journal.entries h.job (suc place) c.0 (books.written.form jobs f.devices) c.1).there in
+    let j : FitsJob w now (between c.0 at l) h.job (suc place) i.0 = f.held h.job (suc place) c.0 i.0 i.1 c.1 in
+    record {
+      since = c.0;
+      held = c.1;
+      job = i.0;
+      there = i.1;
+      device = same_held_device _ (record { job = h.job; device = h.device; begun = h.begun }) (sym (at_place w.crew place _ j.holds (within_crew w.crew place h e)) ∙ holding_at w.crew place h e);
+    }

@@ -8,7 +8,7 @@ use Rattle.line_model.specs.Moments.{Moment, is_loss, put_to}
 use Rattle.line_model.specs.Log.{Job}
 use Rattle.line_model.specs.Attempts.{begun, attempts}
 use Rattle.download_core.specs.Attempt.{DownloaderState, Phase, Resting, Running, Closing, Leaving, Ended}
-use Rattle.download_core.specs.Calls.{confirmed, taken, lost, phase_lost}
+use Rattle.download_core.specs.Calls.{confirmed, taken, lost, phase_heard, phase_lost}
 use Rattle.download_core.specs.Record.{FitsRecord}
 use Rattle.download_core.specs.Follows.{IsMoment, flies}
 use Rattle.hub_work.specs.declared.work.Sender.{Sender}
@@ -113,3 +113,9 @@ lost_twice s = ap (λ p. record s { phase = p }) (phase_twice s.phase)
     phase_twice (Closing flight outcome) = refl
     phase_twice (Leaving outcome) = refl
     phase_twice (Ended outcome) = refl
+
+pub taken_at_rest : (s : DownloaderState) (tpdu : List ℕ) (now : ℕ) → s.phase ≡ Resting → taken s tpdu now ≡ s
+taken_at_rest s tpdu now e = ap (λ p. record s { phase = phase_heard p (frame_in tpdu) now }) e ∙ ap (λ p. record s { phase = p }) (sym e)
+
+pub lost_at_rest : (s : DownloaderState) → s.phase ≡ Resting → lost s ≡ s
+lost_at_rest s e = ap (λ p. record s { phase = phase_lost p }) e ∙ ap (λ p. record s { phase = p }) (sym e)

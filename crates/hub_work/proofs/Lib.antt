@@ -12,3 +12,4 @@ mod Events
 mod Moments
 mod Crews
 mod Confirmed
+mod Heard

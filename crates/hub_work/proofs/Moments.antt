@@ -9,12 +9,19 @@ use Rattle.hub_work.specs.declared.telegrams.Stage.TheVariants.{UnderWay}
 use Rattle.hub_work.specs.declared.work.Sender.{Sender}
 use Rattle.hub_work.specs.declared.work.Sender.TheVariants.{Nobody, Worker, GroupThread}
 use Rattle.hub_work.specs.declared.work.Work.{Work}
+use Rattle.hub_work.specs.declared.crew.Held.{Held as Holds}
+use Rattle.hub_work.specs.Crew.{holdings}
+use Rattle.hub_work.specs.Downloaders.{states, changed, task_of_state}
 use Rattle.hub_work.specs.Laws.{Laws}
 use Rattle.hub_work.specs.Fits.{Fits, FitsJob, in_flight}
 use Rattle.hub_work.specs.Follows.{IsNew, IsAside}
 use Rattle.hub_work.specs.Comes.{IsNothing, Confirms}
 use Rattle.hub_work.specs.Works.{KeepsBooks, SameBooks}
 use Rattle.hub_work.specs.Telegrams.{after_confirmation}
+use Rattle.download_core.specs.Attempt.{DownloaderState}
+use Rattle.download_core.specs.Keeps.{Known}
+use Rattle.hub_work.proofs.Changed.{Change, tasks_stay}
+use Rattle.hub_work.proofs.Crews.{same_jobs_held}
 use Rattle.hub_work.proofs.Deeds.{aside_is_nothing}
 use Rattle.hub_work.proofs.Events.{Goes, fits_on}
 use Rattle.hub_work.proofs.JobEvents.{job_on, not_flying, aside_becomes, others_become}
@@ -23,13 +30,23 @@ use Rattle.hub_work.proofs.Stages.{aside_telegram, settled_telegram}
 pub same_books : (w : Work) → SameBooks w w
 same_books w = record { reservation = refl; turns = refl; told = refl; held = refl; journal = refl; unfinished = refl; tasks_are = refl; closing = refl }
 
-lasts : (m : Moment) → is_loss m.what ≡ false → m.what ≢ Loses
+pub lasts : (m : Moment) → is_loss m.what ≡ false → m.what ≢ Loses
 lasts m e is = let f : is_loss m.what ≡ true = ap is_loss is in cc
 
--- ---- nothing
+pub changed_books : (old : Work) (ds : List Known) (crew : List (Option Holds)) (s : Sender) (change : Change) (job : ℕ) → ((x : DownloaderState) → task_of_state (change x) ≡ task_of_state x) → states ds ≡ changed change job (states old.downloaders) → holdings crew ≡ holdings old.crew
+    → SameBooks old (record old { downloaders = ds; crew = crew; sender = s })
+changed_books old ds crew s change job tasks is same = record {
+  reservation = refl;
+  turns = refl;
+  told = refl;
+  held = same_jobs_held old.crew crew same;
+  journal = refl;
+  unfinished = refl;
+  tasks_are = ap (map task_of_state) is ∙ tasks_stay change tasks job (states old.downloaders);
+  closing = refl;
+}
 
-nobody_to : (s : Sender) (w : ℕ) → s ≡ Nobody → s ≢ Worker w
-nobody_to s w e f = cc
+-- ---- nothing
 
 module _ (laws : Laws) (jobs : List Job) (old new : Work) (before now at later : ℕ) (m : Moment) (l : List Moment) (books : KeepsBooks at old) (f : Fits jobs old before at l) (n : IsNew m now at later) where
   -- the work stays
