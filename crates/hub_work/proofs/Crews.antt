@@ -34,8 +34,8 @@ job_at [] place h e = absurd (cc)
 job_at (x ∷ crew) zero h e = ap (λ (o : Option Holds). Some (job_in o)) (sym e)
 job_at (x ∷ crew) (suc place) h e = job_at crew place h e
 
-same_job : (x y : Holding) → Some (Some x) ≡ Some (Some y) → x.job ≡ y.job
-same_job x y e = ap (λ (h : Holding). h.job) (inner x y e)
+pub same_held_job : (x y : Holding) → Some (Some x) ≡ Some (Some y) → x.job ≡ y.job
+same_held_job x y e = ap (λ (h : Holding). h.job) (inner x y e)
   where
     inner : (x y : Holding) → Some (Some x) ≡ Some (Some y) → x ≡ y
     inner x y e = cc
@@ -45,7 +45,7 @@ same_worker a b e = cc
 
 -- a worker holds one job
 pub same_slot : (crew : List (Option Holds)) (h : Holds) (worker k : ℕ) (job : Job) (b : Bool) → Some h ≡ held_at crew (worker - 1) → slice_get (holdings crew) (worker - 1) ≡ Some (Some (record { job = k; device = job.device; begun = b })) → k ≡ h.job
-same_slot crew h worker k job b e r = same_job (record { job = k; device = job.device; begun = b }) (record { job = h.job; device = h.device; begun = h.begun }) (sym r ∙ holding_at crew (worker - 1) h e)
+same_slot crew h worker k job b e r = same_held_job (record { job = k; device = job.device; begun = b }) (record { job = h.job; device = h.device; begun = h.begun }) (sym r ∙ holding_at crew (worker - 1) h e)
 
 -- ---- the jobs that they hold
 

@@ -13,3 +13,4 @@ mod Moments
 mod Crews
 mod Confirmed
 mod Heard
+mod Lost

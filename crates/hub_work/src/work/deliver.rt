@@ -27,10 +27,12 @@ impl Work {
         ensures books { SameBooks self.old self.new }
         ensures follows { FrameFollows self.old self.new frame.now now }
     {
+        of_a_downloader();
         match frame.code {
             LdataCode::Con => self.confirmed(frame.error, now),
             LdataCode::Ind if !frame.group => self.heard(frame, now),
-            LdataCode::Ind | LdataCode::Req => {}
+            LdataCode::Ind => {}
+            LdataCode::Req => {}
         }
         indication_of(frame)
     }
