@@ -25,7 +25,7 @@ use Rattle.hub_work.specs.Comes.{Confirms, ConfirmationFollows}
 use Rattle.hub_work.specs.Works.{KeepsBooks, SameBooks}
 use Rattle.hub_work.specs.Telegrams.{Telling, after_confirmation}
 use Rattle.hub_work.proofs.Changed.{changed_there, changed_elsewhere, tasks_stay}
-use Rattle.hub_work.proofs.Crews.{cases_lt, same_jobs_held, same_slot, same_worker, within_crew, crew_holds_worker}
+use Rattle.hub_work.proofs.Crews.{cases_lt, unheld, same_jobs_held, same_slot, same_worker, within_crew, crew_holds_worker}
 use Rattle.hub_work.proofs.Events.{Goes, fits_on}
 use Rattle.hub_work.proofs.JobEvents.{job_on, not_flying, others_become, confirmed_becomes, landed}
 use Rattle.hub_work.proofs.Moments.{changed_books}
@@ -112,19 +112,10 @@ module _ (laws : Laws) (jobs : List Job) (old new : Work) (error : Bool) (before
 
 -- ---- each case of the call
 
-unheld : (crew : List (Option Holds)) (worker : ℕ) (x : Holding) → None ≡ held_at crew (worker - 1) → slice_get (holdings crew) (worker - 1) ≡ Some (Some x) → ⊥
-unheld crew worker x e h = none_at crew (worker - 1) e h
-  where
-    none_at : (crew : List (Option Holds)) (place : ℕ) → None ≡ held_at crew place → slice_get (holdings crew) place ≡ Some (Some x) → ⊥
-    none_at [] place e h = cc
-    none_at (None ∷ crew) zero e h = cc
-    none_at (Some y ∷ crew) zero e h = cc
-    none_at (y ∷ crew) (suc place) e h = none_at crew place e h
-
 -- a job whose worker holds none has nothing in flight
 idle_worker : (old : Work) (before : ℕ) (x : List Moment) (k worker : ℕ) (job : Job) (j : FitsJob old before x k worker job) → None ≡ held_at old.crew (worker - 1) → flies j.state.phase ≡ false
 idle_worker old before x k worker job j none = elim (cases_lt (worker - 1) (length (holdings old.crew))) [
-  | inl lt ↦ absurd (unheld old.crew worker _ none (j.holds lt))
+  | inl lt ↦ absurd (unheld old.crew (worker - 1) _ none (j.holds lt))
   | inr le ↦ ap flies (j.nobody le)
 ]
 

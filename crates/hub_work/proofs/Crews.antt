@@ -1,7 +1,8 @@
 -- What the workers hold, and the jobs that they hold by the log.
-use Rattle.std.proofs.Common.{◌≡◌, ◌≢◌, ◌⊎◌, inl, inr, Bool, false, ℕ, ◌+◌, zero, suc, ◌-◌, ◌<◌, ◌≤◌, List, [], ◌∷◌, length, map, set, Option, Some, None, refl, sym, ap, subst, ◌∙◌, arith}
+use Rattle.std.proofs.Common.{◌≡◌, ◌≢◌, ◌⊎◌, inl, inr, Bool, true, false, ℕ, ◌+◌, zero, suc, ◌-◌, ◌<◌, ◌≤◌, List, [], ◌∷◌, length, map, set, Option, Some, None, refl, sym, ap, subst, ◌∙◌, arith}
 use Rattle.std.specs.Prelude.{slice_get}
 use Rattle.std.proofs.lemmas.Bool.{cases_eq}
+use Rattle.std.proofs.lemmas.List.{map-set}
 use Rattle.knx_model.specs.declared.address.IndAddr.{IndAddr}
 use Rattle.line_model.specs.Moments.{Moment, between}
 use Rattle.line_model.specs.Log.{Job, Held, job_of, state_of}
@@ -113,6 +114,52 @@ pub all_places : (crew : List (Option Holds)) (device : IndAddr) (n : ℕ) → l
 all_places [] device n le older k = refl
 all_places (x ∷ crew) device n le older zero = older 0 (omega arith)
 all_places (x ∷ crew) device n le older (suc k) = all_places crew device (n - 1) (omega arith) (λ i lt. older (suc i) (omega arith)) k
+
+-- ---- an attempt of one worker's job has begun
+
+pub begun_there : (place : ℕ) (held : List (Option Holding)) (x : Holding) → slice_get held place ≡ Some (Some x) → slice_get (after_begun place held) place ≡ Some (Some (record x { begun = true }))
+begun_there place [] x e = absurd (cc)
+begun_there zero (y ∷ held) x e = ap (λ (o : Option Holding). Some (begun_in o)) (inner y (Some x) e)
+  where
+    inner : (a b : Option Holding) → Some a ≡ Some b → a ≡ b
+    inner a b e = cc
+begun_there (suc place) (y ∷ held) x e = begun_there place held x e
+
+pub begun_elsewhere : (place other : ℕ) (held : List (Option Holding)) → other ≢ place → slice_get (after_begun place held) other ≡ slice_get held other
+begun_elsewhere place other [] apart = refl
+begun_elsewhere zero zero (y ∷ held) apart = absurd (apart refl)
+begun_elsewhere zero (suc other) (y ∷ held) apart = refl
+begun_elsewhere (suc place) zero (y ∷ held) apart = refl
+begun_elsewhere (suc place) (suc other) (y ∷ held) apart = begun_elsewhere place other held (λ e. apart (ap suc e))
+
+pub length_begun : (place : ℕ) (held : List (Option Holding)) → length (after_begun place held) ≡ length held
+length_begun place [] = refl
+length_begun zero (y ∷ held) = refl
+length_begun (suc place) (y ∷ held) = ap suc (length_begun place held)
+
+-- ---- a slot is written
+
+pub set_holdings : (crew : List (Option Holds)) (place : ℕ) (o : Option Holds) → holdings (set crew place o) ≡ set (holdings crew) place (holding_in o)
+set_holdings crew place o = map-set holding_in crew place o
+
+pub slot_there : (held : List (Option Holding)) (place : ℕ) (o : Option Holding) → place < length held → slice_get (set held place o) place ≡ Some o
+slot_there [] place o lt = absurd (omega arith)
+slot_there (x ∷ held) zero o lt = refl
+slot_there (x ∷ held) (suc place) o lt = slot_there held place o (omega arith)
+
+pub slot_elsewhere : (held : List (Option Holding)) (place other : ℕ) (o : Option Holding) → other ≢ place → slice_get (set held place o) other ≡ slice_get held other
+slot_elsewhere [] place other o apart = refl
+slot_elsewhere (x ∷ held) zero zero o apart = absurd (apart refl)
+slot_elsewhere (x ∷ held) zero (suc other) o apart = refl
+slot_elsewhere (x ∷ held) (suc place) zero o apart = refl
+slot_elsewhere (x ∷ held) (suc place) (suc other) o apart = slot_elsewhere held place other o (λ e. apart (ap suc e))
+
+-- a worker that holds none
+pub unheld : (crew : List (Option Holds)) (place : ℕ) (x : Holding) → None ≡ held_at crew place → slice_get (holdings crew) place ≡ Some (Some x) → ⊥
+unheld [] place x e h = cc
+unheld (None ∷ crew) zero x e h = cc
+unheld (Some y ∷ crew) zero x e h = cc
+unheld (y ∷ crew) (suc place) x e h = unheld crew place x e h
 
 -- ---- by the log
 

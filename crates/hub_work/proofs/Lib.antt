@@ -14,3 +14,5 @@ mod Crews
 mod Confirmed
 mod Heard
 mod Lost
+mod Put
+mod Logs
