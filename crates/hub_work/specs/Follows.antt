@@ -101,7 +101,7 @@ pub data IsToldOf (k : ℕ) (s : Stage) (what : LogWhat) : Type 0 where
 
 abbrev pub TellingFollows : ℕ → ℕ → LogWhat → Work → Work → Type 0
 TellingFollows at k what old new =
-    (jobs : List Job) (places : List Placed) (now : ℕ) → Fits jobs old now at (moments places) → Fits jobs new now at (moments places) × (IsToldOf k old.telegrams.stage what → TellsTruly jobs places old new)
+    (jobs : List Job) (places : List Placed) (now : ℕ) → Fits jobs old now at (moments places) → IsToldOf k old.telegrams.stage what → Fits jobs new now at (moments places) × TellsTruly jobs places old new
 
 -- ---- where there is a place, nothing is unconfirmed
 

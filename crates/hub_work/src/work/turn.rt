@@ -1,9 +1,10 @@
 //! A worker's turn.
 
-ghost use Rattle.std.specs.Prelude.{◌≡◌, ℕ, ◌-◌, ◌≤◌, false, length, Some};
+ghost use Rattle.std.specs.Prelude.{◌≡◌, ℕ, ◌-◌, ◌≤◌, false, length, Some, None};
 ghost use Rattle.download_core.specs.Attempt.{DownloaderState};
 ghost use Rattle.download_core.specs.Steps.{stepped};
 ghost use Rattle.line_model.specs.Reading.{ldata_in};
+ghost use Rattle.hub_work.specs.Books.{held_at};
 ghost use Rattle.hub_work.specs.Crew.{holdings, after_begun};
 ghost use Rattle.hub_work.specs.Comes.{TookFollows, EndFollows, after_end};
 ghost use Rattle.hub_work.specs.Downloaders.{changed, states};
@@ -16,6 +17,7 @@ ghost use Rattle.hub_work.specs.Works.{KeepsBooks, SameRun, SameBooks, IsHolder,
 use super::{Sender, Work};
 use crate::answers::Turned;
 use crate::crew::Held;
+use crate::laws::of_a_downloader;
 use crate::requests::to_device;
 use device_reservation::Taken;
 use download_core::Did;
@@ -57,6 +59,7 @@ impl Work {
     /// The worker takes the first job that is free.
     fn takes_job(&mut self, worker: u8, at: u64) -> Turn
         requires worker { 1 ≤ worker }
+        requires empty { None ≡ held_at self.old.crew (worker - 1) }
         requires books { KeepsBooks at self.old }
         ensures free { WaitsFree self.old.reservation result }
         ensures cemi { PutsCemi result }
@@ -75,6 +78,7 @@ impl Work {
     /// It took this job.
     fn took(&mut self, worker: u8, job: u32, at: u64) -> Turn
         requires worker { 1 ≤ worker }
+        requires empty { None ≡ held_at self.old.crew (worker - 1) }
         requires taking { IsTaking self.old at worker job }
         ensures took { result ≡ Turn.Did (Turned.Took job) }
         ensures told { Adds at worker (LogWhat.Took job) self.old.journal.entries self.new.journal.entries }
@@ -82,6 +86,7 @@ impl Work {
         ensures books { KeepsBooks at self.new }
         ensures follows { TookFollows at self.old self.new }
     {
+        of_a_downloader();
         self.journal.add(at, worker, LogWhat::Took(job));
         let device = self.reservation.device_of(job);
         self.crew.takes(worker, job, device);
@@ -108,6 +113,7 @@ impl Work {
         ensures books { KeepsBooks at self.new }
         ensures follows { TurnFollows now at self.old self.new result }
     {
+        of_a_downloader();
         let Some(did) = self.downloaders.next(held.job, now) else {
             return Turn::Did(Turned::Wait);
         };

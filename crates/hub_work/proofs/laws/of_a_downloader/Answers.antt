@@ -2,6 +2,7 @@ use Rattle.hub_work.proofs.laws.of_a_downloader.Goals as goal
 
 pub returns : goal.returns
 returns c = record {
+  begins = c.follows_the_record.ensures.begins;
   aside = c.follows_the_record.ensures.aside;
   confirmation = c.follows_the_record.ensures.confirmed;
   others = c.follows_the_record.ensures.others;
