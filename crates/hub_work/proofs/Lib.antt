@@ -1,6 +1,5 @@
 mod Ranges
 pub mod Books
-pub mod Works
 mod Between
 mod Deeds
 mod HeldJobs
@@ -11,8 +10,11 @@ mod JobEvents
 mod Events
 mod Moments
 mod Crews
+mod Rooms
+pub mod Works
 mod Confirmed
 mod Heard
 mod Lost
 mod Put
 mod Logs
+mod OneTurn

@@ -67,6 +67,7 @@ pub record IsTaking (w : Work) (at worker job : ℕ) : Type 0 where
   pub first : IsFirstFree before job
   pub written : IsWritten before.devices w.telegrams.turns at w.journal.entries
   pub live : IsLive before (jobs_held w.crew) w.journal.entries
+  pub telling : TellsRightly w
   pub unfinished : w.unfinished ≡ count_by is_unfinished before.stages
   pub room : sum_by entries_to_come before.stages + (length w.telegrams.turns - w.telegrams.told) ≤ w.journal.room
 

@@ -198,6 +198,7 @@ impl Work {
         ensures reservation { self.new.reservation ≡ self.old.reservation }
         ensures downloaders { self.new.downloaders ≡ self.old.downloaders }
         ensures unfinished { self.new.unfinished ≡ self.old.unfinished - 1 }
+        ensures closing { self.new.closing ≡ self.old.closing }
         ensures sender { self.new.sender ≡ after_end worker self.old.sender }
         ensures crew { self.new.crew ≡ self.old.crew }
         ensures journal { self.new.journal ≡ self.old.journal }
