@@ -117,7 +117,7 @@ enters (Refused job op got expected) worker at k s r held e = ends r job k s hel
 enters (Sent turn) worker at k s r held e = e
 enters (Lost turn) worker at k s r held e = e
 
-stage_is : (jobs : List Job) (log : List LogEntry) (k : ℕ) → IsReserved jobs log → job_of jobs k ≢ None → stage_of (reservation_after jobs log) k ≡ Some (stage_in (state_of k log))
+pub stage_is : (jobs : List Job) (log : List LogEntry) (k : ℕ) → IsReserved jobs log → job_of jobs k ≢ None → stage_of (reservation_after jobs log) k ≡ Some (stage_in (state_of k log))
 stage_is jobs [] k reserved there = at_first jobs k there
 stage_is jobs (e ∷ log) k reserved there = enters e.what e.worker e.at k (state_of k log) (reservation_after jobs log) reserved.0 (stage_is jobs log k reserved.1 there)
 

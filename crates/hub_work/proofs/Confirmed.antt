@@ -61,7 +61,7 @@ module _ (laws : Laws) (jobs : List Job) (old new : Work) (error : Bool) (before
     same = same;
     untaken = λ k job there e u. ap (λ (all : List DownloaderState). downloader_of all k) ds ∙ u;
     held = λ k worker since job there e j. aside_job k worker since job j (ap (λ (all : List DownloaderState). downloader_of all k) ds) (still k worker (between since at l) job j);
-    telegram = telegram;
+    telegram = λ o x _ t. telegram o x t;
     group = nobody_iff new.sender new.telegrams.stage nobody settled;
     free = λ e. nobody;
   })
@@ -76,7 +76,7 @@ module _ (laws : Laws) (jobs : List Job) (old new : Work) (error : Bool) (before
       | inl is ↦ its_job k worker since job j is
       | inr apart ↦ aside_job k worker since job j (elsewhere k apart) (not_flying old new before now k worker m (between since at l) job j (λ s. not_its k worker since job j apart s))
     ];
-    telegram = λ o x t. subst (λ (s : Stage). FitsTelegram o s (m ∷ x)) (sym stage) (settled_telegram o old.telegrams.stage m x c.alone settled t);
+    telegram = λ o x _ t. subst (λ (s : Stage). FitsTelegram o s (m ∷ x)) (sym stage) (settled_telegram o old.telegrams.stage m x c.alone settled t);
     group = nobody_iff new.sender new.telegrams.stage nobody (λ u. settled (sym stage ∙ u));
     free = λ e. nobody;
   })

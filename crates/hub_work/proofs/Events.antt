@@ -28,7 +28,7 @@ pub record Goes (jobs : List Job) (old new : Work) (before now at : ℕ) (m : Mo
   pub same : SameBooks old new
   pub untaken : (k : ℕ) (job : Job) → job_of jobs k ≡ Some job → state_of k old.journal.entries ≡ Untaken → downloader_of (states old.downloaders) k ≡ Some (new_downloader (task_of job)) → downloader_of (states new.downloaders) k ≡ Some (new_downloader (task_of job))
   pub held : (k worker since : ℕ) (job : Job) → job_of jobs k ≡ Some job → state_of k old.journal.entries ≡ Held worker since → FitsJob old before (between since at l) k worker job → FitsJob new now (m ∷ between since at l) k worker job
-  pub telegram : (o : Option GroupTurn) (x : List Moment) → FitsTelegram o old.telegrams.stage x → FitsTelegram o new.telegrams.stage (m ∷ x)
+  pub telegram : (o : Option GroupTurn) (x : List Moment) → o ≡ turn_of old.telegrams.turns (old.telegrams.told + 1) → FitsTelegram o old.telegrams.stage x → FitsTelegram o new.telegrams.stage (m ∷ x)
   pub group : (new.sender ≡ GroupThread) ↔ (new.telegrams.stage ≡ UnderWay)
   pub free : in_flight (m ∷ l) ≡ false → new.sender ≡ Nobody
 
@@ -51,7 +51,7 @@ module _ (jobs : List Job) (old new : Work) (before now at later : ℕ) (m : Mom
   telegram_on =
       subst (λ (x : List Moment). FitsTelegram (turn_of old.telegrams.turns (old.telegrams.told + 1)) new.telegrams.stage x)
       (sym (joined (turn_place old.telegrams.told old.journal.entries) (turn_so_far jobs old.telegrams.turns at old.journal.entries old.telegrams.told log_is)))
-      (g.telegram (turn_of old.telegrams.turns (old.telegrams.told + 1)) (between (turn_place old.telegrams.told old.journal.entries) at l) f.telegram)
+      (g.telegram (turn_of old.telegrams.turns (old.telegrams.told + 1)) (between (turn_place old.telegrams.told old.journal.entries) at l) refl f.telegram)
 
   pub fits_on : Fits jobs new now later (m ∷ l)
   fits_on = record {

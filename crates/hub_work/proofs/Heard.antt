@@ -77,7 +77,7 @@ module _ (laws : Laws) (jobs : List Job) (old new : Work) (source : ℕ) (tpdu :
     same = same;
     untaken = λ k job there e u. untaken k job there e ∙ u;
     held = held;
-    telegram = λ o x t. subst (λ (s : Stage). FitsTelegram o s (m ∷ x)) (sym stage_same)
+    telegram = λ o x _ t. subst (λ (s : Stage). FitsTelegram o s (m ∷ x)) (sym stage_same)
         (aside_telegram o old.telegrams.stage m x c.alone (lasts m (still_moment (eqb 0 source) refl).0) (still_moment (eqb 0 source) refl).1 t);
     group = (λ e. stage_same ∙ f.group.0 (sym sender_same ∙ e), λ e. sender_same ∙ f.group.1 (sym stage_same ∙ e));
     free = λ e. sender_same ∙ f.free (sym (c.still l) ∙ e);

@@ -18,3 +18,4 @@ mod Lost
 mod Put
 mod Logs
 mod OneTurn
+mod NextTelegram

@@ -104,7 +104,7 @@ loss_follows laws old new now n end crew all same held_same nobody telling so_fa
   held = λ k worker since job there e j.
       job_on old new before now k worker m (between since at l) job j (lost j.state) (its k worker since job j) (lost_becomes laws j.state before now m (between since at l) j.fits w.time (ap is_loss is)) (ap (put_to job.device.raw) is) held_same
       (λ moves. absurd (let lands : flies (lost j.state).phase ≡ false = lost_lands laws j.state in cc));
-  telegram = λ o x t. subst (λ (s : Stage). FitsTelegram o s (m ∷ x)) (sym (ap (λ (y : Telling). y.stage) telling)) (lost_telegram o old.telegrams.stage m x (loss_puts m is) is t);
+  telegram = λ o x _ t. subst (λ (s : Stage). FitsTelegram o s (m ∷ x)) (sym (ap (λ (y : Telling). y.stage) telling)) (lost_telegram o old.telegrams.stage m x (loss_puts m is) is t);
   group = (λ g. absurd (let isnt : Nobody ≡ GroupThread = sym nobody ∙ g in cc), λ u. absurd (not_after_loss old.telegrams.stage (sym (ap (λ (y : Telling). y.stage) telling) ∙ u)));
   free = λ e. nobody;
 })

@@ -70,7 +70,7 @@ module _ (laws : Laws) (jobs : List Job) (old new : Work) (before now at later :
     untaken = λ k job there e u. u;
     held = λ k worker since job there e j.
         job_on old old before now k worker m (between since at l) job j j.state j.there (aside_becomes laws j.state before now m (between since at l) j.fits n.time (w.to j.state.device)) (w.to job.device).put_is refl j.flight;
-    telegram = λ o x t. aside_telegram o old.telegrams.stage m x w.alone (lasts m (w.to (record { raw = 0 })).lasts) (w.to (record { raw = 0 })).confirmed_is t;
+    telegram = λ o x _ t. aside_telegram o old.telegrams.stage m x w.alone (lasts m (w.to (record { raw = 0 })).lasts) (w.to (record { raw = 0 })).confirmed_is t;
     group = f.group;
     free = λ e. f.free (sym (w.still l) ∙ e);
   }

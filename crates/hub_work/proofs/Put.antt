@@ -228,7 +228,7 @@ module _ (laws : Laws) (jobs : List Job) (places : List Placed) (old new : Work)
         | inl is ↦ same_job k by since job there log is
         | inr apart ↦ other_job k by since job there log apart i
       ];
-      telegram = λ o x t. subst (λ (s : Stage). FitsTelegram o s (m ∷ x)) (sym (ap (λ (y : Telling). y.stage) telling)) (settled_telegram o old.telegrams.stage m x to.alone settled t);
+      telegram = λ o x _ t. subst (λ (s : Stage). FitsTelegram o s (m ∷ x)) (sym (ap (λ (y : Telling). y.stage) telling)) (settled_telegram o old.telegrams.stage m x to.alone settled t);
       group = (λ g. absurd (let s : Worker worker ≡ GroupThread = sym sender ∙ g in cc), λ u. absurd (settled (sym (ap (λ (y : Telling). y.stage) telling) ∙ u)));
       free = λ x. absurd (let isnt : true ≡ false = sym (to.flies (moments places)) ∙ x in cc);
     })

@@ -21,6 +21,7 @@ use crate::crew::Crew;
 use crate::downloaders::Downloaders;
 use crate::job::HubJob;
 use crate::journal::Journal;
+use crate::laws::of_a_downloader;
 use crate::telegrams::{Stage, Telegrams};
 use crate::wait::{LONGEST_POLL_MS, until};
 use device_reservation::Jobs;
@@ -145,6 +146,7 @@ impl Work {
         ensures books { SameBooks self.old self.new }
         ensures follows { TelegramFollows self.old self.new }
     {
+        of_a_downloader();
         self.telegrams.put();
         self.sender = Sender::GroupThread;
     }

@@ -1,6 +1,6 @@
 //! A worker's turn.
 
-ghost use Rattle.std.specs.Prelude.{◌≡◌, ℕ, ◌-◌, ◌≤◌, false, length, Some, None};
+ghost use Rattle.std.specs.Prelude.{◌≡◌, ℕ, Bool, ◌-◌, ◌≤◌, false, length, Some, None};
 ghost use Rattle.download_core.specs.Attempt.{DownloaderState};
 ghost use Rattle.download_core.specs.Steps.{stepped};
 ghost use Rattle.line_model.specs.Reading.{ldata_in};
@@ -63,6 +63,7 @@ impl Work {
         requires books { KeepsBooks at self.old }
         ensures free { WaitsFree self.old.reservation result }
         ensures cemi { PutsCemi result }
+        ensures placed { (b : Bool) → PutsWhere b result }
         ensures told { TurnTold at worker result self.old.journal.entries self.new.journal.entries }
         ensures run { SameRun self.old self.new }
         ensures books { KeepsBooks at self.new }
@@ -81,6 +82,7 @@ impl Work {
         requires empty { None ≡ held_at self.old.crew (worker - 1) }
         requires taking { IsTaking self.old at worker job }
         ensures took { result ≡ Turn.Did (Turned.Took job) }
+        ensures placed { (b : Bool) → PutsWhere b result }
         ensures told { Adds at worker (LogWhat.Took job) self.old.journal.entries self.new.journal.entries }
         ensures run { SameRun self.old self.new }
         ensures books { KeepsBooks at self.new }
