@@ -18,4 +18,5 @@ mod Lost
 mod Put
 mod Logs
 mod OneTurn
+mod Unfinished
 mod NextTelegram

@@ -253,3 +253,39 @@ same_keeps at w v s b = record {
         (subst (λ j. sum_by entries_to_come w.reservation.stages + (length w.telegrams.turns - w.telegrams.told) ≤ j.room) (sym s.journal) b.counts.room)));
   };
 }
+
+-- ---- a group telegram is told
+
+pub room_to_tell : (w : Work) (at k : ℕ) → KeepsBooks at w → IsNextTurn w.telegrams.turns w.journal.entries k → 1 ≤ w.journal.room
+room_to_tell w at k b next =
+    let within : (1 ≤ k) × (k ≤ length w.telegrams.turns) = turn_within w.telegrams.turns k next.there in
+    let is : k ≡ w.telegrams.told + 1 = next_is w.telegrams.told w.telegrams.turns w.journal.entries k b.telling next in
+    let to : k ≤ length w.telegrams.turns = within.1 in
+    let room : sum_by entries_to_come w.reservation.stages + (length w.telegrams.turns - w.telegrams.told) ≤ w.journal.room = b.counts.room in
+    omega (arith, is, to, room)
+
+-- just one more is told
+pub one_more_told : (w : Work) (at k told : ℕ) → KeepsBooks at w → IsNextTurn w.telegrams.turns w.journal.entries k → length w.telegrams.turns < 4294967296 → told ≡ min (w.telegrams.told + 1) 4294967295 → told ≡ k
+one_more_told w at k told b next few e =
+    let within : (1 ≤ k) × (k ≤ length w.telegrams.turns) = turn_within w.telegrams.turns k next.there in
+    let is : k ≡ w.telegrams.told + 1 = next_is w.telegrams.told w.telegrams.turns w.journal.entries k b.telling next in
+    let to : k ≤ length w.telegrams.turns = within.1 in
+    omega (arith, is, to, e)
+
+pub tell_books : (w v : Work) (at k : ℕ) (what : LogWhat) → KeepsBooks at w → TellsTurn k what → IsNextTurn w.telegrams.turns w.journal.entries k → length w.telegrams.turns < 4294967296
+    → v.reservation ≡ w.reservation → v.crew ≡ w.crew → v.unfinished ≡ w.unfinished → v.telegrams.told ≡ min (w.telegrams.told + 1) 4294967295 → v.telegrams.turns ≡ w.telegrams.turns → v.journal.entries ≡ entry_of at 0 what ∷ w.journal.entries → w.journal.room ≤ v.journal.room + 1 → KeepsBooks at v
+tell_books w v at k what b tells next few er ec eu en et el room = record {
+  written = written_as v w.reservation (jobs_held v.crew) (entry_of at 0 what ∷ w.journal.entries) w.telegrams.turns at er et el (told_written w.reservation w.telegrams.turns at k what w.journal.entries tells b.written next);
+  telling = tell_telling w v at k what tells next few en et el b.telling;
+  live = live_as v w.reservation (jobs_held w.crew) (entry_of at 0 what ∷ w.journal.entries) w.telegrams.turns at er et el (ap jobs_held ec) (told_live w.reservation (jobs_held w.crew) at k what w.journal.entries tells b.live);
+  counts = record {
+    unfinished = eu ∙ (b.counts.unfinished ∙ ap (λ r. count_by is_unfinished r.stages) (sym er));
+    room =
+        let told : v.telegrams.told ≡ k = one_more_told w at k v.telegrams.told b next few en in
+        let is : k ≡ w.telegrams.told + 1 = next_is w.telegrams.told w.telegrams.turns w.journal.entries k b.telling next in
+        let within : k ≤ length w.telegrams.turns = (turn_within w.telegrams.turns k next.there).1 in
+        let old : sum_by entries_to_come w.reservation.stages + (length w.telegrams.turns - w.telegrams.told) ≤ w.journal.room = b.counts.room in
+        subst (λ r. sum_by entries_to_come r.stages + (length v.telegrams.turns - v.telegrams.told) ≤ v.journal.room) (sym er)
+        (subst (λ (ts : List GroupTurn). sum_by entries_to_come w.reservation.stages + (length ts - v.telegrams.told) ≤ v.journal.room) (sym et) (omega (arith, told, is, within, old, room)));
+  };
+}
