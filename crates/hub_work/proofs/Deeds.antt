@@ -8,15 +8,17 @@ use Rattle.knx_model.specs.declared.frames.cemi.Ldata.{Ldata}
 use Rattle.knx_model.specs.declared.frames.cemi.LdataCode.{LdataCode}
 use Rattle.knx_model.specs.declared.frames.cemi.LdataCode.TheVariants.{Req, Con, Ind}
 use Rattle.knx_model.specs.Connection.{frame_in}
+use Rattle.line_model.specs.declared.group.GroupTurn.{GroupTurn}
 use Rattle.line_model.specs.Reading.{ldata_in, is_req, is_con, is_ind}
 use Rattle.line_model.specs.ClientView.{Deed, Puts, Takes, Loses, Nothing}
 use Rattle.line_model.specs.Moments.{Moment, is_loss, where_is, is_to, is_from, transport_of, put_to, heard_from, put_frame, confirmation_in, error_of}
-use Rattle.line_model.specs.Told.{PutsNoGroup, is_group}
+use Rattle.line_model.specs.Told.{PutsNoGroup, PutsTurn, is_group}
 use Rattle.download_core.specs.Follows.{IsMoment}
 use Rattle.hub_work.specs.Fits.{in_flight, flies_after}
 use Rattle.hub_work.specs.Follows.{IsAside, Does, Unread}
 use Rattle.hub_work.specs.Comes.{IsNothing, Confirms, Hears, PutsTo}
 use Rattle.hub_work.specs.Requests.{request_with}
+use Rattle.hub_work.specs.Telegrams.{IsRequestOf}
 
 -- ---- what was taken
 
@@ -156,3 +158,31 @@ puts_to m cemi destination tpdu e r = record {
 
     put_elsewhere : (device : ℕ) → device ≢ destination → put_so (Some (request_with false destination tpdu)) device ≡ None
     put_elsewhere device apart = rw (ne_eqb destination device (λ s. apart (sym s))) refl
+
+-- ---- a request of a group telegram was put
+
+not_to : (device : ℕ) (frame : Ldata) → is_req frame.code ≡ true → frame.group ≡ true → put_so (Some frame) device ≡ None
+not_to device frame c g = rw c (rw g refl)
+
+pub puts_group : (m : Moment) (cemi : List ℕ) (turn : GroupTurn) → m.what ≡ Puts cemi → IsRequestOf turn cemi → (device : IndAddr) → IsMoment device None None None m
+puts_group m cemi turn e r device = record {
+  lasts = ap is_loss e;
+  put_is = ap (put_to device.raw) e ∙ (ap (λ o. put_so o device.raw) r.reads ∙ not_to device.raw r.frame r.request r.group);
+  heard_is = ap (heard_from device.raw) e;
+  confirmed_is = ap confirmation_in e;
+}
+
+puts_frame : (frame : Ldata) → is_req frame.code ≡ true → where_is (λ (f : Ldata). is_req f.code) (Some frame) ≡ Some frame
+puts_frame frame c = rw c refl
+
+pub puts_turn : (m : Moment) (cemi : List ℕ) (turn : GroupTurn) → m.what ≡ Puts cemi → IsRequestOf turn cemi → PutsTurn turn m
+puts_turn m cemi turn e r = record {
+  frame = r.frame;
+  put = ap put_frame e ∙ (ap (where_is (λ (f : Ldata). is_req f.code)) r.reads ∙ puts_frame r.frame r.request);
+  group = r.group;
+  to = r.to;
+  service = r.service;
+}
+
+pub put_flies : (m : Moment) (cemi : List ℕ) → m.what ≡ Puts cemi → (l : List Moment) → in_flight (m ∷ l) ≡ true
+put_flies m cemi e l = ap (λ w. flies_after w (in_flight l)) e

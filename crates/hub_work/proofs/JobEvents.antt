@@ -3,31 +3,22 @@ use Rattle.std.proofs.Common.{◌≡◌, ◌≢◌, ◌⊎◌, inl, inr, ℕ, �
 use Rattle.std.specs.Prelude.{slice_get, nat_le}
 use Rattle.std.proofs.lemmas.Bool.{cases_eq}
 use Rattle.knx_model.specs.declared.address.IndAddr.{IndAddr}
+use Rattle.knx_model.specs.Connection.{frame_in}
 use Rattle.line_model.specs.Moments.{Moment, is_loss, put_to}
 use Rattle.line_model.specs.Log.{Job}
 use Rattle.line_model.specs.Attempts.{begun, attempts}
-use Rattle.download_core.specs.Attempt.{DownloaderState, Phase, Resting}
-use Rattle.download_core.specs.Calls.{confirmed, taken, lost}
+use Rattle.download_core.specs.Attempt.{DownloaderState, Phase, Resting, Running, Closing, Leaving, Ended}
+use Rattle.download_core.specs.Calls.{confirmed, taken, lost, phase_heard, phase_lost}
 use Rattle.download_core.specs.Record.{FitsRecord}
-use Rattle.download_core.specs.Follows.{IsMoment, flies, AsideFollows, ConfirmedFollows, OthersFollow, HeardFollows, LostFollows, SendsRightly, SentFollows, FlightsAreKnown}
+use Rattle.download_core.specs.Follows.{IsMoment, flies}
 use Rattle.hub_work.specs.declared.work.Sender.{Sender}
 use Rattle.hub_work.specs.declared.work.Sender.TheVariants.{Nobody, Worker, GroupThread}
 use Rattle.hub_work.specs.declared.work.Work.{Work}
 use Rattle.hub_work.specs.Crew.{Holding, holdings}
-use Rattle.hub_work.specs.Downloaders.{downloader_of}
+use Rattle.hub_work.specs.Downloaders.{states, downloader_of}
 use Rattle.hub_work.specs.Fits.{FitsJob}
+use Rattle.hub_work.specs.Laws.{Laws}
 use Rattle.hub_work.proofs.Begun.{begun_stays}
-
--- the laws of a downloader
-pub record Laws : Type 0 where
-  pub aside : AsideFollows
-  pub confirmation : ConfirmedFollows
-  pub others : OthersFollow
-  pub hearing : HeardFollows
-  pub loss : LostFollows
-  pub sends : SendsRightly
-  pub sending : SentFollows
-  pub flights : FlightsAreKnown
 
 -- what a downloader becomes with a moment
 pub record Becomes (s t : DownloaderState) (now : ℕ) (m : Moment) (l : List Moment) : Type 0 where
@@ -38,13 +29,14 @@ pub record Becomes (s t : DownloaderState) (now : ℕ) (m : Moment) (l : List Mo
 
 module _ (old new : Work) (before now k worker : ℕ) (m : Moment) (l : List Moment) (job : Job) (f : FitsJob old before l k worker job) where
   -- it fits, where nothing was put to the device
-  pub job_on : (t : DownloaderState) → downloader_of new.downloaders k ≡ Some t → Becomes f.state t now m l → put_to job.device.raw m.what ≡ None → holdings new.crew ≡ holdings old.crew → (flies t.phase ≡ true → new.sender ≡ Worker worker)
+  pub job_on : (t : DownloaderState) → downloader_of (states new.downloaders) k ≡ Some t → Becomes f.state t now m l → put_to job.device.raw m.what ≡ None → holdings new.crew ≡ holdings old.crew → (flies t.phase ≡ true → new.sender ≡ Worker worker)
       → FitsJob new now (m ∷ l) k worker job
   job_on t there b unput same flight = record {
     state = t;
     there = there;
     device = b.device ∙ f.device;
     plan = b.plan ∙ f.plan;
+    from_1 = f.from_1;
     fits = b.fits;
     flight = flight;
     holds = λ lt. ap (λ (held : List (Option Holding)). slice_get held (worker - 1)) same
@@ -80,3 +72,50 @@ module _ (laws : Laws) (s : DownloaderState) (before now : ℕ) (m : Moment) (l 
     fits = subst (λ n. FitsRecord (confirmed s error n) n (m ∷ l)) time (laws.confirmation s before error m l fits w);
     rests = λ e. ap (λ p. (confirmed (record s { phase = p }) error now).phase) e;
   }
+
+  pub heard_becomes : (tpdu : List ℕ) → IsMoment s.device None (Some (frame_in tpdu)) None m → Becomes s (taken s tpdu now) now m l
+  heard_becomes tpdu w = record {
+    device = refl;
+    plan = refl;
+    fits = subst (λ n. FitsRecord (taken s tpdu n) n (m ∷ l)) time (laws.hearing s before tpdu m l fits w);
+    rests = λ e. ap (λ p. (taken (record s { phase = p }) tpdu now).phase) e;
+  }
+
+  pub lost_becomes : is_loss m.what ≡ true → Becomes s (lost s) now m l
+  lost_becomes w = record {
+    device = refl;
+    plan = refl;
+    fits = at_now (lost s) m (m ∷ l) now time (laws.loss s before m l fits w);
+    rests = λ e. ap (λ p. (lost (record s { phase = p })).phase) e;
+  }
+
+-- a confirmation and a loss leave nothing in flight, and a frame of the device begins no flight
+pub landed : (laws : Laws) (s : DownloaderState) (error : Bool) (now : ℕ) → flies (confirmed s error now).phase ≡ false
+landed laws s error now = (laws.flights s now).confirmed_is error
+
+pub lost_lands : (laws : Laws) (s : DownloaderState) → flies (lost s).phase ≡ false
+lost_lands laws s = (laws.flights s 0).lost_is
+
+pub heard_flies : (laws : Laws) (s : DownloaderState) (tpdu : List ℕ) (now : ℕ) (P : Type 0) → (flies s.phase ≡ true → P) → flies (taken s tpdu now).phase ≡ true → P
+heard_flies laws s tpdu now P p e = by_flight (flies s.phase) refl
+  where
+    by_flight : (b : Bool) → flies s.phase ≡ b → P
+    by_flight true f = p f
+    by_flight false f = absurd (let still : flies (taken s tpdu now).phase ≡ false = (laws.flights s now).heard_is tpdu f in cc)
+
+-- where nothing is put, what rests stays as it is
+pub lost_twice : (s : DownloaderState) → lost (lost s) ≡ lost s
+lost_twice s = ap (λ p. record s { phase = p }) (phase_twice s.phase)
+  where
+    phase_twice : (p : Phase) → phase_lost (phase_lost p) ≡ phase_lost p
+    phase_twice Resting = refl
+    phase_twice (Running a) = refl
+    phase_twice (Closing flight outcome) = refl
+    phase_twice (Leaving outcome) = refl
+    phase_twice (Ended outcome) = refl
+
+pub taken_at_rest : (s : DownloaderState) (tpdu : List ℕ) (now : ℕ) → s.phase ≡ Resting → taken s tpdu now ≡ s
+taken_at_rest s tpdu now e = ap (λ p. record s { phase = phase_heard p (frame_in tpdu) now }) e ∙ ap (λ p. record s { phase = p }) (sym e)
+
+pub lost_at_rest : (s : DownloaderState) → s.phase ≡ Resting → lost s ≡ s
+lost_at_rest s e = ap (λ p. record s { phase = phase_lost p }) e ∙ ap (λ p. record s { phase = p }) (sym e)

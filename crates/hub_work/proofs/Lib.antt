@@ -1,6 +1,5 @@
 mod Ranges
 pub mod Books
-pub mod Works
 mod Between
 mod Deeds
 mod HeldJobs
@@ -8,4 +7,17 @@ mod Changed
 mod Stages
 mod Begun
 mod JobEvents
+mod Events
+mod Moments
+mod Crews
+mod Rooms
+pub mod Works
+mod Confirmed
+mod Heard
+mod Lost
+mod Put
+mod Logs
+mod OneTurn
+mod Unfinished
+mod NextTelegram
 pub mod Growing

@@ -48,3 +48,6 @@ AreJobsWith tasks jobs = map task_of jobs ≡ tasks
 
 abbrev pub new_downloader : Task → DownloaderState
 new_downloader task = record { device = task.device; plan = task.plan; signs = Zero; phase = Resting }
+
+abbrev pub new_of_job : HubJob → DownloaderState
+new_of_job job = new_downloader (task_of_hub_job job)

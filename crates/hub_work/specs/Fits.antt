@@ -44,6 +44,7 @@ pub record FitsJob (w : Work) (now : ℕ) (l : List Moment) (k worker : ℕ) (jo
   pub there : downloader_of (states w.downloaders) k ≡ Some state
   pub device : state.device ≡ job.device
   pub plan : state.plan ≡ job.plan
+  pub from_1 : 1 ≤ worker
   pub fits : FitsRecord state now l
   pub flight : flies state.phase ≡ true → w.sender ≡ Worker worker
   pub holds : worker - 1 < length (holdings w.crew) → slice_get (holdings w.crew) (worker - 1) ≡ Some (Some (record { job = k; device = job.device; begun = nat_le 1 (begun (attempts job.device job.plan l)) }))

@@ -2,20 +2,16 @@
 -- stands for; what it gives to be put is a right request; and each entry that it adds to the log is true. No link is named: it holds of every
 -- record.
 use Rattle.std.specs.Prelude.{◌≡◌, ◌⊎◌, ℕ, ◌+◌, ◌<◌, ◌≤◌, true, false, List, [], ◌∷◌, map, Option, Some, None}
-use Rattle.knx_model.specs.ApduReading.{apdu_octets}
 use Rattle.knx_model.specs.declared.frames.cemi.Ldata.{Ldata}
-use Rattle.line_model.specs.declared.group.GroupTurn.{GroupTurn}
-use Rattle.line_model.specs.declared.log.LogEntry.{LogEntry}
 use Rattle.line_model.specs.declared.log.LogWhat.{LogWhat}
 use Rattle.line_model.specs.declared.log.LogWhat.TheVariants as log
-use Rattle.line_model.specs.Reading.{ldata_in, is_req}
+use Rattle.line_model.specs.Reading.{ldata_in}
 use Rattle.line_model.specs.Record.{Placed, entries}
 use Rattle.line_model.specs.ClientView.{Deed, Puts, Takes, Loses, Nothing, channel}
 use Rattle.line_model.specs.Moments.{Moment, moments}
-use Rattle.line_model.specs.Signs.{Every}
-use Rattle.line_model.specs.Log.{Job, IsLog, turn_of, log_before}
-use Rattle.line_model.specs.Told.{service_of, ToldTruly}
-use Rattle.line_model.specs.Asks.{HasPlace, IsRightRequest, EachRight}
+use Rattle.line_model.specs.Log.{Job}
+use Rattle.line_model.specs.Told.{ToldTruly}
+use Rattle.line_model.specs.Asks.{HasPlace, IsRightRequest}
 use Rattle.line_model.specs.Renews.{RenewsRightly}
 use Rattle.hub_work.specs.declared.job.HubJob.{HubJob}
 use Rattle.hub_work.specs.declared.telegrams.Stage.{Stage}
@@ -105,21 +101,7 @@ pub data IsToldOf (k : ℕ) (s : Stage) (what : LogWhat) : Type 0 where
 
 abbrev pub TellingFollows : ℕ → ℕ → LogWhat → Work → Work → Type 0
 TellingFollows at k what old new =
-    (jobs : List Job) (places : List Placed) (now : ℕ) → Fits jobs old now at (moments places) → Fits jobs new now at (moments places) × (IsToldOf k old.telegrams.stage what → TellsTruly jobs places old new)
-
--- ---- what was told stays true where the record grows, and what was asked stays right where the log grows
-
-abbrev pub StaysTrue : Type 0
-StaysTrue =
-    (jobs : List Job) (turns : List GroupTurn) (at : ℕ) (log : List LogEntry) (p : Placed) (places : List Placed) → IsLog jobs turns at log → at < p.at → ToldTruly jobs turns places log → ToldTruly jobs turns (p ∷ places) log
-
-abbrev pub AsksStay : Type 0
-AsksStay =
-    (jobs : List Job) (turns : List GroupTurn) (e : LogEntry) (log : List LogEntry) (places : List Placed) → Every (λ m. m.at ≤ e.at) (moments places) → EachRight jobs turns log places → EachRight jobs turns (e ∷ log) places
-
--- the whole log was there before a later entry of the record
-abbrev pub IsWholeBefore : Type 0
-IsWholeBefore = (jobs : List Job) (turns : List GroupTurn) (at later : ℕ) (log : List LogEntry) → IsLog jobs turns at log → at < later → log_before later log ≡ log
+    (jobs : List Job) (places : List Placed) (now : ℕ) → Fits jobs old now at (moments places) → IsToldOf k old.telegrams.stage what → Fits jobs new now at (moments places) × TellsTruly jobs places old new
 
 -- ---- where there is a place, nothing is unconfirmed
 

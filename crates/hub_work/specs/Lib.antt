@@ -10,3 +10,4 @@ pub mod Works
 pub mod Fits
 pub mod Follows
 pub mod Comes
+pub mod Laws

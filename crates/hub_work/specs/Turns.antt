@@ -1,5 +1,5 @@
 -- What a worker's turn comes to, and which entries of the log end a job.
-use Rattle.std.specs.Prelude.{◌≡◌, ℕ, List, ◌∷◌}
+use Rattle.std.specs.Prelude.{◌≡◌, ℕ, Bool, true, List, ◌∷◌}
 use Rattle.knx_model.specs.declared.log.Sign.{Sign}
 use Rattle.line_model.specs.declared.log.LogEntry.{LogEntry}
 use Rattle.line_model.specs.declared.log.LogWhat.{LogWhat}
@@ -21,6 +21,11 @@ use Rattle.hub_work.specs.declared.work.turn.Turn.TheVariants.{Did, Puts}
 abbrev pub PutsCemi : Turn → Type 0
 PutsCemi (Did turned) = Unit {0}
 PutsCemi (Puts cemi) = IsCemi cemi
+
+-- and it puts only where this is so
+abbrev pub PutsWhere : Bool → Turn → Type 0
+PutsWhere b (Did turned) = Unit {0}
+PutsWhere b (Puts cemi) = b ≡ true
 
 -- the entry ends this job
 abbrev pub EndsJob : ℕ → LogWhat → Type 0

@@ -1,9 +1,11 @@
 -- What a hub's work keeps of its books, when its link tells of so many events.
-use Rattle.std.specs.Prelude.{◌≡◌, ◌↔◌, ℕ, Bool, true, ◌+◌, ◌-◌, ◌≤◌, List, [], length, map, replicate, Option, Some, None}
+use Rattle.std.specs.Prelude.{◌≡◌, ◌↔◌, ℕ, Bool, true, ◌+◌, ◌-◌, ◌≤◌, List, [], length, map, replicate, Option, Some, None, option_map}
 use Rattle.std.specs.List.{count_by, sum_by}
 use Rattle.knx_model.specs.declared.address.IndAddr.{IndAddr}
 use Rattle.line_model.specs.declared.group.GroupTurn.{GroupTurn}
 use Rattle.line_model.specs.Log.{Job, JobUnfinished}
+use Rattle.line_model.specs.Faults.{first_elsewhere}
+use Rattle.device_reservation.specs.Reserved.{device_of_job}
 use Rattle.device_reservation.specs.Reservation.{Reservation, IsFirstFree, none_taken, job_taken}
 use Rattle.hub_work.specs.declared.crew.Held.{Held}
 use Rattle.hub_work.specs.declared.work.Work.{Work}
@@ -40,6 +42,7 @@ tasks w = map task_of_state (states w.downloaders)
 pub record SameRun (old new : Work) : Type 0 where
   pub devices : new.reservation.devices ≡ old.reservation.devices
   pub tasks_are : tasks new ≡ tasks old
+  pub closing : new.closing ≡ old.closing
   pub turns : new.telegrams.turns ≡ old.telegrams.turns
 
 -- the books stay as they are
@@ -49,6 +52,9 @@ pub record SameBooks (old new : Work) : Type 0 where
   pub told : new.telegrams.told ≡ old.telegrams.told
   pub held : jobs_held new.crew ≡ jobs_held old.crew
   pub journal : new.journal ≡ old.journal
+  pub unfinished : new.unfinished ≡ old.unfinished
+  pub tasks_are : tasks new ≡ tasks old
+  pub closing : new.closing ≡ old.closing
 
 -- the worker holds this
 abbrev pub IsHolder : Work → ℕ → Held → Type 0
@@ -61,6 +67,7 @@ pub record IsTaking (w : Work) (at worker job : ℕ) : Type 0 where
   pub first : IsFirstFree before job
   pub written : IsWritten before.devices w.telegrams.turns at w.journal.entries
   pub live : IsLive before (jobs_held w.crew) w.journal.entries
+  pub telling : TellsRightly w
   pub unfinished : w.unfinished ≡ count_by is_unfinished before.stages
   pub room : sum_by entries_to_come before.stages + (length w.telegrams.turns - w.telegrams.told) ≤ w.journal.room
 
@@ -78,3 +85,7 @@ pub record BeginsWith (devices : List IndAddr) (turns : List GroupTurn) (w : Wor
 -- whether a job has no end yet, by the log of any jobs of these devices
 abbrev pub HasUnfinished : Work → Bool → Type 0
 HasUnfinished w b = (jobs : List Job) (at : ℕ) → KeepsBooks at w → AreJobsOf w.reservation.devices jobs → (b ≡ true) ↔ JobUnfinished jobs w.journal.entries
+
+-- the device of the first of these jobs that isn't on the tunnel's line
+abbrev pub FindsElsewhere : Work → IndAddr → Option IndAddr → Type 0
+FindsElsewhere w tunnel found = (jobs : List Job) → AreJobsOf w.reservation.devices jobs → found ≡ option_map device_of_job (first_elsewhere jobs (Some tunnel))

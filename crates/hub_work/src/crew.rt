@@ -67,8 +67,12 @@ impl Crew {
 
     /// What the worker holds, from 1.
     pub fn held(&self, worker: u8) -> Option<Held>
-        ensures { 1 ≤ worker → result ≡ held_at self.now (worker - 1) }
+        ensures place { 1 ≤ worker → result ≡ held_at self.now (worker - 1) }
+        ensures from_1 { IfSome result (λ held. 1 ≤ worker) }
     {
+        if worker == 0 {
+            return None;
+        }
         self.at(place_of(worker))
     }
 
@@ -164,7 +168,15 @@ impl Crew {
         if self.holds(last, device) {
             return Some(last);
         }
-        for place in 0..self.held.len() {
+        self.place_of_device(device)
+    }
+
+    /// The first such place.
+    fn place_of_device(&self, device: IndAddr) -> Option<usize>
+        ensures found { IfSome result (λ place. is_of_device device (held_at self.now place) ≡ true) }
+        ensures none { result ≡ None → (place : ℕ) → is_of_device device (held_at self.now place) ≡ false }
+    {
+        for place in 0..self.len() {
             if self.holds(place, device) {
                 return Some(place);
             }
@@ -176,10 +188,7 @@ impl Crew {
     fn holds(&self, place: usize, device: IndAddr) -> bool
         ensures { result ≡ is_of_device device (held_at self.now place) }
     {
-        match self.at(place) {
-            Some(held) => held.device.raw == device.raw,
-            None => false,
-        }
+        is_of(&self.at(place), device)
     }
 }
 
@@ -188,4 +197,14 @@ fn place_of(worker: u8) -> usize
     ensures { 1 ≤ worker → result ≡ worker - 1 }
 {
     (worker as usize).wrapping_sub(1)
+}
+
+/// Whether it is a job of the device that is held.
+fn is_of(held: &Option<Held>, device: IndAddr) -> bool
+    ensures { result ≡ is_of_device device held.now }
+{
+    match held {
+        Some(held) => held.device.raw == device.raw,
+        None => false,
+    }
 }

@@ -1,11 +1,10 @@
 //! The downloaders of the jobs.
 
-ghost use Rattle.std.specs.Prelude.{◌≡◌, ◌-◌, ◌==◌, map, Some, None, if◌then◌else◌, IfOk, option_map, option_and_then};
+ghost use Rattle.std.specs.Prelude.{◌≡◌, ◌-◌, ◌<◌, ◌≤◌, length, map, None, IfOk, IfSome, option_map, option_and_then};
 ghost use Rattle.download_core.specs.Attempt.{DownloaderState};
 ghost use Rattle.download_core.specs.Calls.{confirmed, taken, lost, phase_deadline};
 ghost use Rattle.download_core.specs.Steps.{next_did, stepped};
-ghost use Rattle.hub_work.specs.declared.job.HubJob.{HubJob as Job};
-ghost use Rattle.hub_work.specs.Downloaders.{changed, downloader_of, states, new_downloader, task_of_hub_job};
+ghost use Rattle.hub_work.specs.Downloaders.{changed, downloader_of, states, new_of_job};
 
 use crate::job::HubJob;
 use download_core::{Did, Downloader};
@@ -31,7 +30,7 @@ impl Model for Downloaders {
 impl Downloaders {
     /// Of these jobs, of which nothing is done.
     pub fn new(alloc: Global, jobs: List<HubJob>) -> Result<Downloaders, NoMemory>
-        ensures { IfOk result (λ made. states made ≡ map (λ (j : Job). new_downloader (task_of_hub_job j)) jobs) }
+        ensures { IfOk result (λ made. states made ≡ map new_of_job jobs) }
     {
         let mut all = Vec::with_capacity(alloc, jobs.len())?;
         for job in jobs.into_vec() {
@@ -45,7 +44,7 @@ impl Downloaders {
     pub fn next(&self, job: u32, now: u64) -> Option<Did>
         ensures { result ≡ option_map (λ (s : DownloaderState). next_did s now) (downloader_of (states self.now) job) }
     {
-        let downloader = self.all.get(index_of(job)?)?;
+        let downloader = &self.all[self.index_of(job)?];
         Some(downloader.next(now))
     }
 
@@ -53,7 +52,7 @@ impl Downloaders {
     pub fn deadline(&self, job: u32) -> Option<u64>
         ensures { result ≡ option_and_then (λ (s : DownloaderState). phase_deadline s.phase) (downloader_of (states self.now) job) }
     {
-        let downloader = self.all.get(index_of(job)?)?;
+        let downloader = &self.all[self.index_of(job)?];
         downloader.deadline()
     }
 
@@ -61,11 +60,8 @@ impl Downloaders {
     pub fn step(&mut self, job: u32, now: u64)
         ensures { states self.new ≡ changed (λ (s : DownloaderState). stepped s now) job (states self.old) }
     {
-        let Some(index) = index_of(job) else {
-            return;
-        };
-        if let Some(downloader) = self.all.get_mut(index) {
-            let _ = downloader.step(now);
+        if let Some(index) = self.index_of(job) {
+            let _ = self.all[index].step(now);
         }
     }
 
@@ -73,11 +69,8 @@ impl Downloaders {
     pub fn confirmed(&mut self, job: u32, error: bool, now: u64)
         ensures { states self.new ≡ changed (λ (s : DownloaderState). confirmed s error now) job (states self.old) }
     {
-        let Some(index) = index_of(job) else {
-            return;
-        };
-        if let Some(downloader) = self.all.get_mut(index) {
-            downloader.confirmed(error, now);
+        if let Some(index) = self.index_of(job) {
+            self.all[index].confirmed(error, now);
         }
     }
 
@@ -85,11 +78,8 @@ impl Downloaders {
     pub fn take(&mut self, job: u32, tpdu: &[u8], now: u64)
         ensures { states self.new ≡ changed (λ (s : DownloaderState). taken s tpdu.now now) job (states self.old) }
     {
-        let Some(index) = index_of(job) else {
-            return;
-        };
-        if let Some(downloader) = self.all.get_mut(index) {
-            downloader.take(tpdu, now);
+        if let Some(index) = self.index_of(job) {
+            self.all[index].take(tpdu, now);
         }
     }
 
@@ -97,18 +87,21 @@ impl Downloaders {
     pub fn lost(&mut self, job: u32)
         ensures { states self.new ≡ changed lost job (states self.old) }
     {
-        let Some(index) = index_of(job) else {
-            return;
-        };
-        if let Some(downloader) = self.all.get_mut(index) {
-            downloader.tunnel_lost();
+        if let Some(index) = self.index_of(job) {
+            self.all[index].tunnel_lost();
         }
     }
-}
 
-/// The place of a job, which is counted from 1.
-fn index_of(job: u32) -> Option<usize>
-    ensures { result ≡ if job == 0 then None else Some (job - 1) }
-{
-    (job as usize).checked_sub(1)
+    /// The place of a job's downloader; None exactly where there is no such job.
+    fn index_of(&self, job: u32) -> Option<usize>
+        ensures some { IfSome result (λ index. (1 ≤ job) × (index ≡ job - 1) × (index < length self.now)) }
+        ensures none { result ≡ None → downloader_of (states self.now) job ≡ None }
+    {
+        let index = (job as usize).checked_sub(1)?;
+        if index < self.all.len() {
+            Some(index)
+        } else {
+            None
+        }
+    }
 }

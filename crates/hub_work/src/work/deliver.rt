@@ -10,8 +10,9 @@ ghost use Rattle.hub_work.specs.Downloaders.{states};
 ghost use Rattle.hub_work.specs.Works.{SameBooks};
 
 use super::{Sender, Work};
+use crate::laws::of_a_downloader;
 use crate::requests::indication_of;
-use download_core::{Did, follows_the_record, flights_are_known};
+use download_core::Did;
 use knx_model::{IndAddr, Ldata, LdataCode};
 use line_model::Indication;
 use std::mem;
@@ -26,10 +27,12 @@ impl Work {
         ensures books { SameBooks self.old self.new }
         ensures follows { FrameFollows self.old self.new frame.now now }
     {
+        of_a_downloader();
         match frame.code {
             LdataCode::Con => self.confirmed(frame.error, now),
             LdataCode::Ind if !frame.group => self.heard(frame, now),
-            LdataCode::Ind | LdataCode::Req => {}
+            LdataCode::Ind => {}
+            LdataCode::Req => {}
         }
         indication_of(frame)
     }
@@ -39,8 +42,7 @@ impl Work {
         ensures books { SameBooks self.old self.new }
         ensures follows { ConfirmationFollows self.old self.new error now }
     {
-        follows_the_record();
-        flights_are_known();
+        of_a_downloader();
         match mem::replace(&mut self.sender, Sender::Nobody) {
             Sender::Nobody => {}
             Sender::GroupThread => self.telegrams.confirmed(),
@@ -58,8 +60,7 @@ impl Work {
         ensures books { SameBooks self.old self.new }
         ensures follows { HearingFollows self.old self.new frame.now now }
     {
-        follows_the_record();
-        flights_are_known();
+        of_a_downloader();
         let device = IndAddr { raw: frame.source };
         if let Some(place) = self.crew.of_device(device) {
             if let Some(held) = self.crew.at(place) {
@@ -74,8 +75,7 @@ impl Work {
         ensures books { SameBooks self.old self.new }
         ensures follows { LossFollows self.old self.new now }
     {
-        follows_the_record();
-        flights_are_known();
+        of_a_downloader();
         self.sender = Sender::Nobody;
         self.telegrams.lost();
         for place in 0..self.crew.len() {

@@ -3,9 +3,10 @@
 mod deliver;
 mod turn;
 
-ghost use Rattle.std.specs.Prelude.{◌≡◌, ◌<◌, length, map, reverse, IfOk, IfSome, None, true, ◌↔◌};
+ghost use Rattle.std.specs.Prelude.{◌≡◌, ◌<◌, length, map, reverse, ◌/◌, ◌==◌, not, IfOk, IfSome};
 ghost use Rattle.hub_work.specs.declared.job.HubJob.{HubJob as Job};
-ghost use Rattle.std.specs.List.{AllByRecursion};
+ghost use Rattle.std.specs.List.{AllByRecursion, find};
+ghost use Rattle.knx_model.specs.declared.address.IndAddr.{IndAddr as Address};
 ghost use Rattle.line_model.specs.ClientEnd.{IsCemi};
 ghost use Rattle.line_model.specs.Log.{IsNextTurn};
 ghost use Rattle.hub_work.specs.Downloaders.{task_of_hub_job};
@@ -13,13 +14,14 @@ ghost use Rattle.hub_work.specs.Follows.{BeginsRightly, TelegramIsRight, Telegra
 ghost use Rattle.hub_work.specs.Requests.{IsTurnInRange};
 ghost use Rattle.hub_work.specs.Telegrams.{IsNextRequest, next_of};
 ghost use Rattle.hub_work.specs.Turns.{Adds, TellsTurn};
-ghost use Rattle.hub_work.specs.Works.{KeepsBooks, SameRun, SameBooks, BeginsWith, HasUnfinished, tasks};
+ghost use Rattle.hub_work.specs.Works.{KeepsBooks, SameRun, SameBooks, BeginsWith, HasUnfinished, FindsElsewhere, tasks};
 
 use crate::closing::Closing;
 use crate::crew::Crew;
 use crate::downloaders::Downloaders;
 use crate::job::HubJob;
 use crate::journal::Journal;
+use crate::laws::of_a_downloader;
 use crate::telegrams::{Stage, Telegrams};
 use crate::wait::{LONGEST_POLL_MS, until};
 use device_reservation::Jobs;
@@ -110,13 +112,10 @@ impl Work {
     }
 
     /// The device of the first job that isn't on the tunnel's line.
-    pub fn elsewhere(&self, tunnel: IndAddr) -> Option<IndAddr> {
-        for device in self.reservation.devices() {
-            if device.raw >> 8 != tunnel.raw >> 8 {
-                return Some(*device);
-            }
-        }
-        None
+    pub fn elsewhere(&self, tunnel: IndAddr) -> Option<IndAddr>
+        ensures { FindsElsewhere self.now tunnel result }
+    {
+        first_elsewhere(self.reservation.devices(), tunnel)
     }
 
     /// How far the next group telegram is.
@@ -147,6 +146,7 @@ impl Work {
         ensures books { SameBooks self.old self.new }
         ensures follows { TelegramFollows self.old self.new }
     {
+        of_a_downloader();
         self.telegrams.put();
         self.sender = Sender::GroupThread;
     }
@@ -163,15 +163,6 @@ impl Work {
     {
         self.journal.add(at, 0, what);
         self.telegrams.told();
-    }
-
-    /// A disconnect request was sent.
-    pub fn asked(&mut self, now: u64)
-        ensures books { SameBooks self.old self.new }
-    {
-        if self.closing.is_some() {
-            self.closing = Some(Closing::asked(now));
-        }
     }
 
     /// How long a poll lasts, in milliseconds, where the place in flight is free or not and the channel has this deadline.
@@ -216,4 +207,14 @@ fn devices_of(alloc: Global, jobs: &[HubJob]) -> Result<Vec<IndAddr>, NoMemory>
 {
     let devices = jobs.iter().map(|job| job.device).collect(alloc)?;
     Ok(devices)
+}
+
+/// The first of the devices that isn't on the tunnel's line.
+fn first_elsewhere(devices: &[IndAddr], tunnel: IndAddr) -> Option<IndAddr>
+    ensures { result ≡ find (λ (d : Address). not (d.raw / 256 == tunnel.raw / 256)) devices.now }
+{
+    devices
+        .iter()
+        .copied()
+        .find(|device| device.raw / 256 != tunnel.raw / 256)
 }

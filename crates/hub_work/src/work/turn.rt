@@ -1,21 +1,23 @@
 //! A worker's turn.
 
-ghost use Rattle.std.specs.Prelude.{◌≡◌, ℕ, ◌-◌, ◌≤◌, false, length, Some};
+ghost use Rattle.std.specs.Prelude.{◌≡◌, ℕ, Bool, ◌-◌, ◌≤◌, false, length, Some, None};
 ghost use Rattle.download_core.specs.Attempt.{DownloaderState};
 ghost use Rattle.download_core.specs.Steps.{stepped};
 ghost use Rattle.line_model.specs.Reading.{ldata_in};
+ghost use Rattle.hub_work.specs.Books.{held_at};
 ghost use Rattle.hub_work.specs.Crew.{holdings, after_begun};
 ghost use Rattle.hub_work.specs.Comes.{TookFollows, EndFollows, after_end};
 ghost use Rattle.hub_work.specs.Downloaders.{changed, states};
 ghost use Rattle.hub_work.specs.Requests.{request_with};
 ghost use Rattle.line_model.specs.ClientEnd.{IsCemi};
-ghost use Rattle.hub_work.specs.Turns.{Adds, IsEnd, WaitsFree, PutsCemi, EndsJob, TurnTold};
+ghost use Rattle.hub_work.specs.Turns.{Adds, IsEnd, WaitsFree, PutsCemi, PutsWhere, EndsJob, TurnTold};
 ghost use Rattle.hub_work.specs.Follows.{TurnFollows};
 ghost use Rattle.hub_work.specs.Works.{KeepsBooks, SameRun, SameBooks, IsHolder, IsTaking};
 
 use super::{Sender, Work};
 use crate::answers::Turned;
 use crate::crew::Held;
+use crate::laws::of_a_downloader;
 use crate::requests::to_device;
 use device_reservation::Taken;
 use download_core::Did;
@@ -37,6 +39,7 @@ impl Work {
         requires worker { 1 ≤ worker }
         requires books { KeepsBooks at self.old }
         ensures free { WaitsFree self.old.reservation result }
+        ensures placed { PutsWhere has_place result }
         ensures cemi { PutsCemi result }
         ensures told { TurnTold at worker result self.old.journal.entries self.new.journal.entries }
         ensures run { SameRun self.old self.new }
@@ -56,9 +59,11 @@ impl Work {
     /// The worker takes the first job that is free.
     fn takes_job(&mut self, worker: u8, at: u64) -> Turn
         requires worker { 1 ≤ worker }
+        requires empty { None ≡ held_at self.old.crew (worker - 1) }
         requires books { KeepsBooks at self.old }
         ensures free { WaitsFree self.old.reservation result }
         ensures cemi { PutsCemi result }
+        ensures placed { (b : Bool) → PutsWhere b result }
         ensures told { TurnTold at worker result self.old.journal.entries self.new.journal.entries }
         ensures run { SameRun self.old self.new }
         ensures books { KeepsBooks at self.new }
@@ -74,13 +79,16 @@ impl Work {
     /// It took this job.
     fn took(&mut self, worker: u8, job: u32, at: u64) -> Turn
         requires worker { 1 ≤ worker }
+        requires empty { None ≡ held_at self.old.crew (worker - 1) }
         requires taking { IsTaking self.old at worker job }
         ensures took { result ≡ Turn.Did (Turned.Took job) }
+        ensures placed { (b : Bool) → PutsWhere b result }
         ensures told { Adds at worker (LogWhat.Took job) self.old.journal.entries self.new.journal.entries }
         ensures run { SameRun self.old self.new }
         ensures books { KeepsBooks at self.new }
         ensures follows { TookFollows at self.old self.new }
     {
+        of_a_downloader();
         self.journal.add(at, worker, LogWhat::Took(job));
         let device = self.reservation.device_of(job);
         self.crew.takes(worker, job, device);
@@ -100,12 +108,14 @@ impl Work {
         requires holder { IsHolder self.old worker held }
         requires books { KeepsBooks at self.old }
         ensures free { WaitsFree self.old.reservation result }
+        ensures placed { PutsWhere has_place result }
         ensures cemi { PutsCemi result }
         ensures told { TurnTold at worker result self.old.journal.entries self.new.journal.entries }
         ensures run { SameRun self.old self.new }
         ensures books { KeepsBooks at self.new }
         ensures follows { TurnFollows now at self.old self.new result }
     {
+        of_a_downloader();
         let Some(did) = self.downloaders.next(held.job, now) else {
             return Turn::Did(Turned::Wait);
         };
@@ -190,6 +200,7 @@ impl Work {
         ensures reservation { self.new.reservation ≡ self.old.reservation }
         ensures downloaders { self.new.downloaders ≡ self.old.downloaders }
         ensures unfinished { self.new.unfinished ≡ self.old.unfinished - 1 }
+        ensures closing { self.new.closing ≡ self.old.closing }
         ensures sender { self.new.sender ≡ after_end worker self.old.sender }
         ensures crew { self.new.crew ≡ self.old.crew }
         ensures journal { self.new.journal ≡ self.old.journal }
