@@ -1,5 +1,14 @@
 pub mod Clock
+pub mod Ended
+pub mod Entries
 pub mod Foreign
 pub mod Growth
+pub mod Heard
+pub mod Lapses
+pub mod MaySend
+pub mod Quiet
 pub mod Read
+pub mod Seeks
+pub mod Steps
 pub mod Stories
+pub mod Waited

@@ -66,7 +66,7 @@ pub record Polled (answer : Answer) (wait : ℕ) (k new : Known) (before after :
 
 abbrev pub PollsSo : Result Answer HubFault → ℕ → Known → Known → Story → Story → Type 0
 PollsSo (Ok answer) wait k new before after = Polled answer wait k new before after
-PollsSo (Err fault) wait k new before after = Fails k fault new × PollsNothing before after
+PollsSo (Err fault) wait k new before after = Fails k fault new × PollsNothing wait before after
 
 -- ---- the answer is sent, where there is one; a client that has ended then tells why
 
@@ -110,11 +110,11 @@ pub record Listening (result : Result Came HubFault) (wait : ℕ) (k new : Known
   pub gives : IfOk result (λ (came : Came). came ≡ record { what = answer.what; loss = answer.loss; sent = is_there answer.sends })
 
 -- the link failed in the poll
-pub record Unpolled (result : Result Came HubFault) (k new : Known) (before after : Story) : Type 0 where
+pub record Unpolled (result : Result Came HubFault) (wait : ℕ) (k new : Known) (before after : Story) : Type 0 where
   pub fault : HubFault
   pub answer : result ≡ Err fault
   pub fails : Fails k fault new
-  pub nothing : PollsNothing before after
+  pub nothing : PollsNothing wait before after
 
 abbrev pub ListensSo : Result Came HubFault → ℕ → Known → Known → Story → Story → Type 0
-ListensSo result wait k new before after = Listening result wait k new before after ⊎ Unpolled result k new before after
+ListensSo result wait k new before after = Listening result wait k new before after ⊎ Unpolled result wait k new before after
