@@ -123,6 +123,10 @@ seeking_end (Open e) since f = absurd (let h = f.is in cc)
 seeking_end (Leaving e) since f = absurd (let h = f.is in cc)
 seeking_end (JustLost c) since f = absurd f
 
+opens_at : (ch after : ClientChannel) (frame : IpFrame) (octets : List ℕ) (now : ℕ) (tunnel : IndAddr) (since c : ℕ) (l : List Entry) → ch ≡ seen.Sought since → after ≡ seen.Open c l → datagram_in octets ≡ Some frame
+    → tunnel_told (Some frame) ≡ Some tunnel → opens ch after (entry (Got octets) now) ≡ Some tunnel
+opens_at ch after frame octets now tunnel since c l p q is h = rw (p, q, is) h
+
 pub opens_so : (end : ClientEnd) (frame : IpFrame) (octets : List ℕ) (now : ℕ) (tunnel : IndAddr) (ch after : ClientChannel) → FitsNow end ch → is_over end now ≡ false → datagram_in octets ≡ Some frame
     → channel_took end frame now ≡ took.Up tunnel → change ch after ≡ Opens → opens ch after (entry (Got octets) now) ≡ Some tunnel
 unfolding channel_took
@@ -132,7 +136,7 @@ opens_so end frame octets now tunnel ch after f over is h same =
     let timely : (is_over (Seeking o.since) now ≡ false) = subst (λ (e : ClientEnd). is_over e now ≡ false) at over in
     let told : (channel_took (Seeking o.since) frame now ≡ took.Up tunnel) = subst (λ (e : ClientEnd). channel_took e frame now ≡ took.Up tunnel) at h in
     let up : (seeking_took frame ≡ took.Up tunnel) = sym (let g : (channel_took (Seeking o.since) frame now ≡ seeking_took frame) = rw timely refl in g) ∙ told in
-    rw (o.sought, o.is_open, is) (tells_tunnel frame tunnel up)
+    opens_at ch after frame octets now tunnel o.since o.c o.l o.sought o.is_open is (tells_tunnel frame tunnel up)
 
 -- ---- the tries
 
@@ -236,3 +240,20 @@ fresh_before end (seen.RefusedBy status) octets now f over h = h
 fresh_before end seen.Unanswered octets now f over h = h
 fresh_before end (seen.Open c l) octets now f over h = absurd (open_fresh c l octets now (is_lost c l (entry (Got octets) now)) refl h)
 fresh_before end (seen.Lost c) octets now f over h = h
+
+-- ---- that it counts
+
+dropped_more : (n d : ℕ) → n ≡ at_most_64_bits d → counted_up n ≡ at_most_64_bits (suc d)
+dropped_more n d h = omega (arith, h)
+
+pub drops_one : (n : ℕ) (r : List Entry) (x : Entry) → is_dropped r x ≡ true → n ≡ at_most_64_bits (dropped r) → counted_up n ≡ at_most_64_bits (dropped (x ∷ r))
+drops_one n r x q h = rw q (dropped_more n (dropped r) h)
+
+pub drops_none : (n : ℕ) (r : List Entry) (x : Entry) → is_dropped r x ≡ false → n ≡ at_most_64_bits (dropped r) → n ≡ at_most_64_bits (dropped (x ∷ r))
+drops_none n r x q h = rw q h
+
+pub takes_one : (n : ℕ) (r : List Entry) (x : Entry) → is_counted r x ≡ true → n ≡ at_most_64_bits (datagrams_taken r) → counted_up n ≡ at_most_64_bits (datagrams_taken (x ∷ r))
+takes_one n r x q h = rw q (dropped_more n (datagrams_taken r) h)
+
+pub takes_none : (n : ℕ) (r : List Entry) (x : Entry) → is_counted r x ≡ false → n ≡ at_most_64_bits (datagrams_taken r) → n ≡ at_most_64_bits (datagrams_taken (x ∷ r))
+takes_none n r x q h = rw q h

@@ -21,7 +21,7 @@ use Rattle.line_model.specs.Moments.{Moment}
 use Rattle.line_model.specs.Signs.{Every}
 use Rattle.line_model.specs.ClientEnd.{ClientEnd, Idle, Seeking, Open, Leaving, JustLost, OpenEnd, open_end, is_over, is_given_up, is_dead, lost, channel_expired, after_expired}
 use Rattle.tunnel_channel.proofs.Frames.{leave_read}
-use Rattle.tunnel_channel.proofs.Puts.{lost_put, renews_other, put_none}
+use Rattle.tunnel_channel.proofs.Puts.{renews_other, put_none}
 use Rattle.tunnel_link.specs.declared.came.Answer.{Answer}
 use Rattle.tunnel_link.specs.declared.came.Loss.{Loss}
 use Rattle.tunnel_link.specs.declared.came.Loss.TheVariants.{Stays, Ended, Told}
@@ -34,7 +34,7 @@ use Rattle.tunnel_link.specs.Kept.{none_in_flight, is_late, one_more, refused, t
 use Rattle.tunnel_link.specs.Rights.{IsRight, FitsNow, FitsRecord, IsKept, FitsFault, tries_of}
 use Rattle.tunnel_link.specs.Adds.{IsNothing, DoesSo, OrLoses, is_told, AllNothing, moments_on}
 use Rattle.tunnel_link.proofs.Entries.{put_tries, put_owes}
-use Rattle.tunnel_link.proofs.MaySend.{not_over, not_late, Sending}
+use Rattle.tunnel_link.proofs.MaySend.{not_over, not_late, Sending, lost_sent}
 use Rattle.tunnel_link.proofs.Steps.{right_with}
 use Rattle.tunnel_link.proofs.Waited.{Waited, InTime, Lapsed, Unheard, HasLapsed, IsUnheard, late_or_over}
 
@@ -108,22 +108,12 @@ pub leaves_lost : (k : Known) (r : List Entry) (c : ℕ) → channel r ≡ seen.
 leaves_lost k r c at failed few paid right =
     let now : ℕ = newest_time r in
     let octets : List ℕ = Written (DisconnectRequest c) in
-    let stays : (channel (entry (Put octets) now ∷ r) ≡ seen.Lost c) = lost_put r octets now c at in
     record {
       right = right_with k (gone k) r refl refl refl right;
       owes = rw paid tt;
       may = rw (leave_read c, at) refl;
       renews = renews_other r octets (DisconnectRequest c) now (leave_read c) refl;
-      fits = λ u. record {
-        end = rw stays tt;
-        current = rw stays tt;
-        acknowledged = rw stays refl;
-        confirmed = rw stays refl;
-        failed = sym failed ∙ sym (put_tries r octets now);
-        few = rw (put_tries r octets now, failed) few;
-        paid = put_owes r octets now;
-        first = λ h. absurd (let e : (seen.Lost c ≡ seen.Fresh) = sym stays ∙ h in cc);
-      };
+      fits = λ u. lost_sent (gone k) r octets c at refl refl (sym failed) (rw failed few);
       did = put_none (channel r) octets (DisconnectRequest c) now (leave_read c) refl;
     }
 
@@ -154,9 +144,9 @@ up_expires (JustLost c) e now h o = absurd (cc)
 abbrev pub gone_answer : What → ℕ → Answer
 gone_answer what c = record { what = what; loss = Told; sends = Some (Written (DisconnectRequest c)) }
 
-record Gives (what : What) (k : Known) (now : ℕ) (next : Known) (answer : Answer) : Type 0 where
-  known : lapsed k now ≡ next
-  is : lapse_answer what k now ≡ answer
+pub record Gives (what : What) (k : Known) (now : ℕ) (next : Known) (answer : Answer) : Type 0 where
+  pub known : lapsed k now ≡ next
+  pub is : lapse_answer what k now ≡ answer
 
 lapsed_gone : (what : What) (k : Known) (now : ℕ) (e : OpenEnd) → open_end k.channel ≡ Some e → (t : Bool) → is_late k.flight now ≡ t → (is_late k.flight now || is_over k.channel now) ≡ true → Gives what k now (gone k) (gone_answer what e.channel)
 unfolding lapsed lapse_answer after_expired
@@ -216,3 +206,8 @@ lapse_answers what k old added aside right (Unheard h a) =
       tells = refl;
       does = does_aside what Stays (newest_time r) (moments_on old added) aside a;
     })
+
+pub lapse_what : (what : What) (k : Known) (old added : List Placed) → Waited k old added → (lapse_answer what k (newest_time (entries (added ++ old)))).what ≡ what
+lapse_what what k old added (InTime f a) = ap (λ (x : Answer). x.what) (lapsed_none what k (newest_time (entries (added ++ old))) (not_late k (entries (added ++ old)) f) (not_over k (entries (added ++ old)) f)).is
+lapse_what what k old added (Lapsed h one) = ap (λ (x : Answer). x.what) (lapsed_gone what k (newest_time (entries (added ++ old))) h.e h.is (is_late k.flight (newest_time (entries (added ++ old)))) refl h.over).is
+lapse_what what k old added (Unheard h a) = ap (λ (x : Answer). x.what) (lapsed_unheard what k (newest_time (entries (added ++ old))) h.since h.is (rw h.acknowledged refl) h.over).is

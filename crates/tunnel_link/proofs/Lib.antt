@@ -1,3 +1,4 @@
+pub mod Beats
 pub mod Clock
 pub mod Ended
 pub mod Entries
@@ -6,9 +7,15 @@ pub mod Growth
 pub mod Heard
 pub mod Lapses
 pub mod MaySend
+pub mod Places
+pub mod Polls
 pub mod Quiet
 pub mod Read
+pub mod Results
 pub mod Seeks
 pub mod Steps
 pub mod Stories
+pub mod Takes
+pub mod TakesRows
+pub mod TakesSends
 pub mod Waited

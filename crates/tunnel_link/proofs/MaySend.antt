@@ -1,5 +1,5 @@
 -- A datagram that may be sent, and what is known once it is.
-use Rattle.std.proofs.Common.{◌≡◌, ◌≢◌, ◌⊎◌, inl, inr, ℕ, ◌≤◌, List, [], ◌∷◌, Bool, true, false, Option, Some, None, refl, sym, subst, ap, ◌∙◌, arith}
+use Rattle.std.proofs.Common.{◌≡◌, ◌≢◌, ◌⊎◌, inl, inr, ℕ, ◌<◌, ◌≤◌, List, [], ◌∷◌, length, Bool, true, false, Option, Some, None, refl, sym, subst, ap, ◌∙◌, arith}
 use Rattle.std.specs.Prelude.{◌||◌}
 use Rattle.knx_model.specs.Connection.{has_passed}
 use Rattle.line_model.specs.declared.fault.HubFault.{HubFault}
@@ -16,10 +16,10 @@ use Rattle.line_model.specs.ClientEnd.{ClientEnd, Idle, Seeking, Open, Leaving, 
 use Rattle.tunnel_channel.specs.Fits.{FitsChannel, Fits, HasNone, Knows, KnowsOpen, IsBehind, end_of, acknowledged_in, confirmed_in}
 use Rattle.tunnel_channel.specs.Follows.{IsCurrent, is_confirmation_late}
 use Rattle.tunnel_channel.proofs.Current.{sendings_stay_current}
-use Rattle.tunnel_channel.proofs.Puts.{opened_put}
+use Rattle.tunnel_channel.proofs.Puts.{opened_put, lost_put}
 use Rattle.tunnel_channel.proofs.Take.{lapsed_alike}
 use Rattle.tunnel_link.specs.declared.known.Known.{Known}
-use Rattle.tunnel_link.specs.Kept.{is_late, is_over_for}
+use Rattle.tunnel_link.specs.Kept.{none_in_flight, is_late, is_over_for}
 use Rattle.tunnel_link.specs.Rights.{IsRight, FitsNow, FitsRecord, IsKept, IsntRefusal, tries_of}
 use Rattle.tunnel_link.proofs.Entries.{put_tries, put_owes, put_right, failed_right}
 
@@ -118,18 +118,40 @@ pub record Flies (k : Known) (ch : ClientChannel) : Type 0 where
   pub acknowledged : k.flight.acknowledged ≡ acknowledged_in ch
   pub confirmed : k.flight.confirmed ≡ confirmed_in ch
 
-pub open_sent : (k next : Known) (r : List Entry) (octets : List ℕ) (c : ℕ) (l : List Entry) → channel r ≡ seen.Open c l → FitsRecord k r → next.tries ≡ k.tries → Fits next.channel (entry (Put octets) (newest_time r) ∷ r)
-    → Flies next (channel (entry (Put octets) (newest_time r) ∷ r)) → FitsRecord next (entry (Put octets) (newest_time r) ∷ r)
-open_sent k next r octets c l at f same fits flies =
+pub open_sent_by : (next : Known) (r : List Entry) (octets : List ℕ) (c : ℕ) (l : List Entry) → channel r ≡ seen.Open c l → IsCurrent (channel r) (newest_time r) → tries_of next.tries ≡ tries r → length (tries r) < 3
+    → Fits next.channel (entry (Put octets) (newest_time r) ∷ r) → Flies next (channel (entry (Put octets) (newest_time r) ∷ r)) → FitsRecord next (entry (Put octets) (newest_time r) ∷ r)
+open_sent_by next r octets c l at current failed few fits flies =
     let now : ℕ = newest_time r in
     let stays : (channel (entry (Put octets) now ∷ r) ≡ seen.Open c (entry (Put octets) now ∷ l)) = opened_put r octets now c l at in
     record {
       end = subst (λ (ch : ClientChannel). FitsNow next.channel ch) (sym stays) (open_now next.channel now c (entry (Put octets) now ∷ l) (subst (λ (ch : ClientChannel). FitsChannel next.channel now ch) stays fits));
-      current = sendings_stay_current r octets now f.current;
+      current = sendings_stay_current r octets now current;
       acknowledged = flies.acknowledged;
       confirmed = flies.confirmed;
-      failed = ap tries_of same ∙ f.failed ∙ sym (put_tries r octets now);
-      few = rw (put_tries r octets now) f.few;
+      failed = failed ∙ sym (put_tries r octets now);
+      few = rw (put_tries r octets now) few;
       paid = put_owes r octets now;
       first = λ h. absurd (let e : (seen.Open c (entry (Put octets) now ∷ l) ≡ seen.Fresh) = sym stays ∙ h in cc);
+    }
+
+pub open_sent : (k next : Known) (r : List Entry) (octets : List ℕ) (c : ℕ) (l : List Entry) → channel r ≡ seen.Open c l → FitsRecord k r → next.tries ≡ k.tries → Fits next.channel (entry (Put octets) (newest_time r) ∷ r)
+    → Flies next (channel (entry (Put octets) (newest_time r) ∷ r)) → FitsRecord next (entry (Put octets) (newest_time r) ∷ r)
+open_sent k next r octets c l at f same fits flies = open_sent_by next r octets c l at f.current (ap tries_of same ∙ f.failed) f.few fits flies
+
+-- ---- where the channel was just lost
+
+pub lost_sent : (next : Known) (r : List Entry) (octets : List ℕ) (c : ℕ) → channel r ≡ seen.Lost c → next.channel ≡ Idle → next.flight ≡ none_in_flight → tries_of next.tries ≡ tries r → length (tries r) < 3
+    → FitsRecord next (entry (Put octets) (newest_time r) ∷ r)
+lost_sent next r octets c at idle none failed few =
+    let now : ℕ = newest_time r in
+    let stays : (channel (entry (Put octets) now ∷ r) ≡ seen.Lost c) = lost_put r octets now c at in
+    record {
+      end = rw (idle, stays) tt;
+      current = rw stays tt;
+      acknowledged = rw (none, stays) refl;
+      confirmed = rw (none, stays) refl;
+      failed = failed ∙ sym (put_tries r octets now);
+      few = rw (put_tries r octets now) few;
+      paid = put_owes r octets now;
+      first = λ h. absurd (let e : (seen.Lost c ≡ seen.Fresh) = sym stays ∙ h in cc);
     }

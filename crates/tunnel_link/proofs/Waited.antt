@@ -61,7 +61,7 @@ pub data Waited (k : Known) (old added : List Placed) : Type 0 where
 
 -- ---- what is over stays so
 
-late_later : (o : Option ℕ) (b : Bool) (t now : ℕ) → t ≤ now → is_unconfirmed o b t ≡ true → is_unconfirmed o b now ≡ true
+pub late_later : (o : Option ℕ) (b : Bool) (t now : ℕ) → t ≤ now → is_unconfirmed o b t ≡ true → is_unconfirmed o b now ≡ true
 late_later None b t now le h = h
 late_later (Some since) true t now le h = h
 late_later (Some since) false t now le h = passed_later confirmation_wait since t now le h
@@ -78,7 +78,7 @@ either true b c d f g h = rw (f refl) refl
 either false b true d f g h = refl
 either false b false d f g h = g h
 
-over_for_later : (k : Known) (e : OpenEnd) (t now : ℕ) → open_end k.channel ≡ Some e → t ≤ now → is_over_for k t ≡ true → is_over_for k now ≡ true
+pub over_for_later : (k : Known) (e : OpenEnd) (t now : ℕ) → open_end k.channel ≡ Some e → t ≤ now → is_over_for k t ≡ true → is_over_for k now ≡ true
 over_for_later k e t now is le h =
     either (is_late k.flight t) (is_over k.channel t) (is_late k.flight now) (is_over k.channel now)
     (late_later k.flight.acknowledged k.flight.confirmed t now le) (up_later k.channel e t now is le) h
@@ -140,7 +140,7 @@ or_second true u b h = refl
 or_second false true b h = refl
 or_second false false b h = absurd (cc)
 
-or_neither : (a b : Bool) → (a || b) ≡ false → (a ≡ false) × (b ≡ false)
+pub or_neither : (a b : Bool) → (a || b) ≡ false → (a ≡ false) × (b ≡ false)
 or_neither true b h = absurd (cc)
 or_neither false b h = (refl, h)
 
@@ -149,10 +149,10 @@ late_or_over true b h n = absurd (cc)
 late_or_over false b h n = h
 
 module _ (k : Known) (r : List Entry) (f : FitsRecord k r) (what : Item) (now : ℕ) (poll : is_poll what ≡ true) (le : newest_time r ≤ now) where
-  late_is : is_late k.flight now ≡ is_confirmation_late (channel r) now
+  pub late_is : is_late k.flight now ≡ is_confirmation_late (channel r) now
   late_is = same_late k r now f
 
-  open_lapsed : (e : OpenEnd) (left : Bool) (o : KnowsOpen e left (channel r)) → (t : Bool) → is_late k.flight now ≡ t → is_over (Open e) now ≡ true ⊎ (t ≡ true) → has_lapsed o.c o.l now ≡ true
+  pub open_lapsed : (e : OpenEnd) (left : Bool) (o : KnowsOpen e left (channel r)) → (t : Bool) → is_late k.flight now ≡ t → is_over (Open e) now ≡ true ⊎ (t ≡ true) → has_lapsed o.c o.l now ≡ true
   open_lapsed e left o true q over = or_second (is_given_up (own o.c o.l).sent now) (is_unconfirmed (acknowledged o.c o.l) (confirmed o.c o.l) now) (is_dead (beats o.c o.l) now) (sym (ap (λ (ch : ClientChannel). is_confirmation_late ch now) o.is) ∙ sym late_is ∙ q)
   open_lapsed e left o false q (inr t) = absurd (cc)
   open_lapsed e left o false q (inl over) =
@@ -161,7 +161,7 @@ module _ (k : Known) (r : List Entry) (f : FitsRecord k r) (what : Item) (now : 
       let knows : Knows (end_of o.c o.l) left o.c o.l = subst (λ (d : OpenEnd). Knows d left o.c o.l) same o.knows in
       lapsed_alike o.c o.l left now knows timely ∙ subst (λ (d : OpenEnd). is_over (Open d) now ≡ true) same over
 
-  open_timely : (e : OpenEnd) (left : Bool) (o : KnowsOpen e left (channel r)) → is_late k.flight now ≡ false → is_over (Open e) now ≡ false → has_lapsed o.c o.l now ≡ false
+  pub open_timely : (e : OpenEnd) (left : Bool) (o : KnowsOpen e left (channel r)) → is_late k.flight now ≡ false → is_over (Open e) now ≡ false → has_lapsed o.c o.l now ≡ false
   open_timely e left o q over =
       let timely : (is_unconfirmed (acknowledged o.c o.l) (confirmed o.c o.l) now ≡ false) = sym (ap (λ (ch : ClientChannel). is_confirmation_late ch now) o.is) ∙ sym late_is ∙ q in
       let same : (e ≡ end_of o.c o.l) = o.knows.is in
@@ -193,7 +193,7 @@ module _ (k : Known) (r : List Entry) (f : FitsRecord k r) (what : Item) (now : 
         first = still_first k.channel k.channel r what now poll f.end end f.first (idle_or k.channel (channel (entry what now ∷ r)) end);
       }, rests.did)
 
-  few_of : length (tries_of k.tries) < 3
+  pub few_of : length (tries_of k.tries) < 3
   few_of = rw f.failed f.few
 
   abbrev Ending : Type 0
@@ -239,7 +239,7 @@ module _ (k : Known) (old added : List Placed) (p : Placed) (poll : is_poll p.wh
   abbrev so_far : List Entry
   so_far = entries (added ++ old)
 
-  by_over : (t : Bool) → is_over_for k p.what.now ≡ t → (got_in p.what.what ≡ None) ⊎ (is_over_for k p.what.now ≡ true) → FitsRecord k so_far → AllNothing old added → Waited k old (p ∷ added)
+  pub by_over : (t : Bool) → is_over_for k p.what.now ≡ t → (got_in p.what.what ≡ None) ⊎ (is_over_for k p.what.now ≡ true) → FitsRecord k so_far → AllNothing old added → Waited k old (p ∷ added)
   by_over true q n f a = by_end (ended_so k so_far f p.what.what p.what.now poll le k.channel refl f.end q)
     where
       by_end : Ending k so_far f p.what.what p.what.now poll le → Waited k old (p ∷ added)

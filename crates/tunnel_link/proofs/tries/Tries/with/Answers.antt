@@ -1,3 +1,3 @@
-use Rattle.tunnel_link.proofs.Lapses.{lapse_answers}
-use Rattle.tunnel_link.proofs.Heard.{fresh_before}
+use Rattle.tunnel_link.proofs.Places.{after_failed}
+use Rattle.tunnel_link.proofs.Polls.{over_for}
 use Rattle.tunnel_link.proofs.tries.Tries.with.Goals as goal
