@@ -80,7 +80,7 @@ adds_more what e is before (Full start events) old k h p =
 pub entries_append : (a b : List Placed) → entries (a ++ b) ≡ entries a ++ entries b
 entries_append a b = map-append (λ (p : Placed). p.what) a b
 
-quiet_places : (since : ℕ) (ws : List Placed) → AreWaits since (entries ws) → AreQuiet ws
+pub quiet_places : (since : ℕ) (ws : List Placed) → AreWaits since (entries ws) → AreQuiet ws
 quiet_places since [] h = tt
 quiet_places since (p ∷ ws) h = (h.0, quiet_places since ws h.2)
 

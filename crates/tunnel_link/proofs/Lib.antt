@@ -8,6 +8,9 @@ pub mod Heard
 pub mod Lapses
 pub mod MaySend
 pub mod Places
+pub mod PollCalls
+pub mod PollEnds
+pub mod PollKept
 pub mod Polls
 pub mod Quiet
 pub mod Read
