@@ -189,6 +189,7 @@ module _ (r : List Entry) (octets : List ℕ) (now since : ℕ) (at : channel r 
     owes = λ answer h. absurd (cc);
     right = λ answer h. absurd (cc);
     no_deed = λ answer h. absurd (cc);
+    asks_not = λ answer h. absurd (cc);
     acked = λ o. rw (at, q, is, z) (rw is refl);
     confirms = λ o. rw (at, q, is, z) (rw is refl);
   })
@@ -206,6 +207,7 @@ module _ (r : List Entry) (octets : List ℕ) (now since : ℕ) (at : channel r 
     owes = λ answer h. absurd (cc);
     right = λ answer h. absurd (cc);
     no_deed = λ answer h. absurd (cc);
+    asks_not = λ answer h. absurd (cc);
     acked = λ o. rw (at, q, is, z) refl;
     confirms = λ o. rw (at, q, is, z) refl;
   })

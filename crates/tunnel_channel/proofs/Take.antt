@@ -6,7 +6,7 @@ use Rattle.knx_model.specs.declared.frames.ip.IpFrame.TheVariants.{DisconnectReq
 use Rattle.knx_model.specs.KnxNetIp.{Written}
 use Rattle.line_model.specs.declared.client_end.ChannelTook.{ChannelTook}
 use Rattle.line_model.specs.declared.client_end.ChannelTook.TheVariants as took
-use Rattle.line_model.specs.Reading.{datagram_in}
+use Rattle.line_model.specs.Reading.{datagram_in, disconnect_request_in}
 use Rattle.line_model.specs.Record.{Put, Got, Entry, entry}
 use Rattle.line_model.specs.ChannelLost.{own, acknowledged, confirmed, beats, is_unconfirmed, has_lapsed}
 use Rattle.line_model.specs.ClientView as seen
@@ -41,6 +41,7 @@ pub record Replies (after : ClientEnd) (answer : List ℕ) (now : ℕ) (r : List
   pub owes : IsOwed (owed r) (entry (Put answer) now)
   pub right : RenewsSo r (entry (Put answer) now)
   pub none : deed (channel r) (entry (Put answer) now) ≡ Nothing
+  pub asks : disconnect_request_in (datagram_in answer) ≡ None
 
 module _ (after : ClientEnd) (told : ChannelTook) (r : List Entry) (octets : List ℕ) (frame : IpFrame) (now c : ℕ) (l : List Entry) where
   ack_sent : (g : OpenGot r octets frame now c l false) → FitsChannel after now (seen.Open c (entry (Got octets) now ∷ l)) → IsAck told false c l frame → (answer : List ℕ) → answer_in told ≡ Some answer → Replies after answer now (entry (Got octets) now ∷ r)
@@ -57,6 +58,7 @@ module _ (after : ClientEnd) (told : ChannelTook) (r : List Entry) (octets : Lis
         owes = subst (λ (o : Option IpFrame). IsOwed o (entry (Put answer) now)) (sym owes) read;
         right = renews_other (entry (Got octets) now ∷ r) answer (TunnellingAck a.ch a.number 0) now read refl;
         none = put_none (channel (entry (Got octets) now ∷ r)) answer (TunnellingAck a.ch a.number 0) now read refl;
+        asks = rw read refl;
       }
 
   end_sent : (g : OpenGot r octets frame now c l true) → datagram_in octets ≡ Some frame → IsEnd told after true c frame → (answer : List ℕ) → answer_in told ≡ Some answer → Replies after answer now (entry (Got octets) now ∷ r)
@@ -71,6 +73,7 @@ module _ (after : ClientEnd) (told : ChannelTook) (r : List Entry) (octets : Lis
         owes = rw g.owes tt;
         right = renews_other (entry (Got octets) now ∷ r) answer (DisconnectResponse a.ch 0) now read refl;
         none = put_none (channel (entry (Got octets) now ∷ r)) answer (DisconnectResponse a.ch 0) now read refl;
+        asks = rw read refl;
       }
 
   none_sent : answer_in told ≡ None → (answer : List ℕ) → answer_in told ≡ Some answer → Replies after answer now (entry (Got octets) now ∷ r)
@@ -107,6 +110,7 @@ module _ (after : ClientEnd) (told : ChannelTook) (r : List Entry) (octets : Lis
     owes = λ answer h. (replied ends g is w answer h).owes;
     right = λ answer h. (replied ends g is w answer h).right;
     no_deed = λ answer h. (replied ends g is w answer h).none;
+    asks_not = λ answer h. (replied ends g is w answer h).asks;
     acked = λ o. ap acknowledged_in g.after ∙ f.acked ∙ sym (ap (λ (ch : ClientChannel). acknowledged_by told now (acknowledged_in ch)) at);
     confirms = λ o. ap confirmed_in g.after ∙ f.confirms ∙ sym (ap (λ (ch : ClientChannel). confirmed_by told (confirmed_in ch)) at);
   }
@@ -135,6 +139,7 @@ unheard end r octets now over same n fits = record {
   owes = λ answer h. absurd (cc);
   right = λ answer h. absurd (cc);
   no_deed = λ answer h. absurd (cc);
+  asks_not = λ answer h. absurd (cc);
   acked = λ o. (same o).acked;
   confirms = λ o. (same o).confirms;
 }

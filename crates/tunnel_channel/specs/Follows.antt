@@ -10,7 +10,7 @@ use Rattle.line_model.specs.declared.client_end.ChannelTook.{ChannelTook}
 use Rattle.line_model.specs.declared.client_end.ChannelTook.TheVariants as took
 use Rattle.line_model.specs.declared.client_end.ChannelExpired.{ChannelExpired}
 use Rattle.line_model.specs.declared.client_end.ChannelExpired.TheVariants as due
-use Rattle.line_model.specs.Reading.{datagram_in, ldata_in}
+use Rattle.line_model.specs.Reading.{datagram_in, ldata_in, disconnect_request_in}
 use Rattle.line_model.specs.Record.{Item, Put, Renewed, Got, Entry, entry, got_in, is_poll}
 use Rattle.line_model.specs.LinkStory.{newest_time}
 use Rattle.line_model.specs.ChannelLost.{answer_wait, own, acknowledged, confirmed, is_confirmation, beats, is_given_up, is_unconfirmed, is_dead, has_lapsed}
@@ -139,6 +139,7 @@ pub record TakesFrame (after : ClientEnd) (told : ChannelTook) (over : Bool) (oc
   pub owes : (answer : List ℕ) → answer_in told ≡ Some answer → IsOwed (owed (entry (Got octets) now ∷ r)) (entry (Put answer) now)
   pub right : (answer : List ℕ) → answer_in told ≡ Some answer → RenewsSo (entry (Got octets) now ∷ r) (entry (Put answer) now)
   pub no_deed : (answer : List ℕ) → answer_in told ≡ Some answer → deed (channel (entry (Got octets) now ∷ r)) (entry (Put answer) now) ≡ Nothing
+  pub asks_not : (answer : List ℕ) → answer_in told ≡ Some answer → disconnect_request_in (datagram_in answer) ≡ None
   pub acked : over ≡ false → acknowledged_in (channel (entry (Got octets) now ∷ r)) ≡ acknowledged_by told now (acknowledged_in (channel r))
   pub confirms : over ≡ false → confirmed_in (channel (entry (Got octets) now ∷ r)) ≡ confirmed_by told (confirmed_in (channel r))
 

@@ -1,11 +1,12 @@
 -- Time goes on only where it passes, so the newest entry of a run's places has its time.
-use Rattle.std.proofs.Common.{◌≡◌, ℕ, suc, List, [], ◌∷◌, length, Option, Some, None, refl, sym, ap, ◌∙◌}
+use Rattle.std.proofs.Common.{◌≡◌, ℕ, suc, ◌+◌, ◌≤◌, List, [], ◌∷◌, length, Option, Some, None, refl, sym, ap, ◌∙◌, arith}
 use Rattle.knx_model.specs.declared.frames.cemi.Ldata.{Ldata}
 use Rattle.knx_model.specs.declared.frames.ip.IpFrame.{IpFrame}
-use Rattle.line_model.specs.Network.{Sent}
-use Rattle.line_model.specs.Gateway.{Channel, Request, next_put}
+use Rattle.line_model.specs.Network.{Sent, changed_at, once_more}
+use Rattle.std.specs.Prelude.{slice_get}
+use Rattle.line_model.specs.Gateway.{Channel, Request, next_put, gateway_took}
 use Rattle.line_model.specs.Reading.{datagram_in}
-use Rattle.line_model.specs.Record.{Item, entry, item_of, item_at, Placed, placed, placed_if, counted, entries}
+use Rattle.line_model.specs.Record.{Item, Entry, entry, item_of, item_at, Placed, placed, placed_if, counted, entries}
 use Rattle.line_model.specs.Tunnel as tunnel
 use Rattle.line_model.specs.Tunnel.{Tunnel, TunnelEvent, Send, From, Renew, Up, UpRefused, Down, LoseUp, LoseDown, Carried, Heard, Repeat, Close, Pass, Elsewhere, with_gateway, with_up, sends_down_if, takes_frame, takes_sent, refuses, puts, puts_next, repeats, repeats_request, closes, after}
 use Rattle.line_model.specs.World.{World, Event, tunnel_event, now, step, replay}
@@ -27,7 +28,7 @@ if_now t to (Some frame) = refl
 
 frame_now : (t : Tunnel) (from : ℕ) (o : Option IpFrame) → (takes_frame t from o).now ≡ t.now
 frame_now t from None = refl
-frame_now t from (Some frame) = if_now (with_gateway t (Rattle.line_model.specs.Gateway.gateway_took t.gateway from t.now frame).after) from (Rattle.line_model.specs.Gateway.gateway_took t.gateway from t.now frame).send
+frame_now t from (Some frame) = if_now (with_gateway t (gateway_took t.gateway from t.now frame).after) from (gateway_took t.gateway from t.now frame).send
 
 sent_now : (t : Tunnel) (o : Option Sent) → (takes_sent t o).now ≡ t.now
 sent_now t None = refl
@@ -49,13 +50,16 @@ closes_now : (t : Tunnel) (o : Option Channel) → (closes t o).now ≡ t.now
 closes_now t None = refl
 closes_now t (Some c) = refl
 
+same_le : (a b : ℕ) → b ≡ a → a ≤ b
+same_le a b h = omega arith
+
 -- what is no entry of the record takes no time
 unmoved : (t : Tunnel) (e : TunnelEvent) → item_of t e ≡ None → (after t e).now ≡ t.now
 unmoved t (Send octets) h = absurd (cc)
 unmoved t (From endpoint octets) h = absurd (cc)
 unmoved t Renew h = absurd (cc)
-unmoved t (Up age) h = sent_now _ _
-unmoved t (UpRefused age status) h = refused_now _ status _
+unmoved t (Up age) h = sent_now (with_up t (changed_at age once_more t.network.up)) (slice_get t.network.up age)
+unmoved t (UpRefused age status) h = refused_now (with_up t (changed_at age once_more t.network.up)) status (slice_get t.network.up age)
 unmoved t (Down age) h = refl
 unmoved t (LoseUp age) h = refl
 unmoved t (LoseDown age) h = refl
@@ -69,9 +73,25 @@ unmoved t Elsewhere h = refl
 pub same_now : (w : World) (e : Event) → item_at w e ≡ None → now (step w e) ≡ now w
 same_now w e h = next_now (after w.tunnel (tunnel_event w e)) ∙ unmoved w.tunnel (tunnel_event w e) h
 
--- a sending, a new endpoint and a datagram that is got take none
-pub timeless : (t : Tunnel) (e : TunnelEvent) → (after t e).now ≡ t.now → (tunnel.step t e).now ≡ t.now
-timeless t e h = next_now (after t e) ∙ h
+-- time never falls
+moves : (t : Tunnel) (e : TunnelEvent) → t.now ≤ (after t e).now
+moves t (Send octets) = omega arith
+moves t (From endpoint octets) = omega arith
+moves t Renew = omega arith
+moves t (Up age) = same_le _ _ (sent_now (with_up t (changed_at age once_more t.network.up)) (slice_get t.network.up age))
+moves t (UpRefused age status) = same_le _ _ (refused_now (with_up t (changed_at age once_more t.network.up)) status (slice_get t.network.up age))
+moves t (Down age) = omega arith
+moves t (LoseUp age) = omega arith
+moves t (LoseDown age) = omega arith
+moves t (Carried confirmation) = omega arith
+moves t (Heard frames) = omega arith
+moves t Repeat = same_le _ _ (repeats_now t t.gateway.channel)
+moves t Close = same_le _ _ (closes_now t t.gateway.channel)
+moves t (Pass ms) = omega arith
+moves t Elsewhere = omega arith
+
+pub never_falls : (w : World) (e : Event) → now w ≤ now (step w e)
+never_falls w e = let h = moves w.tunnel (tunnel_event w e) in let n = next_now (after w.tunnel (tunnel_event w e)) in omega arith
 
 -- ---- the newest entry
 
@@ -85,10 +105,10 @@ pub newest_is_now : (start : World) (events : List Event) → IsFresh start → 
 newest_is_now start [] fresh = sym (ap (λ (t : Tunnel). t.now) fresh.tunnel)
 newest_is_now start (e ∷ events) fresh = by_item start e events (newest_is_now start events fresh) (item_at (replay start events) e) refl
 
-pub newest_counted : (r : List Rattle.line_model.specs.Record.Entry) → newest_time (entries (counted r)) ≡ newest_time r
+pub newest_counted : (r : List Entry) → newest_time (entries (counted r)) ≡ newest_time r
 newest_counted [] = refl
 newest_counted (x ∷ r) = refl
 
-pub entries_counted : (r : List Rattle.line_model.specs.Record.Entry) → entries (counted r) ≡ r
+pub entries_counted : (r : List Entry) → entries (counted r) ≡ r
 entries_counted [] = refl
-entries_counted (x ∷ r) = ap (λ (l : List Rattle.line_model.specs.Record.Entry). x ∷ l) (entries_counted r)
+entries_counted (x ∷ r) = ap (λ (l : List Entry). x ∷ l) (entries_counted r)

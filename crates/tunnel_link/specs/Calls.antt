@@ -3,7 +3,7 @@ use Rattle.std.specs.Prelude.{◌≡◌, ℕ, ◌⊎◌, Bool, true, false, List
 use Rattle.line_model.specs.declared.fault.HubFault.{HubFault}
 use Rattle.knx_model.specs.declared.frames.ip.IpFrame.TheVariants.{ConnectRequest}
 use Rattle.knx_model.specs.KnxNetIp.{Written}
-use Rattle.line_model.specs.Record.{Item, Put, Renewed, Got, Quiet}
+use Rattle.line_model.specs.Record.{Item, Put, Renewed, Got, Quiet, is_poll}
 use Rattle.line_model.specs.LinkStory.{Story, IsTime, Sends, SendsOrNot, Renews, RenewsOrNot, Polls, PollsNothing}
 use Rattle.tunnel_link.specs.declared.came.Answer.{Answer}
 use Rattle.tunnel_link.specs.declared.came.Came.{Came}
@@ -58,6 +58,7 @@ item_answer k Renewed now = only came.Quiet
 
 pub record Polled (answer : Answer) (wait : ℕ) (k new : Known) (before after : Story) : Type 0 where
   pub what : Item
+  pub poll : is_poll what ≡ true
   pub now : ℕ
   pub polls : Polls what wait now before after
   pub time : IsTime now after

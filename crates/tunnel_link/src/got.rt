@@ -35,6 +35,7 @@ impl Known {
     }
 
     /// Takes a frame of the gateway.
+    #[tactic(auto, unfolding(crate::specs::Kept::taken, crate::specs::Kept::take_answer))]
     fn takes(&mut self, frame: &IpFrame, now: u64) -> Answer
         requires { HasTunnelIfUp frame.now }
         ensures answer { result ≡ take_answer self.old frame.now now }

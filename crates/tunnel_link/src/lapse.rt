@@ -18,6 +18,7 @@ impl Known {
     }
 
     /// Gives up a channel or a try that the time has ended, after this came.
+    #[tactic(auto, unfolding(crate::specs::Kept::lapsed, crate::specs::Kept::lapse_answer))]
     pub fn lapse(&mut self, what: What, now: u64) -> Answer
         ensures answer { result ≡ lapse_answer what self.old now }
         ensures next { self.new ≡ lapsed self.old now }
