@@ -15,16 +15,16 @@ use Rattle.tunnel_link.specs.Goes.{GoesOn}
 use Rattle.tunnel_link.specs.Rights.{IsOfTunnel, WhereTold}
 use Rattle.hub_work.specs.declared.work.Work.{Work}
 use Rattle.hub_work.specs.Follows.{AsideFollows, StaysFitting}
-use Rattle.hub_work.specs.Works.{SameBooks}
+
 use Rattle.hub_core.specs.Keeps.{HasOwnCause, Keeps}
-use Rattle.hub_core.specs.Taking.{FollowsAll, LosesIn}
+use Rattle.hub_core.specs.Taking.{SameWork, FollowsAll, LosesIn}
 use Rattle.hub_core.proofs.Counting.{some_is, place_grows, places_ascend}
 use Rattle.hub_core.proofs.Keeps.{books_same, same_log, Tolds, moves}
 use Rattle.hub_core.proofs.Quiet.{Asides, nothing_aside, asides_fit, fits_after, quiet_told, quiet_runs}
 use Rattle.hub_core.proofs.Requests.{nothings_put}
 use Rattle.hub_core.proofs.Taking.{NoneGot, sent_not_got}
 
-pub same_refl : (w : Work) → SameBooks w w
+pub same_refl : (w : Work) → SameWork w w
 same_refl w = record { reservation = refl; turns = refl; told = refl; held = refl; journal = refl; tasks_are = refl; unfinished = refl }
 
 pub not_none : (g : Option HubFault) (fault : HubFault) → g ≡ Some fault → g ≡ None → ⊥
@@ -40,7 +40,7 @@ own_of_tunnel jobs log r (WrongLine device tunnel) h = absurd h
 pub same_some : (g : Option HubFault) (fault why : HubFault) → g ≡ Some fault → g ≡ Some why → fault ≡ why
 same_some g fault why e f = let z : Some fault ≡ Some why = sym e ∙ f in cc
 
-module _ (s t : Story) (w v : Work) (met : Bool) (P : List Placed → List Placed → Type 0) (goes : GoesOn s t) (same : SameBooks w v) (adds : Growing P s t) where
+module _ (s t : Story) (w v : Work) (met : Bool) (P : List Placed → List Placed → Type 0) (goes : GoesOn s t) (same : SameWork w v) (adds : Growing P s t) where
   -- those that it added, up to these
   pub added_to : (old new : List Placed) (es : places_in s ≡ Some old) → places_in t ≡ Some new → Added (place_of s) (place_of t) old (adds old es).added new
   added_to old new es et =
@@ -74,7 +74,7 @@ module _ (p q : ℕ) (s t : Story) (met : Bool) (f g : Option HubFault) (none : 
   acts_failed w fault adds is tunnel k =
       moves p q s t w w met met f g none le (same_refl w) goes (failed s t w w met (Acts (Err fault)) goes (same_refl w) adds (λ old added h. nothings_put (moments_on old added) h) met g fault is tunnel) k
 
-  pub acts_done : (w v : Work) (acted : Acted) (now : ℕ) → Growing (Acts (Ok acted)) s t → g ≡ None → SameBooks w v → StaysFitting → LosesIn acted.loss now w v → WhereTold (λ places. now ≡ newest_time (entries places)) t → Keeps p s w met f → Keeps q t v met g
+  pub acts_done : (w v : Work) (acted : Acted) (now : ℕ) → Growing (Acts (Ok acted)) s t → g ≡ None → SameWork w v → StaysFitting → LosesIn acted.loss now w v → WhereTold (λ places. now ≡ newest_time (entries places)) t → Keeps p s w met f → Keeps q t v met g
   acts_done w v acted now adds stands same law loses told k =
       moves p q s t w v met met f g none le same goes
       (quiet s t w v met (Acts (Ok acted)) goes same adds now law told (λ old added h. (h.0, sent_not_got added h.1.only_sends, subst (λ (x : Loss). LosesIn x now w v) h.1.loss loses)) g stands) k
@@ -95,7 +95,7 @@ module _ (p q : ℕ) (s t : Story) (met : Bool) (f g : Option HubFault) (none : 
   leaves_failed w fault adds is tunnel k =
       moves p q s t w w met met f g none le (same_refl w) goes (failed s t w w met (Leaves (Err fault)) goes (same_refl w) adds (λ old added h. nothings_put (moments_on old added) h.nothing) met g fault is tunnel) k
 
-  pub leaves_done : (w v : Work) (asked : Bool) (now : ℕ) → Growing (Leaves (Ok asked)) s t → g ≡ None → SameBooks w v → StaysFitting → FollowsAll Asides now w v → WhereTold (λ places. now ≡ newest_time (entries places)) t → Keeps p s w met f → Keeps q t v met g
+  pub leaves_done : (w v : Work) (asked : Bool) (now : ℕ) → Growing (Leaves (Ok asked)) s t → g ≡ None → SameWork w v → StaysFitting → FollowsAll Asides now w v → WhereTold (λ places. now ≡ newest_time (entries places)) t → Keeps p s w met f → Keeps q t v met g
   leaves_done w v asked now adds stands same law aside told k =
       moves p q s t w v met met f g none le same goes
       (quiet s t w v met (Leaves (Ok asked)) goes same adds now law told (λ old added h. (h.nothing, sent_not_got added h.so.2, aside)) g stands) k

@@ -12,16 +12,20 @@ use Rattle.tunnel_link.specs.Goes.{GoesOn}
 use Rattle.hub_work.specs.declared.work.Work.{Work}
 use Rattle.hub_work.specs.Books.{AreJobsOf, IsWritten, IsLive, TellsInTurn, jobs_held}
 use Rattle.hub_work.specs.Downloaders.{Task, AreJobsWith}
-use Rattle.hub_work.specs.Works.{WritesRightly, Lives, TellsRightly, Counts, KeepsBooks, SameBooks, tasks}
+use Rattle.hub_work.specs.Works.{SameBooks, WritesRightly, Lives, TellsRightly, Counts, KeepsBooks, tasks}
 use Rattle.hub_core.specs.Discipline.{TellsAndAsks}
 use Rattle.hub_core.specs.Keeps.{KeepsTold, Keeps}
 use Rattle.hub_core.specs.Seen.{Seen}
+use Rattle.hub_core.specs.Taking.{SameWork}
 use Rattle.hub_core.proofs.Counting.{told_before}
 
 -- ---- the books
 
+pub of_books : (w v : Work) → SameBooks w v → SameWork w v
+of_books w v s = record { reservation = s.reservation; turns = s.turns; told = s.told; held = s.held; journal = s.journal; unfinished = s.unfinished; tasks_are = s.tasks_are }
+
 -- fields that are the same
-module _ (w v : Work) (s : SameBooks w v) where
+module _ (w v : Work) (s : SameWork w v) where
   same_written : (at : ℕ) → WritesRightly at w → WritesRightly at v
   same_written at h =
       subst (λ (r : Reservation). IsWritten r.devices v.telegrams.turns at v.journal.entries) (sym s.reservation)
@@ -75,7 +79,7 @@ tells_same jobs w v n places turns logs h =
     subst (λ (ts : List GroupTurn). TellsAndAsks jobs ts v.journal.entries n places) (sym turns)
     (subst (λ (l : List LogEntry). TellsAndAsks jobs w.telegrams.turns l n places) (sym logs) h)
 
-pub same_log : (w v : Work) → SameBooks w v → v.journal.entries ≡ w.journal.entries
+pub same_log : (w v : Work) → SameWork w v → v.journal.entries ≡ w.journal.entries
 same_log w v s = ap (λ j. j.entries) s.journal
 
 -- ---- all of it, by what is told
@@ -100,7 +104,7 @@ moved p q s t w v met after f g none jobs_stay devices_stay books goes tolds k =
     by_old jobs of new told was =
         tolds jobs was.0 new (k.jobs_are jobs of) was.1 told (subst (λ (h : Option HubFault). KeepsTold jobs w met h (place_of s) was.0) none (k.told jobs of was.0 was.1))
 
-pub moves : (p q : ℕ) (s t : Story) (w v : Work) (met after : Bool) (f g : Option HubFault) → f ≡ None → p ≤ q → SameBooks w v → GoesOn s t → Tolds s t w v met after g → Keeps p s w met f → Keeps q t v after g
+pub moves : (p q : ℕ) (s t : Story) (w v : Work) (met after : Bool) (f g : Option HubFault) → f ≡ None → p ≤ q → SameWork w v → GoesOn s t → Tolds s t w v met after g → Keeps p s w met f → Keeps q t v after g
 moves p q s t w v met after f g none le same goes tolds k =
     moved p q s t w v met after f g none same.tasks_are (ap (λ r. r.devices) same.reservation) (books_same w v same q (books_later p q w le k.books)) goes tolds k
 

@@ -14,15 +14,15 @@ use Rattle.hub_work.specs.declared.work.Work.{Work}
 use Rattle.hub_work.specs.declared.closing.Closing.{Closing}
 use Rattle.hub_work.specs.Fits.{Fits, FitsJob}
 use Rattle.hub_work.specs.Follows.{IsAside, Does, Unread, AsideFollows, FrameFollows, LossFollows}
-use Rattle.hub_work.specs.Works.{KeepsBooks, SameBooks}
-use Rattle.hub_core.specs.Taking.{place_or, Rise, FollowsAll, AsideOrLost, LosesIn, DeliversIn}
+use Rattle.hub_work.specs.Works.{KeepsBooks}
+use Rattle.hub_core.specs.Taking.{SameWork, place_or, Rise, FollowsAll, AsideOrLost, LosesIn, DeliversIn}
 use Rattle.hub_core.proofs.Following.{around}
 use Rattle.hub_core.proofs.Keeps.{books_same, books_later}
 use Rattle.hub_core.proofs.Quiet.{Asides, FitsThen, aside_fits, asides_fit, nothing_aside}
 
 -- ---- one moment that the work is told of
 
-module _ (w v : Work) (now : ℕ) (s : SameBooks w v) (law : AsideFollows) (It : Moment → Type 0) where
+module _ (w v : Work) (now : ℕ) (s : SameWork w v) (law : AsideFollows) (It : Moment → Type 0) where
   pub one_follows : ((jobs : List Job) (before at : ℕ) (m : Moment) (l : List Moment) → KeepsBooks at w → Fits jobs w before at l → at < m.at → It m → Fits jobs v m.now m.at (m ∷ l)) → FollowsAll (One It) now w v
   one_follows it jobs at added l books fits rise one then =
       let all : FitsThen jobs v (time (added ++ l)) (place_or at added) (added ++ l) = around (FitsThen jobs w) (FitsThen jobs v) It (aside_fits jobs w law) (aside_fits jobs v law) step at added l rise one (books, fits) in
@@ -31,16 +31,16 @@ module _ (w v : Work) (now : ℕ) (s : SameBooks w v) (law : AsideFollows) (It :
       step : (before at : ℕ) (m : Moment) (l : List Moment) → FitsThen jobs w before at l → at < m.at → It m → FitsThen jobs v m.now m.at (m ∷ l)
       step before at m l h lt is = (books_same w v s m.at (books_later at m.at w (omega (arith, lt)) h.0), it jobs before at m l h.0 h.1 lt is)
 
-pub loss_follows : (w v : Work) (now : ℕ) → SameBooks w v → AsideFollows → LossFollows w v now → FollowsAll (One (LosesAt now)) now w v
+pub loss_follows : (w v : Work) (now : ℕ) → SameWork w v → AsideFollows → LossFollows w v now → FollowsAll (One (LosesAt now)) now w v
 loss_follows w v now s law f = one_follows w v now s law (LosesAt now) (λ jobs before at m l books fits lt is.
     subst (λ (t : ℕ). Fits jobs v t m.at (m ∷ l)) (sym is.then) (f jobs before at m.at m l books fits (record { time = is.then; after = lt; within = omega arith }) is.loses))
 
-pub frame_follows : (w v : Work) (frame : Ldata) (now : ℕ) → SameBooks w v → AsideFollows → FrameFollows w v frame now → FollowsAll (One (TakesAt frame now)) now w v
+pub frame_follows : (w v : Work) (frame : Ldata) (now : ℕ) → SameWork w v → AsideFollows → FrameFollows w v frame now → FollowsAll (One (TakesAt frame now)) now w v
 frame_follows w v frame now s law f = one_follows w v now s law (TakesAt frame now) (λ jobs before at m l books fits lt is.
     subst (λ (t : ℕ). Fits jobs v t m.at (m ∷ l)) (sym is.then) (f jobs before at m.at is.octets m l books fits (record { time = is.then; after = lt; within = omega arith }) is.takes is.reads))
 
 -- the closing is nothing to what fits
-closing_fits : (jobs : List Job) (v : Work) (x : Option Closing) (now at : ℕ) (l : List Moment) → Fits jobs v now at l → Fits jobs (record v { closing = x }) now at l
+pub closing_fits : (jobs : List Job) (v : Work) (x : Option Closing) (now at : ℕ) (l : List Moment) → Fits jobs v now at l → Fits jobs (record v { closing = x }) now at l
 closing_fits jobs v x now at l f = record {
   devices = f.devices;
   tasks = f.tasks;
@@ -87,7 +87,7 @@ module _ (old between new : Work) (loss : Loss) (now : ℕ) (lost : LosesIn loss
       lost jobs at added l (subst (KeepsBooks at) (sym e) books) (subst (λ (w : Work). Fits jobs w (time l) at l) (sym e) fits) rise (is added so) then
 
   -- a frame was told, and then no loss
-  from_frame : (frame : Ldata) → SameBooks old between → FollowsAll (One (TakesAt frame now)) now old between → FollowsAll (λ l. One (TakesAt frame now) l × (loss ≡ Stays)) now old new
+  from_frame : (frame : Ldata) → SameWork old between → FollowsAll (One (TakesAt frame now)) now old between → FollowsAll (λ l. One (TakesAt frame now) l × (loss ≡ Stays)) now old new
   from_frame frame s first jobs at added l books fits rise so then =
       let fitted : Fits jobs between now (place_or at added) (added ++ l) = first jobs at added l books fits rise so.0 then in
       let there : Fits jobs between (time (added ++ l)) (place_or at added) (added ++ l) = subst (λ (t : ℕ). Fits jobs between t (place_or at added) (added ++ l)) (sym then) fitted in
@@ -95,7 +95,7 @@ module _ (old between new : Work) (loss : Loss) (now : ℕ) (lost : LosesIn loss
       let none : AsideOrLost loss now [] = subst (λ (x : Loss). AsideOrLost x now []) (sym so.1) tt in
       lost jobs (place_or at added) [] (added ++ l) kept there tt none then
 
-  pub taken_follows : (what : What) → SameBooks old between → DeliversIn what now old between → FollowsAll (DoesSo what loss now) now old new
+  pub taken_follows : (what : What) → SameWork old between → DeliversIn what now old between → FollowsAll (DoesSo what loss now) now old new
   taken_follows came.Quiet s d = from_same (OrLoses loss now) (or_lost loss now) d
   taken_follows came.Dropped s d = from_same (λ l. OrLoses loss now l ⊎ (One TakesUnread l × (loss ≡ Stays))) (unread_or_lost loss now) d
   taken_follows came.Tunnel s d = from_same (OrLoses loss now) (or_lost loss now) d

@@ -24,9 +24,9 @@ use Rattle.tunnel_link.specs.Rights.{WhereTold, at_most_64_bits}
 use Rattle.hub_work.specs.declared.work.Work.{Work}
 use Rattle.hub_work.specs.Books.{AreJobsOf}
 use Rattle.hub_work.specs.Follows.{StaysFitting}
-use Rattle.hub_work.specs.Works.{KeepsBooks, SameBooks}
+use Rattle.hub_work.specs.Works.{KeepsBooks}
 use Rattle.hub_core.specs.Keeps.{HasOwnCause, Runs, KeepsTold, Keeps}
-use Rattle.hub_core.specs.Taking.{FollowsAll, TakesIn, MeetsOne, MeetsSo, NotFlooded, EndsSo}
+use Rattle.hub_core.specs.Taking.{SameWork, FollowsAll, TakesIn, MeetsOne, MeetsSo, NotFlooded, EndsSo}
 use Rattle.hub_core.proofs.Calls.{added_to, not_none, same_some as same_why}
 use Rattle.hub_core.proofs.Counting.{places_ascend, place_grows}
 use Rattle.hub_core.proofs.Keeps.{books_same, books_later, same_log, Tolds, moves}
@@ -150,7 +150,7 @@ at_most n k lt = (λ h. omega (arith, h, lt), λ h. omega (arith, h, lt))
 
 -- ---- all of it, by why the run ends
 
-module _ (p q : ℕ) (s t : Story) (w v : Work) (met after : Bool) (f g : Option HubFault) (none : f ≡ None) (le : p ≤ q) (goes : GoesOn s t) (same : SameBooks w v) (came : Came) (now taken : ℕ)
+module _ (p q : ℕ) (s t : Story) (w v : Work) (met after : Bool) (f g : Option HubFault) (none : f ≡ None) (le : p ≤ q) (goes : GoesOn s t) (same : SameWork w v) (came : Came) (now taken : ℕ)
     (adds : Growing (PollAdds (Ok came)) s t) (law : StaysFitting) (takes : TakesIn came now w v) (told : WhereTold (λ places. now ≡ newest_time (entries places)) t)
     (counted : WhereTold (λ places. taken ≡ at_most_64_bits (datagrams_taken (entries places))) t) where
   module _ (jobs : List Job) (old new : List Placed) (are : AreJobsOf w.reservation.devices jobs) (es : places_in s ≡ Some old) (et : places_in t ≡ Some new) (k : KeepsTold jobs w met None (place_of s) old) where

@@ -23,7 +23,7 @@ use Rattle.hub_work.specs.declared.work.turn.Turn.TheVariants as turn
 use Rattle.hub_work.specs.Fits.{Fits, in_flight}
 use Rattle.hub_work.specs.Follows.{IsNew, PutFollows, TurnFollows, TellsTruly, TelegramIsRight, TelegramFollows}
 use Rattle.hub_work.specs.Telegrams.{IsNextRequest}
-use Rattle.hub_work.specs.Works.{KeepsBooks, SameBooks, tasks}
+use Rattle.hub_work.specs.Works.{KeepsBooks, tasks}
 use Rattle.hub_core.specs.Discipline.{Asks, TellsAndAsks}
 use Rattle.hub_core.specs.Keeps.{HasOwnCause, KeepsTold, Keeps}
 use Rattle.hub_core.proofs.Calls.{added_to, not_none, same_refl, same_some, own_of_tunnel}
@@ -33,6 +33,7 @@ use Rattle.hub_core.proofs.Keeps.{books_later, tells_same, same_log, Tolds, move
 use Rattle.hub_core.proofs.Quiet.{quiet_told, quiet_runs}
 use Rattle.hub_core.proofs.Requests.{Each, Single, single, request_right}
 use Rattle.hub_core.proofs.Taking.{NoneGot}
+use Rattle.hub_core.specs.Taking.{SameWork}
 use Rattle.hub_core.proofs.Telling.{goes_on}
 
 -- ---- what puts a request isn't got
@@ -189,7 +190,7 @@ turn_did w v now at jobs places turned then follows fits =
     (subst (λ (n : ℕ). Fits jobs v n at (moments places)) when both.0, both.1)
 
 pub telegram_so : (s : Story) (w v : Work) (cemi : List ℕ) (at : ℕ) (jobs : List Job) (old : List Placed) → places_in s ≡ Some old → IsPlace at s → HasPlace (channel (entries old)) → in_flight (moments old) ≡ false → KeepsBooks at w → w.telegrams.stage ≡ stage.Unput
-    → TelegramIsRight w cemi → TelegramFollows w v → IsNextRequest w.telegrams cemi → SameBooks w v → Fits jobs w (time (moments old)) (place_of s) (moments old) → PutsSo s w v cemi at jobs old
+    → TelegramIsRight w cemi → TelegramFollows w v → IsNextRequest w.telegrams cemi → SameWork w v → Fits jobs w (time (moments old)) (place_of s) (moments old) → PutsSo s w v cemi at jobs old
 telegram_so s w v cemi at jobs old es is place free books unput right follows next same fits =
     let there : at ≡ place_of s = place_counts at s old es is in
     let f : Fits jobs w (time (moments old)) at (moments old) = subst (λ (n : ℕ). Fits jobs w (time (moments old)) n (moments old)) (sym there) fits in

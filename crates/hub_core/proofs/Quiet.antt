@@ -16,11 +16,11 @@ use Rattle.hub_work.specs.declared.work.Work.{Work}
 use Rattle.hub_work.specs.Books.{AreJobsOf}
 use Rattle.hub_work.specs.Fits.{Fits}
 use Rattle.hub_work.specs.Follows.{IsAside, Does, AsideFollows, StaysFitting}
-use Rattle.hub_work.specs.Works.{KeepsBooks, SameBooks}
+use Rattle.hub_work.specs.Works.{KeepsBooks}
 use Rattle.hub_work.proofs.Growing.{AreAbove}
 use Rattle.hub_core.specs.Discipline.{TellsAndAsks}
 use Rattle.hub_core.specs.Keeps.{HasOwnCause, Runs, KeepsTold}
-use Rattle.hub_core.specs.Taking.{place_or, Rise, FollowsAll}
+use Rattle.hub_core.specs.Taking.{SameWork, place_or, Rise, FollowsAll}
 use Rattle.hub_core.proofs.Ascending.{Ascend}
 use Rattle.hub_core.proofs.Counting.{some_is, places_ascend, place_grows}
 use Rattle.hub_core.proofs.Following.{rising, newest, every, asides}
@@ -58,7 +58,7 @@ module _ (n m : ℕ) (old added new : List Placed) (a : Added n m old added new)
     by_added [] above upto = (omega arith, le)
     by_added (p ∷ xs) above upto = ((let f = above.0 in omega (arith, f)), upto.0)
 
-  pub fits_after : (AreSo : List Moment → Type 0) (now : ℕ) (w v : Work) (jobs : List Job) → StaysFitting → FollowsAll AreSo now w v → SameBooks w v → Ascend new → KeepsBooks n w → Fits jobs w (time (moments old)) n (moments old)
+  pub fits_after : (AreSo : List Moment → Type 0) (now : ℕ) (w v : Work) (jobs : List Job) → StaysFitting → FollowsAll AreSo now w v → SameWork w v → Ascend new → KeepsBooks n w → Fits jobs w (time (moments old)) n (moments old)
       → AreSo (moments_on old added) → now ≡ newest_time (entries new) → Fits jobs v (time (moments new)) m (moments new)
   fits_after AreSo now w v jobs law f s up books fits so then =
       let rise : Rise n (moments_on old added) = rising n added old a.above (subst Ascend a.grow up) in

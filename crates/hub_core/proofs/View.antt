@@ -4,7 +4,8 @@ use Rattle.line_model.specs.declared.fault.HubFault.{HubFault}
 use Rattle.download_core.specs.Keeps.{Known}
 use Rattle.hub_work.specs.declared.work.Work.{Work}
 use Rattle.hub_work.specs.Downloaders.{states, task_of_state, task_of_hub_job}
-use Rattle.hub_work.specs.Works.{SameRun as SameWork, SameBooks, tasks}
+use Rattle.hub_work.specs.Works.{SameRun as SameWorkRun, tasks}
+use Rattle.hub_core.specs.Taking.{SameWork}
 use Rattle.hub_core.specs.Seen.{Seen, SameRun, hub_job_of, tasks_seen}
 
 seen_of : (ds : List Known) → tasks_seen (map hub_job_of ds) ≡ map task_of_state (states ds)
@@ -22,8 +23,8 @@ tasks_stay w v e = seen_tasks v ∙ (e ∙ sym (seen_tasks w))
 abbrev pub seen : {L : Type 0} → L → Work → Option HubFault → ℕ → Seen L
 seen link w fault missed = record { link = link; jobs = map hub_job_of w.downloaders; devices = w.reservation.devices; turns = w.telegrams.turns; log = w.journal.entries; fault = fault; missed = missed }
 
-pub same_run : {L : Type 0} (l m : L) (w v : Work) (f g : Option HubFault) (x y : ℕ) → SameBooks w v → SameRun (seen l w f x) (seen m v g y)
+pub same_run : {L : Type 0} (l m : L) (w v : Work) (f g : Option HubFault) (x y : ℕ) → SameWork w v → SameRun (seen l w f x) (seen m v g y)
 same_run l m w v f g x y s = record { tasks = tasks_stay w v s.tasks_are; devices = ap (λ r. r.devices) s.reservation; turns = s.turns }
 
-pub work_run : {L : Type 0} (l m : L) (w v : Work) (f g : Option HubFault) (x y : ℕ) → SameWork w v → SameRun (seen l w f x) (seen m v g y)
+pub work_run : {L : Type 0} (l m : L) (w v : Work) (f g : Option HubFault) (x y : ℕ) → SameWorkRun w v → SameRun (seen l w f x) (seen m v g y)
 work_run l m w v f g x y s = record { tasks = tasks_stay w v s.tasks_are; devices = s.devices; turns = s.turns }

@@ -17,10 +17,21 @@ use Rattle.tunnel_link.specs.declared.came.What.{What}
 use Rattle.tunnel_link.specs.declared.came.What.TheVariants as came
 use Rattle.tunnel_link.specs.Adds.{One, LosesAt, TakesAt, DoesSo}
 use Rattle.hub_work.specs.declared.work.Work.{Work}
-use Rattle.hub_work.specs.Books.{AreJobsOf}
+use Rattle.hub_work.specs.Books.{AreJobsOf, jobs_held}
 use Rattle.hub_work.specs.Fits.{Fits}
 use Rattle.hub_work.specs.Follows.{IsAside}
-use Rattle.hub_work.specs.Works.{KeepsBooks}
+use Rattle.hub_work.specs.Works.{KeepsBooks, tasks}
+
+-- ---- the work but for its closing: its jobs, its log and its books stay as they are
+
+pub record SameWork (old new : Work) : Type 0 where
+  pub reservation : new.reservation ≡ old.reservation
+  pub turns : new.telegrams.turns ≡ old.telegrams.turns
+  pub told : new.telegrams.told ≡ old.telegrams.told
+  pub held : jobs_held new.crew ≡ jobs_held old.crew
+  pub journal : new.journal ≡ old.journal
+  pub unfinished : new.unfinished ≡ old.unfinished
+  pub tasks_are : tasks new ≡ tasks old
 
 -- ---- the moments that a poll added, the newest first
 

@@ -147,10 +147,15 @@ pub record TakesAt (frame : Ldata) (now : ℕ) (m : Moment) : Type 0 where
   pub reads : ldata_in octets ≡ Some frame
   pub then : m.now ≡ now
 
-abbrev pub OrLoses : Loss → List Moment → Type 0
-OrLoses Stays l = Every IsNothing l
-OrLoses Ended l = One (λ (m : Moment). m.what ≡ Loses) l
-OrLoses Told l = One (λ (m : Moment). m.what ≡ Loses) l
+-- the channel was lost at this time
+pub record LosesAt (now : ℕ) (m : Moment) : Type 0 where
+  pub loses : m.what ≡ Loses
+  pub then : m.now ≡ now
+
+abbrev pub OrLoses : Loss → ℕ → List Moment → Type 0
+OrLoses Stays now l = Every IsNothing l
+OrLoses Ended now l = One (LosesAt now) l
+OrLoses Told now l = One (LosesAt now) l
 
 -- a request was taken whose cEMI octets don't read
 pub record TakesUnread (m : Moment) : Type 0 where
@@ -159,10 +164,10 @@ pub record TakesUnread (m : Moment) : Type 0 where
   pub unread : ldata_in octets ≡ None
 
 abbrev pub DoesSo : What → Loss → ℕ → List Moment → Type 0
-DoesSo came.Quiet loss now l = OrLoses loss l
-DoesSo came.Dropped loss now l = OrLoses loss l ⊎ (One TakesUnread l × (loss ≡ Stays))
-DoesSo came.Tunnel loss now l = OrLoses loss l
-DoesSo (came.Up tunnel) loss now l = OrLoses loss l × (loss ≡ Stays)
+DoesSo came.Quiet loss now l = OrLoses loss now l
+DoesSo came.Dropped loss now l = OrLoses loss now l ⊎ (One TakesUnread l × (loss ≡ Stays))
+DoesSo came.Tunnel loss now l = OrLoses loss now l
+DoesSo (came.Up tunnel) loss now l = OrLoses loss now l × (loss ≡ Stays)
 DoesSo (came.Frame frame) loss now l = One (TakesAt frame now) l × (loss ≡ Stays)
 
 abbrev pub is_told : Loss → Bool

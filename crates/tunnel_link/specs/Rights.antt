@@ -100,3 +100,11 @@ WhileFits P k story = k.fault ≡ None → WhereTold (λ places. P (entries plac
 -- a request can be put
 abbrev pub has_place : Known → ℕ → Bool
 has_place k now = is_none (put_refused k.channel) && k.flight.confirmed && not (is_over k.channel now)
+
+-- a fault that the tunnel itself ends with
+abbrev pub IsOfTunnel : HubFault → Type 0
+IsOfTunnel (NoMemory want) = Unit {0}
+IsOfTunnel LinkFailed = Unit {0}
+IsOfTunnel (GatewayRefused three) = Unit {0}
+IsOfTunnel Flooded = ⊥
+IsOfTunnel (WrongLine device tunnel) = ⊥

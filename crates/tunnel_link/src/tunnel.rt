@@ -8,7 +8,7 @@ ghost use Rattle.line_model.specs.ClientEnd.{IsCemi};
 ghost use Rattle.line_model.specs.LinkStory.{IsNewLink, IsTime, IsPlace, newest_time};
 ghost use Rattle.line_model.specs.Record.{entries};
 ghost use Rattle.tunnel_link.specs.Goes.{GoesOn, Keeps, AfterFault, new_known};
-ghost use Rattle.tunnel_link.specs.Rights.{IsntRefusal, KeepsRecord, WhereTold, WhileFits};
+ghost use Rattle.tunnel_link.specs.Rights.{IsOfTunnel, IsntRefusal, KeepsRecord, WhereTold, WhileFits};
 ghost use Rattle.tunnel_link.specs.Adds.{Growing, place_of, Seeks, PutsOne, Leaves, Acts, PollAdds};
 
 use crate::acted::Acted;
@@ -139,6 +139,7 @@ impl<L: Link> Tunnel<L> {
         ensures fault { IfErr result (λ fault. self.new.known.fault ≡ Some fault) }
         ensures stands { OnOk result (self.new.known.fault ≡ None) }
         ensures ended { AfterFault self.old result self.new }
+        ensures by_tunnel { self.old.known.fault ≡ None → IfErr result IsOfTunnel }
         ensures time { L.clock self.old.link ≤ L.clock self.new.link }
         ensures events { L.place self.old.link ≤ L.place self.new.link }
     {
@@ -158,6 +159,7 @@ impl<L: Link> Tunnel<L> {
         ensures fault { IfErr result (λ fault. self.new.known.fault ≡ Some fault) }
         ensures stands { OnOk result (self.new.known.fault ≡ None) }
         ensures ended { AfterFault self.old result self.new }
+        ensures by_tunnel { self.old.known.fault ≡ None → IfErr result IsOfTunnel }
         ensures time { L.clock self.old.link ≤ L.clock self.new.link }
         ensures events { L.place self.old.link ≤ L.place self.new.link }
     {
@@ -176,6 +178,7 @@ impl<L: Link> Tunnel<L> {
         ensures fault { IfErr result (λ fault. self.new.known.fault ≡ Some fault) }
         ensures stands { OnOk result (self.new.known.fault ≡ None) }
         ensures ended { AfterFault self.old result self.new }
+        ensures by_tunnel { self.old.known.fault ≡ None → IfErr result IsOfTunnel }
         ensures time { L.clock self.old.link ≤ L.clock self.new.link }
         ensures events { L.place self.old.link ≤ L.place self.new.link }
     {
@@ -197,6 +200,7 @@ impl<L: Link> Tunnel<L> {
         ensures fault { IfErr result (λ fault. self.new.known.fault ≡ Some fault) }
         ensures stands { OnOk result (self.new.known.fault ≡ None) }
         ensures ended { AfterFault self.old result self.new }
+        ensures by_tunnel { self.old.known.fault ≡ None → IfErr result IsOfTunnel }
         ensures time { L.clock self.old.link ≤ L.clock self.new.link }
         ensures events { L.place self.old.link ≤ L.place self.new.link }
     {
@@ -252,6 +256,7 @@ impl<L: Link> Tunnel<L> {
         ensures fault { IfErr result (λ fault. self.new.known.fault ≡ Some fault) }
         ensures stands { OnOk result (self.new.known.fault ≡ None) }
         ensures ended { AfterFault self.old result self.new }
+        ensures by_tunnel { self.old.known.fault ≡ None → IfErr result IsOfTunnel }
         ensures time { L.clock self.old.link ≤ L.clock self.new.link }
         ensures events { L.place self.old.link ≤ L.place self.new.link }
     {

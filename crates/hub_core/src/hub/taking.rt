@@ -1,7 +1,6 @@
 //! What a poll brought, taken in.
 
-ghost use Rattle.hub_work.specs.Works.{SameBooks};
-ghost use Rattle.hub_core.specs.Taking.{DeliversIn, EndsSo, HeardIn, LosesIn, MeetsSo, TakesIn};
+ghost use Rattle.hub_core.specs.Taking.{SameWork, DeliversIn, EndsSo, HeardIn, LosesIn, MeetsSo, TakesIn};
 
 use hub_work::{Closing, Work, moments_go_on};
 use line_model::{HubFault, Indication};
@@ -22,7 +21,7 @@ pub struct Polled {
 
 /// Takes in what a poll brought, and what became of the channel in it, at this time.
 pub fn take_in(work: &mut Work, came: &Came, now: u64) -> Polled
-    ensures books { SameBooks work.old work.new }
+    ensures books { SameWork work.old work.new }
     ensures fits { TakesIn came.now now work.old work.new }
     ensures heard { HeardIn came.now.what result.heard }
 {
@@ -37,7 +36,7 @@ pub fn take_in(work: &mut Work, came: &Came, now: u64) -> Polled
 
 /// Tells the work of a frame that came.
 fn deliver(work: &mut Work, what: &What, now: u64) -> Option<Indication>
-    ensures books { SameBooks work.old work.new }
+    ensures books { SameWork work.old work.new }
     ensures fits { DeliversIn what.now now work.old work.new }
     ensures heard { HeardIn what.now result }
 {
@@ -50,7 +49,7 @@ fn deliver(work: &mut Work, what: &What, now: u64) -> Option<Indication>
 
 /// Tells the work of the loss of its channel, at this time, where it was lost.
 pub fn lose(work: &mut Work, loss: Loss, now: u64)
-    ensures books { SameBooks work.old work.new }
+    ensures books { SameWork work.old work.new }
     ensures fits { LosesIn loss now work.old work.new }
 {
     moments_go_on();

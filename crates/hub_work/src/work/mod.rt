@@ -3,7 +3,7 @@
 mod deliver;
 mod turn;
 
-ghost use Rattle.std.specs.Prelude.{◌≡◌, ◌<◌, length, map, reverse, ◌/◌, ◌==◌, not, IfOk, IfSome};
+ghost use Rattle.std.specs.Prelude.{◌≡◌, ℕ, ◌<◌, length, map, reverse, ◌/◌, ◌==◌, not, IfOk, IfSome};
 ghost use Rattle.hub_work.specs.declared.job.HubJob.{HubJob as Job};
 ghost use Rattle.std.specs.List.{AllByRecursion, find};
 ghost use Rattle.knx_model.specs.declared.address.IndAddr.{IndAddr as Address};
@@ -67,6 +67,7 @@ impl Work {
         ensures begins { IfOk result (λ work. BeginsWith (map (λ (j : Job). j.device) jobs) groups work) }
         ensures tasks { IfOk result (λ work. tasks work ≡ map task_of_hub_job jobs) }
         ensures fits { IfOk result (BeginsRightly jobs) }
+        ensures books { IfOk result (λ work. (at : ℕ) → KeepsBooks at work) }
     {
         let room = jobs.len() + jobs.len() + groups.len();
         let journal = Journal::with_room(alloc, room)?;
