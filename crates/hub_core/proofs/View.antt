@@ -23,8 +23,8 @@ tasks_stay w v e = seen_tasks v ∙ (e ∙ sym (seen_tasks w))
 abbrev pub seen : {L : Type 0} → L → Work → Option HubFault → ℕ → Seen L
 seen link w fault missed = record { link = link; jobs = map hub_job_of w.downloaders; devices = w.reservation.devices; turns = w.telegrams.turns; log = w.journal.entries; fault = fault; missed = missed }
 
-pub same_run : {L : Type 0} (l m : L) (w v : Work) (f g : Option HubFault) (x y : ℕ) → SameWork w v → SameRun (seen l w f x) (seen m v g y)
-same_run l m w v f g x y s = record { tasks = tasks_stay w v s.tasks_are; devices = ap (λ r. r.devices) s.reservation; turns = s.turns }
+pub same_run : {L : Type 0} (l m : L) (w v : Work) (f g : Option HubFault) (x : ℕ) → SameWork w v → SameRun (seen l w f x) (seen m v g x)
+same_run l m w v f g x s = record { tasks = tasks_stay w v s.tasks_are; devices = ap (λ r. r.devices) s.reservation; turns = s.turns; missed = refl }
 
-pub work_run : {L : Type 0} (l m : L) (w v : Work) (f g : Option HubFault) (x y : ℕ) → SameWorkRun w v → SameRun (seen l w f x) (seen m v g y)
-work_run l m w v f g x y s = record { tasks = tasks_stay w v s.tasks_are; devices = s.devices; turns = s.turns }
+pub work_run : {L : Type 0} (l m : L) (w v : Work) (f g : Option HubFault) (x : ℕ) → SameWorkRun w v → SameRun (seen l w f x) (seen m v g x)
+work_run l m w v f g x s = record { tasks = tasks_stay w v s.tasks_are; devices = s.devices; turns = s.turns; missed = refl }

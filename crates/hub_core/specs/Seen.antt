@@ -30,11 +30,12 @@ tasks_seen jobs = map task_of_hub_job jobs
 abbrev pub AreJobs : List HubJob → List Job → Type 0
 AreJobs hub_jobs jobs = AreJobsWith (tasks_seen hub_jobs) jobs
 
--- the same jobs and the same group telegrams
+-- the same jobs and the same group telegrams, and no indication more is counted as missed
 pub record SameRun {L : Type 0} (old new : Seen L) : Type 0 where
   pub tasks : tasks_seen new.jobs ≡ tasks_seen old.jobs
   pub devices : new.devices ≡ old.devices
   pub turns : new.turns ≡ old.turns
+  pub missed : new.missed ≡ old.missed
 
 -- a call of a hub that had this fault before, its answer, the fault after it, and that its link stayed as it was
 abbrev pub StaysEnded : {X : Type 0} → Option HubFault → Result X HubFault → Option HubFault → Type 0 → Type 0

@@ -15,7 +15,7 @@ ghost use Rattle.hub_work.specs.Books.{AreJobsOf};
 ghost use Rattle.hub_work.specs.Requests.{IsTurnInRange};
 ghost use Rattle.hub_work.specs.declared.job.HubJob.{HubJob as JobOfHub};
 ghost use Rattle.hub_core.specs.Promises.{DropsIn, FaultRightIn, IsRightOver, PromptIn, TellsIn};
-ghost use Rattle.hub_core.specs.Seen.{AreJobs, SameRun, tasks_seen};
+ghost use Rattle.hub_core.specs.Seen.{AreJobs, tasks_seen};
 
 use crate::end::HubEnd;
 use device_reservation::one_downloader_per_device;
@@ -99,7 +99,9 @@ impl<L: Link> Hub<L> {
     pub fn missed(&mut self)
         ensures link { self.new.link ≡ self.old.link }
         ensures fault { self.new.fault ≡ self.old.fault }
-        ensures run { SameRun self.old self.new }
+        ensures jobs { self.new.jobs ≡ self.old.jobs }
+        ensures devices { self.new.devices ≡ self.old.devices }
+        ensures turns { self.new.turns ≡ self.old.turns }
         ensures log { self.new.log ≡ self.old.log }
         ensures missed { self.new.missed ≡ min (self.old.missed + 1) (2 ^ 64 - 1) }
     {

@@ -15,4 +15,4 @@ invariant_of-self-2 g c =
     acts_done _ _ _ _ _ _ _ none c.act.ensures.events c.act.ensures.grows _ _ _ _ c.in_ok-acted.ensures.adds c.in_ok-acted.ensures.stands c.lose.ensures.books c.moments_go_on.ensures.later c.lose.ensures.fits c.now-now.ensures.newest c.self.invariant
 
 pub returns-clause-run : goal.returns-clause-run
-returns-clause-run g c = rw (← c.self.view_is) (same_run _ _ c.self.inside.work c.lose.new.work _ _ _ _ c.lose.ensures.books)
+returns-clause-run g c = rw (← c.self.view_is) (same_run _ _ c.self.inside.work c.lose.new.work _ _ _ c.lose.ensures.books)

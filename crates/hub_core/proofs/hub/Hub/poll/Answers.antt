@@ -29,7 +29,7 @@ invariant_of-self-in-None g c =
     (subst (λ (o : Option HubFault). EndsSo c.take_in-polled.new.work c.self.inside.met c.ending.new.met c.in_ok-came.came.what c.taken.result o) c.in-None.is c.ending.ensures) c.self.invariant
 
 pub returns-in-Some-clause-run : goal.returns-in-Some-clause-run
-returns-in-Some-clause-run g c = rw (← c.self.view_is) (same_run _ _ c.self.inside.work c.take_in-polled.new.work _ _ _ _ c.take_in-polled.ensures.books)
+returns-in-Some-clause-run g c = rw (← c.self.view_is) (same_run _ _ c.self.inside.work c.take_in-polled.new.work _ _ _ c.take_in-polled.ensures.books)
 
 pub returns-in-None-clause-run : goal.returns-in-None-clause-run
-returns-in-None-clause-run g c = rw (← c.self.view_is) (same_run _ _ c.self.inside.work c.take_in-polled.new.work _ _ _ _ c.take_in-polled.ensures.books)
+returns-in-None-clause-run g c = rw (← c.self.view_is) (same_run _ _ c.self.inside.work c.take_in-polled.new.work _ _ _ c.take_in-polled.ensures.books)

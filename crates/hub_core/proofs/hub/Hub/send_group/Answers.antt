@@ -48,13 +48,13 @@ invariant_of-self-in-Unput g c =
     _ c.in_ok-put-in-Unput.ensures.adds c.in_ok-put-in-Unput.ensures.stands c.self.invariant
 
 pub returns-in_err-put-in-Unput-clause-run : goal.returns-in_err-put-in-Unput-clause-run
-returns-in_err-put-in-Unput-clause-run g c = rw (← c.self.view_is) (same_run _ _ c.self.inside.work c.telegram_put.new.self _ _ _ _ (of_books c.self.inside.work c.telegram_put.new.self c.telegram_put.ensures.books))
+returns-in_err-put-in-Unput-clause-run g c = rw (← c.self.view_is) (same_run _ _ c.self.inside.work c.telegram_put.new.self _ _ _ (of_books c.self.inside.work c.telegram_put.new.self c.telegram_put.ensures.books))
 
 pub returns-in-Confirmed-clause-run : goal.returns-in-Confirmed-clause-run
-returns-in-Confirmed-clause-run g c = rw (← c.self.view_is) (work_run _ _ c.self.inside.work c.tell_telegram.new.self _ _ _ _ c.tell_telegram.ensures.run)
+returns-in-Confirmed-clause-run g c = rw (← c.self.view_is) (work_run _ _ c.self.inside.work c.tell_telegram.new.self _ _ _ c.tell_telegram.ensures.run)
 
 pub returns-in-Lost-clause-run : goal.returns-in-Lost-clause-run
-returns-in-Lost-clause-run g c = rw (← c.self.view_is) (work_run _ _ c.self.inside.work c.tell_telegram-in-Lost.new.self _ _ _ _ c.tell_telegram-in-Lost.ensures.run)
+returns-in-Lost-clause-run g c = rw (← c.self.view_is) (work_run _ _ c.self.inside.work c.tell_telegram-in-Lost.new.self _ _ _ c.tell_telegram-in-Lost.ensures.run)
 
 pub returns-in_ok-put-in-Unput-clause-run : goal.returns-in_ok-put-in-Unput-clause-run
-returns-in_ok-put-in-Unput-clause-run g c = rw (← c.self.view_is) (same_run _ _ c.self.inside.work c.telegram_put.new.self _ _ _ _ (of_books c.self.inside.work c.telegram_put.new.self c.telegram_put.ensures.books))
+returns-in_ok-put-in-Unput-clause-run g c = rw (← c.self.view_is) (same_run _ _ c.self.inside.work c.telegram_put.new.self _ _ _ (of_books c.self.inside.work c.telegram_put.new.self c.telegram_put.ensures.books))

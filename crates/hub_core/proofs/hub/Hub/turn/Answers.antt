@@ -32,10 +32,10 @@ invariant_of-self-in-Puts g c =
     _ c.in_ok-put-in-Puts.ensures.adds c.in_ok-put-in-Puts.ensures.stands c.self.invariant
 
 pub returns-in_err-put-in-Puts-clause-run : goal.returns-in_err-put-in-Puts-clause-run
-returns-in_err-put-in-Puts-clause-run g c = rw (← c.self.view_is) (work_run _ _ c.self.inside.work c.turn.new.self _ _ _ _ c.turn.ensures.run)
+returns-in_err-put-in-Puts-clause-run g c = rw (← c.self.view_is) (work_run _ _ c.self.inside.work c.turn.new.self _ _ _ c.turn.ensures.run)
 
 pub returns-in-Did-clause-run : goal.returns-in-Did-clause-run
-returns-in-Did-clause-run g c = rw (← c.self.view_is) (work_run _ _ c.self.inside.work c.turn.new.self _ _ _ _ c.turn.ensures.run)
+returns-in-Did-clause-run g c = rw (← c.self.view_is) (work_run _ _ c.self.inside.work c.turn.new.self _ _ _ c.turn.ensures.run)
 
 pub returns-in_ok-put-in-Puts-clause-run : goal.returns-in_ok-put-in-Puts-clause-run
-returns-in_ok-put-in-Puts-clause-run g c = rw (← c.self.view_is) (work_run _ _ c.self.inside.work c.turn.new.self _ _ _ _ c.turn.ensures.run)
+returns-in_ok-put-in-Puts-clause-run g c = rw (← c.self.view_is) (work_run _ _ c.self.inside.work c.turn.new.self _ _ _ c.turn.ensures.run)
