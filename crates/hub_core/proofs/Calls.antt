@@ -15,7 +15,6 @@ use Rattle.tunnel_link.specs.Goes.{GoesOn}
 use Rattle.tunnel_link.specs.Rights.{IsOfTunnel, WhereTold}
 use Rattle.hub_work.specs.declared.work.Work.{Work}
 use Rattle.hub_work.specs.Follows.{AsideFollows, StaysFitting}
-
 use Rattle.hub_core.specs.Keeps.{HasOwnCause, Keeps}
 use Rattle.hub_core.specs.Taking.{SameWork, FollowsAll, LosesIn}
 use Rattle.hub_core.proofs.Counting.{some_is, place_grows, places_ascend}
@@ -63,8 +62,8 @@ module _ (s t : Story) (w v : Work) (met : Bool) (P : List Placed → List Place
       let a : Added (place_of s) (place_of t) old added new = added_to old new es et in
       quiet_told (place_of s) (place_of t) old added new a le jobs w v met met g same.turns (same_log w v same) (books_same w v same (place_of s) k.books) (nothings_put (moments_on old added) is.0)
       (λ no. quiet_runs (place_of s) (place_of t) old added new a le jobs w v met (same_log w v same) is.1
-          (fits_after (place_of s) (place_of t) old added new a le Asides now w v jobs law is.2 same (places_ascend t new et) k.books (k.runs refl).fits (nothing_aside (moments_on old added) is.0) (told new et))
-          (k.runs refl))
+      (fits_after (place_of s) (place_of t) old added new a le Asides now w v jobs law is.2 same (places_ascend t new et) k.books (k.runs refl).fits (nothing_aside (moments_on old added) is.0) (told new et))
+      (k.runs refl))
       (λ why e. absurd (not_none g why e none)) k
 
 -- ---- each of them, all that is kept

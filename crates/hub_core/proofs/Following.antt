@@ -52,7 +52,7 @@ module _ (P Q : ℕ → ℕ → List Moment → Type 0) (It : Moment → Type 0)
       let first : P (time (one.older ++ l)) (place_or since one.older) (one.older ++ l) = asides P aside_p since one.older l parts.2 (nothings one.older one.older_nothing) h in
       let second : Q one.m.now one.m.at (one.m ∷ (one.older ++ l)) = step (time (one.older ++ l)) (place_or since one.older) one.m (one.older ++ l) first parts.1 one.is in
       let third : Q (time (one.newer ++ (one.m ∷ (one.older ++ l)))) (place_or one.m.at one.newer) (one.newer ++ (one.m ∷ (one.older ++ l))) =
-          asides Q aside_q one.m.at one.newer (one.m ∷ (one.older ++ l)) parts.0 (nothings one.newer one.newer_nothing) second in
+      asides Q aside_q one.m.at one.newer (one.m ∷ (one.older ++ l)) parts.0 (nothings one.newer one.newer_nothing) second in
       let joined : one.newer ++ (one.m ∷ (one.older ++ l)) ≡ added ++ l = sym (ap (λ z. z ++ l) one.all ∙ append_assoc one.newer (one.m ∷ one.older) l) in
       subst (λ (n : ℕ). Q (time (added ++ l)) n (added ++ l)) (sym (ap (place_or since) one.all ∙ place_there one.newer))
       (subst (λ (z : List Moment). Q (time z) (place_or one.m.at one.newer) z) joined third)

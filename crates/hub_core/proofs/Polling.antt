@@ -177,13 +177,13 @@ module _ (p q : ℕ) (s t : Story) (w v : Work) (met after : Bool) (f g : Option
 
     goes_on_told : g ≡ None → MeetsSo v met after came.what None → NotFlooded v taken → KeepsTold jobs v after g (place_of t) new
     goes_on_told stands meets few = tells
-      (λ no. record {
-        fits = fits_after (place_of s) (place_of t) old (adds old es).added new a (place_grows s t goes) (DoesSo came.what came.loss now) now w v jobs law takes same (places_ascend t new et) k.books (k.runs refl).fits does (told new et);
-        met_one = (right None meets).met_one;
-        no_flood = λ u. (at_most (datagrams_taken (entries new)) flood (omega arith)).0 (subst (λ (n : ℕ). n < flood) (counted new et) (few jobs (place_of t) kept here u));
-        right_line = (right None meets).right_line refl;
-      })
-      (λ why e. absurd (not_none g why e stands))
+        (λ no. record {
+          fits = fits_after (place_of s) (place_of t) old (adds old es).added new a (place_grows s t goes) (DoesSo came.what came.loss now) now w v jobs law takes same (places_ascend t new et) k.books (k.runs refl).fits does (told new et);
+          met_one = (right None meets).met_one;
+          no_flood = λ u. (at_most (datagrams_taken (entries new)) flood (omega arith)).0 (subst (λ (n : ℕ). n < flood) (counted new et) (few jobs (place_of t) kept here u));
+          right_line = (right None meets).right_line refl;
+        })
+        (λ why e. absurd (not_none g why e stands))
 
     flooded_told : g ≡ Some Flooded → flood ≤ taken → JobUnfinished jobs v.journal.entries → KeepsTold jobs v after g (place_of t) new
     flooded_told is many u =
@@ -197,7 +197,7 @@ module _ (p q : ℕ) (s t : Story) (w v : Work) (met after : Bool) (f g : Option
     wrong_told device tunnel is meets =
         tells (λ no. absurd (not_none g (WrongLine device tunnel) is no))
         (λ why e. subst (HasOwnCause jobs v.journal.entries (entries new)) (same_why g (WrongLine device tunnel) why is e)
-            ((right (Some (WrongLine device tunnel)) meets).cause (WrongLine device tunnel) refl device tunnel refl))
+        ((right (Some (WrongLine device tunnel)) meets).cause (WrongLine device tunnel) refl device tunnel refl))
 
   by_why : (why : Option HubFault) → g ≡ why → EndsSo v met after came.what taken why → Tolds s t w v met after g
   by_why None is ends jobs old new are es et k = goes_on_told jobs old new are es et k is ends.0 ends.1

@@ -98,8 +98,8 @@ module _ (s t : Story) (goes : GoesOn s t) (w v : Work) (met : Bool) (jobs : Lis
     tells =
         subst (λ (l : List Placed). TellsAndAsks jobs v.telegrams.turns v.journal.entries (place_of t) l) (sym a.grow)
         (goes_on jobs v.telegrams.turns v.journal.entries (place_of s) (place_of t) added old le a.above
-            (subst (λ (xs : List Placed). Each (Asks jobs v.telegrams.turns v.journal.entries) xs old) (sym one.added_is) (right, tt))
-            (tells_same jobs w v (place_of s) old turns logs k.tells))
+        (subst (λ (xs : List Placed). Each (Asks jobs v.telegrams.turns v.journal.entries) xs old) (sym one.added_is) (right, tt))
+        (tells_same jobs w v (place_of s) old turns logs k.tells))
 
     none_got : NoneGot added
     none_got = subst NoneGot (sym one.added_is) (puts_got (channel (entries old)) one.p.what.what one.p.what.now cemi what_is, tt)

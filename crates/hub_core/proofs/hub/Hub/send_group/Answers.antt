@@ -30,9 +30,9 @@ invariant_of-self-in_err-put-in-Unput g c =
     c.telegram_put.ensures.books.turns (same_log c.self.inside.work c.telegram_put.new.self (of_books c.self.inside.work c.telegram_put.new.self c.telegram_put.ensures.books))
     (books_same c.self.inside.work c.telegram_put.new.self (of_books c.self.inside.work c.telegram_put.new.self c.telegram_put.ensures.books) c.at-at.result (subst (λ (n : ℕ). KeepsBooks n c.self.inside.work) (sym c.at-at.ensures.value) c.self.invariant.books))
     (λ jobs old es fits.
-        let place : HasPlace (channel (entries old)) = (c.has_place.ensures.told none old es).0 c.if-not-has_place.false in
-        telegram_so _ c.self.inside.work c.telegram_put.new.self _ c.at-at.result jobs old es c.at-at.ensures.told place (c.places_are_free.ensures old (c.keeps.ensures.record old es).right.renews place)
-            (subst (λ (n : ℕ). KeepsBooks n c.self.inside.work) (sym c.at-at.ensures.value) c.self.invariant.books) (sym c.stage.ensures ∙ c.in-Unput.is) c.in-Some-telegram.ensures.right c.telegram_put.ensures.follows c.in-Some-telegram.ensures.next (of_books c.self.inside.work c.telegram_put.new.self c.telegram_put.ensures.books) fits)
+    let place : HasPlace (channel (entries old)) = (c.has_place.ensures.told none old es).0 c.if-not-has_place.false in
+    telegram_so _ c.self.inside.work c.telegram_put.new.self _ c.at-at.result jobs old es c.at-at.ensures.told place (c.places_are_free.ensures old (c.keeps.ensures.record old es).right.renews place)
+    (subst (λ (n : ℕ). KeepsBooks n c.self.inside.work) (sym c.at-at.ensures.value) c.self.invariant.books) (sym c.stage.ensures ∙ c.in-Unput.is) c.in-Some-telegram.ensures.right c.telegram_put.ensures.follows c.in-Some-telegram.ensures.next (of_books c.self.inside.work c.telegram_put.new.self c.telegram_put.ensures.books) fits)
     _ c.in_err-put-in-Unput.ensures.adds c.in_err-put-in-Unput.ensures.fault (c.in_err-put-in-Unput.ensures.by_tunnel none) c.self.invariant
 
 pub invariant_of-self-in-Unput : goal.invariant_of-self-in-Unput
@@ -42,9 +42,9 @@ invariant_of-self-in-Unput g c =
     c.telegram_put.ensures.books.turns (same_log c.self.inside.work c.telegram_put.new.self (of_books c.self.inside.work c.telegram_put.new.self c.telegram_put.ensures.books))
     (books_same c.self.inside.work c.telegram_put.new.self (of_books c.self.inside.work c.telegram_put.new.self c.telegram_put.ensures.books) c.at-at.result (subst (λ (n : ℕ). KeepsBooks n c.self.inside.work) (sym c.at-at.ensures.value) c.self.invariant.books))
     (λ jobs old es fits.
-        let place : HasPlace (channel (entries old)) = (c.has_place.ensures.told none old es).0 c.if-not-has_place.false in
-        telegram_so _ c.self.inside.work c.telegram_put.new.self _ c.at-at.result jobs old es c.at-at.ensures.told place (c.places_are_free.ensures old (c.keeps.ensures.record old es).right.renews place)
-            (subst (λ (n : ℕ). KeepsBooks n c.self.inside.work) (sym c.at-at.ensures.value) c.self.invariant.books) (sym c.stage.ensures ∙ c.in-Unput.is) c.in-Some-telegram.ensures.right c.telegram_put.ensures.follows c.in-Some-telegram.ensures.next (of_books c.self.inside.work c.telegram_put.new.self c.telegram_put.ensures.books) fits)
+    let place : HasPlace (channel (entries old)) = (c.has_place.ensures.told none old es).0 c.if-not-has_place.false in
+    telegram_so _ c.self.inside.work c.telegram_put.new.self _ c.at-at.result jobs old es c.at-at.ensures.told place (c.places_are_free.ensures old (c.keeps.ensures.record old es).right.renews place)
+    (subst (λ (n : ℕ). KeepsBooks n c.self.inside.work) (sym c.at-at.ensures.value) c.self.invariant.books) (sym c.stage.ensures ∙ c.in-Unput.is) c.in-Some-telegram.ensures.right c.telegram_put.ensures.follows c.in-Some-telegram.ensures.next (of_books c.self.inside.work c.telegram_put.new.self c.telegram_put.ensures.books) fits)
     _ c.in_ok-put-in-Unput.ensures.adds c.in_ok-put-in-Unput.ensures.stands c.self.invariant
 
 pub returns-in_err-put-in-Unput-clause-run : goal.returns-in_err-put-in-Unput-clause-run

@@ -18,8 +18,8 @@ invariant_of-self-in_err-put-in-Puts g c =
     let none : c.self.inside.tunnel.known.fault ≡ None = sym c.fault.ensures ∙ c.in_default.is in
     put_failed _ _ _ _ c.self.inside.work c.turn.new.self _ _ _ none c.put.ensures.events c.put.ensures.grows _ c.at-at.result c.at-at.ensures.value c.turn.ensures.run.tasks_are c.turn.ensures.run.devices c.turn.ensures.run.turns c.in-Puts.ensures.told c.turn.ensures.books
     (λ jobs old es fits.
-        let place : HasPlace (channel (entries old)) = (c.has_place-has_place.ensures.told none old es).0 c.in-Puts.ensures.placed in
-        turn_so _ c.self.inside.work c.turn.new.self _ c.now-now.result c.at-at.result jobs old es c.at-at.ensures.told (c.now-now.ensures.newest old es) place (c.places_are_free.ensures old (c.keeps.ensures.record old es).right.renews place) c.in-Puts.ensures.follows fits)
+    let place : HasPlace (channel (entries old)) = (c.has_place-has_place.ensures.told none old es).0 c.in-Puts.ensures.placed in
+    turn_so _ c.self.inside.work c.turn.new.self _ c.now-now.result c.at-at.result jobs old es c.at-at.ensures.told (c.now-now.ensures.newest old es) place (c.places_are_free.ensures old (c.keeps.ensures.record old es).right.renews place) c.in-Puts.ensures.follows fits)
     _ c.in_err-put-in-Puts.ensures.adds c.in_err-put-in-Puts.ensures.fault (c.in_err-put-in-Puts.ensures.by_tunnel none) c.self.invariant
 
 pub invariant_of-self-in-Puts : goal.invariant_of-self-in-Puts
@@ -27,8 +27,8 @@ invariant_of-self-in-Puts g c =
     let none : c.self.inside.tunnel.known.fault ≡ None = sym c.fault.ensures ∙ c.in_default.is in
     put_done _ _ _ _ c.self.inside.work c.turn.new.self _ _ _ none c.put.ensures.events c.put.ensures.grows _ c.at-at.result c.at-at.ensures.value c.turn.ensures.run.tasks_are c.turn.ensures.run.devices c.turn.ensures.run.turns c.in-Puts.ensures.told c.turn.ensures.books
     (λ jobs old es fits.
-        let place : HasPlace (channel (entries old)) = (c.has_place-has_place.ensures.told none old es).0 c.in-Puts.ensures.placed in
-        turn_so _ c.self.inside.work c.turn.new.self _ c.now-now.result c.at-at.result jobs old es c.at-at.ensures.told (c.now-now.ensures.newest old es) place (c.places_are_free.ensures old (c.keeps.ensures.record old es).right.renews place) c.in-Puts.ensures.follows fits)
+    let place : HasPlace (channel (entries old)) = (c.has_place-has_place.ensures.told none old es).0 c.in-Puts.ensures.placed in
+    turn_so _ c.self.inside.work c.turn.new.self _ c.now-now.result c.at-at.result jobs old es c.at-at.ensures.told (c.now-now.ensures.newest old es) place (c.places_are_free.ensures old (c.keeps.ensures.record old es).right.renews place) c.in-Puts.ensures.follows fits)
     _ c.in_ok-put-in-Puts.ensures.adds c.in_ok-put-in-Puts.ensures.stands c.self.invariant
 
 pub returns-in_err-put-in-Puts-clause-run : goal.returns-in_err-put-in-Puts-clause-run
