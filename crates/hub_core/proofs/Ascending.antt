@@ -1,10 +1,9 @@
 -- The places of a link's entries ascend.
-use Rattle.std.proofs.Common.{◌≡◌, ℕ, suc, ◌<◌, ◌≤◌, List, [], ◌∷◌, ◌++◌, length, Option, Some, None, refl, sym, ◌∙◌, ap, subst, arith}
-use Rattle.std.proofs.lemmas.List.{append_cancel_right}
+use Rattle.std.proofs.Common.{ℕ, suc, ◌<◌, List, [], ◌∷◌, length, Option, Some, None, arith}
 use Rattle.std.specs.List.{AllByRecursion}
-use Rattle.line_model.specs.Record.{Item, Entry, entry, Placed, placed_if, placed, counted, item_at}
+use Rattle.line_model.specs.Record.{Item, Entry, Placed, placed_if, placed, counted, item_at}
 use Rattle.line_model.specs.World.{World, Event, now, replay}
-use Rattle.hub_work.proofs.Growing.{AreAbove, AreUpto, placed_upto, counted_upto}
+use Rattle.hub_work.proofs.Growing.{AreUpto, placed_upto, counted_upto}
 
 abbrev pub AreBelow : ℕ → List Placed → Type 0
 AreBelow n places = AllByRecursion (λ (p : Placed). p.at < n) places

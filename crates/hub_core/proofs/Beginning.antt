@@ -1,5 +1,5 @@
 -- What a hub keeps holds when it begins, over a link on which nothing was done.
-use Rattle.std.proofs.Common.{◌≡◌, ℕ, Bool, false, List, [], map, Option, Some, None, refl, sym, ap, subst, ◌∙◌, arith}
+use Rattle.std.proofs.Common.{◌≡◌, ℕ, false, List, [], map, Option, Some, None, refl, sym, ap, subst, ◌∙◌, arith}
 use Rattle.line_model.specs.declared.fault.HubFault.{HubFault}
 use Rattle.line_model.specs.declared.log.LogEntry.{LogEntry}
 use Rattle.line_model.specs.Record.{Placed, placed, counted}
@@ -12,7 +12,7 @@ use Rattle.hub_work.specs.declared.work.Work.{Work}
 use Rattle.hub_work.specs.Downloaders.{Task, AreJobsWith, task_of_hub_job}
 use Rattle.hub_work.specs.Follows.{BeginsRightly}
 use Rattle.hub_work.specs.Works.{KeepsBooks, tasks}
-use Rattle.hub_core.specs.Discipline.{EachSo, Asks, TellsAndAsks}
+use Rattle.hub_core.specs.Discipline.{TellsAndAsks}
 use Rattle.hub_core.specs.Keeps.{KeepsTold, Keeps}
 use Rattle.hub_core.proofs.Calls.{not_none}
 use Rattle.hub_core.proofs.Counting.{some_is}

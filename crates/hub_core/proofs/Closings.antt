@@ -1,5 +1,5 @@
 -- How far the closing is, is nothing to what is kept.
-use Rattle.std.proofs.Common.{◌≡◌, ℕ, Bool, List, Option}
+use Rattle.std.proofs.Common.{ℕ, Bool, List, Option}
 use Rattle.line_model.specs.declared.fault.HubFault.{HubFault}
 use Rattle.line_model.specs.Record.{Placed}
 use Rattle.line_model.specs.LinkStory.{Story}

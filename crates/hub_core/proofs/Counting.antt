@@ -1,7 +1,6 @@
 -- The number of events of a story that goes on, and the places that it tells.
-use Rattle.std.proofs.Common.{◌≡◌, ℕ, ◌+◌, ◌≤◌, List, [], ◌∷◌, ◌++◌, length, Option, Some, None, refl, sym, subst, ap, ◌∙◌, arith}
-use Rattle.line_model.specs.Record.{Entry, Placed, placed, counted}
-use Rattle.line_model.specs.World.{World, Event}
+use Rattle.std.proofs.Common.{◌≡◌, ℕ, ◌≤◌, List, [], ◌∷◌, ◌++◌, length, Some, None, refl, sym, subst, ap, ◌∙◌, arith}
+use Rattle.line_model.specs.Record.{Placed, placed, counted}
 use Rattle.line_model.specs.LinkStory.{Story, Untold, Recorded, Full, places_in, IsPlace}
 use Rattle.tunnel_link.specs.Adds.{place_of}
 use Rattle.tunnel_link.specs.Goes.{GoesOn}

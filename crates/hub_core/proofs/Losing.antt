@@ -1,7 +1,6 @@
 -- What a poll brought, and the loss of the channel in it, is told to the work at the time that the link told last; then it fits as it did before.
-use Rattle.std.proofs.Common.{◌≡◌, ℕ, ◌<◌, ◌≤◌, ◌⊎◌, inl, inr, List, [], ◌∷◌, ◌++◌, Option, refl, sym, ap, subst, ◌∙◌, arith}
+use Rattle.std.proofs.Common.{◌≡◌, ℕ, ◌<◌, ◌≤◌, ◌⊎◌, inl, inr, List, [], ◌∷◌, ◌++◌, Option, sym, subst, arith}
 use Rattle.knx_model.specs.declared.frames.cemi.Ldata.{Ldata}
-use Rattle.line_model.specs.ClientView.{Deed, Loses, Nothing}
 use Rattle.line_model.specs.Moments.{Moment, time}
 use Rattle.line_model.specs.Signs.{Every}
 use Rattle.line_model.specs.Log.{Job}
@@ -18,7 +17,7 @@ use Rattle.hub_work.specs.Works.{KeepsBooks}
 use Rattle.hub_core.specs.Taking.{SameWork, place_or, Rise, FollowsAll, AsideOrLost, LosesIn, DeliversIn}
 use Rattle.hub_core.proofs.Following.{around}
 use Rattle.hub_core.proofs.Keeps.{books_same, books_later}
-use Rattle.hub_core.proofs.Quiet.{Asides, FitsThen, aside_fits, asides_fit, nothing_aside}
+use Rattle.hub_core.proofs.Quiet.{Asides, FitsThen, aside_fits, nothing_aside}
 
 -- ---- one moment that the work is told of
 

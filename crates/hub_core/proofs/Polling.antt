@@ -1,24 +1,24 @@
 -- What is told is kept over a poll, after which the run goes on or ends.
-use Rattle.std.proofs.Common.{◌≡◌, ℕ, suc, ◌<◌, ◌≤◌, ◌⊎◌, inl, inr, Bool, true, false, List, [], ◌∷◌, ◌++◌, Option, Some, None, Result, Ok, refl, sym, ap, subst, ◌∙◌, append_assoc, arith}
+use Rattle.std.proofs.Common.{◌≡◌, ℕ, suc, ◌<◌, ◌≤◌, inl, inr, Bool, true, false, List, ◌∷◌, ◌++◌, Option, Some, None, Ok, refl, sym, ap, subst, ◌∙◌, append_assoc, arith}
 use Rattle.std.specs.Prelude.{is_some, min, ◌^◌, ◌-◌}
 use Rattle.knx_model.specs.declared.address.IndAddr.{IndAddr}
 use Rattle.line_model.specs.declared.fault.HubFault.{HubFault}
 use Rattle.line_model.specs.declared.fault.HubFault.TheVariants.{NoMemory, LinkFailed, GatewayRefused, Flooded, WrongLine}
 use Rattle.line_model.specs.declared.log.LogEntry.{LogEntry}
-use Rattle.line_model.specs.Record.{Item, Quiet, Entry, Placed, entries, got_in}
+use Rattle.line_model.specs.Record.{Entry, Placed, entries, got_in}
 use Rattle.line_model.specs.LinkStory.{Story, places_in, newest_time}
 use Rattle.line_model.specs.Moments.{Moment}
 use Rattle.line_model.specs.Signs.{Every}
 use Rattle.line_model.specs.Log.{Job, JobUnfinished}
 use Rattle.line_model.specs.ClientView.{channel}
-use Rattle.line_model.specs.Faults.{datagrams_taken, flood, opens, or_newer, first_tunnel, first_elsewhere, IsFlooded, IsWrongLine}
+use Rattle.line_model.specs.Faults.{datagrams_taken, flood, opens, or_newer, first_tunnel, first_elsewhere, IsWrongLine}
 use Rattle.device_reservation.specs.Reservation.{Reservation}
 use Rattle.tunnel_link.specs.declared.came.Came.{Came}
 use Rattle.tunnel_link.specs.declared.came.Loss.{Loss}
 use Rattle.tunnel_link.specs.declared.came.Loss.TheVariants.{Stays, Ended, Told}
 use Rattle.tunnel_link.specs.declared.came.What.{What}
 use Rattle.tunnel_link.specs.declared.came.What.TheVariants as came
-use Rattle.tunnel_link.specs.Adds.{place_of, moments_on, Added, Growing, PutsNone, One, LosesAt, TakesAt, TakesUnread, OrLoses, DoesSo, GotSo, Brings, PollAdds}
+use Rattle.tunnel_link.specs.Adds.{place_of, moments_on, Added, Growing, PutsNone, LosesAt, TakesAt, TakesUnread, OrLoses, DoesSo, GotSo, Brings, PollAdds}
 use Rattle.tunnel_link.specs.Goes.{GoesOn}
 use Rattle.tunnel_link.specs.Rights.{WhereTold, at_most_64_bits}
 use Rattle.hub_work.specs.declared.work.Work.{Work}
@@ -26,7 +26,7 @@ use Rattle.hub_work.specs.Books.{AreJobsOf}
 use Rattle.hub_work.specs.Follows.{StaysFitting}
 use Rattle.hub_work.specs.Works.{KeepsBooks}
 use Rattle.hub_core.specs.Keeps.{HasOwnCause, Runs, KeepsTold, Keeps}
-use Rattle.hub_core.specs.Taking.{SameWork, FollowsAll, TakesIn, MeetsOne, MeetsSo, NotFlooded, EndsSo}
+use Rattle.hub_core.specs.Taking.{SameWork, TakesIn, MeetsOne, MeetsSo, NotFlooded, EndsSo}
 use Rattle.hub_core.proofs.Calls.{added_to, not_none, same_some as same_why}
 use Rattle.hub_core.proofs.Counting.{places_ascend, place_grows}
 use Rattle.hub_core.proofs.Keeps.{books_same, books_later, same_log, Tolds, moves}

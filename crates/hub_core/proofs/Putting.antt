@@ -9,7 +9,7 @@ use Rattle.line_model.specs.LinkStory.{Story, places_in, newest_time, IsPlace}
 use Rattle.line_model.specs.Moments.{Moment, moments, time}
 use Rattle.line_model.specs.Log.{Job}
 use Rattle.line_model.specs.Signs.{Every}
-use Rattle.line_model.specs.ClientView.{ClientChannel, Fresh, Sought, RefusedBy, Unanswered, Open, Lost, Deed, Puts, Takes, Loses, Nothing, channel, deed, deed_of, or_takes}
+use Rattle.line_model.specs.ClientView.{ClientChannel, Fresh, Sought, RefusedBy, Unanswered, Open, Lost, Deed, Puts, Takes, Loses, Nothing, channel, deed, deed_of}
 use Rattle.line_model.specs.ChannelLost.{is_lost, delivers, expected}
 use Rattle.line_model.specs.Reading.{RequestFrame, request_in}
 use Rattle.line_model.specs.Asks.{HasPlace, IsRightRequest, moment_of}

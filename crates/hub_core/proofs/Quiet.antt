@@ -1,30 +1,26 @@
 -- What is told is kept over a call that puts nothing: what is due, a new endpoint, the end of the channel, and a call that fails.
-use Rattle.std.proofs.Common.{◌≡◌, ℕ, ◌≤◌, ◌<◌, Bool, true, false, List, [], ◌∷◌, ◌++◌, Option, Some, None, Result, Ok, Err, refl, sym, ap, subst, ◌∙◌, arith}
+use Rattle.std.proofs.Common.{◌≡◌, ℕ, ◌≤◌, ◌<◌, Bool, List, [], ◌∷◌, ◌++◌, Option, Some, None, refl, sym, ap, subst, ◌∙◌, arith}
 use Rattle.std.specs.Prelude.{is_some}
-use Rattle.std.specs.List.{AllByRecursion, list_any}
+use Rattle.std.specs.List.{AllByRecursion}
 use Rattle.line_model.specs.declared.fault.HubFault.{HubFault}
 use Rattle.line_model.specs.declared.log.LogEntry.{LogEntry}
-use Rattle.line_model.specs.Record.{Placed, entries, is_poll}
-use Rattle.line_model.specs.LinkStory.{Story, places_in, newest_time}
+use Rattle.line_model.specs.Record.{Placed, entries}
+use Rattle.line_model.specs.LinkStory.{newest_time}
 use Rattle.line_model.specs.Moments.{Moment, moments, time}
 use Rattle.line_model.specs.Signs.{Every}
 use Rattle.line_model.specs.Log.{Job, JobUnfinished}
 use Rattle.line_model.specs.Faults.{datagrams_taken, flood, first_tunnel, first_elsewhere}
-use Rattle.tunnel_link.specs.Adds.{place_of, moments_on, Added, Grows, Growing, IsNothing, PutsNone}
-use Rattle.tunnel_link.specs.Goes.{GoesOn}
+use Rattle.tunnel_link.specs.Adds.{moments_on, Added, IsNothing, PutsNone}
 use Rattle.hub_work.specs.declared.work.Work.{Work}
-use Rattle.hub_work.specs.Books.{AreJobsOf}
 use Rattle.hub_work.specs.Fits.{Fits}
 use Rattle.hub_work.specs.Follows.{IsAside, Does, AsideFollows, StaysFitting}
 use Rattle.hub_work.specs.Works.{KeepsBooks}
-use Rattle.hub_work.proofs.Growing.{AreAbove}
 use Rattle.hub_core.specs.Discipline.{TellsAndAsks}
 use Rattle.hub_core.specs.Keeps.{HasOwnCause, Runs, KeepsTold}
 use Rattle.hub_core.specs.Taking.{SameWork, place_or, Rise, FollowsAll}
 use Rattle.hub_core.proofs.Ascending.{Ascend}
-use Rattle.hub_core.proofs.Counting.{some_is, places_ascend, place_grows}
 use Rattle.hub_core.proofs.Following.{rising, newest, every, asides}
-use Rattle.hub_core.proofs.Keeps.{books_same, books_later, tells_same, Tolds}
+use Rattle.hub_core.proofs.Keeps.{books_same, books_later, tells_same}
 use Rattle.hub_core.proofs.Requests.{quiet_right}
 use Rattle.hub_core.proofs.Taking.{NoneGot, none_counted, none_opened}
 use Rattle.hub_core.proofs.Telling.{goes_on}

@@ -1,8 +1,8 @@
 -- Each entry that a call adds is right: it puts nothing, or one right request.
-use Rattle.std.proofs.Common.{◌≡◌, ◌≢◌, ◌⊎◌, ℕ, List, [], ◌∷◌, ◌++◌, refl, sym, subst, ◌∙◌}
+use Rattle.std.proofs.Common.{◌≡◌, ◌≢◌, ℕ, List, [], ◌∷◌, ◌++◌, refl, sym, subst, ◌∙◌}
 use Rattle.line_model.specs.declared.group.GroupTurn.{GroupTurn}
 use Rattle.line_model.specs.declared.log.LogEntry.{LogEntry}
-use Rattle.line_model.specs.Record.{Placed, entries}
+use Rattle.line_model.specs.Record.{Placed}
 use Rattle.line_model.specs.ClientView.{Deed, Puts, Takes, Loses, Nothing}
 use Rattle.line_model.specs.Moments.{Moment}
 use Rattle.line_model.specs.Log.{Job}

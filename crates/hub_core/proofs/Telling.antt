@@ -1,12 +1,12 @@
 -- What a hub keeps of what its link tells is kept where the link goes on by right entries, and where the log tells one thing more.
-use Rattle.std.proofs.Common.{◌≡◌, ℕ, ◌<◌, ◌≤◌, List, [], ◌∷◌, ◌++◌, Bool, true, false, cond, refl, sym, subst, arith}
+use Rattle.std.proofs.Common.{◌≡◌, ℕ, ◌≤◌, List, [], ◌∷◌, ◌++◌, false, refl, sym, subst, arith}
 use Rattle.std.specs.Prelude.{nat_lt}
 use Rattle.line_model.specs.declared.group.GroupTurn.{GroupTurn}
 use Rattle.line_model.specs.declared.log.LogEntry.{LogEntry}
 use Rattle.line_model.specs.Record.{Placed}
 use Rattle.line_model.specs.Log.{Job, IsLog, log_before}
 use Rattle.line_model.specs.Told.{ToldTruly}
-use Rattle.line_model.specs.Asks.{EachRight, IsRightEntry}
+use Rattle.line_model.specs.Asks.{EachRight}
 use Rattle.hub_work.proofs.Growing.{AreAbove, AreUpto, told_grown, before_new}
 use Rattle.hub_core.proofs.Requests.{Each}
 use Rattle.hub_core.specs.Discipline.{EachSo, Asks, IsPrompt, TellsAndAsks}

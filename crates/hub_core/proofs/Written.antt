@@ -4,12 +4,10 @@ use Rattle.line_model.specs.declared.fault.HubFault.{HubFault}
 use Rattle.line_model.specs.declared.group.GroupTurn.{GroupTurn}
 use Rattle.line_model.specs.declared.log.LogEntry.{LogEntry}
 use Rattle.line_model.specs.declared.log.LogWhat.{LogWhat}
-use Rattle.line_model.specs.Record.{Placed, entries}
+use Rattle.line_model.specs.Record.{Placed}
 use Rattle.line_model.specs.LinkStory.{Story, places_in, IsPlace}
 use Rattle.line_model.specs.Moments.{moments, time}
 use Rattle.line_model.specs.Log.{Job, IsLog, JobUnfinished}
-use Rattle.line_model.specs.Told.{ToldTruly}
-use Rattle.device_reservation.specs.Reservation.{Reservation}
 use Rattle.tunnel_link.specs.Adds.{place_of}
 use Rattle.hub_work.specs.declared.answers.Turned.{Turned}
 use Rattle.hub_work.specs.declared.answers.Turned.TheVariants as answer
@@ -22,7 +20,7 @@ use Rattle.hub_work.specs.Turns.{TurnTells, Adds}
 use Rattle.hub_work.specs.Works.{KeepsBooks, SameRun, tasks}
 use Rattle.hub_work.proofs.Growing.{AreUpto}
 use Rattle.hub_core.specs.Discipline.{EachSo, Asks, TellsAndAsks}
-use Rattle.hub_core.specs.Keeps.{HasOwnCause, Runs, KeepsTold, Keeps}
+use Rattle.hub_core.specs.Keeps.{KeepsTold, Keeps}
 use Rattle.hub_core.proofs.Calls.{not_none}
 use Rattle.hub_core.proofs.Closed.{unfinished_before}
 use Rattle.hub_core.proofs.Counting.{place_counts, places_upto}

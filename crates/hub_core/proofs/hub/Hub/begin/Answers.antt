@@ -1,4 +1,4 @@
-use Rattle.std.proofs.Common.{◌≡◌, sym, ap, subst, ◌∙◌}
+use Rattle.std.proofs.Common.{sym, ap, subst, ◌∙◌}
 use Rattle.line_model.specs.LinkStory.{IsNewLink}
 use Rattle.hub_core.proofs.Beginning.{begins}
 use Rattle.hub_core.proofs.View.{seen_tasks}

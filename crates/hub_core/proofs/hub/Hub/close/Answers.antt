@@ -1,6 +1,6 @@
 use Rattle.hub_core.proofs.Headlines.{dropped_in}
 use Rattle.hub_core.specs.Promises.{DropsIn}
-use Rattle.std.proofs.Common.{◌≡◌, ℕ, sym, subst}
+use Rattle.std.proofs.Common.{ℕ, sym, subst}
 use Rattle.line_model.specs.LinkStory.{record_in}
 use Rattle.hub_core.proofs.hub.Hub.close.Goals as goal
 

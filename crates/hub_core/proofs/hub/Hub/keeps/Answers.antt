@@ -1,5 +1,4 @@
-use Rattle.std.proofs.Common.{◌≡◌, List, subst}
-use Rattle.line_model.specs.Log.{Job}
+use Rattle.std.proofs.Common.{List, subst}
 use Rattle.hub_work.specs.Downloaders.{Task, AreJobsWith}
 use Rattle.hub_core.proofs.Headlines.{headline, right_over, fault_in}
 use Rattle.hub_core.proofs.View.{seen_tasks}

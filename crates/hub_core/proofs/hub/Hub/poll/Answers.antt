@@ -1,4 +1,4 @@
-use Rattle.std.proofs.Common.{◌≡◌, ◌∙◌, ap, sym, refl, Option, Some, None, subst}
+use Rattle.std.proofs.Common.{◌≡◌, ◌∙◌, sym, Option, Some, None, subst}
 use Rattle.line_model.specs.declared.fault.HubFault.{HubFault}
 use Rattle.hub_core.specs.Keeps.{Keeps}
 use Rattle.hub_core.specs.Taking.{EndsSo}

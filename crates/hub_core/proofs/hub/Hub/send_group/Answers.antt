@@ -15,13 +15,13 @@ pub invariant_of-self : goal.invariant_of-self
 invariant_of-self g c =
     let none : c.self.inside.tunnel.known.fault ≡ None = sym c.fault.ensures ∙ c.in_default.is in
     written _ c.at-at.result _ c.self.inside.work c.tell_telegram.new.self _ _ none c.at-at.ensures.value c.at-at.ensures.told c.tell_telegram.ensures.run c.tell_telegram.ensures.books (told_writes c.at-at.result c.args.k _ _ _ c.tell_telegram.ensures.told)
-    (λ jobs places e fits. let both = c.tell_telegram.ensures.follows jobs places (time (moments places)) fits in (both.0, both.1 (WasSent (sym c.stage.ensures ∙ c.in-Confirmed.is) refl))) c.self.invariant
+    (λ jobs places e fits. c.tell_telegram.ensures.follows jobs places (time (moments places)) fits (WasSent (sym c.stage.ensures ∙ c.in-Confirmed.is) refl)) c.self.invariant
 
 pub invariant_of-self-in-Lost : goal.invariant_of-self-in-Lost
 invariant_of-self-in-Lost g c =
     let none : c.self.inside.tunnel.known.fault ≡ None = sym c.fault.ensures ∙ c.in_default.is in
     written _ c.at-at.result _ c.self.inside.work c.tell_telegram-in-Lost.new.self _ _ none c.at-at.ensures.value c.at-at.ensures.told c.tell_telegram-in-Lost.ensures.run c.tell_telegram-in-Lost.ensures.books (told_writes c.at-at.result c.args.k _ _ _ c.tell_telegram-in-Lost.ensures.told)
-    (λ jobs places e fits. let both = c.tell_telegram-in-Lost.ensures.follows jobs places (time (moments places)) fits in (both.0, both.1 (WasLost (sym c.stage.ensures ∙ c.in-Lost.is) refl))) c.self.invariant
+    (λ jobs places e fits. c.tell_telegram-in-Lost.ensures.follows jobs places (time (moments places)) fits (WasLost (sym c.stage.ensures ∙ c.in-Lost.is) refl)) c.self.invariant
 
 pub invariant_of-self-in_err-put-in-Unput : goal.invariant_of-self-in_err-put-in-Unput
 invariant_of-self-in_err-put-in-Unput g c =

@@ -1,4 +1,4 @@
-use Rattle.std.proofs.Common.{◌≡◌, None, sym, subst, ◌∙◌}
+use Rattle.std.proofs.Common.{◌≡◌, None, sym, ◌∙◌}
 use Rattle.line_model.specs.Asks.{HasPlace}
 use Rattle.line_model.specs.ClientView.{channel}
 use Rattle.line_model.specs.Record.{entries}

@@ -1,4 +1,4 @@
-use Rattle.std.proofs.Common.{◌≡◌, sym, subst}
+use Rattle.std.proofs.Common.{sym, subst}
 use Rattle.tunnel_link.specs.declared.came.What.{What}
 use Rattle.hub_core.specs.Taking.{DeliversIn}
 use Rattle.hub_core.proofs.Keeps.{of_books}

@@ -1,4 +1,4 @@
-use Rattle.std.proofs.Common.{◌≡◌, sym, subst}
+use Rattle.std.proofs.Common.{sym, subst}
 use Rattle.tunnel_link.specs.declared.came.Loss.{Loss}
 use Rattle.hub_work.specs.declared.work.Work.{Work}
 use Rattle.hub_core.specs.Taking.{AsideOrLost, LosesIn}
