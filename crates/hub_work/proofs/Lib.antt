@@ -20,3 +20,4 @@ mod Logs
 mod OneTurn
 mod Unfinished
 mod NextTelegram
+mod Beginning

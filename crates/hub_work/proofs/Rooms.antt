@@ -20,10 +20,10 @@ its_place xs i x e = some_is (get_or xs i x) x (sym (slice_get-get_or xs i x (sl
 sum_set : {X : Type 0} (f : X → ℕ) (xs : List X) (i : ℕ) (x y : X) → slice_get xs i ≡ Some x → sum_by f (set xs i y) + f x ≡ sum_by f xs + f y
 sum_set f xs i x y e = subst (λ z. sum_by f (set xs i y) + f z ≡ sum_by f xs + f y) (its_place xs i x e) (sum_by-set f xs i y x (slice_get_within xs i x e))
 
-at_least : {X : Type 0} (f : X → ℕ) (xs : List X) (i : ℕ) (x : X) → slice_get xs i ≡ Some x → f x ≤ sum_by f xs
+pub at_least : {X : Type 0} (f : X → ℕ) (xs : List X) (i : ℕ) (x : X) → slice_get xs i ≡ Some x → f x ≤ sum_by f xs
 at_least f xs i x e = subst (λ z. f z ≤ sum_by f xs) (its_place xs i x e) (get_or-le-sum_by f xs i x (slice_get_within xs i x e))
 
-abbrev one_if : Stage → ℕ
+abbrev pub one_if : Stage → ℕ
 one_if s = cond (is_unfinished s) 1 0
 
 there : (r : Reservation) (job : ℕ) (s : Stage) → stage_of r job ≡ Some s → slice_get r.stages (job - 1) ≡ Some s
