@@ -21,3 +21,4 @@ mod OneTurn
 mod Unfinished
 mod NextTelegram
 mod Beginning
+mod Lines
