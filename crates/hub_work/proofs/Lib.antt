@@ -22,3 +22,4 @@ mod Unfinished
 mod NextTelegram
 mod Beginning
 mod Lines
+mod Places
