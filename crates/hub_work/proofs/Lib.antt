@@ -20,4 +20,7 @@ mod Logs
 mod OneTurn
 mod Unfinished
 mod NextTelegram
+mod Beginning
+mod Lines
+mod Places
 pub mod Growing

@@ -108,7 +108,7 @@ told_place k at (Refused i op got expected) log tells = absurd tells
 told_place k at (Sent i) log tells = ap (λ (b : Bool). if b then at else turn_place k log) (eq-eqb i k tells)
 told_place k at (Lost i) log tells = ap (λ (b : Bool). if b then at else turn_place k log) (eq-eqb i k tells)
 
-nothing_yet : (o : Option GroupTurn) → FitsTelegram o stage.Unput []
+pub nothing_yet : (o : Option GroupTurn) → FitsTelegram o stage.Unput []
 nothing_yet None = refl
 nothing_yet (Some turn) = tt
 

@@ -2,8 +2,10 @@
 use Rattle.std.proofs.Common.{◌≡◌, ℕ, zero, suc, ◌+◌, ◌-◌, ◌≤◌, min, cond, get_or, Bool, true, false, length, List, [], ◌∷◌, set, replicate, Option, Some, None, refl, sym, ap, subst, ◌∙◌, arith}
 use Rattle.std.specs.Prelude.{slice_get}
 use Rattle.std.specs.List.{sum_by, count_by}
-use Rattle.std.proofs.lemmas.List.Sums.{sum_by-set, get_or-le-sum_by}
+use Rattle.std.proofs.lemmas.List.Sums.{sum_by-set, sum_by-cons, get_or-le-sum_by}
 use Rattle.std.proofs.lemmas.Option.{slice_get-get_or, slice_get_within}
+use Rattle.knx_model.specs.declared.address.IndAddr.{IndAddr}
+use Rattle.line_model.specs.declared.group.GroupTurn.{GroupTurn}
 use Rattle.device_reservation.specs.declared.stage.Stage.{Stage}
 use Rattle.device_reservation.specs.declared.stage.Stage.TheVariants.{Untaken, Held, Over}
 use Rattle.device_reservation.specs.Reservation.{Reservation, stage_of, with_stage, none_taken}
@@ -11,7 +13,7 @@ use Rattle.device_reservation.proofs.Numbered.{by_place, from_1}
 use Rattle.hub_work.proofs.Crews.{some_is}
 use Rattle.hub_work.specs.declared.work.Work.{Work}
 use Rattle.hub_work.specs.Counts.{is_unfinished, entries_to_come}
-use Rattle.hub_work.specs.Works.{Counts, IsTaking}
+use Rattle.hub_work.specs.Works.{Counts, IsTaking, BeginsWith}
 
 -- a sum after one element was written
 its_place : {X : Type 0} (xs : List X) (i : ℕ) (x : X) → slice_get xs i ≡ Some x → get_or xs i x ≡ x
@@ -20,10 +22,10 @@ its_place xs i x e = some_is (get_or xs i x) x (sym (slice_get-get_or xs i x (sl
 sum_set : {X : Type 0} (f : X → ℕ) (xs : List X) (i : ℕ) (x y : X) → slice_get xs i ≡ Some x → sum_by f (set xs i y) + f x ≡ sum_by f xs + f y
 sum_set f xs i x y e = subst (λ z. sum_by f (set xs i y) + f z ≡ sum_by f xs + f y) (its_place xs i x e) (sum_by-set f xs i y x (slice_get_within xs i x e))
 
-at_least : {X : Type 0} (f : X → ℕ) (xs : List X) (i : ℕ) (x : X) → slice_get xs i ≡ Some x → f x ≤ sum_by f xs
+pub at_least : {X : Type 0} (f : X → ℕ) (xs : List X) (i : ℕ) (x : X) → slice_get xs i ≡ Some x → f x ≤ sum_by f xs
 at_least f xs i x e = subst (λ z. f z ≤ sum_by f xs) (its_place xs i x e) (get_or-le-sum_by f xs i x (slice_get_within xs i x e))
 
-abbrev one_if : Stage → ℕ
+abbrev pub one_if : Stage → ℕ
 one_if s = cond (is_unfinished s) 1 0
 
 there : (r : Reservation) (job : ℕ) (s : Stage) → stage_of r job ≡ Some s → slice_get r.stages (job - 1) ≡ Some s
@@ -70,4 +72,27 @@ end_counts w v job worker c e er et eu room =
       room =
           subst (λ (ss : List Stage). sum_by entries_to_come ss + (length v.telegrams.turns - v.telegrams.told) ≤ v.journal.room) (sym stages)
           (subst (λ x. sum_by entries_to_come (set w.reservation.stages (job - 1) Over) + (length x.turns - x.told) ≤ v.journal.room) (sym et) (let r : sum_by entries_to_come w.reservation.stages + (length w.telegrams.turns - w.telegrams.told) ≤ w.journal.room = c.room in omega (arith, left, r, room)));
+    }
+
+-- ---- at the beginning
+
+ones_of_all : (n : ℕ) → sum_by one_if (replicate n Untaken) ≡ n
+ones_of_all zero = refl
+ones_of_all (suc n) = sum_by-cons one_if Untaken (replicate n Untaken) ∙ (let ih : sum_by one_if (replicate n Untaken) ≡ n = ones_of_all n in omega (arith, ih))
+
+twos_of_all : (n : ℕ) → sum_by entries_to_come (replicate n Untaken) ≡ n + n
+twos_of_all zero = refl
+twos_of_all (suc n) = sum_by-cons entries_to_come Untaken (replicate n Untaken) ∙ (let ih : sum_by entries_to_come (replicate n Untaken) ≡ n + n = twos_of_all n in omega (arith, ih))
+
+pub begins_counts : (devices : List IndAddr) (turns : List GroupTurn) (w : Work) → BeginsWith devices turns w → Counts w
+begins_counts devices turns w b =
+    let ones : count_by is_unfinished (replicate (length devices) Untaken) ≡ length devices = ones_of_all (length devices) in
+    let twos : sum_by entries_to_come (replicate (length devices) Untaken) ≡ length devices + length devices = twos_of_all (length devices) in
+    let stages : w.reservation.stages ≡ replicate (length devices) Untaken = ap (λ (r : Reservation). r.stages) b.reservation in
+    let room : length devices + length devices + length turns ≤ w.journal.room = b.room in
+    record {
+      unfinished = b.unfinished ∙ ((let e : length devices ≡ count_by is_unfinished (replicate (length devices) Untaken) = omega (arith, ones) in e) ∙ ap (count_by is_unfinished) (sym stages));
+      room =
+          subst (λ (ss : List Stage). sum_by entries_to_come ss + (length w.telegrams.turns - w.telegrams.told) ≤ w.journal.room) (sym stages)
+          (subst (λ (ts : List GroupTurn). sum_by entries_to_come (replicate (length devices) Untaken) + (length ts - w.telegrams.told) ≤ w.journal.room) (sym b.turns_are) (omega (arith, twos, room)));
     }

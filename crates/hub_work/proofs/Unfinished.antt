@@ -16,7 +16,10 @@ use Rattle.hub_work.specs.Books.{AreJobsOf}
 use Rattle.hub_work.specs.Counts.{is_unfinished}
 use Rattle.hub_work.specs.Works.{KeepsBooks, HasUnfinished}
 use Rattle.hub_work.proofs.Crews.{some_is}
-use Rattle.hub_work.proofs.Rooms.{at_least}
+use Rattle.hub_work.proofs.Rooms.{at_least, one_if}
+
+abbrev one_of : Bool → ℕ
+one_of b = cond b 1 0
 
 -- ---- the stage of a job that is over, and of one that isn't
 
@@ -42,18 +45,18 @@ module _ (w : Work) (jobs : List Job) (at : ℕ) (books : KeepsBooks at w) (of :
 
   -- ---- none
 
-  none_left : (s : Stage) → cond (is_unfinished s) 1 0 ≤ 0 → is_unfinished s ≡ false
+  none_left : (s : Stage) → one_if s ≤ 0 → is_unfinished s ≡ false
   none_left s le = by_test (is_unfinished s) refl
     where
       by_test : (b : Bool) → is_unfinished s ≡ b → is_unfinished s ≡ false
-      by_test true e = absurd (let one : cond (is_unfinished s) 1 0 ≡ 1 = ap (λ b. cond b 1 0) e in omega (arith, one, le))
+      by_test true e = absurd (let one : one_if s ≡ 1 = ap (λ (b : Bool). one_of b) e in omega (arith, one, le))
       by_test false e = e
 
   pub all_over : nat_lt 0 w.unfinished ≡ false → AllOver jobs w.journal.entries
   all_over e k there =
       let none : w.unfinished ≤ 0 = no_more w.unfinished e in
       let count : w.unfinished ≡ count_by is_unfinished w.reservation.stages = books.counts.unfinished in
-      let least : cond (is_unfinished (stage_in (state_of k w.journal.entries))) 1 0 ≤ count_by is_unfinished w.reservation.stages = at_least (λ s. cond (is_unfinished s) 1 0) w.reservation.stages (k - 1) (stage_in (state_of k w.journal.entries)) (at_place k there) in
+      let least : one_if (stage_in (state_of k w.journal.entries)) ≤ count_by is_unfinished w.reservation.stages = at_least one_if w.reservation.stages (k - 1) (stage_in (state_of k w.journal.entries)) (at_place k there) in
       over_stage (state_of k w.journal.entries) (none_left (stage_in (state_of k w.journal.entries)) (omega (arith, none, count, least)))
     where
       no_more : (n : ℕ) → nat_lt 0 n ≡ false → n ≤ 0
@@ -80,13 +83,13 @@ module _ (w : Work) (jobs : List Job) (at : ℕ) (books : KeepsBooks at w) (of :
 
       one_left : (ss : List Stage) → 0 < count_by is_unfinished ss → (i : ℕ) × (s : Stage) × (slice_get ss i ≡ Some s) × (is_unfinished s ≡ true)
       one_left [] lt = absurd (omega arith)
-      one_left (x ∷ ss) lt = by_first (is_unfinished x) refl (λ l. one_left ss l) (omega (arith, sum_by-cons (λ s. cond (is_unfinished s) 1 0) x ss, lt))
+      one_left (x ∷ ss) lt = by_first (is_unfinished x) refl (λ l. one_left ss l) (omega (arith, sum_by-cons one_if x ss, lt))
         where
-          by_first : (b : Bool) → is_unfinished x ≡ b → (0 < count_by is_unfinished ss → (i : ℕ) × (s : Stage) × (slice_get ss i ≡ Some s) × (is_unfinished s ≡ true)) → 0 < cond (is_unfinished x) 1 0 + count_by is_unfinished ss
+          by_first : (b : Bool) → is_unfinished x ≡ b → (0 < count_by is_unfinished ss → (i : ℕ) × (s : Stage) × (slice_get ss i ≡ Some s) × (is_unfinished s ≡ true)) → 0 < one_if x + count_by is_unfinished ss
               → (i : ℕ) × (s : Stage) × (slice_get (x ∷ ss) i ≡ Some s) × (is_unfinished s ≡ true)
           by_first true e rest l = (0, x, refl, e)
           by_first false e rest l =
-              let zero_of : cond (is_unfinished x) 1 0 ≡ 0 = ap (λ b. cond b 1 0) e in
+              let zero_of : one_if x ≡ 0 = ap (λ (b : Bool). one_of b) e in
               let r = rest (omega (arith, l, zero_of)) in
               (suc r.0, r.1, r.2, r.3)
 

@@ -20,7 +20,7 @@ use Rattle.hub_work.specs.Books.{AreJobsOf, IsWritten, IsLive, TellsInTurn, job_
 use Rattle.hub_work.specs.Turns.{EndsJob, TellsTurn}
 use Rattle.hub_work.specs.Works.{WritesRightly, Lives, TellsRightly, KeepsBooks, Counts, SameBooks, IsHolder, IsTaking, BeginsWith}
 use Rattle.hub_work.specs.Counts.{is_unfinished, entries_to_come}
-use Rattle.hub_work.proofs.Rooms.{room_to_end, take_counts, end_counts}
+use Rattle.hub_work.proofs.Rooms.{room_to_end, take_counts, end_counts, begins_counts}
 use Rattle.hub_work.proofs.Books.{took_written, took_live, ended_written, ended_live, told_written, told_live, set_jobs, holds_it, taken_held}
 
 abbrev pub entry_of : ℕ → ℕ → LogWhat → LogEntry
@@ -289,3 +289,8 @@ tell_books w v at k what b tells next few er ec eu en et el room = record {
         (subst (λ (ts : List GroupTurn). sum_by entries_to_come w.reservation.stages + (length ts - v.telegrams.told) ≤ v.journal.room) (sym et) (omega (arith, told, is, within, old, room)));
   };
 }
+
+-- ---- the beginning, all of it
+
+pub begins_books : (devices : List IndAddr) (turns : List GroupTurn) (w : Work) (at : ℕ) → BeginsWith devices turns w → KeepsBooks at w
+begins_books devices turns w at b = record { written = begins_written devices turns w at b; telling = begins_telling devices turns w b; live = begins_live devices turns w b; counts = begins_counts devices turns w b }

@@ -25,7 +25,7 @@ use crate::laws::of_a_downloader;
 use crate::telegrams::{Stage, Telegrams};
 use crate::wait::{LONGEST_POLL_MS, until};
 use device_reservation::Jobs;
-use download_core::Did;
+use download_core::{Did, each_operation_can_be_sent};
 use knx_model::{Datagram, IndAddr, List, NoMemory};
 use line_model::{GroupTurn, LogEntry, LogWhat};
 use std::alloc::Global;
@@ -65,10 +65,12 @@ impl Work {
         requires few_groups { length groups < 4294967296 }
         requires sendable { AllByRecursion IsTurnInRange groups }
         ensures begins { IfOk result (λ work. BeginsWith (map (λ (j : Job). j.device) jobs) groups work) }
+        ensures books { IfOk result (λ work. (at : ℕ) → KeepsBooks at work) }
         ensures tasks { IfOk result (λ work. tasks work ≡ map task_of_hub_job jobs) }
         ensures fits { IfOk result (BeginsRightly jobs) }
         ensures books { IfOk result (λ work. (at : ℕ) → KeepsBooks at work) }
     {
+        each_operation_can_be_sent();
         let room = jobs.len() + jobs.len() + groups.len();
         let journal = Journal::with_room(alloc, room)?;
         let crew = Crew::new(alloc, workers)?;
