@@ -120,15 +120,15 @@ module _ (k : Known) (before : Story) (all : KeepsAll k before) (calm : k.fault 
   pub put_none_keeps : (next : Known) (now : ℕ) (cemi : List ℕ) → channel_put k.channel cemi ≡ None → next ≡ with_put k cemi now → KeepsAll next before
   put_none_keeps next now cemi q n = subst (λ (x : Known). KeepsAll x before) (sym n) (unput_keeps k before all calm now cemi q)
 
-  pub unleft_adds : (answer : Result Bool HubFault) → answer ≡ Ok false → channel_left k.channel ≡ None → Growing (Leaves answer) before before
-  unleft_adds answer e q old p = unmoved (Leaves answer) before before old refl p (record { nothing = tt; so = subst (λ (x : Result Bool HubFault). LeavesSo x old []) (sym e) (unasked, refl, refl, (λ h. refl)) })
+  pub unleft_adds : channel_left k.channel ≡ None → Growing (Leaves (Ok false)) before before
+  unleft_adds q old p = unmoved (Leaves (Ok false)) before before old refl p (record { nothing = tt; so = (unasked, refl, refl, (λ h. refl)) })
     where
       unasked : false ≡ is_open (channel (entries old))
       unasked = subst (λ (o : Option (List ℕ)). is_some o ≡ is_open (channel (entries old))) q (open_is k before all calm old p)
 
-  pub unsought_adds : (answer : Result Bool HubFault) → answer ≡ Ok false → ¬ MayConnect k.channel → Growing (Seeks answer) before before
-  unsought_adds answer e m old p = unmoved (Seeks answer) before before old refl p
-      (record { nothing = tt; so = subst (λ (x : Result Bool HubFault). SeeksSo x old []) (sym e) (refl, unsought k.channel (channel (entries old)) ((all.kept old p).fits calm).end m) })
+  pub unsought_adds : ¬ MayConnect k.channel → Growing (Seeks (Ok false)) before before
+  unsought_adds m old p = unmoved (Seeks (Ok false)) before before old refl p
+      (record { nothing = tt; so = (refl, unsought k.channel (channel (entries old)) ((all.kept old p).fits calm).end m) })
 
 -- ---- a new endpoint
 

@@ -6,6 +6,7 @@ pub mod Ended
 pub mod Entries
 pub mod Foreign
 pub mod Growth
+pub mod HasPlaces
 pub mod Heard
 pub mod Lapses
 pub mod MaySend
