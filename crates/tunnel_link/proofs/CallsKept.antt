@@ -64,10 +64,9 @@ module _ (k : Known) (before : Story) (all : KeepsAll k before) (calm : k.fault 
   pub unput_keeps : (now : ℕ) (cemi : List ℕ) → channel_put k.channel cemi ≡ None → KeepsAll (with_put k cemi now) before
   unput_keeps now cemi h = subst (λ (x : Known). KeepsAll x before) (sym (put_rests k cemi now h)) all
 
-  pub unput_adds : {X : Type 0} (result : Result X HubFault) (x : X) (cemi : List ℕ) → result ≡ Ok x → channel_put k.channel cemi ≡ None → Growing (PutsOne result cemi (place_of before)) before before
-  unput_adds result x cemi is h old p =
-      unmoved (PutsOne result cemi (place_of before)) before before old refl p
-      (subst (λ (r : Result _ HubFault). PutsOne r cemi (place_of before) old []) (sym is) (λ place. absurd (place_puts k.channel (channel (entries old)) cemi (fits old p).end place h)))
+  pub unput_adds : {X : Type 0} (x : X) (cemi : List ℕ) → channel_put k.channel cemi ≡ None → Growing (PutsOne (Ok x) cemi (place_of before)) before before
+  unput_adds x cemi h old p =
+      unmoved (PutsOne (Ok x) cemi (place_of before)) before before old refl p (λ place. absurd (place_puts k.channel (channel (entries old)) cemi (fits old p).end place h))
 
   -- ---- the end of the channel
 

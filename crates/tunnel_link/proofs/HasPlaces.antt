@@ -1,6 +1,6 @@
 -- A request can be put exactly where the place in flight is free by the record.
 use Rattle.std.proofs.Common.{◌≡◌, ℕ, List, [], ◌∷◌, Bool, true, false, Option, Some, None, refl, sym, subst, ap, ◌∙◌, ◌↔◌}
-use Rattle.std.specs.Prelude.{not, ◌&&◌, IsTrue}
+use Rattle.std.specs.Prelude.{not, ◌&&◌}
 use Rattle.line_model.specs.Record.{Entry, Placed, entries}
 use Rattle.line_model.specs.LinkStory.{Story, places_in, newest_time, IsTime}
 use Rattle.line_model.specs.ClientView as seen
@@ -55,14 +55,7 @@ place_is k story now all t calm old p =
     place_by k k.channel (channel (entries old)) now refl f.end f.confirmed (rw same (not_over k (entries old) f))
 
 -- the answer of the code
-pub told_place : (k : Known) (story : Story) (now : ℕ) (b : Bool) → b ≡ has_place k now → KeepsAll k story → IsTime now story → WhileFits (λ r. IsTrue b ↔ HasPlace (channel r)) k story
+pub told_place : (k : Known) (story : Story) (now : ℕ) (b : Bool) → b ≡ has_place k now → KeepsAll k story → IsTime now story → WhileFits (λ r. (b ≡ true) ↔ HasPlace (channel r)) k story
 told_place k story now b e all t calm old p =
     let h = place_is k story now all t calm old p in
-    (λ i. h.0 (sym e ∙ is_true b i), λ place. true_is b (e ∙ h.1 place))
-  where
-    is_true : (b : Bool) → IsTrue b → b ≡ true
-    is_true true i = refl
-    is_true false i = absurd i
-    true_is : (b : Bool) → b ≡ true → IsTrue b
-    true_is true q = tt
-    true_is false q = absurd (cc)
+    (λ i. h.0 (sym e ∙ i), λ place. e ∙ h.1 place)

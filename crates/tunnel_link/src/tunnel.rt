@@ -1,6 +1,6 @@
 //! The client's end of a tunnel over a link.
 
-ghost use Rattle.std.specs.Prelude.{◌≡◌, ◌≤◌, ◌↔◌, IfErr, IsTrue, OnOk, OnErr, Some, None};
+ghost use Rattle.std.specs.Prelude.{◌≡◌, ◌≤◌, ◌↔◌, IfErr, OnOk, OnErr, Some, None, true};
 ghost use Rattle.line_model.specs.Asks.{HasPlace};
 ghost use Rattle.line_model.specs.ClientView.{channel};
 ghost use Rattle.line_model.specs.Closing.{is_open};
@@ -111,7 +111,7 @@ impl<L: Link> Tunnel<L> {
 
     /// Whether a request can be put: the channel is open, and each request in it is acknowledged and confirmed.
     pub fn has_place(&self) -> bool
-        ensures told { WhileFits (λ r. IsTrue result ↔ HasPlace (channel r)) self.now.known (L.story self.now.link) }
+        ensures told { WhileFits (λ r. (result ≡ true) ↔ HasPlace (channel r)) self.now.known (L.story self.now.link) }
     {
         self.known.has_place(self.link.now())
     }
