@@ -159,7 +159,7 @@ lapsed_gone what k now e is false q over = by_way (up_expires k.channel e now is
     by_way (inl h) = record { known = rw (q, passed, h, lost_is k.channel e is) refl; is = rw (q, passed, h, lost_is k.channel e is) refl }
     by_way (inr h) = record { known = rw (q, passed, h, lost_is k.channel e is) refl; is = rw (q, passed, h, lost_is k.channel e is) refl }
 
-lapsed_none : (what : What) (k : Known) (now : ℕ) → is_late k.flight now ≡ false → is_over k.channel now ≡ false → Gives what k now k (only what)
+pub lapsed_none : (what : What) (k : Known) (now : ℕ) → is_late k.flight now ≡ false → is_over k.channel now ≡ false → Gives what k now k (only what)
 unfolding lapsed lapse_answer
 lapsed_none what k now q o = record { known = rw (q, o) refl; is = rw (q, o) refl }
 

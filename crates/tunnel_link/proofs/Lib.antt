@@ -1,9 +1,12 @@
 pub mod Beats
+pub mod CallAnswers
+pub mod CallsKept
 pub mod Clock
 pub mod Ended
 pub mod Entries
 pub mod Foreign
 pub mod Growth
+pub mod HasPlaces
 pub mod Heard
 pub mod Lapses
 pub mod MaySend
@@ -15,10 +18,12 @@ pub mod Polls
 pub mod Quiet
 pub mod Read
 pub mod Results
+pub mod SeekKept
 pub mod Seeks
 pub mod Steps
 pub mod Stories
 pub mod Takes
 pub mod TakesRows
 pub mod TakesSends
+pub mod Timeless
 pub mod Waited

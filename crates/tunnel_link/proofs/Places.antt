@@ -31,7 +31,7 @@ told_before Untold after places g p = absurd (let e : (places_in after ≡ None)
 told_before (Recorded r) after places g p = (counted r, refl)
 told_before (Full start events) after places g p = (placed start events, refl)
 
-some_is : (a b : List Placed) → Some a ≡ Some b → a ≡ b
+pub some_is : (a b : List Placed) → Some a ≡ Some b → a ≡ b
 some_is a b h = cc
 
 -- P of its places after a call

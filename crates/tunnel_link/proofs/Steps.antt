@@ -148,7 +148,7 @@ free_puts e c l cemi same place h =
 known_puts : (e : OpenEnd) (left : Bool) (ch : ClientChannel) (cemi : List ℕ) → KnowsOpen e left ch → HasPlace ch → put_octets (Some e) cemi ≡ None → ⊥
 known_puts e left ch cemi k place h = free_puts e k.c k.l cemi k.knows.is (subst HasPlace k.is place) h
 
-none_places : (ch : ClientChannel) → HasNone ch → HasPlace ch → ⊥
+pub none_places : (ch : ClientChannel) → HasNone ch → HasPlace ch → ⊥
 none_places seen.Fresh n p = p
 none_places (seen.Sought since) n p = p
 none_places (seen.RefusedBy status) n p = p

@@ -1,6 +1,6 @@
 //! The client's end of a tunnel over a link.
 
-ghost use Rattle.std.specs.Prelude.{◌≡◌, ◌≤◌, ◌↔◌, IfErr, IsTrue, OnOk, OnErr, Some, None};
+ghost use Rattle.std.specs.Prelude.{◌≡◌, ◌≤◌, ◌↔◌, IfErr, OnOk, OnErr, Some, None, true};
 ghost use Rattle.line_model.specs.Asks.{HasPlace};
 ghost use Rattle.line_model.specs.ClientView.{channel};
 ghost use Rattle.line_model.specs.Closing.{is_open};
@@ -17,7 +17,7 @@ use crate::known::Known;
 use crate::sending::{answered, connected, listened, sent};
 use crate::wait::until;
 use knx_model::Datagram;
-use line_model::{HubFault, Link};
+use line_model::{HubFault, Link, frames_are_read};
 use std::marker::Model;
 
 /// The client's end of a tunnel over a link. After a fault each call answers that fault, and nothing more is done on the link.
@@ -111,7 +111,7 @@ impl<L: Link> Tunnel<L> {
 
     /// Whether a request can be put: the channel is open, and each request in it is acknowledged and confirmed.
     pub fn has_place(&self) -> bool
-        ensures told { WhileFits (λ r. IsTrue result ↔ HasPlace (channel r)) self.now.known (L.story self.now.link) }
+        ensures told { WhileFits (λ r. (result ≡ true) ↔ HasPlace (channel r)) self.now.known (L.story self.now.link) }
     {
         self.known.has_place(self.link.now())
     }
@@ -219,6 +219,7 @@ impl<L: Link> Tunnel<L> {
     fn lapse(&mut self, now: u64) -> Result<Loss, HubFault>
         requires time { IsTime now (L.story self.old.link) }
         requires stands { self.old.known.fault ≡ None }
+        ensures told { OnOk result (IsTime now (L.story self.new.link)) }
         ensures grows { GoesOn (L.story self.old.link) (L.story self.new.link) }
         ensures fault { IfErr result (λ fault. self.new.known.fault ≡ Some fault) }
         ensures stands { OnOk result (self.new.known.fault ≡ None) }
@@ -230,9 +231,11 @@ impl<L: Link> Tunnel<L> {
         Ok(loss)
     }
 
-    /// Sends the request that is due again, or else the heartbeat. Tells whether there was one.
+    /// Sends the request that is due again, or else the heartbeat, which takes no time. Tells whether there was one.
     fn send_due(&mut self, now: u64) -> Result<bool, HubFault>
+        requires time { IsTime now (L.story self.old.link) }
         requires stands { self.old.known.fault ≡ None }
+        ensures told { OnOk result (IsTime now (L.story self.new.link)) }
         ensures grows { GoesOn (L.story self.old.link) (L.story self.new.link) }
         ensures fault { IfErr result (λ fault. self.new.known.fault ≡ Some fault) }
         ensures stands { OnOk result (self.new.known.fault ≡ None) }
@@ -260,6 +263,7 @@ impl<L: Link> Tunnel<L> {
         ensures time { L.clock self.old.link ≤ L.clock self.new.link }
         ensures events { L.place self.old.link ≤ L.place self.new.link }
     {
+        frames_are_read();
         self.known.standing()?;
         let now = self.link.now();
         let wait_ms = until(self.deadline(), now, longest_ms);

@@ -1,4 +1,4 @@
-use Rattle.std.proofs.Common.{rules, take}
+use Rattle.std.proofs.Common.{rules, take, refl}
 use Rattle.line_model.specs.Record.{Got}
 use Rattle.tunnel_link.proofs.Results.{polled_got}
 use Rattle.tunnel_link.proofs.sending.polled.Goals as goal
