@@ -68,7 +68,6 @@ impl Work {
         ensures books { IfOk result (λ work. (at : ℕ) → KeepsBooks at work) }
         ensures tasks { IfOk result (λ work. tasks work ≡ map task_of_hub_job jobs) }
         ensures fits { IfOk result (BeginsRightly jobs) }
-        ensures books { IfOk result (λ work. (at : ℕ) → KeepsBooks at work) }
     {
         each_operation_can_be_sent();
         let room = jobs.len() + jobs.len() + groups.len();
