@@ -13,4 +13,4 @@ pub returns-in-Some-clause-adds : goal.returns-in-Some-clause-adds
 returns-in-Some-clause-adds g c = rw (← ap (λ v. v.link) c.self.view_is) (put_call_adds _ _ _ _ _ c.self.invariant c.in_ok-standing.ensures.stands _ _ _ _ c.now-now.ensures.told c.requires (sym c.puts.ensures.answer ∙ c.in-Some.is) c.puts.ensures.next c.sent.ensures.so)
 
 pub returns-in-None-clause-adds : goal.returns-in-None-clause-adds
-returns-in-None-clause-adds g c = rw (← ap (λ v. v.link) c.self.view_is) (unput_adds _ _ c.self.invariant c.in_ok-standing.ensures.stands _ _ (sym c.puts.ensures.answer ∙ c.in-None.is))
+returns-in-None-clause-adds g c = rw (← ap (λ v. v.link) c.self.view_is) (unput_adds _ _ c.self.invariant c.in_ok-standing.ensures.stands {X = Unit {0}} tt _ (sym c.puts.ensures.answer ∙ c.in-None.is))
