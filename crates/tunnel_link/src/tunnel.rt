@@ -15,7 +15,7 @@ use crate::acted::Acted;
 use crate::came::{Answer, Came, Loss, What};
 use crate::known::Known;
 use crate::sending::{answered, connected, listened, sent};
-use crate::wait::until;
+use crate::wait::{LONGEST_POLL_MS, until};
 use knx_model::Datagram;
 use line_model::{HubFault, Link, frames_are_read};
 use std::marker::Model;
@@ -247,7 +247,7 @@ impl<L: Link> Tunnel<L> {
         }
     }
 
-    /// One poll of at most so many milliseconds, and not past a deadline. A request that was got is acknowledged at once, and a loss of the
+    /// One poll of at most so many milliseconds, never more than 100, and not past a deadline. A request that was got is acknowledged at once, and a loss of the
     /// channel answered.
     pub fn poll(&mut self, longest_ms: u32) -> Result<Came, HubFault>
         ensures grows { GoesOn (L.story self.old.link) (L.story self.new.link) }
@@ -261,7 +261,7 @@ impl<L: Link> Tunnel<L> {
         frames_are_read();
         self.known.standing()?;
         let now = self.link.now();
-        let wait_ms = until(self.deadline(), now, longest_ms);
+        let wait_ms = until(self.deadline(), now, longest_ms.min(LONGEST_POLL_MS));
         listened(&mut self.link, &mut self.known, wait_ms)
     }
 
