@@ -1,7 +1,9 @@
+pub mod Acting
 pub mod Beats
 pub mod CallAnswers
 pub mod CallsKept
 pub mod Clock
+pub mod DueLate
 pub mod Ended
 pub mod Entries
 pub mod Foreign

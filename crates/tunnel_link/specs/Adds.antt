@@ -117,6 +117,22 @@ pub record ActsSo (acted : Acted) (old added : List Placed) : Type 0 where
   pub only_sends : list_any (λ (p : Placed). is_poll p.what.what) added ≡ false
   pub asks_no_end : asks_end added ≡ false
 
+-- of one of them, the request again or a heartbeat: where there is none nothing is late
+pub record DuesOne (old added : List Placed) : Type 0 where
+  pub nothing : AllNothing old added
+  pub only_sends : list_any (λ (p : Placed). is_poll p.what.what) added ≡ false
+  pub asks_no_end : asks_end added ≡ false
+  pub some : added ≢ []
+
+pub record DuesNone (old added : List Placed) : Type 0 where
+  pub none : added ≡ []
+  pub in_time : is_late (channel (entries old)) (newest_time (entries old)) ≡ false
+
+abbrev pub Dues : Result Bool HubFault → List Placed → List Placed → Type 0
+Dues (Ok true) old added = DuesOne old added
+Dues (Ok false) old added = DuesNone old added
+Dues (Err fault) old added = AllNothing old added
+
 abbrev pub Acts : Result Acted HubFault → List Placed → List Placed → Type 0
 Acts (Ok acted) old added = AllNothing old added × ActsSo acted old added
 Acts (Err fault) old added = AllNothing old added

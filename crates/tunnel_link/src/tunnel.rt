@@ -1,6 +1,6 @@
 //! The client's end of a tunnel over a link.
 
-ghost use Rattle.std.specs.Prelude.{◌≡◌, ◌≤◌, ◌↔◌, IfErr, OnOk, OnErr, Some, None, true};
+ghost use Rattle.std.specs.Prelude.{◌≡◌, ◌≤◌, ◌↔◌, IfErr, OnOk, OnErr, Ok, Some, None, true};
 ghost use Rattle.line_model.specs.Asks.{HasPlace};
 ghost use Rattle.line_model.specs.ClientView.{channel};
 ghost use Rattle.line_model.specs.Closing.{is_open};
@@ -9,7 +9,8 @@ ghost use Rattle.line_model.specs.LinkStory.{IsNewLink, IsTime, IsPlace, newest_
 ghost use Rattle.line_model.specs.Record.{entries};
 ghost use Rattle.tunnel_link.specs.Goes.{GoesOn, Keeps, AfterFault, new_known};
 ghost use Rattle.tunnel_link.specs.Rights.{IsntRefusal, KeepsRecord, WhereTold, WhileFits};
-ghost use Rattle.tunnel_link.specs.Adds.{Growing, place_of, Seeks, PutsOne, Leaves, Acts, PollAdds};
+ghost use Rattle.tunnel_link.specs.Adds.{Growing, place_of, Seeks, PutsOne, Leaves, Dues, Acts, PollAdds};
+ghost use Rattle.tunnel_link.specs.declared.came.Loss.TheVariants.{Stays};
 
 use crate::acted::Acted;
 use crate::came::{Answer, Came, Loss, What};
@@ -205,16 +206,14 @@ impl<L: Link> Tunnel<L> {
         let loss = self.lapse(now)?;
         let again = self.send_due(now)?;
         let beat = self.send_due(now)?;
-        Ok(Acted {
-            sent: again || beat || loss == Loss::Told,
-            loss,
-        })
+        Ok(Acted::new(loss, again, beat))
     }
 
     /// Gives up a channel or a try that the time has ended.
     fn lapse(&mut self, now: u64) -> Result<Loss, HubFault>
         requires time { IsTime now (L.story self.old.link) }
         requires stands { self.old.known.fault ≡ None }
+        ensures still { WhereTold (λ places. (result ≡ Ok Stays) × (L.story self.new.link ≡ L.story self.old.link)) (L.story self.old.link) }
         ensures told { OnOk result (IsTime now (L.story self.new.link)) }
         ensures grows { GoesOn (L.story self.old.link) (L.story self.new.link) }
         ensures fault { IfErr result (λ fault. self.new.known.fault ≡ Some fault) }
@@ -231,6 +230,7 @@ impl<L: Link> Tunnel<L> {
     fn send_due(&mut self, now: u64) -> Result<bool, HubFault>
         requires time { IsTime now (L.story self.old.link) }
         requires stands { self.old.known.fault ≡ None }
+        ensures adds { Growing (Dues result) (L.story self.old.link) (L.story self.new.link) }
         ensures told { OnOk result (IsTime now (L.story self.new.link)) }
         ensures grows { GoesOn (L.story self.old.link) (L.story self.new.link) }
         ensures fault { IfErr result (λ fault. self.new.known.fault ≡ Some fault) }
