@@ -110,3 +110,33 @@ module _ (lapse : Result Loss HubFault) (s0 s1 : Story) (still : WhereTold (λ p
 
   pub act_first : (answer : Result Acted HubFault) (fault : HubFault) → answer ≡ Err fault → (again : Result Bool HubFault) (u : Story) → again ≡ Err fault → Growing (Dues again) s1 u → Growing (Acts answer) s0 u
   act_first answer fault e again u q f = as_err answer fault e u (at_first AllNothing u (λ old p. (let x = f old p in record { new = x.new; told = x.told; added = x.added; grown = x.grown; is = subst (λ (a : Result Bool HubFault). Dues a old x.added) q x.is })))
+
+  module _ (s2 s3 : Story) (r1 r2 : Result Bool HubFault) (g : GoesOn s1 s2) (h : GoesOn s2 s3) (f : Growing (Dues r1) s1 s2) (d : Growing (Dues r2) s2 s3) where
+    as_dues : (s t : Story) (r q : Result Bool HubFault) → r ≡ q → Growing (Dues r) s t → Growing (Dues q) s t
+    as_dues s t r q e x = subst (λ (a : Result Bool HubFault). Growing (Dues a) s t) e x
+
+    nothing_of : (b : Bool) (old added : List Placed) → Dues (Ok b) old added → AllNothing old added
+    nothing_of true old added x = x.nothing
+    nothing_of false old added x = rw x.none tt
+
+    pub act_second : (answer : Result Acted HubFault) (fault : HubFault) → answer ≡ Err fault → (again : Bool) → r1 ≡ Ok again → r2 ≡ Err fault → Growing (Acts answer) s0 s3
+    act_second answer fault e again p q =
+        as_err answer fault e s3 (at_first AllNothing s3 (grows_then (Dues (Ok again)) (Dues (Err fault)) AllNothing s1 s2 s3 g h (λ old one two x y. (nothing_two old one two (nothing_of again old one x) y))
+        (as_dues s1 s2 r1 (Ok again) p f) (as_dues s2 s3 r2 (Err fault) q d)))
+
+    acts_so : (again beat : Bool) (acted : Acted) (old added : List Placed) → acted ≡ record { sent = again || beat || is_told Stays; loss = Stays } → TwoDue again beat old added → Acts (Ok acted) old added
+    acts_so again beat acted old added e t = rw e (t.nothing, record {
+      loss = refl; unsent = λ h. t.unsent (or_false (again || beat) false h).0; sent = λ h. t.sent (told_not again beat h); only_sends = t.only_sends; asks_no_end = t.asks_no_end;
+    })
+      where
+        told_not : (a b : Bool) → (a || b || false) ≡ true → (a || b) ≡ true
+        told_not true b h = refl
+        told_not false true h = refl
+        told_not false false h = absurd (cc)
+
+    pub act_all : (loss : Loss) (again beat : Bool) (acted : Acted) → lapse ≡ Ok loss → r1 ≡ Ok again → r2 ≡ Ok beat → acted ≡ record { sent = again || beat || is_told loss; loss = loss } → Growing (Acts (Ok acted)) s0 s3
+    act_all loss again beat acted l p q e old o =
+        let stays : (loss ≡ Stays) = (let a = (still old o).0 in let b = sym l ∙ a in cc) in
+        at_first (Acts (Ok acted)) s3 (grows_then (Dues (Ok again)) (Dues (Ok beat)) (Acts (Ok acted)) s1 s2 s3 g h
+            (λ old one two x y. (acts_so again beat acted old (two ++ one) (e ∙ ap (λ (k : Loss). record { sent = again || beat || is_told k; loss = k }) stays) (dues_two again beat old one two x y)))
+            (as_dues s1 s2 r1 (Ok again) p f) (as_dues s2 s3 r2 (Ok beat) q d)) old o
