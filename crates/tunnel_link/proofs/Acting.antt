@@ -81,8 +81,11 @@ some_two (p ∷ two) one n h = absurd (cc)
 
 dues_two : (again beat : Bool) (old one two : List Placed) → Dues (Ok again) old one → Dues (Ok beat) (one ++ old) two → TwoDue again beat old (two ++ one)
 dues_two true true old one two x y = record {
-  nothing = nothing_two old one two x.nothing y.nothing; only_sends = none_two _ two one y.only_sends x.only_sends; asks_no_end = none_two _ two one y.asks_no_end x.asks_no_end;
-  unsent = λ h. absurd (cc); sent = λ h. (some_two two one x.some);
+  nothing = nothing_two old one two x.nothing y.nothing;
+  only_sends = none_two _ two one y.only_sends x.only_sends;
+  asks_no_end = none_two _ two one y.asks_no_end x.asks_no_end;
+  unsent = λ h. absurd (cc);
+  sent = λ h. (some_two two one x.some);
 }
 dues_two true false old one two x y = rw y.none (record { nothing = x.nothing; only_sends = x.only_sends; asks_no_end = x.asks_no_end; unsent = λ h. absurd (cc); sent = λ h. x.some })
 dues_two false true old one two x y =
@@ -125,9 +128,16 @@ module _ (lapse : Result Loss HubFault) (s0 s1 : Story) (still : WhereTold (λ p
         (as_dues s1 s2 r1 (Ok again) p f) (as_dues s2 s3 r2 (Err fault) q d)))
 
     acts_so : (again beat : Bool) (acted : Acted) (old added : List Placed) → acted ≡ record { sent = again || beat || is_told Stays; loss = Stays } → TwoDue again beat old added → Acts (Ok acted) old added
-    acts_so again beat acted old added e t = rw e (t.nothing, record {
-      loss = refl; unsent = λ h. t.unsent (or_false (again || beat) false h).0; sent = λ h. t.sent (told_not again beat h); only_sends = t.only_sends; asks_no_end = t.asks_no_end;
-    })
+    acts_so again beat acted old added e t = rw e (
+      t.nothing,
+      record {
+        loss = refl;
+        unsent = λ h. t.unsent (or_false (again || beat) false h).0;
+        sent = λ h. t.sent (told_not again beat h);
+        only_sends = t.only_sends;
+        asks_no_end = t.asks_no_end;
+      },
+    )
       where
         told_not : (a b : Bool) → (a || b || false) ≡ true → (a || b) ≡ true
         told_not true b h = refl
@@ -138,5 +148,5 @@ module _ (lapse : Result Loss HubFault) (s0 s1 : Story) (still : WhereTold (λ p
     act_all loss again beat acted l p q e old o =
         let stays : (loss ≡ Stays) = (let a = (still old o).0 in let b = sym l ∙ a in cc) in
         at_first (Acts (Ok acted)) s3 (grows_then (Dues (Ok again)) (Dues (Ok beat)) (Acts (Ok acted)) s1 s2 s3 g h
-            (λ old one two x y. (acts_so again beat acted old (two ++ one) (e ∙ ap (λ (k : Loss). record { sent = again || beat || is_told k; loss = k }) stays) (dues_two again beat old one two x y)))
-            (as_dues s1 s2 r1 (Ok again) p f) (as_dues s2 s3 r2 (Ok beat) q d)) old o
+        (λ old one two x y. (acts_so again beat acted old (two ++ one) (e ∙ ap (λ (k : Loss). record { sent = again || beat || is_told k; loss = k }) stays) (dues_two again beat old one two x y)))
+        (as_dues s1 s2 r1 (Ok again) p f) (as_dues s2 s3 r2 (Ok beat) q d)) old o

@@ -46,4 +46,4 @@ late_by (seen.Lost c) now h = refl
 pub due_late : (k : Known) (r : List Entry) → FitsRecord k r → sent_by (channel_expired k.channel (newest_time r)) ≡ None → is_late (channel r) (newest_time r) ≡ false
 due_late k r f q =
     late_by (channel r) (newest_time r) (λ c l at.
-        (open_late c l (newest_time r) (channel_expired k.channel (newest_time r)) (is_nothing (channel_expired k.channel (newest_time r)) q (told_over k r f)) ((expires k r f).by_cause c l at)))
+    (open_late c l (newest_time r) (channel_expired k.channel (newest_time r)) (is_nothing (channel_expired k.channel (newest_time r)) q (told_over k r f)) ((expires k r f).by_cause c l at)))

@@ -6,6 +6,7 @@ pub mod Clock
 pub mod DueLate
 pub mod Ended
 pub mod Entries
+pub mod Faulted
 pub mod Foreign
 pub mod Growth
 pub mod HasPlaces

@@ -8,7 +8,7 @@ ghost use Rattle.line_model.specs.ClientEnd.{IsCemi};
 ghost use Rattle.line_model.specs.LinkStory.{IsNewLink, IsTime, IsPlace, newest_time};
 ghost use Rattle.line_model.specs.Record.{entries};
 ghost use Rattle.tunnel_link.specs.Goes.{GoesOn, Keeps, AfterFault, new_known};
-ghost use Rattle.tunnel_link.specs.Rights.{IsntRefusal, KeepsRecord, WhereTold, WhileFits};
+ghost use Rattle.tunnel_link.specs.Rights.{IsntRefusal, IsOfTunnel, KeepsRecord, WhereTold, WhileFits};
 ghost use Rattle.tunnel_link.specs.Adds.{Growing, place_of, Seeks, PutsOne, Leaves, Dues, Acts, PollAdds};
 ghost use Rattle.tunnel_link.specs.declared.came.Loss.TheVariants.{Stays};
 
@@ -139,6 +139,7 @@ impl<L: Link> Tunnel<L> {
         ensures adds { Growing (Seeks result) (L.story self.old.link) (L.story self.new.link) }
         ensures fault { IfErr result (λ fault. self.new.known.fault ≡ Some fault) }
         ensures stands { OnOk result (self.new.known.fault ≡ None) }
+        ensures by_tunnel { self.old.known.fault ≡ None → IfErr result IsOfTunnel }
         ensures ended { AfterFault self.old result self.new }
         ensures time { L.clock self.old.link ≤ L.clock self.new.link }
         ensures events { L.place self.old.link ≤ L.place self.new.link }
@@ -158,6 +159,7 @@ impl<L: Link> Tunnel<L> {
         ensures adds { Growing (PutsOne result cemi.now (place_of (L.story self.new.link))) (L.story self.old.link) (L.story self.new.link) }
         ensures fault { IfErr result (λ fault. self.new.known.fault ≡ Some fault) }
         ensures stands { OnOk result (self.new.known.fault ≡ None) }
+        ensures by_tunnel { self.old.known.fault ≡ None → IfErr result IsOfTunnel }
         ensures ended { AfterFault self.old result self.new }
         ensures time { L.clock self.old.link ≤ L.clock self.new.link }
         ensures events { L.place self.old.link ≤ L.place self.new.link }
@@ -176,6 +178,7 @@ impl<L: Link> Tunnel<L> {
         ensures adds { Growing (Leaves result) (L.story self.old.link) (L.story self.new.link) }
         ensures fault { IfErr result (λ fault. self.new.known.fault ≡ Some fault) }
         ensures stands { OnOk result (self.new.known.fault ≡ None) }
+        ensures by_tunnel { self.old.known.fault ≡ None → IfErr result IsOfTunnel }
         ensures ended { AfterFault self.old result self.new }
         ensures time { L.clock self.old.link ≤ L.clock self.new.link }
         ensures events { L.place self.old.link ≤ L.place self.new.link }
@@ -197,6 +200,7 @@ impl<L: Link> Tunnel<L> {
         ensures adds { Growing (Acts result) (L.story self.old.link) (L.story self.new.link) }
         ensures fault { IfErr result (λ fault. self.new.known.fault ≡ Some fault) }
         ensures stands { OnOk result (self.new.known.fault ≡ None) }
+        ensures by_tunnel { self.old.known.fault ≡ None → IfErr result IsOfTunnel }
         ensures ended { AfterFault self.old result self.new }
         ensures time { L.clock self.old.link ≤ L.clock self.new.link }
         ensures events { L.place self.old.link ≤ L.place self.new.link }
@@ -218,6 +222,7 @@ impl<L: Link> Tunnel<L> {
         ensures grows { GoesOn (L.story self.old.link) (L.story self.new.link) }
         ensures fault { IfErr result (λ fault. self.new.known.fault ≡ Some fault) }
         ensures stands { OnOk result (self.new.known.fault ≡ None) }
+        ensures by_tunnel { IfErr result IsOfTunnel }
         ensures time { L.clock self.old.link ≤ L.clock self.new.link }
         ensures events { L.place self.old.link ≤ L.place self.new.link }
     {
@@ -235,6 +240,7 @@ impl<L: Link> Tunnel<L> {
         ensures grows { GoesOn (L.story self.old.link) (L.story self.new.link) }
         ensures fault { IfErr result (λ fault. self.new.known.fault ≡ Some fault) }
         ensures stands { OnOk result (self.new.known.fault ≡ None) }
+        ensures by_tunnel { IfErr result IsOfTunnel }
         ensures time { L.clock self.old.link ≤ L.clock self.new.link }
         ensures events { L.place self.old.link ≤ L.place self.new.link }
     {
@@ -254,6 +260,7 @@ impl<L: Link> Tunnel<L> {
         ensures adds { Growing (PollAdds result) (L.story self.old.link) (L.story self.new.link) }
         ensures fault { IfErr result (λ fault. self.new.known.fault ≡ Some fault) }
         ensures stands { OnOk result (self.new.known.fault ≡ None) }
+        ensures by_tunnel { self.old.known.fault ≡ None → IfErr result IsOfTunnel }
         ensures ended { AfterFault self.old result self.new }
         ensures time { L.clock self.old.link ≤ L.clock self.new.link }
         ensures events { L.place self.old.link ≤ L.place self.new.link }
