@@ -142,6 +142,7 @@ impl<L: Link> Tunnel<L> {
         ensures by_tunnel { self.old.known.fault ≡ None → IfErr result IsOfTunnel }
         ensures ended { AfterFault self.old result self.new }
         ensures time { L.clock self.old.link ≤ L.clock self.new.link }
+        ensures count { L.faults self.old.link ≤ L.faults self.new.link }
         ensures events { L.place self.old.link ≤ L.place self.new.link }
     {
         self.known.standing()?;
@@ -162,6 +163,7 @@ impl<L: Link> Tunnel<L> {
         ensures by_tunnel { self.old.known.fault ≡ None → IfErr result IsOfTunnel }
         ensures ended { AfterFault self.old result self.new }
         ensures time { L.clock self.old.link ≤ L.clock self.new.link }
+        ensures count { L.faults self.old.link ≤ L.faults self.new.link }
         ensures events { L.place self.old.link ≤ L.place self.new.link }
     {
         self.known.standing()?;
@@ -181,6 +183,7 @@ impl<L: Link> Tunnel<L> {
         ensures by_tunnel { self.old.known.fault ≡ None → IfErr result IsOfTunnel }
         ensures ended { AfterFault self.old result self.new }
         ensures time { L.clock self.old.link ≤ L.clock self.new.link }
+        ensures count { L.faults self.old.link ≤ L.faults self.new.link }
         ensures events { L.place self.old.link ≤ L.place self.new.link }
     {
         self.known.standing()?;
@@ -203,6 +206,7 @@ impl<L: Link> Tunnel<L> {
         ensures by_tunnel { self.old.known.fault ≡ None → IfErr result IsOfTunnel }
         ensures ended { AfterFault self.old result self.new }
         ensures time { L.clock self.old.link ≤ L.clock self.new.link }
+        ensures count { L.faults self.old.link ≤ L.faults self.new.link }
         ensures events { L.place self.old.link ≤ L.place self.new.link }
     {
         self.known.standing()?;
@@ -224,6 +228,7 @@ impl<L: Link> Tunnel<L> {
         ensures stands { OnOk result (self.new.known.fault ≡ None) }
         ensures by_tunnel { IfErr result IsOfTunnel }
         ensures time { L.clock self.old.link ≤ L.clock self.new.link }
+        ensures count { L.faults self.old.link ≤ L.faults self.new.link }
         ensures events { L.place self.old.link ≤ L.place self.new.link }
     {
         let Answer { loss, sends, .. } = self.known.lapse(What::Quiet, now);
@@ -242,6 +247,7 @@ impl<L: Link> Tunnel<L> {
         ensures stands { OnOk result (self.new.known.fault ≡ None) }
         ensures by_tunnel { IfErr result IsOfTunnel }
         ensures time { L.clock self.old.link ≤ L.clock self.new.link }
+        ensures count { L.faults self.old.link ≤ L.faults self.new.link }
         ensures events { L.place self.old.link ≤ L.place self.new.link }
     {
         match self.known.due(now) {
@@ -263,6 +269,7 @@ impl<L: Link> Tunnel<L> {
         ensures by_tunnel { self.old.known.fault ≡ None → IfErr result IsOfTunnel }
         ensures ended { AfterFault self.old result self.new }
         ensures time { L.clock self.old.link ≤ L.clock self.new.link }
+        ensures count { L.faults self.old.link ≤ L.faults self.new.link }
         ensures events { L.place self.old.link ≤ L.place self.new.link }
     {
         frames_are_read();
