@@ -73,7 +73,7 @@ same_length (Refused job op got expected) worker r = length-set r.stages (job - 
 same_length (Sent turn) worker r = refl
 same_length (Lost turn) worker r = refl
 
-length_is : (jobs : List Job) (log : List LogEntry) → length (reservation_after jobs log).stages ≡ length jobs
+pub length_is : (jobs : List Job) (log : List LogEntry) → length (reservation_after jobs log).stages ≡ length jobs
 length_is jobs [] = length-replicate (length (map device_of_job jobs)) Untaken ∙ length_in_map jobs
 length_is jobs (e ∷ log) = same_length e.what e.worker (reservation_after jobs log) ∙ length_is jobs log
 
@@ -87,7 +87,7 @@ some_at [] i lt e = absurd (omega arith)
 some_at (job ∷ jobs) zero lt e = absurd (cc)
 some_at (job ∷ jobs) (suc i) lt e = some_at jobs i (omega arith) e
 
-is_there : (jobs : List Job) (k : ℕ) → 1 ≤ k → k ≤ length jobs → job_of jobs k ≢ None
+pub is_there : (jobs : List Job) (k : ℕ) → 1 ≤ k → k ≤ length jobs → job_of jobs k ≢ None
 is_there jobs k from to e = some_at jobs (k - 1) (omega arith) (sym (by_place jobs k from) ∙ e)
 
 there_is : (o : Option Job) → o ≢ None → (job : Job) × (o ≡ Some job)
@@ -117,7 +117,7 @@ enters (Refused job op got expected) worker at k s r held e = ends r job k s hel
 enters (Sent turn) worker at k s r held e = e
 enters (Lost turn) worker at k s r held e = e
 
-stage_is : (jobs : List Job) (log : List LogEntry) (k : ℕ) → IsReserved jobs log → job_of jobs k ≢ None → stage_of (reservation_after jobs log) k ≡ Some (stage_in (state_of k log))
+pub stage_is : (jobs : List Job) (log : List LogEntry) (k : ℕ) → IsReserved jobs log → job_of jobs k ≢ None → stage_of (reservation_after jobs log) k ≡ Some (stage_in (state_of k log))
 stage_is jobs [] k reserved there = at_first jobs k there
 stage_is jobs (e ∷ log) k reserved there = enters e.what e.worker e.at k (state_of k log) (reservation_after jobs log) reserved.0 (stage_is jobs log k reserved.1 there)
 

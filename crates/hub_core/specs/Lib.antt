@@ -1,7 +1,5 @@
-pub mod Requests
-pub mod Telegrams
-pub mod Turns
 pub mod Seen
-pub mod Books
-pub mod Works
+pub mod Discipline
 pub mod Keeps
+pub mod Promises
+pub mod Taking

@@ -1,14 +1,15 @@
-mod Frames
-mod Times
-mod Readings
-mod Opened
-mod Rows
-mod Puts
-mod Take
-mod Answered
-mod Given
-mod Expired
-mod Calls
-mod Current
-mod Quiet
-mod Deadline
+pub mod Frames
+pub mod Times
+pub mod Readings
+pub mod Opened
+pub mod Rows
+pub mod Puts
+pub mod Flights
+pub mod Take
+pub mod Answered
+pub mod Given
+pub mod Expired
+pub mod Calls
+pub mod Current
+pub mod Quiet
+pub mod Deadline

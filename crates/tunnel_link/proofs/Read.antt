@@ -51,3 +51,7 @@ has_tunnel octets (DisconnectRequest channel) reads = tt
 has_tunnel octets (DisconnectResponse channel status) reads = tt
 has_tunnel octets (TunnellingRequest channel number cemi) reads = tt
 has_tunnel octets (TunnellingAck channel number status) reads = tt
+
+-- the same of each datagram
+pub has_tunnels : ((octets : List ℕ) (frame : IpFrame) → (datagram_in octets ≡ Some frame) ↔ Reads octets frame) → (octets : List ℕ) (frame : IpFrame) → datagram_in octets ≡ Some frame → HasTunnelIfUp frame
+has_tunnels law octets frame is = has_tunnel octets frame ((law octets frame).0 is)

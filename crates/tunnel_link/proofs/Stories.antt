@@ -5,11 +5,7 @@ use Rattle.line_model.specs.World.{World, Event, Send, Renew, replay}
 use Rattle.line_model.specs.Legal.{MayHappen, IsLegal}
 use Rattle.line_model.specs.Record.{Item, Put, Renewed, Got, Quiet, Entry, entry}
 use Rattle.line_model.specs.LinkStory as told
-use Rattle.line_model.specs.LinkStory.{Story, Untold, Recorded, Full, Adds, Sends, Renews, SendsOrNot, RenewsOrNot, Polls, PollsNothing, PollsFull, PollsRecord, Same, More, IsNewLink}
-use Rattle.line_model.specs.declared.outside.link.LinkFault.{LinkFault}
-use Rattle.line_model.specs.declared.outside.link.Polled.{Polled}
-use Rattle.line_model.specs.declared.outside.link.Polled.TheVariants as answer
-use Rattle.line_model.specs.Polled.{PollsSo}
+use Rattle.line_model.specs.LinkStory.{Story, Untold, Recorded, Full, Adds, Sends, Renews, SendsOrNot, RenewsOrNot, Polls, PollsNothing, FailsFull, PollsFull, PollsRecord, Same, More, IsNewLink}
 use Rattle.tunnel_link.specs.Goes.{GoesOn, Goes, Keeps, IsLegalRun}
 
 -- ---- one after another
@@ -90,16 +86,12 @@ polls_goes what wait clock before (Full start events) h =
     let P : Story → Type 0 = λ s. Goes s (Full start events) in
     subst P (sym h.1) (full_goes what wait start h.0 events h.2)
 
-pub nothing_goes : (before after : Story) → PollsNothing before after → Goes before after
-nothing_goes before Untold h = let P : Story → Type 0 = λ s. Goes s Untold in subst P (sym h) (record { on = refl; keeps = λ k. tt })
-nothing_goes before (Recorded r) h = stays before (Recorded r) (sym h)
-nothing_goes before (Full start events) h =
+pub nothing_goes : (wait : ℕ) (before after : Story) → PollsNothing wait before after → Goes before after
+nothing_goes wait before Untold h = let P : Story → Type 0 = λ s. Goes s Untold in subst P (sym h) (record { on = refl; keeps = λ k. tt })
+nothing_goes wait before (Recorded r) h = stays before (Recorded r) (sym h)
+nothing_goes wait before (Full start events) h =
     let P : Story → Type 0 = λ s. Goes s (Full start events) in
-    subst P (sym h.1) (foreign_goes start h.0 events h.2)
-
-pub polled_goes : (what : Polled) (into : List ℕ) (wait clock : ℕ) (before after : Story) → PollsSo (Ok what) into wait clock before after → Goes before after
-polled_goes (answer.Got n) into wait clock before after h = polls_goes (Got (take n into)) wait clock before after h.1
-polled_goes answer.Quiet into wait clock before after h = polls_goes Quiet wait clock before after h
+    subst P (sym h.1) (foreign_goes start h.0 events h.2.foreign)
 
 pub new_keeps : (s : Story) → IsNewLink s → Keeps s
 new_keeps Untold h = tt

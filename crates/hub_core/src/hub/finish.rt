@@ -5,8 +5,7 @@ ghost use Rattle.tunnel_link.specs.Goes.{GoesOn};
 ghost use Rattle.hub_core.specs.Seen.{SameRun, StaysEnded};
 
 use super::Hub;
-use crate::answers::Finished;
-use crate::closing::Closing;
+use hub_work::{Closing, Finished, moments_go_on};
 use line_model::{HubFault, Link};
 
 impl<L: Link> Hub<L> {
@@ -39,14 +38,14 @@ impl<L: Link> Hub<L> {
     {
         let now = self.tunnel.now();
         if self.closing().asks(now) {
-            self.leave(now)
+            self.leave()
         } else {
             self.listen()
         }
     }
 
     /// Asks to end the channel.
-    fn leave(&mut self, now: u64) -> Result<Finished, HubFault>
+    fn leave(&mut self) -> Result<Finished, HubFault>
         requires stands { self.old.fault ≡ None }
         ensures grows { GoesOn (L.story self.old.link) (L.story self.new.link) }
         ensures fault { IfErr result (λ fault. self.new.fault ≡ Some fault) }
@@ -54,8 +53,11 @@ impl<L: Link> Hub<L> {
         ensures run { SameRun self.old self.new }
         ensures log { self.new.log ≡ self.old.log }
     {
-        if self.tunnel.leave()? {
-            self.work.asked(now);
+        moments_go_on();
+        let asked = self.tunnel.leave()?;
+        let now = self.tunnel.now();
+        if asked {
+            self.work.closing = Some(Closing::asked(now));
             return Ok(Finished::Going);
         }
         Ok(Finished::Over)

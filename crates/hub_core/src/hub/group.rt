@@ -1,14 +1,13 @@
 //! The group telegrams.
 
-ghost use Rattle.std.specs.Prelude.{◌≡◌, IfErr, IfOk, IfSome, OnErr, OnOk, Some, None};
+ghost use Rattle.std.specs.Prelude.{◌≡◌, IfErr, IfOk, IfSome, OnErr, Some, None};
 ghost use Rattle.tunnel_link.specs.Goes.{GoesOn};
 ghost use Rattle.line_model.specs.Log.{IsNextTurn, TurnUnfinished};
-ghost use Rattle.hub_core.specs.Turns.{Adds, GroupTells, IsntTold, TellsTurn};
+ghost use Rattle.hub_work.specs.Turns.{GroupTells};
 ghost use Rattle.hub_core.specs.Seen.{SameRun, StaysEnded};
 
 use super::Hub;
-use crate::answers::GroupDid;
-use crate::telegrams::Stage;
+use hub_work::{GroupDid, Stage, places_are_free};
 use line_model::{HubFault, Link, LogWhat};
 
 impl<L: Link> Hub<L> {
@@ -22,7 +21,7 @@ impl<L: Link> Hub<L> {
 
     /// One step of the group telegram `k`, from 1, which is the least that isn't told: its request is put, or it is told sent or lost.
     pub fn send_group(&mut self, k: u32) -> Result<GroupDid, HubFault>
-        requires { IsNextTurn self.old.turns self.old.log k }
+        requires next { IsNextTurn self.old.turns self.old.log k }
         ensures grows { GoesOn (L.story self.old.link) (L.story self.new.link) }
         ensures told { IfOk result (λ did. GroupTells (L.place self.old.link) k did self.old.log self.new.log) }
         ensures untold { OnErr result (self.new.log ≡ self.old.log) }
@@ -33,54 +32,30 @@ impl<L: Link> Hub<L> {
         if let Some(fault) = self.tunnel.fault() {
             return Err(fault);
         }
+        let at = self.tunnel.at();
         match self.work.stage() {
-            Stage::Unput => self.put_group(),
             Stage::UnderWay => Ok(GroupDid::Wait),
-            Stage::Confirmed => self.tell_group(k, LogWhat::Sent(k), GroupDid::Sent),
-            Stage::Lost => self.tell_group(k, LogWhat::Lost(k), GroupDid::Lost),
-        }
-    }
-
-    /// Puts the telegram, where it can be put.
-    fn put_group(&mut self) -> Result<GroupDid, HubFault>
-        requires stands { self.old.fault ≡ None }
-        ensures grows { GoesOn (L.story self.old.link) (L.story self.new.link) }
-        ensures fault { IfErr result (λ fault. self.new.fault ≡ Some fault) }
-        ensures stands { OnOk result (self.new.fault ≡ None) }
-        ensures log { self.new.log ≡ self.old.log }
-        ensures did { IfOk result IsntTold }
-        ensures run { SameRun self.old self.new }
-    {
-        if !self.tunnel.has_place() {
-            return Ok(GroupDid::Wait);
-        }
-        match self.work.telegram() {
-            Some(cemi) => {
+            Stage::Confirmed => {
+                self.work.tell_telegram(at, k, LogWhat::Sent(k));
+                Ok(GroupDid::Sent)
+            }
+            Stage::Lost => {
+                self.work.tell_telegram(at, k, LogWhat::Lost(k));
+                Ok(GroupDid::Lost)
+            }
+            Stage::Unput => {
+                if !self.tunnel.has_place() {
+                    return Ok(GroupDid::Wait);
+                }
+                let Some(cemi) = self.work.telegram() else {
+                    return Ok(GroupDid::Wait);
+                };
+                self.tunnel.keeps();
+                places_are_free();
                 self.work.telegram_put();
                 self.tunnel.put(&cemi)?;
                 Ok(GroupDid::Put)
             }
-            None => Ok(GroupDid::Wait),
-        }
-    }
-
-    /// Tells what came of it.
-    fn tell_group(&mut self, k: u32, what: LogWhat, did: GroupDid) -> Result<GroupDid, HubFault>
-        requires next { IsNextTurn self.old.turns self.old.log k }
-        requires what { TellsTurn k what }
-        requires stands { self.old.fault ≡ None }
-        ensures grows { GoesOn (L.story self.old.link) (L.story self.new.link) }
-        ensures fault { IfErr result (λ fault. self.new.fault ≡ Some fault) }
-        ensures stands { OnOk result (self.new.fault ≡ None) }
-        ensures answer { IfOk result (λ given. given ≡ did) }
-        ensures told { OnOk result (Adds (L.place self.old.link) 0 what self.old.log self.new.log) }
-        ensures untold { OnErr result (self.new.log ≡ self.old.log) }
-        ensures run { SameRun self.old self.new }
-    {
-        let at = self.tunnel.at();
-        match self.work.tell_telegram(at, k, what) {
-            Ok(()) => Ok(did),
-            Err(no_memory) => Err(self.out_of_memory(no_memory)),
         }
     }
 }

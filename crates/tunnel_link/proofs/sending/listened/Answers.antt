@@ -1,9 +1,13 @@
-use Rattle.std.proofs.Common.{rules}
-use Rattle.tunnel_link.proofs.Stories.{goes_then}
+use Rattle.std.proofs.Common.{rules, inl}
+use Rattle.tunnel_link.proofs.Results.{answers_so}
 use Rattle.tunnel_link.proofs.sending.listened.Goals as goal
 
-pub returns-in_err-answered : goal.returns-in_err-answered
-returns-in_err-answered g c = record { story = goes_then _ _ _ c.polled.ensures.story c.answered.ensures.story; fault = search rules; stands = search rules; events = search rules }
-
-pub returns : goal.returns
-returns g c = record { story = goes_then _ _ _ c.polled.ensures.story c.answered.ensures.story; fault = search rules; stands = search rules; events = search rules }
+pub returns-in_err-answered-clause-so : goal.returns-in_err-answered-clause-so
+returns-in_err-answered-clause-so g c = inl (record {
+  answer = c.in_ok-what.field-0;
+  known = c.polled.new.known;
+  between = g.L.Link.story c.polled.new.link;
+  polled = search rules;
+  answers = answers_so c.answered.result c.from_residual-in_err-answered.result c.in_err-answered.field-0.0 (search rules) (search rules) _ c.polled.new.known c.answered.new.known _ _ c.answered.ensures.so;
+  gives = search rules;
+})

@@ -1,14 +1,35 @@
-use Rattle.std.proofs.Common.{◌≡◌, ◌∙◌, sym, ap, refl, false, Some}
-use Rattle.hub_core.proofs.Works as works
-use Rattle.hub_core.proofs.Keeps as keeps
-use Rattle.tunnel_link.proofs.Stories.{goes_again}
+use Rattle.std.proofs.Common.{◌≡◌, ◌∙◌, sym, Option, Some, None, subst}
+use Rattle.line_model.specs.declared.fault.HubFault.{HubFault}
+use Rattle.hub_core.specs.Keeps.{Keeps}
+use Rattle.hub_core.specs.Taking.{EndsSo}
+use Rattle.hub_core.proofs.Calls.{polls_failed}
+use Rattle.hub_core.proofs.Keeps.{none_inside}
+use Rattle.hub_core.proofs.Polling.{polls_kept}
+use Rattle.hub_core.proofs.View.{same_run}
 use Rattle.hub_core.proofs.hub.Hub.poll.Goals as goal
 
-pub returns-clause-grows : goal.returns-clause-grows
-returns-clause-grows g c = rw (← c.self.view_is) (goes_again _ _ _ c.poll.ensures.grows c.take_in.ensures.grows)
-
 pub invariant_of-self : goal.invariant_of-self
-invariant_of-self g c = keeps.goes _ _ c.self.inside.work _ _ c.poll.ensures.events (keeps.none_inside _ _ c.self.view_is c.requires.stands) c.self.invariant
+invariant_of-self g c =
+    let none : c.self.inside.tunnel.known.fault ≡ None = none_inside _ _ c.self.view_is c.requires.stands in
+    polls_failed _ _ _ _ _ _ _ none c.poll.ensures.events c.poll.ensures.grows _ _ c.in_err-came.ensures.adds c.in_err-came.ensures.fault (c.in_err-came.ensures.by_tunnel none) c.self.invariant
 
-pub invariant_of-self-2 : goal.invariant_of-self-2
-invariant_of-self-2 g c = keeps.goes _ _ c.self.inside.work _ _ c.poll.ensures.events (keeps.none_inside _ _ c.self.view_is c.requires.stands) c.self.invariant
+pub invariant_of-self-in-Some : goal.invariant_of-self-in-Some
+invariant_of-self-in-Some g c =
+    let none : c.self.inside.tunnel.known.fault ≡ None = none_inside _ _ c.self.view_is c.requires.stands in
+    subst (λ l. Keeps (g.L.Link.place l) (g.L.Link.story l) c.take_in-polled.new.work c.ending.new.met c.fail.new.self.known.fault) (sym c.fail.ensures.link)
+    (polls_kept _ _ _ _ _ _ _ _ _ _ none c.poll.ensures.events c.poll.ensures.grows c.take_in-polled.ensures.books c.in_ok-came.came c.now-now-2.result c.taken.result c.in_ok-came.ensures.adds c.moments_go_on.ensures.later
+    c.take_in-polled.ensures.fits c.now-now-2.ensures.newest (λ places e. c.taken.ensures ∙ (c.keeps.ensures.record places e).right.takes) (Some c.in-Some.fault) c.fail.ensures.fault
+    (subst (λ (o : Option HubFault). EndsSo c.take_in-polled.new.work c.self.inside.met c.ending.new.met c.in_ok-came.came.what c.taken.result o) c.in-Some.is c.ending.ensures) c.self.invariant)
+
+pub invariant_of-self-in-None : goal.invariant_of-self-in-None
+invariant_of-self-in-None g c =
+    let none : c.self.inside.tunnel.known.fault ≡ None = none_inside _ _ c.self.view_is c.requires.stands in
+    polls_kept _ _ _ _ _ _ _ _ _ _ none c.poll.ensures.events c.poll.ensures.grows c.take_in-polled.ensures.books c.in_ok-came.came c.now-now-2.result c.taken.result c.in_ok-came.ensures.adds c.moments_go_on.ensures.later
+    c.take_in-polled.ensures.fits c.now-now-2.ensures.newest (λ places e. c.taken.ensures ∙ (c.keeps.ensures.record places e).right.takes) None c.in_ok-came.ensures.stands
+    (subst (λ (o : Option HubFault). EndsSo c.take_in-polled.new.work c.self.inside.met c.ending.new.met c.in_ok-came.came.what c.taken.result o) c.in-None.is c.ending.ensures) c.self.invariant
+
+pub returns-in-Some-clause-run : goal.returns-in-Some-clause-run
+returns-in-Some-clause-run g c = rw (← c.self.view_is) (same_run _ _ c.self.inside.work c.take_in-polled.new.work _ _ _ c.take_in-polled.ensures.books)
+
+pub returns-in-None-clause-run : goal.returns-in-None-clause-run
+returns-in-None-clause-run g c = rw (← c.self.view_is) (same_run _ _ c.self.inside.work c.take_in-polled.new.work _ _ _ c.take_in-polled.ensures.books)

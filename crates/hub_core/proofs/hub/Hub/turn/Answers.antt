@@ -1,12 +1,41 @@
-use Rattle.std.proofs.Common.{◌≡◌, ap}
-use Rattle.hub_core.proofs.Keeps as keeps
+use Rattle.std.proofs.Common.{◌≡◌, None, sym, ◌∙◌}
+use Rattle.line_model.specs.Asks.{HasPlace}
+use Rattle.line_model.specs.ClientView.{channel}
+use Rattle.line_model.specs.Record.{entries}
+use Rattle.hub_core.proofs.Putting.{turn_so, turn_did, put_done, put_failed}
+use Rattle.hub_core.proofs.View.{work_run}
+use Rattle.hub_core.proofs.Written.{written, turn_writes}
 use Rattle.hub_core.proofs.hub.Hub.turn.Goals as goal
 
-pub invariant_of-self-in_err-put-in-Ok-Puts : goal.invariant_of-self-in_err-put-in-Ok-Puts
-invariant_of-self-in_err-put-in-Ok-Puts g c = keeps.wrote c.at-at.result _ _ c.turn.new.self _ c.at-at.ensures c.put.ensures.events c.turn.ensures.written (c.turn.ensures.telling c.self.invariant.telling) c.in-Ok-Puts.ensures.live
+pub invariant_of-self : goal.invariant_of-self
+invariant_of-self g c =
+    let none : c.self.inside.tunnel.known.fault ≡ None = sym c.fault.ensures ∙ c.in_default.is in
+    written _ c.at-at.result _ c.self.inside.work c.turn.new.self _ _ none c.at-at.ensures.value c.at-at.ensures.told c.turn.ensures.run c.turn.ensures.books (turn_writes c.at-at.result c.args.worker c.in-Did.turned _ _ c.in-Did.ensures.told)
+    (λ jobs places e fits. turn_did c.self.inside.work c.turn.new.self c.now-now.result c.at-at.result jobs places c.in-Did.turned (c.now-now.ensures.newest places e) c.in-Did.ensures.follows fits) c.self.invariant
 
-pub invariant_of-self-in-Ok-Puts : goal.invariant_of-self-in-Ok-Puts
-invariant_of-self-in-Ok-Puts g c = keeps.wrote c.at-at.result _ _ c.turn.new.self _ c.at-at.ensures c.put.ensures.events c.turn.ensures.written (c.turn.ensures.telling c.self.invariant.telling) c.in-Ok-Puts.ensures.live
+pub invariant_of-self-in_err-put-in-Puts : goal.invariant_of-self-in_err-put-in-Puts
+invariant_of-self-in_err-put-in-Puts g c =
+    let none : c.self.inside.tunnel.known.fault ≡ None = sym c.fault.ensures ∙ c.in_default.is in
+    put_failed _ _ _ _ c.self.inside.work c.turn.new.self _ _ _ none c.put.ensures.events c.put.ensures.grows _ c.at-at.result c.at-at.ensures.value c.turn.ensures.run.tasks_are c.turn.ensures.run.devices c.turn.ensures.run.turns c.in-Puts.ensures.told c.turn.ensures.books
+    (λ jobs old es fits.
+    let place : HasPlace (channel (entries old)) = (c.has_place-has_place.ensures.told none old es).0 c.in-Puts.ensures.placed in
+    turn_so _ c.self.inside.work c.turn.new.self _ c.now-now.result c.at-at.result jobs old es c.at-at.ensures.told (c.now-now.ensures.newest old es) place (c.places_are_free.ensures old (c.keeps.ensures.record old es).right.renews place) c.in-Puts.ensures.follows fits)
+    _ c.in_err-put-in-Puts.ensures.adds c.in_err-put-in-Puts.ensures.fault (c.in_err-put-in-Puts.ensures.by_tunnel none) c.self.invariant
 
-pub invariant_of-self-in-Err : goal.invariant_of-self-in-Err
-invariant_of-self-in-Err g c = keeps.ended c.at-at.result _ _ c.turn.new.self _ _ c.at-at.ensures (ap g.L.Link.place c.fail.ensures.link) c.fail.ensures.fault c.turn.ensures.written (c.turn.ensures.telling c.self.invariant.telling)
+pub invariant_of-self-in-Puts : goal.invariant_of-self-in-Puts
+invariant_of-self-in-Puts g c =
+    let none : c.self.inside.tunnel.known.fault ≡ None = sym c.fault.ensures ∙ c.in_default.is in
+    put_done _ _ _ _ c.self.inside.work c.turn.new.self _ _ _ none c.put.ensures.events c.put.ensures.grows _ c.at-at.result c.at-at.ensures.value c.turn.ensures.run.tasks_are c.turn.ensures.run.devices c.turn.ensures.run.turns c.in-Puts.ensures.told c.turn.ensures.books
+    (λ jobs old es fits.
+    let place : HasPlace (channel (entries old)) = (c.has_place-has_place.ensures.told none old es).0 c.in-Puts.ensures.placed in
+    turn_so _ c.self.inside.work c.turn.new.self _ c.now-now.result c.at-at.result jobs old es c.at-at.ensures.told (c.now-now.ensures.newest old es) place (c.places_are_free.ensures old (c.keeps.ensures.record old es).right.renews place) c.in-Puts.ensures.follows fits)
+    _ c.in_ok-put-in-Puts.ensures.adds c.in_ok-put-in-Puts.ensures.stands c.self.invariant
+
+pub returns-in_err-put-in-Puts-clause-run : goal.returns-in_err-put-in-Puts-clause-run
+returns-in_err-put-in-Puts-clause-run g c = rw (← c.self.view_is) (work_run _ _ c.self.inside.work c.turn.new.self _ _ _ c.turn.ensures.run)
+
+pub returns-in-Did-clause-run : goal.returns-in-Did-clause-run
+returns-in-Did-clause-run g c = rw (← c.self.view_is) (work_run _ _ c.self.inside.work c.turn.new.self _ _ _ c.turn.ensures.run)
+
+pub returns-in_ok-put-in-Puts-clause-run : goal.returns-in_ok-put-in-Puts-clause-run
+returns-in_ok-put-in-Puts-clause-run g c = rw (← c.self.view_is) (work_run _ _ c.self.inside.work c.turn.new.self _ _ _ c.turn.ensures.run)

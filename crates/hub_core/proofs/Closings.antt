@@ -1,0 +1,30 @@
+-- How far the closing is, is nothing to what is kept.
+use Rattle.std.proofs.Common.{ℕ, Bool, List, Option}
+use Rattle.line_model.specs.declared.fault.HubFault.{HubFault}
+use Rattle.line_model.specs.Record.{Placed}
+use Rattle.line_model.specs.LinkStory.{Story}
+use Rattle.line_model.specs.Moments.{moments, time}
+use Rattle.line_model.specs.Log.{Job}
+use Rattle.hub_work.specs.declared.closing.Closing.{Closing}
+use Rattle.hub_work.specs.declared.work.Work.{Work}
+use Rattle.hub_work.specs.Works.{KeepsBooks}
+use Rattle.hub_core.specs.Keeps.{KeepsTold, Keeps}
+use Rattle.hub_core.proofs.Losing.{closing_fits}
+
+books_kept : (w : Work) (x : Option Closing) (at : ℕ) → KeepsBooks at w → KeepsBooks at (record w { closing = x })
+books_kept w x at b = record { written = b.written; telling = b.telling; live = b.live; counts = record { unfinished = b.counts.unfinished; room = b.counts.room } }
+
+told_kept : (w : Work) (x : Option Closing) (met : Bool) (f : Option HubFault) (jobs : List Job) (n : ℕ) (places : List Placed) → KeepsTold jobs w met f n places → KeepsTold jobs (record w { closing = x }) met f n places
+told_kept w x met f jobs n places k = record {
+  books = books_kept w x n k.books;
+  tells = k.tells;
+  runs = λ no. record { fits = closing_fits jobs w x (time (moments places)) n (moments places) (k.runs no).fits; met_one = (k.runs no).met_one; no_flood = (k.runs no).no_flood; right_line = (k.runs no).right_line };
+  cause = k.cause;
+}
+
+pub closing_kept : (p : ℕ) (s : Story) (w : Work) (met : Bool) (f : Option HubFault) (x : Option Closing) → Keeps p s w met f → Keeps p s (record w { closing = x }) met f
+closing_kept p s w met f x k = record {
+  books = books_kept w x p k.books;
+  jobs_are = k.jobs_are;
+  told = λ jobs of places e. told_kept w x met f jobs _ places (k.told jobs of places e);
+}

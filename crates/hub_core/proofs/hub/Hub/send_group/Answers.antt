@@ -1,0 +1,60 @@
+use Rattle.std.proofs.Common.{◌≡◌, ℕ, None, refl, sym, ap, subst, ◌∙◌}
+use Rattle.line_model.specs.Asks.{HasPlace}
+use Rattle.line_model.specs.ClientView.{channel}
+use Rattle.line_model.specs.Moments.{moments, time}
+use Rattle.line_model.specs.Record.{entries}
+use Rattle.hub_work.specs.Follows.{WasSent, WasLost}
+use Rattle.hub_work.specs.Works.{KeepsBooks}
+use Rattle.hub_core.proofs.Keeps.{books_same, of_books, same_log}
+use Rattle.hub_core.proofs.Putting.{telegram_so, put_done, put_failed}
+use Rattle.hub_core.proofs.View.{same_run, work_run}
+use Rattle.hub_core.proofs.Written.{written, told_writes}
+use Rattle.hub_core.proofs.hub.Hub.send_group.Goals as goal
+
+pub invariant_of-self : goal.invariant_of-self
+invariant_of-self g c =
+    let none : c.self.inside.tunnel.known.fault ≡ None = sym c.fault.ensures ∙ c.in_default.is in
+    written _ c.at-at.result _ c.self.inside.work c.tell_telegram.new.self _ _ none c.at-at.ensures.value c.at-at.ensures.told c.tell_telegram.ensures.run c.tell_telegram.ensures.books (told_writes c.at-at.result c.args.k _ _ _ c.tell_telegram.ensures.told)
+    (λ jobs places e fits. c.tell_telegram.ensures.follows jobs places (time (moments places)) fits (WasSent (sym c.stage.ensures ∙ c.in-Confirmed.is) refl)) c.self.invariant
+
+pub invariant_of-self-in-Lost : goal.invariant_of-self-in-Lost
+invariant_of-self-in-Lost g c =
+    let none : c.self.inside.tunnel.known.fault ≡ None = sym c.fault.ensures ∙ c.in_default.is in
+    written _ c.at-at.result _ c.self.inside.work c.tell_telegram-in-Lost.new.self _ _ none c.at-at.ensures.value c.at-at.ensures.told c.tell_telegram-in-Lost.ensures.run c.tell_telegram-in-Lost.ensures.books (told_writes c.at-at.result c.args.k _ _ _ c.tell_telegram-in-Lost.ensures.told)
+    (λ jobs places e fits. c.tell_telegram-in-Lost.ensures.follows jobs places (time (moments places)) fits (WasLost (sym c.stage.ensures ∙ c.in-Lost.is) refl)) c.self.invariant
+
+pub invariant_of-self-in_err-put-in-Unput : goal.invariant_of-self-in_err-put-in-Unput
+invariant_of-self-in_err-put-in-Unput g c =
+    let none : c.self.inside.tunnel.known.fault ≡ None = sym c.fault.ensures ∙ c.in_default.is in
+    put_failed _ _ _ _ c.self.inside.work c.telegram_put.new.self _ _ _ none c.put.ensures.events c.put.ensures.grows _ c.at-at.result c.at-at.ensures.value c.telegram_put.ensures.books.tasks_are (ap (λ r. r.devices) c.telegram_put.ensures.books.reservation)
+    c.telegram_put.ensures.books.turns (same_log c.self.inside.work c.telegram_put.new.self (of_books c.self.inside.work c.telegram_put.new.self c.telegram_put.ensures.books))
+    (books_same c.self.inside.work c.telegram_put.new.self (of_books c.self.inside.work c.telegram_put.new.self c.telegram_put.ensures.books) c.at-at.result (subst (λ (n : ℕ). KeepsBooks n c.self.inside.work) (sym c.at-at.ensures.value) c.self.invariant.books))
+    (λ jobs old es fits.
+    let place : HasPlace (channel (entries old)) = (c.has_place.ensures.told none old es).0 c.if-not-has_place.false in
+    telegram_so _ c.self.inside.work c.telegram_put.new.self _ c.at-at.result jobs old es c.at-at.ensures.told place (c.places_are_free.ensures old (c.keeps.ensures.record old es).right.renews place)
+    (subst (λ (n : ℕ). KeepsBooks n c.self.inside.work) (sym c.at-at.ensures.value) c.self.invariant.books) (sym c.stage.ensures ∙ c.in-Unput.is) c.in-Some-telegram.ensures.right c.telegram_put.ensures.follows c.in-Some-telegram.ensures.next (of_books c.self.inside.work c.telegram_put.new.self c.telegram_put.ensures.books) fits)
+    _ c.in_err-put-in-Unput.ensures.adds c.in_err-put-in-Unput.ensures.fault (c.in_err-put-in-Unput.ensures.by_tunnel none) c.self.invariant
+
+pub invariant_of-self-in-Unput : goal.invariant_of-self-in-Unput
+invariant_of-self-in-Unput g c =
+    let none : c.self.inside.tunnel.known.fault ≡ None = sym c.fault.ensures ∙ c.in_default.is in
+    put_done _ _ _ _ c.self.inside.work c.telegram_put.new.self _ _ _ none c.put.ensures.events c.put.ensures.grows _ c.at-at.result c.at-at.ensures.value c.telegram_put.ensures.books.tasks_are (ap (λ r. r.devices) c.telegram_put.ensures.books.reservation)
+    c.telegram_put.ensures.books.turns (same_log c.self.inside.work c.telegram_put.new.self (of_books c.self.inside.work c.telegram_put.new.self c.telegram_put.ensures.books))
+    (books_same c.self.inside.work c.telegram_put.new.self (of_books c.self.inside.work c.telegram_put.new.self c.telegram_put.ensures.books) c.at-at.result (subst (λ (n : ℕ). KeepsBooks n c.self.inside.work) (sym c.at-at.ensures.value) c.self.invariant.books))
+    (λ jobs old es fits.
+    let place : HasPlace (channel (entries old)) = (c.has_place.ensures.told none old es).0 c.if-not-has_place.false in
+    telegram_so _ c.self.inside.work c.telegram_put.new.self _ c.at-at.result jobs old es c.at-at.ensures.told place (c.places_are_free.ensures old (c.keeps.ensures.record old es).right.renews place)
+    (subst (λ (n : ℕ). KeepsBooks n c.self.inside.work) (sym c.at-at.ensures.value) c.self.invariant.books) (sym c.stage.ensures ∙ c.in-Unput.is) c.in-Some-telegram.ensures.right c.telegram_put.ensures.follows c.in-Some-telegram.ensures.next (of_books c.self.inside.work c.telegram_put.new.self c.telegram_put.ensures.books) fits)
+    _ c.in_ok-put-in-Unput.ensures.adds c.in_ok-put-in-Unput.ensures.stands c.self.invariant
+
+pub returns-in_err-put-in-Unput-clause-run : goal.returns-in_err-put-in-Unput-clause-run
+returns-in_err-put-in-Unput-clause-run g c = rw (← c.self.view_is) (same_run _ _ c.self.inside.work c.telegram_put.new.self _ _ _ (of_books c.self.inside.work c.telegram_put.new.self c.telegram_put.ensures.books))
+
+pub returns-in-Confirmed-clause-run : goal.returns-in-Confirmed-clause-run
+returns-in-Confirmed-clause-run g c = rw (← c.self.view_is) (work_run _ _ c.self.inside.work c.tell_telegram.new.self _ _ _ c.tell_telegram.ensures.run)
+
+pub returns-in-Lost-clause-run : goal.returns-in-Lost-clause-run
+returns-in-Lost-clause-run g c = rw (← c.self.view_is) (work_run _ _ c.self.inside.work c.tell_telegram-in-Lost.new.self _ _ _ c.tell_telegram-in-Lost.ensures.run)
+
+pub returns-in_ok-put-in-Unput-clause-run : goal.returns-in_ok-put-in-Unput-clause-run
+returns-in_ok-put-in-Unput-clause-run g c = rw (← c.self.view_is) (same_run _ _ c.self.inside.work c.telegram_put.new.self _ _ _ (of_books c.self.inside.work c.telegram_put.new.self c.telegram_put.ensures.books))

@@ -1,0 +1,38 @@
+-- What a hub promises at every moment, for any jobs with its devices and plans: over a link that tells its events and good jobs, what the line's law
+-- says; and where the link tells something, that it has ended exactly where there is a cause.
+use Rattle.std.specs.Prelude.{◌≡◌, ℕ, ◌^◌, ◌-◌, min, List, Option, Some, None}
+use Rattle.line_model.specs.declared.fault.HubFault.{HubFault}
+use Rattle.line_model.specs.declared.group.GroupTurn.{GroupTurn}
+use Rattle.line_model.specs.declared.log.LogEntry.{LogEntry}
+use Rattle.line_model.specs.Record.{Entry}
+use Rattle.line_model.specs.LinkStory.{Story, Untold, Recorded, Full}
+use Rattle.line_model.specs.Log.{Job}
+use Rattle.line_model.specs.Dropped.{dropped}
+use Rattle.line_model.specs.Faults.{FaultRight}
+use Rattle.line_model.specs.Headline.{IsRight}
+use Rattle.tunnel_link.specs.Adds.{place_of}
+use Rattle.tunnel_link.specs.Rights.{WhereTold}
+use Rattle.hub_core.specs.Discipline.{EachSo, IsPrompt, TellsAndAsks}
+
+abbrev pub IsRightOver : List Job → Story → List LogEntry → Type 0
+IsRightOver jobs Untold log = Unit {0}
+IsRightOver jobs (Recorded r) log = Unit {0}
+IsRightOver jobs (Full start events) log = IsRight jobs start events log
+
+-- in each poll, while there was something to do, no deadline of the channel was passed over
+abbrev pub PromptIn : List Job → List GroupTurn → List LogEntry → Story → Type 0
+PromptIn jobs turns log story = WhereTold (EachSo (IsPrompt jobs turns) log) story
+
+-- the log is one of its jobs and telegrams, what it tells is true, and each request was right
+abbrev pub TellsIn : List Job → List GroupTurn → List LogEntry → Story → Type 0
+TellsIn jobs turns log story = WhereTold (TellsAndAsks jobs turns log (place_of story)) story
+
+-- of the record, where it is told
+abbrev pub FaultRightIn : List Job → List LogEntry → Option HubFault → Option (List Entry) → Type 0
+FaultRightIn jobs log fault None = Unit {0}
+FaultRightIn jobs log fault (Some r) = FaultRight jobs log r fault
+
+-- how many datagrams were dropped, at most the greatest number of 64 bits
+abbrev pub DropsIn : ℕ → Option (List Entry) → Type 0
+DropsIn count None = Unit {0}
+DropsIn count (Some r) = count ≡ min (dropped r) (2 ^ 64 - 1)

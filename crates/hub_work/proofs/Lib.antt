@@ -1,0 +1,30 @@
+mod Ranges
+pub mod Books
+mod Between
+mod Deeds
+mod HeldJobs
+mod Changed
+mod Stages
+mod Begun
+mod JobEvents
+mod Events
+mod Moments
+mod Crews
+mod Rooms
+pub mod Works
+mod KeptBooks
+mod Confirmed
+mod Heard
+mod Lost
+mod Stepped
+mod Put
+mod Devices
+mod Logs
+mod OneTurn
+mod Unfinished
+mod NextTelegram
+mod Beginning
+mod Lines
+mod Places
+mod Waits
+pub mod Growing

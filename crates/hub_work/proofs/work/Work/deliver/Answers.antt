@@ -1,0 +1,18 @@
+use Rattle.std.proofs.Common.{sym, subst, inl, inr, ap}
+use Rattle.line_model.specs.Reading.{is_con, is_ind}
+use Rattle.hub_work.specs.declared.work.Work.{Work}
+use Rattle.hub_work.specs.Follows.{FrameFollows}
+use Rattle.hub_work.proofs.Moments.{frame_of_none, frame_confirms, frame_is_heard}
+use Rattle.hub_work.proofs.work.Work.deliver.Goals.{in-Con, in-Ind, in-Ind+else-not-frame, in-Req}
+use Rattle.hub_work.proofs.work.Work.deliver.Goals as goal
+
+pub returns-clause-follows : goal.returns-clause-follows
+returns-clause-follows c = elim c.match-frame.branch [
+  | in-Con w ↦ subst (λ (v : Work). FrameFollows c.args.self.now v c.args.frame.now c.args.now) (sym w.self-is) (frame_confirms c.args.self.now w.confirmed.new.self c.args.frame.now c.args.now (ap is_con w.in-Con.is) w.confirmed.ensures.follows)
+  | in-Ind w ↦ subst (λ (v : Work). FrameFollows c.args.self.now v c.args.frame.now c.args.now) (sym w.self-is)
+      (frame_is_heard c.args.self.now w.heard.new.self c.args.frame.now c.args.now (ap is_ind w.in-Ind.is) w.if-not-frame.true w.heard.ensures.follows)
+  | in-Ind+else-not-frame w ↦ subst (λ (v : Work). FrameFollows c.args.self.now v c.args.frame.now c.args.now) (sym w.self-is)
+      (frame_of_none c.of_a_downloader.ensures c.args.self.now c.args.frame.now c.args.now (ap is_con w.in-Ind.is) (inr w.if-not-frame.false))
+  | in-Req w ↦ subst (λ (v : Work). FrameFollows c.args.self.now v c.args.frame.now c.args.now) (sym w.self-is)
+      (frame_of_none c.of_a_downloader.ensures c.args.self.now c.args.frame.now c.args.now (ap is_con w.in-Req.is) (inl (ap is_ind w.in-Req.is)))
+]

@@ -1,0 +1,23 @@
+use Rattle.std.proofs.Common.{refl, false}
+use Rattle.hub_work.proofs.Rooms.{room_to_take}
+use Rattle.hub_work.proofs.Works.{taking_holds, taking_untaken}
+use Rattle.hub_work.proofs.KeptBooks.{take_books}
+use Rattle.hub_work.proofs.Logs.{took_follows}
+use Rattle.hub_work.proofs.work.Work.took.Goals as goal
+
+pub add-requires : goal.add-requires
+add-requires c = room_to_take c.args.self.now c.args.at c.args.worker c.args.job c.requires.taking
+
+pub device_of-device-requires : goal.device_of-device-requires
+device_of-device-requires c = taking_holds c.args.self.now c.args.at c.args.worker c.args.job c.requires.taking
+
+pub returns-clause-books : goal.returns-clause-books
+returns-clause-books c =
+    take_books c.args.self.now (record c.args.self.now { journal = c.add.new.self; crew = c.takes.new.self }) c.args.at c.args.worker c.args.job
+    (record { job = c.args.job; device = c.device_of-device.result; begun = false; came = 0 }) refl c.requires.taking c.requires.worker refl refl refl c.takes.ensures c.add.ensures.added c.add.ensures.room
+
+pub returns-clause-follows : goal.returns-clause-follows
+returns-clause-follows c =
+    took_follows c.of_a_downloader.ensures c.args.self.now c.add.new.self c.takes.new.self c.args.at c.args.worker c.args.job
+    (record { job = c.args.job; device = c.device_of-device.result; begun = false; came = 0 }) c.add.ensures.added c.takes.ensures refl refl c.requires.worker c.requires.empty c.device_of-device.ensures
+    (taking_untaken c.args.self.now c.args.at c.args.worker c.args.job c.requires.taking)

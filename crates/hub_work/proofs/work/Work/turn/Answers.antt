@@ -1,0 +1,33 @@
+use Rattle.std.proofs.Common.{refl}
+use Rattle.hub_work.specs.declared.answers.Turned.TheVariants as answer
+use Rattle.hub_work.proofs.OneTurn.{counted_follows}
+use Rattle.hub_work.proofs.Crews.{same_jobs_held}
+use Rattle.hub_work.proofs.KeptBooks.{same_keeps}
+use Rattle.hub_work.specs.declared.work.turn.Turn.TheVariants as turn
+use Rattle.hub_work.proofs.Waits.{nothing_held, something_came, all_taken, moved_isnt_wait, is_some_number, none_came}
+use Rattle.hub_work.proofs.work.Work.turn.Goals as goal
+
+pub returns-in-None-clause-placed : goal.returns-in-None-clause-placed
+returns-in-None-clause-placed c = c.takes_job.ensures.placed c.args.has_place
+
+pub returns-in-None-clause-follows : goal.returns-in-None-clause-follows
+returns-in-None-clause-follows c = c.takes_job.ensures.follows c.args.now
+
+pub returns-in-Some-clause-books : goal.returns-in-Some-clause-books
+returns-in-Some-clause-books c =
+    same_keeps c.args.at c.args.self.now (record c.args.self.now { crew = c.takes_in.new.self })
+    (record { reservation = refl; turns = refl; told = refl; held = same_jobs_held c.args.self.now.crew c.takes_in.new.self c.takes_in.ensures; journal = refl; unfinished = refl; tasks_are = refl; closing = refl }) c.requires.books
+
+pub returns-in-Some-clause-follows : goal.returns-in-Some-clause-follows
+returns-in-Some-clause-follows c = counted_follows c.args.now c.args.at c.args.self.now c.takes_in.new.self answer.Moved c.takes_in.ensures
+
+pub returns-in-None-clause-waits : goal.returns-in-None-clause-waits
+returns-in-None-clause-waits c = nothing_held c.args.self.now c.args.worker c.args.now c.args.at c.args.has_place c.takes_job.result (c.in-None.ensures.place c.requires.worker)
+
+pub returns-in-Some-clause-waits : goal.returns-in-Some-clause-waits
+returns-in-Some-clause-waits c =
+    something_came c.args.self.now c.args.worker c.args.now c.args.at c.args.has_place c.in-Some.held (turn.Did answer.Moved) (c.in-Some.ensures.place c.requires.worker) (is_some_number c.in-Some.held.came c.if-held-gt0.true) moved_isnt_wait
+
+pub returns-in-Some-2-clause-waits : goal.returns-in-Some-2-clause-waits
+returns-in-Some-2-clause-waits c =
+    all_taken c.args.self.now c.args.worker c.args.now c.args.at c.args.has_place c.in-Some.held c.works.result (c.in-Some.ensures.place c.requires.worker) (none_came c.in-Some.held.came c.if-held-gt0.false) c.works.ensures.waits

@@ -1,0 +1,191 @@
+-- A poll over a link: what it adds to the places, and that what is kept of the record is kept.
+use Rattle.std.proofs.Common.{◌≡◌, ◌≢◌, ◌⊎◌, inl, inr, ℕ, suc, ◌<◌, ◌≤◌, List, [], ◌∷◌, ◌++◌, length, Bool, true, false, Option, Some, None, Result, Ok, Err, IfOk, refl, sym, subst, ap, ◌∙◌, arith}
+use Rattle.std.specs.Prelude.{◌||◌}
+use Rattle.knx_model.specs.declared.frames.ip.IpFrame.{IpFrame}
+use Rattle.line_model.specs.declared.fault.HubFault.{HubFault}
+use Rattle.line_model.specs.Reading.{datagram_in}
+use Rattle.line_model.specs.Record.{Item, Put, Entry, entry, is_poll, Placed, entries}
+use Rattle.line_model.specs.LinkStory.{Story, places_in, newest_time, AreWaits, Sends, SendsOrNot}
+use Rattle.line_model.specs.ClientView.{channel, Puts, Takes, Loses, Nothing, deed}
+use Rattle.line_model.specs.Moments.{Moment}
+use Rattle.line_model.specs.Signs.{Every}
+use Rattle.line_model.specs.ClientFrames.{HasTunnelIfUp}
+use Rattle.tunnel_link.specs.declared.came.Answer.{Answer}
+use Rattle.tunnel_link.specs.declared.came.Came.{Came}
+use Rattle.tunnel_link.specs.declared.came.Loss.{Loss}
+use Rattle.tunnel_link.specs.declared.came.Loss.TheVariants as loss
+use Rattle.tunnel_link.specs.declared.came.What.{What}
+use Rattle.tunnel_link.specs.declared.came.What.TheVariants as came
+use Rattle.tunnel_link.specs.declared.known.Known.{Known}
+use Rattle.tunnel_link.specs.Goes.{GoesOn, Goes, Keeps, KeepsAll}
+use Rattle.tunnel_link.specs.Rights.{IsRight, FitsRecord, IsKept, KeepsRecord}
+use Rattle.tunnel_link.specs.Adds.{place_of, Added, Grows, Growing, IsNothing, PutsNone, One, AllNothing, DoesSo, OrLoses, Brings, PollAdds, moments_on, asks_end, is_told}
+use Rattle.tunnel_link.specs.Calls.{Fails, Polled, AnswersSo, Listening, Unpolled, ListensSo, is_there, after_item, item_answer}
+use Rattle.tunnel_link.proofs.Growth.{IsAbove, IsUpto, upto_more, quiet_places, Polling, polls_more, Failing, fails_more, OneMore, sends_it, adds_more}
+use Rattle.tunnel_link.proofs.MaySend.{Sending, sent_right, sent_kept, failed_kept}
+use Rattle.tunnel_link.proofs.Places.{added_of, After, where_after, one_sent}
+use Rattle.tunnel_link.proofs.Stories.{goes_then, stays, sends_goes, sends_or_goes, polls_goes, nothing_goes}
+use Rattle.tunnel_link.proofs.Waited.{Waited, InTime, Lapsed, Unheard, IsLoss}
+use Rattle.tunnel_link.proofs.Lapses.{Outcome, asks_to_leave, Answers}
+use Rattle.tunnel_link.proofs.Polls.{newest_last, waits_all, waits_right}
+use Rattle.tunnel_link.proofs.PollEnds.{Comes, comes}
+
+-- ---- nothing is put
+
+nothing_puts : (l : List Moment) → Every IsNothing l → Every PutsNone l
+nothing_puts [] a = tt
+nothing_puts (m ∷ l) a = ((λ octets h. absurd (let e : (Nothing ≡ Puts octets) = sym a.0 ∙ h in cc)), nothing_puts l a.1)
+
+every_append : (P : Moment → Type 0) (a : List Moment) (m : Moment) (b : List Moment) → Every P a → P m → Every P b → Every P (a ++ m ∷ b)
+every_append P [] m b x y z = (y, z)
+every_append P (n ∷ a) m b x y z = (x.0, every_append P a m b x.1 y z)
+
+one_puts : (P : Moment → Type 0) (l : List Moment) → ((m : Moment) → P m → PutsNone m) → One P l → Every PutsNone l
+one_puts P l h o = subst (λ (x : List Moment). Every PutsNone x) (sym o.all) (every_append PutsNone o.newer o.m o.older (nothing_puts o.newer o.newer_nothing) (h o.m o.is) (nothing_puts o.older o.older_nothing))
+
+loses_puts : (loss : Loss) (l : List Moment) → OrLoses loss l → Every PutsNone l
+loses_puts loss.Stays l o = nothing_puts l o
+loses_puts loss.Ended l o = one_puts _ l (λ m h octets p. absurd (let e : (Loses ≡ Puts octets) = sym h ∙ p in cc)) o
+loses_puts loss.Told l o = one_puts _ l (λ m h octets p. absurd (let e : (Loses ≡ Puts octets) = sym h ∙ p in cc)) o
+
+does_puts : (what : What) (loss : Loss) (now : ℕ) (l : List Moment) → DoesSo what loss now l → Every PutsNone l
+does_puts came.Quiet loss now l d = loses_puts loss l d
+does_puts came.Dropped loss now l (inl d) = loses_puts loss l d
+does_puts came.Dropped loss now l (inr d) = one_puts _ l (λ m h octets p. absurd (let e : (Takes h.octets ≡ Puts octets) = sym h.takes ∙ p in cc)) d.0
+does_puts came.Tunnel loss now l d = loses_puts loss l d
+does_puts (came.Up tunnel) loss now l d = loses_puts loss l d.0
+does_puts (came.Frame frame) loss now l d = one_puts _ l (λ m h octets p. absurd (let e : (Takes h.octets ≡ Puts octets) = sym h.takes ∙ p in cc)) d.0
+
+pub waited_puts : (k : Known) (old ws : List Placed) → Waited k old ws → Every PutsNone (moments_on old ws)
+waited_puts k old ws (InTime f a) = nothing_puts (moments_on old ws) a
+waited_puts k old ws (Lapsed h one) = one_puts IsLoss (moments_on old ws) (λ m h octets p. absurd (let e : (Loses ≡ Puts octets) = sym h ∙ p in cc)) one
+waited_puts k old ws (Unheard h a) = nothing_puts (moments_on old ws) a
+
+-- ---- a sending after it is nothing
+
+one_more : (P : Moment → Type 0) (m : Moment) (l : List Moment) → IsNothing m → One P l → One P (m ∷ l)
+one_more P m l n o = record { newer = m ∷ o.newer; m = o.m; older = o.older; all = ap (λ (x : List Moment). m ∷ x) o.all; is = o.is; newer_nothing = (n, o.newer_nothing); older_nothing = o.older_nothing }
+
+loses_more : (loss : Loss) (m : Moment) (l : List Moment) → IsNothing m → OrLoses loss l → OrLoses loss (m ∷ l)
+loses_more loss.Stays m l n o = (n, o)
+loses_more loss.Ended m l n o = one_more _ m l n o
+loses_more loss.Told m l n o = one_more _ m l n o
+
+does_more : (what : What) (loss : Loss) (now : ℕ) (m : Moment) (l : List Moment) → IsNothing m → DoesSo what loss now l → DoesSo what loss now (m ∷ l)
+does_more came.Quiet loss now m l n d = loses_more loss m l n d
+does_more came.Dropped loss now m l n (inl d) = inl (loses_more loss m l n d)
+does_more came.Dropped loss now m l n (inr d) = inr (one_more _ m l n d.0, d.1)
+does_more came.Tunnel loss now m l n d = loses_more loss m l n d
+does_more (came.Up tunnel) loss now m l n d = (loses_more loss m l n d.0, d.1)
+does_more (came.Frame frame) loss now m l n d = (one_more _ m l n d.0, d.1)
+
+or_false : (a : Bool) → (a || false) ≡ a
+or_false true = refl
+or_false false = refl
+
+-- ---- what it adds
+
+module _ (result : Result Came HubFault) (next : Known) (a : Answer) (old ws : List Placed) (p : Placed) (poll : is_poll p.what.what ≡ true) (times : AreWaits (newest_time (entries old)) (entries ws)) (c : Comes next a old ws p) where
+  adds_none : (r : Result Came HubFault) → IfOk r (λ (x : Came). x ≡ record { what = a.what; loss = a.loss; sent = false }) → asks_to_leave None ≡ is_told a.loss → PollAdds r old (p ∷ ws)
+  adds_none (Ok x) g tells = rw g (record {
+    waits = ws;
+    last = p;
+    sent = [];
+    parts = refl;
+    quiet = quiet_places (newest_time (entries old)) ws times;
+    at_end = refl;
+    polls = poll;
+    got = c.got;
+    sends = refl;
+    tells = tells;
+    answered = refl;
+    does = c.answers.does;
+  })
+  adds_none (Err fault) g tells = does_puts a.what a.loss _ (moments_on old (p ∷ ws)) c.answers.does
+
+  adds_one : (r : Result Came HubFault) (octets : List ℕ) (at : ℕ) → IfOk r (λ (x : Came). x ≡ record { what = a.what; loss = a.loss; sent = true }) → asks_to_leave (Some octets) ≡ is_told a.loss → deed (channel (entries ((p ∷ ws) ++ old))) (entry (Put octets) p.what.now) ≡ Nothing
+      → PollAdds r old (record { at = at; what = entry (Put octets) p.what.now } ∷ p ∷ ws)
+  adds_one (Ok x) octets at g tells n = rw g (record {
+    waits = ws;
+    last = p;
+    sent = record { at = at; what = entry (Put octets) p.what.now } ∷ [];
+    parts = refl;
+    quiet = quiet_places (newest_time (entries old)) ws times;
+    at_end = refl;
+    polls = poll;
+    got = c.got;
+    sends = refl;
+    tells = or_false _ ∙ tells;
+    answered = refl;
+    does = does_more a.what a.loss _ _ (moments_on old (p ∷ ws)) n c.answers.does;
+  })
+  adds_one (Err fault) octets at g tells n = ((λ o h. absurd (let e : (Nothing ≡ Puts o) = sym n ∙ h in cc)), does_puts a.what a.loss _ (moments_on old (p ∷ ws)) c.answers.does)
+
+-- ---- after it
+
+pub record PollCall (result : Result Came HubFault) (k new : Known) (before after : Story) : Type 0 where
+  pub goes : Goes before after
+  pub keeps : KeepsAll k before → k.fault ≡ None → KeepsAll new after
+  pub adds : KeepsAll k before → k.fault ≡ None → Growing (PollAdds result) before after
+
+-- of old places
+pub record PollOf (result : Result Came HubFault) (new : Known) (before after : Story) (old : List Placed) : Type 0 where
+  pub is : After (λ places. IsKept new (entries places)) after
+  pub grows : Grows (PollAdds result) (place_of before) (place_of after) old after
+
+module _ (result : Result Came HubFault) (new : Known) (before between after : Story) (old ws : List Placed) (legal : Keeps between) (next : Known) (a : Answer) (p : Placed) (poll : is_poll p.what.what ≡ true)
+    (times : AreWaits (newest_time (entries old)) (entries ws)) (c : Comes next a old ws p) (told : places_in between ≡ Some (p ∷ (ws ++ old))) (above : IsAbove (place_of before) (p ∷ ws)) (upto : IsUpto (place_of between) (p ∷ ws)) (up : place_of before ≤ place_of between) where
+  pub by_answer : (sends : Option (List ℕ)) → Outcome next sends (entries ((p ∷ ws) ++ old)) → asks_to_leave sends ≡ is_told a.loss → IfOk result (λ (x : Came). x ≡ record { what = a.what; loss = a.loss; sent = is_there sends }) → AnswersSo result sends next new between after
+      → PollOf result new before after old
+  by_answer None kept tells gives u = record {
+    is = record { new = p ∷ (ws ++ old); told = ap places_in u.story ∙ told; is = rw u.known kept };
+    grows = record {
+      new = p ∷ (ws ++ old);
+      told = ap places_in u.story ∙ told;
+      added = p ∷ ws;
+      grown = rw u.story (added_of (place_of before) (place_of between) old (p ∷ ws) above upto);
+      is = adds_none result next a old ws p poll times c result gives tells;
+    };
+  }
+  by_answer (Some octets) may tells gives (inl s) =
+      let m = adds_more (Put octets) _ (sends_it octets) between after (p ∷ (ws ++ old)) legal s.story told in record {
+        is = record { new = one_sent octets (place_of after) (p ∷ (ws ++ old)) ∷ p ∷ (ws ++ old); told = m.told; is = rw s.known (sent_kept next octets Nothing (entries ((p ∷ ws) ++ old)) may) };
+        grows = record {
+          new = one_sent octets (place_of after) (p ∷ (ws ++ old)) ∷ p ∷ (ws ++ old);
+          told = m.told;
+          added = one_sent octets (place_of after) (p ∷ (ws ++ old)) ∷ p ∷ ws;
+          grown = added_of (place_of before) (place_of after) old (one_sent octets (place_of after) (p ∷ (ws ++ old)) ∷ p ∷ ws) ((let h = m.up in omega arith), above) (omega arith, upto_more (place_of between) (place_of after) (p ∷ ws) (let h = m.up in omega arith) upto);
+          is = adds_one result next a old ws p poll times c result octets (place_of after) gives tells may.did;
+        };
+      }
+  by_answer (Some octets) may tells gives (inr (f)) = failed f.story
+    where
+      bad : IsRight next (entries ((p ∷ ws) ++ old)) → IsKept new (entries ((p ∷ ws) ++ old))
+      bad right = rw f.fails.known (failed_kept next (entries ((p ∷ ws) ++ old)) f.fault f.fails.by_link right)
+
+      err_gives : (x : Result Came HubFault) (sent : Bool) → x ≡ Err f.fault → IfOk x (λ (y : Came). y ≡ record { what = a.what; loss = a.loss; sent = sent })
+      err_gives (Ok y) sent h = absurd (cc)
+      err_gives (Err e) sent h = tt
+
+      failed : SendsOrNot octets between after → PollOf result new before after old
+      failed (inl s) =
+          let m = adds_more (Put octets) _ (sends_it octets) between after (p ∷ (ws ++ old)) legal s told in record {
+            is = record { new = one_sent octets (place_of after) (p ∷ (ws ++ old)) ∷ p ∷ (ws ++ old); told = m.told; is = rw f.fails.known (failed_kept next _ f.fault f.fails.by_link (sent_right next octets Nothing (entries ((p ∷ ws) ++ old)) may)) };
+            grows = record {
+              new = one_sent octets (place_of after) (p ∷ (ws ++ old)) ∷ p ∷ (ws ++ old);
+              told = m.told;
+              added = one_sent octets (place_of after) (p ∷ (ws ++ old)) ∷ p ∷ ws;
+              grown = added_of (place_of before) (place_of after) old (one_sent octets (place_of after) (p ∷ (ws ++ old)) ∷ p ∷ ws) ((let h = m.up in omega arith), above) (omega arith, upto_more (place_of between) (place_of after) (p ∷ ws) (let h = m.up in omega arith) upto);
+              is = adds_one result next a old ws p poll times c result octets (place_of after) (err_gives result true f.answer) tells may.did;
+            };
+          }
+      failed (inr e) = record {
+        is = record { new = p ∷ (ws ++ old); told = ap places_in e ∙ told; is = bad may.right };
+        grows = record {
+          new = p ∷ (ws ++ old);
+          told = ap places_in e ∙ told;
+          added = p ∷ ws;
+          grown = rw e (added_of (place_of before) (place_of between) old (p ∷ ws) above upto);
+          is = subst (λ (x : Result Came HubFault). PollAdds x old (p ∷ ws)) (sym f.answer) (does_puts a.what a.loss _ (moments_on old (p ∷ ws)) c.answers.does);
+        };
+      }

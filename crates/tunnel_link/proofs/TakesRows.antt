@@ -1,0 +1,252 @@
+-- Each answer of the channel to a frame that came in time: what is known then is what the record says, and what is sent may be sent.
+use Rattle.std.proofs.Common.{◌≡◌, ◌≢◌, ◌⊎◌, inl, inr, ℕ, ◌<◌, ◌≤◌, List, [], ◌∷◌, length, Bool, true, false, Option, Some, None, refl, sym, subst, ap, ◌∙◌, arith}
+use Rattle.std.specs.Prelude.{not, ◌||◌, ◌&&◌, is_none, is_some, option_map}
+use Rattle.knx_model.specs.declared.address.IndAddr.{IndAddr}
+use Rattle.knx_model.specs.declared.frames.cemi.Ldata.{Ldata}
+use Rattle.knx_model.specs.declared.frames.ip.IpFrame.{IpFrame}
+use Rattle.knx_model.specs.declared.frames.ip.IpFrame.TheVariants.{DisconnectRequest}
+use Rattle.knx_model.specs.KnxNetIp.{Written}
+use Rattle.line_model.specs.declared.client_end.ChannelTook.{ChannelTook}
+use Rattle.line_model.specs.declared.client_end.ChannelTook.TheVariants as took
+use Rattle.line_model.specs.declared.fault.HubFault.{HubFault}
+use Rattle.line_model.specs.declared.fault.Try.{Try}
+use Rattle.line_model.specs.declared.fault.Try.TheVariants as try
+use Rattle.line_model.specs.Reading.{datagram_in, ldata_in, is_con, disconnect_request_in}
+use Rattle.line_model.specs.Record.{Put, Got, Entry, entry}
+use Rattle.line_model.specs.LinkStory.{newest_time}
+use Rattle.line_model.specs.ClientView as seen
+use Rattle.line_model.specs.ClientView.{ClientChannel, channel, Deed, Takes, Loses, Nothing, deed}
+use Rattle.line_model.specs.Dropped.{is_dropped, dropped}
+use Rattle.line_model.specs.Faults.{tries, datagrams_taken, opens}
+use Rattle.line_model.specs.Moments.{Moment}
+use Rattle.line_model.specs.Renews.{owed, owed_in}
+use Rattle.line_model.specs.Signs.{Every}
+use Rattle.line_model.specs.ClientEnd.{ClientEnd, Idle, Seeking, Open, Leaving, JustLost, is_over, after_leave, channel_left}
+use Rattle.line_model.specs.ClientFrames.{gone, channel_took, after_took}
+use Rattle.tunnel_channel.specs.Fits.{FitsChannel, HasNone, acknowledged_in, confirmed_in}
+use Rattle.tunnel_channel.specs.Follows.{TakesFrame, Change, Opens, Refuses, Ends, Stays, change, change_told, cemi_in, taken_in, answer_in, is_told_dropped, acknowledgement_in}
+use Rattle.tunnel_channel.proofs.Current.{polls_are_current}
+use Rattle.tunnel_channel.proofs.Frames.{leave_read}
+use Rattle.tunnel_link.specs.declared.came.Answer.{Answer}
+use Rattle.tunnel_link.specs.declared.came.Loss.TheVariants as loss
+use Rattle.tunnel_link.specs.declared.came.What.TheVariants as came
+use Rattle.tunnel_link.specs.declared.known.Known.{Known}
+use Rattle.tunnel_link.specs.declared.tries.Tries.TheVariants.{Zero}
+use Rattle.tunnel_link.specs.Kept.{none_in_flight, counted_up, drops, with_heard, what_heard, after_told, told_answer, tried, left}
+use Rattle.tunnel_link.specs.Rights.{IsRight, FitsNow, FitsRecord, IsKept, FitsFault, tries_of, at_most_64_bits}
+use Rattle.tunnel_link.specs.Adds.{IsNothing, GotSo, DoesSo, is_told}
+use Rattle.tunnel_link.proofs.Entries.{poll_right}
+use Rattle.tunnel_link.proofs.MaySend.{Sending, Flies, open_sent_by, lost_sent}
+use Rattle.tunnel_link.proofs.Steps.{IsOpenAt, right_with}
+use Rattle.tunnel_link.proofs.Waited.{over_now}
+use Rattle.tunnel_link.proofs.Lapses.{Outcome, asks_to_leave, refused_fits, more_tries, still_few, leaves_lost}
+use Rattle.tunnel_link.proofs.Heard.{GotDeed, IsLost, IsTaken, IsNone, got_deed, opens_none, opens_so, opened_tries, refused_tries, same_tries, fresh_before, drops_one, drops_none}
+use Rattle.tunnel_link.proofs.Takes.{NotLost, IsIn, fits_not_lost, given_in, acked_in, taken_in_time, alive_in, IsDown, gone_down, paid_by, owed_open, IsLostAt, lost_by}
+
+-- what is known and answered, by the record with the frame
+pub record TakenSo (next : Known) (answer : Answer) (r : List Entry) (x : Entry) : Type 0 where
+  pub so : Outcome next answer.sends (x ∷ r)
+  pub tells : asks_to_leave answer.sends ≡ is_told answer.loss
+  pub got : GotSo answer.what r x
+  pub does : (m : Moment) (l : List Moment) → m.what ≡ deed (channel r) x → m.now ≡ x.now → Every IsNothing l → DoesSo answer.what answer.loss x.now (m ∷ l)
+
+-- what is known with the frame counted, and the end of the channel after it
+pub record IsCounted (k counted : Known) (end : ClientEnd) (r : List Entry) : Type 0 where
+  pub channel_is : counted.channel ≡ end
+  pub flight_is : counted.flight ≡ k.flight
+  pub tries_is : counted.tries ≡ k.tries
+  pub fault_is : counted.fault ≡ k.fault
+  pub drops_is : counted.dropped ≡ k.dropped
+  pub takes_is : counted.taken ≡ at_most_64_bits (datagrams_taken r)
+
+none_dropped : (c : ℕ) → disconnect_request_in (datagram_in (Written (DisconnectRequest c))) ≡ Some c
+none_dropped c = rw (leave_read c) refl
+
+module _ (k : Known) (r : List Entry) (f : FitsRecord k r) (right : IsRight k r) (calm : k.fault ≡ None) (octets : List ℕ) (frame : IpFrame) (now : ℕ) (is : datagram_in octets ≡ Some frame) (over : is_over k.channel now ≡ false) where
+  abbrev pub x : Entry
+  x = entry (Got octets) now
+
+  abbrev pub Frame : ChannelTook → Type 0
+  Frame told = TakesFrame (after_took k.channel frame now told) told (is_over k.channel now) octets now r
+
+  abbrev pub Row : ChannelTook → Type 0
+  Row told = (counted : Known) → channel_took k.channel frame now ≡ told → Frame told → IsCounted k counted (after_took k.channel frame now told) (x ∷ r) → TakenSo (after_told now told counted) (told_answer told counted.channel) r x
+
+  module _ (told : ChannelTook) (counted : Known) (t : Frame told) (cs : IsCounted k counted (after_took k.channel frame now told) (x ∷ r)) where
+    pub changes : change (channel r) (channel (x ∷ r)) ≡ change_told told
+    changes = t.changes over
+
+    pub calm_then : counted.fault ≡ None
+    calm_then = cs.fault_is ∙ calm
+
+    -- ---- the parts
+
+    pub right_next : (next : Known) → next.dropped ≡ at_most_64_bits (dropped (x ∷ r)) → next.taken ≡ counted.taken → FitsFault next.fault (tries (x ∷ r)) → IsRight next (x ∷ r)
+    right_next next d n p = poll_right k next r (Got octets) now refl f.paid right d (n ∙ cs.takes_is) p
+
+    pub calm_right : (next : Known) → next.dropped ≡ at_most_64_bits (dropped (x ∷ r)) → next.taken ≡ counted.taken → next.fault ≡ counted.fault → IsRight next (x ∷ r)
+    calm_right next d n p = right_next next d n (rw (p ∙ calm_then) tt)
+
+    pub undropped : is_told_dropped told ≡ false → counted.dropped ≡ at_most_64_bits (dropped (x ∷ r))
+    undropped n = drops_none counted.dropped r x (t.drops ∙ n) (cs.drops_is ∙ right.drops)
+
+    pub dropped_up : is_told_dropped told ≡ true → counted_up counted.dropped ≡ at_most_64_bits (dropped (x ∷ r))
+    dropped_up n = drops_one counted.dropped r x (t.drops ∙ n) (cs.drops_is ∙ right.drops)
+
+    pub tries_stay : (change_told told ≡ Stays) ⊎ (change_told told ≡ Ends) → tries (x ∷ r) ≡ tries r
+    tries_stay (inl s) = same_tries k.channel (channel r) octets now (tries r) f.end over (inl (changes ∙ s))
+    tries_stay (inr s) = same_tries k.channel (channel r) octets now (tries r) f.end over (inr (changes ∙ s))
+
+    pub failed_stay : (change_told told ≡ Stays) ⊎ (change_told told ≡ Ends) → tries_of counted.tries ≡ tries (x ∷ r)
+    failed_stay s = ap tries_of cs.tries_is ∙ f.failed ∙ sym (tries_stay s)
+
+    pub few_stay : (change_told told ≡ Stays) ⊎ (change_told told ≡ Ends) → length (tries (x ∷ r)) < 3
+    few_stay s = rw (tries_stay s) f.few
+
+    pub unowed : acknowledgement_in told ≡ None → owed (x ∷ r) ≡ None
+    unowed n = paid_by (owed (x ∷ r)) (t.acknowledges ∙ n)
+
+    pub end_now : IsIn (after_took k.channel frame now told) now → FitsNow counted.channel (channel (x ∷ r))
+    end_now i = rw cs.channel_is (in_now (after_took k.channel frame now told) i t.fits)
+      where
+        in_now : (end : ClientEnd) → IsIn end now → FitsChannel end now (channel (x ∷ r)) → FitsNow end (channel (x ∷ r))
+        in_now Idle i g = g
+        in_now (Seeking since) i (inl g) = g
+        in_now (Seeking since) i (inr g) = absurd (let o = i.over in let h = g.over in cc)
+        in_now (Open e) i (inl g) = g
+        in_now (Open e) i (inr g) = absurd (let o = i.over in let h = g.over in cc)
+        in_now (Leaving e) i (inl g) = g
+        in_now (Leaving e) i (inr g) = absurd (let o = i.over in let h = g.over in cc)
+        in_now (JustLost c) i g = absurd i.up
+
+    -- nothing is to be sent
+    pub fits_next : (next : Known) → FitsNow next.channel (channel (x ∷ r)) → Flies next (channel (x ∷ r)) → tries_of next.tries ≡ tries (x ∷ r) → length (tries (x ∷ r)) < 3 → acknowledgement_in told ≡ None → FitsRecord next (x ∷ r)
+    fits_next next end flies failed few n = record {
+      end = end;
+      current = polls_are_current r (Got octets) now refl;
+      acknowledged = flies.acknowledged;
+      confirmed = flies.confirmed;
+      failed = failed;
+      few = few;
+      paid = unowed n;
+      first = λ h. f.first (fresh_before k.channel (channel r) octets now f.end over h);
+    }
+
+    -- an acknowledgement is to be sent
+    pub fits_acked : (next : Known) (ack : List ℕ) → answer_in told ≡ Some ack → acknowledgement_in told ≡ Some ack → next.channel ≡ counted.channel → Flies next (channel (x ∷ r)) → tries_of next.tries ≡ tries (x ∷ r) → length (tries (x ∷ r)) < 3
+        → FitsRecord next (entry (Put ack) now ∷ x ∷ r)
+    fits_acked next ack a h same flies failed few =
+        let o = owed_open (channel r) x (channel (x ∷ r)) ack (t.acknowledges ∙ h) in
+        let still = Rattle.tunnel_link.proofs.Entries.put_still (x ∷ r) ack now (t.no_deed ack a) in
+        open_sent_by next (x ∷ r) ack o.c o.l o.is (polls_are_current r (Got octets) now refl) failed few (rw (same, cs.channel_is) (t.answers ack a).fits)
+        (record { acknowledged = flies.acknowledged ∙ sym still.acked; confirmed = flies.confirmed ∙ sym still.confirms })
+
+    pub flies_same : (next : Known) → next.flight ≡ counted.flight → (acknowledged_in (channel (x ∷ r)) ≡ acknowledged_in (channel r)) → (confirmed_in (channel (x ∷ r)) ≡ confirmed_in (channel r)) → Flies next (channel (x ∷ r))
+    flies_same next same a c = record { acknowledged = rw (same, cs.flight_is) (f.acknowledged ∙ sym a); confirmed = rw (same, cs.flight_is) (f.confirmed ∙ sym c) }
+
+    -- ---- what it did
+
+    pub did_nothing : cemi_in told ≡ None → change_told told ≢ Ends → deed (channel r) x ≡ Nothing
+    did_nothing n e = by_deed (got_deed (channel r) octets now)
+      where
+        by_deed : GotDeed (channel r) x (channel (x ∷ r)) → deed (channel r) x ≡ Nothing
+        by_deed (IsLost d c) = absurd (e (sym changes ∙ c))
+        by_deed (IsTaken o d c) = absurd (let g : (Some o ≡ None) = sym (ap taken_in d) ∙ t.gives ∙ n in cc)
+        by_deed (IsNone d c) = d
+
+    pub did_lose : change_told told ≡ Ends → deed (channel r) x ≡ Loses
+    did_lose e = by_deed (got_deed (channel r) octets now)
+      where
+        by_deed : GotDeed (channel r) x (channel (x ∷ r)) → deed (channel r) x ≡ Loses
+        by_deed (IsLost d c) = d
+        by_deed (IsTaken o d c) = absurd (let g : (Stays ≡ Ends) = sym c ∙ changes ∙ e in cc)
+        by_deed (IsNone d c) = absurd (c (changes ∙ e))
+
+    pub did_take : (cemi : List ℕ) → cemi_in told ≡ Some cemi → deed (channel r) x ≡ Takes cemi
+    did_take cemi h = by_deed (got_deed (channel r) octets now)
+      where
+        by_deed : GotDeed (channel r) x (channel (x ∷ r)) → deed (channel r) x ≡ Takes cemi
+        by_deed (IsLost d c) = absurd (let g : (None ≡ Some cemi) = sym (ap taken_in d) ∙ t.gives ∙ h in cc)
+        by_deed (IsTaken o d c) = let g : (Some o ≡ Some cemi) = sym (ap taken_in d) ∙ t.gives ∙ h in let same : (o ≡ cemi) = cc in d ∙ ap (λ (o : List ℕ). Takes o) same
+        by_deed (IsNone d c) = absurd (let g : (None ≡ Some cemi) = sym (ap taken_in d) ∙ t.gives ∙ h in cc)
+
+    pub opens_nothing : change_told told ≢ Opens → opens (channel r) (channel (x ∷ r)) x ≡ None
+    opens_nothing n = opens_none (channel r) (channel (x ∷ r)) x (λ h. n (sym changes ∙ h))
+
+    got_one : (b : Bool) → is_told_dropped told ≡ b → is_dropped r x ≡ b
+    got_one b h = t.drops ∙ h
+
+  pub all_nothing : (m : Moment) (l : List Moment) (d : Deed) → d ≡ Nothing → m.what ≡ d → Every IsNothing l → Every IsNothing (m ∷ l)
+  all_nothing m l d n h a = (h ∙ n, a)
+
+  -- ---- the rows
+
+  pub row_dropped : Row took.Dropped
+  unfolding after_took
+  row_dropped counted q t cs = record {
+    so = record {
+      right = calm_right took.Dropped counted t cs (drops counted) (dropped_up took.Dropped counted t cs refl) refl refl;
+      fits = λ u. fits_next took.Dropped counted t cs (drops counted) (end_now took.Dropped counted t cs (record { over = over; up = fits_not_lost k.channel (channel r) f.end })) (flies_same took.Dropped counted t cs (drops counted) refl (t.acked over) (t.confirms over))
+          (failed_stay took.Dropped counted t cs (inl refl)) (few_stay took.Dropped counted t cs (inl refl)) refl;
+    };
+    tells = refl;
+    got = (record { got = refl; drops = t.drops }, opens_nothing took.Dropped counted t cs (λ h. absurd (cc)));
+    does = λ m l w n a. inl (all_nothing m l _ (did_nothing took.Dropped counted t cs refl (λ h. absurd (cc))) w a);
+  }
+
+  pub row_up : (tunnel : IndAddr) → Row (took.Up tunnel)
+  unfolding after_took
+  row_up tunnel counted q t cs =
+      let none : (tries (x ∷ r) ≡ []) = opened_tries (channel r) (channel (x ∷ r)) (tries r) (changes (took.Up tunnel) counted t cs) in
+      let next : Known = record counted { tries = Zero; flight = none_in_flight } in record {
+        so = record {
+          right = calm_right (took.Up tunnel) counted t cs (record counted { tries = Zero; flight = none_in_flight }) (undropped (took.Up tunnel) counted t cs refl) refl refl;
+          fits = λ u. fits_next (took.Up tunnel) counted t cs (record counted { tries = Zero; flight = none_in_flight }) (end_now (took.Up tunnel) counted t cs (given_in frame now)) (record { acknowledged = sym (t.acked over); confirmed = sym (t.confirms over) })
+              (sym none) (rw none (omega arith)) refl;
+        };
+        tells = refl;
+        got = (record { got = refl; drops = t.drops }, opens_so k.channel frame octets now tunnel (channel r) (channel (x ∷ r)) f.end over is q (changes (took.Up tunnel) counted t cs));
+        does = λ m l w n a. (all_nothing m l _ (did_nothing (took.Up tunnel) counted t cs refl (λ h. absurd (cc))) w a, refl);
+      }
+
+  pub row_refused : (status : ℕ) → Row (took.RefusedBy status)
+  unfolding after_took
+  row_refused status counted q t cs =
+      let more : (tries (x ∷ r) ≡ try.Status status ∷ tries_of counted.tries) = refused_tries (channel r) (channel (x ∷ r)) status (tries r) (changes (took.RefusedBy status) counted t cs) ∙ ap (λ (l : List Try). try.Status status ∷ l) (sym (ap tries_of cs.tries_is ∙ f.failed)) in
+      let few : (length (tries_of counted.tries) < 3) = rw (ap tries_of cs.tries_is ∙ f.failed) f.few in record {
+        so = record {
+          right = right_next (took.RefusedBy status) counted t cs (tried (try.Status status) counted) (undropped (took.RefusedBy status) counted t cs refl) refl (rw more (refused_fits counted.tries (try.Status status) few));
+          fits = λ u. fits_next (took.RefusedBy status) counted t cs (tried (try.Status status) counted) (end_now (took.RefusedBy status) counted t cs (record { over = refl; up = tt }))
+              (flies_same (took.RefusedBy status) counted t cs (tried (try.Status status) counted) refl (t.acked over) (t.confirms over))
+              (more_tries counted.tries (try.Status status) few ∙ sym more) (rw more (still_few counted.tries (try.Status status) u)) refl;
+        };
+        tells = refl;
+        got = (record { got = refl; drops = t.drops }, opens_nothing (took.RefusedBy status) counted t cs (λ h. absurd (cc)));
+        does = λ m l w n a. all_nothing m l _ (did_nothing (took.RefusedBy status) counted t cs refl (λ h. absurd (cc))) w a;
+      }
+
+  pub row_acked : Row took.Acked
+  unfolding after_took
+  row_acked counted q t cs = record {
+    so = record {
+      right = calm_right took.Acked counted t cs (after_told now took.Acked counted) (undropped took.Acked counted t cs refl) refl refl;
+      fits = λ u. fits_next took.Acked counted t cs (after_told now took.Acked counted) (end_now took.Acked counted t cs (acked_in now k.channel (record { over = over; up = fits_not_lost k.channel (channel r) f.end })))
+          (record { acknowledged = sym (t.acked over); confirmed = rw cs.flight_is (f.confirmed ∙ sym (t.confirms over)) }) (failed_stay took.Acked counted t cs (inl refl)) (few_stay took.Acked counted t cs (inl refl)) refl;
+    };
+    tells = refl;
+    got = (record { got = refl; drops = t.drops }, opens_nothing took.Acked counted t cs (λ h. absurd (cc)));
+    does = λ m l w n a. all_nothing m l _ (did_nothing took.Acked counted t cs refl (λ h. absurd (cc))) w a;
+  }
+
+  pub row_alive : Row took.Alive
+  unfolding after_took
+  row_alive counted q t cs = record {
+    so = record {
+      right = calm_right took.Alive counted t cs counted (undropped took.Alive counted t cs refl) refl refl;
+      fits = λ u. fits_next took.Alive counted t cs counted (end_now took.Alive counted t cs (alive_in now k.channel (record { over = over; up = fits_not_lost k.channel (channel r) f.end })))
+          (flies_same took.Alive counted t cs counted refl (t.acked over) (t.confirms over)) (failed_stay took.Alive counted t cs (inl refl)) (few_stay took.Alive counted t cs (inl refl)) refl;
+    };
+    tells = refl;
+    got = (record { got = refl; drops = t.drops }, opens_nothing took.Alive counted t cs (λ h. absurd (cc)));
+    does = λ m l w n a. all_nothing m l _ (did_nothing took.Alive counted t cs refl (λ h. absurd (cc))) w a;
+  }

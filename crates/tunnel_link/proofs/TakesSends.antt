@@ -1,0 +1,175 @@
+-- The answers of the channel to a frame that came in time, and to which something is sent.
+use Rattle.std.proofs.Common.{◌≡◌, ◌≢◌, ◌⊎◌, inl, inr, ℕ, ◌<◌, ◌≤◌, List, [], ◌∷◌, length, Bool, true, false, cond, Option, Some, None, refl, sym, subst, ap, ◌∙◌, arith}
+use Rattle.std.specs.Prelude.{not, ◌||◌, ◌&&◌, is_none, is_some, option_map}
+use Rattle.knx_model.specs.declared.address.IndAddr.{IndAddr}
+use Rattle.knx_model.specs.declared.frames.cemi.Ldata.{Ldata}
+use Rattle.knx_model.specs.declared.frames.ip.IpFrame.{IpFrame}
+use Rattle.knx_model.specs.declared.frames.ip.IpFrame.TheVariants.{DisconnectRequest}
+use Rattle.knx_model.specs.KnxNetIp.{Written}
+use Rattle.line_model.specs.declared.client_end.ChannelTook.{ChannelTook}
+use Rattle.line_model.specs.declared.client_end.ChannelTook.TheVariants as took
+use Rattle.line_model.specs.declared.fault.HubFault.{HubFault}
+use Rattle.line_model.specs.declared.fault.Try.{Try}
+use Rattle.line_model.specs.declared.fault.Try.TheVariants as try
+use Rattle.line_model.specs.Reading.{datagram_in, ldata_in, is_con, disconnect_request_in}
+use Rattle.line_model.specs.Record.{Put, Got, Entry, entry}
+use Rattle.line_model.specs.LinkStory.{newest_time}
+use Rattle.line_model.specs.ClientView as seen
+use Rattle.line_model.specs.ClientView.{ClientChannel, channel, Deed, Takes, Loses, Nothing, deed}
+use Rattle.line_model.specs.Dropped.{is_dropped, dropped}
+use Rattle.line_model.specs.Faults.{tries, datagrams_taken, opens}
+use Rattle.line_model.specs.Moments.{Moment}
+use Rattle.line_model.specs.Renews.{owed, owed_in}
+use Rattle.line_model.specs.Signs.{Every}
+use Rattle.line_model.specs.ClientEnd.{ClientEnd, Idle, Seeking, Open, Leaving, JustLost, is_over, after_leave, channel_left}
+use Rattle.line_model.specs.ClientFrames.{gone, channel_took, after_took}
+use Rattle.tunnel_channel.specs.Fits.{FitsChannel, HasNone, acknowledged_in, confirmed_in}
+use Rattle.tunnel_channel.specs.Follows.{TakesFrame, Change, Opens, Refuses, Ends, Stays, change, change_told, cemi_in, taken_in, answer_in, is_told_dropped, acknowledgement_in}
+use Rattle.tunnel_channel.proofs.Current.{polls_are_current}
+use Rattle.tunnel_channel.proofs.Frames.{leave_read}
+use Rattle.tunnel_link.specs.declared.came.Answer.{Answer}
+use Rattle.tunnel_link.specs.declared.came.Loss.TheVariants as loss
+use Rattle.tunnel_link.specs.declared.came.What.TheVariants as came
+use Rattle.tunnel_link.specs.declared.known.Known.{Known}
+use Rattle.tunnel_link.specs.declared.tries.Tries.TheVariants.{Zero}
+use Rattle.tunnel_link.specs.Kept.{none_in_flight, counted_up, drops, with_heard, what_heard, after_told, told_answer, tried, left}
+use Rattle.tunnel_link.specs.Rights.{IsRight, FitsNow, FitsRecord, IsKept, FitsFault, tries_of, at_most_64_bits}
+use Rattle.tunnel_link.specs.Adds.{IsNothing, GotSo, DoesSo, is_told}
+use Rattle.tunnel_link.proofs.Entries.{poll_right}
+use Rattle.tunnel_link.proofs.MaySend.{Sending, Flies, open_sent_by, lost_sent}
+use Rattle.tunnel_link.proofs.Steps.{IsOpenAt, right_with}
+use Rattle.tunnel_link.proofs.Waited.{over_now}
+use Rattle.tunnel_link.proofs.Lapses.{Outcome, asks_to_leave, refused_fits, more_tries, still_few, leaves_lost}
+use Rattle.tunnel_link.proofs.Heard.{GotDeed, IsLost, IsTaken, IsNone, got_deed, opens_none, opens_so, opened_tries, refused_tries, same_tries, fresh_before, drops_one, drops_none}
+use Rattle.tunnel_link.proofs.Takes.{NotLost, IsIn, fits_not_lost, given_in, acked_in, taken_in_time, alive_in, IsDown, gone_down, paid_by, owed_open, IsLostAt, lost_by}
+use Rattle.tunnel_link.proofs.Entries.{put_still}
+use Rattle.tunnel_link.specs.Adds.{One}
+use Rattle.tunnel_link.proofs.TakesRows.{TakenSo, IsCounted, x, Frame, Row, changes, calm_then, right_next, calm_right, undropped, dropped_up, tries_stay, failed_stay, few_stay, unowed, end_now, fits_next, fits_acked, flies_same, did_nothing, did_lose, did_take, opens_nothing, all_nothing}
+
+module _ (k : Known) (r : List Entry) (f : FitsRecord k r) (right : IsRight k r) (calm : k.fault ≡ None) (octets : List ℕ) (frame : IpFrame) (now : ℕ) (is : datagram_in octets ≡ Some frame) (over : is_over k.channel now ≡ false) where
+  -- an acknowledgement, of which nothing else is known
+  sends_ack : (told : ChannelTook) (counted next : Known) (t : Frame k r f right calm octets frame now is over told) (cs : IsCounted k counted (after_took k.channel frame now told) (x k r f right calm octets frame now is over ∷ r)) (ack : List ℕ)
+      → answer_in told ≡ Some ack → acknowledgement_in told ≡ Some ack → next.channel ≡ counted.channel → IsRight next (x k r f right calm octets frame now is over ∷ r) → Flies next (channel (x k r f right calm octets frame now is over ∷ r)) → next.tries ≡ counted.tries → change_told told ≡ Stays
+      → Sending next ack Nothing (x k r f right calm octets frame now is over ∷ r)
+  sends_ack told counted next t cs ack a h same good flies tried stays = record {
+    right = good;
+    owes = t.owes ack a;
+    may = (t.answers ack a).may;
+    renews = t.right ack a;
+    fits = λ u. fits_acked k r f right calm octets frame now is over told counted t cs next ack a h same flies (ap tries_of tried ∙ failed_stay k r f right calm octets frame now is over told counted t cs (inl stays)) (few_stay k r f right calm octets frame now is over told counted t cs (inl stays));
+    did = t.no_deed ack a;
+  }
+
+  pub row_again : (ack : List ℕ) → Row k r f right calm octets frame now is over (took.Again ack)
+  unfolding after_took
+  row_again ack counted q t cs = record {
+    so = sends_ack (took.Again ack) counted counted t cs ack refl refl refl (calm_right k r f right calm octets frame now is over (took.Again ack) counted t cs counted (undropped k r f right calm octets frame now is over (took.Again ack) counted t cs refl) refl refl)
+        (flies_same k r f right calm octets frame now is over (took.Again ack) counted t cs counted refl (t.acked over) (t.confirms over)) refl refl;
+    tells = rw (t.asks_not ack refl) refl;
+    got = (record { got = refl; drops = t.drops }, opens_nothing k r f right calm octets frame now is over (took.Again ack) counted t cs (λ h. absurd (cc)));
+    does = λ m l w n a. all_nothing k r f right calm octets frame now is over m l _ (did_nothing k r f right calm octets frame now is over (took.Again ack) counted t cs refl (λ h. absurd (cc))) w a;
+  }
+
+  -- a request of the gateway's, with a frame of the link layer or without
+  row_unread : (cemi ack : List ℕ) → ldata_in cemi ≡ None → Row k r f right calm octets frame now is over (took.Cemi cemi ack)
+  unfolding after_took
+  row_unread cemi ack m counted q t cs =
+      let did : (deed (channel r) (x k r f right calm octets frame now is over) ≡ Takes cemi) = did_take k r f right calm octets frame now is over (took.Cemi cemi ack) counted t cs cemi refl in
+      rw m (record {
+        so = sends_ack (took.Cemi cemi ack) counted (drops counted) t cs ack refl refl refl (calm_right k r f right calm octets frame now is over (took.Cemi cemi ack) counted t cs (drops counted) (dropped_up k r f right calm octets frame now is over (took.Cemi cemi ack) counted t cs (rw m refl)) refl refl)
+            (flies_same k r f right calm octets frame now is over (took.Cemi cemi ack) counted t cs (drops counted) refl (t.acked over) (t.confirms over ∙ rw m refl)) refl refl;
+        tells = rw (t.asks_not ack refl) refl;
+        got = (record { got = refl; drops = t.drops ∙ rw m refl }, opens_nothing k r f right calm octets frame now is over (took.Cemi cemi ack) counted t cs (λ h. absurd (cc)));
+        does = λ e l w n a. inr (record { newer = []; m = e; older = l; all = refl; is = record { octets = cemi; takes = w ∙ did; unread = m }; newer_nothing = tt; older_nothing = a }, refl);
+      })
+
+  row_frame : (cemi ack : List ℕ) (ldata : Ldata) (b : Bool) → ldata_in cemi ≡ Some ldata → is_con ldata.code ≡ b → Row k r f right calm octets frame now is over (took.Cemi cemi ack)
+  unfolding after_took
+  row_frame cemi ack ldata true m c counted q t cs =
+      let did : (deed (channel r) (x k r f right calm octets frame now is over) ≡ Takes cemi) = did_take k r f right calm octets frame now is over (took.Cemi cemi ack) counted t cs cemi refl in
+      let next : Known = record counted { flight = record counted.flight { confirmed = true } } in
+      rw (m, c) (record {
+        so = sends_ack (took.Cemi cemi ack) counted (record counted { flight = record counted.flight { confirmed = true } }) t cs ack refl refl refl
+            (calm_right k r f right calm octets frame now is over (took.Cemi cemi ack) counted t cs (record counted { flight = record counted.flight { confirmed = true } }) (undropped k r f right calm octets frame now is over (took.Cemi cemi ack) counted t cs (rw m refl)) refl refl)
+            (record { acknowledged = rw cs.flight_is (f.acknowledged ∙ sym (t.acked over)); confirmed = sym (t.confirms over ∙ rw (m, c) refl) }) refl refl;
+        tells = rw (t.asks_not ack refl) refl;
+        got = (record { got = refl; drops = t.drops ∙ rw m refl }, opens_nothing k r f right calm octets frame now is over (took.Cemi cemi ack) counted t cs (λ h. absurd (cc)), record { octets = cemi; taken = did; reads = m });
+        does = λ e l w n a. (record { newer = []; m = e; older = l; all = refl; is = record { octets = cemi; takes = w ∙ did; reads = m; then = n }; newer_nothing = tt; older_nothing = a }, refl);
+      })
+  row_frame cemi ack ldata false m c counted q t cs =
+      let did : (deed (channel r) (x k r f right calm octets frame now is over) ≡ Takes cemi) = did_take k r f right calm octets frame now is over (took.Cemi cemi ack) counted t cs cemi refl in
+      rw (m, c) (record {
+        so = sends_ack (took.Cemi cemi ack) counted counted t cs ack refl refl refl (calm_right k r f right calm octets frame now is over (took.Cemi cemi ack) counted t cs counted (undropped k r f right calm octets frame now is over (took.Cemi cemi ack) counted t cs (rw m refl)) refl refl)
+            (flies_same k r f right calm octets frame now is over (took.Cemi cemi ack) counted t cs counted refl (t.acked over) (t.confirms over ∙ rw (m, c) refl)) refl refl;
+        tells = rw (t.asks_not ack refl) refl;
+        got = (record { got = refl; drops = t.drops ∙ rw m refl }, opens_nothing k r f right calm octets frame now is over (took.Cemi cemi ack) counted t cs (λ h. absurd (cc)), record { octets = cemi; taken = did; reads = m });
+        does = λ e l w n a. (record { newer = []; m = e; older = l; all = refl; is = record { octets = cemi; takes = w ∙ did; reads = m; then = n }; newer_nothing = tt; older_nothing = a }, refl);
+      })
+
+  by_reading : (cemi ack : List ℕ) (o : Option Ldata) → ldata_in cemi ≡ o → Row k r f right calm octets frame now is over (took.Cemi cemi ack)
+  by_reading cemi ack None m = row_unread cemi ack m
+  by_reading cemi ack (Some ldata) m = row_frame cemi ack ldata (is_con ldata.code) m refl
+
+  pub row_cemi : (cemi ack : List ℕ) → Row k r f right calm octets frame now is over (took.Cemi cemi ack)
+  row_cemi cemi ack = by_reading cemi ack (ldata_in cemi) refl
+
+  -- ---- the channel has ended
+
+  one_loss : (told : ChannelTook) (counted : Known) (t : Frame k r f right calm octets frame now is over told) (cs : IsCounted k counted (after_took k.channel frame now told) (x k r f right calm octets frame now is over ∷ r)) → change_told told ≡ Ends → (m : Moment) (l : List Moment)
+      → m.what ≡ deed (channel r) (x k r f right calm octets frame now is over) → Every IsNothing l → One (λ (m : Moment). m.what ≡ Loses) (m ∷ l)
+  one_loss told counted t cs e m l w a = record { newer = []; m = m; older = l; all = refl; is = w ∙ did_lose k r f right calm octets frame now is over told counted t cs e; newer_nothing = tt; older_nothing = a }
+
+  -- the gateway ended it, and is answered
+  pub row_ended : (answer : List ℕ) → Row k r f right calm octets frame now is over (took.Gone (Some answer))
+  unfolding after_took
+  row_ended answer counted q t cs =
+      let told : ChannelTook = took.Gone (Some answer) in
+      let at = lost_by (channel r) (channel (x k r f right calm octets frame now is over ∷ r)) (changes k r f right calm octets frame now is over (took.Gone (Some answer)) counted t cs) in
+      let s = t.answers answer refl in record {
+        so = record {
+          right = calm_right k r f right calm octets frame now is over (took.Gone (Some answer)) counted t cs (record counted { flight = none_in_flight }) (undropped k r f right calm octets frame now is over (took.Gone (Some answer)) counted t cs refl) refl refl;
+          owes = t.owes answer refl;
+          may = s.may;
+          renews = t.right answer refl;
+          fits = λ u. lost_sent (record counted { flight = none_in_flight }) (x k r f right calm octets frame now is over ∷ r) answer at.c at.is cs.channel_is refl (failed_stay k r f right calm octets frame now is over (took.Gone (Some answer)) counted t cs (inr refl)) (few_stay k r f right calm octets frame now is over (took.Gone (Some answer)) counted t cs (inr refl));
+          did = t.no_deed answer refl;
+        };
+        tells = rw (t.asks_not answer refl) refl;
+        got = (record { got = refl; drops = t.drops }, opens_nothing k r f right calm octets frame now is over (took.Gone (Some answer)) counted t cs (λ h. absurd (cc)));
+        does = λ m l w n a. one_loss (took.Gone (Some answer)) counted t cs refl m l w a;
+      }
+
+  -- it ended otherwise
+  gone_so : (counted : Known) (t : Frame k r f right calm octets frame now is over (took.Gone None)) (cs : IsCounted k counted (after_took k.channel frame now (took.Gone None)) (x k r f right calm octets frame now is over ∷ r)) (end : ClientEnd) → counted.channel ≡ end → IsDown end
+      → FitsChannel end now (channel (x k r f right calm octets frame now is over ∷ r)) → TakenSo (left counted) (told_answer (took.Gone None) counted.channel) r (x k r f right calm octets frame now is over)
+  gone_so counted t cs Idle at d g = rw at (record {
+    so = record {
+      right = calm_right k r f right calm octets frame now is over (took.Gone None) counted t cs (record counted { channel = Idle; flight = none_in_flight }) (undropped k r f right calm octets frame now is over (took.Gone None) counted t cs refl) refl refl;
+      fits = λ u. fits_next k r f right calm octets frame now is over (took.Gone None) counted t cs (record counted { channel = Idle; flight = none_in_flight }) g (record { acknowledged = sym (t.acked over); confirmed = sym (t.confirms over) })
+          (failed_stay k r f right calm octets frame now is over (took.Gone None) counted t cs (inr refl)) (few_stay k r f right calm octets frame now is over (took.Gone None) counted t cs (inr refl)) refl;
+    };
+    tells = refl;
+    got = (record { got = refl; drops = t.drops }, opens_nothing k r f right calm octets frame now is over (took.Gone None) counted t cs (λ h. absurd (cc)));
+    does = λ m l w n a. one_loss (took.Gone None) counted t cs refl m l w a;
+  })
+  gone_so counted t cs (Seeking since) at d g = absurd (not_sought g)
+    where
+      lost_at : IsLostAt (channel (x k r f right calm octets frame now is over ∷ r))
+      lost_at = lost_by (channel r) (channel (x k r f right calm octets frame now is over ∷ r)) (changes k r f right calm octets frame now is over (took.Gone None) counted t cs)
+
+      not_sought : FitsChannel (Seeking since) now (channel (x k r f right calm octets frame now is over ∷ r)) → ⊥
+      not_sought (inl h) = absurd (let e : (seen.Lost lost_at.c ≡ seen.Sought since) = sym lost_at.is ∙ h in cc)
+      not_sought (inr h) = absurd (let e : (seen.Lost lost_at.c ≡ seen.Unanswered) = sym lost_at.is ∙ h.unanswered in cc)
+  gone_so counted t cs (Open e) at d g = absurd d
+  gone_so counted t cs (Leaving e) at d g = absurd d
+  gone_so counted t cs (JustLost c) at d g = rw at (record {
+    so = leaves_lost counted (x k r f right calm octets frame now is over ∷ r) c g (sym (failed_stay k r f right calm octets frame now is over (took.Gone None) counted t cs (inr refl))) (rw (failed_stay k r f right calm octets frame now is over (took.Gone None) counted t cs (inr refl)) (few_stay k r f right calm octets frame now is over (took.Gone None) counted t cs (inr refl)))
+        (unowed k r f right calm octets frame now is over (took.Gone None) counted t cs refl) (calm_right k r f right calm octets frame now is over (took.Gone None) counted t cs counted (undropped k r f right calm octets frame now is over (took.Gone None) counted t cs refl) refl refl);
+    tells = rw (leave_read c) refl;
+    got = (record { got = refl; drops = t.drops }, opens_nothing k r f right calm octets frame now is over (took.Gone None) counted t cs (λ h. absurd (cc)));
+    does = λ m l w n a. one_loss (took.Gone None) counted t cs refl m l w a;
+  })
+
+  pub row_gone : Row k r f right calm octets frame now is over (took.Gone None)
+  unfolding after_took
+  row_gone counted q t cs = gone_so counted t cs (gone k.channel frame) cs.channel_is (gone_down k.channel frame) t.fits

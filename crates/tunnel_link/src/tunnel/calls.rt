@@ -1,0 +1,165 @@
+//! What is done on the link.
+
+ghost use Rattle.std.specs.Prelude.{◌≡◌, ◌≤◌, IfErr, OnOk, Ok, Some, None};
+ghost use Rattle.line_model.specs.ClientEnd.{IsCemi};
+ghost use Rattle.line_model.specs.LinkStory.{IsTime};
+ghost use Rattle.tunnel_link.specs.Goes.{GoesOn, AfterFault};
+ghost use Rattle.tunnel_link.specs.Rights.{IsOfTunnel, WhereTold};
+ghost use Rattle.tunnel_link.specs.Adds.{Growing, place_of, Seeks, PutsOne, Leaves, Dues, Acts, PollAdds};
+ghost use Rattle.tunnel_link.specs.declared.came.Loss.TheVariants.{Stays};
+
+use super::Tunnel;
+use crate::acted::Acted;
+use crate::came::{Answer, Came, Loss, What};
+use crate::sending::{answered, connected, listened, sent};
+use crate::wait::{LONGEST_POLL_MS, until};
+use knx_model::Datagram;
+use line_model::{HubFault, Link, frames_are_read};
+
+impl<L: Link> Tunnel<L> {
+    /// Takes a new endpoint and asks for a channel there, where none is open or sought. Tells whether it did.
+    pub fn seek(&mut self) -> Result<bool, HubFault>
+        ensures grows { GoesOn (L.story self.old.link) (L.story self.new.link) }
+        ensures adds { Growing (Seeks result) (L.story self.old.link) (L.story self.new.link) }
+        ensures fault { IfErr result (λ fault. self.new.known.fault ≡ Some fault) }
+        ensures stands { OnOk result (self.new.known.fault ≡ None) }
+        ensures by_tunnel { self.old.known.fault ≡ None → IfErr result IsOfTunnel }
+        ensures ended { AfterFault self.old result self.new }
+        ensures time { L.clock self.old.link ≤ L.clock self.new.link }
+        ensures count { L.faults self.old.link ≤ L.faults self.new.link }
+        ensures events { L.place self.old.link ≤ L.place self.new.link }
+    {
+        self.known.standing()?;
+        if !self.known.channel.may_connect() {
+            return Ok(false);
+        }
+        connected(&mut self.link, &mut self.known)?;
+        Ok(true)
+    }
+
+    /// Puts a request with these cEMI octets.
+    pub fn put(&mut self, cemi: &Datagram) -> Result<(), HubFault>
+        requires { IsCemi cemi.now }
+        ensures grows { GoesOn (L.story self.old.link) (L.story self.new.link) }
+        ensures adds { Growing (PutsOne result cemi.now (place_of (L.story self.new.link))) (L.story self.old.link) (L.story self.new.link) }
+        ensures fault { IfErr result (λ fault. self.new.known.fault ≡ Some fault) }
+        ensures stands { OnOk result (self.new.known.fault ≡ None) }
+        ensures by_tunnel { self.old.known.fault ≡ None → IfErr result IsOfTunnel }
+        ensures ended { AfterFault self.old result self.new }
+        ensures time { L.clock self.old.link ≤ L.clock self.new.link }
+        ensures count { L.faults self.old.link ≤ L.faults self.new.link }
+        ensures events { L.place self.old.link ≤ L.place self.new.link }
+    {
+        self.known.standing()?;
+        let now = self.link.now();
+        match self.known.puts(cemi, now) {
+            Some(request) => sent(&mut self.link, &mut self.known, &request),
+            None => Ok(()),
+        }
+    }
+
+    /// Asks to end the channel. Tells whether there was one.
+    pub fn leave(&mut self) -> Result<bool, HubFault>
+        ensures grows { GoesOn (L.story self.old.link) (L.story self.new.link) }
+        ensures adds { Growing (Leaves result) (L.story self.old.link) (L.story self.new.link) }
+        ensures fault { IfErr result (λ fault. self.new.known.fault ≡ Some fault) }
+        ensures stands { OnOk result (self.new.known.fault ≡ None) }
+        ensures by_tunnel { self.old.known.fault ≡ None → IfErr result IsOfTunnel }
+        ensures ended { AfterFault self.old result self.new }
+        ensures time { L.clock self.old.link ≤ L.clock self.new.link }
+        ensures count { L.faults self.old.link ≤ L.faults self.new.link }
+        ensures events { L.place self.old.link ≤ L.place self.new.link }
+    {
+        self.known.standing()?;
+        match self.known.leaves() {
+            Some(request) => {
+                sent(&mut self.link, &mut self.known, &request)?;
+                Ok(true)
+            }
+            None => Ok(false),
+        }
+    }
+
+    /// Does what is due: a channel or a try that the time has ended is given up, the request that isn't acknowledged is sent again, a heartbeat
+    /// is sent.
+    pub fn act(&mut self) -> Result<Acted, HubFault>
+        ensures grows { GoesOn (L.story self.old.link) (L.story self.new.link) }
+        ensures adds { Growing (Acts result) (L.story self.old.link) (L.story self.new.link) }
+        ensures fault { IfErr result (λ fault. self.new.known.fault ≡ Some fault) }
+        ensures stands { OnOk result (self.new.known.fault ≡ None) }
+        ensures by_tunnel { self.old.known.fault ≡ None → IfErr result IsOfTunnel }
+        ensures ended { AfterFault self.old result self.new }
+        ensures time { L.clock self.old.link ≤ L.clock self.new.link }
+        ensures count { L.faults self.old.link ≤ L.faults self.new.link }
+        ensures events { L.place self.old.link ≤ L.place self.new.link }
+    {
+        self.known.standing()?;
+        let now = self.link.now();
+        let loss = self.lapse(now)?;
+        let again = self.send_due(now)?;
+        let beat = self.send_due(now)?;
+        Ok(Acted::new(loss, again, beat))
+    }
+
+    /// Gives up a channel or a try that the time has ended.
+    fn lapse(&mut self, now: u64) -> Result<Loss, HubFault>
+        requires time { IsTime now (L.story self.old.link) }
+        requires stands { self.old.known.fault ≡ None }
+        ensures still { WhereTold (λ places. (result ≡ Ok Stays) × (L.story self.new.link ≡ L.story self.old.link)) (L.story self.old.link) }
+        ensures told { OnOk result (IsTime now (L.story self.new.link)) }
+        ensures grows { GoesOn (L.story self.old.link) (L.story self.new.link) }
+        ensures fault { IfErr result (λ fault. self.new.known.fault ≡ Some fault) }
+        ensures stands { OnOk result (self.new.known.fault ≡ None) }
+        ensures by_tunnel { IfErr result IsOfTunnel }
+        ensures time { L.clock self.old.link ≤ L.clock self.new.link }
+        ensures count { L.faults self.old.link ≤ L.faults self.new.link }
+        ensures events { L.place self.old.link ≤ L.place self.new.link }
+    {
+        let Answer { loss, sends, .. } = self.known.lapse(What::Quiet, now);
+        answered(&mut self.link, &mut self.known, sends)?;
+        Ok(loss)
+    }
+
+    /// Sends the request that is due again, or else the heartbeat, which takes no time. Tells whether there was one.
+    fn send_due(&mut self, now: u64) -> Result<bool, HubFault>
+        requires time { IsTime now (L.story self.old.link) }
+        requires stands { self.old.known.fault ≡ None }
+        ensures adds { Growing (Dues result) (L.story self.old.link) (L.story self.new.link) }
+        ensures told { OnOk result (IsTime now (L.story self.new.link)) }
+        ensures grows { GoesOn (L.story self.old.link) (L.story self.new.link) }
+        ensures fault { IfErr result (λ fault. self.new.known.fault ≡ Some fault) }
+        ensures stands { OnOk result (self.new.known.fault ≡ None) }
+        ensures by_tunnel { IfErr result IsOfTunnel }
+        ensures time { L.clock self.old.link ≤ L.clock self.new.link }
+        ensures count { L.faults self.old.link ≤ L.faults self.new.link }
+        ensures events { L.place self.old.link ≤ L.place self.new.link }
+    {
+        match self.known.due(now) {
+            Some(datagram) => {
+                sent(&mut self.link, &mut self.known, &datagram)?;
+                Ok(true)
+            }
+            None => Ok(false),
+        }
+    }
+
+    /// One poll of at most so many milliseconds, never more than 100, and not past a deadline. A request that was got is acknowledged at once, and a loss of the
+    /// channel answered.
+    pub fn poll(&mut self, longest_ms: u32) -> Result<Came, HubFault>
+        ensures grows { GoesOn (L.story self.old.link) (L.story self.new.link) }
+        ensures adds { Growing (PollAdds result) (L.story self.old.link) (L.story self.new.link) }
+        ensures fault { IfErr result (λ fault. self.new.known.fault ≡ Some fault) }
+        ensures stands { OnOk result (self.new.known.fault ≡ None) }
+        ensures by_tunnel { self.old.known.fault ≡ None → IfErr result IsOfTunnel }
+        ensures ended { AfterFault self.old result self.new }
+        ensures time { L.clock self.old.link ≤ L.clock self.new.link }
+        ensures count { L.faults self.old.link ≤ L.faults self.new.link }
+        ensures events { L.place self.old.link ≤ L.place self.new.link }
+    {
+        frames_are_read();
+        self.known.standing()?;
+        let now = self.link.now();
+        let wait_ms = until(self.deadline(), now, longest_ms.min(LONGEST_POLL_MS));
+        listened(&mut self.link, &mut self.known, wait_ms)
+    }
+}
