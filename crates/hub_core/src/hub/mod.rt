@@ -14,7 +14,7 @@ ghost use Rattle.line_model.specs.Log.{Job, IsLog, OneDownloaderPerDevice};
 ghost use Rattle.hub_work.specs.Books.{AreJobsOf};
 ghost use Rattle.hub_work.specs.Requests.{IsTurnInRange};
 ghost use Rattle.hub_work.specs.declared.job.HubJob.{HubJob as JobOfHub};
-ghost use Rattle.hub_core.specs.Promises.{DropsIn, FaultRightIn, IsRightOver, PromptIn, TellsIn};
+ghost use Rattle.hub_core.specs.Promises.{DropsIn, FaultRightIn, IsRightOver, TellsIn};
 ghost use Rattle.hub_core.specs.Seen.{AreJobs, tasks_seen};
 
 use crate::end::HubEnd;
@@ -54,7 +54,7 @@ impl<L: Link> Model for Hub<L> {
     ghost use Rattle.std.specs.Prelude.{map};
     ghost use Rattle.hub_core.specs.Seen.{hub_job_of};
 
-    ghost view = { λ h. record { link = h.tunnel.link; jobs = map hub_job_of h.work.downloaders; devices = h.work.reservation.devices; turns = h.work.telegrams.turns; log = h.work.journal.entries; fault = h.tunnel.known.fault; missed = h.missed } };
+    ghost view = { λ h. record { link = h.tunnel.link; known = h.tunnel.known; jobs = map hub_job_of h.work.downloaders; devices = h.work.reservation.devices; turns = h.work.telegrams.turns; log = h.work.journal.entries; fault = h.tunnel.known.fault; closing = h.work.closing; missed = h.missed } };
 
     ghost invariant = { λ h. Keeps (L.place h.tunnel.link) (L.story h.tunnel.link) h.work h.met h.tunnel.known.fault };
 }
@@ -135,13 +135,13 @@ impl<L: Link> Hub<L> {
     }
 
     /// What its type keeps, at every moment and after a fault too, for any jobs with its devices and plans. Where its link tells something: the log is
-    /// one of its jobs and telegrams, what it tells is true, and each request was right; it has ended exactly where there is a cause; and where it polled
-    /// promptly, the client's discipline and, over a link that tells its events and with good jobs, what the law of the line says. Over every link its
-    /// log is one of its jobs and telegrams, with one downloader for each device.
+    /// one of its jobs and telegrams, what it tells is true, each request was right, and it polled promptly: the client's discipline, and so, over a link
+    /// that tells its events and with good jobs, what the law of the line says; and it has ended exactly where there is a cause. Over every link its log is
+    /// one of its jobs and telegrams, with one downloader for each device.
     pub fn keeps(&self)
         ensures tells { (jobs : List Job) → AreJobs self.now.jobs jobs → TellsIn jobs self.now.turns self.now.log (L.story self.now.link) }
-        ensures headline { (jobs : List Job) → AreJobs self.now.jobs jobs → PromptIn jobs self.now.turns self.now.log (L.story self.now.link) → Keeps jobs self.now.turns (L.story self.now.link) self.now.log }
-        ensures right { (jobs : List Job) → AreJobs self.now.jobs jobs → PromptIn jobs self.now.turns self.now.log (L.story self.now.link) → AllByRecursion IsGoodJob jobs → IsRightOver jobs (L.story self.now.link) self.now.log }
+        ensures headline { (jobs : List Job) → AreJobs self.now.jobs jobs → Keeps jobs self.now.turns (L.story self.now.link) self.now.log }
+        ensures right { (jobs : List Job) → AreJobs self.now.jobs jobs → AllByRecursion IsGoodJob jobs → IsRightOver jobs (L.story self.now.link) self.now.log }
         ensures fault { (jobs : List Job) → AreJobs self.now.jobs jobs → FaultRightIn jobs self.now.log self.now.fault (record_in (L.story self.now.link)) }
         ensures form { (jobs : List Job) → AreJobsOf self.now.devices jobs → IsLog jobs self.now.turns (L.place self.now.link) self.now.log }
         ensures alone { (jobs : List Job) → AreJobsOf self.now.devices jobs → OneDownloaderPerDevice jobs self.now.log }

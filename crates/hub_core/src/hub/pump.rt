@@ -1,6 +1,7 @@
 //! One poll of the link, with what is due before it.
 
 ghost use Rattle.std.specs.Prelude.{◌≡◌, IfErr, OnOk, Some, None};
+ghost use Rattle.tunnel_link.specs.Adds.{HasActed, Ready};
 ghost use Rattle.tunnel_link.specs.Goes.{GoesOn};
 ghost use Rattle.hub_core.specs.Seen.{SameRun, StaysEnded};
 
@@ -35,6 +36,7 @@ impl<L: Link> Hub<L> {
     /// Does what is due by the time. Tells whether it did something.
     pub(super) fn act(&mut self) -> Result<bool, HubFault>
         requires stands { self.old.fault ≡ None }
+        ensures acted { OnOk result (HasActed self.new.known (L.story self.new.link)) }
         ensures grows { GoesOn (L.story self.old.link) (L.story self.new.link) }
         ensures fault { IfErr result (λ fault. self.new.fault ≡ Some fault) }
         ensures stands { OnOk result (self.new.fault ≡ None) }
@@ -51,6 +53,8 @@ impl<L: Link> Hub<L> {
     /// Asks for a channel. Tells whether it did.
     fn seek(&mut self) -> Result<bool, HubFault>
         requires stands { self.old.fault ≡ None }
+        requires acted { HasActed self.old.known (L.story self.old.link) }
+        ensures ready { OnOk result (self.new.closing ≡ None → Ready self.new.known (L.story self.new.link)) }
         ensures grows { GoesOn (L.story self.old.link) (L.story self.new.link) }
         ensures fault { IfErr result (λ fault. self.new.fault ≡ Some fault) }
         ensures stands { OnOk result (self.new.fault ≡ None) }
@@ -71,6 +75,7 @@ impl<L: Link> Hub<L> {
     /// Makes one poll.
     pub(super) fn poll(&mut self) -> Result<Polled, HubFault>
         requires stands { self.old.fault ≡ None }
+        requires ready { self.old.closing ≡ None → Ready self.old.known (L.story self.old.link) }
         ensures grows { GoesOn (L.story self.old.link) (L.story self.new.link) }
         ensures fault { IfErr result (λ fault. self.new.fault ≡ Some fault) }
         ensures stands { OnOk result (self.new.fault ≡ None) }
