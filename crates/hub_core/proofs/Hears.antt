@@ -1,7 +1,8 @@
 -- Which group indications the calls took, one after another.
-use Rattle.std.proofs.Common.{◌≡◌, ◌⊎◌, inl, inr, ℕ, List, [], ◌∷◌, ◌++◌, Option, Some, None, Result, Ok, Err, refl, sym, ap, subst, ◌∙◌}
-use Rattle.std.specs.Prelude.{filter_map}
+use Rattle.std.proofs.Common.{◌≡◌, ◌⊎◌, inl, inr, ℕ, List, [], ◌∷◌, ◌++◌, Bool, Option, Some, None, Result, Ok, Err, refl, sym, ap, subst, ◌∙◌}
+use Rattle.std.specs.Prelude.{filter_map, OnOk}
 use Rattle.std.specs.List.{cons_option}
+use Rattle.line_model.specs.declared.fault.HubFault.{HubFault}
 use Rattle.line_model.specs.declared.group.Indication.{Indication}
 use Rattle.line_model.specs.Record.{Placed, entries}
 use Rattle.line_model.specs.LinkStory.{Story, places_in}
@@ -12,7 +13,7 @@ use Rattle.tunnel_link.specs.declared.came.Loss.{Loss}
 use Rattle.tunnel_link.specs.declared.came.Loss.TheVariants.{Stays, Ended, Told}
 use Rattle.tunnel_link.specs.declared.came.What.{What}
 use Rattle.tunnel_link.specs.declared.came.What.TheVariants as came
-use Rattle.tunnel_link.specs.Adds.{place_of, moments_on, Grows, Growing, AllNothing, LosesAt, TakesAt, TakesUnread, OrLoses, DoesSo, PollAdds}
+use Rattle.tunnel_link.specs.Adds.{place_of, moments_on, Grows, Growing, AllNothing, Seeks, LosesAt, TakesAt, TakesUnread, OrLoses, DoesSo, PollAdds}
 use Rattle.tunnel_link.specs.Goes.{GoesOn}
 use Rattle.hub_core.specs.Hears.{HearsSo}
 use Rattle.hub_core.specs.Taking.{HeardIn}
@@ -27,6 +28,10 @@ hears_by heard s t P grows h old new es et =
 
 pub hears_none : (s t : Story) (P : List Placed → List Placed → Type 0) → Growing P s t → ((old added : List Placed) → P old added → AllNothing old added) → HearsSo None s t
 hears_none s t P grows none = hears_by None s t P grows (λ old added h. nothings (moments_on old added) (moments old) (none old added h))
+
+pub seeks_heard : (s t : Story) (result : Result Bool HubFault) → Growing (Seeks result) s t → OnOk result (HearsSo None s t)
+seeks_heard s t (Ok b) grows = hears_none s t (Seeks (Ok b)) grows (λ old added h. h.nothing)
+seeks_heard s t (Err fault) grows = tt
 
 unread_heard : (m : Moment) (taken : List (List ℕ)) → TakesUnread m → filter_map group_indication (and_takes m.what taken) ≡ cons_option None (filter_map group_indication taken)
 unread_heard m taken is = let none : group_indication is.octets ≡ None = ap indication_of is.unread in rw is.takes (rw none refl)

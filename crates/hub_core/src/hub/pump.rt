@@ -1,8 +1,9 @@
 //! One poll of the link, with what is due before it.
 
-ghost use Rattle.std.specs.Prelude.{◌≡◌, IfErr, OnOk, Some, None};
+ghost use Rattle.std.specs.Prelude.{◌≡◌, IfErr, IfOk, OnOk, Some, None};
 ghost use Rattle.tunnel_link.specs.Adds.{HasActed, Ready};
 ghost use Rattle.tunnel_link.specs.Goes.{GoesOn};
+ghost use Rattle.hub_core.specs.Hears.{HearsSo, heard_of};
 ghost use Rattle.hub_core.specs.Seen.{SameRun, StaysEnded};
 
 use super::Hub;
@@ -19,6 +20,7 @@ impl<L: Link> Hub<L> {
         ensures log { self.new.log ≡ self.old.log }
         ensures ended { StaysEnded self.old.fault result self.new.fault (self.new.link ≡ self.old.link) }
         ensures fault { IfErr result (λ fault. self.new.fault ≡ Some fault) }
+        ensures heard { IfOk result (λ pumped. HearsSo (heard_of pumped) (L.story self.old.link) (L.story self.new.link)) }
     {
         if let Some(fault) = self.tunnel.fault() {
             return Err(fault);
@@ -26,16 +28,13 @@ impl<L: Link> Hub<L> {
         let acted = self.act()?;
         let sought = self.seek()?;
         let polled = self.poll()?;
-        match polled.heard {
-            Some(indication) => Ok(Pumped::Heard(indication)),
-            None if acted || sought || polled.moved => Ok(Pumped::Moved),
-            None => Ok(Pumped::Nothing),
-        }
+        Ok(pumped(acted || sought, polled))
     }
 
     /// Does what is due by the time. Tells whether it did something.
     pub(super) fn act(&mut self) -> Result<bool, HubFault>
         requires stands { self.old.fault ≡ None }
+        ensures heard { OnOk result (HearsSo None (L.story self.old.link) (L.story self.new.link)) }
         ensures acted { OnOk result (HasActed self.new.known (L.story self.new.link)) }
         ensures grows { GoesOn (L.story self.old.link) (L.story self.new.link) }
         ensures fault { IfErr result (λ fault. self.new.fault ≡ Some fault) }
@@ -54,6 +53,7 @@ impl<L: Link> Hub<L> {
     fn seek(&mut self) -> Result<bool, HubFault>
         requires stands { self.old.fault ≡ None }
         requires acted { HasActed self.old.known (L.story self.old.link) }
+        ensures heard { OnOk result (HearsSo None (L.story self.old.link) (L.story self.new.link)) }
         ensures ready { OnOk result (self.new.closing ≡ None → Ready self.new.known (L.story self.new.link)) }
         ensures grows { GoesOn (L.story self.old.link) (L.story self.new.link) }
         ensures fault { IfErr result (λ fault. self.new.fault ≡ Some fault) }
@@ -76,6 +76,7 @@ impl<L: Link> Hub<L> {
     pub(super) fn poll(&mut self) -> Result<Polled, HubFault>
         requires stands { self.old.fault ≡ None }
         requires ready { self.old.closing ≡ None → Ready self.old.known (L.story self.old.link) }
+        ensures heard { IfOk result (λ polled. HearsSo polled.heard (L.story self.old.link) (L.story self.new.link)) }
         ensures grows { GoesOn (L.story self.old.link) (L.story self.new.link) }
         ensures fault { IfErr result (λ fault. self.new.fault ≡ Some fault) }
         ensures stands { OnOk result (self.new.fault ≡ None) }
@@ -94,5 +95,16 @@ impl<L: Link> Hub<L> {
             Some(fault) => Err(self.tunnel.fail(fault)),
             None => Ok(polled),
         }
+    }
+}
+
+/// What a poll did, and whether the call did something before it.
+fn pumped(did: bool, polled: Polled) -> Pumped
+    ensures { heard_of result ≡ polled.heard }
+{
+    match polled.heard {
+        Some(indication) => Pumped::Heard(indication),
+        None if did || polled.moved => Pumped::Moved,
+        None => Pumped::Nothing,
     }
 }
