@@ -3,12 +3,13 @@ use Rattle.std.proofs.Common.{◌≡◌, ℕ, ◌<◌, ◌≤◌, ◌⊎◌, inl
 use Rattle.knx_model.specs.declared.frames.cemi.Ldata.{Ldata}
 use Rattle.line_model.specs.Moments.{Moment, time}
 use Rattle.line_model.specs.Signs.{Every}
+use Rattle.line_model.specs.Told.{IsLoss}
 use Rattle.line_model.specs.Log.{Job}
 use Rattle.tunnel_link.specs.declared.came.Loss.{Loss}
 use Rattle.tunnel_link.specs.declared.came.Loss.TheVariants.{Stays, Ended, Told}
 use Rattle.tunnel_link.specs.declared.came.What.{What}
 use Rattle.tunnel_link.specs.declared.came.What.TheVariants as came
-use Rattle.tunnel_link.specs.Adds.{IsNothing, One, LosesAt, TakesAt, TakesUnread, OrLoses, DoesSo}
+use Rattle.tunnel_link.specs.Adds.{IsNothing, One, TakesAt, TakesUnread, OrLoses, DoesSo}
 use Rattle.hub_work.specs.declared.work.Work.{Work}
 use Rattle.hub_work.specs.declared.closing.Closing.{Closing}
 use Rattle.hub_work.specs.Fits.{Fits, FitsJob}
@@ -30,9 +31,8 @@ module _ (w v : Work) (now : ℕ) (s : SameWork w v) (law : AsideFollows) (It : 
       step : (before at : ℕ) (m : Moment) (l : List Moment) → FitsThen jobs w before at l → at < m.at → It m → FitsThen jobs v m.now m.at (m ∷ l)
       step before at m l h lt is = (books_same w v s m.at (books_later at m.at w (omega (arith, lt)) h.0), it jobs before at m l h.0 h.1 lt is)
 
-pub loss_follows : (w v : Work) (now : ℕ) → SameWork w v → AsideFollows → LossFollows w v now → FollowsAll (One (LosesAt now)) now w v
-loss_follows w v now s law f = one_follows w v now s law (LosesAt now) (λ jobs before at m l books fits lt is.
-    subst (λ (t : ℕ). Fits jobs v t m.at (m ∷ l)) (sym is.then) (f jobs before at m.at m l books fits (record { time = is.then; after = lt; within = omega arith }) is.loses))
+pub loss_follows : (w v : Work) (now : ℕ) → SameWork w v → AsideFollows → ((then : ℕ) → LossFollows w v then) → FollowsAll (One IsLoss) now w v
+loss_follows w v now s law f = one_follows w v now s law IsLoss (λ jobs before at m l books fits lt is. f m.now jobs before at m.at m l books fits (record { time = refl; after = lt; within = omega arith }) is)
 
 pub frame_follows : (w v : Work) (frame : Ldata) (now : ℕ) → SameWork w v → AsideFollows → FrameFollows w v frame now → FollowsAll (One (TakesAt frame now)) now w v
 frame_follows w v frame now s law f = one_follows w v now s law (TakesAt frame now) (λ jobs before at m l books fits lt is.
@@ -70,18 +70,18 @@ one_aside P l is one = subst Asides (sym one.all) (there one.newer one.newer_not
   there [] h = (is one.m one.is, nothing_aside one.older one.older_nothing)
   there (x ∷ newer) h = (Does h.0, there newer h.1)
 
-or_lost : (loss : Loss) (now : ℕ) (l : List Moment) → OrLoses loss now l → AsideOrLost loss now l
-or_lost Stays now l h = nothing_aside l h
-or_lost Ended now l h = h
-or_lost Told now l h = h
+or_lost : (loss : Loss) (l : List Moment) → OrLoses loss l → AsideOrLost loss l
+or_lost Stays l h = nothing_aside l h
+or_lost Ended l h = h
+or_lost Told l h = h
 
-unread_or_lost : (loss : Loss) (now : ℕ) (l : List Moment) → OrLoses loss now l ⊎ (One TakesUnread l × (loss ≡ Stays)) → AsideOrLost loss now l
-unread_or_lost loss now l (inl h) = or_lost loss now l h
-unread_or_lost loss now l (inr h) = subst (λ (x : Loss). AsideOrLost x now l) (sym h.1) (one_aside TakesUnread l (λ m u. Unread u.octets u.takes u.unread) h.0)
+unread_or_lost : (loss : Loss) (l : List Moment) → OrLoses loss l ⊎ (One TakesUnread l × (loss ≡ Stays)) → AsideOrLost loss l
+unread_or_lost loss l (inl h) = or_lost loss l h
+unread_or_lost loss l (inr h) = subst (λ (x : Loss). AsideOrLost x l) (sym h.1) (one_aside TakesUnread l (λ m u. Unread u.octets u.takes u.unread) h.0)
 
 module _ (old between new : Work) (loss : Loss) (now : ℕ) (lost : LosesIn loss now between new) where
   -- nothing was told before
-  from_same : (AreSo : List Moment → Type 0) → ((l : List Moment) → AreSo l → AsideOrLost loss now l) → between ≡ old → FollowsAll AreSo now old new
+  from_same : (AreSo : List Moment → Type 0) → ((l : List Moment) → AreSo l → AsideOrLost loss l) → between ≡ old → FollowsAll AreSo now old new
   from_same AreSo is e jobs at added l books fits rise so then =
       lost jobs at added l (subst (KeepsBooks at) (sym e) books) (subst (λ (w : Work). Fits jobs w (time l) at l) (sym e) fits) rise (is added so) then
 
@@ -91,12 +91,12 @@ module _ (old between new : Work) (loss : Loss) (now : ℕ) (lost : LosesIn loss
       let fitted : Fits jobs between now (place_or at added) (added ++ l) = first jobs at added l books fits rise so.0 then in
       let there : Fits jobs between (time (added ++ l)) (place_or at added) (added ++ l) = subst (λ (t : ℕ). Fits jobs between t (place_or at added) (added ++ l)) (sym then) fitted in
       let kept : KeepsBooks (place_or at added) between = books_same old between s (place_or at added) (books_later at (place_or at added) old (place_above at added rise) books) in
-      let none : AsideOrLost loss now [] = subst (λ (x : Loss). AsideOrLost x now []) (sym so.1) tt in
+      let none : AsideOrLost loss [] = subst (λ (x : Loss). AsideOrLost x []) (sym so.1) tt in
       lost jobs (place_or at added) [] (added ++ l) kept there tt none then
 
   pub taken_follows : (what : What) → SameWork old between → DeliversIn what now old between → FollowsAll (DoesSo what loss now) now old new
-  taken_follows came.Quiet s d = from_same (OrLoses loss now) (or_lost loss now) d
-  taken_follows came.Dropped s d = from_same (λ l. OrLoses loss now l ⊎ (One TakesUnread l × (loss ≡ Stays))) (unread_or_lost loss now) d
-  taken_follows came.Tunnel s d = from_same (OrLoses loss now) (or_lost loss now) d
-  taken_follows (came.Up tunnel) s d = from_same (λ l. OrLoses loss now l × (loss ≡ Stays)) (λ l h. or_lost loss now l h.0) d
+  taken_follows came.Quiet s d = from_same (OrLoses loss) (or_lost loss) d
+  taken_follows came.Dropped s d = from_same (λ l. OrLoses loss l ⊎ (One TakesUnread l × (loss ≡ Stays))) (unread_or_lost loss) d
+  taken_follows came.Tunnel s d = from_same (OrLoses loss) (or_lost loss) d
+  taken_follows (came.Up tunnel) s d = from_same (λ l. OrLoses loss l × (loss ≡ Stays)) (λ l h. or_lost loss l h.0) d
   taken_follows (came.Frame frame) s d = from_frame frame s d

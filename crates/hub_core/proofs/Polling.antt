@@ -9,6 +9,7 @@ use Rattle.line_model.specs.Record.{Entry, Placed, entries, got_in}
 use Rattle.line_model.specs.LinkStory.{Story, places_in, newest_time}
 use Rattle.line_model.specs.Moments.{Moment}
 use Rattle.line_model.specs.Signs.{Every}
+use Rattle.line_model.specs.Told.{IsLoss}
 use Rattle.line_model.specs.Log.{Job, JobUnfinished}
 use Rattle.line_model.specs.ClientView.{channel}
 use Rattle.line_model.specs.Faults.{datagrams_taken, flood, opens, or_newer, first_tunnel, first_elsewhere, IsWrongLine}
@@ -18,7 +19,7 @@ use Rattle.tunnel_link.specs.declared.came.Loss.{Loss}
 use Rattle.tunnel_link.specs.declared.came.Loss.TheVariants.{Stays, Ended, Told}
 use Rattle.tunnel_link.specs.declared.came.What.{What}
 use Rattle.tunnel_link.specs.declared.came.What.TheVariants as came
-use Rattle.tunnel_link.specs.Adds.{place_of, moments_on, Added, Growing, PutsNone, LosesAt, TakesAt, TakesUnread, OrLoses, DoesSo, GotSo, Brings, PollAdds}
+use Rattle.tunnel_link.specs.Adds.{place_of, moments_on, Added, Growing, PutsNone, TakesAt, TakesUnread, OrLoses, DoesSo, GotSo, Brings, PollAdds}
 use Rattle.tunnel_link.specs.Goes.{GoesOn}
 use Rattle.tunnel_link.specs.Rights.{WhereTold, at_most_64_bits}
 use Rattle.hub_work.specs.declared.work.Work.{Work}
@@ -36,17 +37,17 @@ use Rattle.hub_core.proofs.Taking.{quiet_not_got, sent_not_got, none_counted, no
 
 -- ---- it puts nothing
 
-or_loses_puts : (loss : Loss) (now : ℕ) (l : List Moment) → OrLoses loss now l → Every PutsNone l
-or_loses_puts Stays now l h = nothings_put l h
-or_loses_puts Ended now l h = one_puts (LosesAt now) l (λ m is. loses_put m is.loses) h
-or_loses_puts Told now l h = one_puts (LosesAt now) l (λ m is. loses_put m is.loses) h
+or_loses_puts : (loss : Loss) (l : List Moment) → OrLoses loss l → Every PutsNone l
+or_loses_puts Stays l h = nothings_put l h
+or_loses_puts Ended l h = one_puts IsLoss l (λ m is. loses_put m is) h
+or_loses_puts Told l h = one_puts IsLoss l (λ m is. loses_put m is) h
 
 does_puts : (what : What) (loss : Loss) (now : ℕ) (l : List Moment) → DoesSo what loss now l → Every PutsNone l
-does_puts came.Quiet loss now l h = or_loses_puts loss now l h
-does_puts came.Dropped loss now l (inl h) = or_loses_puts loss now l h
+does_puts came.Quiet loss now l h = or_loses_puts loss l h
+does_puts came.Dropped loss now l (inl h) = or_loses_puts loss l h
 does_puts came.Dropped loss now l (inr h) = one_puts TakesUnread l (λ m is. takes_put m is.octets is.takes) h.0
-does_puts came.Tunnel loss now l h = or_loses_puts loss now l h
-does_puts (came.Up tunnel) loss now l h = or_loses_puts loss now l h.0
+does_puts came.Tunnel loss now l h = or_loses_puts loss l h
+does_puts (came.Up tunnel) loss now l h = or_loses_puts loss l h.0
 does_puts (came.Frame frame) loss now l h = one_puts (TakesAt frame now) l (λ m is. takes_put m is.octets is.takes) h.0
 
 -- ---- the tunnel that it tells, and how many datagrams were taken

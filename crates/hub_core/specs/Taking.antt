@@ -8,6 +8,7 @@ use Rattle.line_model.specs.declared.group.Indication.{Indication}
 use Rattle.line_model.specs.ClientView.{indication_of}
 use Rattle.line_model.specs.Moments.{Moment, time}
 use Rattle.line_model.specs.Signs.{Every}
+use Rattle.line_model.specs.Told.{IsLoss}
 use Rattle.line_model.specs.Log.{Job, JobUnfinished}
 use Rattle.line_model.specs.Faults.{flood, first_elsewhere}
 use Rattle.tunnel_link.specs.declared.came.Came.{Came}
@@ -15,7 +16,7 @@ use Rattle.tunnel_link.specs.declared.came.Loss.{Loss}
 use Rattle.tunnel_link.specs.declared.came.Loss.TheVariants.{Stays, Ended, Told}
 use Rattle.tunnel_link.specs.declared.came.What.{What}
 use Rattle.tunnel_link.specs.declared.came.What.TheVariants as came
-use Rattle.tunnel_link.specs.Adds.{One, LosesAt, TakesAt, DoesSo}
+use Rattle.tunnel_link.specs.Adds.{One, TakesAt, DoesSo}
 use Rattle.hub_work.specs.declared.work.Work.{Work}
 use Rattle.hub_work.specs.Books.{AreJobsOf, jobs_held}
 use Rattle.hub_work.specs.Fits.{Fits}
@@ -52,13 +53,13 @@ FollowsAll AreSo now old new =
 
 -- ---- a loss, and a frame
 
-abbrev pub AsideOrLost : Loss → ℕ → List Moment → Type 0
-AsideOrLost Stays now l = Every (λ m. IsAside m.what) l
-AsideOrLost Ended now l = One (LosesAt now) l
-AsideOrLost Told now l = One (LosesAt now) l
+abbrev pub AsideOrLost : Loss → List Moment → Type 0
+AsideOrLost Stays l = Every (λ m. IsAside m.what) l
+AsideOrLost Ended l = One IsLoss l
+AsideOrLost Told l = One IsLoss l
 
 abbrev pub LosesIn : Loss → ℕ → Work → Work → Type 0
-LosesIn loss now old new = FollowsAll (AsideOrLost loss now) now old new
+LosesIn loss now old new = FollowsAll (AsideOrLost loss) now old new
 
 abbrev pub DeliversIn : What → ℕ → Work → Work → Type 0
 DeliversIn came.Quiet now old new = new ≡ old

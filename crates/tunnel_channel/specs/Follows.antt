@@ -209,6 +209,7 @@ pub record Expires (end after : ClientEnd) (told : ChannelExpired) (now : ℕ) (
   pub sends : (octets : List ℕ) → sent_by told ≡ Some octets → Sends after octets now r
   pub no_deed : (octets : List ℕ) → sent_by told ≡ Some octets → deed (channel r) (entry (Put octets) now) ≡ Nothing
   pub right : (octets : List ℕ) → sent_by told ≡ Some octets → RenewsSo r (entry (Put octets) now)
+  pub asks_not : (octets : List ℕ) → sent_by told ≡ Some octets → disconnect_request_in (datagram_in octets) ≡ None
   pub rests : sent_by told ≡ None → IsCurrent (channel r) now → Fits after r
   pub by_cause : (c : ℕ) (l : List Entry) → channel r ≡ seen.Open c l → TellsDue told now c l
   pub unanswered : (since : ℕ) → channel r ≡ seen.Sought since → is_told_unanswered told ≡ has_passed answer_wait since now

@@ -11,18 +11,21 @@ use Rattle.line_model.specs.Closing.{is_open, asks_to_end}
 use Rattle.line_model.specs.ClientEnd.{IsCemi, MayConnect, channel_put, channel_expired, channel_left}
 use Rattle.line_model.specs.Renews.{is_left}
 use Rattle.tunnel_channel.specs.Follows.{sent_by}
+use Rattle.tunnel_link.specs.declared.came.Loss.{Loss}
+use Rattle.tunnel_link.specs.declared.came.Loss.TheVariants.{Stays}
 use Rattle.tunnel_link.specs.declared.came.What.TheVariants as came
 use Rattle.tunnel_link.specs.declared.came.Answer.{Answer}
 use Rattle.tunnel_link.specs.declared.known.Known.{Known}
 use Rattle.tunnel_link.specs.Goes.{GoesOn, Goes, Keeps, KeepsAll}
 use Rattle.tunnel_link.specs.Kept.{only, with_due, with_put, with_leave, lapsed, lapse_answer}
 use Rattle.tunnel_link.specs.Rights.{IsRight, FitsRecord, IsKept, WhereTold}
-use Rattle.tunnel_link.specs.Adds.{place_of, Grows, Growing, PutsOne, AllNothing, Leaves, LeavesSo, Seeks, SeeksSo, asks_end}
-use Rattle.tunnel_link.specs.Calls.{SendsSo, AnswersSo, Unsent, ConnectsSo}
+use Rattle.tunnel_link.specs.Adds.{place_of, Grows, Growing, PutsOne, AllNothing, Leaves, LeavesSo, Seeks, SeeksSo, Dues, DuesOne, asks_end}
+use Rattle.tunnel_link.specs.Calls.{SendsSo, AnswersSo, Stands, Unsent, ConnectsSo}
 use Rattle.tunnel_link.proofs.MaySend.{Sending, not_over, not_late}
-use Rattle.tunnel_link.proofs.Steps.{AsksEnd, left_asks, asks_read}
+use Rattle.tunnel_link.proofs.Steps.{AsksEnd, left_asks, asks_read, expires}
+use Rattle.tunnel_link.proofs.DueLate.{due_late}
 use Rattle.tunnel_link.proofs.Seeks.{unsought}
-use Rattle.tunnel_link.proofs.Places.{After, where_after, unmoved, sent_grows}
+use Rattle.tunnel_link.proofs.Places.{After, where_after, unmoved, sent_grows, one_sent}
 use Rattle.tunnel_link.proofs.Stories.{sends_goes, sends_or_goes, stays}
 use Rattle.tunnel_link.proofs.Lapses.{Gives, lapsed_none}
 use Rattle.tunnel_link.proofs.CallsKept.{time_is, due_may, due_keeps, put_may, unput_keeps, leave_may, unleft_keeps, open_is, put_adds, sends_keeps, nothing_adds}
@@ -85,13 +88,13 @@ module _ (k next new : Known) (before after : Story) (all : KeepsAll k before) (
   -- ---- what the time has ended: between calls nothing
 
   module _ {X : Type 0} (r : Result X HubFault) (now : ℕ) (answer : Answer) (t : IsTime now before) (n : next ≡ lapsed k now) (a : answer ≡ lapse_answer came.Quiet k now) (s : AnswersSo r answer.sends next new before after) where
-    rests : (old : List Placed) → places_in before ≡ Some old → Gives came.Quiet k now k (only came.Quiet)
+    pub rests : (old : List Placed) → places_in before ≡ Some old → Gives came.Quiet k now k (only came.Quiet)
     rests old p =
         let same : (now ≡ newest_time (entries old)) = time_is now before old all.legal t p in
         let f : FitsRecord k (entries old) = (all.kept old p).fits calm in
         subst (λ (m : ℕ). Gives came.Quiet k m k (only came.Quiet)) (sym same) (lapsed_none came.Quiet k (newest_time (entries old)) (not_late k (entries old) f) (not_over k (entries old) f))
 
-    still : (old : List Placed) → places_in before ≡ Some old → Unsent r k new before after
+    pub still : (old : List Placed) → places_in before ≡ Some old → Unsent r k new before after
     still old p =
         let g = rests old p in
         let at : (next ≡ k) = n ∙ g.known in
@@ -146,3 +149,48 @@ module _ (k new : Known) (before after : Story) (all : KeepsAll k before) (calm 
       where
         so_of : (old added : List Placed) → SeekAdds (Ok x) old added → Seeks (Ok true) old added
         so_of old added h = record { nothing = h.0; so = (h.1, h.2) }
+
+-- ---- what is due adds
+
+module _ (k next new : Known) (before after : Story) (all : KeepsAll k before) (calm : k.fault ≡ None) where
+  module _ {X : Type 0} (r : Result X HubFault) (now : ℕ) (octets : List ℕ) (t : IsTime now before) (q : sent_by (channel_expired k.channel now) ≡ Some octets) (n : next ≡ with_due k now) (s : SendsSo r octets next new before after) where
+    may_due : WhereTold (λ old. Sending next octets Nothing (entries old)) before
+    may_due = subst (λ (x : Known). WhereTold (λ old. Sending x octets Nothing (entries old)) before) (sym n) (due_may k before all calm now octets t q)
+
+    not_asked : (old : List Placed) → places_in before ≡ Some old → disconnect_request_in (datagram_in octets) ≡ None
+    not_asked old p =
+        let same : (now ≡ newest_time (entries old)) = time_is now before old all.legal t p in
+        (expires k (entries old) ((all.kept old p).fits calm)).asks_not octets (subst (λ (m : ℕ). sent_by (channel_expired k.channel m) ≡ Some octets) same q)
+
+    one_due : (old : List Placed) (p : places_in before ≡ Some old) → DuesOne old (one_sent octets (place_of after) old ∷ [])
+    one_due old p = record { nothing = ((may_due old p).did, tt); only_sends = refl; asks_no_end = rw (not_asked old p) refl; some = λ h. absurd (cc) }
+
+    pub due_ok : (x : X) → r ≡ Ok x → Growing (Dues (Ok true)) before after
+    due_ok x e old p = by_ok (subst (λ (y : Result X HubFault). SendsSo y octets next new before after) e s)
+      where
+        by_ok : SendsSo (Ok x) octets next new before after → Grows (Dues (Ok true)) (place_of before) (place_of after) old after
+        by_ok h = sent_grows (Dues (Ok true)) octets before after old all.legal h.1 p (one_due old p)
+
+    pub due_err : (answer : Result Bool HubFault) (fault : HubFault) → answer ≡ Err fault → Growing (Dues answer) before after
+    due_err answer fault e = grows_as AllNothing (Dues answer) before after (λ old added h. subst (λ (x : Result Bool HubFault). Dues x old added) (sym e) h)
+        (nothing_adds r AllNothing next new octets before after all.legal may_due (λ old p d. (d, tt)) (λ old p. tt) s)
+
+module _ (k : Known) (before : Story) (all : KeepsAll k before) (calm : k.fault ≡ None) where
+  pub due_none : (now : ℕ) → IsTime now before → sent_by (channel_expired k.channel now) ≡ None → Growing (Dues (Ok false)) before before
+  due_none now t q old p =
+      let same : (now ≡ newest_time (entries old)) = time_is now before old all.legal t p in
+      unmoved (Dues (Ok false)) before before old refl p (record { none = refl; in_time = due_late k (entries old) ((all.kept old p).fits calm) (subst (λ (m : ℕ). sent_by (channel_expired k.channel m) ≡ None) same q) })
+
+-- ---- between calls the time has ended nothing
+
+module _ (k next new : Known) (before after : Story) (all : KeepsAll k before) (calm : k.fault ≡ None) where
+  module _ {X : Type 0} (r : Result X HubFault) (now : ℕ) (answer : Answer) (t : IsTime now before) (n : next ≡ lapsed k now) (a : answer ≡ lapse_answer came.Quiet k now) (s : AnswersSo r answer.sends next new before after) where
+    pub still_ok : {Y : Type 0} (result : Result Loss Y) → result ≡ Ok answer.loss → WhereTold (λ places. (result ≡ Ok Stays) × (after ≡ before)) before
+    still_ok result e old p =
+        let g = rests k next new before after all calm r now answer t n a s old p in
+        (e ∙ ap (λ (x : Answer). Ok x.loss) (a ∙ g.is), (still k next new before after all calm r now answer t n a s old p).story)
+
+    pub still_err : (fault : HubFault) → r ≡ Err fault → (P : List Placed → Type 0) → WhereTold P before
+    still_err fault e P old p =
+        let u = still k next new before after all calm r now answer t n a s old p in
+        absurd (let h : (k.fault ≡ Some fault) = subst (λ (x : Result X HubFault). Stands x k) e u.stands in cc)

@@ -155,6 +155,7 @@ lapsed_gone what k now e is false q over = by_way (up_expires k.channel e now is
   where
     passed : is_over k.channel now ≡ true
     passed = late_or_over (is_late k.flight now) (is_over k.channel now) over q
+
     by_way : Expired k.channel now → Gives what k now (gone k) (gone_answer what e.channel)
     by_way (inl h) = record { known = rw (q, passed, h, lost_is k.channel e is) refl; is = rw (q, passed, h, lost_is k.channel e is) refl }
     by_way (inr h) = record { known = rw (q, passed, h, lost_is k.channel e is) refl; is = rw (q, passed, h, lost_is k.channel e is) refl }

@@ -1,9 +1,12 @@
+pub mod Acting
 pub mod Beats
 pub mod CallAnswers
 pub mod CallsKept
 pub mod Clock
+pub mod DueLate
 pub mod Ended
 pub mod Entries
+pub mod Faulted
 pub mod Foreign
 pub mod Growth
 pub mod HasPlaces

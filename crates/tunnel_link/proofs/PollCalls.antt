@@ -88,15 +88,36 @@ or_false false = refl
 module _ (result : Result Came HubFault) (next : Known) (a : Answer) (old ws : List Placed) (p : Placed) (poll : is_poll p.what.what ≡ true) (times : AreWaits (newest_time (entries old)) (entries ws)) (c : Comes next a old ws p) where
   adds_none : (r : Result Came HubFault) → IfOk r (λ (x : Came). x ≡ record { what = a.what; loss = a.loss; sent = false }) → asks_to_leave None ≡ is_told a.loss → PollAdds r old (p ∷ ws)
   adds_none (Ok x) g tells = rw g (record {
-    waits = ws; last = p; sent = []; parts = refl; quiet = quiet_places (newest_time (entries old)) ws times; at_end = refl; polls = poll; got = c.got; sends = refl; tells = tells; answered = refl; does = c.answers.does;
+    waits = ws;
+    last = p;
+    sent = [];
+    parts = refl;
+    quiet = quiet_places (newest_time (entries old)) ws times;
+    at_end = refl;
+    polls = poll;
+    got = c.got;
+    sends = refl;
+    tells = tells;
+    answered = refl;
+    does = c.answers.does;
   })
   adds_none (Err fault) g tells = does_puts a.what a.loss _ (moments_on old (p ∷ ws)) c.answers.does
 
   adds_one : (r : Result Came HubFault) (octets : List ℕ) (at : ℕ) → IfOk r (λ (x : Came). x ≡ record { what = a.what; loss = a.loss; sent = true }) → asks_to_leave (Some octets) ≡ is_told a.loss → deed (channel (entries ((p ∷ ws) ++ old))) (entry (Put octets) p.what.now) ≡ Nothing
       → PollAdds r old (record { at = at; what = entry (Put octets) p.what.now } ∷ p ∷ ws)
   adds_one (Ok x) octets at g tells n = rw g (record {
-    waits = ws; last = p; sent = record { at = at; what = entry (Put octets) p.what.now } ∷ []; parts = refl; quiet = quiet_places (newest_time (entries old)) ws times; at_end = refl; polls = poll; got = c.got; sends = refl;
-    tells = or_false _ ∙ tells; answered = refl; does = does_more a.what a.loss _ _ (moments_on old (p ∷ ws)) n c.answers.does;
+    waits = ws;
+    last = p;
+    sent = record { at = at; what = entry (Put octets) p.what.now } ∷ [];
+    parts = refl;
+    quiet = quiet_places (newest_time (entries old)) ws times;
+    at_end = refl;
+    polls = poll;
+    got = c.got;
+    sends = refl;
+    tells = or_false _ ∙ tells;
+    answered = refl;
+    does = does_more a.what a.loss _ _ (moments_on old (p ∷ ws)) n c.answers.does;
   })
   adds_one (Err fault) octets at g tells n = ((λ o h. absurd (let e : (Nothing ≡ Puts o) = sym n ∙ h in cc)), does_puts a.what a.loss _ (moments_on old (p ∷ ws)) c.answers.does)
 
@@ -119,7 +140,10 @@ module _ (result : Result Came HubFault) (new : Known) (before between after : S
   by_answer None kept tells gives u = record {
     is = record { new = p ∷ (ws ++ old); told = ap places_in u.story ∙ told; is = rw u.known kept };
     grows = record {
-      new = p ∷ (ws ++ old); told = ap places_in u.story ∙ told; added = p ∷ ws; grown = rw u.story (added_of (place_of before) (place_of between) old (p ∷ ws) above upto);
+      new = p ∷ (ws ++ old);
+      told = ap places_in u.story ∙ told;
+      added = p ∷ ws;
+      grown = rw u.story (added_of (place_of before) (place_of between) old (p ∷ ws) above upto);
       is = adds_none result next a old ws p poll times c result gives tells;
     };
   }
@@ -127,7 +151,9 @@ module _ (result : Result Came HubFault) (new : Known) (before between after : S
       let m = adds_more (Put octets) _ (sends_it octets) between after (p ∷ (ws ++ old)) legal s.story told in record {
         is = record { new = one_sent octets (place_of after) (p ∷ (ws ++ old)) ∷ p ∷ (ws ++ old); told = m.told; is = rw s.known (sent_kept next octets Nothing (entries ((p ∷ ws) ++ old)) may) };
         grows = record {
-          new = one_sent octets (place_of after) (p ∷ (ws ++ old)) ∷ p ∷ (ws ++ old); told = m.told; added = one_sent octets (place_of after) (p ∷ (ws ++ old)) ∷ p ∷ ws;
+          new = one_sent octets (place_of after) (p ∷ (ws ++ old)) ∷ p ∷ (ws ++ old);
+          told = m.told;
+          added = one_sent octets (place_of after) (p ∷ (ws ++ old)) ∷ p ∷ ws;
           grown = added_of (place_of before) (place_of after) old (one_sent octets (place_of after) (p ∷ (ws ++ old)) ∷ p ∷ ws) ((let h = m.up in omega arith), above) (omega arith, upto_more (place_of between) (place_of after) (p ∷ ws) (let h = m.up in omega arith) upto);
           is = adds_one result next a old ws p poll times c result octets (place_of after) gives tells may.did;
         };
@@ -146,7 +172,9 @@ module _ (result : Result Came HubFault) (new : Known) (before between after : S
           let m = adds_more (Put octets) _ (sends_it octets) between after (p ∷ (ws ++ old)) legal s told in record {
             is = record { new = one_sent octets (place_of after) (p ∷ (ws ++ old)) ∷ p ∷ (ws ++ old); told = m.told; is = rw f.fails.known (failed_kept next _ f.fault f.fails.by_link (sent_right next octets Nothing (entries ((p ∷ ws) ++ old)) may)) };
             grows = record {
-              new = one_sent octets (place_of after) (p ∷ (ws ++ old)) ∷ p ∷ (ws ++ old); told = m.told; added = one_sent octets (place_of after) (p ∷ (ws ++ old)) ∷ p ∷ ws;
+              new = one_sent octets (place_of after) (p ∷ (ws ++ old)) ∷ p ∷ (ws ++ old);
+              told = m.told;
+              added = one_sent octets (place_of after) (p ∷ (ws ++ old)) ∷ p ∷ ws;
               grown = added_of (place_of before) (place_of after) old (one_sent octets (place_of after) (p ∷ (ws ++ old)) ∷ p ∷ ws) ((let h = m.up in omega arith), above) (omega arith, upto_more (place_of between) (place_of after) (p ∷ ws) (let h = m.up in omega arith) upto);
               is = adds_one result next a old ws p poll times c result octets (place_of after) (err_gives result true f.answer) tells may.did;
             };
@@ -154,7 +182,10 @@ module _ (result : Result Came HubFault) (new : Known) (before between after : S
       failed (inr e) = record {
         is = record { new = p ∷ (ws ++ old); told = ap places_in e ∙ told; is = bad may.right };
         grows = record {
-          new = p ∷ (ws ++ old); told = ap places_in e ∙ told; added = p ∷ ws; grown = rw e (added_of (place_of before) (place_of between) old (p ∷ ws) above upto);
+          new = p ∷ (ws ++ old);
+          told = ap places_in e ∙ told;
+          added = p ∷ ws;
+          grown = rw e (added_of (place_of before) (place_of between) old (p ∷ ws) above upto);
           is = subst (λ (x : Result Came HubFault). PollAdds x old (p ∷ ws)) (sym f.answer) (does_puts a.what a.loss _ (moments_on old (p ∷ ws)) c.answers.does);
         };
       }

@@ -115,7 +115,7 @@ module _ (k : Known) (old ws : List Placed) (calm : k.fault ≡ None) (f : FitsR
   quiet_so =
       let w : Waited k old (last Quiet ∷ ws) = waited_more k old ws (last Quiet) refl le (inl refl) waited in
       let good : IsRight k (entry Quiet now ∷ entries (ws ++ old)) = poll_right k k (entries (ws ++ old)) Quiet now refl (waited_paid k old ws waited) right_then (drops_none k.dropped (entries (ws ++ old)) (entry Quiet now) refl right_then.drops)
-          (takes_none k.taken (entries (ws ++ old)) (entry Quiet now) refl right_then.takes) (rw calm tt) in
+      (takes_none k.taken (entries (ws ++ old)) (entry Quiet now) refl right_then.takes) (rw calm tt) in
       record {
         answers = lapse_answers came.Quiet k old (last Quiet ∷ ws) tt good w;
         got = rw (lapse_what came.Quiet k old (last Quiet ∷ ws) w) refl;

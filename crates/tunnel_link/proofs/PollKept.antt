@@ -49,7 +49,7 @@ module _ (result : Result Came HubFault) (wait : ℕ) (k new : Known) (before af
       = comes k old g.waits.waits calm (kept.fits calm) kept.right g.waits.times (place_of l.between) q.now le q.what q.poll tunnels in
       let d : Comes l.known l.answer old g.waits.waits (record { at = place_of l.between; what = entry q.what q.now })
       = subst (λ (n : Known). Comes n l.answer old g.waits.waits (record { at = place_of l.between; what = entry q.what q.now })) (sym q.known)
-          (subst (λ (a : Answer). Comes (after_item k q.what q.now) a old g.waits.waits (record { at = place_of l.between; what = entry q.what q.now })) (sym q.is) c) in
+      (subst (λ (a : Answer). Comes (after_item k q.what q.now) a old g.waits.waits (record { at = place_of l.between; what = entry q.what q.now })) (sym q.is) c) in
       let told : (places_in l.between ≡ Some (record { at = place_of l.between; what = entry q.what q.now } ∷ (g.waits.waits ++ old))) = subst (λ (m : List Placed). places_in l.between ≡ Some (record { at = place_of l.between; what = entry q.what q.now } ∷ m)) g.waits.all g.told in
       by_answer result new before l.between after old g.waits.waits legal l.known l.answer (record { at = place_of l.between; what = entry q.what q.now }) q.poll g.waits.times d told (g.up, g.waits.above) (omega arith, g.waits.upto) (let h = g.up in omega arith)
       l.answer.sends d.answers.so d.answers.tells l.gives l.answers
@@ -63,7 +63,10 @@ module _ (result : Result Came HubFault) (wait : ℕ) (k new : Known) (before af
       record {
         is = record { new = g.waits.waits ++ old; told = told; is = rw u.fails.known (failed_kept k (entries (g.waits.waits ++ old)) u.fault u.fails.by_link right) };
         grows = record {
-          new = g.waits.waits ++ old; told = told; added = g.waits.waits; grown = added_of (place_of before) (place_of after) old g.waits.waits g.waits.above g.waits.upto;
+          new = g.waits.waits ++ old;
+          told = told;
+          added = g.waits.waits;
+          grown = added_of (place_of before) (place_of after) old g.waits.waits g.waits.above g.waits.upto;
           is = subst (λ (x : Result Came HubFault). PollAdds x old g.waits.waits) (sym u.answer) (waited_puts k old g.waits.waits (waits_all k old g.waits.waits (kept.fits calm) g.waits.times));
         };
       }

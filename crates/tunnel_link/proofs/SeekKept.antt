@@ -77,7 +77,8 @@ module _ {X : Type 0} (result : Result X HubFault) (k new : Known) (before after
         let y = renewed old p in
         let x = adds_more (Put (Written ConnectRequest)) _ (sends_it (Written ConnectRequest)) c.between after (renewed_at (place_of c.between) old ∷ old) legal_then s y.told in
         record {
-          new = one_sent (Written ConnectRequest) (place_of after) (renewed_at (place_of c.between) old ∷ old) ∷ renewed_at (place_of c.between) old ∷ old; told = x.told;
+          new = one_sent (Written ConnectRequest) (place_of after) (renewed_at (place_of c.between) old ∷ old) ∷ renewed_at (place_of c.between) old ∷ old;
+          told = x.told;
           added = one_sent (Written ConnectRequest) (place_of after) (renewed_at (place_of c.between) old ∷ old) ∷ renewed_at (place_of c.between) old ∷ [];
           grown = added_of (place_of before) (place_of after) old (one_sent (Written ConnectRequest) (place_of after) (renewed_at (place_of c.between) old ∷ old) ∷ renewed_at (place_of c.between) old ∷ [])
               ((let a = x.up in let b = y.up in omega arith), ((let b = y.up in omega arith), tt)) (omega arith, ((let a = x.up in omega arith), tt));
@@ -88,8 +89,11 @@ module _ {X : Type 0} (result : Result X HubFault) (k new : Known) (before after
     one old p e P h =
         let y = renewed old p in
         record {
-          new = renewed_at (place_of c.between) old ∷ old; told = ap places_in e ∙ y.told; added = renewed_at (place_of c.between) old ∷ [];
-          grown = rw e (added_of (place_of before) (place_of c.between) old (renewed_at (place_of c.between) old ∷ []) ((let b = y.up in omega arith), tt) (omega arith, tt)); is = h;
+          new = renewed_at (place_of c.between) old ∷ old;
+          told = ap places_in e ∙ y.told;
+          added = renewed_at (place_of c.between) old ∷ [];
+          grown = rw e (added_of (place_of before) (place_of c.between) old (renewed_at (place_of c.between) old ∷ []) ((let b = y.up in omega arith), tt) (omega arith, tt));
+          is = h;
         }
 
     did : (old : List Placed) (p : places_in before ≡ Some old) → AllNothing old (one_sent (Written ConnectRequest) (place_of after) (renewed_at (place_of c.between) old ∷ old) ∷ renewed_at (place_of c.between) old ∷ [])
@@ -123,7 +127,9 @@ module _ {X : Type 0} (result : Result X HubFault) (k new : Known) (before after
         by_renewal (inl h) =
             let y = adds_more Renewed _ renews_it before after old all.legal h p in
             record {
-              new = renewed_at (place_of after) old ∷ old; told = y.told; added = renewed_at (place_of after) old ∷ [];
+              new = renewed_at (place_of after) old ∷ old;
+              told = y.told;
+              added = renewed_at (place_of after) old ∷ [];
               grown = added_of (place_of before) (place_of after) old (renewed_at (place_of after) old ∷ []) ((let b = y.up in omega arith), tt) (omega arith, tt);
               is = (renewed_did (channel (entries old)) (newest_time (entries old)), tt);
             }

@@ -78,7 +78,7 @@ rests_by end now (due.Beat octets) n o = absurd (cc)
 rests_by end now due.Dead n o = absurd (cc)
 
 module _ (k : Known) (r : List Entry) (f : FitsRecord k r) where
-  expires : Expires k.channel (after_expired k.channel (newest_time r) (channel_expired k.channel (newest_time r))) (channel_expired k.channel (newest_time r)) (newest_time r) r
+  pub expires : Expires k.channel (after_expired k.channel (newest_time r) (channel_expired k.channel (newest_time r))) (channel_expired k.channel (newest_time r)) (newest_time r) r
   expires = expire_follows k.channel (newest_time r) r (fits_of k.channel (newest_time r) (channel r) f.end) (omega arith)
 
   pub told_over : is_told_over (channel_expired k.channel (newest_time r)) ≡ false

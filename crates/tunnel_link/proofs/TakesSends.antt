@@ -42,7 +42,6 @@ use Rattle.tunnel_link.proofs.Waited.{over_now}
 use Rattle.tunnel_link.proofs.Lapses.{Outcome, asks_to_leave, refused_fits, more_tries, still_few, leaves_lost}
 use Rattle.tunnel_link.proofs.Heard.{GotDeed, IsLost, IsTaken, IsNone, got_deed, opens_none, opens_so, opened_tries, refused_tries, same_tries, fresh_before, drops_one, drops_none}
 use Rattle.tunnel_link.proofs.Takes.{NotLost, IsIn, fits_not_lost, given_in, acked_in, taken_in_time, alive_in, IsDown, gone_down, paid_by, owed_open, IsLostAt, lost_by}
-
 use Rattle.tunnel_link.proofs.Entries.{put_still}
 use Rattle.tunnel_link.specs.Adds.{One}
 use Rattle.tunnel_link.proofs.TakesRows.{TakenSo, IsCounted, x, Frame, Row, changes, calm_then, right_next, calm_right, undropped, dropped_up, tries_stay, failed_stay, few_stay, unowed, end_now, fits_next, fits_acked, flies_same, did_nothing, did_lose, did_take, opens_nothing, all_nothing}
@@ -83,9 +82,6 @@ module _ (k : Known) (r : List Entry) (f : FitsRecord k r) (right : IsRight k r)
         got = (record { got = refl; drops = t.drops ∙ rw m refl }, opens_nothing k r f right calm octets frame now is over (took.Cemi cemi ack) counted t cs (λ h. absurd (cc)));
         does = λ e l w n a. inr (record { newer = []; m = e; older = l; all = refl; is = record { octets = cemi; takes = w ∙ did; unread = m }; newer_nothing = tt; older_nothing = a }, refl);
       })
-
-  with_frame : Known → Bool → Known
-  with_frame counted b = cond b (record counted { flight = record counted.flight { confirmed = true } }) counted
 
   row_frame : (cemi ack : List ℕ) (ldata : Ldata) (b : Bool) → ldata_in cemi ≡ Some ldata → is_con ldata.code ≡ b → Row k r f right calm octets frame now is over (took.Cemi cemi ack)
   unfolding after_took
@@ -160,6 +156,7 @@ module _ (k : Known) (r : List Entry) (f : FitsRecord k r) (right : IsRight k r)
     where
       lost_at : IsLostAt (channel (x k r f right calm octets frame now is over ∷ r))
       lost_at = lost_by (channel r) (channel (x k r f right calm octets frame now is over ∷ r)) (changes k r f right calm octets frame now is over (took.Gone None) counted t cs)
+
       not_sought : FitsChannel (Seeking since) now (channel (x k r f right calm octets frame now is over ∷ r)) → ⊥
       not_sought (inl h) = absurd (let e : (seen.Lost lost_at.c ≡ seen.Sought since) = sym lost_at.is ∙ h in cc)
       not_sought (inr h) = absurd (let e : (seen.Lost lost_at.c ≡ seen.Unanswered) = sym lost_at.is ∙ h.unanswered in cc)

@@ -181,17 +181,19 @@ module _ (k : Known) (r : List Entry) (f : FitsRecord k r) (what : Item) (now : 
       let both = or_neither (is_late k.flight now) (is_over k.channel now) o in
       let rests = rests_so k.channel f.end n both.0 both.1 in
       let fits : Fits k.channel (entry what now ∷ r) = quiet_follows k.channel r what now (fits_of k.channel (newest_time r) (channel r) f.end) le (sym late_is ∙ both.0) poll n in
-      let end : FitsNow k.channel (channel (entry what now ∷ r)) = over_now k.channel now (channel (entry what now ∷ r)) (channel r) f.end fits both.1 in
-      (record {
-        end = end;
-        current = polls_are_current r what now poll;
-        acknowledged = f.acknowledged ∙ sym rests.still.acked;
-        confirmed = f.confirmed ∙ sym rests.still.confirms;
-        failed = f.failed ∙ sym (rests.failed (tries r));
-        few = rw (rests.failed (tries r)) f.few;
-        paid = unread_owes r (entry what now) n;
-        first = still_first k.channel k.channel r what now poll f.end end f.first (idle_or k.channel (channel (entry what now ∷ r)) end);
-      }, rests.did)
+      let end : FitsNow k.channel (channel (entry what now ∷ r)) = over_now k.channel now (channel (entry what now ∷ r)) (channel r) f.end fits both.1 in (
+        record {
+          end = end;
+          current = polls_are_current r what now poll;
+          acknowledged = f.acknowledged ∙ sym rests.still.acked;
+          confirmed = f.confirmed ∙ sym rests.still.confirms;
+          failed = f.failed ∙ sym (rests.failed (tries r));
+          few = rw (rests.failed (tries r)) f.few;
+          paid = unread_owes r (entry what now) n;
+          first = still_first k.channel k.channel r what now poll f.end end f.first (idle_or k.channel (channel (entry what now ∷ r)) end);
+        },
+        rests.did,
+      )
 
   pub few_of : length (tries_of k.tries) < 3
   few_of = rw f.failed f.few
@@ -214,10 +216,20 @@ module _ (k : Known) (r : List Entry) (f : FitsRecord k r) (what : Item) (now : 
       let late : (is_late k.flight now ≡ false) = late_is ∙ rw g refl in
       let passed : (has_passed answer_wait since now ≡ true) = sym (ap (λ (end : ClientEnd). is_over end now) is) ∙ late_or_over (is_late k.flight now) (is_over k.channel now) over late in
       let ends : Ends (channel r) (entry what now) seen.Unanswered Nothing (λ t. try.NoAnswer ∷ t) = subst (λ (ch : ClientChannel). Ends ch (entry what now) seen.Unanswered Nothing (λ t. try.NoAnswer ∷ t)) (sym g) (sought_ends since what now poll passed) in
-      inr (record {
-        since = since; is = is; unanswered = ends.after_is; over = passed; acknowledged = f.acknowledged ∙ rw g refl; confirmed = f.confirmed ∙ rw g refl;
-        failed = ends.failed (tries r) ∙ ap (λ (t : List Try). try.NoAnswer ∷ t) (sym f.failed); few = few_of; paid = ends.owes;
-      }, ends.did_is)
+      inr (
+        record {
+          since = since;
+          is = is;
+          unanswered = ends.after_is;
+          over = passed;
+          acknowledged = f.acknowledged ∙ rw g refl;
+          confirmed = f.confirmed ∙ rw g refl;
+          failed = ends.failed (tries r) ∙ ap (λ (t : List Try). try.NoAnswer ∷ t) (sym f.failed);
+          few = few_of;
+          paid = ends.owes;
+        },
+        ends.did_is,
+      )
   ended_so (Open e) is g over = lapses_so e false (rw is refl) g over (by_late (is_late k.flight now) refl)
     where
       by_late : (t : Bool) → is_late k.flight now ≡ t → is_over (Open e) now ≡ true ⊎ (is_late k.flight now ≡ true)
@@ -257,6 +269,13 @@ module _ (k : Known) (old added : List Placed) (p : Placed) (poll : is_poll p.wh
   waited_more n (Unheard h a) =
       let ends : Ends (channel so_far) p.what seen.Unanswered Nothing (λ t. t) = subst (λ (ch : ClientChannel). Ends ch p.what seen.Unanswered Nothing (λ t. t)) (sym h.unanswered) (unanswered_ends p.what.what p.what.now poll) in
       Unheard (record {
-        since = h.since; is = h.is; unanswered = ends.after_is; over = passed_later answer_wait h.since (newest_time so_far) p.what.now le h.over; acknowledged = h.acknowledged; confirmed = h.confirmed;
-        failed = ends.failed (tries so_far) ∙ h.failed; few = h.few; paid = ends.owes;
+        since = h.since;
+        is = h.is;
+        unanswered = ends.after_is;
+        over = passed_later answer_wait h.since (newest_time so_far) p.what.now le h.over;
+        acknowledged = h.acknowledged;
+        confirmed = h.confirmed;
+        failed = ends.failed (tries so_far) ∙ h.failed;
+        few = h.few;
+        paid = ends.owes;
       }) (ends.did_is, a)

@@ -117,6 +117,22 @@ pub record ActsSo (acted : Acted) (old added : List Placed) : Type 0 where
   pub only_sends : list_any (λ (p : Placed). is_poll p.what.what) added ≡ false
   pub asks_no_end : asks_end added ≡ false
 
+-- of one of them, the request again or a heartbeat: where there is none nothing is late
+pub record DuesOne (old added : List Placed) : Type 0 where
+  pub nothing : AllNothing old added
+  pub only_sends : list_any (λ (p : Placed). is_poll p.what.what) added ≡ false
+  pub asks_no_end : asks_end added ≡ false
+  pub some : added ≢ []
+
+pub record DuesNone (old added : List Placed) : Type 0 where
+  pub none : added ≡ []
+  pub in_time : is_late (channel (entries old)) (newest_time (entries old)) ≡ false
+
+abbrev pub Dues : Result Bool HubFault → List Placed → List Placed → Type 0
+Dues (Ok true) old added = DuesOne old added
+Dues (Ok false) old added = DuesNone old added
+Dues (Err fault) old added = AllNothing old added
+
 abbrev pub Acts : Result Acted HubFault → List Placed → List Placed → Type 0
 Acts (Ok acted) old added = AllNothing old added × ActsSo acted old added
 Acts (Err fault) old added = AllNothing old added
@@ -147,15 +163,10 @@ pub record TakesAt (frame : Ldata) (now : ℕ) (m : Moment) : Type 0 where
   pub reads : ldata_in octets ≡ Some frame
   pub then : m.now ≡ now
 
--- the channel was lost at this time
-pub record LosesAt (now : ℕ) (m : Moment) : Type 0 where
-  pub loses : m.what ≡ Loses
-  pub then : m.now ≡ now
-
-abbrev pub OrLoses : Loss → ℕ → List Moment → Type 0
-OrLoses Stays now l = Every IsNothing l
-OrLoses Ended now l = One (LosesAt now) l
-OrLoses Told now l = One (LosesAt now) l
+abbrev pub OrLoses : Loss → List Moment → Type 0
+OrLoses Stays l = Every IsNothing l
+OrLoses Ended l = One (λ (m : Moment). m.what ≡ Loses) l
+OrLoses Told l = One (λ (m : Moment). m.what ≡ Loses) l
 
 -- a request was taken whose cEMI octets don't read
 pub record TakesUnread (m : Moment) : Type 0 where
@@ -164,10 +175,10 @@ pub record TakesUnread (m : Moment) : Type 0 where
   pub unread : ldata_in octets ≡ None
 
 abbrev pub DoesSo : What → Loss → ℕ → List Moment → Type 0
-DoesSo came.Quiet loss now l = OrLoses loss now l
-DoesSo came.Dropped loss now l = OrLoses loss now l ⊎ (One TakesUnread l × (loss ≡ Stays))
-DoesSo came.Tunnel loss now l = OrLoses loss now l
-DoesSo (came.Up tunnel) loss now l = OrLoses loss now l × (loss ≡ Stays)
+DoesSo came.Quiet loss now l = OrLoses loss l
+DoesSo came.Dropped loss now l = OrLoses loss l ⊎ (One TakesUnread l × (loss ≡ Stays))
+DoesSo came.Tunnel loss now l = OrLoses loss l
+DoesSo (came.Up tunnel) loss now l = OrLoses loss l × (loss ≡ Stays)
 DoesSo (came.Frame frame) loss now l = One (TakesAt frame now) l × (loss ≡ Stays)
 
 abbrev pub is_told : Loss → Bool

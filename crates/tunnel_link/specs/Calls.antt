@@ -10,12 +10,13 @@ use Rattle.tunnel_link.specs.declared.came.Came.{Came}
 use Rattle.tunnel_link.specs.declared.came.What.TheVariants as came
 use Rattle.tunnel_link.specs.declared.known.Known.{Known}
 use Rattle.tunnel_link.specs.Kept.{with_connect, after_got, got_answer, lapsed, lapse_answer, only}
-use Rattle.tunnel_link.specs.Rights.{IsntRefusal}
+use Rattle.tunnel_link.specs.Rights.{IsntRefusal, IsOfLink}
 
 -- the link failed
 pub record Fails (k : Known) (fault : HubFault) (new : Known) : Type 0 where
   pub known : new ≡ record k { fault = Some fault }
   pub by_link : IsntRefusal fault
+  pub of_link : IsOfLink fault
 
 -- ---- a sending
 

@@ -50,6 +50,22 @@ IsntRefusal (GatewayRefused three) = ⊥
 IsntRefusal Flooded = Unit {0}
 IsntRefusal (WrongLine device tunnel) = Unit {0}
 
+-- a fault of the link
+abbrev pub IsOfLink : HubFault → Type 0
+IsOfLink (NoMemory want) = Unit {0}
+IsOfLink LinkFailed = Unit {0}
+IsOfLink (GatewayRefused three) = ⊥
+IsOfLink Flooded = ⊥
+IsOfLink (WrongLine device tunnel) = ⊥
+
+-- a fault that the client's end of the tunnel comes to itself
+abbrev pub IsOfTunnel : HubFault → Type 0
+IsOfTunnel (NoMemory want) = Unit {0}
+IsOfTunnel LinkFailed = Unit {0}
+IsOfTunnel (GatewayRefused three) = Unit {0}
+IsOfTunnel Flooded = ⊥
+IsOfTunnel (WrongLine device tunnel) = ⊥
+
 -- the end of the channel is that of the record, which shows no loss and no failed try of which it isn't told
 abbrev pub FitsNow : ClientEnd → ClientChannel → Type 0
 FitsNow Idle ch = HasNone ch
@@ -100,11 +116,3 @@ WhileFits P k story = k.fault ≡ None → WhereTold (λ places. P (entries plac
 -- a request can be put
 abbrev pub has_place : Known → ℕ → Bool
 has_place k now = is_none (put_refused k.channel) && k.flight.confirmed && not (is_over k.channel now)
-
--- a fault that the tunnel itself ends with
-abbrev pub IsOfTunnel : HubFault → Type 0
-IsOfTunnel (NoMemory want) = Unit {0}
-IsOfTunnel LinkFailed = Unit {0}
-IsOfTunnel (GatewayRefused three) = Unit {0}
-IsOfTunnel Flooded = ⊥
-IsOfTunnel (WrongLine device tunnel) = ⊥

@@ -7,7 +7,7 @@ ghost use Rattle.line_model.specs.ClientEnd.{IsCemi, MayConnect, channel_put, ch
 ghost use Rattle.tunnel_channel.specs.Follows.{sent_by};
 ghost use Rattle.tunnel_link.specs.Goes.{new_known};
 ghost use Rattle.tunnel_link.specs.Kept.{with_connect, with_put, with_due, with_leave};
-ghost use Rattle.tunnel_link.specs.Rights.{IsntRefusal, has_place};
+ghost use Rattle.tunnel_link.specs.Rights.{IsntRefusal, IsOfLink, has_place};
 
 use crate::flight::Flight;
 use crate::tries::Tries;
@@ -110,6 +110,7 @@ impl Known {
     pub fn failed(&mut self, fault: LinkFault) -> HubFault
         ensures next { self.new ≡ record self.old { fault = Some result } }
         ensures by_link { IsntRefusal result }
+        ensures of_link { IsOfLink result }
     {
         self.fail(fault_of(fault))
     }
@@ -127,7 +128,8 @@ impl Known {
 
 /// A fault of the link.
 fn fault_of(fault: LinkFault) -> HubFault
-    ensures { IsntRefusal result }
+    ensures by_link { IsntRefusal result }
+    ensures of_link { IsOfLink result }
 {
     match fault {
         LinkFault::NoMemory(no_memory) => HubFault::NoMemory(no_memory),

@@ -16,6 +16,7 @@ const LONGEST: usize = 512;
 pub fn sent<L: Link>(link: &mut L, known: &mut Known, datagram: &Datagram) -> Result<(), HubFault>
     ensures so { SendsSo result datagram.now known.old known.new (L.story link.old) (L.story link.new) }
     ensures time { L.clock link.old ≤ L.clock link.new }
+    ensures count { L.faults link.old ≤ L.faults link.new }
     ensures events { L.place link.old ≤ L.place link.new }
 {
     match link.send(datagram.as_slice()) {
@@ -29,6 +30,7 @@ pub fn connected<L: Link>(link: &mut L, known: &mut Known) -> Result<(), HubFaul
     requires { MayConnect known.old.channel }
     ensures so { ConnectsSo result known.old known.new (L.story link.old) (L.story link.new) }
     ensures time { L.clock link.old ≤ L.clock link.new }
+    ensures count { L.faults link.old ≤ L.faults link.new }
     ensures events { L.place link.old ≤ L.place link.new }
 {
     if let Err(fault) = link.renew() {
@@ -43,6 +45,7 @@ pub fn connected<L: Link>(link: &mut L, known: &mut Known) -> Result<(), HubFaul
 pub fn polled<L: Link>(link: &mut L, known: &mut Known, wait_ms: u32) -> Result<Answer, HubFault>
     ensures so { PollsSo result wait_ms known.old known.new (L.story link.old) (L.story link.new) }
     ensures time { L.clock link.old ≤ L.clock link.new }
+    ensures count { L.faults link.old ≤ L.faults link.new }
     ensures events { L.place link.old ≤ L.place link.new }
 {
     let mut into = [0; LONGEST];
@@ -67,6 +70,7 @@ pub fn answered<L: Link>(
 ) -> Result<(), HubFault>
     ensures so { AnswersSo result sends known.old known.new (L.story link.old) (L.story link.new) }
     ensures time { L.clock link.old ≤ L.clock link.new }
+    ensures count { L.faults link.old ≤ L.faults link.new }
     ensures events { L.place link.old ≤ L.place link.new }
 {
     match sends {
@@ -82,6 +86,7 @@ pub fn answered<L: Link>(
 pub fn listened<L: Link>(link: &mut L, known: &mut Known, wait_ms: u32) -> Result<Came, HubFault>
     ensures so { ListensSo result wait_ms known.old known.new (L.story link.old) (L.story link.new) }
     ensures time { L.clock link.old ≤ L.clock link.new }
+    ensures count { L.faults link.old ≤ L.faults link.new }
     ensures events { L.place link.old ≤ L.place link.new }
 {
     let Answer { what, loss, sends } = polled(link, known, wait_ms)?;

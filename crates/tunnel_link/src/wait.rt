@@ -1,5 +1,8 @@
 //! How long a poll lasts.
 
+/// How long it lasts at most, in milliseconds.
+pub const LONGEST_POLL_MS: u32 = 100;
+
 /// At most so many milliseconds, and not past a deadline that isn't reached yet.
 pub fn until(deadline: Option<u64>, now: u64, longest_ms: u32) -> u32 {
     match deadline {

@@ -1,6 +1,6 @@
 //! What comes for the jobs and the group telegrams.
 
-ghost use Rattle.std.specs.Prelude.{◌≡◌, Some};
+ghost use Rattle.std.specs.Prelude.{◌≡◌, Some, ℕ};
 ghost use Rattle.line_model.specs.ClientView.{indication_of};
 ghost use Rattle.hub_work.specs.Follows.{FrameFollows, LossFollows};
 ghost use Rattle.hub_work.specs.Books.{held_at};
@@ -73,7 +73,7 @@ impl Work {
     /// The channel was lost.
     pub fn lost(&mut self, now: u64)
         ensures books { SameBooks self.old self.new }
-        ensures follows { LossFollows self.old self.new now }
+        ensures follows { (then : ℕ) → LossFollows self.old self.new then }
     {
         of_a_downloader();
         self.sender = Sender::Nobody;

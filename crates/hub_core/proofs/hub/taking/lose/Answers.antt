@@ -20,7 +20,7 @@ returns-in-Ended-clause-fits c =
 pub returns-then-is_some-clause-fits : goal.returns-then-is_some-clause-fits
 returns-then-is_some-clause-fits c =
     let v : Work = c.lost-in-Told.new.self in
-    closing_follows (AsideOrLost c.args.loss c.args.now) c.args.now c.args.work.now v _
+    closing_follows (AsideOrLost c.args.loss) c.args.now c.args.work.now v _
     (subst (λ (x : Loss). LosesIn x c.args.now c.args.work.now v) (sym c.in-Told.is)
     (loss_follows c.args.work.now v c.args.now (of_books _ _ c.lost-in-Told.ensures.books) c.moments_go_on.ensures.aside c.lost-in-Told.ensures.follows))
 

@@ -17,4 +17,4 @@ loop-place-preserved c = record {
 }
 
 pub returns-clause-follows : goal.returns-clause-follows
-returns-clause-follows c = loss_follows c.of_a_downloader.ensures c.args.self.now c.loop-place.self c.args.now c.loop-place.place c.len-place-end.result c.len-place-end.ensures c.loop-place-test.false c.loop-place.invariant.books c.loop-place.invariant.held c.loop-place.invariant.sender c.loop-place.invariant.telegrams c.loop-place.invariant.so_far
+returns-clause-follows c then = loss_follows c.of_a_downloader.ensures c.args.self.now c.loop-place.self then c.loop-place.place c.len-place-end.result c.len-place-end.ensures c.loop-place-test.false c.loop-place.invariant.books c.loop-place.invariant.held c.loop-place.invariant.sender c.loop-place.invariant.telegrams c.loop-place.invariant.so_far

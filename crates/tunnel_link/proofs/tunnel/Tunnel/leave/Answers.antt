@@ -1,5 +1,6 @@
 use Rattle.std.proofs.Common.{rules, sym, ◌∙◌, ap}
 use Rattle.tunnel_link.proofs.CallAnswers.{sends_go_on, leave_call_keeps, leave_call_err, leave_call_ok, leave_none_keeps, unleft_adds}
+use Rattle.tunnel_link.proofs.Faulted.{sends_of, passed_on}
 use Rattle.tunnel_link.proofs.tunnel.Tunnel.leave.Goals as goal
 
 pub invariant_of-self : goal.invariant_of-self
@@ -22,3 +23,6 @@ returns-in_ok-sent-in-Some-clause-adds g c = rw (← ap (λ v. v.link) c.self.vi
 
 pub returns-in-None-clause-adds : goal.returns-in-None-clause-adds
 returns-in-None-clause-adds g c = rw (← ap (λ v. v.link) c.self.view_is) (unleft_adds _ _ c.self.invariant c.in_ok-standing.ensures.stands (sym c.leaves.ensures.answer ∙ c.in-None.is))
+
+pub returns-in_err-sent-in-Some-clause-by_tunnel : goal.returns-in_err-sent-in-Some-clause-by_tunnel
+returns-in_err-sent-in-Some-clause-by_tunnel g c = λ u. (passed_on c.sent.result _ c.in_err-sent-in-Some.field-0.0 (search rules) (search rules) (sends_of _ _ _ _ _ _ c.sent.ensures.so))

@@ -1,6 +1,7 @@
 use Rattle.std.proofs.Common.{rules, sym, ◌∙◌, ap}
 use Rattle.tunnel_link.proofs.CallAnswers.{sends_go_on, put_call_keeps, put_call_adds, put_none_keeps}
 use Rattle.tunnel_link.proofs.CallsKept.{unput_adds}
+use Rattle.tunnel_link.proofs.Faulted.{sends_of}
 use Rattle.tunnel_link.proofs.tunnel.Tunnel.put.Goals as goal
 
 pub invariant_of-self : goal.invariant_of-self
@@ -13,4 +14,7 @@ pub returns-in-Some-clause-adds : goal.returns-in-Some-clause-adds
 returns-in-Some-clause-adds g c = rw (← ap (λ v. v.link) c.self.view_is) (put_call_adds _ _ _ _ _ c.self.invariant c.in_ok-standing.ensures.stands _ _ _ _ c.now-now.ensures.told c.requires (sym c.puts.ensures.answer ∙ c.in-Some.is) c.puts.ensures.next c.sent.ensures.so)
 
 pub returns-in-None-clause-adds : goal.returns-in-None-clause-adds
-returns-in-None-clause-adds g c = rw (← ap (λ v. v.link) c.self.view_is) (unput_adds _ _ c.self.invariant c.in_ok-standing.ensures.stands _ _ (sym c.puts.ensures.answer ∙ c.in-None.is))
+returns-in-None-clause-adds g c = rw (← ap (λ v. v.link) c.self.view_is) (unput_adds _ _ c.self.invariant c.in_ok-standing.ensures.stands {X = Unit {0}} tt _ (sym c.puts.ensures.answer ∙ c.in-None.is))
+
+pub returns-in-Some-clause-by_tunnel : goal.returns-in-Some-clause-by_tunnel
+returns-in-Some-clause-by_tunnel g c = λ u. (sends_of _ _ _ _ _ _ c.sent.ensures.so)

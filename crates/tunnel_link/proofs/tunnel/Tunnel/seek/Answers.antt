@@ -1,6 +1,7 @@
 use Rattle.std.proofs.Common.{rules, sym, ◌∙◌, ap}
 use Rattle.tunnel_link.proofs.SeekKept.{seek_keeps, seek_goes}
 use Rattle.tunnel_link.proofs.CallAnswers.{sought_err, sought_ok}
+use Rattle.tunnel_link.proofs.Faulted.{connects_of, passed_on}
 use Rattle.tunnel_link.proofs.tunnel.Tunnel.seek.Goals as goal
 
 pub invariant_of-self : goal.invariant_of-self
@@ -20,3 +21,6 @@ returns-clause-grows g c = rw (← ap (λ v. v.link) c.self.view_is) (seek_goes 
 
 pub returns-clause-adds : goal.returns-clause-adds
 returns-clause-adds g c = rw (← ap (λ v. v.link) c.self.view_is) (sought_ok _ _ _ _ c.self.invariant c.in_ok-standing.ensures.stands (c.may_connect.ensures.0 (search rules)) _ _ c.in_ok-connected.was c.connected.ensures.so)
+
+pub returns-in_err-connected-clause-by_tunnel : goal.returns-in_err-connected-clause-by_tunnel
+returns-in_err-connected-clause-by_tunnel g c = λ u. (passed_on c.connected.result _ c.in_err-connected.field-0.0 c.in_err-connected.was (search rules) (connects_of _ _ _ _ _ c.connected.ensures.so))
