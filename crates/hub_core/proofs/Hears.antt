@@ -8,12 +8,13 @@ use Rattle.line_model.specs.Record.{Placed, entries}
 use Rattle.line_model.specs.LinkStory.{Story, places_in}
 use Rattle.line_model.specs.ClientView.{Takes, and_takes, group_indication, indication_of, indications}
 use Rattle.line_model.specs.Moments.{Moment, moments}
+use Rattle.line_model.specs.Told.{IsLoss}
 use Rattle.tunnel_link.specs.declared.came.Came.{Came}
 use Rattle.tunnel_link.specs.declared.came.Loss.{Loss}
 use Rattle.tunnel_link.specs.declared.came.Loss.TheVariants.{Stays, Ended, Told}
 use Rattle.tunnel_link.specs.declared.came.What.{What}
 use Rattle.tunnel_link.specs.declared.came.What.TheVariants as came
-use Rattle.tunnel_link.specs.Adds.{place_of, moments_on, Grows, Growing, AllNothing, Seeks, LosesAt, TakesAt, TakesUnread, OrLoses, DoesSo, PollAdds}
+use Rattle.tunnel_link.specs.Adds.{place_of, moments_on, Grows, Growing, AllNothing, Seeks, TakesAt, TakesUnread, OrLoses, DoesSo, PollAdds}
 use Rattle.tunnel_link.specs.Goes.{GoesOn}
 use Rattle.hub_core.specs.Hears.{HearsSo}
 use Rattle.hub_core.specs.Taking.{HeardIn}
@@ -36,17 +37,17 @@ seeks_heard s t (Err fault) grows = tt
 unread_heard : (m : Moment) (taken : List (List ℕ)) → TakesUnread m → filter_map group_indication (and_takes m.what taken) ≡ cons_option None (filter_map group_indication taken)
 unread_heard m taken is = let none : group_indication is.octets ≡ None = ap indication_of is.unread in rw is.takes (rw none refl)
 
-or_loses_heard : (loss : Loss) (now : ℕ) (l ms : List Moment) → OrLoses loss now l → heard_in (l ++ ms) ≡ heard_in ms
-or_loses_heard Stays now l ms h = nothings l ms h
-or_loses_heard Ended now l ms h = one_heard (LosesAt now) None l ms (λ m taken is. loses_heard m taken is.loses) h
-or_loses_heard Told now l ms h = one_heard (LosesAt now) None l ms (λ m taken is. loses_heard m taken is.loses) h
+or_loses_heard : (loss : Loss) (l ms : List Moment) → OrLoses loss l → heard_in (l ++ ms) ≡ heard_in ms
+or_loses_heard Stays l ms h = nothings l ms h
+or_loses_heard Ended l ms h = one_heard IsLoss None l ms (λ m taken is. loses_heard m taken is) h
+or_loses_heard Told l ms h = one_heard IsLoss None l ms (λ m taken is. loses_heard m taken is) h
 
 does_heard : (what : What) (loss : Loss) (now : ℕ) (l ms : List Moment) (heard : Option Indication) → DoesSo what loss now l → HeardIn what heard → heard_in (l ++ ms) ≡ cons_option heard (heard_in ms)
-does_heard came.Quiet loss now l ms heard h is = subst (λ o. heard_in (l ++ ms) ≡ cons_option o (heard_in ms)) (sym is) (or_loses_heard loss now l ms h)
-does_heard came.Dropped loss now l ms heard (inl h) is = subst (λ o. heard_in (l ++ ms) ≡ cons_option o (heard_in ms)) (sym is) (or_loses_heard loss now l ms h)
+does_heard came.Quiet loss now l ms heard h is = subst (λ o. heard_in (l ++ ms) ≡ cons_option o (heard_in ms)) (sym is) (or_loses_heard loss l ms h)
+does_heard came.Dropped loss now l ms heard (inl h) is = subst (λ o. heard_in (l ++ ms) ≡ cons_option o (heard_in ms)) (sym is) (or_loses_heard loss l ms h)
 does_heard came.Dropped loss now l ms heard (inr h) is = subst (λ o. heard_in (l ++ ms) ≡ cons_option o (heard_in ms)) (sym is) (one_heard TakesUnread None l ms unread_heard h.0)
-does_heard came.Tunnel loss now l ms heard h is = subst (λ o. heard_in (l ++ ms) ≡ cons_option o (heard_in ms)) (sym is) (or_loses_heard loss now l ms h)
-does_heard (came.Up tunnel) loss now l ms heard h is = subst (λ o. heard_in (l ++ ms) ≡ cons_option o (heard_in ms)) (sym is) (or_loses_heard loss now l ms h.0)
+does_heard came.Tunnel loss now l ms heard h is = subst (λ o. heard_in (l ++ ms) ≡ cons_option o (heard_in ms)) (sym is) (or_loses_heard loss l ms h)
+does_heard (came.Up tunnel) loss now l ms heard h is = subst (λ o. heard_in (l ++ ms) ≡ cons_option o (heard_in ms)) (sym is) (or_loses_heard loss l ms h.0)
 does_heard (came.Frame frame) loss now l ms heard h is =
     subst (λ o. heard_in (l ++ ms) ≡ cons_option o (heard_in ms)) (sym is) (one_heard (TakesAt frame now) (indication_of (Some frame)) l ms (λ m taken one. takes_heard frame one.octets m taken one.takes one.reads) h.0)
 
