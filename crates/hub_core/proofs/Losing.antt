@@ -32,7 +32,7 @@ module _ (w v : Work) (now : ℕ) (s : SameWork w v) (law : AsideFollows) (It : 
       step before at m l h lt is = (books_same w v s m.at (books_later at m.at w (omega (arith, lt)) h.0), it jobs before at m l h.0 h.1 lt is)
 
 pub loss_follows : (w v : Work) (now : ℕ) → SameWork w v → AsideFollows → ((then : ℕ) → LossFollows w v then) → FollowsAll (One IsLoss) now w v
-loss_follows w v now s law f = one_follows w v now s law IsLoss (λ jobs before at m l books fits lt is. f m.now jobs before at m.at m l books fits (record { time = refl; after = lt; within = omega arith }) is)
+loss_follows w v now s law f = one_follows w v now s law IsLoss (λ jobs before at m l books fits lt is. f m.now jobs before at m.at m l books fits (record { time = λ i. m.now; after = lt; within = omega arith }) is)
 
 pub frame_follows : (w v : Work) (frame : Ldata) (now : ℕ) → SameWork w v → AsideFollows → FrameFollows w v frame now → FollowsAll (One (TakesAt frame now)) now w v
 frame_follows w v frame now s law f = one_follows w v now s law (TakesAt frame now) (λ jobs before at m l books fits lt is.
