@@ -2,26 +2,11 @@
 
 ghost use Rattle.std.specs.Prelude.{◌≡◌, ◌++◌, ◌∷◌, [], Some, OnOk, MatchOption, codes, is_some, map};
 ghost use Rattle.std.specs.List.{join_with_byte};
-ghost use Rattle.std.specs.Fmt.{decimal};
-ghost use Rattle.knx_model.specs.Addresses.{device_text};
-ghost use Rattle.knx_model.specs.ReportText.{end_of, end_words, end_text, sign_word, job_word, job_line};
+ghost use Rattle.knx_model.specs.ReportText.{end_of, end_words, end_text, sign_word, job_line};
 
-use knx_model::{
-    JobKind, JobWord, LogEntry, LogWhat, NoMemory, Octets, Sign, put_device_word, put_number_word,
-    put_word,
-};
+use crate::words::{put_job_words, put_signs};
+use knx_model::{JobWord, LogEntry, LogWhat, NoMemory, Octets, Sign};
 use std::alloc::Global;
-
-fn sign_word(sign: Sign) -> &'static str
-    ensures { result.now ≡ sign_word sign }
-{
-    match sign {
-        Sign::Silent { .. } => "silent",
-        Sign::Closed => "closed",
-        Sign::NoCon => "nocon",
-        Sign::TunnelLost => "tunnel",
-    }
-}
 
 /// Whether this ends the job.
 fn ends(job: u64, what: LogWhat) -> bool
@@ -47,14 +32,13 @@ fn end_in(log: &[LogEntry], job: u64) -> Option<LogWhat>
     None
 }
 
+/// Appends the end of a job whose attempts failed so.
+#[tactic(auto, using(crate::proofs::Words::one_and_more))]
 fn put_failed(out: &mut Octets, signs: [Sign; 3]) -> Result<(), NoMemory>
     ensures { OnOk result (out.new ≡ out.old ++ join_with_byte 32 (codes "failed" ∷ map sign_word signs)) }
 {
-    let [first, second, third] = signs;
     out.append(b"failed")?;
-    put_word(out, sign_word(first).as_bytes())?;
-    put_word(out, sign_word(second).as_bytes())?;
-    put_word(out, sign_word(third).as_bytes())
+    put_signs(out, signs)
 }
 
 #[tactic(auto, unfolding(knx_model::specs::ReportText::end_text))]
@@ -68,26 +52,6 @@ fn put_end(out: &mut Octets, log: &[LogEntry], job: u64) -> Result<(), NoMemory>
     }
 }
 
-fn job_word(kind: JobKind) -> &'static str
-    ensures { result.now ≡ job_word kind }
-{
-    match kind {
-        JobKind::Load => "load",
-        JobKind::Check => "check",
-    }
-}
-
-/// Appends the words of a job before its end, and a space.
-fn put_job_words(alloc: Global, out: &mut Octets, number: u64, job: JobWord) -> Result<(), NoMemory>
-    ensures { OnOk result (out.new ≡ out.old ++ (join_with_byte 32 (codes "job" ∷ decimal number ∷ job_word job.kind ∷ device_text job.device ∷ []) ++ 32 ∷ [])) }
-{
-    out.append(b"job")?;
-    put_number_word(alloc, out, number)?;
-    put_word(out, job_word(job.kind).as_bytes())?;
-    put_device_word(alloc, out, job.device)?;
-    out.push(b' ')
-}
-
 /// Appends the line of a job: its number, what it does to which device, and its end by the log.
 pub fn put_job(
     alloc: Global,
@@ -99,6 +63,7 @@ pub fn put_job(
     ensures { OnOk result (out.new ≡ out.old ++ job_line log.now number job) }
 {
     put_job_words(alloc, out, number, job)?;
+    out.push(b' ')?;
     put_end(out, log, number)?;
     out.push(b'\n')
 }

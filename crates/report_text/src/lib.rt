@@ -2,13 +2,16 @@
 #![tactic(auto)]
 
 mod job;
+mod line_report;
 mod pieces;
 mod project;
 mod refusal;
 mod report;
+mod words;
 
 pub use knx_model::{Case, Counts, DeviceCase, JobKind, JobWord, LogEntry, LogWhat, Report, Sign};
-pub use pieces::{put_digits, put_hex};
+pub use line_report::{DeviceShown, line_report_of, line_status};
+pub use pieces::{put_digits, put_hex, put_value};
 pub use project::{counts_text, tables_text};
 pub use refusal::{NO_MEMORY, USAGE, stop_status, stop_text};
 pub use report::report_of;

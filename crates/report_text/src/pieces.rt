@@ -3,8 +3,9 @@
 ghost use Rattle.std.specs.Prelude.{◌≡◌, ◌<◌, ◌++◌, length, take, OnErr, OnOk};
 ghost use Rattle.knx_model.specs.Outside.{Appends};
 ghost use Rattle.knx_model.specs.ReportText.{hex_digit, hex_octet, hex_text, octets_text};
+ghost use Rattle.line_model.specs.Printed.{value_text};
 
-use knx_model::{NoMemory, Octets};
+use knx_model::{NoMemory, Octets, Value};
 
 /// The digit of a number below 16.
 fn hex_digit(n: u8) -> u8
@@ -75,4 +76,17 @@ pub fn put_hex(out: &mut Octets, octets: &[u8]) -> Result<(), NoMemory>
         out.truncate(start);
     }
     done
+}
+
+/// Appends a group value: `s` and two digits, or its octets.
+pub fn put_value(out: &mut Octets, value: &Value) -> Result<(), NoMemory>
+    ensures { OnOk result (out.new ≡ out.old ++ value_text value.now) }
+{
+    match value {
+        Value::Short(bits) => {
+            out.push(b's')?;
+            put_digits(out, *bits)
+        }
+        Value::Long(octets) => put_hex(out, octets.as_slice()),
+    }
 }

@@ -6,21 +6,9 @@ ghost use Rattle.std.specs.Fmt.{decimal};
 ghost use Rattle.knx_model.specs.ReportText.{line, job_line, case_word, device_line, report_text};
 
 use crate::job::put_job;
-use knx_model::{
-    Case, DeviceCase, JobWord, LogEntry, NoMemory, Octets, Report, put_device_word,
-    put_number_word, put_word,
-};
+use crate::words::{case_word, put_count};
+use knx_model::{DeviceCase, JobWord, LogEntry, NoMemory, Octets, Report, put_device_word, put_word};
 use std::alloc::Global;
-
-fn case_word(case: Case) -> &'static str
-    ensures { result.now ≡ case_word case }
-{
-    match case {
-        Case::New => "new",
-        Case::Old => "old",
-        Case::Stopped => "stopped",
-    }
-}
 
 fn put_jobs(
     alloc: Global,
@@ -54,14 +42,6 @@ fn put_cases(alloc: Global, out: &mut Octets, devices: &[DeviceCase]) -> Result<
     Ok(())
 }
 
-fn put_missed(alloc: Global, out: &mut Octets, missed: u64) -> Result<(), NoMemory>
-    ensures { OnOk result (out.new ≡ out.old ++ line (codes "missed" ∷ decimal missed ∷ [])) }
-{
-    out.append(b"missed")?;
-    put_number_word(alloc, out, missed)?;
-    out.push(b'\n')
-}
-
 /// The report of a run: a line for each job, a line for each device, and the count of missed indications.
 #[tactic(auto, unfolding(knx_model::specs::ReportText::report_text))]
 pub fn report_of(
@@ -75,6 +55,6 @@ pub fn report_of(
     let mut out = Octets::new(alloc);
     put_jobs(alloc, &mut out, report.log.as_slice(), jobs)?;
     put_cases(alloc, &mut out, devices)?;
-    put_missed(alloc, &mut out, report.missed)?;
+    put_count(alloc, &mut out, "missed", report.missed)?;
     Ok(out)
 }
