@@ -5,12 +5,13 @@ use Rattle.line_model.specs.declared.fault.HubFault.{HubFault}
 use Rattle.line_model.specs.declared.group.GroupTurn.{GroupTurn}
 use Rattle.line_model.specs.declared.log.LogEntry.{LogEntry}
 use Rattle.device_reservation.specs.Reservation.{Reservation}
-use Rattle.hub_core.specs.declared.work.Work.{Work}
-use Rattle.hub_core.specs.Books.{IsWritten, IsLive, TellsInTurn, jobs_held}
-use Rattle.hub_core.specs.Works.{WritesRightly, Lives, SameBooks, TellsRightly}
+use Rattle.hub_work.specs.declared.work.Work.{Work}
+use Rattle.hub_work.specs.Books.{IsWritten, IsLive, TellsInTurn, jobs_held}
+use Rattle.hub_work.specs.Works.{WritesRightly, Lives, SameBooks, TellsRightly, BeginsWith}
 use Rattle.hub_core.specs.Keeps.{Keeps}
 use Rattle.hub_core.specs.Seen.{Seen}
-use Rattle.hub_core.proofs.Books.{later}
+use Rattle.hub_work.proofs.Books.{later}
+use Rattle.hub_work.proofs.Works.{begins_written, begins_telling, begins_live}
 
 pub later_place : (p q : ℕ) (w : Work) → p ≤ q → WritesRightly p w → WritesRightly q w
 later_place p q w le h = later w.reservation.devices w.telegrams.turns p q w.journal le h
@@ -58,3 +59,7 @@ wrote at p q w g same le h t live = record { telling = t; written = later_place 
 
 pub ended : (at p q : ℕ) (w : Work) (g : Option HubFault) (fault : HubFault) → at ≡ p → q ≡ p → g ≡ Some fault → WritesRightly at w → TellsRightly w → Keeps q w g
 ended at p q w g fault same there e h t = ends q w g fault e (subst (λ (n : ℕ). WritesRightly n w) (same ∙ sym there) h) t
+
+-- nothing is done yet
+pub begins : (devices : List IndAddr) (turns : List GroupTurn) (w : Work) (place : ℕ) (fault : Option HubFault) → BeginsWith devices turns w → Keeps place w fault
+begins devices turns w place fault b = record { written = begins_written devices turns w place b; telling = begins_telling devices turns w b; live = λ none. begins_live devices turns w b }

@@ -2,8 +2,8 @@
 -- workers are those of the log.
 use Rattle.std.specs.Prelude.{◌≡◌, ℕ, Option, None}
 use Rattle.line_model.specs.declared.fault.HubFault.{HubFault}
-use Rattle.hub_core.specs.declared.work.Work.{Work}
-use Rattle.hub_core.specs.Works.{WritesRightly, Lives, TellsRightly}
+use Rattle.hub_work.specs.declared.work.Work.{Work}
+use Rattle.hub_work.specs.Works.{WritesRightly, Lives, TellsRightly}
 
 pub record Keeps (place : ℕ) (w : Work) (fault : Option HubFault) : Type 0 where
   pub written : WritesRightly place w

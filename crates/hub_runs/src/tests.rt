@@ -3,7 +3,7 @@
 ghost use Rattle.std.specs.Prelude.{◌<◌, length, IfOk};
 ghost use Rattle.std.specs.List.{AllByRecursion};
 ghost use Rattle.knx_model.specs.Device.{Fits};
-ghost use Rattle.hub_core.specs.Requests.{IsTurnInRange};
+ghost use Rattle.hub_work.specs.Requests.{IsTurnInRange};
 
 use crate::gateway::{Gateway, Mood};
 use device_sim::Device;

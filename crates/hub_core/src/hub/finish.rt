@@ -5,8 +5,7 @@ ghost use Rattle.tunnel_link.specs.Goes.{GoesOn};
 ghost use Rattle.hub_core.specs.Seen.{SameRun, StaysEnded};
 
 use super::Hub;
-use crate::answers::Finished;
-use crate::closing::Closing;
+use hub_work::{Closing, Finished};
 use line_model::{HubFault, Link};
 
 impl<L: Link> Hub<L> {

@@ -3,12 +3,11 @@
 ghost use Rattle.std.specs.Prelude.{◌≡◌, IfErr, IfOk, IfSome, OnErr, OnOk, Some, None};
 ghost use Rattle.tunnel_link.specs.Goes.{GoesOn};
 ghost use Rattle.line_model.specs.Log.{IsNextTurn, TurnUnfinished};
-ghost use Rattle.hub_core.specs.Turns.{Adds, GroupTells, IsntTold, TellsTurn};
+ghost use Rattle.hub_work.specs.Turns.{Adds, GroupTells, IsntTold, TellsTurn};
 ghost use Rattle.hub_core.specs.Seen.{SameRun, StaysEnded};
 
 use super::Hub;
-use crate::answers::GroupDid;
-use crate::telegrams::Stage;
+use hub_work::{GroupDid, Stage};
 use line_model::{HubFault, Link, LogWhat};
 
 impl<L: Link> Hub<L> {

@@ -7,18 +7,17 @@ mod turn;
 
 ghost use Rattle.std.specs.Prelude.{◌≡◌, ◌≤◌, ◌<◌, ◌+◌, ◌-◌, ◌^◌, min, length, map, reverse, List, [], IfOk, IfErr, Some, None};
 ghost use Rattle.line_model.specs.Log.{Job, IsLog, OneDownloaderPerDevice};
-ghost use Rattle.hub_core.specs.Books.{AreJobsOf};
+ghost use Rattle.hub_work.specs.Books.{AreJobsOf};
 ghost use Rattle.hub_core.specs.Seen.{SameRun};
-ghost use Rattle.hub_core.specs.declared.job.HubJob.{HubJob as JobOfHub};
+ghost use Rattle.hub_work.specs.declared.job.HubJob.{HubJob as JobOfHub};
 ghost use Rattle.tunnel_link.specs.Goes.{Keeps};
 ghost use Rattle.std.specs.List.{AllByRecursion};
 ghost use Rattle.line_model.specs.LinkStory.{IsNewLink};
-ghost use Rattle.hub_core.specs.Requests.{IsTurnInRange};
+ghost use Rattle.hub_work.specs.Requests.{IsTurnInRange};
 
 use crate::end::HubEnd;
-use crate::job::HubJob;
-use crate::work::Work;
 use device_reservation::one_downloader_per_device;
+use hub_work::{HubJob, Work};
 use knx_model::{List, NoMemory};
 use line_model::{GroupTurn, HubFault, Link};
 use std::alloc::Global;

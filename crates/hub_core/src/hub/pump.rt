@@ -5,7 +5,7 @@ ghost use Rattle.tunnel_link.specs.Goes.{GoesOn};
 ghost use Rattle.hub_core.specs.Seen.{SameRun, StaysEnded};
 
 use super::Hub;
-use crate::answers::Pumped;
+use hub_work::Pumped;
 use knx_model::IndAddr;
 use line_model::{HubFault, Indication, Link};
 use tunnel_link::{Came, Loss, What};

@@ -1,13 +1,12 @@
 //! A worker's turn.
 
 ghost use Rattle.std.specs.Prelude.{◌≡◌, ◌≤◌, IfErr, IfOk, OnErr, Some};
-ghost use Rattle.hub_core.specs.Turns.{TurnTells, WhyFreeByLog};
+ghost use Rattle.hub_work.specs.Turns.{TurnTells, WhyFreeByLog};
 ghost use Rattle.tunnel_link.specs.Goes.{GoesOn};
 ghost use Rattle.hub_core.specs.Seen.{SameRun, StaysEnded};
 
 use super::Hub;
-use crate::answers::Turned;
-use crate::work::Turn;
+use hub_work::{Turn, Turned};
 use line_model::{HubFault, Link};
 
 impl<L: Link> Hub<L> {

@@ -1,5 +1,5 @@
 use Rattle.std.proofs.Common.{◌≡◌, ◌∙◌, sym, ap, refl, false, Some}
-use Rattle.hub_core.proofs.Works as works
+use Rattle.hub_work.proofs.Works as works
 use Rattle.hub_core.proofs.Keeps as keeps
 use Rattle.tunnel_link.proofs.Stories.{goes_again}
 use Rattle.hub_core.proofs.hub.Hub.poll.Goals as goal

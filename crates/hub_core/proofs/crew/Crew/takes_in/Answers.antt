@@ -1,7 +1,0 @@
-use Rattle.std.proofs.Common.{refl, ap, ◌∙◌}
-use Rattle.hub_core.specs.Books.{jobs_held}
-use Rattle.hub_core.proofs.Books.{same_jobs}
-use Rattle.hub_core.proofs.crew.Crew.takes_in.Goals as goal
-
-pub returns-in-Some : goal.returns-in-Some
-returns-in-Some c = ap jobs_held c.set.ensures ∙ same_jobs _ _ _ _ c.in-Some.ensures refl

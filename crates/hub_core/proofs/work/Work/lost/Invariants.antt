@@ -1,5 +1,0 @@
-use Rattle.hub_core.specs.Works.{SameBooks}
-use Rattle.hub_core.proofs.work.Work.lost.Given as goal
-
-abbrev pub invariant-loop-place : goal.invariant-loop-place
-invariant-loop-place l = SameBooks l.fn.self l.self

@@ -1,0 +1,104 @@
+-- What a worker's turn comes to, and which entries of the log end a job.
+use Rattle.std.specs.Prelude.{◌≡◌, ℕ, List, ◌∷◌}
+use Rattle.knx_model.specs.declared.log.Sign.{Sign}
+use Rattle.line_model.specs.declared.log.LogEntry.{LogEntry}
+use Rattle.line_model.specs.declared.log.LogWhat.{LogWhat}
+use Rattle.line_model.specs.declared.log.LogWhat.TheVariants.{Took, Done, Failed, Refused, Sent, Lost}
+use Rattle.line_model.specs.ClientEnd.{IsCemi}
+use Rattle.knx_model.specs.declared.address.IndAddr.{IndAddr}
+use Rattle.line_model.specs.Log.{Job}
+use Rattle.device_reservation.specs.Reservation.{Reservation, AllWait, AllTaken}
+use Rattle.device_reservation.specs.Reserved.{reservation_after}
+use Rattle.hub_work.specs.Books.{AreJobsOf}
+use Rattle.hub_work.specs.declared.answers.GroupDid.{GroupDid}
+use Rattle.hub_work.specs.declared.answers.GroupDid.TheVariants as did
+use Rattle.hub_work.specs.declared.answers.Turned.{Turned}
+use Rattle.hub_work.specs.declared.answers.Turned.TheVariants as answer
+use Rattle.hub_work.specs.declared.work.turn.Turn.{Turn}
+use Rattle.hub_work.specs.declared.work.turn.Turn.TheVariants.{Did, Puts}
+
+-- what it puts is a cEMI frame that a request can carry
+abbrev pub PutsCemi : Turn → Type 0
+PutsCemi (Did turned) = Unit {0}
+PutsCemi (Puts cemi) = IsCemi cemi
+
+-- the entry ends this job
+abbrev pub EndsJob : ℕ → LogWhat → Type 0
+EndsJob job (Took k) = ⊥
+EndsJob job (Done k) = k ≡ job
+EndsJob job (Failed k signs) = k ≡ job
+EndsJob job (Refused k op got expected) = k ≡ job
+EndsJob job (Sent turn) = ⊥
+EndsJob job (Lost turn) = ⊥
+
+-- the entry tells of this group telegram
+abbrev pub TellsTurn : ℕ → LogWhat → Type 0
+TellsTurn turn (Took k) = ⊥
+TellsTurn turn (Done k) = ⊥
+TellsTurn turn (Failed k signs) = ⊥
+TellsTurn turn (Refused k op got expected) = ⊥
+TellsTurn turn (Sent k) = k ≡ turn
+TellsTurn turn (Lost k) = k ≡ turn
+
+-- ---- what an answer says of the log, the newest entry first
+
+abbrev pub Adds : ℕ → ℕ → LogWhat → List LogEntry → List LogEntry → Type 0
+Adds at worker what old new = new ≡ record { at = at; worker = worker; what = what } ∷ old
+
+-- a turn of this worker, when there were so many events: it answers so exactly where it made this entry
+abbrev pub TurnTells : ℕ → ℕ → Turned → List LogEntry → List LogEntry → Type 0
+TurnTells at worker (answer.Took job) old new = Adds at worker (Took job) old new
+TurnTells at worker answer.Moved old new = new ≡ old
+TurnTells at worker answer.Wait old new = new ≡ old
+TurnTells at worker (answer.Done job) old new = Adds at worker (Done job) old new
+TurnTells at worker (answer.Failed job) old new = (signs : List Sign) × Adds at worker (Failed job signs) old new
+TurnTells at worker (answer.Refused job) old new = (op : ℕ) × (got : List ℕ) × (expected : List ℕ) × Adds at worker (Refused job op got expected) old new
+TurnTells at worker answer.Later old new = new ≡ old
+TurnTells at worker answer.NoMore old new = new ≡ old
+
+abbrev pub TurnTold : ℕ → ℕ → Turn → List LogEntry → List LogEntry → Type 0
+TurnTold at worker (Did turned) old new = TurnTells at worker turned old new
+TurnTold at worker (Puts cemi) old new = new ≡ old
+
+-- the same of the group telegram k, by the group thread
+abbrev pub GroupTells : ℕ → ℕ → GroupDid → List LogEntry → List LogEntry → Type 0
+GroupTells at k did.Put old new = new ≡ old
+GroupTells at k did.Wait old new = new ≡ old
+GroupTells at k did.Sent old new = Adds at 0 (Sent k) old new
+GroupTells at k did.Lost old new = Adds at 0 (Lost k) old new
+
+abbrev pub IsntTold : GroupDid → Type 0
+IsntTold did.Put = Unit {0}
+IsntTold did.Wait = Unit {0}
+IsntTold did.Sent = ⊥
+IsntTold did.Lost = ⊥
+
+-- ---- why a worker gets no job
+
+abbrev pub WhyFree : Reservation → Turned → Type 0
+WhyFree r (answer.Took job) = Unit {0}
+WhyFree r answer.Moved = Unit {0}
+WhyFree r answer.Wait = Unit {0}
+WhyFree r (answer.Done job) = Unit {0}
+WhyFree r (answer.Failed job) = Unit {0}
+WhyFree r (answer.Refused job) = Unit {0}
+WhyFree r answer.Later = AllWait r
+WhyFree r answer.NoMore = AllTaken r
+
+abbrev pub WaitsFree : Reservation → Turn → Type 0
+WaitsFree r (Did turned) = WhyFree r turned
+WaitsFree r (Puts cemi) = Unit {0}
+
+abbrev pub IsEnd : Turned → Type 0
+IsEnd (answer.Took job) = ⊥
+IsEnd answer.Moved = ⊥
+IsEnd answer.Wait = ⊥
+IsEnd (answer.Done job) = Unit {0}
+IsEnd (answer.Failed job) = Unit {0}
+IsEnd (answer.Refused job) = Unit {0}
+IsEnd answer.Later = ⊥
+IsEnd answer.NoMore = ⊥
+
+-- by the log, of any jobs of these devices
+abbrev pub WhyFreeByLog : List IndAddr → List LogEntry → Turned → Type 0
+WhyFreeByLog devices log turned = (jobs : List Job) → AreJobsOf devices jobs → WhyFree (reservation_after jobs log) turned

@@ -1,0 +1,169 @@
+//! The workers.
+
+ghost use Rattle.std.specs.Prelude.{◌≡◌, ◌-◌, ◌≤◌, Some, None, false, IfOk, replicate, slice_set};
+ghost use Rattle.hub_work.specs.Books.{held_at, jobs_held};
+
+use knx_model::{IndAddr, NoMemory};
+use std::alloc::Global;
+use std::marker::Model;
+
+/// The job that a worker holds.
+#[derive(Clone, Copy, Debug, Drop, PartialEq, Eq)]
+pub struct Held {
+    pub job: u32,
+    pub device: IndAddr,
+    /// An attempt of it has sent its T_Connect.
+    pub begun: bool,
+    /// How much of what came for it waits for the worker's turn: frames of its device, confirmations of its frames, losses of its channel.
+    pub came: u32,
+}
+
+/// Which job each worker holds; a frame of a device finds its worker by the device part of its address.
+#[derive(Drop)]
+pub struct Crew {
+    held: Vec<Option<Held>>,
+    /// Of each device part the worker, from 1, that took a job of such a device last; 0 where none did.
+    by_device: [u8; 256],
+}
+
+impl Model for Crew {
+    ghost use Rattle.std.specs.Prelude.{List, Option};
+    ghost use Rattle.hub_work.specs.declared.crew.Held.{Held};
+
+    ghost Value = { List (Option Held) };
+
+    ghost view = { λ c. c.held.items };
+}
+
+impl Crew {
+    /// So many workers, none of which holds a job.
+    pub fn new(alloc: Global, workers: u8) -> Result<Crew, NoMemory>
+        ensures { IfOk result (λ crew. crew ≡ replicate workers None) }
+    {
+        let held = Vec::from_elem(alloc, None, workers as usize)?;
+        Ok(Crew {
+            held,
+            by_device: [0; 256],
+        })
+    }
+
+    /// How many workers there are.
+    pub fn len(&self) -> usize {
+        self.held.len()
+    }
+
+    /// What the worker at a place, from 0, holds.
+    pub fn at(&self, place: usize) -> Option<Held>
+        ensures { result ≡ held_at self.now place }
+    {
+        match self.held.get(place) {
+            Some(held) => *held,
+            None => None,
+        }
+    }
+
+    /// What the worker holds, from 1.
+    pub fn held(&self, worker: u8) -> Option<Held>
+        ensures { 1 ≤ worker → result ≡ held_at self.now (worker - 1) }
+    {
+        self.at(place_of(worker))
+    }
+
+    /// What the worker at a place, from 0, holds from now on.
+    fn set(&mut self, place: usize, held: Option<Held>)
+        ensures { self.new ≡ slice_set self.old place held }
+    {
+        if place < self.held.len() {
+            self.held[place] = held;
+        }
+    }
+
+    /// The worker took a job.
+    pub fn takes(&mut self, worker: u8, job: u32, device: IndAddr)
+        requires { 1 ≤ worker }
+        ensures { self.new ≡ slice_set self.old (worker - 1) (Some (record { job = job; device = device; begun = false; came = 0 })) }
+    {
+        self.by_device[device.device() as usize] = worker;
+        self.set(
+            place_of(worker),
+            Some(Held {
+                job,
+                device,
+                begun: false,
+                came: 0,
+            }),
+        );
+    }
+
+    /// Its job has ended.
+    pub fn ends(&mut self, worker: u8)
+        requires { 1 ≤ worker }
+        ensures { self.new ≡ slice_set self.old (worker - 1) None }
+    {
+        self.set(place_of(worker), None);
+    }
+
+    /// An attempt of its job has sent its T_Connect.
+    pub fn begins(&mut self, worker: u8)
+        ensures { jobs_held self.new ≡ jobs_held self.old }
+    {
+        let place = place_of(worker);
+        if let Some(held) = self.at(place) {
+            self.set(
+                place,
+                Some(Held {
+                    begun: true,
+                    ..held
+                }),
+            );
+        }
+    }
+
+    /// Something came for it.
+    pub fn came(&mut self, worker: u8)
+        ensures { jobs_held self.new ≡ jobs_held self.old }
+    {
+        self.came_at(place_of(worker));
+    }
+
+    /// Something came for the worker at a place, from 0.
+    pub fn came_at(&mut self, place: usize)
+        ensures { jobs_held self.new ≡ jobs_held self.old }
+    {
+        if let Some(held) = self.at(place) {
+            let came = held.came.saturating_add(1);
+            self.set(place, Some(Held { came, ..held }));
+        }
+    }
+
+    /// Its turn takes one thing in that came. Tells whether there was one.
+    pub fn takes_in(&mut self, worker: u8) -> bool
+        ensures { jobs_held self.new ≡ jobs_held self.old }
+    {
+        let place = place_of(worker);
+        match self.at(place) {
+            Some(held) if held.came > 0 => {
+                let came = held.came - 1;
+                self.set(place, Some(Held { came, ..held }));
+                true
+            }
+            _ => false,
+        }
+    }
+
+    /// The worker that holds a job of the device, from 1.
+    pub fn of_device(&self, device: IndAddr) -> Option<u8> {
+        let worker = self.by_device[device.device() as usize];
+        match self.held(worker) {
+            Some(held) if held.device == device => Some(worker),
+            _ => None,
+        }
+    }
+}
+
+/// The place of a worker, which is counted from 1.
+fn place_of(worker: u8) -> usize
+    ensures { 1 ≤ worker → result ≡ worker - 1 }
+{
+    (worker as usize).wrapping_sub(1)
+}

@@ -1,0 +1,98 @@
+//! Frames of the link layer that a hub asks for, and the group telegrams in those that it hears (KNX standard 3/6/3, common EMI).
+
+ghost use Rattle.std.specs.Prelude.{◌≡◌, ◌≤◌, length, Some};
+ghost use Rattle.knx_model.specs.ApduReading.{service_in};
+ghost use Rattle.knx_model.specs.DeviceFrames.{group_service};
+ghost use Rattle.line_model.specs.ClientEnd.{IsCemi};
+ghost use Rattle.line_model.specs.ClientView.{indication_of};
+ghost use Rattle.line_model.specs.Told.{service_of};
+ghost use Rattle.hub_work.specs.Requests.{IsServiceInRange};
+
+use apdu_frames::{service_in, service_octets};
+use cemi_frames::encode;
+use knx_model::{Apdu, ApduOctets, Datagram, GroupAddr, GroupService, IndAddr, Ldata, LdataCode};
+use line_model::{GroupTurn, Indication};
+
+/// Low priority.
+const PRIORITY: u8 = 3;
+
+const HOP_COUNT: u8 = 6;
+
+/// The cEMI octets that ask for a frame with this TPDU to one device.
+pub fn to_device(device: IndAddr, tpdu: ApduOctets) -> Datagram
+    requires { 1 ≤ length tpdu }
+    ensures cemi { IsCemi result }
+{
+    request(false, device.raw, tpdu)
+}
+
+/// The cEMI octets that ask for a group telegram.
+pub fn to_group(turn: &GroupTurn) -> Datagram
+    requires { IsServiceInRange turn.now.service }
+    ensures cemi { IsCemi result }
+{
+    request(
+        true,
+        turn.group.raw,
+        service_octets(service_of(&turn.service)),
+    )
+}
+
+fn request(group: bool, destination: u16, tpdu: ApduOctets) -> Datagram
+    requires some { 1 ≤ length tpdu }
+    ensures cemi { IsCemi result }
+{
+    let _len = tpdu.len();
+    encode(&Ldata {
+        code: LdataCode::Req,
+        error: false,
+        group,
+        priority: PRIORITY,
+        hops: HOP_COUNT,
+        source: 0,
+        destination,
+        tpdu,
+    })
+}
+
+/// The service of a group telegram.
+fn service_of(service: &GroupService) -> Apdu
+    ensures { result ≡ service_of service.now }
+{
+    match service {
+        GroupService::Read => Apdu::GroupRead,
+        GroupService::Write(value) => Apdu::GroupWrite(value.copied()),
+        GroupService::Response(value) => Apdu::GroupResponse(value.copied()),
+    }
+}
+
+/// The group telegram that an indication tells of; None where it tells of none.
+pub fn indication_of(frame: &Ldata) -> Option<Indication>
+    ensures { result ≡ indication_of (Some frame.now) }
+{
+    if frame.code != LdataCode::Ind || !frame.group {
+        return None;
+    }
+    match group_service(frame.tpdu.as_slice()) {
+        Some(service) => Some(Indication {
+            from: IndAddr { raw: frame.source },
+            group: GroupAddr {
+                raw: frame.destination,
+            },
+            service,
+        }),
+        None => None,
+    }
+}
+
+/// The group service that octets are; None where they are another service or none.
+fn group_service(tpdu: &[u8]) -> Option<GroupService>
+    ensures { result ≡ group_service (service_in tpdu.now) }
+{
+    match service_in(tpdu)? {
+        Apdu::GroupRead => Some(GroupService::Read),
+        Apdu::GroupWrite(value) => Some(GroupService::Write(value)),
+        Apdu::GroupResponse(value) => Some(GroupService::Response(value)),
+        _ => None,
+    }
+}

@@ -1,0 +1,226 @@
+//! What is done, without any link: the jobs with their downloaders, the workers, the group telegrams, and the log.
+
+mod deliver;
+mod turn;
+
+ghost use Rattle.std.specs.Prelude.{◌≡◌, ◌<◌, length, map, reverse, IfOk, IfSome, OnErr, OnOk};
+ghost use Rattle.hub_work.specs.declared.job.HubJob.{HubJob as Job};
+ghost use Rattle.std.specs.List.{AllByRecursion};
+ghost use Rattle.line_model.specs.ClientEnd.{IsCemi};
+ghost use Rattle.line_model.specs.Log.{IsNextTurn};
+ghost use Rattle.hub_work.specs.Requests.{IsTurnInRange};
+ghost use Rattle.hub_work.specs.Telegrams.{next_of};
+ghost use Rattle.hub_work.specs.Turns.{Adds, TellsTurn};
+ghost use Rattle.hub_work.specs.Works.{WritesRightly, Lives, TellsRightly, SameRun, SameBooks, BeginsWith};
+
+use crate::closing::Closing;
+use crate::crew::Crew;
+use crate::job::HubJob;
+use crate::journal::Journal;
+use crate::telegrams::{Stage, Telegrams};
+use crate::wait::{LONGEST_POLL_MS, until};
+use device_reservation::Jobs;
+use download_core::{Did, Downloader};
+use knx_model::{Datagram, IndAddr, List, NoMemory};
+use line_model::{GroupTurn, LogEntry, LogWhat};
+use std::alloc::Global;
+pub use turn::Turn;
+
+/// Who put the request that isn't confirmed.
+#[derive(Clone, Copy, Debug, Drop, PartialEq, Eq)]
+pub enum Sender {
+    Nobody,
+    Worker(u8),
+    GroupThread,
+}
+
+/// What is done, without any link.
+#[derive(Drop)]
+pub struct Work {
+    /// One of each job, in the jobs' order.
+    downloaders: Vec<Downloader>,
+    reservation: Jobs,
+    /// How many jobs have no end yet.
+    unfinished: u32,
+    crew: Crew,
+    telegrams: Telegrams,
+    sender: Sender,
+    pub closing: Option<Closing>,
+    journal: Journal,
+}
+
+impl Work {
+    /// These jobs and telegrams, of which nothing is done.
+    pub fn new(
+        alloc: Global,
+        jobs: List<HubJob>,
+        groups: List<GroupTurn>,
+        workers: u8,
+    ) -> Result<Work, NoMemory>
+        requires few_jobs { length jobs < 4294967296 }
+        requires few_groups { length groups < 4294967296 }
+        requires sendable { AllByRecursion IsTurnInRange groups }
+        ensures { IfOk result (λ work. BeginsWith (map (λ (j : Job). j.device) jobs) groups work) }
+    {
+        let room = jobs.len() + jobs.len() + groups.len();
+        let journal = Journal::with_room(alloc, room)?;
+        let crew = Crew::new(alloc, workers)?;
+        let unfinished = jobs.len() as u32;
+        let devices = devices_of(alloc, jobs.as_slice())?;
+        let reservation = Jobs::new(alloc, &devices)?;
+        let mut downloaders = Vec::with_capacity(alloc, jobs.len())?;
+        for job in jobs.into_vec() {
+            let HubJob { device, plan } = job;
+            downloaders.push(Downloader::new(device, plan))?;
+        }
+        Ok(Work {
+            downloaders,
+            reservation,
+            unfinished,
+            crew,
+            telegrams: Telegrams::new(groups),
+            sender: Sender::Nobody,
+            closing: None,
+            journal,
+        })
+    }
+
+    /// The log, the oldest entry first.
+    pub fn into_log(self) -> List<LogEntry>
+        ensures { result ≡ reverse self.journal }
+    {
+        let Work {
+            downloaders: _,
+            reservation: _,
+            unfinished: _,
+            crew: _,
+            telegrams: _,
+            sender: _,
+            closing: _,
+            journal,
+        } = self;
+        journal.into_list()
+    }
+
+    /// Whether a job has no end yet.
+    pub fn is_unfinished(&self) -> bool {
+        self.unfinished > 0
+    }
+
+    /// The device of the first job that isn't on the tunnel's line.
+    pub fn elsewhere(&self, tunnel: IndAddr) -> Option<IndAddr> {
+        for device in self.reservation.devices() {
+            if device.raw >> 8 != tunnel.raw >> 8 {
+                return Some(*device);
+            }
+        }
+        None
+    }
+
+    /// How far the next group telegram is.
+    pub fn stage(&self) -> Stage {
+        self.telegrams.stage()
+    }
+
+    /// The octets of the next group telegram's request, where it may be put.
+    pub fn telegram(&self) -> Option<Datagram>
+        ensures { IfSome result IsCemi }
+    {
+        self.telegrams.request(self.unfinished > 0)
+    }
+
+    /// The next group telegram, from 1; None exactly where all are told.
+    pub fn next_group(&self) -> Option<u32>
+        ensures { result ≡ next_of self.now.telegrams }
+    {
+        self.telegrams.next()
+    }
+
+    /// The next group telegram was put.
+    pub fn telegram_put(&mut self)
+        ensures books { SameBooks self.old self.new }
+    {
+        self.telegrams.put();
+        self.sender = Sender::GroupThread;
+    }
+
+    /// The next group telegram is told.
+    pub fn tell_telegram(&mut self, at: u64, k: u32, what: LogWhat) -> Result<(), NoMemory>
+        requires what { TellsTurn k what }
+        requires next { IsNextTurn self.old.telegrams.turns self.old.journal k }
+        requires telling { TellsRightly self.old }
+        requires written { WritesRightly at self.old }
+        requires live { Lives self.old }
+        ensures told { OnOk result (Adds at 0 what self.old.journal self.new.journal) }
+        ensures untold { OnErr result (self.new.journal ≡ self.old.journal) }
+        ensures run { SameRun self.old self.new }
+        ensures written { WritesRightly at self.new }
+        ensures telling { TellsRightly self.new }
+        ensures live { Lives self.new }
+    {
+        self.journal.add(at, 0, what)?;
+        self.telegrams.told();
+        Ok(())
+    }
+
+    /// A disconnect request was sent.
+    pub fn asked(&mut self, now: u64)
+        ensures books { SameBooks self.old self.new }
+    {
+        if self.closing.is_some() {
+            self.closing = Some(Closing::asked(now));
+        }
+    }
+
+    /// How long a poll lasts, in milliseconds, where the place in flight is free or not and the channel has this deadline.
+    pub fn wait_ms(&self, now: u64, has_place: bool, channel: Option<u64>) -> u32 {
+        let mut wait = until(channel, now, LONGEST_POLL_MS);
+        if let Some(closing) = self.closing {
+            wait = until(Some(closing.deadline()), now, wait);
+        }
+        for place in 0..self.crew.len() {
+            wait = wait.min(self.wait_of(place, now, has_place));
+        }
+        wait
+    }
+
+    /// How long a poll lasts for the worker at a place, from 0: not at all where its turn would do something for an attempt that has begun.
+    fn wait_of(&self, place: usize, now: u64, has_place: bool) -> u32 {
+        let Some(held) = self.crew.at(place) else {
+            return LONGEST_POLL_MS;
+        };
+        if held.came > 0 {
+            return 0;
+        }
+        let Some(downloader) = self.downloaders.get(index_of(held.job)) else {
+            return LONGEST_POLL_MS;
+        };
+        if held.begun && does_something(&downloader.next(now), has_place) {
+            0
+        } else {
+            until(downloader.deadline(), now, LONGEST_POLL_MS)
+        }
+    }
+}
+
+/// Whether a turn in which this is next does something.
+fn does_something(did: &Did, has_place: bool) -> bool {
+    match did {
+        Did::Wait => false,
+        Did::Send(_) => has_place,
+        Did::Done | Did::Failed { .. } | Did::Refused { .. } => true,
+    }
+}
+
+/// The place of a job, which is counted from 1.
+fn index_of(job: u32) -> usize {
+    (job as usize).wrapping_sub(1)
+}
+
+/// The devices of the jobs.
+fn devices_of(alloc: Global, jobs: &[HubJob]) -> Result<Vec<IndAddr>, NoMemory>
+    ensures { IfOk result (λ devices. devices.items ≡ map (λ (j : Job). j.device) jobs.now) }
+{
+    let devices = jobs.iter().map(|job| job.device).collect(alloc)?;
+    Ok(devices)
+}
