@@ -1,3 +1,4 @@
 pub mod Lists
 pub mod TableLines
-pub mod Words
+pub mod Behind
+pub mod Lines

@@ -33,7 +33,7 @@ fn end_in(log: &[LogEntry], job: u64) -> Option<LogWhat>
 }
 
 /// Appends the end of a job whose attempts failed so.
-#[tactic(auto, using(crate::proofs::Words::one_and_more))]
+#[tactic(auto, using(crate::proofs::Behind::one_and_more))]
 fn put_failed(out: &mut Octets, signs: [Sign; 3]) -> Result<(), NoMemory>
     ensures { OnOk result (out.new ≡ out.old ++ join_with_byte 32 (codes "failed" ∷ map sign_word signs)) }
 {

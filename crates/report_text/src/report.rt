@@ -7,7 +7,9 @@ ghost use Rattle.knx_model.specs.ReportText.{line, job_line, case_word, device_l
 
 use crate::job::put_job;
 use crate::words::{case_word, put_count};
-use knx_model::{DeviceCase, JobWord, LogEntry, NoMemory, Octets, Report, put_device_word, put_word};
+use knx_model::{
+    DeviceCase, JobWord, LogEntry, NoMemory, Octets, Report, put_device_word, put_word,
+};
 use std::alloc::Global;
 
 fn put_jobs(

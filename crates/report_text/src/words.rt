@@ -5,7 +5,7 @@ ghost use Rattle.std.specs.List.{join_with_byte};
 ghost use Rattle.std.specs.Fmt.{decimal};
 ghost use Rattle.knx_model.specs.Addresses.{device_text};
 ghost use Rattle.knx_model.specs.ReportText.{line, sign_word, job_word, case_word};
-ghost use Rattle.report_text.specs.Words.{behind};
+ghost use Rattle.report_text.specs.Behind.{behind};
 
 use knx_model::{
     Case, JobKind, JobWord, NoMemory, Octets, Sign, put_device_word, put_number_word, put_word,
@@ -68,12 +68,7 @@ pub fn case_word(case: Case) -> &'static str
 }
 
 /// Appends a line of a word and a count.
-pub fn put_count(
-    alloc: Global,
-    out: &mut Octets,
-    word: &str,
-    count: u64,
-) -> Result<(), NoMemory>
+pub fn put_count(alloc: Global, out: &mut Octets, word: &str, count: u64) -> Result<(), NoMemory>
     ensures { OnOk result (out.new ≡ out.old ++ line (word.now ∷ decimal count ∷ [])) }
 {
     out.append(word.as_bytes())?;

@@ -5,11 +5,13 @@ ghost use Rattle.std.specs.List.{flat_map, join_with_byte};
 ghost use Rattle.knx_model.specs.Addresses.{device_text};
 ghost use Rattle.knx_model.specs.ReportText.{case_word};
 ghost use Rattle.line_model.specs.Printed.{device_line, value_word};
-ghost use Rattle.report_text.specs.Words.{behind};
+ghost use Rattle.report_text.specs.Behind.{behind};
 
 use crate::pieces::put_value;
 use crate::words::case_word;
-use knx_model::{Case, IndAddr, List, NoMemory, Octets, Value, put_device_word, put_number, put_word};
+use knx_model::{
+    Case, IndAddr, List, NoMemory, Octets, Value, put_device_word, put_number, put_word,
+};
 use std::alloc::Global;
 use std::marker::Model;
 
@@ -46,11 +48,7 @@ fn put_value_word(
 }
 
 /// Appends the values of a device.
-fn put_values(
-    alloc: Global,
-    out: &mut Octets,
-    values: &[(u8, Value)],
-) -> Result<(), NoMemory>
+fn put_values(alloc: Global, out: &mut Octets, values: &[(u8, Value)]) -> Result<(), NoMemory>
     ensures { OnOk result (out.new ≡ out.old ++ behind (map value_word values.now)) }
 {
     for shown in values {
@@ -74,7 +72,6 @@ fn put_device_words(
 }
 
 /// Appends the line of a device.
-#[tactic(auto, using(crate::proofs::Words::three_and_more))]
 fn put_device(alloc: Global, out: &mut Octets, shown: &DeviceShown) -> Result<(), NoMemory>
     ensures { OnOk result (out.new ≡ out.old ++ device_line shown.now) }
 {
@@ -84,11 +81,7 @@ fn put_device(alloc: Global, out: &mut Octets, shown: &DeviceShown) -> Result<()
 }
 
 /// Appends the lines of devices.
-pub fn put_devices(
-    alloc: Global,
-    out: &mut Octets,
-    devices: &[DeviceShown],
-) -> Result<(), NoMemory>
+pub fn put_devices(alloc: Global, out: &mut Octets, devices: &[DeviceShown]) -> Result<(), NoMemory>
     ensures { OnOk result (out.new ≡ out.old ++ flat_map device_line devices.now) }
 {
     for shown in devices {

@@ -5,7 +5,7 @@ ghost use Rattle.std.specs.List.{filter_map, flat_map, enumerate_from, join_with
 ghost use Rattle.std.specs.Fmt.{decimal};
 ghost use Rattle.knx_model.specs.ReportText.{octets_text, first_or_open};
 ghost use Rattle.line_model.specs.Printed.{end_of, job_line};
-ghost use Rattle.report_text.specs.Words.{behind, behind_if};
+ghost use Rattle.report_text.specs.Behind.{behind, behind_if};
 
 use crate::pieces::put_hex;
 use crate::words::{put_job_words, put_signs};
@@ -32,12 +32,7 @@ fn put_refused(
 }
 
 /// Appends how an entry ends the job. Tells whether it does.
-fn put_end_by(
-    alloc: Global,
-    out: &mut Octets,
-    job: u64,
-    what: &LogWhat,
-) -> Result<bool, NoMemory>
+fn put_end_by(alloc: Global, out: &mut Octets, job: u64, what: &LogWhat) -> Result<bool, NoMemory>
     ensures told { IfOk result (λ ends. ends ≡ is_some (end_of job what.now)) }
     ensures text { OnOk result (out.new ≡ out.old ++ behind_if (end_of job what.now)) }
 {
@@ -47,7 +42,12 @@ fn put_end_by(
             out.append(b" failed")?;
             put_signs(out, *signs)?;
         }
-        LogWhat::Refused { job: ended, op, got, expected } if u64::from(*ended) == job => {
+        LogWhat::Refused {
+            job: ended,
+            op,
+            got,
+            expected,
+        } if u64::from(*ended) == job => {
             put_refused(alloc, out, *op, got.as_slice(), expected.as_slice())?;
         }
         _ => return Ok(false),
@@ -56,12 +56,7 @@ fn put_end_by(
 }
 
 /// Appends how a job ends by the log.
-fn put_end(
-    alloc: Global,
-    out: &mut Octets,
-    log: &[LogEntry],
-    job: u64,
-) -> Result<(), NoMemory>
+fn put_end(alloc: Global, out: &mut Octets, log: &[LogEntry], job: u64) -> Result<(), NoMemory>
     ensures { OnOk result (out.new ≡ out.old ++ behind (first_or_open (filter_map (λ entry. end_of job entry.what) log.now))) }
 {
     for entry in log {
@@ -73,7 +68,6 @@ fn put_end(
 }
 
 /// Appends the line of a job: its number, what it does to which device, and its end by the log.
-#[tactic(auto, using(crate::proofs::Words::four_and_more))]
 fn put_job(
     alloc: Global,
     out: &mut Octets,

@@ -6,7 +6,7 @@ ghost use Rattle.std.specs.List.{filter_map, flat_map, range_with_len, join_with
 ghost use Rattle.knx_model.specs.Addresses.{device_text, group_text};
 ghost use Rattle.knx_model.specs.ReportText.{first_or_open};
 ghost use Rattle.line_model.specs.Printed.{end_of_turn, turn_line, value_text, service_words, heard_line};
-ghost use Rattle.report_text.specs.Words.{behind};
+ghost use Rattle.report_text.specs.Behind.{behind};
 
 use crate::pieces::put_value;
 use knx_model::{
@@ -40,12 +40,7 @@ fn end_in(log: &[LogEntry], turn: u64) -> &'static str
 }
 
 /// Appends the line of a telegram of the run.
-fn put_turn(
-    alloc: Global,
-    out: &mut Octets,
-    log: &[LogEntry],
-    turn: u64,
-) -> Result<(), NoMemory>
+fn put_turn(alloc: Global, out: &mut Octets, log: &[LogEntry], turn: u64) -> Result<(), NoMemory>
     ensures { OnOk result (out.new ≡ out.old ++ turn_line log.now turn) }
 {
     let end = end_in(log, turn);
@@ -91,11 +86,7 @@ fn put_service(out: &mut Octets, service: &GroupService) -> Result<(), NoMemory>
 }
 
 /// Appends the words of a telegram that was heard, before its service.
-fn put_heard_words(
-    alloc: Global,
-    out: &mut Octets,
-    heard: &Indication,
-) -> Result<(), NoMemory>
+fn put_heard_words(alloc: Global, out: &mut Octets, heard: &Indication) -> Result<(), NoMemory>
     ensures { OnOk result (out.new ≡ out.old ++ join_with_byte 32 (codes "heard" ∷ group_text heard.now.group ∷ device_text heard.now.«from» ∷ [])) }
 {
     out.append(b"heard")?;
@@ -104,7 +95,6 @@ fn put_heard_words(
 }
 
 /// Appends the line of a telegram that was heard.
-#[tactic(auto, using(crate::proofs::Words::three_and_more))]
 fn put_heard(alloc: Global, out: &mut Octets, heard: &Indication) -> Result<(), NoMemory>
     ensures { OnOk result (out.new ≡ out.old ++ heard_line heard.now) }
 {
@@ -114,11 +104,7 @@ fn put_heard(alloc: Global, out: &mut Octets, heard: &Indication) -> Result<(), 
 }
 
 /// Appends the lines of the telegrams that were heard.
-pub fn put_all_heard(
-    alloc: Global,
-    out: &mut Octets,
-    all: &[Indication],
-) -> Result<(), NoMemory>
+pub fn put_all_heard(alloc: Global, out: &mut Octets, all: &[Indication]) -> Result<(), NoMemory>
     ensures { OnOk result (out.new ≡ out.old ++ flat_map heard_line all.now) }
 {
     for heard in all {

@@ -1,6 +1,6 @@
 use Rattle.std.proofs.Common.{◌≡◌, ◌++◌, drop, map}
 use Rattle.line_model.specs.Printed.{value_word}
-use Rattle.report_text.specs.Words.{behind}
+use Rattle.report_text.specs.Behind.{behind}
 use Rattle.report_text.proofs.line_report.device.put_values.Given as goal
 
 -- the words so far and those that are left are all words
