@@ -4,8 +4,6 @@
 use Rattle.std.specs.Prelude.{◌≡◌, ℕ, Bool, ◌&&◌, ◌⊎◌, nat_le, codes, List, [], ◌∷◌, ◌++◌, length, Option, Some, None, if◌then◌else◌}
 use Rattle.std.specs.Fmt.{decimal}
 use Rattle.knx_model.specs.declared.address.IndAddr.{IndAddr}
-use Rattle.knx_model.specs.declared.frames.value.Value.{Value}
-use Rattle.knx_model.specs.declared.frames.value.Value.TheVariants.{Short, Long}
 use Rattle.knx_model.specs.declared.frames.tpdu.Apdu.{Apdu}
 use Rattle.knx_model.specs.declared.frames.tpdu.Apdu.TheVariants.{GroupRead, GroupResponse, GroupWrite, AddressWrite, AddressRead, AddressResponse, MemoryRead, MemoryResponse, MemoryWrite, DescriptorRead, DescriptorResponse, PropertyRead, PropertyResponse, PropertyWrite}
 use Rattle.knx_model.specs.declared.frames.tpdu.Tpdu.{Tpdu}
@@ -24,6 +22,7 @@ use Rattle.knx_model.specs.KnxNetIp as ip
 use Rattle.knx_model.specs.Addresses.{device_text, group_text}
 use Rattle.knx_model.specs.ReportText.{line, hex_octet, hex_text, octets_text}
 use Rattle.knx_model.specs.Values.{hex_octets}
+use Rattle.line_model.specs.Printed.{value_text}
 
 -- ---- addresses
 
@@ -34,11 +33,6 @@ abbrev pub individual_word : ℕ → List ℕ
 individual_word raw = device_text (record { raw = raw })
 
 -- ---- the services of the application layer
-
--- `s` and two digits for a short value
-abbrev pub value_text : Value → List ℕ
-value_text (Short value) = codes "s" ++ hex_octet value
-value_text (Long octets) = octets_text octets
 
 abbrev pub property_words : ℕ → ℕ → ℕ → ℕ → List ℕ → List (List ℕ)
 property_words object property count start octets =

@@ -5,23 +5,19 @@ ghost use Rattle.std.specs.Fmt.{decimal};
 ghost use Rattle.knx_model.specs.Apdu.{word, optional_word};
 ghost use Rattle.frame_text.specs.Spaced.{spaced};
 ghost use Rattle.knx_model.specs.ReportText.{hex_text, octets_text};
-ghost use Rattle.frame_text.specs.FrameText.{value_text, property_words, property_fields, apdu_name, apdu_fields, apdu_words};
+ghost use Rattle.line_model.specs.Printed.{value_text};
+ghost use Rattle.frame_text.specs.FrameText.{property_words, property_fields, apdu_name, apdu_fields, apdu_words};
 
 use crate::pieces::{put_hex_word, put_octets};
 use knx_model::{Apdu, NoMemory, Octets, Value, put_device_word, put_number_word, put_word};
-use report_text::put_digits;
+use report_text::put_value;
 use std::alloc::Global;
 
-fn put_value(out: &mut Octets, value: &Value) -> Result<(), NoMemory>
+fn put_value_word(out: &mut Octets, value: &Value) -> Result<(), NoMemory>
     ensures { OnOk result (out.new ≡ out.old ++ 32 ∷ value_text value.now) }
 {
-    match value {
-        Value::Short(value) => {
-            out.append(b" s")?;
-            put_digits(out, *value)
-        }
-        Value::Long(octets) => put_octets(out, octets.as_slice()),
-    }
+    out.push(b' ')?;
+    put_value(out, value)
 }
 
 fn put_memory(out: &mut Octets, address: u16, octets: &[u8]) -> Result<(), NoMemory>
@@ -132,8 +128,8 @@ fn put_fields(alloc: Global, out: &mut Octets, apdu: &Apdu) -> Result<(), NoMemo
     ensures { OnOk result (out.new ≡ out.old ++ spaced (apdu_fields apdu.now)) }
 {
     match apdu {
-        Apdu::GroupResponse(value) => put_value(out, value),
-        Apdu::GroupWrite(value) => put_value(out, value),
+        Apdu::GroupResponse(value) => put_value_word(out, value),
+        Apdu::GroupWrite(value) => put_value_word(out, value),
         Apdu::AddressWrite(address) => put_device_word(alloc, out, *address),
         Apdu::MemoryRead { count, address } => {
             put_number_word(alloc, out, u64::from(*count))?;

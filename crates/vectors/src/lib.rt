@@ -13,6 +13,8 @@ mod field_words;
 #[cfg(test)]
 mod link_frames;
 #[cfg(test)]
+mod line_reports;
+#[cfg(test)]
 mod load_events;
 #[cfg(test)]
 mod parameters;
