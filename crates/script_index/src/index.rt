@@ -19,7 +19,7 @@ pub struct ScriptIndex {
     /// The places that are named; of a cut with the number of octets that are new.
     places: BTreeMap<Place, u32>,
     /// The status of each connect request that is refused.
-    refused: BTreeMap<u32, u8>,
+    refused: BTreeMap<u64, u8>,
 }
 
 /// Enters a place over what a later line says of it. At `Err` it may or may not be entered.
@@ -39,11 +39,11 @@ fn enter_place(
 }
 
 /// Enters the connect request that a line refuses over what a later line says of it.
-fn enter_refused(refused: &mut BTreeMap<u32, u8>, what: &ScriptWhat) -> Result<(), NoMemory>
+fn enter_refused(refused: &mut BTreeMap<u64, u8>, what: &ScriptWhat) -> Result<(), NoMemory>
     ensures { OnOk result ((n : ℕ) → get nat_cmp refused.new n ≡ or_later (status_at n what.now) (get nat_cmp refused.old n)) }
 {
     if let ScriptWhat::Refuse { n, status } = what {
-        refused.insert(*n, *status)?;
+        refused.insert(u64::from(*n), *status)?;
     }
     Ok(())
 }
@@ -62,7 +62,7 @@ fn places_of(alloc: Global, lines: &[ScriptLine]) -> Result<BTreeMap<Place, u32>
 }
 
 /// The connect requests that the lines refuse, the same way.
-fn refused_of(alloc: Global, lines: &[ScriptLine]) -> Result<BTreeMap<u32, u8>, NoMemory>
+fn refused_of(alloc: Global, lines: &[ScriptLine]) -> Result<BTreeMap<u64, u8>, NoMemory>
     ensures { IfOk result (λ refused. (n : ℕ) → get nat_cmp refused n ≡ refuses (script_of lines.now) n) }
 {
     let mut refused = BTreeMap::new(alloc);
@@ -92,77 +92,77 @@ impl ScriptIndex {
     }
 
     /// Whether the n-th datagram that the client sends is lost.
-    pub fn loses_up(&self, n: u32) -> bool
+    pub fn loses_up(&self, n: u64) -> bool
         ensures { (script : Script) → StandsFor self.now script → result ≡ loses_up script n }
     {
         self.is_said(Place::new(Kind::LoseUp, 0, n))
     }
 
     /// Whether the n-th datagram that the gateway sends is lost.
-    pub fn loses_down(&self, n: u32) -> bool
+    pub fn loses_down(&self, n: u64) -> bool
         ensures { (script : Script) → StandsFor self.now script → result ≡ loses_down script n }
     {
         self.is_said(Place::new(Kind::LoseDown, 0, n))
     }
 
     /// Whether the n-th datagram that the client sends is delivered twice in a row.
-    pub fn repeats_up(&self, n: u32) -> bool
+    pub fn repeats_up(&self, n: u64) -> bool
         ensures { (script : Script) → StandsFor self.now script → result ≡ repeats_up script n }
     {
         self.is_said(Place::new(Kind::RepeatUp, 0, n))
     }
 
     /// Whether the n-th datagram that the gateway sends is delivered twice in a row.
-    pub fn repeats_down(&self, n: u32) -> bool
+    pub fn repeats_down(&self, n: u64) -> bool
         ensures { (script : Script) → StandsFor self.now script → result ≡ repeats_down script n }
     {
         self.is_said(Place::new(Kind::RepeatDown, 0, n))
     }
 
     /// Whether the gateway closes the channel after the n-th tunnelling request that it acted on.
-    pub fn drops(&self, n: u32) -> bool
+    pub fn drops(&self, n: u64) -> bool
         ensures { (script : Script) → StandsFor self.now script → result ≡ drops script n }
     {
         self.is_said(Place::new(Kind::DropChannel, 0, n))
     }
 
     /// Whether the n-th frame on the bus for the device alone is lost for it.
-    pub fn loses_to(&self, device: IndAddr, n: u32) -> bool
+    pub fn loses_to(&self, device: IndAddr, n: u64) -> bool
         ensures { (script : Script) → StandsFor self.now script → result ≡ loses_to script device.raw n }
     {
         self.is_said(Place::new(Kind::LoseTo, device.raw, n))
     }
 
     /// Whether the n-th frame that the device sends is lost for the gateway.
-    pub fn loses_from(&self, device: IndAddr, n: u32) -> bool
+    pub fn loses_from(&self, device: IndAddr, n: u64) -> bool
         ensures { (script : Script) → StandsFor self.now script → result ≡ loses_from script device.raw n }
     {
         self.is_said(Place::new(Kind::LoseFrom, device.raw, n))
     }
 
     /// Whether the device gets the n-th frame for it alone twice in a row.
-    pub fn repeats_to(&self, device: IndAddr, n: u32) -> bool
+    pub fn repeats_to(&self, device: IndAddr, n: u64) -> bool
         ensures { (script : Script) → StandsFor self.now script → result ≡ repeats_to script device.raw n }
     {
         self.is_said(Place::new(Kind::RepeatTo, device.raw, n))
     }
 
     /// Whether the device's n-th write is worn.
-    pub fn wears(&self, device: IndAddr, n: u32) -> bool
+    pub fn wears(&self, device: IndAddr, n: u64) -> bool
         ensures { (script : Script) → StandsFor self.now script → result ≡ wears script device.raw n }
     {
         self.is_said(Place::new(Kind::Worn, device.raw, n))
     }
 
     /// Whether the device closes its connection after the n-th frame for it alone that it took.
-    pub fn closes(&self, device: IndAddr, n: u32) -> bool
+    pub fn closes(&self, device: IndAddr, n: u64) -> bool
         ensures { (script : Script) → StandsFor self.now script → result ≡ closes script device.raw n }
     {
         self.is_said(Place::new(Kind::CloseAfter, device.raw, n))
     }
 
     /// How many octets of the device's n-th write are new, where it is cut.
-    pub fn cuts(&self, device: IndAddr, n: u32) -> Option<u32>
+    pub fn cuts(&self, device: IndAddr, n: u64) -> Option<u32>
         ensures { (script : Script) → StandsFor self.now script → result ≡ cuts script device.raw n }
     {
         self.places
@@ -185,7 +185,7 @@ impl ScriptIndex {
     }
 
     /// The status with which the n-th connect request that reaches the gateway is refused.
-    pub fn refuses(&self, n: u32) -> Option<u8>
+    pub fn refuses(&self, n: u64) -> Option<u8>
         ensures { (script : Script) → StandsFor self.now script → result ≡ refuses script n }
     {
         self.refused.get(&n).copied()

@@ -1,0 +1,282 @@
+-- A frame of the client goes over the bus: what is counted of it, and what it calls for.
+use Rattle.std.proofs.Common.{◌≡◌, ◌≢◌, ℕ, suc, ◌+◌, ◌-◌, ◌^◌, ◌==◌, Bool, true, false, not, ◌&&◌, ◌||◌, is_some, List, [], ◌∷◌, ◌++◌, Option, Some, None, refl, ap, sym, subst, ◌∙◌, arith, if◌then◌else◌}
+use Rattle.std.specs.Prelude.{min}
+use Rattle.knx_model.specs.declared.device.Took.{Took}
+use Rattle.knx_model.specs.declared.device.Took.TheVariants.{NotMine, TooLong, Taken, Off}
+use Rattle.knx_model.specs.declared.device.WriteKind.{WriteKind}
+use Rattle.knx_model.specs.declared.frames.cemi.Ldata.{Ldata}
+use Rattle.knx_model.specs.Device.{Effect, Nothing, is_write}
+use Rattle.knx_model.specs.DeviceFrames.{connection_took, effect_delivered, effect_of_frame, is_taken, is_too_long, took_of, would_write, write_kind}
+use Rattle.knx_model.specs.DeviceState.{DeviceState}
+use Rattle.line_model.specs.Counts.{carried_at, frames_to, goes_to, is_for, takes_alone, takes_one, write_of, writes_one}
+use Rattle.line_model.specs.Lines.{closes, repeats_to}
+use Rattle.line_model.specs.Owed.{Owed, BringAgain, ConnectionCloses, caused, connection_closes, frame_again, owed_if, owed_of_carried, owed_of_frame, power_returns}
+use Rattle.line_model.specs.StartOf.{line_of}
+use Rattle.line_model.specs.World.{World, Event, Bus, BusTorn, BusWorn, is_among, next_frame, replay}
+use Rattle.line_sim.specs.Line.{LineNow}
+use Rattle.script_index.specs.declared.index.ScriptIndex.{ScriptIndex}
+use Rattle.bus_sim.specs.declared.beginning.Beginning.{Beginning}
+use Rattle.bus_sim.specs.declared.counts.DeviceCounts.{DeviceCounts}
+use Rattle.bus_sim.specs.declared.counts.Met.{Met}
+use Rattle.bus_sim.specs.Begun.{said, start_of}
+use Rattle.bus_sim.specs.Counted.{CountsNow, counts_at}
+use Rattle.bus_sim.specs.Held.{IsHeld}
+use Rattle.bus_sim.proofs.AtDevices.{closes_so, on_line}
+use Rattle.bus_sim.proofs.Calls.{where_taken}
+use Rattle.bus_sim.proofs.Counting.{Counts, takes_nothing, writes_nothing}
+use Rattle.bus_sim.proofs.Holds.{run}
+use Rattle.bus_sim.proofs.Numbers.{to_known}
+
+alike : (a d : ℕ) → (d == a) ≡ (a == d)
+alike a d = grind arith
+
+same_number : (a b : ℕ) → (a == b) ≡ true → a ≡ b
+same_number a b e = grind arith
+
+other_number : (a b : ℕ) → (a == b) ≡ false → a ≢ b
+other_number a b e = grind arith
+
+is_other : (a b : ℕ) → a ≢ b → (a == b) ≡ false
+is_other a b e = grind arith
+
+and_false : (s : Bool) → (s && false) ≡ false
+and_false true = refl
+and_false false = refl
+
+-- ---- who takes it
+
+-- each device has the address at which it is
+abbrev pub AreNamed : World → Type 0
+AreNamed w = (a : ℕ) (d : DeviceState) → w.devices a ≡ Some d → d.address.raw ≡ a
+
+not_taken : (d : DeviceState) (frame : Ldata) → (frame.destination == d.address.raw) ≡ false → (not frame.group && is_taken (took_of d frame)) ≡ false
+not_taken d frame other = by_tests d.power frame.group
+  where
+    by_tests : (p g : Bool) → (not g && is_taken (if not p then Off else (if not g && not (frame.destination == d.address.raw) then NotMine else (if is_too_long d.frames frame then TooLong else Taken)))) ≡ false
+    by_tests p true = refl
+    by_tests false false = refl
+    by_tests true false = ap (λ t. is_taken (if not t then NotMine else (if is_too_long d.frames frame then TooLong else Taken))) other
+
+nothing_written : (d : DeviceState) → is_some (if is_write d.kept Nothing then write_kind Nothing else None) ≡ false
+nothing_written d = by_test (is_write d.kept Nothing)
+  where
+    by_test : (t : Bool) → is_some (if t then write_kind Nothing else None) ≡ false
+    by_test true = refl
+    by_test false = refl
+
+and_turned : (s t : Bool) → (s && t) ≡ (t && s)
+and_turned true true = refl
+and_turned true false = refl
+and_turned false true = refl
+and_turned false false = refl
+
+-- what isn't taken alone isn't written
+not_written : (d : DeviceState) (frame : Ldata) → (not frame.group && is_taken (took_of d frame)) ≡ false → is_some (would_write d frame) ≡ false
+not_written d frame none =
+    let nothing : effect_of_frame d frame ≡ Nothing = ap (λ (t : Bool). if t then effect_delivered (connection_took d frame) else Nothing) (and_turned (is_taken (took_of d frame)) (not frame.group) ∙ none) in
+    ap (λ (x : Effect). is_some (if is_write d.kept x then write_kind x else None)) nothing ∙ nothing_written d
+
+others_take_nothing : (o : Option DeviceState) (a : ℕ) (frame : Ldata) → ((d : DeviceState) → o ≡ Some d → d.address.raw ≡ a) → (a == frame.destination) ≡ false → takes_alone o (Some frame) ≡ false
+others_take_nothing None a frame named other = refl
+others_take_nothing (Some d) a frame named other = not_taken d frame (is_other _ _ (λ same. other_number a frame.destination other (sym (same ∙ named d refl))))
+
+others_write_nothing : (o : Option DeviceState) (a : ℕ) (frame : Ldata) → ((d : DeviceState) → o ≡ Some d → d.address.raw ≡ a) → (a == frame.destination) ≡ false → is_some (write_of o (Some frame)) ≡ false
+others_write_nothing None a frame named other = refl
+others_write_nothing (Some d) a frame named other = not_written d frame (not_taken d frame (is_other _ _ (λ same. other_number a frame.destination other (sym (same ∙ named d refl)))))
+
+-- a frame to a group is nobody's alone
+group_taken : (o : Option DeviceState) (frame : Ldata) → frame.group ≡ true → takes_alone o (Some frame) ≡ false
+group_taken None frame e = refl
+group_taken (Some d) frame e = ap (λ t. not t && is_taken (took_of d frame)) e
+
+group_written : (o : Option DeviceState) (frame : Ldata) → frame.group ≡ true → is_some (write_of o (Some frame)) ≡ false
+group_written None frame e = refl
+group_written (Some d) frame e = not_written d frame (ap (λ t. not t && is_taken (took_of d frame)) e)
+
+-- ---- the counts
+
+abbrev pub comes : List ℕ → Ldata → Bool
+comes left_out frame = not frame.group && not (is_among left_out frame.destination)
+
+module _ (w : World) (left_out : List ℕ) (frame : Ldata) (due : Some frame ≡ next_frame w) (named : AreNamed w) where
+  pub to_at : (a : ℕ) → is_for a (next_frame w) ≡ (if a == frame.destination then not frame.group else false)
+  to_at a = sym (ap (is_for a) due) ∙ by_test (frame.destination == a) (a == frame.destination) refl refl
+    where
+      by_test : (s t : Bool) → (frame.destination == a) ≡ s → (a == frame.destination) ≡ t → (not frame.group && s) ≡ (if t then not frame.group else false)
+      by_test true true e f = and_turned (not frame.group) true
+      by_test false false e f = and_false (not frame.group)
+      by_test true false e f = let h = alike a frame.destination in cc
+      by_test false true e f = let h = alike a frame.destination in cc
+
+  pub taken_at : (a : ℕ) → takes_alone (w.devices a) (if is_among left_out a then None else next_frame w) ≡ (if a == frame.destination then comes left_out frame && takes_alone (w.devices frame.destination) (Some frame) else false)
+  taken_at a = by_here (a == frame.destination) refl
+    where
+      here : (g l : Bool) → frame.group ≡ g → takes_alone (w.devices frame.destination) (if l then None else next_frame w) ≡ ((not g && not l) && takes_alone (w.devices frame.destination) (Some frame))
+      here true true e = takes_nothing (w.devices frame.destination)
+      here false true e = takes_nothing (w.devices frame.destination)
+      here true false e = sym (ap (takes_alone (w.devices frame.destination)) due) ∙ group_taken (w.devices frame.destination) frame e
+      here false false e = sym (ap (takes_alone (w.devices frame.destination)) due)
+
+      away : (l : Bool) → (a == frame.destination) ≡ false → takes_alone (w.devices a) (if l then None else next_frame w) ≡ false
+      away true other = takes_nothing (w.devices a)
+      away false other = sym (ap (takes_alone (w.devices a)) due) ∙ others_take_nothing (w.devices a) a frame (named a) other
+
+      by_here : (t : Bool) → (a == frame.destination) ≡ t → takes_alone (w.devices a) (if is_among left_out a then None else next_frame w) ≡ (if t then comes left_out frame && takes_alone (w.devices frame.destination) (Some frame) else false)
+      by_here true e = ap (λ k. takes_alone (w.devices k) (if is_among left_out k then None else next_frame w)) (same_number a frame.destination e) ∙ here frame.group (is_among left_out frame.destination) refl
+      by_here false e = away (is_among left_out a) e
+
+  pub wrote_at : (a : ℕ) → is_some (write_of (w.devices a) (if is_among left_out a then None else next_frame w)) ≡ (if a == frame.destination then comes left_out frame && is_some (write_of (w.devices frame.destination) (Some frame)) else false)
+  wrote_at a = by_here (a == frame.destination) refl
+    where
+      here : (g l : Bool) → frame.group ≡ g → is_some (write_of (w.devices frame.destination) (if l then None else next_frame w)) ≡ ((not g && not l) && is_some (write_of (w.devices frame.destination) (Some frame)))
+      here true true e = writes_nothing (w.devices frame.destination)
+      here false true e = writes_nothing (w.devices frame.destination)
+      here true false e = sym (ap (λ f. is_some (write_of (w.devices frame.destination) f)) due) ∙ group_written (w.devices frame.destination) frame e
+      here false false e = sym (ap (λ f. is_some (write_of (w.devices frame.destination) f)) due)
+
+      away : (l : Bool) → (a == frame.destination) ≡ false → is_some (write_of (w.devices a) (if l then None else next_frame w)) ≡ false
+      away true other = writes_nothing (w.devices a)
+      away false other = sym (ap (λ f. is_some (write_of (w.devices a) f)) due) ∙ others_write_nothing (w.devices a) a frame (named a) other
+
+      by_here : (t : Bool) → (a == frame.destination) ≡ t
+          → is_some (write_of (w.devices a) (if is_among left_out a then None else next_frame w)) ≡ (if t then comes left_out frame && is_some (write_of (w.devices frame.destination) (Some frame)) else false)
+      by_here true e = ap (λ k. is_some (write_of (w.devices k) (if is_among left_out k then None else next_frame w))) (same_number a frame.destination e) ∙ here frame.group (is_among left_out frame.destination) refl
+      by_here false e = away (is_among left_out a) e
+
+none_from : (t : Bool) → false ≡ (if t then false else false)
+none_from true = refl
+none_from false = refl
+
+-- it goes whole
+pub bus_one : (w : World) (left_out : List ℕ) (frame : Ldata) (taken wrote : Bool) → Some frame ≡ next_frame w → AreNamed w → taken ≡ (comes left_out frame && takes_alone (w.devices frame.destination) (Some frame))
+    → wrote ≡ (comes left_out frame && is_some (write_of (w.devices frame.destination) (Some frame))) → Counts w (Bus left_out) frame.destination (record { to = not frame.group; from = false; taken = taken; wrote = wrote })
+bus_one w left_out frame taken wrote due named takes writes = record {
+  to = to_at w left_out frame due named;
+  from = λ a. none_from (a == frame.destination);
+  taken = λ a. taken_at w left_out frame due named a ∙ ap (λ t. if a == frame.destination then t else false) (sym takes);
+  wrote = λ a. wrote_at w left_out frame due named a ∙ ap (λ t. if a == frame.destination then t else false) (sym writes);
+  connect = refl;
+}
+
+-- a frame that is a write is for one device, which takes it
+pub record IsWritten (w : World) (frame : Ldata) : Type 0 where
+  pub alone : frame.group ≡ false
+  pub taken : takes_alone (w.devices frame.destination) (Some frame) ≡ true
+  pub written : is_some (write_of (w.devices frame.destination) (Some frame)) ≡ true
+
+pub is_written : (w : World) (frame : Ldata) → is_some (write_of (w.devices frame.destination) (Some frame)) ≡ true → IsWritten w frame
+is_written w frame e = record { alone = alone frame.group refl; taken = by_device (w.devices frame.destination) e; written = e }
+  where
+    alone : (g : Bool) → frame.group ≡ g → frame.group ≡ false
+    alone false h = h
+    alone true h = let none = group_written (w.devices frame.destination) frame h in cc
+
+    by_device : (o : Option DeviceState) → is_some (write_of o (Some frame)) ≡ true → takes_alone o (Some frame) ≡ true
+    by_device None h = cc
+    by_device (Some d) h = by_taken (not frame.group && is_taken (took_of d frame)) refl
+      where
+        by_taken : (t : Bool) → (not frame.group && is_taken (took_of d frame)) ≡ t → (not frame.group && is_taken (took_of d frame)) ≡ true
+        by_taken true k = k
+        by_taken false k = let none = not_written d frame k in cc
+
+pub torn_one : (w : World) (frame : Ldata) (fresh : Bool) (octets : List ℕ) → Some frame ≡ next_frame w → AreNamed w → IsWritten w frame → Counts w (BusTorn fresh octets) frame.destination (record { to = true; from = false; taken = true; wrote = true })
+torn_one w frame fresh octets due named is = record {
+  to = λ a. to_at w [] frame due named a ∙ ap (λ t. if a == frame.destination then not t else false) is.alone;
+  from = λ a. none_from (a == frame.destination);
+  taken = λ a. taken_at w [] frame due named a ∙ ap (λ t. if a == frame.destination then (not t && true) && takes_alone (w.devices frame.destination) (Some frame) else false) is.alone ∙ ap (λ t. if a == frame.destination then t else false) is.taken;
+  wrote = λ a. wrote_at w [] frame due named a ∙ ap (λ t. if a == frame.destination then (not t && true) && is_some (write_of (w.devices frame.destination) (Some frame)) else false) is.alone ∙ ap (λ t. if a == frame.destination then t else false) is.written;
+  connect = refl;
+}
+
+pub worn_one : (w : World) (frame : Ldata) (octets : List ℕ) → Some frame ≡ next_frame w → AreNamed w → IsWritten w frame → Counts w (BusWorn octets) frame.destination (record { to = true; from = false; taken = true; wrote = true })
+worn_one w frame octets due named is = record {
+  to = λ a. to_at w [] frame due named a ∙ ap (λ t. if a == frame.destination then not t else false) is.alone;
+  from = λ a. none_from (a == frame.destination);
+  taken = λ a. taken_at w [] frame due named a ∙ ap (λ t. if a == frame.destination then (not t && true) && takes_alone (w.devices frame.destination) (Some frame) else false) is.alone ∙ ap (λ t. if a == frame.destination then t else false) is.taken;
+  wrote = λ a. wrote_at w [] frame due named a ∙ ap (λ t. if a == frame.destination then (not t && true) && is_some (write_of (w.devices frame.destination) (Some frame)) else false) is.alone ∙ ap (λ t. if a == frame.destination then t else false) is.written;
+  connect = refl;
+}
+
+-- ---- what it calls for
+
+module _ (b : Beginning) (es : List Event) (index : ScriptIndex) (n : LineNow) (counts : CountsNow) (o : List Owed) (h : IsHeld (run b es) index n counts o) where
+  -- where an event brings a device a frame that it takes, this is the next one for it
+  pub again_so : (e : Event) (device : ℕ) (taken : Bool) (k : ℕ) (c : DeviceCounts) (f : Option Ldata) → takes_one device (replay (start_of b) es) e ≡ takes_alone ((replay (start_of b) es).devices device) f → taken ≡ takes_one device (replay (start_of b) es) e
+      → (takes_one device (replay (start_of b) es) e ≡ true → goes_to device (replay (start_of b) es) e ≡ true) → k ≡ min (c.to + 1) (2 ^ 64 - 1) → c ≡ counts_at counts device
+      → owed_if (taken && repeats_to (said b) device k) (BringAgain device) ≡ frame_again (said b) (start_of b) es e device
+  again_so e device taken k c f brings takes goes number of_it =
+      ap (λ t. owed_if t (BringAgain device)) (where_taken taken (takes_one device (replay (start_of b) es) e) (repeats_to (said b) device) k (frames_to device (start_of b) (e ∷ es)) takes
+      (λ one. number ∙ ap (λ (x : DeviceCounts). min (x.to + 1) (2 ^ 64 - 1)) of_it ∙ to_known b es index n counts o h device (on_line b es index n counts o h device f (sym brings ∙ one))
+      ∙ sym (ap (λ t. if t then suc (frames_to device (start_of b) es) else frames_to device (start_of b) es) (goes one))))
+
+  -- a frame that isn't lost for its device
+  module _ (frame : Ldata) (due : Some frame ≡ next_frame (replay (start_of b) es)) where
+    -- what a frame that goes over the bus calls for
+    alone_calls : (e : Event) (before first second : List Owed) → carried_at (replay (start_of b) es) e ≡ Some frame → frame.group ≡ false → before ≡ power_returns e frame.destination → first ≡ frame_again (said b) (start_of b) es e frame.destination
+        → second ≡ connection_closes (said b) (start_of b) es e frame.destination → (before ++ first) ++ second ≡ owed_of_carried (said b) (start_of b) es e (carried_at (replay (start_of b) es) e)
+    alone_calls e before first second goes alone power again close =
+        ap (λ x. (x ++ first) ++ second) power ∙ ap (λ x. (power_returns e frame.destination ++ x) ++ second) again ∙ ap (λ x. (power_returns e frame.destination ++ frame_again (said b) (start_of b) es e frame.destination) ++ x) close
+        ∙ sym (ap (λ t. if t then [] else power_returns e frame.destination ++ frame_again (said b) (start_of b) es e frame.destination ++ connection_closes (said b) (start_of b) es e frame.destination) alone)
+        ∙ sym (ap (owed_of_carried (said b) (start_of b) es e) goes)
+
+    group_calls : (e : Event) → carried_at (replay (start_of b) es) e ≡ Some frame → frame.group ≡ true → [] ≡ owed_of_carried (said b) (start_of b) es e (carried_at (replay (start_of b) es) e)
+    group_calls e goes group =
+        sym (ap (λ t. if t then [] else power_returns e frame.destination ++ frame_again (said b) (start_of b) es e frame.destination ++ connection_closes (said b) (start_of b) es e frame.destination) group)
+        ∙ sym (ap (owed_of_carried (said b) (start_of b) es e) goes)
+
+    -- for whichever device it goes, it goes to that one
+    goes_there : (a : ℕ) → takes_alone ((replay (start_of b) es).devices a) (Some frame) ≡ true → a ≡ frame.destination → is_for a (Some frame) ≡ true
+    goes_there a takes same = by_group frame.group refl
+      where
+        met : (x y : ℕ) → x ≡ y → (y == x) ≡ true
+        met x y e = grind arith
+
+        by_group : (g : Bool) → frame.group ≡ g → (not frame.group && (frame.destination == a)) ≡ true
+        by_group false e = ap (λ t. not t && (frame.destination == a)) e ∙ met a frame.destination same
+        by_group true e = let none = group_taken ((replay (start_of b) es).devices a) frame e in cc
+
+    pub bus_calls : (left_out : List ℕ) (taken : Bool) (k m : ℕ) (c : DeviceCounts) → AreNamed (replay (start_of b) es) → taken ≡ (comes left_out frame && takes_alone ((replay (start_of b) es).devices frame.destination) (Some frame))
+        → k ≡ min (c.to + 1) (2 ^ 64 - 1) → m ≡ min (c.taken + 1) (2 ^ 64 - 1) → c ≡ counts_at counts frame.destination
+        → owed_if (taken && repeats_to (said b) frame.destination k) (BringAgain frame.destination) ++ owed_if (taken && closes (said b) frame.destination m) (ConnectionCloses frame.destination) ≡ caused (said b) (start_of b) es (Bus left_out)
+    bus_calls left_out taken k m c named takes number other of_it = by_group frame.group refl
+      where
+        w : World
+        w = replay (start_of b) es
+
+        e : Event
+        e = Bus left_out
+
+        is_self : (a : ℕ) → (a == a) ≡ true
+        is_self a = grind arith
+
+        one : takes_one frame.destination w e ≡ (comes left_out frame && takes_alone (w.devices frame.destination) (Some frame))
+        one = taken_at w left_out frame due named frame.destination ∙ ap (λ t. if t then comes left_out frame && takes_alone (w.devices frame.destination) (Some frame) else false) (is_self frame.destination)
+
+        both : (s t : Bool) → (s && t) ≡ true → t ≡ true
+        both true t h = h
+        both false t h = cc
+
+        goes : takes_one frame.destination w e ≡ true → goes_to frame.destination w e ≡ true
+        goes so = sym (ap (is_for frame.destination) due) ∙ goes_there frame.destination (both (comes left_out frame) _ (sym one ∙ so)) refl
+
+        by_group : (g : Bool) → frame.group ≡ g
+            → owed_if (taken && repeats_to (said b) frame.destination k) (BringAgain frame.destination) ++ owed_if (taken && closes (said b) frame.destination m) (ConnectionCloses frame.destination) ≡ caused (said b) (start_of b) es (Bus left_out)
+        by_group false alone = alone_calls e [] _ _ (sym due) alone refl
+            (again_so e frame.destination taken k c (if is_among left_out frame.destination then None else next_frame w) refl (takes ∙ sym one) goes number of_it)
+            (closes_so b es index n counts o h e frame.destination taken m c (if is_among left_out frame.destination then None else next_frame w) refl (takes ∙ sym one) other of_it)
+        by_group true group =
+            let nobody : taken ≡ false = takes ∙ ap (λ t. (not t && not (is_among left_out frame.destination)) && takes_alone (w.devices frame.destination) (Some frame)) group in
+            ap (λ t. owed_if (t && repeats_to (said b) frame.destination k) (BringAgain frame.destination) ++ owed_if (t && closes (said b) frame.destination m) (ConnectionCloses frame.destination)) nobody ∙ group_calls e (sym due) group
+
+    -- torn and worn writes are taken
+    pub write_calls : (e : Event) (before : List Owed) (k m : ℕ) (c : DeviceCounts) → carried_at (replay (start_of b) es) e ≡ Some frame → before ≡ power_returns e frame.destination → takes_one frame.destination (replay (start_of b) es) e ≡ takes_alone ((replay (start_of b) es).devices frame.destination) (next_frame (replay (start_of b) es))
+        → IsWritten (replay (start_of b) es) frame → k ≡ min (c.to + 1) (2 ^ 64 - 1) → m ≡ min (c.taken + 1) (2 ^ 64 - 1) → c ≡ counts_at counts frame.destination
+        → (before ++ owed_if (true && repeats_to (said b) frame.destination k) (BringAgain frame.destination)) ++ owed_if (true && closes (said b) frame.destination m) (ConnectionCloses frame.destination)
+        ≡ owed_of_carried (said b) (start_of b) es e (carried_at (replay (start_of b) es) e)
+    write_calls e before k m c goes power brings is number other of_it =
+        let w : World = replay (start_of b) es in
+        let one : takes_one frame.destination w e ≡ true = brings ∙ sym (ap (takes_alone (w.devices frame.destination)) due) ∙ is.taken in
+        let there : goes_to frame.destination w e ≡ true = ap (is_for frame.destination) goes ∙ goes_there frame.destination is.taken refl in
+        alone_calls e before _ _ goes is.alone power
+        (again_so e frame.destination true k c (next_frame w) brings (sym one) (λ so. there) number of_it)
+        (closes_so b es index n counts o h e frame.destination true m c (next_frame w) brings (sym one) other of_it)

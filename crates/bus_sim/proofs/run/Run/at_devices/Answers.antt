@@ -1,0 +1,7 @@
+use Rattle.std.proofs.Common.{◌≡◌}
+use Rattle.line_model.specs.Tunnel.{Commissions}
+use Rattle.bus_sim.specs.Went.{world}
+use Rattle.bus_sim.proofs.run.Run.at_devices.Goals as goal
+
+pub let_pass-requires-clause-settled : goal.let_pass-requires-clause-settled
+let_pass-requires-clause-settled c = c.what_is_settled.ensures Commissions (world c.args.self.now) c.requires.up c.requires.down c.requires.bus c.in-None.ensures.none c.requires.gateway

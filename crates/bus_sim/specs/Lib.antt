@@ -1,0 +1,11 @@
+pub mod Kept
+pub mod Begun
+pub mod Counted
+pub mod Owing
+pub mod RunNow
+pub mod Held
+pub mod Went
+pub mod Choices
+pub mod Turns
+pub mod Polls
+pub mod Loaded

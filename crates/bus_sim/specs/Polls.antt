@@ -1,0 +1,20 @@
+-- What a poll of a run does: events that are not the client's, and then the datagram that it gets, within the wait, or the end of the wait.
+use Rattle.std.specs.Prelude.{◌≡◌, ℕ, ◌+◌, ◌≤◌, List, [], length, take, Option, Some, None}
+use Rattle.line_model.specs.declared.outside.link.Polled.{Polled}
+use Rattle.line_model.specs.LinkStory.{GoesOn, Polls}
+use Rattle.line_model.specs.Record.{Got, Quiet}
+use Rattle.line_model.specs.Polled.{PollsAs}
+use Rattle.bus_sim.specs.RunNow.{RunState, seen, start, story, time}
+
+-- the same run, with more events that are not the client's
+pub record GoesOnFrom (old new : RunState) : Type 0 where
+  pub same : new.begun ≡ old.begun
+  pub goes : GoesOn (start (seen old)) (seen old).events (seen new).events
+
+abbrev pub PolledSo : Polled → List ℕ → ℕ → RunState → RunState → Type 0
+PolledSo polled into wait old new = PollsAs polled into wait (time (seen new)) (story (seen old)) (story (seen new))
+
+-- what the client got within the wait, if anything
+abbrev pub EndedSo : Option (List ℕ) → ℕ → RunState → RunState → Type 0
+EndedSo (Some octets) wait old new = (length octets ≤ 300) × Polls (Got octets) wait (time (seen new)) (story (seen old)) (story (seen new))
+EndedSo None wait old new = Polls Quiet wait (time (seen new)) (story (seen old)) (story (seen new))

@@ -1,0 +1,46 @@
+//! What happened on the line, as it is kept.
+
+use line_sim::AtGateway;
+
+/// An event of the line, in 16 octets. The octets that it has are kept apart: here is only how many they are.
+#[derive(Clone, Copy, Debug, Drop, PartialEq, Eq)]
+pub enum Happened {
+    /// The client sent a datagram of so many octets.
+    Send(u64),
+    /// The client took the next endpoint.
+    Renew,
+    /// The gateway took the client's datagram of this age: how many younger ones there were.
+    Up(u64),
+    /// It answered the connect request of this age with a status, which is its one octet.
+    UpRefused(u64),
+    /// The client got the gateway's datagram of this age.
+    Down(u64),
+    /// The client's datagram of this age was lost.
+    LoseUp(u64),
+    /// The gateway's datagram of this age was lost.
+    LoseDown(u64),
+    /// The client's frame went over the bus, lost for one device or for none.
+    Bus(Option<u16>),
+    /// The device that it is for took it torn, with the old load state and length, and so many new octets.
+    BusTornOld(u64),
+    /// It took it torn, with the new load state and length, and so many new octets.
+    BusTornNew(u64),
+    /// It took it over worn memory, which kept so many octets.
+    BusWorn(u64),
+    /// A device took again the frame that it got last.
+    BusAgain(u16),
+    /// A device's oldest unsent frame went over the bus.
+    DevSend(u16, AtGateway),
+    /// Its outstanding answer went over the bus once more.
+    DevRepeat(u16, AtGateway),
+    /// It closed its connection.
+    DevClose(u16),
+    /// The gateway sent its outstanding request again.
+    GwRepeat,
+    /// It closed its channel.
+    GwClose,
+    /// A device had power again.
+    On(u16),
+    /// So many milliseconds passed.
+    Pass(u32),
+}

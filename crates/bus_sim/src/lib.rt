@@ -1,0 +1,31 @@
+//! The simulated line: a whole line in memory, gateway, bus and devices, that loses, repeats, tears, wears, closes and cuts just where a script says
+//! so, and that is driven as a link.
+#![tactic(auto)]
+
+mod again;
+mod beginning;
+mod bus;
+mod called;
+mod carry;
+mod client;
+mod counts;
+mod deliver;
+mod events;
+mod going;
+mod happened;
+mod link;
+mod nexts;
+mod owed;
+mod poll;
+mod room;
+mod run;
+mod sends;
+mod stopped;
+#[cfg(test)]
+mod tests;
+mod turn;
+
+pub use bus::SimBus;
+pub use line_model::{Link, LinkFault, Polled};
+pub use line_sim::Device;
+pub use script_text::{Refused, Script};

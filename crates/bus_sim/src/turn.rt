@@ -1,0 +1,81 @@
+//! One turn of the line.
+
+ghost use Rattle.std.specs.Prelude.{◌≡◌, ℕ, ◌+◌, ◌≤◌, OnOk, OnErr, IfOk};
+ghost use Rattle.knx_model.specs.Connection.{last_time};
+ghost use Rattle.line_model.specs.World.{now};
+ghost use Rattle.bus_sim.specs.Owing.{meant};
+ghost use Rattle.bus_sim.specs.RunNow.{Calls, seen};
+ghost use Rattle.bus_sim.specs.Turns.{Turns, Happens};
+ghost use Rattle.bus_sim.specs.Went.{Stays, world};
+
+use crate::owed::Owed;
+use crate::run::Run;
+use crate::stopped::Stopped;
+use knx_model::Datagram;
+
+/// What a turn of the line was.
+#[derive(Drop)]
+pub enum Turn {
+    /// The client got this datagram.
+    Got(Datagram),
+    /// Something else happened, at once.
+    Went,
+    /// So many milliseconds passed, until something was due.
+    Passed(u32),
+    /// The rest of the wait passed.
+    Quiet,
+}
+
+impl Run {
+    /// One turn of the line, while so much of a wait is left. What the script calls for goes first; then a datagram to the client, one to the
+    /// gateway, a frame that waits for the bus, what the gateway has due, and the device with the least address that has something to send.
+    /// Where there is none of these, time passes, until something is due or the wait is over. At `Err` nothing has happened.
+    pub fn turn(&mut self, left: u32) -> Result<Turn, Stopped>
+        requires { now (world self.old) + left ≤ last_time }
+        ensures turns { IfOk result (λ turn. Turns turn left self.old self.new) }
+        ensures err { OnErr result (Stays self.old self.new) }
+    {
+        match self.called() {
+            Some(owed) => self.meet(owed),
+            None => self.go_on(left),
+        }
+    }
+
+    /// What the script calls for happens.
+    fn meet(&mut self, owed: Owed) -> Result<Turn, Stopped>
+        requires { Calls (seen self.old) (meant owed) }
+        ensures turns { IfOk result (λ turn. (left : ℕ) → Turns turn left self.old self.new) }
+        ensures err { OnErr result (Stays self.old self.new) }
+    {
+        match owed {
+            Owed::ReachAgain(number) => Ok(Turn::Got(self.reach_again(number)?)),
+            other => self.meet_other(other),
+        }
+    }
+
+    /// What the script calls for happens at once, and the client gets nothing.
+    fn meet_other(&mut self, owed: Owed) -> Result<Turn, Stopped>
+        requires { Calls (seen self.old) (meant owed) }
+        ensures turns { IfOk result (λ turn. (left : ℕ) → Turns turn left self.old self.new) }
+        ensures err { OnErr result (Stays self.old self.new) }
+    {
+        self.happen(owed)?;
+        Ok(Turn::Went)
+    }
+
+    /// The same, but for what the client gets, which doesn't happen here.
+    fn happen(&mut self, owed: Owed) -> Result<(), Stopped>
+        requires { Calls (seen self.old) (meant owed) }
+        ensures happens { OnOk result (Happens self.old self.new) }
+        ensures err { OnErr result (Stays self.old self.new) }
+    {
+        match owed {
+            Owed::DeliverAgain(number) => self.deliver_again(number),
+            Owed::ReachAgain(_) => Err(Stopped::AtEnd),
+            Owed::BringAgain(device) => self.frame_again(device),
+            Owed::PowerReturns(device) => self.power_again(device),
+            Owed::ConnectionCloses(device) => self.connection_closes(device),
+            Owed::ChannelCloses => self.channel_closes(),
+        }
+    }
+}
