@@ -185,6 +185,13 @@ impl Device {
         Some(self.last.as_ref()?.copied())
     }
 
+    /// Whether it has power.
+    pub fn has_power(&self) -> bool
+        ensures { result ≡ self.now.power }
+    {
+        self.power
+    }
+
     /// Whether it runs, that is whether all four objects are Loaded.
     pub fn runs(&self) -> bool
         ensures { result ≡ all_loaded self.now.kept }
