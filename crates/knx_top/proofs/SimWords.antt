@@ -1,8 +1,8 @@
 -- What the words behind a script ask for, over the words as texts.
-use Rattle.std.proofs.Common.{ℕ, ◌≡◌, ◌+◌, Bool, true, false, cond, List, [], ◌∷◌, map, fold, Option, refl, sym}
-use Rattle.std.specs.Prelude.{◌&&◌, count_by, nat_le}
+use Rattle.std.proofs.Common.{ℕ, ◌≡◌, ◌+◌, Bool, true, false, cond, List, [], ◌∷◌, map, fold, Option, Some, refl, sym}
+use Rattle.std.specs.Prelude.{count_by}
 use Rattle.std.specs.List.{filter_map, list_all, list_any}
-use Rattle.knx_top.specs.Command.{are_options, is_catalogue, is_job, is_log, is_word, most_jobs}
+use Rattle.knx_top.specs.Command.{SimOptions, are_options, catalogue_said, first_of_some, is_log, job_said, sim_options, sim_word}
 
 pub list_all_in : {X Y : Type 0} (p : Y → Bool) (f : X → Y) (xs : List X) → list_all p (map f xs) ≡ list_all (λ x. p (f x)) xs
 list_all_in p f [] = refl
@@ -23,6 +23,9 @@ pub filter_map_in : {X Y Z : Type 0} (h : Y → Option Z) (f : X → Y) (xs : Li
 filter_map_in h f [] = refl
 filter_map_in h f (x ∷ xs) = rw (filter_map_in h f xs) refl
 
-pub are_options_in : {X : Type 0} (f : X → List ℕ) (xs : List X) → are_options (map f xs)
-    ≡ (list_all (λ x. is_word (f x)) xs && nat_le (count_by (λ x. is_catalogue (f x)) xs) 1 && nat_le (count_by (λ x. is_log (f x)) xs) 1 && nat_le (count_by (λ x. is_job (f x)) xs) most_jobs)
-are_options_in f xs = rw (list_all_in is_word f xs, count_by_in is_catalogue f xs, count_by_in is_log f xs, count_by_in is_job f xs) refl
+-- the options, by the words as texts
+pub options_in : {X : Type 0} (f : X → List ℕ) (words : List X) (catalogue : Option (List ℕ)) (log : Bool) → are_options (map f words) ≡ true
+    → catalogue ≡ first_of_some (filter_map (λ x. catalogue_said (sim_word (f x))) words) → log ≡ list_any (λ x. is_log (f x)) words
+    → Some (let o : SimOptions = record { catalogue = catalogue; log = log; jobs = filter_map (λ x. job_said (sim_word (f x))) words } in o) ≡ sim_options (map f words)
+options_in f words catalogue log are named logs =
+    rw (are, filter_map_in (λ w. catalogue_said (sim_word w)) f words, filter_map_in (λ w. job_said (sim_word w)) f words, list_any_in is_log f words, sym named, sym logs) refl

@@ -74,12 +74,16 @@ abbrev pub at_most_one : {A : Type 0} → Option A → List A
 at_most_one None = []
 at_most_one (Some x) = x ∷ []
 
+abbrev pub if_said : Bool → Option (Unit {0})
+if_said true = Some tt
+if_said false = None
+
 -- options and jobs stand in any order, each option at most once, and at most 1,024 jobs
 pub record SpellsOptions (words : List (List ℕ)) (options : SimOptions) : Type 0 where
   pub named : List SimWord
   pub spelled : AllZip SpellsSimWord words named
   pub catalogue : filter_map catalogue_in named ≡ at_most_one options.catalogue
-  pub log : filter_map log_in named ≡ at_most_one (if options.log then Some tt else None)
+  pub log : filter_map log_in named ≡ at_most_one (if_said options.log)
   pub jobs : filter_map job_in named ≡ options.jobs
   pub few : length options.jobs ≤ most_jobs
 
@@ -122,18 +126,16 @@ sim_word word =
     else (if bytes_eq word (codes "log") then Some LogWord
     else None)))
 
--- which kind of word it is
-abbrev pub catalogue_said : Option SimWord → Option (List ℕ)
-catalogue_said None = None
-catalogue_said (Some word) = catalogue_in word
+-- what it says of one of them; another word says nothing
+abbrev pub said : {A : Type 0} → (SimWord → Option A) → Option SimWord → Option A
+said what None = None
+said what (Some word) = what word
 
-abbrev pub says_log : Option SimWord → Bool
-says_log None = false
-says_log (Some word) = is_some (log_in word)
+abbrev pub catalogue_said : Option SimWord → Option (List ℕ)
+catalogue_said word = said catalogue_in word
 
 abbrev pub job_said : Option SimWord → Option JobWord
-job_said None = None
-job_said (Some word) = job_in word
+job_said word = said job_in word
 
 abbrev pub is_word : List ℕ → Bool
 is_word word = is_some (sim_word word)
@@ -142,18 +144,22 @@ abbrev pub is_catalogue : List ℕ → Bool
 is_catalogue word = is_some (catalogue_said (sim_word word))
 
 abbrev pub is_log : List ℕ → Bool
-is_log word = says_log (sim_word word)
+is_log word = is_some (said log_in (sim_word word))
 
 abbrev pub is_job : List ℕ → Bool
 is_job word = is_some (job_said (sim_word word))
 
--- each is a word of `sim`, each option stands at most once, and there are at most 1,024 jobs
+-- each option stands at most once
+abbrev pub options_once : List (List ℕ) → Bool
+options_once words = nat_le (count_by is_catalogue words) 1 && nat_le (count_by is_log words) 1
+
+-- and there are at most 1,024 jobs
+abbrev pub are_few : List (List ℕ) → Bool
+are_few words = options_once words && nat_le (count_by is_job words) most_jobs
+
+-- each is a word of `sim`, and there are no more than there may be
 abbrev pub are_options : List (List ℕ) → Bool
-are_options words =
-    list_all is_word words
-    && nat_le (count_by is_catalogue words) 1
-    && nat_le (count_by is_log words) 1
-    && nat_le (count_by is_job words) most_jobs
+are_options words = list_all is_word words && are_few words
 
 abbrev pub first_of_some : List (List ℕ) → Option (List ℕ)
 first_of_some [] = None

@@ -3,7 +3,7 @@
 ghost use Rattle.std.specs.Prelude.{◌≡◌, nat_eq, count_by, None, Some, drop, length, map, string_bytes, IfOk, if◌then◌else◌};
 ghost use Rattle.std.specs.List.{filter_map, list_all, list_any, starts_with};
 ghost use Rattle.std.specs.Option.{option_map};
-ghost use Rattle.knx_top.specs.Command.{are_options, catalogue_said, first_of_some, is_catalogue, is_job, is_log, is_word, job_named, job_said, sim_options, sim_word};
+ghost use Rattle.knx_top.specs.Command.{are_few, are_options, catalogue_said, first_of_some, is_catalogue, is_job, is_log, is_word, job_named, job_said, options_once, sim_options, sim_word};
 ghost use Rattle.knx_top.specs.Names.{named, options_of, sim_word_of, the_word};
 
 use knx_model::{JobKind, JobWord, List, NoMemory, ind_of};
@@ -120,33 +120,47 @@ fn are_words(words: &[String]) -> bool
     words.iter().all(|word| is_word(word.as_str()))
 }
 
+#[tactic(auto, using(crate::proofs::SimWords::count_by_in))]
 fn catalogues(words: &[String]) -> usize
-    ensures { result ≡ count_by (λ word. is_catalogue (string_bytes word)) words.now }
+    ensures { result ≡ count_by is_catalogue (map string_bytes words.now) }
 {
     words.iter().filter(|word| is_catalogue(word.as_str())).count()
 }
 
+#[tactic(auto, using(crate::proofs::SimWords::count_by_in))]
 fn logs(words: &[String]) -> usize
-    ensures { result ≡ count_by (λ word. is_log (string_bytes word)) words.now }
+    ensures { result ≡ count_by is_log (map string_bytes words.now) }
 {
     words.iter().filter(|word| is_log(word.as_str())).count()
 }
 
+#[tactic(auto, using(crate::proofs::SimWords::count_by_in))]
 fn job_count(words: &[String]) -> usize
-    ensures { result ≡ count_by (λ word. is_job (string_bytes word)) words.now }
+    ensures { result ≡ count_by is_job (map string_bytes words.now) }
 {
     words.iter().filter(|word| is_job(word.as_str())).count()
 }
 
-/// Whether each is a word of `sim`, each option stands at most once, and the jobs are few enough.
-#[tactic(auto, using(crate::proofs::SimWords::are_options_in))]
+/// Whether each option stands at most once.
+fn options_once(words: &[String]) -> bool
+    ensures { result ≡ options_once (map string_bytes words.now) }
+{
+    catalogues(words) <= 1 && logs(words) <= 1
+}
+
+/// Whether the options and the jobs are few enough.
+fn are_few(words: &[String]) -> bool
+    ensures { result ≡ are_few (map string_bytes words.now) }
+{
+    options_once(words) && job_count(words) <= MOST_JOBS
+}
+
+/// Whether each is a word of `sim`, and there are no more than there may be.
+#[tactic(auto, using(crate::proofs::SimWords::list_all_in))]
 fn are_options(words: &[String]) -> bool
     ensures { result ≡ are_options (map string_bytes words.now) }
 {
-    are_words(words)
-        && catalogues(words) <= 1
-        && logs(words) <= 1
-        && job_count(words) <= MOST_JOBS
+    are_words(words) && are_few(words)
 }
 
 /// The name in the first `catalogue=F`.
