@@ -107,16 +107,16 @@ judged_project_is words texts =
 
 -- the tests of a script and of the devices that it and the jobs name
 pub script_is : (options : SimOptions) (project before : Installation) (ls : List ScriptLine)
-    → with_lines options project before ls ≡ unless_stopped (stranger_named (first_stranger (on_bus project before) ls) ∷ unless_built file.Script (not (list_any is_group_line ls)) ∷ unless_known (list_all (is_known project) options.jobs) ∷ [])
+    → with_lines options project before ls ≡ unless_stopped (stranger_named (first_stranger (on_bus project before) ls) ∷ unless_known (list_all (is_known project) options.jobs) ∷ unless_built file.Script (not (list_any is_group_line ls)) ∷ [])
         (let c : Commission = record { project = project; before = before; script = ls; options = options } in c)
 script_is options project before ls =
     let c : Commission = record { project = project; before = before; script = ls; options = options } in
     let t1 : Option Stop = stranger_named (first_stranger (on_bus project before) ls) in
-    let t2 : Option Stop = unless_built file.Script (not (list_any is_group_line ls)) in
-    let t3 : Option Stop = unless_known (list_all (is_known project) options.jobs) in
+    let t2 : Option Stop = unless_known (list_all (is_known project) options.jobs) in
+    let t3 : Option Stop = unless_built file.Script (not (list_any is_group_line ls)) in
     step (t1 ∷ []) (t2 ∷ t3 ∷ []) (unless_strange project before ls) ls (with_known options project before) c (failed_step t1 ls)
-    (step (t2 ∷ []) (t3 ∷ []) (unless_grouped ls) ls (with_script options project before) c (failed_step t2 ls)
-    (step (t3 ∷ []) [] (known_jobs project options.jobs) options.jobs (with_jobs options project before ls) c (failed_step t3 options.jobs) refl))
+    (step (t2 ∷ []) (t3 ∷ []) (known_jobs project options.jobs) options.jobs (with_jobs options project before ls) c (failed_step t2 options.jobs)
+    (step (t3 ∷ []) [] (unless_grouped ls) ls (with_script options project before) c (failed_step t3 ls) refl))
 
 pub judged_is : (words : SimWords) (texts : SimTexts) → judged words texts ≡ unless_stopped (sim_tests words texts) (commission_told words texts)
 judged_is words texts =
@@ -136,7 +136,7 @@ judged_is words texts =
     let t8 : Option Stop = text_refused file.Old (reading old) in
     let t9 : Option Stop = rule_broken file.Old c.before in
     let t10 : Option Stop = text_refused file.Script (script_reading script) in
-    let rest : List (Option Stop) = stranger_named (first_stranger (on_bus c.project c.before) c.script) ∷ unless_built file.Script (not (list_any is_group_line c.script)) ∷ unless_known (list_all (is_known c.project) c.options.jobs) ∷ [] in
+    let rest : List (Option Stop) = stranger_named (first_stranger (on_bus c.project c.before) c.script) ∷ unless_known (list_all (is_known c.project) c.options.jobs) ∷ unless_built file.Script (not (list_any is_group_line c.script)) ∷ [] in
     step (t1 ∷ []) (t2 ∷ t3 ∷ t4 ∷ t5 ∷ t6 ∷ t7 ∷ t8 ∷ t9 ∷ t10 ∷ rest) (read_of words.options.catalogue texts.catalogue) (octets_of texts.catalogue) (after_catalogue words texts) c (read_step words.options.catalogue texts.catalogue)
     (step (t2 ∷ []) (t3 ∷ t4 ∷ t5 ∷ t6 ∷ t7 ∷ t8 ∷ t9 ∷ t10 ∷ rest) (read_of (Some words.new) texts.new) new (after_new words texts) c (read_step (Some words.new) texts.new)
     (step (t3 ∷ []) (t4 ∷ t5 ∷ t6 ∷ t7 ∷ t8 ∷ t9 ∷ t10 ∷ rest) (read_of (Some words.old) texts.old) old (after_old words texts new) c (read_step (Some words.old) texts.old)

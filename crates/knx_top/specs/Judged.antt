@@ -93,14 +93,14 @@ unless_strange project before ls = unless_failed (stranger_named (first_stranger
 abbrev pub known_jobs : Installation → List JobWord → Result (List JobWord) Stop
 known_jobs project jobs = unless_failed (unless_known (list_all (is_known project) jobs)) jobs
 
-abbrev pub with_jobs : SimOptions → Installation → Installation → List ScriptLine → List JobWord → Result Commission Stop
-with_jobs options project before script jobs = Ok (record { project = project; before = before; script = script; options = options })
-
 abbrev pub with_script : SimOptions → Installation → Installation → List ScriptLine → Result Commission Stop
-with_script options project before script = known_jobs project options.jobs >>= with_jobs options project before script
+with_script options project before script = Ok (record { project = project; before = before; script = script; options = options })
+
+abbrev pub with_jobs : SimOptions → Installation → Installation → List ScriptLine → List JobWord → Result Commission Stop
+with_jobs options project before ls jobs = unless_grouped ls >>= with_script options project before
 
 abbrev pub with_known : SimOptions → Installation → Installation → List ScriptLine → Result Commission Stop
-with_known options project before ls = unless_grouped ls >>= with_script options project before
+with_known options project before ls = known_jobs project options.jobs >>= with_jobs options project before ls
 
 abbrev pub with_lines : SimOptions → Installation → Installation → List ScriptLine → Result Commission Stop
 with_lines options project before ls = unless_strange project before ls >>= with_known options project before

@@ -34,9 +34,9 @@ IsImageWhere project device None = has_device project.statements device.raw ≡ 
 IsImageWhere project device (Some image) = (has_device project.statements device.raw ≡ true) × IsImage project device image
 
 -- a device, with its image where the project has it
-pub record IsCompiled (project : Installation) (d : IndAddr × Option Image) (device : IndAddr) : Type 0 where
-  pub device : d.0 ≡ device
-  pub image : IsImageWhere project device d.1
+pub record IsCompiled (project : Installation) (d : IndAddr × Option Image) (address : IndAddr) : Type 0 where
+  pub device : d.0 ≡ address
+  pub image : IsImageWhere project address d.1
 
 -- these devices, each with its image where the project has it
 abbrev pub AreCompiled : Installation → List (IndAddr × Option Image) → List IndAddr → Type 0

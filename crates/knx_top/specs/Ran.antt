@@ -38,7 +38,7 @@ log_in report = reverse report.log
 -- ---- the premises: the line began as it is stated, and what happened is what may happen and what the script says
 
 pub record IsRunOf (c : Commission) (r : RunNow) : Type 0 where
-  pub start : BusOf c.project c.before (script_of c.script) (start r)
+  pub begins : BusOf c.project c.before (script_of c.script) (start r)
   pub fresh : IsFresh (start r)
   pub legal : IsLegal Commissions (start r) r.events
   pub follows : Follows (script_of c.script) Commissions (start r) r.events
@@ -94,8 +94,8 @@ StopsFor why outcome = ⊥
 -- what is reported of a run: its jobs, and what the devices have come to
 pub record IsReported (c : Commission) (r : RunNow) (report : Report) (jobs : List JobWord) (devices : List DeviceShown) (log : Bool) : Type 0 where
   pub ran : Ran c r report jobs
-  pub devices : AreShown c.project (world r) devices (on_bus c.project c.before)
-  pub log : log ≡ c.options.log
+  pub shown : AreShown c.project (world r) devices (on_bus c.project c.before)
+  pub with_log : log ≡ c.options.log
 
 -- What comes of a commission, where the line was `before` and is `after`: memory is wanting and no run is begun, or a run is begun and the line has it,
 -- from its beginning on, whether it ends or memory is wanting on the way.

@@ -25,11 +25,11 @@ pub data IsCase (project : Installation) (device : IndAddr) (nv : NonVolatile) :
   IsOld : ¬ RunsNew project device nv → all_loaded nv ≡ true → IsCase project device nv Old
   IsStopped : all_loaded nv ≡ false → IsCase project device nv Stopped
 
-pub record IsShown (project : Installation) (w : World) (shown : DeviceShown) (device : IndAddr) : Type 0 where
-  pub device : shown.device ≡ device
+pub record IsShown (project : Installation) (w : World) (shown : DeviceShown) (address : IndAddr) : Type 0 where
+  pub device : shown.device ≡ address
   pub state : DeviceState
-  pub there : w.devices device.raw ≡ Some state
-  pub case : IsCase project device state.kept shown.case
+  pub there : w.devices address.raw ≡ Some state
+  pub case : IsCase project address state.kept shown.case
   pub values : shown.values ≡ values_shown state
 
 -- the devices of the line as they are shown

@@ -141,6 +141,6 @@ sim_tests words texts =
     ∷ rule_broken file.Old c.before
     ∷ text_refused file.Script (script_reading (octets_of texts.script))
     ∷ stranger_named (first_stranger (on_bus c.project c.before) c.script)
-    ∷ unless_built file.Script (not (list_any is_group_line c.script))
     ∷ unless_known (list_all (is_known c.project) c.options.jobs)
+    ∷ unless_built file.Script (not (list_any is_group_line c.script))
     ∷ []

@@ -1,13 +1,12 @@
 //! What was read is judged in order: the catalogue, NEW, OLD, the script and its devices, then the devices of the jobs.
 
-ghost use Rattle.std.specs.Prelude.{◌≡◌, ◌≢◌, not, Err, IfErr, IfOk};
-ghost use Rattle.std.specs.List.{list_any};
+ghost use Rattle.std.specs.Prelude.{◌≡◌, ◌≢◌, Err, IfErr, IfOk};
 ghost use Rattle.knx_model.specs.declared.command.InputFile.TheVariants.{Script as OfScript};
 ghost use Rattle.knx_model.specs.declared.command.Stop.TheVariants.{NoMemory as OutOfMemory};
 ghost use Rattle.knx_model.specs.ScriptText.{script_reading};
-ghost use Rattle.knx_top.specs.Begun.{IsOrder, OrderFor};
-ghost use Rattle.knx_top.specs.Judged.{Gives, judged, known_jobs, unless_grouped, unless_refused};
-ghost use Rattle.knx_top.specs.Names.{sim_words_of};
+ghost use Rattle.knx_top.specs.Begun.{IsPrepared, OrderFor};
+ghost use Rattle.knx_top.specs.Judged.{Gives, judged, known_jobs, unless_grouped, unless_refused, with_lines};
+ghost use Rattle.knx_top.specs.Names.{options_of, sim_words_of};
 ghost use Rattle.knx_top.specs.Stops.{is_group_line};
 
 use crate::command::SimNames;
@@ -81,11 +80,13 @@ fn order_of(
     old: &Checked<'_, '_>,
     line: SimBus,
 ) -> Result<Order, NoMemory>
+    ensures line { IfOk result (λ order. order.line ≡ line) }
+    ensures prepared { IfOk result (λ order. IsPrepared new.now old.now named.now order) }
 {
     let jobs = jobs_of(alloc, named, new)?;
     let plans = all_planned(alloc, new, jobs.as_slice())?;
-    let devices = on_bus(alloc, new, old)?;
-    let devices = compiled(alloc, new, devices.as_slice())?;
+    let bus = on_bus(alloc, new, old)?;
+    let devices = compiled(alloc, new, bus.as_slice())?;
     Ok(Order {
         line,
         jobs,
@@ -102,11 +103,13 @@ fn judge_script(
     old: &Checked<'_, '_>,
     script: &Script,
 ) -> Result<Order, Stop>
+    ensures ok { IfOk result (λ order. OrderFor (with_lines (options_of options.entry) new.now old.now script.now.lines) order) }
+    ensures err { IfErr result (λ why. why ≢ OutOfMemory tt → with_lines (options_of options.entry) new.now old.now script.now.lines ≡ Err why) }
 {
     let line = line_begun(alloc, new, old, script)?;
-    is_built(script.lines.as_slice())?;
     let named = named_jobs(alloc, options)?;
     has_devices(new, named.as_slice())?;
+    is_built(script.lines.as_slice())?;
     let order = order_of(alloc, named.as_slice(), new, old, line)?;
     Ok(order)
 }

@@ -1,12 +1,13 @@
 //! The simulated line at its beginning: its tunnel and its devices.
 
-ghost use Rattle.std.specs.Prelude.{◌≡◌, ◌+◌, ◌*◌, ◌<◌, ◌≢◌, [], IfErr, IfOk};
+ghost use Rattle.std.specs.Prelude.{◌≡◌, ◌≢◌, Err, IfErr, IfOk, List as Seq, OnOk, [], slice_get, ◌∷◌, ◌++◌, ◌||◌, if◌then◌else◌};
+ghost use Rattle.knx_model.specs.Rules.{has_device};
+ghost use Rattle.knx_model.specs.declared.address.IndAddr.{IndAddr as Address};
 ghost use Rattle.knx_model.specs.declared.command.Stop.TheVariants.{NoMemory as OutOfMemory};
-ghost use Rattle.knx_model.specs.Rules.{devices_of};
-ghost use Rattle.line_model.specs.StartOf.{default_tunnel, on_line_of_first, tunnel_address};
+ghost use Rattle.line_model.specs.StartOf.{on_line_of_first, tunnel_address};
 ghost use Rattle.knx_top.specs.Begun.{BeginsLine};
 ghost use Rattle.knx_top.specs.Judged.{unless_strange};
-ghost use Rattle.knx_top.specs.OnLine.{AreCompiled, IsCompiled, IsImageWhere, on_bus};
+ghost use Rattle.knx_top.specs.OnLine.{AreCompiled, IsImageWhere, on_bus};
 
 use crate::project::refusal;
 use bus_sim::SimBus;
@@ -22,8 +23,9 @@ const TUNNEL: u16 = 255;
 /// The tunnel's address where a project has no device: 1.1.255.
 const DEFAULT_TUNNEL: IndAddr = IndAddr { raw: 0x11FF };
 
-/// The tunnel's address on the line of this device.
+/// The tunnel's address on the line of this device, the first of some.
 fn tunnel_beside(first: Option<IndAddr>) -> IndAddr
+    ensures { (devices : Seq Address) → slice_get devices 0 ≡ first → result ≡ on_line_of_first devices }
 {
     match first {
         Some(first) => IndAddr {
@@ -40,6 +42,20 @@ fn tunnel_address(new: &Checked<'_, '_>) -> IndAddr
     tunnel_beside(new.first())
 }
 
+/// Whether one of two projects has a device.
+fn is_in_either(new: &Checked<'_, '_>, old: &Checked<'_, '_>, device: IndAddr) -> bool
+    ensures { result ≡ (has_device new.now.statements device.raw || has_device old.now.statements device.raw) }
+{
+    new.has(device) || old.has(device)
+}
+
+/// Appends a device where it is on the bus.
+fn push_where(devices: &mut List<IndAddr>, device: IndAddr, on: bool) -> Result<(), NoMemory>
+    ensures { OnOk result (devices.new ≡ devices.old ++ (if on then device ∷ [] else [])) }
+{
+    if on { devices.push(device) } else { Ok(()) }
+}
+
 /// The devices on the bus, ascending: those of both projects on the tunnel's line.
 pub fn on_bus(
     alloc: Global,
@@ -54,9 +70,7 @@ pub fn on_bus(
         let device = IndAddr {
             raw: line * 256 + part,
         };
-        if new.has(device) || old.has(device) {
-            devices.push(device)?;
-        }
+        push_where(&mut devices, device, is_in_either(new, old, device))?;
     }
     Ok(devices)
 }
@@ -102,8 +116,8 @@ pub fn line_begun(
     ensures begun { IfOk result (λ line. BeginsLine new.now old.now script.now.lines line.run) }
     ensures refused { IfErr result (λ why. why ≢ OutOfMemory tt → unless_strange new.now old.now script.now.lines ≡ Err why) }
 {
-    let devices = on_bus(alloc, new, old)?;
-    let devices = compiled(alloc, old, devices.as_slice())?;
+    let bus = on_bus(alloc, new, old)?;
+    let devices = compiled(alloc, old, bus.as_slice())?;
     let mut line = SimBus::empty(alloc);
     match line.load(alloc, tunnel_address(new), devices.as_slice(), script) {
         Ok(()) => Ok(line),

@@ -1,11 +1,13 @@
 //! What the devices of the simulated line have come to when a run has ended.
 
-ghost use Rattle.std.specs.Prelude.{◌≡◌, IfOk, IsSome, IsTrue, ◌↔◌, All, Option, Some};
+ghost use Rattle.std.specs.Prelude.{◌≡◌, IfOk, IsSome, IsTrue, OnOk, ◌↔◌, All, Option, Some, [], ◌∷◌, ◌++◌, ◌==◌};
+ghost use Rattle.std.specs.List.{filter_map, list_all};
 ghost use Rattle.bus_sim.specs.RunNow.{world};
 ghost use Rattle.knx_model.specs.declared.address.IndAddr.{IndAddr as Address};
 ghost use Rattle.knx_model.specs.declared.config.Image.{Image as Compiled};
 ghost use Rattle.knx_model.specs.Meaning.{Installation};
-ghost use Rattle.line_model.specs.Printed.{is_zero, values_shown};
+ghost use Rattle.knx_model.specs.DeviceState.{value_of};
+ghost use Rattle.line_model.specs.Printed.{is_zero, shown, values_shown};
 ghost use Rattle.knx_top.specs.OnLine.{IsImageWhere};
 ghost use Rattle.knx_top.specs.Shown.{IsCase, IsShownIn, IsShownOf, AreShownOf};
 
@@ -52,13 +54,35 @@ fn case_of(alloc: Global, device: &Device, meant: &Option<Image>) -> Result<Case
     }
 }
 
+fn are_zero(octets: &[u8]) -> bool
+    ensures { result ≡ list_all (λ octet. octet == 0) octets.now }
+{
+    octets.iter().all(|octet| *octet == 0)
+}
+
 fn is_zero(value: &Value) -> bool
     ensures { result ≡ is_zero value.now }
 {
     match value {
         Value::Short(value) => *value == 0,
-        Value::Long(octets) => octets.as_slice().iter().all(|octet| *octet == 0),
+        Value::Long(octets) => are_zero(octets.as_slice()),
     }
+}
+
+/// Appends the value of an object, where the device has it and it isn't all zero.
+fn push_value(
+    values: &mut List<(u8, Value)>,
+    device: &Device,
+    object: u8,
+) -> Result<(), NoMemory>
+    ensures { OnOk result (values.new ≡ values.old ++ filter_map (λ o. shown o (value_of device.now o)) (object ∷ [])) }
+{
+    if let Some(value) = device.value(object) {
+        if !is_zero(&value) {
+            return values.push((object, value));
+        }
+    }
+    Ok(())
 }
 
 /// The values of a device's objects that aren't all zero, ascending; none without power.
@@ -69,18 +93,14 @@ fn values_of(alloc: Global, device: &Device) -> Result<List<(u8, Value)>, NoMemo
     if !device.has_power() {
         return Ok(values);
     }
-    for object in 1..=u8::MAX {
-        if let Some(value) = device.value(object) {
-            if !is_zero(&value) {
-                values.push((object, value))?;
-            }
-        }
+    for before in 0..u8::MAX {
+        push_value(&mut values, device, before + 1)?;
     }
     Ok(values)
 }
 
 /// What is shown of a device.
-fn shown(
+fn shown_of(
     alloc: Global,
     address: IndAddr,
     device: &Device,
@@ -106,7 +126,7 @@ fn shown_at(
     ensures { IfOk result (λ shown. IsShownIn (world line.now.run) shown (address, meant.now)) }
 {
     match line.state(address) {
-        Some(device) => shown(alloc, address, device, meant),
+        Some(device) => shown_of(alloc, address, device, meant),
         None => unreachable!(),
     }
 }
