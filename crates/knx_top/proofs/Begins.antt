@@ -46,30 +46,30 @@ same_number x y h = grind (arith, nat_tests)
 turned : (x y : ℕ) → (y == x) ≡ (x == y)
 turned x y = grind (arith, nat_tests)
 
-at_head : (b : Bool) (old : Installation) (script : Script) (d : IndAddr × Option Image) (ds : List (IndAddr × Option Image)) (a : IndAddr) (as : List IndAddr) (address : ℕ) → (address == d.0.raw) ≡ b → IsCompiled old d a
-    → DeviceBegins old script address (list_any (λ (x : IndAddr). x.raw == address) as) (device_begun script ds address)
-    → DeviceBegins old script address (list_any (λ (x : IndAddr). x.raw == address) (a ∷ as)) (device_begun script (d ∷ ds) address)
-at_head true old script d ds a as address e is rest =
+at_head : (b : Bool) (old : Installation) (script : Script) (d : IndAddr × Option Image) (ds : List (IndAddr × Option Image)) (a : IndAddr) (listed : List IndAddr) (address : ℕ) → (address == d.0.raw) ≡ b → IsCompiled old d a
+    → DeviceBegins old script address (list_any (λ (x : IndAddr). x.raw == address) listed) (device_begun script ds address)
+    → DeviceBegins old script address (list_any (λ (x : IndAddr). x.raw == address) (a ∷ listed)) (device_begun script (d ∷ ds) address)
+at_head true old script d ds a listed address e is rest =
     let same : (a.raw == address) ≡ true = turned address a.raw ∙ ap (λ (x : IndAddr). address == x.raw) (sym is.device) ∙ e in
     rw (e, same) (subst (λ (n : ℕ). BeginsAs old script n (begins script d.0 d.1)) (sym (same_number address d.0.raw e)) (begins_listed old script d a is))
-at_head false old script d ds a as address e is rest =
+at_head false old script d ds a listed address e is rest =
     let other : (a.raw == address) ≡ false = turned address a.raw ∙ ap (λ (x : IndAddr). address == x.raw) (sym is.device) ∙ e in
     rw (e, other) rest
 
-begun_at : (old : Installation) (script : Script) (devices : List (IndAddr × Option Image)) (as : List IndAddr) (address : ℕ) → AreCompiled old devices as
-    → DeviceBegins old script address (list_any (λ (x : IndAddr). x.raw == address) as) (device_begun script devices address)
+begun_at : (old : Installation) (script : Script) (devices : List (IndAddr × Option Image)) (listed : List IndAddr) (address : ℕ) → AreCompiled old devices listed
+    → DeviceBegins old script address (list_any (λ (x : IndAddr). x.raw == address) listed) (device_begun script devices address)
 begun_at old script [] [] address h = refl
-begun_at old script [] (a ∷ as) address h = absurd h
+begun_at old script [] (a ∷ listed) address h = absurd h
 begun_at old script (d ∷ ds) [] address h = absurd h
-begun_at old script (d ∷ ds) (a ∷ as) address h = at_head (address == d.0.raw) old script d ds a as address refl h.0 (begun_at old script ds as address h.1)
+begun_at old script (d ∷ ds) (a ∷ listed) address h = at_head (address == d.0.raw) old script d ds a listed address refl h.0 (begun_at old script ds listed address h.1)
 
 -- ---- all of them
 
-addresses_are : (old : Installation) (devices : List (IndAddr × Option Image)) (as : List IndAddr) → AreCompiled old devices as → addresses devices ≡ as
+addresses_are : (old : Installation) (devices : List (IndAddr × Option Image)) (listed : List IndAddr) → AreCompiled old devices listed → addresses devices ≡ listed
 addresses_are old [] [] h = refl
-addresses_are old [] (a ∷ as) h = absurd h
+addresses_are old [] (a ∷ listed) h = absurd h
 addresses_are old (d ∷ ds) [] h = absurd h
-addresses_are old (d ∷ ds) (a ∷ as) h = rw (h.0.device, addresses_are old ds as h.1) refl
+addresses_are old (d ∷ ds) (a ∷ listed) h = rw (h.0.device, addresses_are old ds listed h.1) refl
 
 abbrev begun : IndAddr → List (IndAddr × Option Image) → List ScriptLine → RunNow
 begun tunnel devices lines = record { begun = record { tunnel = tunnel; devices = devices; script = lines }; events = [] }
@@ -84,7 +84,7 @@ begins_line new old lines tunnel devices r e at are known = subst (BeginsLine ne
   };
   says = refl;
   nothing = refl;
-  known = subst (λ (as : List IndAddr). first_stranger as lines ≡ None) (addresses_are old devices (on_bus new old) are) known;
+  known = subst (λ (listed : List IndAddr). first_stranger listed lines ≡ None) (addresses_are old devices (on_bus new old) are) known;
 })
 
 -- ---- it can be loaded
@@ -93,24 +93,24 @@ image_fits : (old : Installation) (device : IndAddr) (image : Option Image) → 
 image_fits old device None h = record { line = refl; image = tt }
 image_fits old device (Some image) h = record { line = refl; image = h.1.fits }
 
-on_its_line : (new old : Installation) (as : List IndAddr) → AllByRecursion (λ (a : IndAddr). line_of a.raw ≡ line_of (tunnel_address new).raw) (filter (λ (d : IndAddr). is_on_bus new old d.raw) as)
+on_its_line : (new old : Installation) (listed : List IndAddr) → AllByRecursion (λ (a : IndAddr). line_of a.raw ≡ line_of (tunnel_address new).raw) (filter (λ (d : IndAddr). is_on_bus new old d.raw) listed)
 on_its_line new old [] = tt
-on_its_line new old (a ∷ as) = where_on (is_on_bus new old a.raw) new old a as refl (on_its_line new old as)
+on_its_line new old (a ∷ listed) = where_on (is_on_bus new old a.raw) new old a listed refl (on_its_line new old listed)
   where
     first_true : (a b : Bool) → (a && b) ≡ true → a ≡ true
     first_true true b h = refl
     first_true false b h = h
-    where_on : (b : Bool) (new old : Installation) (a : IndAddr) (as : List IndAddr) → is_on_bus new old a.raw ≡ b → AllByRecursion (λ (a : IndAddr). line_of a.raw ≡ line_of (tunnel_address new).raw) (filter (λ (d : IndAddr). is_on_bus new old d.raw) as)
-        → AllByRecursion (λ (a : IndAddr). line_of a.raw ≡ line_of (tunnel_address new).raw) (filter (λ (d : IndAddr). is_on_bus new old d.raw) (a ∷ as))
-    where_on true new old a as e rest = rw e (same_number (line_of a.raw) (line_of (tunnel_address new).raw) (first_true (line_of a.raw == line_of (tunnel_address new).raw) _ e), rest)
-    where_on false new old a as e rest = rw e rest
+    where_on : (b : Bool) (new old : Installation) (a : IndAddr) (listed : List IndAddr) → is_on_bus new old a.raw ≡ b → AllByRecursion (λ (a : IndAddr). line_of a.raw ≡ line_of (tunnel_address new).raw) (filter (λ (d : IndAddr). is_on_bus new old d.raw) listed)
+        → AllByRecursion (λ (a : IndAddr). line_of a.raw ≡ line_of (tunnel_address new).raw) (filter (λ (d : IndAddr). is_on_bus new old d.raw) (a ∷ listed))
+    where_on true new old a listed e rest = rw e (same_number (line_of a.raw) (line_of (tunnel_address new).raw) (first_true (line_of a.raw == line_of (tunnel_address new).raw) _ e), rest)
+    where_on false new old a listed e rest = rw e rest
 
-loadable : (new old : Installation) (devices : List (IndAddr × Option Image)) (as : List IndAddr) → AreCompiled old devices as → AllByRecursion (λ (a : IndAddr). line_of a.raw ≡ line_of (tunnel_address new).raw) as → CanLoad (tunnel_address new) devices
+loadable : (new old : Installation) (devices : List (IndAddr × Option Image)) (listed : List IndAddr) → AreCompiled old devices listed → AllByRecursion (λ (a : IndAddr). line_of a.raw ≡ line_of (tunnel_address new).raw) listed → CanLoad (tunnel_address new) devices
 loadable new old [] [] h lines = tt
-loadable new old [] (a ∷ as) h lines = absurd h
+loadable new old [] (a ∷ listed) h lines = absurd h
 loadable new old (d ∷ ds) [] h lines = absurd h
-loadable new old (d ∷ ds) (a ∷ as) h lines =
-    (record { line = ap (λ (x : IndAddr). line_of x.raw) h.0.device ∙ lines.0; image = (image_fits old a d.1 h.0.image).image }, loadable new old ds as h.1 lines.1)
+loadable new old (d ∷ ds) (a ∷ listed) h lines =
+    (record { line = ap (λ (x : IndAddr). line_of x.raw) h.0.device ∙ lines.0; image = (image_fits old a d.1 h.0.image).image }, loadable new old ds listed h.1 lines.1)
 
 pub can_load : (new old : Installation) (devices : List (IndAddr × Option Image)) → AreCompiled old devices (on_bus new old) → CanLoad (tunnel_address new) devices
 unfolding on_bus
@@ -126,6 +126,6 @@ pub strange : (new old : Installation) (lines : List ScriptLine) (devices : List
     → IsRefusedFor (first_stranger (addresses devices) lines) refused → (refused.why ≡ why.NoMemory tt → told ≡ stop.NoMemory tt) → (refused.why ≢ why.NoMemory tt → told ≡ stop.Refused file.Script refused)
     → told ≢ stop.NoMemory tt → unless_strange new old lines ≡ Err told
 strange new old lines devices refused told are (inl e) memory other not_wanting =
-    let here : first_stranger (on_bus new old) lines ≡ Some refused = subst (λ (as : List IndAddr). first_stranger as lines ≡ Some refused) (addresses_are old devices (on_bus new old) are) e in
+    let here : first_stranger (on_bus new old) lines ≡ Some refused = subst (λ (listed : List IndAddr). first_stranger listed lines ≡ Some refused) (addresses_are old devices (on_bus new old) are) e in
     rw (here, other (λ wants. not_wanting (memory wants))) refl
 strange new old lines devices refused told are (inr want) memory other not_wanting = absurd (not_wanting (memory (want_of refused refused.why want)))

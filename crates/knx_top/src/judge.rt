@@ -1,11 +1,12 @@
 //! What was read is judged in order: the catalogue, NEW, OLD, the script and its devices, then the devices of the jobs.
 
 ghost use Rattle.std.specs.Prelude.{◌≡◌, ◌≢◌, Err, IfErr, IfOk};
+ghost use Rattle.std.specs.List.{list_any};
 ghost use Rattle.knx_model.specs.declared.command.InputFile.TheVariants.{Script as OfScript};
 ghost use Rattle.knx_model.specs.declared.command.Stop.TheVariants.{NoMemory as OutOfMemory};
 ghost use Rattle.knx_model.specs.ScriptText.{script_reading};
-ghost use Rattle.knx_top.specs.Begun.{IsPrepared, OrderFor};
-ghost use Rattle.knx_top.specs.Judged.{Gives, judged, known_jobs, unless_grouped, unless_refused, with_lines};
+ghost use Rattle.knx_top.specs.Begun.{BeginsLine, IsPrepared, OrderFor};
+ghost use Rattle.knx_top.specs.Judged.{Gives, judged, unless_refused, with_lines};
 ghost use Rattle.knx_top.specs.Names.{options_of, sim_words_of};
 ghost use Rattle.knx_top.specs.Stops.{is_group_line};
 
@@ -51,25 +52,11 @@ fn script_in(alloc: Global, octets: &[u8]) -> Result<Script, Stop>
     }
 }
 
-/// A script of a form that is built: no line has a group telegram.
-fn is_built(lines: &[ScriptLine]) -> Result<(), Stop>
-    ensures { Gives (λ _. lines.now) result (unless_grouped lines.now) }
+/// Whether a line of a script has a group telegram.
+fn has_groups(lines: &[ScriptLine]) -> bool
+    ensures { result ≡ list_any is_group_line lines.now }
 {
-    if lines.iter().any(is_group_line) {
-        return Err(not_built(InputFile::Script));
-    }
-    Ok(())
-}
-
-/// Each job's device is one of the project's.
-fn has_devices(project: &Checked<'_, '_>, jobs: &[JobWord]) -> Result<(), Stop>
-    ensures { Gives (λ _. jobs.now) result (known_jobs project.now jobs.now) }
-{
-    if are_known(project, jobs) {
-        Ok(())
-    } else {
-        Err(unknown_job())
-    }
+    lines.iter().any(|line| is_group_line(line))
 }
 
 /// What a run is begun with, over a line that has begun.
@@ -95,7 +82,31 @@ fn order_of(
     })
 }
 
-/// The last tests, of a script and of the devices that it and the jobs name.
+/// The last tests, of the devices that the jobs name and of the form of a script, over a line that has begun.
+fn judge_jobs(
+    alloc: Global,
+    options: SimOptions<'_>,
+    new: &Checked<'_, '_>,
+    old: &Checked<'_, '_>,
+    lines: &[ScriptLine],
+    line: SimBus,
+) -> Result<Order, Stop>
+    requires { BeginsLine new.now old.now lines.now line.run }
+    ensures ok { IfOk result (λ order. OrderFor (with_lines (options_of options.entry) new.now old.now lines.now) order) }
+    ensures err { IfErr result (λ why. why ≢ OutOfMemory tt → with_lines (options_of options.entry) new.now old.now lines.now ≡ Err why) }
+{
+    let named = named_jobs(alloc, options)?;
+    if !are_known(new, named.as_slice()) {
+        return Err(unknown_job());
+    }
+    if has_groups(lines) {
+        return Err(not_built(InputFile::Script));
+    }
+    let order = order_of(alloc, named.as_slice(), new, old, line)?;
+    Ok(order)
+}
+
+/// The tests of a script and of the devices that it and the jobs name.
 fn judge_script(
     alloc: Global,
     options: SimOptions<'_>,
@@ -106,12 +117,10 @@ fn judge_script(
     ensures ok { IfOk result (λ order. OrderFor (with_lines (options_of options.entry) new.now old.now script.now.lines) order) }
     ensures err { IfErr result (λ why. why ≢ OutOfMemory tt → with_lines (options_of options.entry) new.now old.now script.now.lines ≡ Err why) }
 {
-    let line = line_begun(alloc, new, old, script)?;
-    let named = named_jobs(alloc, options)?;
-    has_devices(new, named.as_slice())?;
-    is_built(script.lines.as_slice())?;
-    let order = order_of(alloc, named.as_slice(), new, old, line)?;
-    Ok(order)
+    match line_begun(alloc, new, old, script) {
+        Ok(line) => judge_jobs(alloc, options, new, old, script.lines.as_slice(), line),
+        Err(why) => Err(why),
+    }
 }
 
 /// What a run is begun with, or why the call stops before one.
