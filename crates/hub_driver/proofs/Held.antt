@@ -20,9 +20,11 @@ by_one at what log h job worker since e = by_taking (takes_it job what) refl
   where
     after : JobState
     after = state_after job (entry_of at 1 what) (state_of job log)
+
     by_ending : (b : Bool) → takes_it job what ≡ false → ends_it job what ≡ b → worker ≡ 1
     by_ending true t f = absurd (let z : Over ≡ Held worker since = sym (let y : after ≡ Over = rw t (rw f refl) in y) ∙ e in cc)
     by_ending false t f = h job worker since (sym (let y : after ≡ state_of job log = rw t (rw f refl) in y) ∙ e)
+
     by_taking : (b : Bool) → takes_it job what ≡ b → worker ≡ 1
     by_taking true t = let z : Held 1 at ≡ Held worker since = sym (let y : after ≡ Held 1 at = rw t refl in y) ∙ e in cc
     by_taking false t = by_ending (ends_it job what) t refl
