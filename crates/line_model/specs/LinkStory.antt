@@ -2,7 +2,7 @@
 -- sending, a new endpoint and a poll may do to that. A sending adds itself; a poll adds legal events that are not the client's, and then the
 -- datagram that is got, or a quiet wait. A call that fails may have added its own sending, or legal events without a datagram. Where a link
 -- tells something, time moves in polls alone.
-use Rattle.std.specs.Prelude.{◌≡◌, ℕ, ◌+◌, ◌≤◌, ◌⊎◌, Bool, true, false, List, [], ◌∷◌, ◌++◌, length, Option, Some, None}
+use Rattle.std.specs.Prelude.{◌≡◌, ℕ, ◌+◌, ◌<◌, ◌≤◌, ◌⊎◌, nat_lt, Bool, true, false, List, [], ◌∷◌, ◌++◌, length, Option, Some, None}
 use Rattle.line_model.specs.Tunnel.{Commissions}
 use Rattle.line_model.specs.World.{World, Event, Send, From, Renew, Down, Pass, now, replay}
 use Rattle.line_model.specs.Legal.{MayHappen}
@@ -70,12 +70,14 @@ RenewsOrNot before after = Renews before after ⊎ (after ≡ before)
 
 -- ---- a poll, by events
 
--- what may happen on its own, time that passes among it: all but what the client does and gets
+-- what may happen on its own: all but what the client does and gets. Where time passes it is some time, so that of the waits in one poll each
+-- ends later than the one before
 abbrev pub IsForeign : Event → Bool
 IsForeign (Send octets) = false
 IsForeign (From endpoint octets) = false
 IsForeign Renew = false
 IsForeign (Down age) = false
+IsForeign (Pass ms) = nat_lt 0 ms
 IsForeign _ = true
 
 pub data GoesOn (start : World) (before : List Event) : List Event → Type 0 where
@@ -99,24 +101,40 @@ pub record PollsFull (what : Item) (wait : ℕ) (start : World) (before after : 
 
 -- ---- a poll, by the record
 
--- waits into which something fell, each with its time, which doesn't fall
-abbrev pub AreWaits : ℕ → List Entry → ℕ → Type 0
-AreWaits since [] until = since ≤ until
-AreWaits since (x ∷ waits) until = (x.what ≡ Quiet) × (x.now ≤ until) × AreWaits since waits x.now
+abbrev pub last_wait : ℕ → List Entry → ℕ
+last_wait since [] = since
+last_wait since (x ∷ waits) = x.now
 
-pub record PollsRecord (what : Item) (clock : ℕ) (before after : List Entry) : Type 0 where
+-- waits into which something fell, each of which ends later than the one before
+abbrev pub AreWaits : ℕ → List Entry → Type 0
+AreWaits since [] = Unit {0}
+AreWaits since (x ∷ waits) = (x.what ≡ Quiet) × (last_wait since waits < x.now) × AreWaits since waits
+
+-- a datagram comes within the wait, and a quiet poll ends with it
+abbrev pub EndsAt : Item → ℕ → ℕ → ℕ → Type 0
+EndsAt Quiet wait since until = until ≡ since + wait
+EndsAt what wait since until = until ≤ since + wait
+
+pub record PollsRecord (what : Item) (wait clock : ℕ) (before after : List Entry) : Type 0 where
   pub waits : List Entry
-  pub are : AreWaits (newest_time before) waits clock
+  pub are : AreWaits (newest_time before) waits
+  pub later : last_wait (newest_time before) waits ≤ clock
+  pub ends : EndsAt what wait (newest_time before) clock
   pub all : after ≡ entry what clock ∷ (waits ++ before)
 
 -- ---- a poll
 
 abbrev pub Polls : Item → ℕ → ℕ → Story → Story → Type 0
 Polls what wait clock before Untold = before ≡ Untold
-Polls what wait clock before (Recorded r) = (older : List Entry) × (before ≡ Recorded older) × PollsRecord what clock older r
+Polls what wait clock before (Recorded r) = (older : List Entry) × (before ≡ Recorded older) × PollsRecord what wait clock older r
 Polls what wait clock before (Full start events) = (older : List Event) × (before ≡ Full start older) × PollsFull what wait start older events
 
-abbrev pub PollsNothing : Story → Story → Type 0
-PollsNothing before Untold = before ≡ Untold
-PollsNothing before (Recorded r) = before ≡ Recorded r
-PollsNothing before (Full start events) = (older : List Event) × (before ≡ Full start older) × GoesOn start older events
+-- one that fails: legal events may have come within the wait, and no datagram
+pub record FailsFull (wait : ℕ) (start : World) (before after : List Event) : Type 0 where
+  pub foreign : GoesOn start before after
+  pub in_time : now (replay start after) ≤ now (replay start before) + wait
+
+abbrev pub PollsNothing : ℕ → Story → Story → Type 0
+PollsNothing wait before Untold = before ≡ Untold
+PollsNothing wait before (Recorded r) = before ≡ Recorded r
+PollsNothing wait before (Full start events) = (older : List Event) × (before ≡ Full start older) × FailsFull wait start older events

@@ -15,7 +15,7 @@ PollsAs answer.Quiet into wait clock before after = Polls Quiet wait clock befor
 
 abbrev pub PollsSo : Result Polled LinkFault → List ℕ → ℕ → ℕ → Story → Story → Type 0
 PollsSo (Ok polled) into wait clock before after = PollsAs polled into wait clock before after
-PollsSo (Err fault) into wait clock before after = PollsNothing before after
+PollsSo (Err fault) into wait clock before after = PollsNothing wait before after
 
 abbrev pub FailsWhere : {X : Type 0} → Result X LinkFault → ℕ → ℕ → Type 0
 FailsWhere (Ok x) old new = Unit {0}
