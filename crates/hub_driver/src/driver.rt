@@ -1,8 +1,8 @@
 //! A hub with its only caller.
 
-ghost use Rattle.std.specs.Prelude.{◌≡◌, None, List, [], ◌∷◌, ◌++◌, IfOk, OnOk, false, reverse};
+ghost use Rattle.std.specs.Prelude.{◌≡◌, ◌+◌, None, List, [], ◌∷◌, ◌++◌, IfOk, OnOk, true, length, reverse};
 ghost use Rattle.hub_core.specs.Seen.{SameRun};
-ghost use Rattle.hub_driver.specs.Drives.{HeldByOne, AreOver, AllDone};
+ghost use Rattle.hub_driver.specs.Drives.{ends, LeavesOpen, AllDone};
 ghost use Rattle.hub_work.specs.Books.{AreJobsOf};
 ghost use Rattle.line_model.specs.Log.{Job, IsLog, OneDownloaderPerDevice, AllOver, TurnUnfinished};
 ghost use Rattle.tunnel_link.specs.Goes.{GoesOn, Keeps};
@@ -16,7 +16,7 @@ use std::sync::Wait;
 /// The only worker.
 const WORKER: u8 = 1;
 
-/// A hub with its only caller, and what was heard.
+/// A hub with its only caller.
 ///
 /// ```text
 ///   turn about:   turn(1), and a pump where it answers Wait or Later
@@ -26,24 +26,28 @@ const WORKER: u8 = 1;
 #[derive(Drop)]
 pub struct Driver<L: Link> {
     hub: Hub<L>,
+    /// How many jobs have no end yet.
+    unfinished: usize,
     heard: List<Indication>,
 }
 
 impl<L: Link> Driver<L> {
-    /// Nothing was heard yet.
-    pub fn new(alloc: Global, hub: Hub<L>) -> Driver<L>
+    /// A hub of so many jobs, of which nothing is done.
+    pub fn new(alloc: Global, hub: Hub<L>, jobs: usize) -> Driver<L>
         ensures hub { result.hub ≡ hub }
+        ensures unfinished { result.unfinished ≡ jobs }
         ensures heard { result.heard ≡ [] }
     {
         Driver {
             hub,
+            unfinished: jobs,
             heard: List::new(alloc),
         }
     }
 
     /// Goes through all jobs and group telegrams, and then through the closing. It gives the link back, and what is told.
     pub fn drives<R: Wait, G: Gate>(self, rt: &R, gate: &G) -> (L, Report)
-        requires held { HeldByOne self.hub.log }
+        requires open { LeavesOpen self.hub self.unfinished }
         ensures grows { GoesOn (L.story self.hub.link) (L.story result.0) }
         ensures legal { Keeps (L.story result.0) }
         ensures form { (all : List Job) → AreJobsOf self.hub.devices all → IsLog all self.hub.turns (L.place result.0) (reverse result.1.log) }
@@ -53,8 +57,25 @@ impl<L: Link> Driver<L> {
     {
         let mut driver = self;
         let ended = driver.runs(rt, gate);
-        driver.hub.keeps();
-        let Driver { hub, heard } = driver;
+        driver.close(ended.err())
+    }
+
+    /// Hands the link back, and what is told of a run that ended with this fault, or without one.
+    fn close(self, fault: Option<HubFault>) -> (L, Report)
+        requires done { fault ≡ None → AllDone self.hub }
+        ensures link { result.0 ≡ self.hub.link }
+        ensures legal { Keeps (L.story result.0) }
+        ensures form { (all : List Job) → AreJobsOf self.hub.devices all → IsLog all self.hub.turns (L.place result.0) (reverse result.1.log) }
+        ensures alone { (all : List Job) → AreJobsOf self.hub.devices all → OneDownloaderPerDevice all (reverse result.1.log) }
+        ensures over { result.1.fault ≡ None → (all : List Job) → AreJobsOf self.hub.devices all → AllOver all (reverse result.1.log) }
+        ensures told { result.1.fault ≡ None → ¬ TurnUnfinished self.hub.turns (reverse result.1.log) }
+    {
+        let Driver {
+            hub,
+            unfinished: _,
+            heard,
+        } = self;
+        hub.keeps();
         let HubEnd {
             link,
             log,
@@ -67,17 +88,16 @@ impl<L: Link> Driver<L> {
             heard,
             missed,
             dropped,
-            fault: ended.err(),
+            fault,
         };
         (link, report)
     }
 
     /// Goes through all jobs and group telegrams, and then through the closing.
     fn runs<R: Wait, G: Gate>(&mut self, rt: &R, gate: &G) -> Result<(), HubFault>
-        requires held { HeldByOne self.old.hub.log }
+        requires open { LeavesOpen self.old.hub self.old.unfinished }
         ensures grows { GoesOn (L.story self.old.hub.link) (L.story self.new.hub.link) }
         ensures run { SameRun self.old.hub self.new.hub }
-        ensures held { HeldByOne self.new.hub.log }
         ensures done { OnOk result (AllDone self.new.hub) }
     {
         self.commissions(rt, gate)?;
@@ -86,56 +106,71 @@ impl<L: Link> Driver<L> {
 
     /// Goes through all jobs and group telegrams.
     fn commissions<R: Wait, G: Gate>(&mut self, rt: &R, gate: &G) -> Result<(), HubFault>
-        requires held { HeldByOne self.old.hub.log }
+        requires open { LeavesOpen self.old.hub self.old.unfinished }
         ensures grows { GoesOn (L.story self.old.hub.link) (L.story self.new.hub.link) }
         ensures run { SameRun self.old.hub self.new.hub }
-        ensures held { HeldByOne self.new.hub.log }
         ensures done { OnOk result (AllDone self.new.hub) }
     {
         for _ in rt.forever() {
-            let works = self.works(gate)?;
-            let tells = self.tells()?;
-            if !works && !tells {
+            if self.has_done_all() {
                 break;
             }
+            self.works(gate)?;
+            self.tells()?;
         }
         Ok(())
     }
 
-    /// One turn of the worker, and a poll where it waits. Tells whether a job is left.
-    fn works<G: Gate>(&mut self, gate: &G) -> Result<bool, HubFault>
-        requires held { HeldByOne self.old.hub.log }
+    /// Whether each job has its end, and each group telegram is told.
+    fn has_done_all(&self) -> bool
+        requires open { LeavesOpen self.now.hub self.now.unfinished }
+        ensures { result ≡ true → AllDone self.now.hub }
+    {
+        self.hub.keeps();
+        self.unfinished == 0 && self.hub.next_group().is_none()
+    }
+
+    /// One turn of the worker, and a poll where it waits.
+    fn works<G: Gate>(&mut self, gate: &G) -> Result<(), HubFault>
+        requires open { LeavesOpen self.old.hub self.old.unfinished }
         ensures grows { GoesOn (L.story self.old.hub.link) (L.story self.new.hub.link) }
         ensures run { SameRun self.old.hub self.new.hub }
-        ensures held { HeldByOne self.new.hub.log }
-        ensures over { IfOk result (λ left. left ≡ false → AreOver self.new.hub) }
+        ensures open { LeavesOpen self.new.hub self.new.unfinished }
     {
         match self.hub.turn(WORKER)? {
             Turned::Took(job) => gate.pass(job),
             Turned::Wait | Turned::Later => self.pumps()?,
-            Turned::Moved | Turned::Done(_) | Turned::Failed(_) | Turned::Refused(_) => {}
-            Turned::NoMore => return Ok(false),
+            Turned::Done(_) | Turned::Failed(_) | Turned::Refused(_) => self.ended(),
+            Turned::Moved | Turned::NoMore => {}
         }
-        Ok(true)
+        Ok(())
     }
 
-    /// One step of the next group telegram, and a poll where it waits. Tells whether one was left.
-    fn tells(&mut self) -> Result<bool, HubFault>
-        requires held { HeldByOne self.old.hub.log }
+    /// One job more has its end.
+    fn ended(&mut self)
+        requires one_more { self.old.unfinished + ends self.old.hub.log ≡ length self.old.hub.devices + 1 }
+        ensures hub { self.new.hub ≡ self.old.hub }
+        ensures open { LeavesOpen self.new.hub self.new.unfinished }
+    {
+        self.hub.keeps();
+        self.unfinished -= 1;
+    }
+
+    /// One step of the next group telegram, and a poll where it waits.
+    #[tactic(auto, using(crate::proofs::Telling::no_end_told))]
+    fn tells(&mut self) -> Result<(), HubFault>
+        requires open { LeavesOpen self.old.hub self.old.unfinished }
         ensures grows { GoesOn (L.story self.old.hub.link) (L.story self.new.hub.link) }
         ensures run { SameRun self.old.hub self.new.hub }
-        ensures held { HeldByOne self.new.hub.log }
-        ensures told { IfOk result (λ left. left ≡ false → ¬ TurnUnfinished self.new.hub.turns self.new.hub.log) }
-        ensures log { IfOk result (λ left. left ≡ false → self.new.hub.log ≡ self.old.hub.log) }
+        ensures open { LeavesOpen self.new.hub self.new.unfinished }
     {
         let Some(k) = self.hub.next_group() else {
-            return Ok(false);
+            return Ok(());
         };
         match self.hub.send_group(k)? {
-            GroupDid::Wait => self.pumps()?,
-            GroupDid::Put | GroupDid::Sent | GroupDid::Lost => {}
+            GroupDid::Wait => self.pumps(),
+            GroupDid::Put | GroupDid::Sent | GroupDid::Lost => Ok(()),
         }
-        Ok(true)
     }
 
     /// One poll.
@@ -143,6 +178,7 @@ impl<L: Link> Driver<L> {
         ensures grows { GoesOn (L.story self.old.hub.link) (L.story self.new.hub.link) }
         ensures run { SameRun self.old.hub self.new.hub }
         ensures log { self.new.hub.log ≡ self.old.hub.log }
+        ensures unfinished { self.new.unfinished ≡ self.old.unfinished }
     {
         match self.hub.pump()? {
             Pumped::Heard(indication) => self.hears(indication),
@@ -157,18 +193,33 @@ impl<L: Link> Driver<L> {
         ensures log { self.new.hub.log ≡ self.old.hub.log }
     {
         for _ in rt.forever() {
-            match self.hub.finish()? {
-                Finished::Heard(indication) => self.hears(indication)?,
-                Finished::Going => {}
-                Finished::Over => break,
+            if self.finishes()? {
+                break;
             }
         }
         Ok(())
     }
 
+    /// One step of the closing. Tells whether it is over.
+    fn finishes(&mut self) -> Result<bool, HubFault>
+        ensures grows { GoesOn (L.story self.old.hub.link) (L.story self.new.hub.link) }
+        ensures run { SameRun self.old.hub self.new.hub }
+        ensures log { self.new.hub.log ≡ self.old.hub.log }
+    {
+        match self.hub.finish()? {
+            Finished::Heard(indication) => {
+                self.hears(indication)?;
+                Ok(false)
+            }
+            Finished::Going => Ok(false),
+            Finished::Over => Ok(true),
+        }
+    }
+
     /// A group telegram was heard.
     fn hears(&mut self, indication: Indication) -> Result<(), HubFault>
         ensures hub { self.new.hub ≡ self.old.hub }
+        ensures unfinished { self.new.unfinished ≡ self.old.unfinished }
         ensures heard { OnOk result (self.new.heard ≡ self.old.heard ++ indication ∷ []) }
     {
         self.heard.push(indication)?;

@@ -1,6 +1,6 @@
 //! The run of a line by one caller.
 
-ghost use Rattle.std.specs.Prelude.{◌≡◌, ◌<◌, [], None, length, map, reverse};
+ghost use Rattle.std.specs.Prelude.{◌≡◌, ◌<◌, [], None, Some, length, map, reverse};
 ghost use Rattle.std.specs.List.{AllByRecursion};
 ghost use Rattle.hub_work.specs.declared.job.HubJob.{HubJob as JobOfHub};
 ghost use Rattle.hub_work.specs.Books.{AreJobsOf};
@@ -22,6 +22,7 @@ fn nothing_done(alloc: Global, no_memory: NoMemory) -> Report
     ensures heard { result.heard ≡ [] }
     ensures missed { result.missed ≡ 0 }
     ensures dropped { result.dropped ≡ 0 }
+    ensures fault { result.fault ≡ Some (HubFault.NoMemory no_memory) }
 {
     Report {
         log: List::new(alloc),
@@ -52,10 +53,10 @@ pub fn commission<R: Wait, L: Link, G: Gate>(
     ensures alone { (all : List Job) → AreJobsOf (map (λ (j : JobOfHub). j.device) jobs) all → OneDownloaderPerDevice all (reverse result.1.log) }
     ensures over { result.1.fault ≡ None → (all : List Job) → AreJobsOf (map (λ (j : JobOfHub). j.device) jobs) all → AllOver all (reverse result.1.log) }
     ensures told { result.1.fault ≡ None → ¬ TurnUnfinished groups (reverse result.1.log) }
-    ensures missed { result.1.missed ≡ 0 }
 {
+    let unfinished = jobs.len();
     match Hub::begin(alloc, jobs, groups, 1, link) {
-        Ok(hub) => Driver::new(alloc, hub).drives(rt, gate),
+        Ok(hub) => Driver::new(alloc, hub, unfinished).drives(rt, gate),
         Err((link, no_memory)) => (link, nothing_done(alloc, no_memory)),
     }
 }
