@@ -1,13 +1,19 @@
 //! A hub with its only caller.
 
-ghost use Rattle.std.specs.Prelude.{◌≡◌, ◌+◌, None, List, [], ◌∷◌, ◌++◌, IfOk, OnOk, true, length, reverse};
-ghost use Rattle.hub_core.specs.Seen.{SameRun};
-ghost use Rattle.hub_driver.specs.Drives.{ends, LeavesOpen, AllDone};
-ghost use Rattle.hub_work.specs.Books.{AreJobsOf};
-ghost use Rattle.line_model.specs.Log.{Job, IsLog, OneDownloaderPerDevice, AllOver, TurnUnfinished};
-ghost use Rattle.tunnel_link.specs.Goes.{GoesOn, Keeps};
+mod end;
 
-use hub_core::{Finished, GroupDid, Hub, HubEnd, HubFault, Indication, Pumped, Turned};
+ghost use Rattle.std.specs.Prelude.{◌≡◌, ◌+◌, None, List, [], ◌∷◌, ◌++◌, IfErr, OnOk, true, length, reverse};
+ghost use Rattle.std.specs.List.{AllByRecursion};
+ghost use Rattle.hub_core.specs.Promises.{IsRightOver, FaultRightIn, DropsIn};
+ghost use Rattle.hub_core.specs.Seen.{SameRun, AreJobs};
+ghost use Rattle.hub_driver.specs.Drives.{ends, LeavesOpen, AllDone, IsNoMemory, HasEndedSo};
+ghost use Rattle.hub_work.specs.Books.{AreJobsOf};
+ghost use Rattle.line_model.specs.Headline.{Keeps, IsGoodJob};
+ghost use Rattle.line_model.specs.LinkStory.{record_in};
+ghost use Rattle.line_model.specs.Log.{Job, IsLog, OneDownloaderPerDevice, AllOver, TurnUnfinished};
+ghost use Rattle.tunnel_link.specs.Goes.{GoesOn};
+
+use hub_core::{Finished, GroupDid, Hub, HubFault, Indication, Pumped, Turned};
 use knx_model::List;
 use line_model::{Gate, Link, Report};
 use std::alloc::Global;
@@ -49,7 +55,10 @@ impl<L: Link> Driver<L> {
     pub fn drives<R: Wait, G: Gate>(self, rt: &R, gate: &G) -> (L, Report)
         requires open { LeavesOpen self.hub self.unfinished }
         ensures grows { GoesOn (L.story self.hub.link) (L.story result.0) }
-        ensures legal { Keeps (L.story result.0) }
+        ensures headline { (all : List Job) → AreJobs self.hub.jobs all → Keeps all self.hub.turns (L.story result.0) (reverse result.1.log) }
+        ensures right { (all : List Job) → AreJobs self.hub.jobs all → AllByRecursion IsGoodJob all → IsRightOver all (L.story result.0) (reverse result.1.log) }
+        ensures fault { (all : List Job) → AreJobs self.hub.jobs all → FaultRightIn all (reverse result.1.log) result.1.fault (record_in (L.story result.0)) }
+        ensures dropped { DropsIn result.1.dropped (record_in (L.story result.0)) }
         ensures form { (all : List Job) → AreJobsOf self.hub.devices all → IsLog all self.hub.turns (L.place result.0) (reverse result.1.log) }
         ensures alone { (all : List Job) → AreJobsOf self.hub.devices all → OneDownloaderPerDevice all (reverse result.1.log) }
         ensures over { result.1.fault ≡ None → (all : List Job) → AreJobsOf self.hub.devices all → AllOver all (reverse result.1.log) }
@@ -60,45 +69,13 @@ impl<L: Link> Driver<L> {
         driver.close(ended.err())
     }
 
-    /// Hands the link back, and what is told of a run that ended with this fault, or without one.
-    fn close(self, fault: Option<HubFault>) -> (L, Report)
-        requires done { fault ≡ None → AllDone self.hub }
-        ensures link { result.0 ≡ self.hub.link }
-        ensures legal { Keeps (L.story result.0) }
-        ensures form { (all : List Job) → AreJobsOf self.hub.devices all → IsLog all self.hub.turns (L.place result.0) (reverse result.1.log) }
-        ensures alone { (all : List Job) → AreJobsOf self.hub.devices all → OneDownloaderPerDevice all (reverse result.1.log) }
-        ensures over { result.1.fault ≡ None → (all : List Job) → AreJobsOf self.hub.devices all → AllOver all (reverse result.1.log) }
-        ensures told { result.1.fault ≡ None → ¬ TurnUnfinished self.hub.turns (reverse result.1.log) }
-    {
-        let Driver {
-            hub,
-            unfinished: _,
-            heard,
-        } = self;
-        hub.keeps();
-        let HubEnd {
-            link,
-            log,
-            missed,
-            dropped,
-            fault: _,
-        } = hub.close();
-        let report = Report {
-            log,
-            heard,
-            missed,
-            dropped,
-            fault,
-        };
-        (link, report)
-    }
-
     /// Goes through all jobs and group telegrams, and then through the closing.
     fn runs<R: Wait, G: Gate>(&mut self, rt: &R, gate: &G) -> Result<(), HubFault>
         requires open { LeavesOpen self.old.hub self.old.unfinished }
         ensures grows { GoesOn (L.story self.old.hub.link) (L.story self.new.hub.link) }
         ensures run { SameRun self.old.hub self.new.hub }
         ensures done { OnOk result (AllDone self.new.hub) }
+        ensures cause { IfErr result (HasEndedSo self.new.hub.fault) }
     {
         self.commissions(rt, gate)?;
         self.closes(rt)
@@ -110,6 +87,7 @@ impl<L: Link> Driver<L> {
         ensures grows { GoesOn (L.story self.old.hub.link) (L.story self.new.hub.link) }
         ensures run { SameRun self.old.hub self.new.hub }
         ensures done { OnOk result (AllDone self.new.hub) }
+        ensures cause { IfErr result (HasEndedSo self.new.hub.fault) }
     {
         for _ in rt.forever() {
             if self.has_done_all() {
@@ -136,6 +114,7 @@ impl<L: Link> Driver<L> {
         ensures grows { GoesOn (L.story self.old.hub.link) (L.story self.new.hub.link) }
         ensures run { SameRun self.old.hub self.new.hub }
         ensures open { LeavesOpen self.new.hub self.new.unfinished }
+        ensures cause { IfErr result (HasEndedSo self.new.hub.fault) }
     {
         match self.hub.turn(WORKER)? {
             Turned::Took(job) => gate.pass(job),
@@ -163,6 +142,7 @@ impl<L: Link> Driver<L> {
         ensures grows { GoesOn (L.story self.old.hub.link) (L.story self.new.hub.link) }
         ensures run { SameRun self.old.hub self.new.hub }
         ensures open { LeavesOpen self.new.hub self.new.unfinished }
+        ensures cause { IfErr result (HasEndedSo self.new.hub.fault) }
     {
         let Some(k) = self.hub.next_group() else {
             return Ok(());
@@ -179,6 +159,7 @@ impl<L: Link> Driver<L> {
         ensures run { SameRun self.old.hub self.new.hub }
         ensures log { self.new.hub.log ≡ self.old.hub.log }
         ensures unfinished { self.new.unfinished ≡ self.old.unfinished }
+        ensures cause { IfErr result (HasEndedSo self.new.hub.fault) }
     {
         match self.hub.pump()? {
             Pumped::Heard(indication) => self.hears(indication),
@@ -191,6 +172,7 @@ impl<L: Link> Driver<L> {
         ensures grows { GoesOn (L.story self.old.hub.link) (L.story self.new.hub.link) }
         ensures run { SameRun self.old.hub self.new.hub }
         ensures log { self.new.hub.log ≡ self.old.hub.log }
+        ensures cause { IfErr result (HasEndedSo self.new.hub.fault) }
     {
         for _ in rt.forever() {
             if self.finishes()? {
@@ -205,6 +187,7 @@ impl<L: Link> Driver<L> {
         ensures grows { GoesOn (L.story self.old.hub.link) (L.story self.new.hub.link) }
         ensures run { SameRun self.old.hub self.new.hub }
         ensures log { self.new.hub.log ≡ self.old.hub.log }
+        ensures cause { IfErr result (HasEndedSo self.new.hub.fault) }
     {
         match self.hub.finish()? {
             Finished::Heard(indication) => {
@@ -221,6 +204,7 @@ impl<L: Link> Driver<L> {
         ensures hub { self.new.hub ≡ self.old.hub }
         ensures unfinished { self.new.unfinished ≡ self.old.unfinished }
         ensures heard { OnOk result (self.new.heard ≡ self.old.heard ++ indication ∷ []) }
+        ensures cause { IfErr result IsNoMemory }
     {
         self.heard.push(indication)?;
         Ok(())
