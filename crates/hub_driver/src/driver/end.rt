@@ -1,6 +1,6 @@
 //! What is told of a run.
 
-ghost use Rattle.std.specs.Prelude.{◌≡◌, None, Option, Some, IfSome, reverse};
+ghost use Rattle.std.specs.Prelude.{◌≡◌, None, IfSome, List, reverse};
 ghost use Rattle.std.specs.List.{AllByRecursion};
 ghost use Rattle.hub_core.specs.Promises.{IsRightOver, FaultRightIn, DropsIn};
 ghost use Rattle.hub_core.specs.Seen.{AreJobs};
