@@ -1,5 +1,7 @@
 -- What a hub with one caller has come to: how many jobs have ended by its log, and that all is done.
-use Rattle.std.specs.Prelude.{◌≡◌, ℕ, suc, ◌+◌, Bool, true, false, List, [], ◌∷◌, length, if◌then◌else◌}
+use Rattle.std.specs.Prelude.{◌≡◌, ◌⊎◌, ℕ, suc, ◌+◌, Bool, true, false, List, [], ◌∷◌, length, if◌then◌else◌, Option, Some, None}
+use Rattle.line_model.specs.declared.fault.HubFault.{HubFault}
+use Rattle.line_model.specs.declared.fault.HubFault.TheVariants.{NoMemory}
 use Rattle.line_model.specs.declared.log.LogEntry.{LogEntry}
 use Rattle.line_model.specs.declared.log.LogWhat.{LogWhat}
 use Rattle.line_model.specs.declared.log.LogWhat.TheVariants.{Done, Failed, Refused}
@@ -26,3 +28,19 @@ LeavesOpen hub left = left + ends hub.log ≡ length hub.devices
 pub record AllDone {L : Type 0} (hub : Seen L) : Type 0 where
   pub jobs : (all : List Job) → AreJobsOf hub.devices all → AllOver all hub.log
   pub telegrams : ¬ TurnUnfinished hub.turns hub.log
+
+-- ---- why it ended without its end
+
+abbrev pub IsNoMemory : HubFault → Type 0
+IsNoMemory (NoMemory want) = Unit {0}
+IsNoMemory _ = ⊥
+
+-- the hub has ended so, or there was no memory for what was heard
+abbrev pub HasEndedSo : Option HubFault → HubFault → Type 0
+HasEndedSo ended fault = (ended ≡ Some fault) ⊎ IsNoMemory fault
+
+-- what is told is the fault of the hub; where it has none, there was no memory
+abbrev pub TellsFault : Option HubFault → Option HubFault → Type 0
+TellsFault (Some fault) told = told ≡ Some fault
+TellsFault None None = Unit {0}
+TellsFault None (Some fault) = IsNoMemory fault

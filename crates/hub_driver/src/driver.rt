@@ -1,8 +1,8 @@
 //! A hub with its only caller.
 
-ghost use Rattle.std.specs.Prelude.{◌≡◌, ◌+◌, None, List, [], ◌∷◌, ◌++◌, IfOk, OnOk, true, length, reverse};
+ghost use Rattle.std.specs.Prelude.{◌≡◌, ◌+◌, None, List, [], ◌∷◌, ◌++◌, IfErr, IfSome, OnOk, true, length, reverse};
 ghost use Rattle.hub_core.specs.Seen.{SameRun};
-ghost use Rattle.hub_driver.specs.Drives.{ends, LeavesOpen, AllDone};
+ghost use Rattle.hub_driver.specs.Drives.{ends, LeavesOpen, AllDone, IsNoMemory, HasEndedSo, TellsFault};
 ghost use Rattle.hub_work.specs.Books.{AreJobsOf};
 ghost use Rattle.line_model.specs.Log.{Job, IsLog, OneDownloaderPerDevice, AllOver, TurnUnfinished};
 ghost use Rattle.tunnel_link.specs.Goes.{GoesOn, Keeps};
@@ -29,6 +29,18 @@ pub struct Driver<L: Link> {
     /// How many jobs have no end yet.
     unfinished: usize,
     heard: List<Indication>,
+}
+
+/// The fault that is told of a hub that has ended so, or goes on, and was broken off for this, or wasn't.
+fn told_fault(ended: Option<HubFault>, broken_off: Option<HubFault>) -> Option<HubFault>
+    requires cause { IfSome broken_off (HasEndedSo ended) }
+    ensures fault { TellsFault ended result }
+    ensures none { result ≡ None → broken_off ≡ None }
+{
+    match ended {
+        Some(fault) => Some(fault),
+        None => broken_off,
+    }
 }
 
 impl<L: Link> Driver<L> {
@@ -60,15 +72,17 @@ impl<L: Link> Driver<L> {
         driver.close(ended.err())
     }
 
-    /// Hands the link back, and what is told of a run that ended with this fault, or without one.
-    fn close(self, fault: Option<HubFault>) -> (L, Report)
-        requires done { fault ≡ None → AllDone self.hub }
+    /// Hands the link back, and what is told of a run that was broken off for this, or wasn't.
+    fn close(self, broken_off: Option<HubFault>) -> (L, Report)
+        requires done { broken_off ≡ None → AllDone self.hub }
+        requires cause { IfSome broken_off (HasEndedSo self.hub.fault) }
         ensures link { result.0 ≡ self.hub.link }
         ensures legal { Keeps (L.story result.0) }
         ensures form { (all : List Job) → AreJobsOf self.hub.devices all → IsLog all self.hub.turns (L.place result.0) (reverse result.1.log) }
         ensures alone { (all : List Job) → AreJobsOf self.hub.devices all → OneDownloaderPerDevice all (reverse result.1.log) }
         ensures over { result.1.fault ≡ None → (all : List Job) → AreJobsOf self.hub.devices all → AllOver all (reverse result.1.log) }
         ensures told { result.1.fault ≡ None → ¬ TurnUnfinished self.hub.turns (reverse result.1.log) }
+        ensures fault { TellsFault self.hub.fault result.1.fault }
     {
         let Driver {
             hub,
@@ -81,14 +95,14 @@ impl<L: Link> Driver<L> {
             log,
             missed,
             dropped,
-            fault: _,
+            fault,
         } = hub.close();
         let report = Report {
             log,
             heard,
             missed,
             dropped,
-            fault,
+            fault: told_fault(fault, broken_off),
         };
         (link, report)
     }
@@ -99,6 +113,7 @@ impl<L: Link> Driver<L> {
         ensures grows { GoesOn (L.story self.old.hub.link) (L.story self.new.hub.link) }
         ensures run { SameRun self.old.hub self.new.hub }
         ensures done { OnOk result (AllDone self.new.hub) }
+        ensures cause { IfErr result (HasEndedSo self.new.hub.fault) }
     {
         self.commissions(rt, gate)?;
         self.closes(rt)
@@ -110,6 +125,7 @@ impl<L: Link> Driver<L> {
         ensures grows { GoesOn (L.story self.old.hub.link) (L.story self.new.hub.link) }
         ensures run { SameRun self.old.hub self.new.hub }
         ensures done { OnOk result (AllDone self.new.hub) }
+        ensures cause { IfErr result (HasEndedSo self.new.hub.fault) }
     {
         for _ in rt.forever() {
             if self.has_done_all() {
@@ -136,6 +152,7 @@ impl<L: Link> Driver<L> {
         ensures grows { GoesOn (L.story self.old.hub.link) (L.story self.new.hub.link) }
         ensures run { SameRun self.old.hub self.new.hub }
         ensures open { LeavesOpen self.new.hub self.new.unfinished }
+        ensures cause { IfErr result (HasEndedSo self.new.hub.fault) }
     {
         match self.hub.turn(WORKER)? {
             Turned::Took(job) => gate.pass(job),
@@ -163,6 +180,7 @@ impl<L: Link> Driver<L> {
         ensures grows { GoesOn (L.story self.old.hub.link) (L.story self.new.hub.link) }
         ensures run { SameRun self.old.hub self.new.hub }
         ensures open { LeavesOpen self.new.hub self.new.unfinished }
+        ensures cause { IfErr result (HasEndedSo self.new.hub.fault) }
     {
         let Some(k) = self.hub.next_group() else {
             return Ok(());
@@ -179,6 +197,7 @@ impl<L: Link> Driver<L> {
         ensures run { SameRun self.old.hub self.new.hub }
         ensures log { self.new.hub.log ≡ self.old.hub.log }
         ensures unfinished { self.new.unfinished ≡ self.old.unfinished }
+        ensures cause { IfErr result (HasEndedSo self.new.hub.fault) }
     {
         match self.hub.pump()? {
             Pumped::Heard(indication) => self.hears(indication),
@@ -191,6 +210,7 @@ impl<L: Link> Driver<L> {
         ensures grows { GoesOn (L.story self.old.hub.link) (L.story self.new.hub.link) }
         ensures run { SameRun self.old.hub self.new.hub }
         ensures log { self.new.hub.log ≡ self.old.hub.log }
+        ensures cause { IfErr result (HasEndedSo self.new.hub.fault) }
     {
         for _ in rt.forever() {
             if self.finishes()? {
@@ -205,6 +225,7 @@ impl<L: Link> Driver<L> {
         ensures grows { GoesOn (L.story self.old.hub.link) (L.story self.new.hub.link) }
         ensures run { SameRun self.old.hub self.new.hub }
         ensures log { self.new.hub.log ≡ self.old.hub.log }
+        ensures cause { IfErr result (HasEndedSo self.new.hub.fault) }
     {
         match self.hub.finish()? {
             Finished::Heard(indication) => {
@@ -221,6 +242,7 @@ impl<L: Link> Driver<L> {
         ensures hub { self.new.hub ≡ self.old.hub }
         ensures unfinished { self.new.unfinished ≡ self.old.unfinished }
         ensures heard { OnOk result (self.new.heard ≡ self.old.heard ++ indication ∷ []) }
+        ensures cause { IfErr result IsNoMemory }
     {
         self.heard.push(indication)?;
         Ok(())
