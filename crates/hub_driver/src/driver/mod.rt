@@ -19,7 +19,6 @@ use line_model::{Gate, Link, Report};
 use std::alloc::Global;
 use std::sync::Wait;
 
-/// The only worker.
 const WORKER: u8 = 1;
 
 /// A hub with its only caller.
