@@ -1,11 +1,49 @@
--- What the type of a hub keeps of its books: the log is right when its link tells of so many events, and until a fault came the reservation and the
--- workers are those of the log.
-use Rattle.std.specs.Prelude.{◌≡◌, ℕ, Option, None}
+-- What the type of a hub keeps. Its books are right when its link tells of so many events. Where its link tells something, what the log tells is true,
+-- and each request was asked rightly and promptly, always; and until it has ended its work fits the record, and there is no cause to end.
+use Rattle.std.specs.Prelude.{◌≡◌, ℕ, ◌<◌, Bool, is_some, List, Option, Some, None}
 use Rattle.line_model.specs.declared.fault.HubFault.{HubFault}
+use Rattle.line_model.specs.declared.fault.HubFault.TheVariants.{NoMemory, LinkFailed, GatewayRefused, Flooded, WrongLine}
+use Rattle.line_model.specs.declared.log.LogEntry.{LogEntry}
+use Rattle.line_model.specs.Record.{Entry, Placed, entries}
+use Rattle.line_model.specs.LinkStory.{Story}
+use Rattle.line_model.specs.Moments.{moments, time}
+use Rattle.line_model.specs.Log.{Job, JobUnfinished}
+use Rattle.line_model.specs.Faults.{datagrams_taken, flood, first_tunnel, first_elsewhere, IsFlooded, IsWrongLine}
+use Rattle.tunnel_link.specs.Adds.{place_of}
+use Rattle.tunnel_link.specs.Rights.{WhereTold}
 use Rattle.hub_work.specs.declared.work.Work.{Work}
-use Rattle.hub_work.specs.Works.{WritesRightly, Lives, TellsRightly}
+use Rattle.hub_work.specs.Books.{AreJobsOf}
+use Rattle.hub_work.specs.Downloaders.{AreJobsWith}
+use Rattle.hub_work.specs.Fits.{Fits}
+use Rattle.hub_work.specs.Works.{KeepsBooks, tasks}
+use Rattle.hub_core.specs.Discipline.{TellsAndAsks}
 
-pub record Keeps (place : ℕ) (w : Work) (fault : Option HubFault) : Type 0 where
-  pub written : WritesRightly place w
-  pub telling : TellsRightly w
-  pub live : fault ≡ None → Lives w
+-- ---- where something is told
+
+-- until it has ended
+pub record Runs (jobs : List Job) (w : Work) (met : Bool) (count : ℕ) (places : List Placed) : Type 0 where
+  pub fits : Fits jobs w (time (moments places)) count (moments places)
+  pub met_one : met ≡ is_some (first_tunnel (entries places))
+  pub no_flood : JobUnfinished jobs w.journal.entries → datagrams_taken (entries places) < flood
+  pub right_line : first_elsewhere jobs (first_tunnel (entries places)) ≡ None
+
+-- the cause of an end that isn't the tunnel's
+abbrev pub HasOwnCause : List Job → List LogEntry → List Entry → HubFault → Type 0
+HasOwnCause jobs log r (NoMemory want) = Unit {0}
+HasOwnCause jobs log r LinkFailed = Unit {0}
+HasOwnCause jobs log r (GatewayRefused three) = Unit {0}
+HasOwnCause jobs log r Flooded = IsFlooded jobs log r
+HasOwnCause jobs log r (WrongLine device tunnel) = IsWrongLine jobs r device tunnel
+
+pub record KeepsTold (jobs : List Job) (w : Work) (met : Bool) (fault : Option HubFault) (count : ℕ) (places : List Placed) : Type 0 where
+  pub books : KeepsBooks count w
+  pub tells : TellsAndAsks jobs w.telegrams.turns w.journal.entries count places
+  pub runs : fault ≡ None → Runs jobs w met count places
+  pub cause : (why : HubFault) → fault ≡ Some why → HasOwnCause jobs w.journal.entries (entries places) why
+
+-- ---- all of it
+
+pub record Keeps (place : ℕ) (story : Story) (w : Work) (met : Bool) (fault : Option HubFault) : Type 0 where
+  pub books : KeepsBooks place w
+  pub jobs_are : (jobs : List Job) → AreJobsWith (tasks w) jobs → AreJobsOf w.reservation.devices jobs
+  pub told : (jobs : List Job) → AreJobsWith (tasks w) jobs → WhereTold (KeepsTold jobs w met fault (place_of story)) story

@@ -1,2 +1,5 @@
 pub mod Seen
+pub mod Discipline
 pub mod Keeps
+pub mod Promises
+pub mod Taking

@@ -1,21 +1,38 @@
--- What contracts see of a hub: its link, the devices of its jobs in their order, its group telegrams, its log, the newest entry first, why it has
+-- What contracts see of a hub: its link, its jobs, by device and plan, their devices, its group telegrams, its log, the newest entry first, why it has
 -- ended, and how many indications were counted as missed. After a fault each later call answers that fault, and the link stays as it is.
-use Rattle.std.specs.Prelude.{◌≡◌, ℕ, List, Option, Some, None, Result, Err}
+use Rattle.std.specs.Prelude.{◌≡◌, ℕ, List, map, Option, Some, None, Result, Err}
 use Rattle.knx_model.specs.declared.address.IndAddr.{IndAddr}
 use Rattle.line_model.specs.declared.fault.HubFault.{HubFault}
 use Rattle.line_model.specs.declared.group.GroupTurn.{GroupTurn}
 use Rattle.line_model.specs.declared.log.LogEntry.{LogEntry}
+use Rattle.line_model.specs.Log.{Job}
+use Rattle.download_core.specs.Keeps.{Known}
+use Rattle.hub_work.specs.declared.job.HubJob.{HubJob}
+use Rattle.hub_work.specs.Downloaders.{Task, task_of_hub_job, AreJobsWith}
 
 pub record Seen (L : Type 0) : Type 0 where
   pub link : L
+  pub jobs : List HubJob
   pub devices : List IndAddr
   pub turns : List GroupTurn
   pub log : List LogEntry
   pub fault : Option HubFault
   pub missed : ℕ
 
+-- the job that a downloader is of
+abbrev pub hub_job_of : Known → HubJob
+hub_job_of d = record { device = d.device; plan = d.plan }
+
+abbrev pub tasks_seen : List HubJob → List Task
+tasks_seen jobs = map task_of_hub_job jobs
+
+-- jobs with the devices and plans of these, whatever their images and kinds are
+abbrev pub AreJobs : List HubJob → List Job → Type 0
+AreJobs hub_jobs jobs = AreJobsWith (tasks_seen hub_jobs) jobs
+
 -- the same jobs and the same group telegrams
 pub record SameRun {L : Type 0} (old new : Seen L) : Type 0 where
+  pub tasks : tasks_seen new.jobs ≡ tasks_seen old.jobs
   pub devices : new.devices ≡ old.devices
   pub turns : new.turns ≡ old.turns
 

@@ -1,1 +1,3 @@
-pub mod Held
+pub mod Ends
+pub mod Telling
+pub mod Told

@@ -1,4 +1,4 @@
--- What entries that come later leave of the old ones: the moments up to a place, what was told and what was asked.
+-- What entries that come later leave of the old ones: the moments up to a place, and what was told.
 use Rattle.std.proofs.Common.{◌≡◌, ℕ, suc, ◌<◌, ◌≤◌, List, [], ◌∷◌, ◌++◌, length, Bool, true, false, ◌&&◌, cond, Option, Some, None, refl, sym, ◌∙◌, ap, subst, arith}
 use Rattle.std.specs.Prelude.{nat_lt, nat_le}
 use Rattle.std.specs.List.{AllByRecursion}
@@ -12,7 +12,6 @@ use Rattle.line_model.specs.Moments.{Moment, moments, between}
 use Rattle.line_model.specs.Log.{Job, JobState, Untaken, Held, Over, job_of, turn_of, state_of, log_before, IsLog}
 use Rattle.line_model.specs.Told.{ToldTruly, IsTrue, OfJob, OfTurn, session_since, WentThrough, IsRefused, PutOnce, IsConfirmed, IsLoss}
 use Rattle.line_model.specs.Signs.{SignsHold}
-use Rattle.line_model.specs.Asks.{EachRight, IsRightEntry}
 
 -- ---- places
 
@@ -110,18 +109,3 @@ before_new jobs turns n at (e ∷ log) is lt =
     let le : e.at ≤ n = is.0.so_far in
     let first : nat_lt e.at at ≡ true = grind (arith, le, lt) in
     rw first (ap (λ z. e ∷ z) (before_new jobs turns n at log is.1 lt))
-
-before_later : (at : ℕ) (e : LogEntry) (log : List LogEntry) → at ≤ e.at → log_before at log ≡ log_before at (e ∷ log)
-before_later at e log le = let not : nat_lt e.at at ≡ false = grind (arith, le) in rw not refl
-
--- ---- what was asked rightly stays so: a later entry of the log isn't before it
-
-pub each_logged : (jobs : List Job) (turns : List GroupTurn) (n : ℕ) (e : LogEntry) (log : List LogEntry) (places : List Placed) → AreUpto n places → n ≤ e.at → EachRight jobs turns log places → EachRight jobs turns (e ∷ log) places
-each_logged jobs turns n e log [] u le h = tt
-each_logged jobs turns n e log (p ∷ older) u le h =
-    let at : p.at ≤ e.at = (let f = u.0 in omega (arith, f, le)) in
-    (subst (λ (l : List LogEntry). IsRightEntry jobs turns l older p) (before_later p.at e log at) h.0, each_logged jobs turns n e log older u.1 le h.1)
-
--- an entry of the record that comes after those of the log
-pub each_grown : (jobs : List Job) (turns : List GroupTurn) (n : ℕ) (log : List LogEntry) (old : List Placed) (p : Placed) → IsLog jobs turns n log → n < p.at → IsRightEntry jobs turns log old p → EachRight jobs turns log old → EachRight jobs turns log (p ∷ old)
-each_grown jobs turns n log old p is lt right h = (subst (λ (l : List LogEntry). IsRightEntry jobs turns l old p) (sym (before_new jobs turns n p.at log is lt)) right, h)

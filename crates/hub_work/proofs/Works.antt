@@ -23,36 +23,36 @@ abbrev pub entry_of : ℕ → ℕ → LogWhat → LogEntry
 entry_of at worker what = record { at = at; worker = worker; what = what }
 
 -- books with this reservation, these jobs held, this log and these telegrams
-module _ (w : Work) (r : Reservation) (js : List (Option ℕ)) (l : List LogEntry) (ts : List GroupTurn) (at : ℕ) (er : w.reservation ≡ r) (et : w.telegrams.turns ≡ ts) (el : w.journal ≡ l) where
+module _ (w : Work) (r : Reservation) (js : List (Option ℕ)) (l : List LogEntry) (ts : List GroupTurn) (at : ℕ) (er : w.reservation ≡ r) (et : w.telegrams.turns ≡ ts) (el : w.journal.entries ≡ l) where
   pub written_as : IsWritten r.devices ts at l → WritesRightly at w
   written_as h =
-      subst (λ (s : Reservation). IsWritten s.devices w.telegrams.turns at w.journal) (sym er)
-      (subst (λ (t : List GroupTurn). IsWritten r.devices t at w.journal) (sym et)
+      subst (λ (s : Reservation). IsWritten s.devices w.telegrams.turns at w.journal.entries) (sym er)
+      (subst (λ (t : List GroupTurn). IsWritten r.devices t at w.journal.entries) (sym et)
       (subst (λ (k : List LogEntry). IsWritten r.devices ts at k) (sym el) h))
 
   pub live_as : jobs_held w.crew ≡ js → IsLive r js l → Lives w
   live_as ej h =
-      subst (λ (s : Reservation). IsLive s (jobs_held w.crew) w.journal) (sym er)
-      (subst (λ (k : List (Option ℕ)). IsLive r k w.journal) (sym ej)
+      subst (λ (s : Reservation). IsLive s (jobs_held w.crew) w.journal.entries) (sym er)
+      (subst (λ (k : List (Option ℕ)). IsLive r k w.journal.entries) (sym ej)
       (subst (λ (k : List LogEntry). IsLive r js k) (sym el) h))
 
 -- ---- a job ends
 
 pub holder_holds : (w : Work) (worker : ℕ) (held : Held) → Lives w → 1 ≤ worker → IsHolder w worker held → IsHeld w.reservation held.job
-holder_holds w worker held live from holder = (worker, holds_it w.reservation w.crew w.journal worker held live from holder)
+holder_holds w worker held live from holder = (worker, holds_it w.reservation w.crew w.journal.entries worker held live from holder)
 
 pub end_written : (w v : Work) (at worker : ℕ) (held : Held) (what : LogWhat) → Lives w → WritesRightly at w → 1 ≤ worker → IsHolder w worker held → EndsJob held.job what
-    → v.reservation ≡ job_ended held.job w.reservation → v.telegrams.turns ≡ w.telegrams.turns → v.journal ≡ entry_of at worker what ∷ w.journal → WritesRightly at v
+    → v.reservation ≡ job_ended held.job w.reservation → v.telegrams.turns ≡ w.telegrams.turns → v.journal.entries ≡ entry_of at worker what ∷ w.journal.entries → WritesRightly at v
 end_written w v at worker held what live written from holder ends er et el =
-    written_as v (job_ended held.job w.reservation) (jobs_held v.crew) (entry_of at worker what ∷ w.journal) w.telegrams.turns at er et el
-    (ended_written w.reservation (jobs_held w.crew) w.telegrams.turns at worker held.job what w.journal ends written live (holds_it w.reservation w.crew w.journal worker held live from holder))
+    written_as v (job_ended held.job w.reservation) (jobs_held v.crew) (entry_of at worker what ∷ w.journal.entries) w.telegrams.turns at er et el
+    (ended_written w.reservation (jobs_held w.crew) w.telegrams.turns at worker held.job what w.journal.entries ends written live (holds_it w.reservation w.crew w.journal.entries worker held live from holder))
 
 pub end_live : (w v : Work) (at worker : ℕ) (held : Held) (what : LogWhat) → Lives w → 1 ≤ worker → IsHolder w worker held → EndsJob held.job what
-    → v.reservation ≡ job_ended held.job w.reservation → v.crew ≡ set w.crew (worker - 1) None → v.journal ≡ entry_of at worker what ∷ w.journal → Lives v
+    → v.reservation ≡ job_ended held.job w.reservation → v.crew ≡ set w.crew (worker - 1) None → v.journal.entries ≡ entry_of at worker what ∷ w.journal.entries → Lives v
 end_live w v at worker held what live from holder ends er ec el =
-    live_as v (job_ended held.job w.reservation) (set (jobs_held w.crew) (worker - 1) None) (entry_of at worker what ∷ w.journal) v.telegrams.turns at er refl el
+    live_as v (job_ended held.job w.reservation) (set (jobs_held w.crew) (worker - 1) None) (entry_of at worker what ∷ w.journal.entries) v.telegrams.turns at er refl el
     (ap jobs_held ec ∙ set_jobs w.crew (worker - 1) None)
-    (ended_live w.reservation (jobs_held w.crew) at worker held.job what w.journal ends live from (holds_it w.reservation w.crew w.journal worker held live from holder))
+    (ended_live w.reservation (jobs_held w.crew) at worker held.job what w.journal.entries ends live from (holds_it w.reservation w.crew w.journal.entries worker held live from holder))
 
 -- ---- a job is taken
 
@@ -60,29 +60,29 @@ pub taking_holds : (w : Work) (at worker job : ℕ) → IsTaking w at worker job
 taking_holds w at worker job t = taken_held w.reservation t.before worker job t.taken t.first
 
 pub take_written : (w v : Work) (at worker job : ℕ) → IsTaking w at worker job → 1 ≤ worker
-    → v.reservation ≡ w.reservation → v.telegrams.turns ≡ w.telegrams.turns → v.journal ≡ entry_of at worker (Took job) ∷ w.journal → WritesRightly at v
+    → v.reservation ≡ w.reservation → v.telegrams.turns ≡ w.telegrams.turns → v.journal.entries ≡ entry_of at worker (Took job) ∷ w.journal.entries → WritesRightly at v
 take_written w v at worker job t from er et el =
-    written_as v (job_taken worker job t.before) (jobs_held v.crew) (entry_of at worker (Took job) ∷ w.journal) w.telegrams.turns at (er ∙ t.taken) et el
-    (took_written t.before (jobs_held w.crew) w.telegrams.turns at worker job w.journal t.written t.live t.first from)
+    written_as v (job_taken worker job t.before) (jobs_held v.crew) (entry_of at worker (Took job) ∷ w.journal.entries) w.telegrams.turns at (er ∙ t.taken) et el
+    (took_written t.before (jobs_held w.crew) w.telegrams.turns at worker job w.journal.entries t.written t.live t.first from)
 
 -- for want of memory the log stays
-pub take_unwritten : (w v : Work) (at worker job : ℕ) → IsTaking w at worker job → v.reservation ≡ w.reservation → v.telegrams.turns ≡ w.telegrams.turns → v.journal ≡ w.journal → WritesRightly at v
+pub take_unwritten : (w v : Work) (at worker job : ℕ) → IsTaking w at worker job → v.reservation ≡ w.reservation → v.telegrams.turns ≡ w.telegrams.turns → v.journal.entries ≡ w.journal.entries → WritesRightly at v
 take_unwritten w v at worker job t er et el =
-    written_as v (job_taken worker job t.before) (jobs_held v.crew) w.journal w.telegrams.turns at (er ∙ t.taken) et el t.written
+    written_as v (job_taken worker job t.before) (jobs_held v.crew) w.journal.entries w.telegrams.turns at (er ∙ t.taken) et el t.written
 
 pub take_live : (w v : Work) (at worker job : ℕ) (held : Held) → held.job ≡ job → IsTaking w at worker job → 1 ≤ worker
-    → v.reservation ≡ w.reservation → v.crew ≡ set w.crew (worker - 1) (Some held) → v.journal ≡ entry_of at worker (Took job) ∷ w.journal → Lives v
+    → v.reservation ≡ w.reservation → v.crew ≡ set w.crew (worker - 1) (Some held) → v.journal.entries ≡ entry_of at worker (Took job) ∷ w.journal.entries → Lives v
 take_live w v at worker job held same t from er ec el =
-    live_as v (job_taken worker job t.before) (set (jobs_held w.crew) (worker - 1) (Some job)) (entry_of at worker (Took job) ∷ w.journal) v.telegrams.turns at (er ∙ t.taken) refl el
+    live_as v (job_taken worker job t.before) (set (jobs_held w.crew) (worker - 1) (Some job)) (entry_of at worker (Took job) ∷ w.journal.entries) v.telegrams.turns at (er ∙ t.taken) refl el
     (ap jobs_held ec ∙ (set_jobs w.crew (worker - 1) (Some held) ∙ ap (λ k. set (jobs_held w.crew) (worker - 1) (Some k)) same))
-    (took_live t.before (jobs_held w.crew) at worker job w.journal t.live t.first from)
+    (took_live t.before (jobs_held w.crew) at worker job w.journal.entries t.live t.first from)
 
 -- ---- the group telegrams
 
-pub telling_as : (w : Work) (told : ℕ) (ts : List GroupTurn) (l : List LogEntry) → w.telegrams.told ≡ told → w.telegrams.turns ≡ ts → w.journal ≡ l → TellsInTurn told ts l → TellsRightly w
+pub telling_as : (w : Work) (told : ℕ) (ts : List GroupTurn) (l : List LogEntry) → w.telegrams.told ≡ told → w.telegrams.turns ≡ ts → w.journal.entries ≡ l → TellsInTurn told ts l → TellsRightly w
 telling_as w told ts l en et el h =
-    subst (λ (n : ℕ). TellsInTurn n w.telegrams.turns w.journal) (sym en)
-    (subst (λ (t : List GroupTurn). TellsInTurn told t w.journal) (sym et)
+    subst (λ (n : ℕ). TellsInTurn n w.telegrams.turns w.journal.entries) (sym en)
+    (subst (λ (t : List GroupTurn). TellsInTurn told t w.journal.entries) (sym et)
     (subst (λ (k : List LogEntry). TellsInTurn told ts k) (sym el) h))
 
 none_told : (k : ℕ) → false ≡ (nat_lt 0 k && nat_le k 0)
@@ -92,11 +92,11 @@ none_told k = grind (arith, nat_tests)
 abbrev OfJob : LogWhat → Type 0
 OfJob what = (k : ℕ) → is_turn k what ≡ false
 
-more_telling : (w : Work) (at worker : ℕ) (what : LogWhat) → OfJob what → TellsRightly w → TellsInTurn w.telegrams.told w.telegrams.turns (entry_of at worker what ∷ w.journal)
+more_telling : (w : Work) (at worker : ℕ) (what : LogWhat) → OfJob what → TellsRightly w → TellsInTurn w.telegrams.told w.telegrams.turns (entry_of at worker what ∷ w.journal.entries)
 more_telling w at worker what none t = record { entries = λ k. rw (none k) (t.entries k); there = t.there }
 
-pub take_telling : (w v : Work) (at worker job : ℕ) → v.telegrams.told ≡ w.telegrams.told → v.telegrams.turns ≡ w.telegrams.turns → v.journal ≡ entry_of at worker (Took job) ∷ w.journal → TellsRightly w → TellsRightly v
-take_telling w v at worker job en et el t = telling_as v w.telegrams.told w.telegrams.turns (entry_of at worker (Took job) ∷ w.journal) en et el (more_telling w at worker (Took job) (λ k. refl) t)
+pub take_telling : (w v : Work) (at worker job : ℕ) → v.telegrams.told ≡ w.telegrams.told → v.telegrams.turns ≡ w.telegrams.turns → v.journal.entries ≡ entry_of at worker (Took job) ∷ w.journal.entries → TellsRightly w → TellsRightly v
+take_telling w v at worker job en et el t = telling_as v w.telegrams.told w.telegrams.turns (entry_of at worker (Took job) ∷ w.journal.entries) en et el (more_telling w at worker (Took job) (λ k. refl) t)
 
 ends_none : (job : ℕ) (what : LogWhat) → EndsJob job what → OfJob what
 ends_none job (Took j) ends k = absurd ends
@@ -106,8 +106,8 @@ ends_none job (Refused j op got expected) ends k = refl
 ends_none job (Sent j) ends k = absurd ends
 ends_none job (Lost j) ends k = absurd ends
 
-pub end_telling : (w v : Work) (at worker job : ℕ) (what : LogWhat) → EndsJob job what → v.telegrams.told ≡ w.telegrams.told → v.telegrams.turns ≡ w.telegrams.turns → v.journal ≡ entry_of at worker what ∷ w.journal → TellsRightly w → TellsRightly v
-end_telling w v at worker job what ends en et el t = telling_as v w.telegrams.told w.telegrams.turns (entry_of at worker what ∷ w.journal) en et el (more_telling w at worker what (ends_none job what ends) t)
+pub end_telling : (w v : Work) (at worker job : ℕ) (what : LogWhat) → EndsJob job what → v.telegrams.told ≡ w.telegrams.told → v.telegrams.turns ≡ w.telegrams.turns → v.journal.entries ≡ entry_of at worker what ∷ w.journal.entries → TellsRightly w → TellsRightly v
+end_telling w v at worker job what ends en et el t = telling_as v w.telegrams.told w.telegrams.turns (entry_of at worker what ∷ w.journal.entries) en et el (more_telling w at worker what (ends_none job what ends) t)
 
 -- the next one is the one behind those that are told
 some_of : {X : Type 0} (o : Option X) → o ≢ None → (x : X) × (o ≡ Some x)
@@ -172,17 +172,17 @@ tells_it turn (Lost j) tells k = ap (λ n. eqb n k) tells
 one_more : (turn told k : ℕ) (b : Bool) → turn ≡ told + 1 → b ≡ (nat_lt 0 k && nat_le k told) → (eqb turn k || b) ≡ (nat_lt 0 k && nat_le k (told + 1))
 one_more turn told k b e h = grind (arith, nat_tests)
 
-pub tell_telling : (w v : Work) (at turn : ℕ) (what : LogWhat) → TellsTurn turn what → IsNextTurn w.telegrams.turns w.journal turn → length w.telegrams.turns < 4294967296
-    → v.telegrams.told ≡ min (w.telegrams.told + 1) 4294967295 → v.telegrams.turns ≡ w.telegrams.turns → v.journal ≡ entry_of at 0 what ∷ w.journal → TellsRightly w → TellsRightly v
+pub tell_telling : (w v : Work) (at turn : ℕ) (what : LogWhat) → TellsTurn turn what → IsNextTurn w.telegrams.turns w.journal.entries turn → length w.telegrams.turns < 4294967296
+    → v.telegrams.told ≡ min (w.telegrams.told + 1) 4294967295 → v.telegrams.turns ≡ w.telegrams.turns → v.journal.entries ≡ entry_of at 0 what ∷ w.journal.entries → TellsRightly w → TellsRightly v
 tell_telling w v at turn what tells next few en et el t =
-    telling_as v (w.telegrams.told + 1) w.telegrams.turns (entry_of at 0 what ∷ w.journal) (exact (turn_within w.telegrams.turns turn next.there).1) et el
+    telling_as v (w.telegrams.told + 1) w.telegrams.turns (entry_of at 0 what ∷ w.journal.entries) (exact (turn_within w.telegrams.turns turn next.there).1) et el
     (record {
-      entries = λ k. rw (tells_it turn what tells k) (one_more turn w.telegrams.told k (has_entry k w.journal) is (t.entries k));
+      entries = λ k. rw (tells_it turn what tells k) (one_more turn w.telegrams.told k (has_entry k w.journal.entries) is (t.entries k));
       there = let within : (1 ≤ turn) × (turn ≤ length w.telegrams.turns) = turn_within w.telegrams.turns turn next.there in let to : turn ≤ length w.telegrams.turns = within.1 in omega (arith, is);
     })
   where
     is : turn ≡ w.telegrams.told + 1
-    is = next_is w.telegrams.told w.telegrams.turns w.journal turn t next
+    is = next_is w.telegrams.told w.telegrams.turns w.journal.entries turn t next
 
     exact : turn ≤ length w.telegrams.turns → v.telegrams.told ≡ w.telegrams.told + 1
     exact to = omega (arith, is)

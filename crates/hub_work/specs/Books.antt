@@ -1,6 +1,6 @@
 -- What a hub writes: the log of its run, whose jobs are taken and ended through one reservation, and which job each worker holds. The jobs are
 -- seen by their devices alone, in their order.
-use Rattle.std.specs.Prelude.{◌≡◌, ℕ, suc, ◌≤◌, ◌&&◌, nat_lt, nat_le, List, length, map, Option, Some, None, slice_get}
+use Rattle.std.specs.Prelude.{◌≡◌, ℕ, suc, Bool, false, ◌==◌, ◌≤◌, ◌&&◌, nat_lt, nat_le, List, length, map, Option, Some, None, slice_get}
 use Rattle.knx_model.specs.declared.address.IndAddr.{IndAddr}
 use Rattle.line_model.specs.declared.group.GroupTurn.{GroupTurn}
 use Rattle.line_model.specs.declared.log.LogEntry.{LogEntry}
@@ -43,6 +43,11 @@ joined (Some held) = held
 
 abbrev pub held_at : List (Option Held) → ℕ → Option Held
 held_at held place = joined (slice_get held place)
+
+-- it is of this device
+abbrev pub is_of_device : IndAddr → Option Held → Bool
+is_of_device device None = false
+is_of_device device (Some held) = held.device.raw == device.raw
 
 -- ---- the group telegrams: those up to a number are told, and no others
 

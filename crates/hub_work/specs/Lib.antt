@@ -1,5 +1,12 @@
+pub mod Journals
 pub mod Requests
 pub mod Telegrams
 pub mod Turns
 pub mod Books
+pub mod Counts
+pub mod Crew
+pub mod Downloaders
 pub mod Works
+pub mod Fits
+pub mod Follows
+pub mod Comes

@@ -1,7 +1,8 @@
 //! The workers.
 
-ghost use Rattle.std.specs.Prelude.{◌≡◌, ◌-◌, ◌≤◌, Some, None, false, IfOk, replicate, slice_set};
-ghost use Rattle.hub_work.specs.Books.{held_at, jobs_held};
+ghost use Rattle.std.specs.Prelude.{◌≡◌, ℕ, ◌-◌, ◌≤◌, Some, None, false, true, IfOk, IfSome, length, replicate, slice_set};
+ghost use Rattle.hub_work.specs.Books.{held_at, is_of_device};
+ghost use Rattle.hub_work.specs.Crew.{holdings, after_begun};
 
 use knx_model::{IndAddr, NoMemory};
 use std::alloc::Global;
@@ -48,7 +49,9 @@ impl Crew {
     }
 
     /// How many workers there are.
-    pub fn len(&self) -> usize {
+    pub fn len(&self) -> usize
+        ensures { result ≡ length self.now }
+    {
         self.held.len()
     }
 
@@ -105,7 +108,8 @@ impl Crew {
 
     /// An attempt of its job has sent its T_Connect.
     pub fn begins(&mut self, worker: u8)
-        ensures { jobs_held self.new ≡ jobs_held self.old }
+        requires { 1 ≤ worker }
+        ensures { holdings self.new ≡ after_begun (worker - 1) (holdings self.old) }
     {
         let place = place_of(worker);
         if let Some(held) = self.at(place) {
@@ -121,14 +125,14 @@ impl Crew {
 
     /// Something came for it.
     pub fn came(&mut self, worker: u8)
-        ensures { jobs_held self.new ≡ jobs_held self.old }
+        ensures { holdings self.new ≡ holdings self.old }
     {
         self.came_at(place_of(worker));
     }
 
     /// Something came for the worker at a place, from 0.
     pub fn came_at(&mut self, place: usize)
-        ensures { jobs_held self.new ≡ jobs_held self.old }
+        ensures { holdings self.new ≡ holdings self.old }
     {
         if let Some(held) = self.at(place) {
             let came = held.came.saturating_add(1);
@@ -138,7 +142,7 @@ impl Crew {
 
     /// Its turn takes one thing in that came. Tells whether there was one.
     pub fn takes_in(&mut self, worker: u8) -> bool
-        ensures { jobs_held self.new ≡ jobs_held self.old }
+        ensures { holdings self.new ≡ holdings self.old }
     {
         let place = place_of(worker);
         match self.at(place) {
@@ -151,12 +155,30 @@ impl Crew {
         }
     }
 
-    /// The worker that holds a job of the device, from 1.
-    pub fn of_device(&self, device: IndAddr) -> Option<u8> {
-        let worker = self.by_device[device.device() as usize];
-        match self.held(worker) {
-            Some(held) if held.device == device => Some(worker),
-            _ => None,
+    /// The place, from 0, of the worker that holds a job of the device; None exactly where there is none.
+    pub fn of_device(&self, device: IndAddr) -> Option<usize>
+        ensures found { IfSome result (λ place. is_of_device device (held_at self.now place) ≡ true) }
+        ensures none { result ≡ None → (place : ℕ) → is_of_device device (held_at self.now place) ≡ false }
+    {
+        let last = place_of(self.by_device[device.device() as usize]);
+        if self.holds(last, device) {
+            return Some(last);
+        }
+        for place in 0..self.held.len() {
+            if self.holds(place, device) {
+                return Some(place);
+            }
+        }
+        None
+    }
+
+    /// Whether the worker at a place, from 0, holds a job of the device.
+    fn holds(&self, place: usize, device: IndAddr) -> bool
+        ensures { result ≡ is_of_device device (held_at self.now place) }
+    {
+        match self.at(place) {
+            Some(held) => held.device.raw == device.raw,
+            None => false,
         }
     }
 }

@@ -1,48 +1,49 @@
 //! The log as it is written.
 
-ghost use Rattle.std.specs.Prelude.{◌≡◌, [], ◌∷◌, reverse, IfOk, OnOk, OnErr};
+ghost use Rattle.std.specs.Prelude.{◌≡◌, ◌+◌, ◌≤◌, [], ◌∷◌, reverse, IfOk};
 
 use knx_model::{List, NoMemory};
 use line_model::{LogEntry, LogWhat};
 use std::alloc::Global;
 use std::marker::Model;
 
-/// The log, whose memory was taken before. Contracts see its entries, the newest first.
+/// The log, whose memory was taken before. Contracts see its entries, the newest first, and for how many more there is room.
 #[derive(Drop)]
 pub struct Journal {
     entries: Vec<LogEntry>,
 }
 
 impl Model for Journal {
-    ghost use Rattle.std.specs.Prelude.{List, reverse};
-    ghost use Rattle.line_model.specs.declared.log.LogEntry.{LogEntry};
+    ghost use Rattle.std.specs.Prelude.{◌-◌, reverse, vec_len, vec_capacity};
+    ghost use Rattle.hub_work.specs.Journals.{Written};
 
-    ghost Value = { List LogEntry };
+    ghost Value = { Written };
 
-    ghost view = { λ j. reverse j.entries.items };
+    ghost view = { λ j. record { entries = reverse j.entries.items; room = vec_capacity j.entries - vec_len j.entries } };
 }
 
 impl Journal {
     /// An empty log with room for so many entries.
     pub fn with_room(alloc: Global, room: usize) -> Result<Journal, NoMemory>
-        ensures { IfOk result (λ journal. journal ≡ []) }
+        ensures empty { IfOk result (λ journal. journal.entries ≡ []) }
+        ensures room { IfOk result (λ journal. room ≤ journal.room) }
     {
         let entries = Vec::with_capacity(alloc, room)?;
         Ok(Journal { entries })
     }
 
-    /// Adds an entry. At `Err` nothing has changed.
-    pub fn add(&mut self, at: u64, worker: u8, what: LogWhat) -> Result<(), NoMemory>
-        ensures ok { OnOk result (self.new ≡ record { at = at; worker = worker; what = what } ∷ self.old) }
-        ensures err { OnErr result (self.new ≡ self.old) }
+    /// Adds an entry, for which there is room: it takes no memory.
+    pub fn add(&mut self, at: u64, worker: u8, what: LogWhat)
+        requires { 1 ≤ self.old.room }
+        ensures added { self.new.entries ≡ record { at = at; worker = worker; what = what } ∷ self.old.entries }
+        ensures room { self.old.room ≤ self.new.room + 1 }
     {
-        self.entries.push(LogEntry { at, worker, what })?;
-        Ok(())
+        let _ = self.entries.push(LogEntry { at, worker, what });
     }
 
     /// The entries, the oldest first.
     pub fn into_list(self) -> List<LogEntry>
-        ensures { result ≡ reverse self }
+        ensures { result ≡ reverse self.entries }
     {
         let Journal { entries } = self;
         List::from_vec(entries)

@@ -7,8 +7,10 @@
 mod answers;
 mod closing;
 mod crew;
+mod downloaders;
 mod job;
 mod journal;
+mod laws;
 mod requests;
 mod telegrams;
 mod wait;
@@ -18,6 +20,7 @@ pub use answers::{Finished, GroupDid, Pumped, Turned};
 pub use closing::Closing;
 pub use download_core::{CheckPlan, JobPlan, LoadPlan};
 pub use job::HubJob;
+pub use laws::{moments_go_on, places_are_free, truths_stay};
 pub use line_model::{GroupTurn, Indication, LogEntry, LogWhat};
 pub use telegrams::Stage;
 pub use work::{Turn, Work};

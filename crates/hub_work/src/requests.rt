@@ -1,17 +1,18 @@
 //! Frames of the link layer that a hub asks for, and the group telegrams in those that it hears (KNX standard 3/6/3, common EMI).
 
-ghost use Rattle.std.specs.Prelude.{◌≡◌, ◌≤◌, length, Some};
-ghost use Rattle.knx_model.specs.ApduReading.{service_in};
+ghost use Rattle.std.specs.Prelude.{◌≡◌, ◌≤◌, false, true, length, Some};
 ghost use Rattle.knx_model.specs.DeviceFrames.{group_service};
 ghost use Rattle.line_model.specs.ClientEnd.{IsCemi};
 ghost use Rattle.line_model.specs.ClientView.{indication_of};
 ghost use Rattle.line_model.specs.Told.{service_of};
-ghost use Rattle.hub_work.specs.Requests.{IsServiceInRange};
+ghost use Rattle.line_model.specs.Reading.{ldata_in};
+ghost use Rattle.knx_model.specs.ApduReading.{apdu_octets, service_in};
+ghost use Rattle.hub_work.specs.Requests.{IsServiceInRange, request_with};
 
 use apdu_frames::{service_in, service_octets};
 use cemi_frames::encode;
 use knx_model::{Apdu, ApduOctets, Datagram, GroupAddr, GroupService, IndAddr, Ldata, LdataCode};
-use line_model::{GroupTurn, Indication};
+use line_model::{GroupTurn, Indication, frames_are_read};
 
 /// Low priority.
 const PRIORITY: u8 = 3;
@@ -22,6 +23,7 @@ const HOP_COUNT: u8 = 6;
 pub fn to_device(device: IndAddr, tpdu: ApduOctets) -> Datagram
     requires { 1 ≤ length tpdu }
     ensures cemi { IsCemi result }
+    ensures reads { ldata_in result ≡ Some (request_with false device.raw tpdu) }
 {
     request(false, device.raw, tpdu)
 }
@@ -30,6 +32,7 @@ pub fn to_device(device: IndAddr, tpdu: ApduOctets) -> Datagram
 pub fn to_group(turn: &GroupTurn) -> Datagram
     requires { IsServiceInRange turn.now.service }
     ensures cemi { IsCemi result }
+    ensures reads { ldata_in result ≡ Some (request_with true turn.now.group.raw (apdu_octets (service_of turn.now.service))) }
 {
     request(
         true,
@@ -41,7 +44,9 @@ pub fn to_group(turn: &GroupTurn) -> Datagram
 fn request(group: bool, destination: u16, tpdu: ApduOctets) -> Datagram
     requires some { 1 ≤ length tpdu }
     ensures cemi { IsCemi result }
+    ensures reads { ldata_in result ≡ Some (request_with group destination tpdu) }
 {
+    frames_are_read();
     let _len = tpdu.len();
     encode(&Ldata {
         code: LdataCode::Req,

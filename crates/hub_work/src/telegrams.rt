@@ -1,10 +1,10 @@
 //! The group telegrams of a run.
 
-ghost use Rattle.std.specs.Prelude.{◌≡◌, ◌+◌, ◌<◌, length, min, IfSome};
+ghost use Rattle.std.specs.Prelude.{◌≡◌, ◌+◌, ◌<◌, length, min, None, IfSome};
 ghost use Rattle.std.specs.List.{AllByRecursion};
 ghost use Rattle.line_model.specs.ClientEnd.{IsCemi};
 ghost use Rattle.hub_work.specs.Requests.{IsTurnInRange};
-ghost use Rattle.hub_work.specs.Telegrams.{after_confirmation, after_loss, next_of};
+ghost use Rattle.hub_work.specs.Telegrams.{after_confirmation, after_loss, next_of, IsNextRequest, IsInTime, IsHeldForJobs};
 
 use crate::requests::to_group;
 use knx_model::{Datagram, List};
@@ -85,6 +85,9 @@ impl Telegrams {
     /// The octets of the next one's request, where it may be put while jobs are unfinished or not.
     pub fn request(&self, jobs_unfinished: bool) -> Option<Datagram>
         ensures cemi { IfSome result IsCemi }
+        ensures next { IfSome result (IsNextRequest self.now) }
+        ensures in_time { IfSome result (λ cemi. IsInTime jobs_unfinished self.now) }
+        ensures none { result ≡ None → IsHeldForJobs jobs_unfinished self.now }
     {
         let turns = self.turns.as_slice();
         let place = self.told as usize;

@@ -1,15 +1,17 @@
 -- The status that a run over the line ends with (this project's own): where it ended without a fault, whether its log holds a job that failed or was
 -- refused; else its fault's.
-use Rattle.std.specs.Prelude.{Bool, true, false, List, Option, Some, None, if◌then◌else◌}
+use Rattle.std.specs.Prelude.{◌≡◌, ◌≢◌, ◌↔◌, ℕ, Bool, true, false, ◌==◌, List, reverse, Option, Some, None, if◌then◌else◌}
 use Rattle.std.specs.List.{list_any}
 use Rattle.knx_model.specs.declared.status.Status.{Status}
 use Rattle.knx_model.specs.declared.status.Status.TheVariants as status
 use Rattle.line_model.specs.declared.fault.HubFault.{HubFault}
 use Rattle.line_model.specs.declared.fault.HubFault.TheVariants as fault
+use Rattle.line_model.specs.declared.group.GroupTurn.{GroupTurn}
 use Rattle.line_model.specs.declared.log.LogEntry.{LogEntry}
 use Rattle.line_model.specs.declared.log.LogWhat.{LogWhat}
-use Rattle.line_model.specs.declared.log.LogWhat.TheVariants.{Failed, Refused}
+use Rattle.line_model.specs.declared.log.LogWhat.TheVariants.{Done, Failed, Refused}
 use Rattle.line_model.specs.declared.log.Report.{Report}
+use Rattle.line_model.specs.Log.{Job, job_of, IsLog, AllOver}
 
 -- a job's three attempts ended, or an answer differed
 abbrev pub is_failure : LogWhat → Bool
@@ -33,3 +35,22 @@ status_of (Some why) log = fault_status why
 
 abbrev pub line_status : Report → Status
 line_status report = status_of report.fault report.log
+
+-- ---- a law of it, in the words of the log
+
+abbrev pub is_done : ℕ → LogWhat → Bool
+is_done job (Done k) = k == job
+is_done job _ = false
+
+abbrev pub tells_done : ℕ → List LogEntry → Bool
+tells_done job log = list_any (λ (e : LogEntry). is_done job e.what) log
+
+abbrev pub EachDone : List Job → List LogEntry → Type 0
+EachDone jobs log = (job : ℕ) → job_of jobs job ≢ None → tells_done job log ≡ true
+
+-- of a run whose jobs are over where it ended without a fault: it is done exactly where it ended so and its log tells done of each job
+abbrev pub DoneExactly : Type 0
+DoneExactly =
+    (jobs : List Job) (turns : List GroupTurn) (count : ℕ) (log : List LogEntry) (report : Report)
+    → report.log ≡ reverse log → IsLog jobs turns count log → (report.fault ≡ None → AllOver jobs log)
+    → (line_status report ≡ status.Done) ↔ ((report.fault ≡ None) × EachDone jobs report.log)

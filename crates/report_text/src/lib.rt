@@ -2,6 +2,7 @@
 #![tactic(auto)]
 
 mod job;
+mod laws;
 mod line_report;
 mod pieces;
 mod project;
@@ -10,6 +11,7 @@ mod report;
 mod words;
 
 pub use knx_model::{Case, Counts, DeviceCase, JobKind, JobWord, LogEntry, LogWhat, Report, Sign};
+pub use laws::a_run_is_done_where_each_job_is;
 pub use line_report::{DeviceShown, line_report_of, line_status};
 pub use pieces::{put_digits, put_hex, put_value};
 pub use project::{counts_text, tables_text};

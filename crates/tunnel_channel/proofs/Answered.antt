@@ -16,15 +16,24 @@ use Rattle.line_model.specs.ClientView.{ClientChannel, channel, after_entry, dee
 use Rattle.line_model.specs.Dropped.{drops_sought}
 use Rattle.line_model.specs.ClientEnd.{OpenEnd, ClientEnd, Idle, Seeking, Open, Leaving, JustLost, is_over}
 use Rattle.line_model.specs.ClientFrames.{seeking_took, channel_took, after_took, HasTunnelIfUp}
-use Rattle.tunnel_channel.specs.Fits.{end_of, Knows, KnowsOpen, IsBehind, IsUnanswered, HasNone, FitsChannel, Fits}
+use Rattle.tunnel_channel.specs.Fits.{end_of, Knows, KnowsOpen, IsBehind, IsUnanswered, HasNone, FitsChannel, Fits, acknowledged_in, confirmed_in}
 use Rattle.tunnel_channel.specs.Follows.{TakesFrame, TakeFollows, is_confirmation_late, Stays, change}
 use Rattle.tunnel_channel.proofs.Times.{over_later, passed_later}
 use Rattle.tunnel_channel.proofs.Opened.{open_got}
 use Rattle.tunnel_channel.proofs.Rows.{up, fits_up, told_up, took_up, row}
-use Rattle.tunnel_channel.proofs.Take.{lapsed_alike, by_row, NothingGot, unheard, lapsed_got, none_got_by}
+use Rattle.tunnel_channel.proofs.Flights.{flies}
+use Rattle.tunnel_channel.proofs.Take.{lapsed_alike, by_row, NothingGot, Still, unheard, lapsed_got, none_got_by}
 
 abbrev pub Answers : ClientEnd → IpFrame → ℕ → List ℕ → List Entry → ChannelTook → Type 0
 Answers end frame now octets r told = TakesFrame (after_took end frame now told) told (is_over end now) octets now r
+
+-- what is known stays as it is, and so does what is in flight
+still : (r : List Entry) (octets : List ℕ) (now : ℕ) (ch : ClientChannel) → channel r ≡ ch → channel (entry (Got octets) now ∷ r) ≡ ch → change ch ch ≡ Stays → Still r octets now
+still r octets now ch at is same = record {
+  changes = ap (λ (d : ClientChannel). change d (channel (entry (Got octets) now ∷ r))) at ∙ ap (λ (d : ClientChannel). change ch d) is ∙ same;
+  acked = ap acknowledged_in is ∙ sym (ap acknowledged_in at);
+  confirms = ap confirmed_in is ∙ sym (ap confirmed_in at);
+}
 
 none_changes : (ch : ClientChannel) → HasNone ch → change ch ch ≡ Stays
 none_changes seen.Fresh n = refl
@@ -58,7 +67,7 @@ module _ (r : List Entry) (octets : List ℕ) (frame : IpFrame) (now : ℕ) (is 
       let g = lapsed_got r octets frame now c l at (lapsed_alike c l left now k u ∙ q) is in
       dropped_up left (end_of c l) frame now octets r g.0 g.1 q
   known_takes left c l at k u false q =
-      by_row (after_took (up left (end_of c l)) frame now (told_up left (end_of c l) now frame)) (told_up left (end_of c l) now frame) r octets frame now c l (is_over (up left (end_of c l)) now) _ at (open_got r octets frame now c l at (lapsed_alike c l left now k u ∙ q) is) is (row left c l octets now k frame is)
+      by_row (after_took (up left (end_of c l)) frame now (told_up left (end_of c l) now frame)) (told_up left (end_of c l) now frame) r octets frame now c l (is_over (up left (end_of c l)) now) _ at (open_got r octets frame now c l at (lapsed_alike c l left now k u ∙ q) is) is (row left c l octets now k frame is) (flies left c l octets now k frame is)
 
   open_takes : (left : Bool) (e : OpenEnd) (k : KnowsOpen e left (channel r)) → is_confirmation_late (channel r) now ≡ false → Answers (up left e) frame now octets r (channel_took (up left e) frame now)
   open_takes left e k u =
@@ -89,7 +98,7 @@ module _ (r : List Entry) (octets : List ℕ) (frame : IpFrame) (now : ℕ) (is 
   none_takes end drops none fits later =
       let g = none_got_by (channel r) r octets frame now (none (channel r) fits) refl is in
       subst (λ (told : ChannelTook). Answers end frame now octets r told) (sym (drops frame))
-      (unheard end r octets now (is_over end now) (λ o. ap (λ (ch : ClientChannel). change (channel r) ch) g.1 ∙ none_changes (channel r) (none (channel r) fits)) g.0 (subst (λ (ch : ClientChannel). FitsChannel end now ch) (sym g.1) (later (channel r) fits)))
+      (unheard end r octets now (is_over end now) (λ o. still r octets now (channel r) refl g.1 (none_changes (channel r) (none (channel r) fits))) g.0 (subst (λ (ch : ClientChannel). FitsChannel end now ch) (sym g.1) (later (channel r) fits)))
 
 -- ---- an end that seeks one
 
@@ -165,7 +174,7 @@ module _ (r : List Entry) (octets : List ℕ) (now since : ℕ) (at : channel r 
   unfolding channel_took after_took
   other_takes frame o is q =
       let g = other_got r octets frame now since at q is o in
-      rw (q, other_told frame o) (unheard (Seeking since) r octets now false (λ p. ap (λ (ch : ClientChannel). change ch (channel (entry (Got octets) now ∷ r))) at ∙ ap (λ (ch : ClientChannel). change (seen.Sought since) ch) g.1) g.0 (rw g.1 (inl refl)))
+      rw (q, other_told frame o) (unheard (Seeking since) r octets now false (λ p. still r octets now (seen.Sought since) at g.1 refl) g.0 (rw g.1 (inl refl)))
 
   opened : (ch status : ℕ) (tunnel : IndAddr) → datagram_in octets ≡ Some (ConnectResponse ch status (Some tunnel)) → has_passed answer_wait since now ≡ false → (status == 0) ≡ true
       → Answers (Seeking since) (ConnectResponse ch status (Some tunnel)) now octets r (channel_took (Seeking since) (ConnectResponse ch status (Some tunnel)) now)
@@ -178,6 +187,10 @@ module _ (r : List Entry) (octets : List ℕ) (now since : ℕ) (at : channel r 
     acknowledges = rw at refl;
     answers = λ answer h. absurd (cc);
     owes = λ answer h. absurd (cc);
+    right = λ answer h. absurd (cc);
+    no_deed = λ answer h. absurd (cc);
+    acked = λ o. rw (at, q, is, z) (rw is refl);
+    confirms = λ o. rw (at, q, is, z) (rw is refl);
   })
 
   refused : (ch status : ℕ) → datagram_in octets ≡ Some (ConnectResponse ch status None) → has_passed answer_wait since now ≡ false → (status == 0) ≡ false
@@ -191,6 +204,10 @@ module _ (r : List Entry) (octets : List ℕ) (now since : ℕ) (at : channel r 
     acknowledges = rw at refl;
     answers = λ answer h. absurd (cc);
     owes = λ answer h. absurd (cc);
+    right = λ answer h. absurd (cc);
+    no_deed = λ answer h. absurd (cc);
+    acked = λ o. rw (at, q, is, z) refl;
+    confirms = λ o. rw (at, q, is, z) refl;
   })
 
   timely_takes : (frame : IpFrame) → HasTunnelIfUp frame → datagram_in octets ≡ Some frame → has_passed answer_wait since now ≡ false → Answers (Seeking since) frame now octets r (channel_took (Seeking since) frame now)

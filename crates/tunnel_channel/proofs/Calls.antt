@@ -19,7 +19,7 @@ use Rattle.tunnel_channel.proofs.Frames.{connect_read, leave_read, request_read}
 use Rattle.tunnel_channel.proofs.Times.{over_later, same_free}
 use Rattle.tunnel_channel.proofs.Readings.{readings}
 use Rattle.tunnel_channel.proofs.Rows.{up, with_up}
-use Rattle.tunnel_channel.proofs.Puts.{put_readings, lost_put}
+use Rattle.tunnel_channel.proofs.Puts.{put_readings, opened_put, lost_put, renews_other}
 use Rattle.tunnel_channel.proofs.Given.{same_number, put_fits, put_sends, put_deed}
 
 -- ---- a connect request
@@ -77,6 +77,9 @@ known_puts left c l r now cemi octets i at k h =
     record {
       sends = rw (with_up (with_request cemi now) left (end_of c l)) (put_sends left c l r now at k cemi octets read free (sym g.1));
       deed = put_deed left c l r now at k cemi octets read free;
+      right = renews_other r octets (TunnellingRequest c (own c l).number cemi) now read refl;
+      unacknowledged = rw (opened_put r octets now c l at) (rw (read, same_number c, free) refl);
+      unconfirmed = rw (opened_put r octets now c l at) (rw (read, same_number c, free) refl);
     }
 
 up_puts : (left : Bool) (e : OpenEnd) (r : List Entry) (now : ℕ) (cemi octets : List ℕ) → IsCemi cemi → KnowsOpen e left (channel r) ⊎ IsBehind e (newest_time r) (channel r) → newest_time r ≤ now → is_over (Open e) now ≡ false

@@ -1,7 +1,7 @@
 -- What has become due follows the record.
 use Rattle.std.proofs.Common.{◌≡◌, ℕ, ◌≤◌, ◌⊎◌, inl, inr, List, [], ◌∷◌, Bool, true, false, cond, Some, None, refl, sym, ◌∙◌, ap, subst, arith}
 use Rattle.std.specs.Prelude.{not, ◌&&◌, ◌||◌}
-use Rattle.knx_model.specs.declared.frames.ip.IpFrame.TheVariants.{StateRequest}
+use Rattle.knx_model.specs.declared.frames.ip.IpFrame.TheVariants.{StateRequest, TunnellingRequest}
 use Rattle.knx_model.specs.KnxNetIp.{Written}
 use Rattle.knx_model.specs.Connection.{has_passed}
 use Rattle.line_model.specs.declared.client_end.ChannelExpired.{ChannelExpired}
@@ -13,13 +13,15 @@ use Rattle.line_model.specs.ChannelLost as lapse
 use Rattle.line_model.specs.ChannelLost.{answer_wait, heartbeat_pause, own, acknowledged, confirmed, beats, is_unconfirmed, has_lapsed}
 use Rattle.line_model.specs.ClientView as seen
 use Rattle.line_model.specs.ClientView.{ClientChannel, channel, Nothing, deed}
-use Rattle.line_model.specs.Renews.{last_beat, is_repeat_due, is_beat_due}
+use Rattle.line_model.specs.Renews.{RenewsSo, last_beat, is_repeat_due, is_beat_due}
 use Rattle.line_model.specs.Sendings.{last_request}
 use Rattle.line_model.specs.ClientEnd.{OpenEnd, ClientEnd, Idle, Seeking, Open, Leaving, JustLost, is_given_up, is_dead, repeat_due, repeat_or_beat, open_expired, channel_expired, after_expired, repeated, beaten}
 use Rattle.tunnel_channel.specs.Fits.{end_of, outstanding_of, octets_of, IsSentRightly, IsOutstanding, Knows, KnowsOpen, IsBehind, IsUnanswered, HasNone, Fits}
 use Rattle.tunnel_channel.specs.Follows.{Sends, TellsDue, Expires, ExpireFollows, IsCurrent, sent_by, is_told_over, is_told_lost, is_told_dead, is_told_repeat, is_told_beat, is_up_or_sought}
 use Rattle.tunnel_channel.proofs.Times.{over_later, passed_later, passed_alike, same_given_up, same_dead}
 use Rattle.tunnel_channel.proofs.Rows.{up, with_up, lost_up}
+use Rattle.tunnel_channel.proofs.Frames.{beat_read}
+use Rattle.tunnel_channel.proofs.Puts.{renews_other}
 use Rattle.tunnel_channel.proofs.Given.{repeat_sends, repeat_deed, beat_sends, beat_deed}
 
 abbrev pub Due : ClientEnd → ℕ → List Entry → ChannelExpired → Type 0
@@ -86,6 +88,7 @@ module _ (left : Bool) (c : ℕ) (l r : List Entry) (now : ℕ) (at : channel r 
   told_lost p = record {
     sends = λ octets h. absurd (cc);
     no_deed = λ octets h. absurd (cc);
+    right = λ octets h. absurd (cc);
     rests = λ n h. absurd (not_current true (is_dead (end_of c l) now) p refl refl h);
     by_cause = tells due.Lost (by_tests due.Lost true (is_dead (end_of c l) now) (is_repeat_due (own c l).sent now) (is_beat_due c l now) p refl refl refl refl refl refl refl);
     unanswered = λ since is. absurd (let same : (seen.Open c l ≡ seen.Sought since) = sym at ∙ is in cc);
@@ -96,6 +99,7 @@ module _ (left : Bool) (c : ℕ) (l r : List Entry) (now : ℕ) (at : channel r 
   told_dead p q = record {
     sends = λ octets h. absurd (cc);
     no_deed = λ octets h. absurd (cc);
+    right = λ octets h. absurd (cc);
     rests = λ n h. absurd (not_current false true p q refl h);
     by_cause = tells due.Dead (by_tests due.Dead false true (is_repeat_due (own c l).sent now) (is_beat_due c l now) p q refl refl refl refl refl refl);
     unanswered = λ since is. absurd (let same : (seen.Open c l ≡ seen.Sought since) = sym at ∙ is in cc);
@@ -107,6 +111,7 @@ module _ (left : Bool) (c : ℕ) (l r : List Entry) (now : ℕ) (at : channel r 
   told_nothing p q a b = record {
     sends = λ octets h. absurd (cc);
     no_deed = λ octets h. absurd (cc);
+    right = λ octets h. absurd (cc);
     rests = λ n h. fits;
     by_cause = tells due.Nothing (by_tests due.Nothing false false false false p q a b refl refl refl refl);
     unanswered = λ since is. absurd (let same : (seen.Open c l ≡ seen.Sought since) = sym at ∙ is in cc);
@@ -114,10 +119,11 @@ module _ (left : Bool) (c : ℕ) (l r : List Entry) (now : ℕ) (at : channel r 
   }
 
   told_sent : (told : ChannelExpired) (octets : List ℕ) → sent_by told ≡ Some octets → TellsDue told now c l → is_told_over told ≡ false → Sends (after_expired (up left (end_of c l)) now told) octets now r
-      → deed (channel r) (entry (Put octets) now) ≡ Nothing → Due (up left (end_of c l)) now r told
-  told_sent told octets s t o sends none = record {
+      → deed (channel r) (entry (Put octets) now) ≡ Nothing → RenewsSo r (entry (Put octets) now) → Due (up left (end_of c l)) now r told
+  told_sent told octets s t o sends none right = record {
     sends = λ other h. subst (λ (x : List ℕ). Sends (after_expired (up left (end_of c l)) now told) x now r) (same other h) sends;
     no_deed = λ other h. subst (λ (x : List ℕ). deed (channel r) (entry (Put x) now) ≡ Nothing) (same other h) none;
+    right = λ other h. subst (λ (x : List ℕ). RenewsSo r (entry (Put x) now)) (same other h) right;
     rests = λ n h. absurd (cc);
     by_cause = tells told t;
     unanswered = λ since is. absurd (let one : (seen.Open c l ≡ seen.Sought since) = sym at ∙ is in cc);
@@ -135,13 +141,13 @@ module _ (left : Bool) (c : ℕ) (l r : List Entry) (now : ℕ) (at : channel r 
       let same : (octets_of (last_request c l) ≡ o.octets) = ap octets_of o.is in
       subst (λ (x : List ℕ). Due (up left (end_of c l)) now r (due.Repeat x)) (sym same)
       (told_sent (due.Repeat o.octets) o.octets refl (by_tests (due.Repeat o.octets) false false true (is_beat_due c l now) p q (rw once passed) refl refl refl refl refl) refl
-      (rw (with_up (repeated now) left (end_of c l)) (repeat_sends left c l r now at k t o once passed)) (repeat_deed left c l r now at k t o once))
+      (rw (with_up (repeated now) left (end_of c l)) (repeat_sends left c l r now at k t o once passed)) (repeat_deed left c l r now at k t o once) (renews_other r o.octets (TunnellingRequest c (own c l).number o.cemi) now o.reads refl))
 
   told_beat : has_passed heartbeat_pause (last_beat c l) now ≡ true → is_given_up (end_of c l).request now ≡ false → is_dead (end_of c l) now ≡ false → is_repeat_due (own c l).sent now ≡ false → Due (up left (end_of c l)) now r (due.Beat (Written (StateRequest c)))
   unfolding after_expired
   told_beat passed p q a =
       told_sent (due.Beat (Written (StateRequest c))) (Written (StateRequest c)) refl (by_tests (due.Beat (Written (StateRequest c))) false false false true p q a passed refl refl refl refl) refl
-      (rw (with_up (beaten now) left (end_of c l)) (beat_sends left c l r now at k passed (passed_alike answer_wait heartbeat_pause (last_beat c l) now (omega arith) passed) q)) (beat_deed left c l r now at k)
+      (rw (with_up (beaten now) left (end_of c l)) (beat_sends left c l r now at k passed (passed_alike answer_wait heartbeat_pause (last_beat c l) now (omega arith) passed) q)) (beat_deed left c l r now at k) (renews_other r (Written (StateRequest c)) (StateRequest c) now (beat_read c) refl)
 
   told_beat_if : (b : Bool) → has_passed heartbeat_pause (last_beat c l) now ≡ b → is_given_up (end_of c l).request now ≡ false → is_dead (end_of c l) now ≡ false → is_repeat_due (own c l).sent now ≡ false → Due (up left (end_of c l)) now r (repeat_or_beat None (end_of c l) now)
   told_beat_if true b p q a = rw b (told_beat b p q a)
@@ -182,6 +188,7 @@ module _ (left : Bool) (e : OpenEnd) (r : List Entry) (now : ℕ) (lost_is : cha
   behind_told told n o after u = record {
     sends = λ octets h. absurd (cc);
     no_deed = λ octets h. absurd (cc);
+    right = λ octets h. absurd (cc);
     rests = λ n h. rw after lost_is;
     by_cause = λ c l is. absurd (let same : (seen.Lost e.channel ≡ seen.Open c l) = sym lost_is ∙ is in cc);
     unanswered = λ since is. absurd (let same : (seen.Lost e.channel ≡ seen.Sought since) = sym lost_is ∙ is in cc);
@@ -219,6 +226,7 @@ unfolding channel_expired after_expired
 sought_due r since now at true q = rw q (record {
   sends = λ octets h. absurd (cc);
   no_deed = λ octets h. absurd (cc);
+  right = λ octets h. absurd (cc);
   rests = λ n h. absurd (let current : (has_passed answer_wait since now ≡ false) = subst (λ (ch : ClientChannel). IsCurrent ch now) at h in cc);
   by_cause = λ c l is. absurd (let same : (seen.Sought since ≡ seen.Open c l) = sym at ∙ is in cc);
   unanswered = λ other is. (let same : (since ≡ other) = (let e : (seen.Sought since ≡ seen.Sought other) = sym at ∙ is in cc) in subst (λ (t : ℕ). true ≡ has_passed answer_wait t now) same (sym q));
@@ -227,6 +235,7 @@ sought_due r since now at true q = rw q (record {
 sought_due r since now at false q = rw q (record {
   sends = λ octets h. absurd (cc);
   no_deed = λ octets h. absurd (cc);
+  right = λ octets h. absurd (cc);
   rests = λ n h. inl at;
   by_cause = λ c l is. absurd (let same : (seen.Sought since ≡ seen.Open c l) = sym at ∙ is in cc);
   unanswered = λ other is. (let same : (since ≡ other) = (let e : (seen.Sought since ≡ seen.Sought other) = sym at ∙ is in cc) in subst (λ (t : ℕ). false ≡ has_passed answer_wait t now) same (sym q));
@@ -238,6 +247,7 @@ unfolding channel_expired after_expired
 unanswered_due r since now at q = rw q (record {
   sends = λ octets h. absurd (cc);
   no_deed = λ octets h. absurd (cc);
+  right = λ octets h. absurd (cc);
   rests = λ n h. rw at tt;
   by_cause = λ c l is. absurd (let same : (seen.Unanswered ≡ seen.Open c l) = sym at ∙ is in cc);
   unanswered = λ other is. absurd (let same : (seen.Unanswered ≡ seen.Sought other) = sym at ∙ is in cc);
@@ -253,6 +263,7 @@ unfolding after_expired
 none_due end r now n u none fits = rw n (record {
   sends = λ octets h. absurd (cc);
   no_deed = λ octets h. absurd (cc);
+  right = λ octets h. absurd (cc);
   rests = λ n h. fits;
   by_cause = λ c l is. absurd (rw is at none);
   unanswered = λ other is. absurd (rw is at none);

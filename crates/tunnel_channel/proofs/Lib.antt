@@ -4,6 +4,7 @@ mod Readings
 mod Opened
 mod Rows
 mod Puts
+mod Flights
 mod Take
 mod Answered
 mod Given

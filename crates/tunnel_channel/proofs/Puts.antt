@@ -1,13 +1,14 @@
 -- What the client's datagrams make of an open channel's readings.
-use Rattle.std.proofs.Common.{◌≡◌, ℕ, inl, inr, List, [], ◌∷◌, Bool, true, false, Some, refl, sym, ◌∙◌, subst}
+use Rattle.std.proofs.Common.{◌≡◌, ℕ, inl, inr, List, [], ◌∷◌, Bool, true, false, Some, None, refl, sym, ◌∙◌, subst}
 use Rattle.std.specs.Prelude.{◌||◌, ◌==◌, if◌then◌else◌}
 use Rattle.knx_model.specs.declared.frames.ip.IpFrame.{IpFrame}
 use Rattle.knx_model.specs.declared.frames.ip.IpFrame.TheVariants.{ConnectRequest, ConnectResponse, StateRequest, StateResponse, DisconnectRequest, DisconnectResponse, TunnellingRequest, TunnellingAck}
-use Rattle.line_model.specs.Reading.{datagram_in}
+use Rattle.line_model.specs.Reading.{datagram_in, is_connect_request, request_in}
 use Rattle.line_model.specs.Record.{Put, Entry, entry}
 use Rattle.line_model.specs.ChannelLost.{is_none}
 use Rattle.line_model.specs.ClientView as seen
-use Rattle.line_model.specs.ClientView.{ClientChannel, channel, after_entry}
+use Rattle.line_model.specs.ClientView.{ClientChannel, channel, after_entry, Nothing, deed}
+use Rattle.line_model.specs.Renews.{RenewsSo}
 use Rattle.line_model.specs.ClientEnd.{OpenEnd, ClientEnd, Idle, Seeking, Open, Leaving, JustLost}
 use Rattle.tunnel_channel.specs.Fits.{HasBegun, Knows, KnowsOpen, FitsChannel}
 use Rattle.tunnel_channel.proofs.Readings.{Readings, readings, knows_by, knows}
@@ -77,3 +78,20 @@ still_fits (Open e) t now c l more f (inr k) = absurd (let h = k.lost in cc)
 still_fits (Leaving e) t now c l more f (inl k) = inl (open_moved e true c l more f k)
 still_fits (Leaving e) t now c l more f (inr k) = absurd (let h = k.lost in cc)
 still_fits (JustLost d) t now c l more f k = absurd (cc)
+
+-- ---- a datagram that is no connect request, and one that is no request
+
+pub renews_other : (r : List Entry) (octets : List ℕ) (frame : IpFrame) (now : ℕ) → datagram_in octets ≡ Some frame → is_connect_request (Some frame) ≡ false → RenewsSo r (entry (Put octets) now)
+renews_other r octets frame now is n = record {
+  connects = λ h. absurd (let e : (is_connect_request (datagram_in octets) ≡ false) = rw is n in cc);
+  leaves = λ h m. absurd (cc);
+}
+
+pub put_none : (ch : ClientChannel) (octets : List ℕ) (frame : IpFrame) (now : ℕ) → datagram_in octets ≡ Some frame → request_in (Some frame) ≡ None → deed ch (entry (Put octets) now) ≡ Nothing
+unfolding deed
+put_none seen.Fresh octets frame now is n = refl
+put_none (seen.Sought since) octets frame now is n = refl
+put_none (seen.RefusedBy status) octets frame now is n = refl
+put_none seen.Unanswered octets frame now is n = refl
+put_none (seen.Open c l) octets frame now is n = rw (is, n) refl
+put_none (seen.Lost c) octets frame now is n = refl

@@ -8,7 +8,7 @@ use Rattle.line_model.specs.Reading.{datagram_in}
 use Rattle.line_model.specs.Gateway.{acknowledgement_wait}
 use Rattle.line_model.specs.Record.{Entry}
 use Rattle.line_model.specs.LinkStory.{newest_time}
-use Rattle.line_model.specs.ChannelLost.{answer_wait, expected, own, beats, has_left}
+use Rattle.line_model.specs.ChannelLost.{answer_wait, expected, own, acknowledged, confirmed, beats, has_left}
 use Rattle.line_model.specs.ClientView as seen
 use Rattle.line_model.specs.ClientView.{ClientChannel, channel}
 use Rattle.line_model.specs.Renews.{last_beat}
@@ -107,3 +107,14 @@ FitsChannel (JustLost c) now ch = ch ≡ seen.Lost c
 
 abbrev pub Fits : ClientEnd → List Entry → Type 0
 Fits end r = FitsChannel end (newest_time r) (channel r)
+
+-- ---- what came of the request that was put last in the open channel: when it was acknowledged, and whether it is confirmed. Before the first
+-- one, and where no channel is open, nothing is awaited
+
+abbrev pub acknowledged_in : ClientChannel → Option ℕ
+acknowledged_in (seen.Open c l) = acknowledged c l
+acknowledged_in _ = None
+
+abbrev pub confirmed_in : ClientChannel → Bool
+confirmed_in (seen.Open c l) = confirmed c l
+confirmed_in _ = true

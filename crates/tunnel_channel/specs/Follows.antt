@@ -1,7 +1,7 @@
 -- Each call of the client's end of a tunnel follows the link's record: where the end fits the record before the call, what it knows then fits
 -- the record with the entry that the call brings, and what it gives to be sent is a datagram that the client may send. No link is named: it
 -- holds of every record. The times of the record aren't greater than that of the call.
-use Rattle.std.specs.Prelude.{◌≡◌, ◌≢◌, ℕ, ◌≤◌, Bool, true, false, not, ◌&&◌, ◌||◌, is_none, is_some, List, [], ◌∷◌, option_map, Option, Some, None}
+use Rattle.std.specs.Prelude.{◌≡◌, ◌≢◌, ℕ, ◌≤◌, Bool, true, false, not, ◌&&◌, ◌||◌, is_none, is_some, List, [], ◌∷◌, option_map, if◌then◌else◌, Option, Some, None}
 use Rattle.knx_model.specs.declared.frames.ip.IpFrame.{IpFrame}
 use Rattle.knx_model.specs.declared.frames.ip.IpFrame.TheVariants.{ConnectRequest}
 use Rattle.knx_model.specs.KnxNetIp.{Written}
@@ -13,7 +13,7 @@ use Rattle.line_model.specs.declared.client_end.ChannelExpired.TheVariants as du
 use Rattle.line_model.specs.Reading.{datagram_in, ldata_in}
 use Rattle.line_model.specs.Record.{Item, Put, Renewed, Got, Entry, entry, got_in, is_poll}
 use Rattle.line_model.specs.LinkStory.{newest_time}
-use Rattle.line_model.specs.ChannelLost.{answer_wait, own, acknowledged, confirmed, beats, is_given_up, is_unconfirmed, is_dead, has_lapsed}
+use Rattle.line_model.specs.ChannelLost.{answer_wait, own, acknowledged, confirmed, is_confirmation, beats, is_given_up, is_unconfirmed, is_dead, has_lapsed}
 use Rattle.line_model.specs.ClientView as seen
 use Rattle.line_model.specs.ClientView.{ClientChannel, channel, Deed, Puts, Takes, Loses, Nothing, deed}
 use Rattle.line_model.specs.Dropped.{is_dropped}
@@ -21,7 +21,7 @@ use Rattle.line_model.specs.Renews.{RenewsSo, MayLeave, IsOwed, owed, is_just_re
 use Rattle.line_model.specs.Sendings.{IsRightItem}
 use Rattle.line_model.specs.ClientEnd.{ClientEnd, Idle, Seeking, Open, Leaving, JustLost, open_end, is_over, channel_put, after_put, channel_expired, after_expired, channel_left, after_leave, lost}
 use Rattle.line_model.specs.ClientFrames.{channel_took, after_took}
-use Rattle.tunnel_channel.specs.Fits.{Fits}
+use Rattle.tunnel_channel.specs.Fits.{Fits, acknowledged_in, confirmed_in}
 
 -- the datagram is one that the client may send, and the end then knows what the record says
 pub record Sends (after : ClientEnd) (octets : List ℕ) (now : ℕ) (r : List Entry) : Type 0 where
@@ -48,6 +48,9 @@ ConnectFollows end now = (r : List Entry) → Connects end now r
 pub record PutsRequest (end : ClientEnd) (cemi octets : List ℕ) (now : ℕ) (r : List Entry) : Type 0 where
   pub sends : Sends (after_put end cemi now) octets now r
   pub deed : deed (channel r) (entry (Put octets) now) ≡ Puts cemi
+  pub right : RenewsSo r (entry (Put octets) now)
+  pub unacknowledged : acknowledged_in (channel (entry (Put octets) now ∷ r)) ≡ None
+  pub unconfirmed : confirmed_in (channel (entry (Put octets) now ∷ r)) ≡ false
 
 abbrev pub PutFollows : ClientEnd → List ℕ → ℕ → Type 0
 PutFollows end cemi now = (r : List Entry) (octets : List ℕ) → Fits end r → newest_time r ≤ now → is_over end now ≡ false → channel_put end cemi ≡ Some octets → PutsRequest end cemi octets now r
@@ -104,6 +107,27 @@ change_told (took.RefusedBy status) = Refuses status
 change_told (took.Gone answer) = Ends
 change_told _ = Stays
 
+-- what came of the request put last: its acknowledgement is told so, and its confirmation is given
+abbrev pub acknowledged_by : ChannelTook → ℕ → Option ℕ → Option ℕ
+acknowledged_by took.Dropped now before = before
+acknowledged_by (took.Up tunnel) now before = None
+acknowledged_by (took.RefusedBy status) now before = before
+acknowledged_by took.Acked now before = Some now
+acknowledged_by (took.Cemi octets ack) now before = before
+acknowledged_by (took.Again ack) now before = before
+acknowledged_by (took.Gone answer) now before = None
+acknowledged_by took.Alive now before = before
+
+abbrev pub confirmed_by : ChannelTook → Bool → Bool
+confirmed_by took.Dropped before = before
+confirmed_by (took.Up tunnel) before = true
+confirmed_by (took.RefusedBy status) before = before
+confirmed_by took.Acked before = before
+confirmed_by (took.Cemi octets ack) before = if is_confirmation (ldata_in octets) then true else before
+confirmed_by (took.Again ack) before = before
+confirmed_by (took.Gone answer) before = true
+confirmed_by took.Alive before = before
+
 -- where the time hasn't ended the channel or the wait for one, the answer tells what changed
 pub record TakesFrame (after : ClientEnd) (told : ChannelTook) (over : Bool) (octets : List ℕ) (now : ℕ) (r : List Entry) : Type 0 where
   pub fits : Fits after (entry (Got octets) now ∷ r)
@@ -113,6 +137,10 @@ pub record TakesFrame (after : ClientEnd) (told : ChannelTook) (over : Bool) (oc
   pub acknowledges : option_map Written (owed (entry (Got octets) now ∷ r)) ≡ acknowledgement_in told
   pub answers : (answer : List ℕ) → answer_in told ≡ Some answer → Sends after answer now (entry (Got octets) now ∷ r)
   pub owes : (answer : List ℕ) → answer_in told ≡ Some answer → IsOwed (owed (entry (Got octets) now ∷ r)) (entry (Put answer) now)
+  pub right : (answer : List ℕ) → answer_in told ≡ Some answer → RenewsSo (entry (Got octets) now ∷ r) (entry (Put answer) now)
+  pub no_deed : (answer : List ℕ) → answer_in told ≡ Some answer → deed (channel (entry (Got octets) now ∷ r)) (entry (Put answer) now) ≡ Nothing
+  pub acked : over ≡ false → acknowledged_in (channel (entry (Got octets) now ∷ r)) ≡ acknowledged_by told now (acknowledged_in (channel r))
+  pub confirms : over ≡ false → confirmed_in (channel (entry (Got octets) now ∷ r)) ≡ confirmed_by told (confirmed_in (channel r))
 
 abbrev pub TakeFollows : ClientEnd → IpFrame → ℕ → Type 0
 TakeFollows end frame now =
@@ -179,6 +207,7 @@ pub record TellsDue (told : ChannelExpired) (now c : ℕ) (l : List Entry) : Typ
 pub record Expires (end after : ClientEnd) (told : ChannelExpired) (now : ℕ) (r : List Entry) : Type 0 where
   pub sends : (octets : List ℕ) → sent_by told ≡ Some octets → Sends after octets now r
   pub no_deed : (octets : List ℕ) → sent_by told ≡ Some octets → deed (channel r) (entry (Put octets) now) ≡ Nothing
+  pub right : (octets : List ℕ) → sent_by told ≡ Some octets → RenewsSo r (entry (Put octets) now)
   pub rests : sent_by told ≡ None → IsCurrent (channel r) now → Fits after r
   pub by_cause : (c : ℕ) (l : List Entry) → channel r ≡ seen.Open c l → TellsDue told now c l
   pub unanswered : (since : ℕ) → channel r ≡ seen.Sought since → is_told_unanswered told ≡ has_passed answer_wait since now

@@ -1,2 +1,5 @@
+pub mod Clock
+pub mod Foreign
+pub mod Growth
 pub mod Read
 pub mod Stories

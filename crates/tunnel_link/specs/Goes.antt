@@ -1,6 +1,6 @@
 -- How a link's story goes on, and what a client's end of a tunnel keeps of it: the start stays, the entries or the events that there were are a
 -- tail, and what is added is legal.
-use Rattle.std.specs.Prelude.{◌≡◌, List, ◌++◌, None, true}
+use Rattle.std.specs.Prelude.{◌≡◌, List, ◌++◌, Some, None, Result, Err}
 use Rattle.line_model.specs.Tunnel.{Commissions}
 use Rattle.line_model.specs.World.{World, Event}
 use Rattle.line_model.specs.Legal.{IsLegal}
@@ -8,8 +8,11 @@ use Rattle.line_model.specs.Fresh.{IsFresh}
 use Rattle.line_model.specs.Record.{Entry}
 use Rattle.line_model.specs.LinkStory.{Story, Untold, Recorded, Full}
 use Rattle.line_model.specs.ClientEnd.{Idle}
+use Rattle.line_model.specs.declared.fault.HubFault.{HubFault}
 use Rattle.tunnel_link.specs.declared.known.Known.{Known}
 use Rattle.tunnel_link.specs.declared.tries.Tries.TheVariants.{Zero}
+use Rattle.tunnel_link.specs.Kept.{none_in_flight}
+use Rattle.tunnel_link.specs.Rights.{KeepsRecord}
 
 -- ---- a story goes on from the one before
 
@@ -38,10 +41,25 @@ pub record Goes (before after : Story) : Type 0 where
 -- ---- what the client knows at first
 
 abbrev pub new_known : Known
-new_known = record { channel = Idle; flight = record { acknowledged = None; confirmed = true }; tries = Zero; dropped = 0; taken = 0; fault = None }
+new_known = record { channel = Idle; flight = none_in_flight; tries = Zero; dropped = 0; taken = 0; fault = None }
+
+-- ---- all that is kept
+
+pub record KeepsAll (k : Known) (story : Story) : Type 0 where
+  pub legal : Keeps story
+  pub kept : KeepsRecord k story
 
 -- ---- what contracts see of a client's end of a tunnel over a link
 
 pub record Seen (L : Type 0) : Type 0 where
   pub link : L
   pub known : Known
+
+-- ---- a call of a client's end that had ended before: it answers why, and nothing is done
+
+pub record StaysEnded {L X : Type 0} (old : Seen L) (result : Result X HubFault) (new : Seen L) (fault : HubFault) : Type 0 where
+  pub answer : result ≡ Err fault
+  pub same : new ≡ old
+
+abbrev pub AfterFault : {L X : Type 0} → Seen L → Result X HubFault → Seen L → Type 0
+AfterFault old result new = (fault : HubFault) → old.known.fault ≡ Some fault → StaysEnded old result new fault

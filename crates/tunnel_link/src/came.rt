@@ -1,5 +1,8 @@
 //! What a poll brought, and what became of the channel.
 
+ghost use Rattle.std.specs.Prelude.{◌≡◌};
+ghost use Rattle.tunnel_link.specs.Kept.{only, with_datagram};
+
 use knx_model::{Datagram, IndAddr, Ldata};
 
 /// What became of the channel.
@@ -19,6 +22,8 @@ pub struct Came {
     pub what: What,
     /// What became of the channel in it, after what came.
     pub loss: Loss,
+    /// Something was sent for it: an acknowledgement, the answer to a disconnect request, or a disconnect request.
+    pub sent: bool,
 }
 
 /// What a poll brought, and the datagram that is to be sent at once.
@@ -46,7 +51,9 @@ pub enum What {
 
 impl Answer {
     /// This was got, and no more is to be done.
-    pub fn only(what: What) -> Answer {
+    pub fn only(what: What) -> Answer
+        ensures { result ≡ only what }
+    {
         Answer {
             what,
             loss: Loss::Stays,
@@ -55,7 +62,9 @@ impl Answer {
     }
 
     /// This was got, and a datagram is to be sent.
-    pub fn with(what: What, datagram: Datagram) -> Answer {
+    pub fn with(what: What, datagram: Datagram) -> Answer
+        ensures { result ≡ with_datagram what datagram }
+    {
         Answer {
             what,
             loss: Loss::Stays,

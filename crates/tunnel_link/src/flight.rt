@@ -1,9 +1,7 @@
 //! The place in flight.
 
 ghost use Rattle.std.specs.Prelude.{◌≡◌, Some, None, true, false};
-ghost use Rattle.line_model.specs.ChannelLost.{is_unconfirmed};
-ghost use Rattle.line_model.specs.Waiting.{confirmation_deadlines};
-ghost use Rattle.tunnel_link.specs.Kept.{confirmation_end};
+ghost use Rattle.tunnel_link.specs.Kept.{none_in_flight, one_in_flight, confirmation_end, is_late};
 
 /// How long a confirmation is awaited after its request was acknowledged, in milliseconds.
 const CONFIRMATION_WAIT_MS: u64 = 3_000;
@@ -19,7 +17,7 @@ pub struct Flight {
 impl Flight {
     /// No request was put.
     pub fn none() -> Flight
-        ensures { result ≡ record { acknowledged = None; confirmed = true } }
+        ensures { result ≡ none_in_flight }
     {
         Flight {
             acknowledged: None,
@@ -29,7 +27,7 @@ impl Flight {
 
     /// A request was put.
     pub fn put() -> Flight
-        ensures { result ≡ record { acknowledged = None; confirmed = false } }
+        ensures { result ≡ one_in_flight }
     {
         Flight {
             acknowledged: None,
@@ -59,7 +57,7 @@ impl Flight {
 
     /// Whether the wait for its confirmation has passed.
     pub fn is_late(self, now: u64) -> bool
-        ensures { result ≡ is_unconfirmed self.acknowledged self.confirmed now }
+        ensures { result ≡ is_late self now }
     {
         match self.acknowledged {
             Some(since) if !self.confirmed => now.saturating_sub(since) >= CONFIRMATION_WAIT_MS,

@@ -2,9 +2,9 @@
 
 ghost use Rattle.std.specs.Prelude.{◌≡◌, ◌≤◌, IfErr, OnOk, Some, None};
 ghost use Rattle.line_model.specs.ClientEnd.{MayConnect};
-ghost use Rattle.tunnel_link.specs.Goes.{Goes, Keeps};
+ghost use Rattle.tunnel_link.specs.Calls.{SendsSo, ConnectsSo, PollsSo, AnswersSo, ListensSo};
 
-use crate::came::{Answer, Came, Loss, What};
+use crate::came::{Answer, Came, What};
 use crate::known::Known;
 use knx_model::Datagram;
 use line_model::{HubFault, Link, Polled};
@@ -14,9 +14,8 @@ const LONGEST: usize = 512;
 
 /// Sends a datagram.
 pub fn sent<L: Link>(link: &mut L, known: &mut Known, datagram: &Datagram) -> Result<(), HubFault>
-    ensures same { OnOk result (known.new ≡ known.old) }
-    ensures story { Goes (L.story link.old) (L.story link.new) }
-    ensures fault { IfErr result (λ fault. known.new.fault ≡ Some fault) }
+    ensures so { SendsSo result datagram.now known.old known.new (L.story link.old) (L.story link.new) }
+    ensures time { L.clock link.old ≤ L.clock link.new }
     ensures events { L.place link.old ≤ L.place link.new }
 {
     match link.send(datagram.as_slice()) {
@@ -28,9 +27,8 @@ pub fn sent<L: Link>(link: &mut L, known: &mut Known, datagram: &Datagram) -> Re
 /// Takes a new endpoint, and asks for a channel there.
 pub fn connected<L: Link>(link: &mut L, known: &mut Known) -> Result<(), HubFault>
     requires { MayConnect known.old.channel }
-    ensures stands { OnOk result (known.new.fault ≡ known.old.fault) }
-    ensures story { Goes (L.story link.old) (L.story link.new) }
-    ensures fault { IfErr result (λ fault. known.new.fault ≡ Some fault) }
+    ensures so { ConnectsSo result known.old known.new (L.story link.old) (L.story link.new) }
+    ensures time { L.clock link.old ≤ L.clock link.new }
     ensures events { L.place link.old ≤ L.place link.new }
 {
     if let Err(fault) = link.renew() {
@@ -43,8 +41,8 @@ pub fn connected<L: Link>(link: &mut L, known: &mut Known) -> Result<(), HubFaul
 
 /// One poll, and what is to be answered.
 pub fn polled<L: Link>(link: &mut L, known: &mut Known, wait_ms: u32) -> Result<Answer, HubFault>
-    ensures story { Goes (L.story link.old) (L.story link.new) }
-    ensures fault { IfErr result (λ fault. known.new.fault ≡ Some fault) }
+    ensures so { PollsSo result wait_ms known.old known.new (L.story link.old) (L.story link.new) }
+    ensures time { L.clock link.old ≤ L.clock link.new }
     ensures events { L.place link.old ≤ L.place link.new }
 {
     let mut into = [0; LONGEST];
@@ -55,7 +53,7 @@ pub fn polled<L: Link>(link: &mut L, known: &mut Known, wait_ms: u32) -> Result<
         }
         Ok(Polled::Quiet) => {
             let now = link.now();
-            Ok(known.quiet(now))
+            Ok(known.lapse(What::Quiet, now))
         }
         Err(fault) => Err(known.failed(fault)),
     }
@@ -67,9 +65,8 @@ pub fn answered<L: Link>(
     known: &mut Known,
     sends: Option<Datagram>,
 ) -> Result<(), HubFault>
-    ensures stands { OnOk result (known.new.fault ≡ None) }
-    ensures story { Goes (L.story link.old) (L.story link.new) }
-    ensures fault { IfErr result (λ fault. known.new.fault ≡ Some fault) }
+    ensures so { AnswersSo result sends known.old known.new (L.story link.old) (L.story link.new) }
+    ensures time { L.clock link.old ≤ L.clock link.new }
     ensures events { L.place link.old ≤ L.place link.new }
 {
     match sends {
@@ -83,25 +80,12 @@ pub fn answered<L: Link>(
 
 /// One poll, and the answer to what was got.
 pub fn listened<L: Link>(link: &mut L, known: &mut Known, wait_ms: u32) -> Result<Came, HubFault>
-    ensures stands { OnOk result (known.new.fault ≡ None) }
-    ensures story { Goes (L.story link.old) (L.story link.new) }
-    ensures fault { IfErr result (λ fault. known.new.fault ≡ Some fault) }
+    ensures so { ListensSo result wait_ms known.old known.new (L.story link.old) (L.story link.new) }
+    ensures time { L.clock link.old ≤ L.clock link.new }
     ensures events { L.place link.old ≤ L.place link.new }
 {
     let Answer { what, loss, sends } = polled(link, known, wait_ms)?;
+    let sent = sends.is_some();
     answered(link, known, sends)?;
-    Ok(Came { what, loss })
-}
-
-/// A channel or a try that the time has ended is given up.
-pub fn lapsed<L: Link>(link: &mut L, known: &mut Known) -> Result<Loss, HubFault>
-    ensures stands { OnOk result (known.new.fault ≡ None) }
-    ensures story { Goes (L.story link.old) (L.story link.new) }
-    ensures fault { IfErr result (λ fault. known.new.fault ≡ Some fault) }
-    ensures events { L.place link.old ≤ L.place link.new }
-{
-    let now = link.now();
-    let Answer { loss, sends, .. } = known.lapse(What::Quiet, now);
-    answered(link, known, sends)?;
-    Ok(loss)
+    Ok(Came { what, loss, sent })
 }

@@ -1,19 +1,26 @@
 //! The client's end of a tunnel over a link.
 
-ghost use Rattle.std.specs.Prelude.{◌≡◌, ◌≤◌, IfErr, OnOk, Some, None};
+ghost use Rattle.std.specs.Prelude.{◌≡◌, ◌≤◌, ◌↔◌, IfErr, IsTrue, OnOk, OnErr, Some, None};
+ghost use Rattle.line_model.specs.Asks.{HasPlace};
+ghost use Rattle.line_model.specs.ClientView.{channel};
+ghost use Rattle.line_model.specs.Closing.{is_open};
 ghost use Rattle.line_model.specs.ClientEnd.{IsCemi};
-ghost use Rattle.line_model.specs.LinkStory.{IsNewLink};
-ghost use Rattle.tunnel_link.specs.Goes.{GoesOn, Keeps, new_known};
+ghost use Rattle.line_model.specs.LinkStory.{IsNewLink, IsTime, IsPlace, newest_time};
+ghost use Rattle.line_model.specs.Record.{entries};
+ghost use Rattle.tunnel_link.specs.Goes.{GoesOn, Keeps, AfterFault, new_known};
+ghost use Rattle.tunnel_link.specs.Rights.{IsntRefusal, KeepsRecord, WhereTold, WhileFits};
+ghost use Rattle.tunnel_link.specs.Adds.{Growing, place_of, Seeks, PutsOne, Leaves, Acts, PollAdds};
 
 use crate::acted::Acted;
-use crate::came::{Came, Loss};
+use crate::came::{Answer, Came, Loss, What};
 use crate::known::Known;
-use crate::sending::{connected, lapsed, listened, sent};
+use crate::sending::{answered, connected, listened, sent};
+use crate::wait::until;
 use knx_model::Datagram;
 use line_model::{HubFault, Link};
 use std::marker::Model;
 
-/// The client's end of a tunnel over a link.
+/// The client's end of a tunnel over a link. After a fault each call answers that fault, and nothing more is done on the link.
 ///
 /// ```text
 ///   seek: renew, connect        put: a request          poll: one poll, and the answer to what was got
@@ -27,13 +34,13 @@ pub struct Tunnel<L: Link> {
 }
 
 impl<L: Link> Model for Tunnel<L> {
-    ghost use Rattle.tunnel_link.specs.Goes.{Seen, Keeps};
+    ghost use Rattle.tunnel_link.specs.Goes.{Seen, KeepsAll};
 
     ghost Value = { Seen L };
 
     ghost view = { λ t. record { link = t.link; known = t.known } };
 
-    ghost invariant = { λ t. Keeps (L.story t.link) };
+    ghost invariant = { λ t. KeepsAll t.known (L.story t.link) };
 }
 
 impl<L: Link> Tunnel<L> {
@@ -65,34 +72,47 @@ impl<L: Link> Tunnel<L> {
     }
 
     /// How many datagrams were dropped.
-    pub fn dropped(&self) -> u64 {
+    pub fn dropped(&self) -> u64
+        ensures { result ≡ self.now.known.dropped }
+    {
         self.known.dropped
     }
 
     /// How many datagrams were got, awaited connection state responses aside.
-    pub fn taken(&self) -> u64 {
+    pub fn taken(&self) -> u64
+        ensures { result ≡ self.now.known.taken }
+    {
         self.known.taken
     }
 
-    /// The time that the link told last, in milliseconds.
-    pub fn now(&self) -> u64 {
+    /// The time that the link told last, in milliseconds: where its record is told, the newest time of that.
+    pub fn now(&self) -> u64
+        ensures value { result ≡ L.clock self.now.link }
+        ensures told { IsTime result (L.story self.now.link) }
+        ensures newest { WhereTold (λ places. result ≡ newest_time (entries places)) (L.story self.now.link) }
+    {
         self.link.now()
     }
 
     /// How many events the link tells of, or entries of its record.
     pub fn at(&self) -> u64
-        ensures { result ≡ L.place self.now.link }
+        ensures value { result ≡ L.place self.now.link }
+        ensures told { IsPlace result (L.story self.now.link) }
     {
         self.link.at()
     }
 
     /// Whether a channel is open.
-    pub fn is_open(&self) -> bool {
+    pub fn is_open(&self) -> bool
+        ensures told { WhileFits (λ r. result ≡ is_open (channel r)) self.now.known (L.story self.now.link) }
+    {
         self.known.channel.is_open()
     }
 
     /// Whether a request can be put: the channel is open, and each request in it is acknowledged and confirmed.
-    pub fn has_place(&self) -> bool {
+    pub fn has_place(&self) -> bool
+        ensures told { WhileFits (λ r. IsTrue result ↔ HasPlace (channel r)) self.now.known (L.story self.now.link) }
+    {
         self.known.has_place(self.link.now())
     }
 
@@ -103,8 +123,10 @@ impl<L: Link> Tunnel<L> {
 
     /// Nothing more is done on the link.
     pub fn fail(&mut self, fault: HubFault) -> HubFault
+        requires { IsntRefusal fault }
         ensures link { self.new.link ≡ self.old.link }
         ensures same { result ≡ fault }
+        ensures known { self.new.known ≡ record self.old.known { fault = Some fault } }
         ensures fault { self.new.known.fault ≡ Some fault }
     {
         self.known.fail(fault)
@@ -113,10 +135,14 @@ impl<L: Link> Tunnel<L> {
     /// Takes a new endpoint and asks for a channel there, where none is open or sought. Tells whether it did.
     pub fn seek(&mut self) -> Result<bool, HubFault>
         ensures grows { GoesOn (L.story self.old.link) (L.story self.new.link) }
+        ensures adds { Growing (Seeks result) (L.story self.old.link) (L.story self.new.link) }
         ensures fault { IfErr result (λ fault. self.new.known.fault ≡ Some fault) }
-        ensures stands { self.old.known.fault ≡ None → OnOk result (self.new.known.fault ≡ None) }
+        ensures stands { OnOk result (self.new.known.fault ≡ None) }
+        ensures ended { AfterFault self.old result self.new }
+        ensures time { L.clock self.old.link ≤ L.clock self.new.link }
         ensures events { L.place self.old.link ≤ L.place self.new.link }
     {
+        self.known.standing()?;
         if !self.known.channel.may_connect() {
             return Ok(false);
         }
@@ -128,10 +154,14 @@ impl<L: Link> Tunnel<L> {
     pub fn put(&mut self, cemi: &Datagram) -> Result<(), HubFault>
         requires { IsCemi cemi.now }
         ensures grows { GoesOn (L.story self.old.link) (L.story self.new.link) }
+        ensures adds { Growing (PutsOne result cemi.now (place_of (L.story self.new.link))) (L.story self.old.link) (L.story self.new.link) }
         ensures fault { IfErr result (λ fault. self.new.known.fault ≡ Some fault) }
-        ensures stands { self.old.known.fault ≡ None → OnOk result (self.new.known.fault ≡ None) }
+        ensures stands { OnOk result (self.new.known.fault ≡ None) }
+        ensures ended { AfterFault self.old result self.new }
+        ensures time { L.clock self.old.link ≤ L.clock self.new.link }
         ensures events { L.place self.old.link ≤ L.place self.new.link }
     {
+        self.known.standing()?;
         let now = self.link.now();
         match self.known.puts(cemi, now) {
             Some(request) => sent(&mut self.link, &mut self.known, &request),
@@ -142,11 +172,15 @@ impl<L: Link> Tunnel<L> {
     /// Asks to end the channel. Tells whether there was one.
     pub fn leave(&mut self) -> Result<bool, HubFault>
         ensures grows { GoesOn (L.story self.old.link) (L.story self.new.link) }
+        ensures adds { Growing (Leaves result) (L.story self.old.link) (L.story self.new.link) }
         ensures fault { IfErr result (λ fault. self.new.known.fault ≡ Some fault) }
-        ensures stands { self.old.known.fault ≡ None → OnOk result (self.new.known.fault ≡ None) }
+        ensures stands { OnOk result (self.new.known.fault ≡ None) }
+        ensures ended { AfterFault self.old result self.new }
+        ensures time { L.clock self.old.link ≤ L.clock self.new.link }
         ensures events { L.place self.old.link ≤ L.place self.new.link }
     {
-        match self.known.channel.leave() {
+        self.known.standing()?;
+        match self.known.leaves() {
             Some(request) => {
                 sent(&mut self.link, &mut self.known, &request)?;
                 Ok(true)
@@ -159,13 +193,18 @@ impl<L: Link> Tunnel<L> {
     /// is sent.
     pub fn act(&mut self) -> Result<Acted, HubFault>
         ensures grows { GoesOn (L.story self.old.link) (L.story self.new.link) }
+        ensures adds { Growing (Acts result) (L.story self.old.link) (L.story self.new.link) }
         ensures fault { IfErr result (λ fault. self.new.known.fault ≡ Some fault) }
-        ensures stands { self.old.known.fault ≡ None → OnOk result (self.new.known.fault ≡ None) }
+        ensures stands { OnOk result (self.new.known.fault ≡ None) }
+        ensures ended { AfterFault self.old result self.new }
+        ensures time { L.clock self.old.link ≤ L.clock self.new.link }
         ensures events { L.place self.old.link ≤ L.place self.new.link }
     {
-        let loss = self.lapse()?;
-        let again = self.send_due()?;
-        let beat = self.send_due()?;
+        self.known.standing()?;
+        let now = self.link.now();
+        let loss = self.lapse(now)?;
+        let again = self.send_due(now)?;
+        let beat = self.send_due(now)?;
         Ok(Acted {
             sent: again || beat || loss == Loss::Told,
             loss,
@@ -173,23 +212,29 @@ impl<L: Link> Tunnel<L> {
     }
 
     /// Gives up a channel or a try that the time has ended.
-    fn lapse(&mut self) -> Result<Loss, HubFault>
+    fn lapse(&mut self, now: u64) -> Result<Loss, HubFault>
+        requires time { IsTime now (L.story self.old.link) }
+        requires stands { self.old.known.fault ≡ None }
         ensures grows { GoesOn (L.story self.old.link) (L.story self.new.link) }
         ensures fault { IfErr result (λ fault. self.new.known.fault ≡ Some fault) }
-        ensures stands { self.old.known.fault ≡ None → OnOk result (self.new.known.fault ≡ None) }
+        ensures stands { OnOk result (self.new.known.fault ≡ None) }
+        ensures time { L.clock self.old.link ≤ L.clock self.new.link }
         ensures events { L.place self.old.link ≤ L.place self.new.link }
     {
-        lapsed(&mut self.link, &mut self.known)
+        let Answer { loss, sends, .. } = self.known.lapse(What::Quiet, now);
+        answered(&mut self.link, &mut self.known, sends)?;
+        Ok(loss)
     }
 
     /// Sends the request that is due again, or else the heartbeat. Tells whether there was one.
-    fn send_due(&mut self) -> Result<bool, HubFault>
+    fn send_due(&mut self, now: u64) -> Result<bool, HubFault>
+        requires stands { self.old.known.fault ≡ None }
         ensures grows { GoesOn (L.story self.old.link) (L.story self.new.link) }
         ensures fault { IfErr result (λ fault. self.new.known.fault ≡ Some fault) }
-        ensures stands { self.old.known.fault ≡ None → OnOk result (self.new.known.fault ≡ None) }
+        ensures stands { OnOk result (self.new.known.fault ≡ None) }
+        ensures time { L.clock self.old.link ≤ L.clock self.new.link }
         ensures events { L.place self.old.link ≤ L.place self.new.link }
     {
-        let now = self.link.now();
         match self.known.due(now) {
             Some(datagram) => {
                 sent(&mut self.link, &mut self.known, &datagram)?;
@@ -199,19 +244,27 @@ impl<L: Link> Tunnel<L> {
         }
     }
 
-    /// One poll. A request that was got is acknowledged at once, and a loss of the channel answered.
-    pub fn poll(&mut self, wait_ms: u32) -> Result<Came, HubFault>
+    /// One poll of at most so many milliseconds, and not past a deadline. A request that was got is acknowledged at once, and a loss of the
+    /// channel answered.
+    pub fn poll(&mut self, longest_ms: u32) -> Result<Came, HubFault>
         ensures grows { GoesOn (L.story self.old.link) (L.story self.new.link) }
+        ensures adds { Growing (PollAdds result) (L.story self.old.link) (L.story self.new.link) }
         ensures fault { IfErr result (λ fault. self.new.known.fault ≡ Some fault) }
-        ensures stands { self.old.known.fault ≡ None → OnOk result (self.new.known.fault ≡ None) }
+        ensures stands { OnOk result (self.new.known.fault ≡ None) }
+        ensures ended { AfterFault self.old result self.new }
+        ensures time { L.clock self.old.link ≤ L.clock self.new.link }
         ensures events { L.place self.old.link ≤ L.place self.new.link }
     {
+        self.known.standing()?;
+        let now = self.link.now();
+        let wait_ms = until(self.deadline(), now, longest_ms);
         listened(&mut self.link, &mut self.known, wait_ms)
     }
 
     /// What its type keeps.
     pub fn keeps(&self)
-        ensures { Keeps (L.story self.now.link) }
+        ensures legal { Keeps (L.story self.now.link) }
+        ensures record { KeepsRecord self.now.known (L.story self.now.link) }
     {
         let _link = &self.link;
     }

@@ -54,7 +54,7 @@ impl<L: Link> Hub<L> {
         ensures log { self.new.log ≡ self.old.log }
     {
         if self.tunnel.leave()? {
-            self.work.asked(now);
+            self.work.closing = Some(Closing::asked(now));
             return Ok(Finished::Going);
         }
         Ok(Finished::Over)

@@ -7,7 +7,7 @@ ghost use Rattle.hub_work.specs.Turns.{Adds, GroupTells, IsntTold, TellsTurn};
 ghost use Rattle.hub_core.specs.Seen.{SameRun, StaysEnded};
 
 use super::Hub;
-use hub_work::{GroupDid, Stage};
+use hub_work::{GroupDid, Stage, places_are_free};
 use line_model::{HubFault, Link, LogWhat};
 
 impl<L: Link> Hub<L> {
@@ -21,7 +21,7 @@ impl<L: Link> Hub<L> {
 
     /// One step of the group telegram `k`, from 1, which is the least that isn't told: its request is put, or it is told sent or lost.
     pub fn send_group(&mut self, k: u32) -> Result<GroupDid, HubFault>
-        requires { IsNextTurn self.old.turns self.old.log k }
+        requires next { IsNextTurn self.old.turns self.old.log k }
         ensures grows { GoesOn (L.story self.old.link) (L.story self.new.link) }
         ensures told { IfOk result (λ did. GroupTells (L.place self.old.link) k did self.old.log self.new.log) }
         ensures untold { OnErr result (self.new.log ≡ self.old.log) }
@@ -35,8 +35,8 @@ impl<L: Link> Hub<L> {
         match self.work.stage() {
             Stage::Unput => self.put_group(),
             Stage::UnderWay => Ok(GroupDid::Wait),
-            Stage::Confirmed => self.tell_group(k, LogWhat::Sent(k), GroupDid::Sent),
-            Stage::Lost => self.tell_group(k, LogWhat::Lost(k), GroupDid::Lost),
+            Stage::Confirmed => Ok(self.tell_group(k, LogWhat::Sent(k), GroupDid::Sent)),
+            Stage::Lost => Ok(self.tell_group(k, LogWhat::Lost(k), GroupDid::Lost)),
         }
     }
 
@@ -53,6 +53,8 @@ impl<L: Link> Hub<L> {
         if !self.tunnel.has_place() {
             return Ok(GroupDid::Wait);
         }
+        self.tunnel.keeps();
+        places_are_free();
         match self.work.telegram() {
             Some(cemi) => {
                 self.work.telegram_put();
@@ -64,22 +66,18 @@ impl<L: Link> Hub<L> {
     }
 
     /// Tells what came of it.
-    fn tell_group(&mut self, k: u32, what: LogWhat, did: GroupDid) -> Result<GroupDid, HubFault>
+    fn tell_group(&mut self, k: u32, what: LogWhat, did: GroupDid) -> GroupDid
         requires next { IsNextTurn self.old.turns self.old.log k }
         requires what { TellsTurn k what }
         requires stands { self.old.fault ≡ None }
-        ensures grows { GoesOn (L.story self.old.link) (L.story self.new.link) }
-        ensures fault { IfErr result (λ fault. self.new.fault ≡ Some fault) }
-        ensures stands { OnOk result (self.new.fault ≡ None) }
-        ensures answer { IfOk result (λ given. given ≡ did) }
-        ensures told { OnOk result (Adds (L.place self.old.link) 0 what self.old.log self.new.log) }
-        ensures untold { OnErr result (self.new.log ≡ self.old.log) }
+        ensures link { self.new.link ≡ self.old.link }
+        ensures stands { self.new.fault ≡ None }
+        ensures answer { result ≡ did }
+        ensures told { Adds (L.place self.old.link) 0 what self.old.log self.new.log }
         ensures run { SameRun self.old self.new }
     {
         let at = self.tunnel.at();
-        match self.work.tell_telegram(at, k, what) {
-            Ok(()) => Ok(did),
-            Err(no_memory) => Err(self.out_of_memory(no_memory)),
-        }
+        self.work.tell_telegram(at, k, what);
+        did
     }
 }

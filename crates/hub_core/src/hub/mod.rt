@@ -3,23 +3,26 @@
 mod finish;
 mod group;
 mod pump;
+mod taking;
 mod turn;
 
-ghost use Rattle.std.specs.Prelude.{◌≡◌, ◌≤◌, ◌<◌, ◌+◌, ◌-◌, ◌^◌, min, length, map, reverse, List, [], IfOk, IfErr, Some, None};
+ghost use Rattle.std.specs.Prelude.{◌≡◌, ◌≤◌, ◌<◌, ◌+◌, ◌^◌, ◌-◌, min, length, map, reverse, List, [], IfOk, IfErr, Some, None};
+ghost use Rattle.std.specs.List.{AllByRecursion};
+ghost use Rattle.line_model.specs.Headline.{Keeps, IsGoodJob};
+ghost use Rattle.line_model.specs.LinkStory.{IsNewLink, record_in};
 ghost use Rattle.line_model.specs.Log.{Job, IsLog, OneDownloaderPerDevice};
 ghost use Rattle.hub_work.specs.Books.{AreJobsOf};
-ghost use Rattle.hub_core.specs.Seen.{SameRun};
-ghost use Rattle.hub_work.specs.declared.job.HubJob.{HubJob as JobOfHub};
-ghost use Rattle.tunnel_link.specs.Goes.{Keeps};
-ghost use Rattle.std.specs.List.{AllByRecursion};
-ghost use Rattle.line_model.specs.LinkStory.{IsNewLink};
 ghost use Rattle.hub_work.specs.Requests.{IsTurnInRange};
+ghost use Rattle.hub_work.specs.declared.job.HubJob.{HubJob as JobOfHub};
+ghost use Rattle.hub_core.specs.Promises.{FaultRightIn, IsRightOver, DropsIn};
+ghost use Rattle.hub_core.specs.Seen.{AreJobs, SameRun, tasks_seen};
 
 use crate::end::HubEnd;
 use device_reservation::one_downloader_per_device;
 use hub_work::{HubJob, Work};
 use knx_model::{List, NoMemory};
-use line_model::{GroupTurn, HubFault, Link};
+use line_law::every_interleaving;
+use line_model::{GroupTurn, Link};
 use std::alloc::Global;
 use std::marker::Model;
 use tunnel_link::Tunnel;
@@ -48,10 +51,12 @@ impl<L: Link> Model for Hub<L> {
     ghost Value = { Seen L };
 
     ghost use Rattle.hub_core.specs.Keeps.{Keeps};
+    ghost use Rattle.std.specs.Prelude.{map};
+    ghost use Rattle.hub_core.specs.Seen.{hub_job_of};
 
-    ghost view = { λ h. record { link = h.tunnel.link; devices = h.work.reservation.devices; turns = h.work.telegrams.turns; log = h.work.journal; fault = h.tunnel.known.fault; missed = h.missed } };
+    ghost view = { λ h. record { link = h.tunnel.link; jobs = map hub_job_of h.work.downloaders; devices = h.work.reservation.devices; turns = h.work.telegrams.turns; log = h.work.journal.entries; fault = h.tunnel.known.fault; missed = h.missed } };
 
-    ghost invariant = { λ h. Keeps (L.place h.tunnel.link) h.work h.tunnel.known.fault };
+    ghost invariant = { λ h. Keeps (L.place h.tunnel.link) (L.story h.tunnel.link) h.work h.met h.tunnel.known.fault };
 }
 
 impl<L: Link> Hub<L> {
@@ -71,6 +76,7 @@ impl<L: Link> Hub<L> {
         requires sendable { AllByRecursion IsTurnInRange groups }
         requires new { IsNewLink (L.story link) }
         ensures link { IfOk result (λ hub. hub.link ≡ link) }
+        ensures jobs { IfOk result (λ hub. tasks_seen hub.jobs ≡ tasks_seen jobs) }
         ensures devices { IfOk result (λ hub. hub.devices ≡ map (λ (j : JobOfHub). j.device) jobs) }
         ensures turns { IfOk result (λ hub. hub.turns ≡ groups) }
         ensures log { IfOk result (λ hub. hub.log ≡ []) }
@@ -106,6 +112,7 @@ impl<L: Link> Hub<L> {
         ensures fault { result.fault ≡ self.fault }
         ensures log { result.log ≡ reverse self.log }
         ensures missed { result.missed ≡ self.missed }
+        ensures dropped { DropsIn result.dropped (record_in (L.story self.link)) }
     {
         let Hub {
             tunnel,
@@ -124,35 +131,19 @@ impl<L: Link> Hub<L> {
         }
     }
 
-    /// What its type keeps: what its link tells is legal; and the log is one of these jobs and telegrams, with one downloader for each device. The jobs are
-    /// any of its devices.
+    /// What its type keeps, at every moment and after a fault too, for any jobs with its devices and plans: where its link tells something, the
+    /// client's discipline; over a link that tells its events and good jobs, so, what the law of the line says; and that it ends exactly where there is a
+    /// cause. Over every link its log is one of its jobs and telegrams, with one downloader for each device.
     pub fn keeps(&self)
-        ensures legal { Keeps (L.story self.now.link) }
+        ensures headline { (jobs : List Job) → AreJobs self.now.jobs jobs → Keeps jobs self.now.turns (L.story self.now.link) self.now.log }
+        ensures right { (jobs : List Job) → AreJobs self.now.jobs jobs → AllByRecursion IsGoodJob jobs → IsRightOver jobs (L.story self.now.link) self.now.log }
+        ensures fault { (jobs : List Job) → AreJobs self.now.jobs jobs → FaultRightIn jobs self.now.log self.now.fault (record_in (L.story self.now.link)) }
         ensures form { (jobs : List Job) → AreJobsOf self.now.devices jobs → IsLog jobs self.now.turns (L.place self.now.link) self.now.log }
         ensures alone { (jobs : List Job) → AreJobsOf self.now.devices jobs → OneDownloaderPerDevice jobs self.now.log }
     {
         one_downloader_per_device();
+        every_interleaving();
         let _work = &self.work;
         self.tunnel.keeps();
-    }
-
-    /// There was no memory.
-    fn out_of_memory(&mut self, no_memory: NoMemory) -> HubFault
-        ensures link { self.new.link ≡ self.old.link }
-        ensures fault { self.new.fault ≡ Some result }
-        ensures run { SameRun self.old self.new }
-        ensures log { self.new.log ≡ self.old.log }
-    {
-        self.fail(HubFault::NoMemory(no_memory))
-    }
-
-    /// The run ends so.
-    fn fail(&mut self, fault: HubFault) -> HubFault
-        ensures link { self.new.link ≡ self.old.link }
-        ensures fault { self.new.fault ≡ Some result }
-        ensures run { SameRun self.old self.new }
-        ensures log { self.new.log ≡ self.old.log }
-    {
-        self.tunnel.fail(fault)
     }
 }

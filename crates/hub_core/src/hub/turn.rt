@@ -6,13 +6,13 @@ ghost use Rattle.tunnel_link.specs.Goes.{GoesOn};
 ghost use Rattle.hub_core.specs.Seen.{SameRun, StaysEnded};
 
 use super::Hub;
-use hub_work::{Turn, Turned};
+use hub_work::{Turn, Turned, places_are_free};
 use line_model::{HubFault, Link};
 
 impl<L: Link> Hub<L> {
     /// One step of a worker, from 1: it takes a job, takes in what came for its job, sends what its job sends next, or tells its job's end.
     pub fn turn(&mut self, worker: u8) -> Result<Turned, HubFault>
-        requires { 1 ≤ worker }
+        requires worker { 1 ≤ worker }
         ensures grows { GoesOn (L.story self.old.link) (L.story self.new.link) }
         ensures told { IfOk result (λ turned. TurnTells (L.place self.old.link) worker turned self.old.log self.new.log) }
         ensures free { IfOk result (WhyFreeByLog self.old.devices self.old.log) }
@@ -27,13 +27,14 @@ impl<L: Link> Hub<L> {
         let now = self.tunnel.now();
         let at = self.tunnel.at();
         let has_place = self.tunnel.has_place();
+        self.tunnel.keeps();
+        places_are_free();
         match self.work.turn(worker, now, at, has_place) {
-            Ok(Turn::Did(turned)) => Ok(turned),
-            Ok(Turn::Puts(cemi)) => {
+            Turn::Did(turned) => Ok(turned),
+            Turn::Puts(cemi) => {
                 self.tunnel.put(&cemi)?;
                 Ok(Turned::Moved)
             }
-            Err(no_memory) => Err(self.tunnel.fail(HubFault::NoMemory(no_memory))),
         }
     }
 }

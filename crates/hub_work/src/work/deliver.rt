@@ -2,11 +2,16 @@
 
 ghost use Rattle.std.specs.Prelude.{◌≡◌, Some};
 ghost use Rattle.line_model.specs.ClientView.{indication_of};
+ghost use Rattle.hub_work.specs.Follows.{FrameFollows, LossFollows};
+ghost use Rattle.hub_work.specs.Books.{held_at};
+ghost use Rattle.hub_work.specs.Comes.{ConfirmationFollows, HearingFollows, lost_for};
+ghost use Rattle.hub_work.specs.Crew.{holdings};
+ghost use Rattle.hub_work.specs.Downloaders.{states};
 ghost use Rattle.hub_work.specs.Works.{SameBooks};
 
-use super::{Sender, Work, index_of};
+use super::{Sender, Work};
 use crate::requests::indication_of;
-use download_core::{Did, Downloader};
+use download_core::{Did, follows_the_record, flights_are_known};
 use knx_model::{IndAddr, Ldata, LdataCode};
 use line_model::Indication;
 use std::mem;
@@ -19,6 +24,7 @@ impl Work {
     pub fn deliver(&mut self, frame: &Ldata, now: u64) -> Option<Indication>
         ensures heard { result ≡ indication_of (Some frame.now) }
         ensures books { SameBooks self.old self.new }
+        ensures follows { FrameFollows self.old self.new frame.now now }
     {
         match frame.code {
             LdataCode::Con => self.confirmed(frame.error, now),
@@ -31,15 +37,16 @@ impl Work {
     /// The confirmation of the request that was put last came.
     fn confirmed(&mut self, error: bool, now: u64)
         ensures books { SameBooks self.old self.new }
+        ensures follows { ConfirmationFollows self.old self.new error now }
     {
+        follows_the_record();
+        flights_are_known();
         match mem::replace(&mut self.sender, Sender::Nobody) {
             Sender::Nobody => {}
             Sender::GroupThread => self.telegrams.confirmed(),
             Sender::Worker(worker) => {
                 if let Some(held) = self.crew.held(worker) {
-                    if let Some(downloader) = self.downloaders.get_mut(index_of(held.job)) {
-                        downloader.confirmed(error, now);
-                    }
+                    self.downloaders.confirmed(held.job, error, now);
                     self.crew.came(worker);
                 }
             }
@@ -49,14 +56,15 @@ impl Work {
     /// A frame of a device came.
     fn heard(&mut self, frame: &Ldata, now: u64)
         ensures books { SameBooks self.old self.new }
+        ensures follows { HearingFollows self.old self.new frame.now now }
     {
+        follows_the_record();
+        flights_are_known();
         let device = IndAddr { raw: frame.source };
-        if let Some(worker) = self.crew.of_device(device) {
-            if let Some(held) = self.crew.held(worker) {
-                if let Some(downloader) = self.downloaders.get_mut(index_of(held.job)) {
-                    downloader.take(frame.tpdu.as_slice(), now);
-                }
-                self.crew.came(worker);
+        if let Some(place) = self.crew.of_device(device) {
+            if let Some(held) = self.crew.at(place) {
+                self.downloaders.take(held.job, frame.tpdu.as_slice(), now);
+                self.crew.came_at(place);
             }
         }
     }
@@ -64,7 +72,10 @@ impl Work {
     /// The channel was lost.
     pub fn lost(&mut self, now: u64)
         ensures books { SameBooks self.old self.new }
+        ensures follows { LossFollows self.old self.new now }
     {
+        follows_the_record();
+        flights_are_known();
         self.sender = Sender::Nobody;
         self.telegrams.lost();
         for place in 0..self.crew.len() {
@@ -75,25 +86,27 @@ impl Work {
     /// The channel was lost for the worker at a place, from 0.
     fn lost_for(&mut self, place: usize, now: u64)
         ensures books { SameBooks self.old self.new }
+        ensures lost { states self.new.downloaders ≡ lost_for (held_at self.old.crew place) (states self.old.downloaders) }
+        ensures held { holdings self.new.crew ≡ holdings self.old.crew }
+        ensures telegrams { self.new.telegrams ≡ self.old.telegrams }
+        ensures sender { self.new.sender ≡ self.old.sender }
     {
         let Some(held) = self.crew.at(place) else {
             return;
         };
-        if let Some(downloader) = self.downloaders.get_mut(index_of(held.job)) {
-            let ran = runs(downloader, now);
-            downloader.tunnel_lost();
-            if ran {
-                self.crew.came_at(place);
-            }
+        let ran = self.runs(held.job, now);
+        self.downloaders.lost(held.job);
+        if ran {
+            self.crew.came_at(place);
         }
     }
-}
 
-/// Whether an attempt runs.
-fn runs(downloader: &Downloader, now: u64) -> bool {
-    match downloader.next(now) {
-        Did::Wait => true,
-        Did::Send(tpdu) => tpdu.as_slice() != [CONNECT].as_slice(),
-        Did::Done | Did::Failed { .. } | Did::Refused { .. } => false,
+    /// Whether an attempt of a job runs.
+    fn runs(&self, job: u32, now: u64) -> bool {
+        match self.downloaders.next(job, now) {
+            Some(Did::Wait) => true,
+            Some(Did::Send(tpdu)) => tpdu.as_slice() != [CONNECT].as_slice(),
+            Some(Did::Done | Did::Failed { .. } | Did::Refused { .. }) | None => false,
+        }
     }
 }

@@ -3,24 +3,27 @@
 mod deliver;
 mod turn;
 
-ghost use Rattle.std.specs.Prelude.{◌≡◌, ◌<◌, length, map, reverse, IfOk, IfSome, OnErr, OnOk};
+ghost use Rattle.std.specs.Prelude.{◌≡◌, ◌<◌, length, map, reverse, IfOk, IfSome, None, true, ◌↔◌};
 ghost use Rattle.hub_work.specs.declared.job.HubJob.{HubJob as Job};
 ghost use Rattle.std.specs.List.{AllByRecursion};
 ghost use Rattle.line_model.specs.ClientEnd.{IsCemi};
 ghost use Rattle.line_model.specs.Log.{IsNextTurn};
+ghost use Rattle.hub_work.specs.Downloaders.{task_of_hub_job};
+ghost use Rattle.hub_work.specs.Follows.{BeginsRightly, TelegramIsRight, TelegramFollows, TellingFollows};
 ghost use Rattle.hub_work.specs.Requests.{IsTurnInRange};
-ghost use Rattle.hub_work.specs.Telegrams.{next_of};
+ghost use Rattle.hub_work.specs.Telegrams.{IsNextRequest, next_of};
 ghost use Rattle.hub_work.specs.Turns.{Adds, TellsTurn};
-ghost use Rattle.hub_work.specs.Works.{WritesRightly, Lives, TellsRightly, SameRun, SameBooks, BeginsWith};
+ghost use Rattle.hub_work.specs.Works.{KeepsBooks, SameRun, SameBooks, BeginsWith, HasUnfinished, tasks};
 
 use crate::closing::Closing;
 use crate::crew::Crew;
+use crate::downloaders::Downloaders;
 use crate::job::HubJob;
 use crate::journal::Journal;
 use crate::telegrams::{Stage, Telegrams};
 use crate::wait::{LONGEST_POLL_MS, until};
 use device_reservation::Jobs;
-use download_core::{Did, Downloader};
+use download_core::Did;
 use knx_model::{Datagram, IndAddr, List, NoMemory};
 use line_model::{GroupTurn, LogEntry, LogWhat};
 use std::alloc::Global;
@@ -37,8 +40,7 @@ pub enum Sender {
 /// What is done, without any link.
 #[derive(Drop)]
 pub struct Work {
-    /// One of each job, in the jobs' order.
-    downloaders: Vec<Downloader>,
+    downloaders: Downloaders,
     reservation: Jobs,
     /// How many jobs have no end yet.
     unfinished: u32,
@@ -60,7 +62,9 @@ impl Work {
         requires few_jobs { length jobs < 4294967296 }
         requires few_groups { length groups < 4294967296 }
         requires sendable { AllByRecursion IsTurnInRange groups }
-        ensures { IfOk result (λ work. BeginsWith (map (λ (j : Job). j.device) jobs) groups work) }
+        ensures begins { IfOk result (λ work. BeginsWith (map (λ (j : Job). j.device) jobs) groups work) }
+        ensures tasks { IfOk result (λ work. tasks work ≡ map task_of_hub_job jobs) }
+        ensures fits { IfOk result (BeginsRightly jobs) }
     {
         let room = jobs.len() + jobs.len() + groups.len();
         let journal = Journal::with_room(alloc, room)?;
@@ -68,11 +72,7 @@ impl Work {
         let unfinished = jobs.len() as u32;
         let devices = devices_of(alloc, jobs.as_slice())?;
         let reservation = Jobs::new(alloc, &devices)?;
-        let mut downloaders = Vec::with_capacity(alloc, jobs.len())?;
-        for job in jobs.into_vec() {
-            let HubJob { device, plan } = job;
-            downloaders.push(Downloader::new(device, plan))?;
-        }
+        let downloaders = Downloaders::new(alloc, jobs)?;
         Ok(Work {
             downloaders,
             reservation,
@@ -87,7 +87,7 @@ impl Work {
 
     /// The log, the oldest entry first.
     pub fn into_log(self) -> List<LogEntry>
-        ensures { result ≡ reverse self.journal }
+        ensures { result ≡ reverse self.journal.entries }
     {
         let Work {
             downloaders: _,
@@ -103,7 +103,9 @@ impl Work {
     }
 
     /// Whether a job has no end yet.
-    pub fn is_unfinished(&self) -> bool {
+    pub fn is_unfinished(&self) -> bool
+        ensures { HasUnfinished self.now result }
+    {
         self.unfinished > 0
     }
 
@@ -118,13 +120,17 @@ impl Work {
     }
 
     /// How far the next group telegram is.
-    pub fn stage(&self) -> Stage {
+    pub fn stage(&self) -> Stage
+        ensures { result ≡ self.now.telegrams.stage }
+    {
         self.telegrams.stage()
     }
 
-    /// The octets of the next group telegram's request, where it may be put.
+    /// The octets of the next group telegram's request, where it may be put: one for after the jobs only once all have ended.
     pub fn telegram(&self) -> Option<Datagram>
-        ensures { IfSome result IsCemi }
+        ensures cemi { IfSome result IsCemi }
+        ensures next { IfSome result (IsNextRequest self.now.telegrams) }
+        ensures right { IfSome result (TelegramIsRight self.now) }
     {
         self.telegrams.request(self.unfinished > 0)
     }
@@ -139,28 +145,24 @@ impl Work {
     /// The next group telegram was put.
     pub fn telegram_put(&mut self)
         ensures books { SameBooks self.old self.new }
+        ensures follows { TelegramFollows self.old self.new }
     {
         self.telegrams.put();
         self.sender = Sender::GroupThread;
     }
 
     /// The next group telegram is told.
-    pub fn tell_telegram(&mut self, at: u64, k: u32, what: LogWhat) -> Result<(), NoMemory>
+    pub fn tell_telegram(&mut self, at: u64, k: u32, what: LogWhat)
         requires what { TellsTurn k what }
-        requires next { IsNextTurn self.old.telegrams.turns self.old.journal k }
-        requires telling { TellsRightly self.old }
-        requires written { WritesRightly at self.old }
-        requires live { Lives self.old }
-        ensures told { OnOk result (Adds at 0 what self.old.journal self.new.journal) }
-        ensures untold { OnErr result (self.new.journal ≡ self.old.journal) }
+        requires next { IsNextTurn self.old.telegrams.turns self.old.journal.entries k }
+        requires books { KeepsBooks at self.old }
+        ensures told { Adds at 0 what self.old.journal.entries self.new.journal.entries }
         ensures run { SameRun self.old self.new }
-        ensures written { WritesRightly at self.new }
-        ensures telling { TellsRightly self.new }
-        ensures live { Lives self.new }
+        ensures books { KeepsBooks at self.new }
+        ensures follows { TellingFollows at k what self.old self.new }
     {
-        self.journal.add(at, 0, what)?;
+        self.journal.add(at, 0, what);
         self.telegrams.told();
-        Ok(())
     }
 
     /// A disconnect request was sent.
@@ -192,13 +194,9 @@ impl Work {
         if held.came > 0 {
             return 0;
         }
-        let Some(downloader) = self.downloaders.get(index_of(held.job)) else {
-            return LONGEST_POLL_MS;
-        };
-        if held.begun && does_something(&downloader.next(now), has_place) {
-            0
-        } else {
-            until(downloader.deadline(), now, LONGEST_POLL_MS)
+        match self.downloaders.next(held.job, now) {
+            Some(did) if held.begun && does_something(&did, has_place) => 0,
+            _ => until(self.downloaders.deadline(held.job), now, LONGEST_POLL_MS),
         }
     }
 }
@@ -210,11 +208,6 @@ fn does_something(did: &Did, has_place: bool) -> bool {
         Did::Send(_) => has_place,
         Did::Done | Did::Failed { .. } | Did::Refused { .. } => true,
     }
-}
-
-/// The place of a job, which is counted from 1.
-fn index_of(job: u32) -> usize {
-    (job as usize).wrapping_sub(1)
 }
 
 /// The devices of the jobs.

@@ -1,17 +1,25 @@
 //! A worker's turn.
 
-ghost use Rattle.std.specs.Prelude.{◌≡◌, ◌≤◌, length, IfOk, OnOk, OnErr};
+ghost use Rattle.std.specs.Prelude.{◌≡◌, ℕ, ◌-◌, ◌≤◌, false, length, Some};
+ghost use Rattle.download_core.specs.Attempt.{DownloaderState};
+ghost use Rattle.download_core.specs.Steps.{stepped};
+ghost use Rattle.line_model.specs.Reading.{ldata_in};
+ghost use Rattle.hub_work.specs.Crew.{holdings, after_begun};
+ghost use Rattle.hub_work.specs.Comes.{TookFollows, EndFollows, after_end};
+ghost use Rattle.hub_work.specs.Downloaders.{changed, states};
+ghost use Rattle.hub_work.specs.Requests.{request_with};
 ghost use Rattle.line_model.specs.ClientEnd.{IsCemi};
 ghost use Rattle.hub_work.specs.Turns.{Adds, IsEnd, WaitsFree, PutsCemi, EndsJob, TurnTold};
-ghost use Rattle.hub_work.specs.Works.{WritesRightly, Lives, TellsRightly, SameRun, SameBooks, IsHolder, IsTaking};
+ghost use Rattle.hub_work.specs.Follows.{TurnFollows};
+ghost use Rattle.hub_work.specs.Works.{KeepsBooks, SameRun, SameBooks, IsHolder, IsTaking};
 
-use super::{Sender, Work, index_of};
+use super::{Sender, Work};
 use crate::answers::Turned;
 use crate::crew::Held;
 use crate::requests::to_device;
 use device_reservation::Taken;
 use download_core::Did;
-use knx_model::{ApduOctets, Datagram, NoMemory};
+use knx_model::{ApduOctets, Datagram};
 use line_model::LogWhat;
 
 /// What a worker's turn comes to.
@@ -25,67 +33,58 @@ pub enum Turn {
 
 impl Work {
     /// A worker's turn at a time, when the link tells of so many events and the place in flight is free or not.
-    pub fn turn(&mut self, worker: u8, now: u64, at: u64, has_place: bool) -> Result<Turn, NoMemory>
+    pub fn turn(&mut self, worker: u8, now: u64, at: u64, has_place: bool) -> Turn
         requires worker { 1 ≤ worker }
-        requires written { WritesRightly at self.old }
-        requires live { Lives self.old }
-        ensures free { IfOk result (WaitsFree self.old.reservation) }
-        ensures cemi { IfOk result PutsCemi }
-        ensures told { IfOk result (λ turn. TurnTold at worker turn self.old.journal self.new.journal) }
-        ensures untold { OnErr result (self.new.journal ≡ self.old.journal) }
+        requires books { KeepsBooks at self.old }
+        ensures free { WaitsFree self.old.reservation result }
+        ensures cemi { PutsCemi result }
+        ensures told { TurnTold at worker result self.old.journal.entries self.new.journal.entries }
         ensures run { SameRun self.old self.new }
-        ensures written { WritesRightly at self.new }
-        ensures telling { TellsRightly self.old → TellsRightly self.new }
-        ensures live { OnOk result (Lives self.new) }
+        ensures books { KeepsBooks at self.new }
+        ensures follows { TurnFollows now at self.old self.new result }
     {
         match self.crew.held(worker) {
             None => self.takes_job(worker, at),
             Some(held) if held.came > 0 => {
                 self.crew.takes_in(worker);
-                Ok(Turn::Did(Turned::Moved))
+                Turn::Did(Turned::Moved)
             }
             Some(held) => self.works(worker, held, now, at, has_place),
         }
     }
 
     /// The worker takes the first job that is free.
-    fn takes_job(&mut self, worker: u8, at: u64) -> Result<Turn, NoMemory>
+    fn takes_job(&mut self, worker: u8, at: u64) -> Turn
         requires worker { 1 ≤ worker }
-        requires written { WritesRightly at self.old }
-        requires live { Lives self.old }
-        ensures free { IfOk result (WaitsFree self.old.reservation) }
-        ensures cemi { IfOk result PutsCemi }
-        ensures told { IfOk result (λ turn. TurnTold at worker turn self.old.journal self.new.journal) }
-        ensures untold { OnErr result (self.new.journal ≡ self.old.journal) }
+        requires books { KeepsBooks at self.old }
+        ensures free { WaitsFree self.old.reservation result }
+        ensures cemi { PutsCemi result }
+        ensures told { TurnTold at worker result self.old.journal.entries self.new.journal.entries }
         ensures run { SameRun self.old self.new }
-        ensures written { WritesRightly at self.new }
-        ensures telling { TellsRightly self.old → TellsRightly self.new }
-        ensures live { OnOk result (Lives self.new) }
+        ensures books { KeepsBooks at self.new }
+        ensures follows { (now : ℕ) → TurnFollows now at self.old self.new result }
     {
         match self.reservation.take(worker) {
             Taken::Job(job) => self.took(worker, job, at),
-            Taken::Later => Ok(Turn::Did(Turned::Later)),
-            Taken::NoMore => Ok(Turn::Did(Turned::NoMore)),
+            Taken::Later => Turn::Did(Turned::Later),
+            Taken::NoMore => Turn::Did(Turned::NoMore),
         }
     }
 
     /// It took this job.
-    fn took(&mut self, worker: u8, job: u32, at: u64) -> Result<Turn, NoMemory>
+    fn took(&mut self, worker: u8, job: u32, at: u64) -> Turn
         requires worker { 1 ≤ worker }
         requires taking { IsTaking self.old at worker job }
-        ensures took { IfOk result (λ turn. turn ≡ Turn.Did (Turned.Took job)) }
-        ensures cemi { IfOk result PutsCemi }
-        ensures told { IfOk result (λ turn. TurnTold at worker turn self.old.journal self.new.journal) }
-        ensures untold { OnErr result (self.new.journal ≡ self.old.journal) }
+        ensures took { result ≡ Turn.Did (Turned.Took job) }
+        ensures told { Adds at worker (LogWhat.Took job) self.old.journal.entries self.new.journal.entries }
         ensures run { SameRun self.old self.new }
-        ensures written { WritesRightly at self.new }
-        ensures telling { TellsRightly self.old → TellsRightly self.new }
-        ensures live { OnOk result (Lives self.new) }
+        ensures books { KeepsBooks at self.new }
+        ensures follows { TookFollows at self.old self.new }
     {
-        self.journal.add(at, worker, LogWhat::Took(job))?;
+        self.journal.add(at, worker, LogWhat::Took(job));
         let device = self.reservation.device_of(job);
         self.crew.takes(worker, job, device);
-        Ok(Turn::Did(Turned::Took(job)))
+        Turn::Did(Turned::Took(job))
     }
 
     /// It goes on with its job.
@@ -96,28 +95,25 @@ impl Work {
         now: u64,
         at: u64,
         has_place: bool,
-    ) -> Result<Turn, NoMemory>
+    ) -> Turn
         requires worker { 1 ≤ worker }
         requires holder { IsHolder self.old worker held }
-        requires written { WritesRightly at self.old }
-        requires live { Lives self.old }
-        ensures free { IfOk result (WaitsFree self.old.reservation) }
-        ensures cemi { IfOk result PutsCemi }
-        ensures told { IfOk result (λ turn. TurnTold at worker turn self.old.journal self.new.journal) }
-        ensures untold { OnErr result (self.new.journal ≡ self.old.journal) }
+        requires books { KeepsBooks at self.old }
+        ensures free { WaitsFree self.old.reservation result }
+        ensures cemi { PutsCemi result }
+        ensures told { TurnTold at worker result self.old.journal.entries self.new.journal.entries }
         ensures run { SameRun self.old self.new }
-        ensures written { WritesRightly at self.new }
-        ensures telling { TellsRightly self.old → TellsRightly self.new }
-        ensures live { OnOk result (Lives self.new) }
+        ensures books { KeepsBooks at self.new }
+        ensures follows { TurnFollows now at self.old self.new result }
     {
-        let Some(downloader) = self.downloaders.get(index_of(held.job)) else {
-            return Ok(Turn::Did(Turned::Wait));
+        let Some(did) = self.downloaders.next(held.job, now) else {
+            return Turn::Did(Turned::Wait);
         };
-        match downloader.next(now) {
+        match did {
             Did::Send(tpdu) if has_place && !tpdu.is_empty() => {
-                Ok(Turn::Puts(self.puts(worker, held, tpdu, now)))
+                Turn::Puts(self.puts(worker, held, tpdu, now))
             }
-            Did::Send(_) | Did::Wait => Ok(Turn::Did(Turned::Wait)),
+            Did::Send(_) | Did::Wait => Turn::Did(Turned::Wait),
             Did::Done => self.tells_end(
                 worker,
                 held,
@@ -146,13 +142,17 @@ impl Work {
 
     /// It puts what its job sends next.
     fn puts(&mut self, worker: u8, held: Held, tpdu: ApduOctets, now: u64) -> Datagram
-        requires { 1 ≤ length tpdu }
+        requires some { 1 ≤ length tpdu }
+        requires worker { 1 ≤ worker }
         ensures cemi { IsCemi result }
+        ensures reads { ldata_in result ≡ Some (request_with false held.device.raw tpdu) }
+        ensures downloaders { states self.new.downloaders ≡ changed (λ (s : DownloaderState). stepped s now) held.job (states self.old.downloaders) }
+        ensures held { holdings self.new.crew ≡ after_begun (worker - 1) (holdings self.old.crew) }
+        ensures sender { self.new.sender ≡ Sender.Worker worker }
+        ensures telegrams { self.new.telegrams ≡ self.old.telegrams }
         ensures books { SameBooks self.old self.new }
     {
-        if let Some(downloader) = self.downloaders.get_mut(index_of(held.job)) {
-            let _ = downloader.step(now);
-        }
+        self.downloaders.step(held.job, now);
         self.crew.begins(worker);
         self.sender = Sender::Worker(worker);
         to_device(held.device, tpdu)
@@ -166,32 +166,31 @@ impl Work {
         at: u64,
         what: LogWhat,
         turned: Turned,
-    ) -> Result<Turn, NoMemory>
+    ) -> Turn
         requires worker { 1 ≤ worker }
         requires holder { IsHolder self.old worker held }
         requires turned { IsEnd turned }
         requires what { EndsJob held.job what }
-        requires written { WritesRightly at self.old }
-        requires live { Lives self.old }
-        ensures cemi { IfOk result PutsCemi }
-        ensures answer { IfOk result (λ turn. turn ≡ Turn.Did turned) }
-        ensures told { OnOk result (Adds at worker what self.old.journal self.new.journal) }
-        ensures untold { OnErr result (self.new.journal ≡ self.old.journal) }
+        requires books { KeepsBooks at self.old }
+        ensures answer { result ≡ Turn.Did turned }
+        ensures told { Adds at worker what self.old.journal.entries self.new.journal.entries }
         ensures run { SameRun self.old self.new }
-        ensures written { WritesRightly at self.new }
-        ensures telling { TellsRightly self.old → TellsRightly self.new }
-        ensures live { OnOk result (Lives self.new) }
+        ensures books { KeepsBooks at self.new }
+        ensures follows { EndFollows at what self.old self.new }
     {
-        self.journal.add(at, worker, what)?;
+        self.journal.add(at, worker, what);
         self.reservation.finish(held.job);
         self.crew.ends(worker);
         self.forget(worker);
-        Ok(Turn::Did(turned))
+        Turn::Did(turned)
     }
 
     /// One job less is unfinished, and what its worker put is nobody's now.
     fn forget(&mut self, worker: u8)
         ensures reservation { self.new.reservation ≡ self.old.reservation }
+        ensures downloaders { self.new.downloaders ≡ self.old.downloaders }
+        ensures unfinished { self.new.unfinished ≡ self.old.unfinished - 1 }
+        ensures sender { self.new.sender ≡ after_end worker self.old.sender }
         ensures crew { self.new.crew ≡ self.old.crew }
         ensures journal { self.new.journal ≡ self.old.journal }
         ensures telegrams { self.new.telegrams ≡ self.old.telegrams }

@@ -1,0 +1,22 @@
+-- What a hub keeps of what its link tells is the discipline of the headline.
+use Rattle.std.proofs.Common.{◌≡◌, ℕ, List, sym, subst}
+use Rattle.line_model.specs.declared.group.GroupTurn.{GroupTurn}
+use Rattle.line_model.specs.declared.log.LogEntry.{LogEntry}
+use Rattle.line_model.specs.Record.{Entry, Placed, entries}
+use Rattle.line_model.specs.Log.{Job, OneDownloaderPerDevice}
+use Rattle.line_model.specs.Renews.{RenewsRightly, AcknowledgesRightly}
+use Rattle.line_model.specs.Sendings.{SendsRightly}
+use Rattle.line_model.specs.Headline.{IsDisciplined}
+use Rattle.hub_core.specs.Discipline.{EachSo, IsPrompt, TellsAndAsks}
+use Rattle.hub_core.proofs.Telling.{each_right}
+
+pub disciplined : (jobs : List Job) (turns : List GroupTurn) (count : ℕ) (places : List Placed) (log : List LogEntry) (r : List Entry) → entries places ≡ r → TellsAndAsks jobs turns log count places → EachSo (IsPrompt jobs turns) log places → OneDownloaderPerDevice jobs log
+    → RenewsRightly r → SendsRightly r → AcknowledgesRightly r → IsDisciplined jobs turns count places log
+disciplined jobs turns count places log r e told prompt alone renews sends acknowledges = record {
+  form = told.form;
+  alone = alone;
+  truly = told.truly;
+  renews = subst RenewsRightly (sym e) renews;
+  sends = subst SendsRightly (sym e) sends;
+  asks = record { each = each_right jobs turns log places told.asks prompt; acknowledges = subst AcknowledgesRightly (sym e) acknowledges };
+}

@@ -1,0 +1,48 @@
+-- What happens on its own in a poll is nothing to the record, or a quiet wait.
+use Rattle.std.proofs.Common.{◌≡◌, ◌⊎◌, inl, inr, ℕ, ◌+◌, ◌≤◌, List, Bool, true, false, Option, Some, None, refl, sym, ◌∙◌, arith}
+use Rattle.knx_model.specs.declared.frames.cemi.Ldata.{Ldata}
+use Rattle.line_model.specs.Record.{Item, Quiet, item_of, item_at}
+use Rattle.line_model.specs.Tunnel as tunnel
+use Rattle.line_model.specs.Tunnel.{Tunnel}
+use Rattle.line_model.specs.World.{World, Event, AtGateway, Comes, IsLost, Send, From, Renew, Up, UpRefused, Down, LoseUp, LoseDown, Bus, BusTorn, BusWorn, BusAgain, DevSend, DevRepeat, DevClose, GwAgain, GwRepeat, GwClose, Cut, On, Pass, next_frame, waiting_at, repeat_at, carried, heard, now, step}
+use Rattle.line_model.specs.LinkStory.{IsForeign}
+use Rattle.tunnel_link.proofs.Clock.{same_now, timeless}
+
+-- time may go on, and then that is a quiet wait
+abbrev pub Passes : World → Event → Type 0
+Passes w e = (item_at w e ≡ None) ⊎ ((item_at w e ≡ Some Quiet) × (now w ≤ now (step w e)))
+
+carried_item : (w : World) (left_out : List ℕ) (o : Option Ldata) → item_of w.tunnel (carried w left_out o) ≡ None
+carried_item w left_out None = refl
+carried_item w left_out (Some frame) = refl
+
+heard_item : (w : World) (g : AtGateway) (o : Option Ldata) → item_of w.tunnel (heard g o) ≡ None
+heard_item w Comes None = refl
+heard_item w Comes (Some frame) = refl
+heard_item w IsLost o = refl
+
+later : (a b ms : ℕ) → b ≡ a + ms → a ≤ b
+later a b ms h = omega arith
+
+pub passes : (w : World) (e : Event) → IsForeign e ≡ true → Passes w e
+passes w (Send octets) h = absurd (cc)
+passes w (From endpoint octets) h = absurd (cc)
+passes w Renew h = absurd (cc)
+passes w (Up age) h = inl refl
+passes w (UpRefused age status) h = inl refl
+passes w (Down age) h = absurd (cc)
+passes w (LoseUp age) h = inl refl
+passes w (LoseDown age) h = inl refl
+passes w (Bus left_out) h = inl (carried_item w left_out (next_frame w))
+passes w (BusTorn fresh octets) h = inl (carried_item w _ (next_frame w))
+passes w (BusWorn octets) h = inl (carried_item w _ (next_frame w))
+passes w (BusAgain device) h = inl refl
+passes w (DevSend device gateway left_out) h = inl (heard_item w gateway (waiting_at w device))
+passes w (DevRepeat device gateway) h = inl (heard_item w gateway (repeat_at w device))
+passes w (DevClose device) h = inl refl
+passes w GwAgain h = inl (heard_item w Comes w.echo)
+passes w GwRepeat h = inl refl
+passes w GwClose h = inl refl
+passes w (Cut device) h = inl refl
+passes w (On device) h = inl refl
+passes w (Pass ms) h = inr (refl, later (now w) (now (step w (Pass ms))) ms (Rattle.tunnel_link.proofs.Clock.next_now _))

@@ -1,0 +1,119 @@
+//! What is got.
+
+ghost use Rattle.std.specs.Prelude.{◌≡◌};
+ghost use Rattle.line_model.specs.ClientFrames.{HasTunnelIfUp};
+ghost use Rattle.line_model.specs.Reading.{ldata_in};
+ghost use Rattle.tunnel_link.specs.Kept.{after_got, got_answer, taken, take_answer, with_heard, what_heard, answers_heartbeat, drops, counts};
+
+use crate::came::{Answer, Loss, What};
+use crate::flight::Flight;
+use crate::frames::{frame_in, ldata_in};
+use crate::known::Known;
+use crate::tries::Tries;
+use knx_model::{Datagram, IpFrame, LdataCode};
+use line_model::{ChannelTook, Try};
+
+impl Known {
+    /// Takes in a datagram. Where the time has ended what it would act on, it is dropped.
+    pub fn got(&mut self, octets: &[u8], now: u64) -> Answer
+        ensures answer { result ≡ got_answer self.old octets.now now }
+        ensures next { self.new ≡ after_got self.old octets.now now }
+    {
+        if self.is_over(now) {
+            self.counts();
+            self.drops();
+            return self.lapse(What::Dropped, now);
+        }
+        match frame_in(octets) {
+            Some(frame) => self.takes(&frame, now),
+            None => {
+                self.counts();
+                self.drops();
+                Answer::only(What::Dropped)
+            }
+        }
+    }
+
+    /// Takes a frame of the gateway.
+    fn takes(&mut self, frame: &IpFrame, now: u64) -> Answer
+        requires { HasTunnelIfUp frame.now }
+        ensures answer { result ≡ take_answer self.old frame.now now }
+        ensures next { self.new ≡ taken self.old frame.now now }
+    {
+        let took = self.channel.take(frame, now);
+        if !answers_heartbeat(frame, &took) {
+            self.counts();
+        }
+        match took {
+            ChannelTook::Dropped => {
+                self.drops();
+                Answer::only(What::Dropped)
+            }
+            ChannelTook::Up { tunnel } => {
+                self.tries = Tries::Zero;
+                self.flight = Flight::none();
+                Answer::only(What::Up { tunnel })
+            }
+            ChannelTook::RefusedBy { status } => {
+                self.tried(Try::Status(status));
+                Answer::only(What::Tunnel)
+            }
+            ChannelTook::Acked => {
+                self.flight = self.flight.acknowledged(now);
+                Answer::only(What::Tunnel)
+            }
+            ChannelTook::Cemi { octets, ack } => Answer::with(self.heard(&octets), ack),
+            ChannelTook::Again { ack } => Answer::with(What::Tunnel, ack),
+            ChannelTook::Gone { answer: None } => self.lost(What::Tunnel),
+            ChannelTook::Gone {
+                answer: Some(answer),
+            } => {
+                self.flight = Flight::none();
+                Answer {
+                    what: What::Tunnel,
+                    loss: Loss::Ended,
+                    sends: Some(answer),
+                }
+            }
+            ChannelTook::Alive => Answer::only(What::Tunnel),
+        }
+    }
+
+    /// Takes the cEMI octets of the gateway's next request.
+    fn heard(&mut self, octets: &Datagram) -> What
+        ensures answer { result ≡ what_heard (ldata_in octets.now) }
+        ensures next { self.new ≡ with_heard (ldata_in octets.now) self.old }
+    {
+        match ldata_in(octets.as_slice()) {
+            None => {
+                self.drops();
+                What::Dropped
+            }
+            Some(frame) => {
+                if frame.code == LdataCode::Con {
+                    self.flight = self.flight.confirmed();
+                }
+                What::Frame(frame)
+            }
+        }
+    }
+
+    fn drops(&mut self)
+        ensures { self.new ≡ drops self.old }
+    {
+        self.dropped = self.dropped.saturating_add(1);
+    }
+
+    fn counts(&mut self)
+        ensures { self.new ≡ counts self.old }
+    {
+        self.taken = self.taken.saturating_add(1);
+    }
+}
+
+/// Whether this is an awaited answer to a heartbeat.
+fn answers_heartbeat(frame: &IpFrame, took: &ChannelTook) -> bool
+    ensures { result ≡ answers_heartbeat frame.now took.now }
+{
+    matches!(frame, IpFrame::StateResponse { .. }) && !matches!(took, ChannelTook::Dropped)
+}
