@@ -1,9 +1,8 @@
 -- A datagram that comes to the gateway: whether it is acted on, and what stays of that.
-use Rattle.std.proofs.Common.{◌≡◌, ◌≢◌, ℕ, zero, suc, ◌+◌, ◌-◌, ◌<◌, ◌≤◌, Bool, true, false, List, [], ◌∷◌, length, is_some, Option, Some, None, refl, ap, sym, subst, ◌∙◌, arith}
+use Rattle.std.proofs.Common.{◌≡◌, ℕ, suc, ◌-◌, ◌<◌, ◌≤◌, Bool, true, false, List, length, is_some, Option, Some, None, refl, ap, sym, subst, ◌∙◌, arith}
 use Rattle.std.specs.Prelude.{slice_get, nat_lt}
 use Rattle.std.proofs.lemmas.Option.{slice_get_within}
 use Rattle.knx_model.specs.declared.frames.ip.IpFrame.{IpFrame}
-use Rattle.knx_model.specs.declared.frames.ip.IpFrame.TheVariants.{ConnectRequest}
 use Rattle.line_model.specs.Counts.{age_of, number_at}
 use Rattle.line_model.specs.Gateway.{Gateway, GatewayTook, gateway_took}
 use Rattle.line_model.specs.Network.{Sent, OfSent, MayArrive, changed_at, once_more}
@@ -62,7 +61,7 @@ frame_acts t u s frame same at h =
     let new : (takes_frame u s.endpoint (Some frame)).gateway ≡ took.after = answers_gateway (with_gateway u took.after) s.endpoint took.send in
     let many : length (puts_next (takes_frame u s.endpoint (Some frame))).gateway.acted ≡ length took.after.acted = acted_after (takes_frame u s.endpoint (Some frame)) ∙ ap (λ (g : Gateway). length g.acted) new in
     let acts : is_some took.acted ≡ true = one_more (is_some took.acted) (length u.gateway.acted) (length took.after.acted) _ (gateway_leaves u.gateway s.endpoint u.now frame).acted many
-        (subst (λ (g : Gateway). nat_lt (length g.acted) (length (puts_next (takes_frame u s.endpoint (Some frame))).gateway.acted) ≡ true) (sym same) h) in
+    (subst (λ (g : Gateway). nat_lt (length g.acted) (length (puts_next (takes_frame u s.endpoint (Some frame))).gateway.acted) ≡ true) (sym same) h) in
     still_behind (takes_frame u s.endpoint (Some frame)) (Some frame) (subst (λ (g : Gateway). IsRepeat g.channel (Some frame)) (sym new) (acts_once u.gateway s.endpoint u.now frame acts))
 
 sent_acts : (t u : Tunnel) (o : Option Sent) → u.gateway ≡ t.gateway → u.now ≡ t.now → nat_lt (length t.gateway.acted) (length (puts_next (takes_sent u o)).gateway.acted) ≡ true → IsRepeated (puts_next (takes_sent u o)) o
@@ -115,7 +114,7 @@ frame_repeats u from frame h =
     let r : Repeats took = repeats_nothing u.gateway from u.now frame h in
     let new : (takes_frame u from (Some frame)).gateway ≡ took.after = answers_gateway (with_gateway u took.after) from took.send in (
       acted_after (takes_frame u from (Some frame)) ∙ ap (λ (g : Gateway). length g.acted) new ∙ (gateway_leaves u.gateway from u.now frame).acted ∙ ap (λ b. and_one b (length u.gateway.acted)) r.nothing,
-      still_open (takes_frame u from (Some frame)) (ap (λ (g : Gateway). is_some g.channel) new ∙ r.open),
+      still_open (takes_frame u from (Some frame)) (ap (λ (g : Gateway). is_some g.channel) new ∙ r.opened),
     )
 
 sent_repeats : (u : Tunnel) (o : Option Sent) → IsRepeated u o → (length (puts_next (takes_sent u o)).gateway.acted ≡ length u.gateway.acted) × (is_some (puts_next (takes_sent u o)).gateway.channel ≡ true)

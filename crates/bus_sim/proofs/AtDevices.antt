@@ -1,13 +1,13 @@
 -- What an event calls for at a device that took a frame.
-use Rattle.std.proofs.Common.{◌≡◌, ◌≢◌, ℕ, suc, ◌+◌, ◌-◌, ◌^◌, ◌==◌, Bool, true, false, not, ◌&&◌, List, [], ◌∷◌, ◌++◌, Option, Some, None, refl, ap, sym, ◌∙◌, arith, if◌then◌else◌}
+use Rattle.std.proofs.Common.{◌≡◌, ◌≢◌, ℕ, suc, ◌+◌, ◌-◌, ◌^◌, ◌==◌, Bool, true, false, ◌&&◌, List, ◌∷◌, Option, Some, None, refl, ap, sym, ◌∙◌, arith, if◌then◌else◌}
 use Rattle.std.specs.Prelude.{min}
 use Rattle.knx_model.specs.DeviceState.{DeviceState}
 use Rattle.knx_model.specs.declared.frames.cemi.Ldata.{Ldata}
-use Rattle.line_model.specs.Counts.{frames_taken, frames_to, takes_alone, takes_one}
-use Rattle.line_model.specs.Lines.{closes, repeats_to}
-use Rattle.line_model.specs.Owed.{Owed, BringAgain, ConnectionCloses, connection_closes, frame_again, owed_if}
+use Rattle.line_model.specs.Counts.{frames_taken, takes_alone, takes_one}
+use Rattle.line_model.specs.Lines.{closes}
+use Rattle.line_model.specs.Owed.{Owed, ConnectionCloses, connection_closes, owed_if}
 use Rattle.line_model.specs.StartOf.{line_of}
-use Rattle.line_model.specs.World.{World, Event, BusAgain, frame_by, replay}
+use Rattle.line_model.specs.World.{World, Event, BusAgain, replay}
 use Rattle.line_sim.specs.Line.{LineNow, last_at}
 use Rattle.script_index.specs.declared.index.ScriptIndex.{ScriptIndex}
 use Rattle.bus_sim.specs.declared.beginning.Beginning.{Beginning}
@@ -17,7 +17,7 @@ use Rattle.bus_sim.specs.Counted.{CountsNow, counts_at}
 use Rattle.bus_sim.specs.Held.{IsHeld}
 use Rattle.bus_sim.proofs.Calls.{where_taken}
 use Rattle.bus_sim.proofs.Holds.{run}
-use Rattle.bus_sim.proofs.Numbers.{taken_known, to_known}
+use Rattle.bus_sim.proofs.Numbers.{taken_known}
 
 decide : (P : Type 0) (t : Bool) → (t ≡ true → P) → (t ≡ false → P) → P
 decide P true this that = this refl

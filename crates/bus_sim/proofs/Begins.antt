@@ -1,10 +1,9 @@
 -- The devices of a run as they begin, and the world that they are of.
-use Rattle.std.proofs.Common.{◌≡◌, ℕ, zero, suc, ◌+◌, ◌-◌, ◌<◌, ◌==◌, Bool, true, false, List, [], ◌∷◌, length, drop, get_or, Option, Some, None, refl, ap, sym, subst, ◌∙◌, arith, drop-cons, if◌then◌else◌}
+use Rattle.std.proofs.Common.{◌≡◌, ℕ, zero, suc, ◌<◌, ◌==◌, List, [], ◌∷◌, length, drop, get_or, Option, Some, None, refl, ap, sym, subst, ◌∙◌, arith, drop-cons, if◌then◌else◌}
 use Rattle.knx_model.specs.declared.address.IndAddr.{IndAddr}
 use Rattle.knx_model.specs.declared.config.Image.{Image}
 use Rattle.knx_model.specs.DeviceState.{DeviceState}
 use Rattle.line_model.specs.Lines.{Script}
-use Rattle.line_model.specs.World.{Devices}
 use Rattle.line_sim.specs.Places.{DevicesNow, AreDevices, with_device}
 use Rattle.bus_sim.specs.Begun.{CanBegin, CanLoad, begins, device_begun}
 

@@ -1,17 +1,13 @@
 -- What each event is to the counts, and what it calls for.
-use Rattle.std.proofs.Common.{◌≡◌, ◌≢◌, ℕ, suc, ◌+◌, ◌-◌, ◌^◌, ◌<◌, ◌≤◌, ◌==◌, Bool, true, false, not, ◌&&◌, ◌||◌, is_some, List, [], ◌∷◌, ◌++◌, length, Option, Some, None, refl, ap, sym, subst, ◌∙◌, arith, if◌then◌else◌}
-use Rattle.std.specs.Prelude.{min, slice_get, option_to_list, nat_lt}
-use Rattle.knx_model.specs.declared.frames.cemi.Ldata.{Ldata}
-use Rattle.knx_model.specs.DeviceState.{DeviceState}
-use Rattle.line_model.specs.Counts.{asks_connect, connect_reaches, takes_alone, write_of}
+use Rattle.std.proofs.Common.{◌≡◌, ℕ, ◌^◌, ◌<◌, ◌==◌, Bool, true, false, ◌&&◌, is_some, List, [], ◌++◌, Option, Some, None, refl, ap, sym, ◌∙◌, arith, if◌then◌else◌}
+use Rattle.line_model.specs.Counts.{asks_connect, takes_alone, write_of}
 use Rattle.network_sim.specs.Window.{capped}
 use Rattle.line_model.specs.Network.{OfSent, Sent}
 use Rattle.line_model.specs.Owed.{Owed}
 use Rattle.line_model.specs.Tunnel.{IsConnectRequest}
-use Rattle.line_model.specs.Reading.{datagram_in, is_connect_request}
+use Rattle.line_model.specs.Reading.{is_connect_request}
 use Rattle.line_model.specs.World.{World, AtGateway, BusAgain, DevSend, DevRepeat, frame_by}
 use Rattle.line_sim.specs.Line.{last_at}
-use Rattle.bus_sim.specs.declared.counts.Met.{Met}
 use Rattle.bus_sim.proofs.Counting.{Counts, takes_nothing, writes_nothing}
 use Rattle.bus_sim.proofs.Owings.{and_nothing}
 

@@ -1,11 +1,9 @@
 -- What is counted after one event more.
-use Rattle.std.proofs.Common.{◌≡◌, ◌≢◌, ℕ, zero, suc, ◌+◌, ◌-◌, ◌^◌, ◌/◌, ◌%◌, ◌<◌, ◌≤◌, ◌==◌, Bool, true, false, not, ◌&&◌, is_some, List, [], ◌∷◌, length, Option, Some, None, refl, ap, sym, subst, ◌∙◌, arith, if◌then◌else◌}
-use Rattle.std.specs.Prelude.{slice_index_or, slice_set, min}
+use Rattle.std.proofs.Common.{◌≡◌, ◌≢◌, ℕ, suc, ◌+◌, ◌^◌, ◌/◌, ◌%◌, ◌<◌, ◌≤◌, ◌==◌, Bool, true, false, is_some, List, [], ◌∷◌, length, Option, Some, None, refl, ap, sym, subst, ◌∙◌, arith, if◌then◌else◌}
+use Rattle.std.specs.Prelude.{slice_set}
 use Rattle.std.proofs.lemmas.List.{get_or-set_same, get_or-set_other}
 use Rattle.knx_model.specs.DeviceState.{DeviceState}
-use Rattle.knx_model.specs.declared.frames.cemi.Ldata.{Ldata}
 use Rattle.line_model.specs.Counts.{count, goes_to, comes_from, takes_one, takes_alone, writes_one, write_of, connect_reaches}
-use Rattle.network_sim.specs.Window.{capped}
 use Rattle.line_model.specs.StartOf.{line_of}
 use Rattle.line_model.specs.World.{World, Event, replay}
 use Rattle.bus_sim.specs.declared.counts.DeviceCounts.{DeviceCounts}

@@ -1,10 +1,9 @@
 -- How far the lists of a tunnel grow by one event, and that time stands still but where it passes.
-use Rattle.std.proofs.Common.{◌≡◌, ℕ, zero, suc, ◌+◌, ◌*◌, ◌<◌, ◌≤◌, Bool, true, false, List, [], ◌∷◌, length, drop, Option, Some, None, is_some, refl, ap, sym, subst, ◌∙◌, arith}
+use Rattle.std.proofs.Common.{◌≡◌, ℕ, zero, suc, ◌+◌, ◌≤◌, Bool, true, false, List, [], ◌∷◌, length, Option, Some, None, is_some, refl, ap, sym, subst, ◌∙◌, arith}
 use Rattle.std.specs.Prelude.{slice_get}
 use Rattle.knx_model.specs.declared.frames.cemi.Ldata.{Ldata}
 use Rattle.knx_model.specs.declared.frames.ip.IpFrame.{IpFrame}
-use Rattle.line_model.specs.Fresh.{IsFresh}
-use Rattle.line_model.specs.Gateway.{Channel, GatewayTook, Request, gateway_took, next_put, closed, closed_if_open}
+use Rattle.line_model.specs.Gateway.{Channel, GatewayTook, Request, gateway_took, next_put, closed_if_open}
 use Rattle.line_model.specs.Network.{Sent, changed_at, once_more, gone}
 use Rattle.line_model.specs.Reading.{datagram_in}
 use Rattle.line_model.specs.Tunnel as tunnel

@@ -1,20 +1,16 @@
 -- What is held of a run after one event more.
-use Rattle.std.proofs.Common.{◌≡◌, ◌≢◌, ℕ, zero, suc, ◌+◌, ◌^◌, ◌<◌, ◌≤◌, ◌==◌, Bool, true, false, List, [], ◌∷◌, ◌++◌, length, drop, Option, Some, None, refl, ap, sym, subst, ◌∙◌, arith, if◌then◌else◌}
+use Rattle.std.proofs.Common.{◌≡◌, ◌+◌, ◌^◌, ◌<◌, true, false, List, [], ◌∷◌, ◌++◌, length, drop, ap, sym, subst, ◌∙◌, arith, if◌then◌else◌}
 use Rattle.std.specs.List.{filter}
-use Rattle.knx_model.specs.ApduReading.{option_map}
-use Rattle.knx_model.specs.DeviceState.{DeviceState}
-use Rattle.knx_model.specs.DeviceFrames.{Outcome, Whole, Torn, Worn, takes}
-use Rattle.knx_model.specs.declared.frames.cemi.Ldata.{Ldata}
 use Rattle.line_model.specs.Owed.{Owed, owed, caused, is_clients, is_possible, left_after}
 use Rattle.line_model.specs.Tunnel.{Commissions}
-use Rattle.line_model.specs.World.{World, Event, Devices, Send, From, Renew, Up, UpRefused, Down, LoseUp, LoseDown, Bus, BusTorn, BusWorn, BusAgain, DevSend, DevRepeat, DevClose, GwAgain, GwRepeat, GwClose, Cut, On, Pass, replay, step, changed, all_take, one_takes, others_take, is_among, next_frame, waiting_at, now}
+use Rattle.line_model.specs.World.{World, Event, replay, step}
 use Rattle.line_sim.specs.Line.{LineNow, IsNow, AreCounted}
 use Rattle.script_index.specs.declared.index.ScriptIndex.{ScriptIndex}
 use Rattle.bus_sim.specs.declared.beginning.Beginning.{Beginning}
 use Rattle.bus_sim.specs.Begun.{said, start_of}
 use Rattle.bus_sim.specs.Counted.{CountsNow, AreCounts}
 use Rattle.bus_sim.specs.Held.{IsHeld}
-use Rattle.bus_sim.specs.RunNow.{RunNow, IsRight, Keeps}
+use Rattle.bus_sim.specs.RunNow.{RunNow, IsRight}
 use Rattle.bus_sim.proofs.Laws.{counted}
 use Rattle.bus_sim.proofs.Owings.{and_nothing}
 use Rattle.bus_sim.proofs.Presence.{none_stays}

@@ -1,5 +1,5 @@
 -- Neither time nor the number of events falls while a line goes on.
-use Rattle.std.proofs.Common.{◌≡◌, ℕ, suc, ◌+◌, ◌≤◌, List, [], ◌∷◌, length, take, refl, ap, sym, subst, ◌∙◌, arith}
+use Rattle.std.proofs.Common.{◌≡◌, ℕ, suc, ◌+◌, ◌≤◌, List, ◌∷◌, length, take, refl, sym, subst, arith}
 use Rattle.line_model.specs.declared.outside.link.Polled.{Polled}
 use Rattle.line_model.specs.declared.outside.link.Polled.TheVariants as answer
 use Rattle.line_model.specs.LinkStory.{Story, Untold, Recorded, Full, GoesOn, Same, More, Polls, PollsFull, PollsNothing}
@@ -42,7 +42,7 @@ longer a b c h k = omega (arith, h, k)
 one_more : (a b : ℕ) → a ≤ b → a ≤ suc b
 one_more a b h = omega (arith, h)
 
-same_later : (s : Story) → IsLater s s
+pub same_later : (s : Story) → IsLater s s
 same_later s = record { time = as_late (time_of s) (time_of s) refl; events = as_late (place_of s) (place_of s) refl }
 
 pub adds_later : (before : Story) (start : World) (e : Event) (events : List Event) → IsLater before (Full start events) → IsLater before (Full start (e ∷ events))
@@ -71,7 +71,7 @@ pub polled_later : (what : Polled) (into : List ℕ) (wait clock : ℕ) (before 
 polled_later (answer.Got n) into wait clock before start events h = polls_later (Got (take n into)) wait clock before start events h.1
 polled_later answer.Quiet into wait clock before start events h = polls_later Quiet wait clock before start events h
 
-pub nothing_later : (before : Story) (start : World) (events : List Event) → PollsNothing before (Full start events) → IsLater before (Full start events)
-nothing_later before start events h =
+pub nothing_later : (wait : ℕ) (before : Story) (start : World) (events : List Event) → PollsNothing wait before (Full start events) → IsLater before (Full start events)
+nothing_later wait before start events h =
     let P : Story → Type 0 = λ s. IsLater s (Full start events) in
-    subst P (sym h.1) (goes_later start h.0 events h.2)
+    subst P (sym h.1) (goes_later start h.0 events h.2.foreign)

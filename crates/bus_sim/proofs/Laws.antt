@@ -1,9 +1,9 @@
 -- The line's laws, as they are cited here, and that few events leave few datagrams and requests.
-use Rattle.std.proofs.Common.{◌≡◌, ℕ, suc, ◌+◌, ◌-◌, ◌*◌, ◌^◌, ◌<◌, ◌≤◌, List, [], ◌∷◌, length, subst, sym, refl, arith}
+use Rattle.std.proofs.Common.{◌≡◌, ℕ, suc, ◌+◌, ◌-◌, ◌*◌, ◌^◌, ◌<◌, ◌≤◌, List, [], ◌∷◌, length, subst, sym, arith}
 use Rattle.line_model.specs.Fresh.{IsFresh}
-use Rattle.line_model.specs.Legal.{IsLegal, MayHappen}
-use Rattle.line_model.specs.Tunnel.{Mode, Tunnel, Commissions, fresh}
-use Rattle.line_model.specs.World.{World, Event, replay, tunnel_event, me}
+use Rattle.line_model.specs.Legal.{MayHappen}
+use Rattle.line_model.specs.Tunnel.{Mode, Tunnel, fresh}
+use Rattle.line_model.specs.World.{World, Event, replay, tunnel_event}
 use Rattle.line_sim.proofs.Allowing.{may_happen}
 use Rattle.line_sim.specs.Allowed.{Allows}
 use Rattle.line_sim.specs.Line.{LineNow, IsNow, AreCounted}

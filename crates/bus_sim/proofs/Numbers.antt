@@ -1,7 +1,7 @@
 -- The numbers by which the script is asked.
 use Rattle.std.proofs.Common.{◌≡◌, ◌≢◌, ℕ, suc, ◌+◌, ◌^◌, ◌<◌, ◌==◌, Bool, true, false, List, length, refl, ap, sym, ◌∙◌, arith}
 use Rattle.std.specs.Prelude.{min, ◌-◌}
-use Rattle.line_model.specs.Counts.{count, goes_to, comes_from, takes_one, writes_one, connect_reaches, frames_to, frames_from, frames_taken, writes, connects_reached}
+use Rattle.line_model.specs.Counts.{goes_to, comes_from, takes_one, writes_one, connect_reaches, frames_to, frames_from, frames_taken, writes, connects_reached}
 use Rattle.line_model.specs.Lines.{loses_from, loses_to}
 use Rattle.line_model.specs.Owed.{Owed}
 use Rattle.line_model.specs.StartOf.{line_of}

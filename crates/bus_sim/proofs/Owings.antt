@@ -1,5 +1,5 @@
 -- Lists of what is called for.
-use Rattle.std.proofs.Common.{◌≡◌, Bool, true, false, List, [], ◌∷◌, ◌++◌, map, refl, ap, sym, ◌∙◌, if◌then◌else◌, ℕ, ◌<◌, ◌-◌, ◌^◌, inr, length, arith}
+use Rattle.std.proofs.Common.{◌≡◌, Bool, true, false, List, [], ◌∷◌, ◌++◌, map, refl, ap, if◌then◌else◌, ℕ, ◌<◌, ◌-◌, ◌^◌, inr, length, arith}
 use Rattle.std.specs.List.{filter}
 use Rattle.line_model.specs.Network.{Sent}
 use Rattle.network_sim.specs.Window.{CanTell}

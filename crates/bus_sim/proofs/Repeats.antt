@@ -1,10 +1,10 @@
 -- A tunnelling request that the gateway acted on, and that comes again, is acted on no more and leaves the channel open.
-use Rattle.std.proofs.Common.{◌≡◌, ℕ, zero, suc, ◌+◌, ◌-◌, ◌%◌, ◌<◌, ◌≤◌, ◌==◌, Bool, true, false, List, [], ◌∷◌, ◌++◌, length, is_some, Option, Some, None, refl, ap, sym, subst, ◌∙◌, arith, if◌then◌else◌}
+use Rattle.std.proofs.Common.{◌≡◌, ℕ, zero, suc, ◌+◌, ◌%◌, ◌==◌, Bool, true, false, List, [], ◌∷◌, is_some, Option, Some, None, refl, ap, sym, subst, ◌∙◌, arith, if◌then◌else◌}
 use Rattle.std.specs.Prelude.{slice_get}
 use Rattle.knx_model.specs.declared.frames.cemi.Ldata.{Ldata}
 use Rattle.knx_model.specs.declared.frames.ip.IpFrame.{IpFrame}
 use Rattle.knx_model.specs.declared.frames.ip.IpFrame.TheVariants.{ConnectRequest, ConnectResponse, StateRequest, StateResponse, DisconnectRequest, DisconnectResponse, TunnellingRequest, TunnellingAck}
-use Rattle.line_model.specs.Gateway.{Gateway, GatewayTook, Channel, next_number, took, hears, gateway_took, request_took, connects, names, drops, answers, makes, closed, acknowledged, is_put, next_put}
+use Rattle.line_model.specs.Gateway.{Gateway, GatewayTook, Channel, next_number, took, hears, gateway_took, request_took, connects, names, answers, is_put, next_put}
 use Rattle.line_model.specs.Network.{Sent, changed_at, once_more}
 use Rattle.line_model.specs.Reading.{datagram_in}
 use Rattle.line_model.specs.Tunnel.{Tunnel, puts, puts_next, sends_down_if, takes_sent, takes_frame, with_gateway}
@@ -41,11 +41,11 @@ acts_if false t u frame this that e = that refl e
 
 connects_none : (g : Gateway) (from now : ℕ) (channel : Option Channel) → is_some (connects g from now channel).acted ≡ false
 connects_none g from now None = refl
-connects_none g from now (Some c) = by_test (c.endpoint == from) _ _
+connects_none g from now (Some c) = by_test (c.endpoint == from) _ _ _ _
   where
-    by_test : (t : Bool) (one other : Gateway) {f h : IpFrame} → is_some (if t then answers f one else answers h other).acted ≡ false
-    by_test true one other = refl
-    by_test false one other = refl
+    by_test : (t : Bool) (f h : IpFrame) (one other : Gateway) → is_some (if t then answers f one else answers h other).acted ≡ false
+    by_test true f h one other = refl
+    by_test false f h one other = refl
 
 requests_act : (g : Gateway) (channel : Option Channel) (n number : ℕ) (cemi : List ℕ) → is_some (request_took g channel number cemi).acted ≡ true → IsRepeat (request_took g channel number cemi).after.channel (Some (TunnellingRequest n number cemi))
 requests_act g None n number cemi e = untrue e
@@ -80,7 +80,7 @@ heard_behind (Some c) from now number h = by_test (c.endpoint == from)
 -- it isn't acted on, and the channel stays open
 pub record Repeats (t : GatewayTook) : Type 0 where
   pub nothing : is_some t.acted ≡ false
-  pub open : is_some t.after.channel ≡ true
+  pub opened : is_some t.after.channel ≡ true
 
 repeats_if : (b : Bool) (t u : GatewayTook) → (b ≡ true → Repeats t) → (b ≡ false → Repeats u) → Repeats (if b then t else u)
 repeats_if true t u this that = this refl
@@ -91,13 +91,13 @@ is_open None number h = absurd h
 is_open (Some c) number h = refl
 
 request_repeats : (g : Gateway) (channel : Option Channel) (number : ℕ) (cemi : List ℕ) → is_some g.channel ≡ true → IsBehind channel number → Repeats (request_took g channel number cemi)
-request_repeats g None number cemi open h = absurd h
-request_repeats g (Some c) number cemi open h = repeats_if (number == c.expected) _ _ (λ e. untrue (sym h ∙ e))
-    (λ e. repeats_if (next_number number == c.expected) _ _ (λ s. record { nothing = refl; open = open }) (λ s. record { nothing = refl; open = open }))
+request_repeats g None number cemi opened h = absurd h
+request_repeats g (Some c) number cemi opened h = repeats_if (number == c.expected) _ _ (λ e. untrue (sym h ∙ e))
+    (λ e. repeats_if (next_number number == c.expected) _ _ (λ s. record { nothing = refl; opened = opened }) (λ s. record { nothing = refl; opened = opened }))
 
 took_repeats : (g : Gateway) (from now n number : ℕ) (cemi : List ℕ) → IsBehind g.channel number → Repeats (took g from now (TunnellingRequest n number cemi))
 took_repeats g from now n number cemi h = repeats_if (names from n g.channel) _ _ (λ s. request_repeats g g.channel number cemi (is_open g.channel number h) h)
-    (λ s. record { nothing = refl; open = is_open g.channel number h })
+    (λ s. record { nothing = refl; opened = is_open g.channel number h })
 
 pub repeats_nothing : (g : Gateway) (from now : ℕ) (frame : IpFrame) → IsRepeat g.channel (Some frame) → Repeats (gateway_took g from now frame)
 unfolding gateway_took

@@ -1,5 +1,5 @@
 -- What is right for a run to do next.
-use Rattle.std.proofs.Common.{◌≡◌, ℕ, inl, List, [], ◌∷◌, refl}
+use Rattle.std.proofs.Common.{ℕ, inl, List, [], ◌∷◌, refl}
 use Rattle.line_model.specs.Follows.{IsNext}
 use Rattle.line_model.specs.Owed.{Owed}
 use Rattle.line_model.specs.Tunnel.{Commissions}

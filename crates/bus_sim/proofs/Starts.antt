@@ -1,5 +1,5 @@
 -- A run on which nothing has happened.
-use Rattle.std.proofs.Common.{◌≡◌, ◌≢◌, ℕ, ◌+◌, ◌^◌, ◌<◌, ◌==◌, Bool, true, false, List, [], ◌∷◌, Option, Some, None, refl, ap, sym, subst, ◌∙◌, arith, if◌then◌else◌}
+use Rattle.std.proofs.Common.{◌≡◌, ◌≢◌, ℕ, ◌==◌, Bool, true, false, List, [], ◌∷◌, Option, Some, None, refl, ap, sym, subst, ◌∙◌, arith, if◌then◌else◌}
 use Rattle.std.specs.Prelude.{replicate, ◌%◌}
 use Rattle.std.proofs.lemmas.List.{get_or-replicate}
 use Rattle.knx_model.specs.declared.address.IndAddr.{IndAddr}
@@ -13,7 +13,7 @@ use Rattle.line_sim.specs.Line.{LineNow, IsNow}
 use Rattle.script_index.specs.declared.index.ScriptIndex.{ScriptIndex}
 use Rattle.script_index.specs.Stands.{StandsFor}
 use Rattle.bus_sim.specs.declared.beginning.Beginning.{Beginning}
-use Rattle.bus_sim.specs.Begun.{CanBegin, CanLoad, begins, device_begun, said, start_of}
+use Rattle.bus_sim.specs.Begun.{CanLoad, begins, device_begun, said, start_of}
 use Rattle.bus_sim.specs.Counted.{CountsNow, AreCounts, counts_at, counts_in, none_counted, nothing_counted}
 use Rattle.bus_sim.specs.Held.{IsHeld, IsLoaded}
 

@@ -1,19 +1,18 @@
 -- No line of the script speaks of an address off the line.
-use Rattle.std.proofs.Common.{◌≡◌, ◌≢◌, ℕ, zero, suc, ◌+◌, ◌^◌, ◌<◌, ◌==◌, Bool, true, false, ◌&&◌, ◌||◌, List, [], ◌∷◌, map, Option, Some, None, refl, ap, sym, subst, ◌∙◌, arith}
-use Rattle.std.specs.Prelude.{slice_get, min}
+use Rattle.std.proofs.Common.{◌≡◌, ◌≢◌, ℕ, suc, ◌==◌, Bool, true, false, ◌&&◌, ◌||◌, List, [], ◌∷◌, Option, Some, refl, ap, sym, ◌∙◌, arith}
+use Rattle.std.specs.Prelude.{slice_get}
 use Rattle.std.specs.List.{list_any}
 use Rattle.knx_model.specs.declared.address.IndAddr.{IndAddr}
 use Rattle.knx_model.specs.declared.config.Image.{Image}
 use Rattle.knx_model.specs.declared.script.ScriptLine.{ScriptLine}
 use Rattle.knx_model.specs.declared.script.ScriptWhat.{ScriptWhat}
 use Rattle.knx_model.specs.declared.script.ScriptWhat.TheVariants.{LoseTo, LoseFrom}
-use Rattle.knx_model.specs.ScriptText.{IsStranger, device_named, first_stranger, is_listed}
-use Rattle.line_model.specs.Counts.{frames_to, frames_from}
+use Rattle.knx_model.specs.ScriptText.{IsStranger, device_named, is_listed}
 use Rattle.line_model.specs.Lines.{loses_from, loses_to, says_lose_from, says_lose_to, script_of}
 use Rattle.line_model.specs.StartOf.{line_of}
 use Rattle.script_text.proofs.Strangers.{none}
 use Rattle.bus_sim.specs.declared.beginning.Beginning.{Beginning}
-use Rattle.bus_sim.specs.Begun.{CanLoad, addresses, said, start_of}
+use Rattle.bus_sim.specs.Begun.{CanLoad, addresses, said}
 use Rattle.bus_sim.specs.Held.{IsLoaded}
 
 decide : (P : Type 0) (t : Bool) → (t ≡ true → P) → (t ≡ false → P) → P

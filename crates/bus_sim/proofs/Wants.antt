@@ -1,5 +1,5 @@
 -- What the script wants of the next datagram and of the next frame.
-use Rattle.std.proofs.Common.{◌≡◌, ◌≢◌, ℕ, suc, ◌+◌, ◌-◌, ◌^◌, ◌==◌, Bool, true, false, List, [], ◌∷◌, Option, Some, None, refl, ap, sym, subst, ◌∙◌, arith, if◌then◌else◌}
+use Rattle.std.proofs.Common.{◌≡◌, ◌≢◌, ℕ, suc, ◌+◌, ◌-◌, ◌^◌, ◌==◌, Bool, true, false, List, [], ◌∷◌, Option, Some, None, refl, ap, sym, ◌∙◌, arith, if◌then◌else◌}
 use Rattle.std.specs.Prelude.{min}
 use Rattle.knx_model.specs.ApduReading.{option_map}
 use Rattle.knx_model.specs.declared.device.WriteKind.{WriteKind}
@@ -7,7 +7,7 @@ use Rattle.knx_model.specs.declared.frames.cemi.Ldata.{Ldata}
 use Rattle.knx_model.specs.Device.{Effect}
 use Rattle.knx_model.specs.DeviceSending.{first_frame}
 use Rattle.knx_model.specs.DeviceState.{DeviceState}
-use Rattle.line_model.specs.Counts.{connects_reached, frames_to, is_connect_at, write_of, writes}
+use Rattle.line_model.specs.Counts.{connects_reached, is_connect_at, write_of, writes}
 use Rattle.line_model.specs.Deliveries.{carried_to, effect_at, refused_if, torn_if, write_event, written_at}
 use Rattle.line_model.specs.Lines.{cuts, loses_to, refuses, wears}
 use Rattle.line_model.specs.Owed.{Owed}

@@ -1,6 +1,6 @@
 -- What the script wants next, in the words of its definitions: how a datagram is delivered and a frame goes over the bus, and whether the gateway
 -- hears a device.
-use Rattle.std.specs.Prelude.{◌≡◌, ℕ, suc, nat_lt, is_some, Bool, true, [], Option, Some, None, option_to_list}
+use Rattle.std.specs.Prelude.{◌≡◌, ℕ, suc, nat_lt, is_some, Bool, true, Some, option_to_list}
 use Rattle.knx_model.specs.declared.device.WriteKind.TheVariants.{Memory}
 use Rattle.knx_model.specs.declared.frames.cemi.Ldata.{Ldata}
 use Rattle.knx_model.specs.declared.device.WriteKind.{WriteKind}

@@ -1,5 +1,5 @@
 -- What a run counts of the devices of its line and of connect requests, beside the counts of the events themselves.
-use Rattle.std.specs.Prelude.{◌≡◌, ℕ, suc, ◌%◌, ◌==◌, Bool, true, false, List, [], ◌∷◌, replicate, slice_index_or, slice_set, if◌then◌else◌}
+use Rattle.std.specs.Prelude.{◌≡◌, ℕ, suc, ◌%◌, ◌==◌, Bool, true, false, List, replicate, slice_index_or, slice_set, if◌then◌else◌}
 use Rattle.line_model.specs.Counts.{frames_to, frames_from, frames_taken, writes, connects_reached}
 use Rattle.network_sim.specs.Window.{capped}
 use Rattle.line_model.specs.StartOf.{line_of}

@@ -1,7 +1,6 @@
 -- The events as they are kept: each in a few octets, and the octets of datagrams and of torn and worn writes behind one another, in the order of
 -- the events. So an event and the octets that are its own are an event of the line.
-use Rattle.std.specs.Prelude.{◌≡◌, ℕ, ◌+◌, ◌-◌, true, false, List, [], ◌∷◌, length, take, drop, reverse, option_to_list, slice_index, Option, Some, None}
-use Rattle.std.specs.Vec.{vec_len, vec_capacity}
+use Rattle.std.specs.Prelude.{ℕ, ◌+◌, true, false, List, [], ◌∷◌, take, drop, option_to_list, slice_index}
 use Rattle.line_model.specs.World as world
 use Rattle.line_model.specs.World.{Event}
 use Rattle.line_sim.specs.Tunnels.{at_gateway}

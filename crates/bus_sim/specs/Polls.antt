@@ -1,5 +1,5 @@
 -- What a poll of a run does: events that are not the client's, and then the datagram that it gets, within the wait, or the end of the wait.
-use Rattle.std.specs.Prelude.{◌≡◌, ℕ, ◌+◌, ◌≤◌, List, [], length, take, Option, Some, None}
+use Rattle.std.specs.Prelude.{◌≡◌, ℕ, ◌+◌, ◌≤◌, List, length, Option, Some, None}
 use Rattle.line_model.specs.declared.outside.link.Polled.{Polled}
 use Rattle.line_model.specs.LinkStory.{GoesOn, Polls}
 use Rattle.line_model.specs.Record.{Got, Quiet}
@@ -10,6 +10,11 @@ use Rattle.bus_sim.specs.RunNow.{RunState, seen, start, story, time}
 pub record GoesOnFrom (old new : RunState) : Type 0 where
   pub same : new.begun ≡ old.begun
   pub goes : GoesOn (start (seen old)) (seen old).events (seen new).events
+
+-- it stops within the wait, and the client got nothing
+pub record StopsWithin (wait : ℕ) (old new : RunState) : Type 0 where
+  pub goes : GoesOnFrom old new
+  pub in_time : time (seen new) ≤ time (seen old) + wait
 
 abbrev pub PolledSo : Polled → List ℕ → ℕ → RunState → RunState → Type 0
 PolledSo polled into wait old new = PollsAs polled into wait (time (seen new)) (story (seen old)) (story (seen new))

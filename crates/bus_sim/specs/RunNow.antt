@@ -1,14 +1,14 @@
 -- A run of the simulated line: what it began with, and its events, the newest first. The world at each moment is what both give; and what the type
 -- of a run keeps of it: the start is fresh, and the events are legal and follow the script.
-use Rattle.std.specs.Prelude.{◌≡◌, ◌≢◌, ℕ, ◌+◌, ◌≤◌, true, List, [], ◌∷◌, length, Option, Some, None}
+use Rattle.std.specs.Prelude.{◌≡◌, ℕ, List, ◌∷◌, Some, None}
 use Rattle.line_model.specs.Tunnel.{Commissions}
-use Rattle.line_model.specs.World.{World, Event, Down, Pass, now as time_of, replay, step}
+use Rattle.line_model.specs.World.{World, Event, now as time_of, replay}
 use Rattle.line_model.specs.Legal.{MayHappen, IsLegal}
 use Rattle.line_model.specs.Fresh.{IsFresh}
 use Rattle.line_model.specs.Lines.{Script}
 use Rattle.line_model.specs.Owed.{Owed, owed}
 use Rattle.line_model.specs.Follows.{Follows, IsNext}
-use Rattle.line_model.specs.LinkStory.{Story, Full, IsForeign}
+use Rattle.line_model.specs.LinkStory.{Story, Full}
 use Rattle.line_sim.specs.Line.{LineNow}
 use Rattle.bus_sim.specs.Owing.{first_of}
 use Rattle.bus_sim.specs.Begun.{said, start_of}

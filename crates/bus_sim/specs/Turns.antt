@@ -1,10 +1,10 @@
 -- One turn of the line: the client gets a datagram; or something else happens, which takes no time; or time passes.
-use Rattle.std.specs.Prelude.{◌≡◌, ℕ, ◌+◌, ◌≤◌, ◌<◌, true, [], ◌∷◌, slice_get, length, List}
+use Rattle.std.specs.Prelude.{◌≡◌, ℕ, ◌≤◌, ◌<◌, true, slice_get, length, List}
 use Rattle.line_model.specs.Legal.{MayHappen}
 use Rattle.line_model.specs.LinkStory.{IsForeign}
 use Rattle.line_model.specs.Network.{OfSent}
 use Rattle.line_model.specs.Tunnel.{Commissions}
-use Rattle.line_model.specs.World.{World, Event, Down, Pass, now, step}
+use Rattle.line_model.specs.World.{Event, Down, Pass, now}
 use Rattle.bus_sim.specs.declared.turn.Turn.{Turn}
 use Rattle.bus_sim.specs.declared.turn.Turn.TheVariants.{Got, Went as HasGone, Passed, Quiet}
 use Rattle.bus_sim.specs.RunNow.{RunState}
@@ -34,5 +34,5 @@ pub record Passes (ms : ℕ) (old new : RunState) : Type 0 where
 abbrev pub Turns : Turn → ℕ → RunState → RunState → Type 0
 Turns (Got octets) left old new = Gets octets old new
 Turns HasGone left old new = Happens old new
-Turns (Passed ms) left old new = (ms ≤ left) × Passes ms old new
+Turns (Passed ms) left old new = (0 < ms) × (ms ≤ left) × Passes ms old new
 Turns Quiet left old new = Passes left old new

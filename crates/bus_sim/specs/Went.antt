@@ -1,7 +1,7 @@
 -- What the calls of a run do to it: nothing, or one event more.
-use Rattle.std.specs.Prelude.{◌≡◌, ◌∷◌}
+use Rattle.std.specs.Prelude.{◌≡◌}
 use Rattle.line_model.specs.World.{Event, World}
-use Rattle.bus_sim.specs.RunNow.{RunNow, RunState, happened, seen, world as world_of, IsRight as IsRightIn}
+use Rattle.bus_sim.specs.RunNow.{RunState, happened, seen, world as world_of, IsRight as IsRightIn}
 
 abbrev pub world : RunState → World
 world r = world_of (seen r)

@@ -1,9 +1,9 @@
 //! What the script calls for.
 
-ghost use Rattle.std.specs.Prelude.{◌≡◌, Some, None, OnOk, OnErr, IfSome, IfOk, IsTrue, option_map, slice_get};
+ghost use Rattle.std.specs.Prelude.{◌≡◌, Some, None, OnOk, OnErr, IfOk, option_map, slice_get};
 ghost use Rattle.line_model.specs.Network.{OfSent};
 ghost use Rattle.line_model.specs.Owed as model;
-ghost use Rattle.line_model.specs.World.{BusAgain, Down, GwClose, On, DevClose};
+ghost use Rattle.line_model.specs.World.{Down};
 ghost use Rattle.network_sim.specs.Window.{IsDeliverable};
 ghost use Rattle.bus_sim.specs.Choices.{delivered};
 ghost use Rattle.bus_sim.specs.Owing.{first_of, meant};
@@ -30,18 +30,17 @@ impl Run {
         ensures happens { OnOk result (Happens self.old self.new) }
         ensures err { OnErr result (Stays self.old self.new) }
     {
-        match self.again_up(number) {
-            Some(age) => self.deliver_up(age),
-            None => Err(Stopped::AtEnd),
-        }
+        let age = self.again_up(number);
+        self.deliver_up(age)
     }
 
-    fn again_up(&self, number: u64) -> Option<usize>
+    /// Its age.
+    fn again_up(&self, number: u64) -> usize
         requires { Calls (seen self.now) (model.DeliverAgain number) }
-        ensures deliverable { IfSome result (λ age. OfSent IsDeliverable (slice_get self.now.line.tunnel.up.kept age)) }
-        ensures right { IfSome result (λ age. IsRight self.now (delivered self.now age)) }
+        ensures deliverable { OfSent IsDeliverable (slice_get self.now.line.tunnel.up.kept result) }
+        ensures right { IsRight self.now (delivered self.now result) }
     {
-        self.line.again_up(number)
+        self.line.again_up(number).unwrap()
     }
 
     /// The gateway's datagram of a number comes to the client again.
@@ -50,18 +49,17 @@ impl Run {
         ensures gets { IfOk result (λ octets. Gets octets self.old self.new) }
         ensures err { OnErr result (Stays self.old self.new) }
     {
-        match self.again_down(number) {
-            Some(age) => self.down(age),
-            None => Err(Stopped::AtEnd),
-        }
+        let age = self.again_down(number);
+        self.down(age)
     }
 
-    fn again_down(&self, number: u64) -> Option<usize>
+    /// Its age.
+    fn again_down(&self, number: u64) -> usize
         requires { Calls (seen self.now) (model.ReachAgain number) }
-        ensures deliverable { IfSome result (λ age. OfSent IsDeliverable (slice_get self.now.line.tunnel.down.kept age)) }
-        ensures right { IfSome result (λ age. IsRight self.now (Down age)) }
+        ensures deliverable { OfSent IsDeliverable (slice_get self.now.line.tunnel.down.kept result) }
+        ensures right { IsRight self.now (Down result) }
     {
-        self.line.again_down(number)
+        self.line.again_down(number).unwrap()
     }
 
     /// A device takes its last frame again.
@@ -70,17 +68,7 @@ impl Run {
         ensures happens { OnOk result (Happens self.old self.new) }
         ensures err { OnErr result (Stays self.old self.new) }
     {
-        if self.can_repeat(device) {
-            self.bring_again(device)
-        } else {
-            Err(Stopped::AtEnd)
-        }
-    }
-
-    fn can_repeat(&self, device: u16) -> bool
-        ensures { IsTrue result → Calls (seen self.now) (model.BringAgain device) → IsRight self.now (BusAgain device) }
-    {
-        self.line.last(device).is_some()
+        self.bring_again(device)
     }
 
     /// The power of a device returns.
@@ -89,11 +77,8 @@ impl Run {
         ensures happens { OnOk result (Happens self.old self.new) }
         ensures err { OnErr result (Stays self.old self.new) }
     {
-        if self.has(device) {
-            self.power_returns(device)
-        } else {
-            Err(Stopped::AtEnd)
-        }
+        self.keeps();
+        self.power_returns(device)
     }
 
     /// The connection of a device closes.
@@ -102,22 +87,8 @@ impl Run {
         ensures happens { OnOk result (Happens self.old self.new) }
         ensures err { OnErr result (Stays self.old self.new) }
     {
-        if self.has(device) {
-            self.dev_close(device)
-        } else {
-            Err(Stopped::AtEnd)
-        }
-    }
-
-    /// Whether a device is on the bus.
-    fn has(&self, device: u16) -> bool
-        ensures power { IsTrue result → Calls (seen self.now) (model.PowerReturns device) → IsRight self.now (On device) }
-        ensures closes { IsTrue result → Calls (seen self.now) (model.ConnectionCloses device) → IsRight self.now (DevClose device) }
-    {
-        match self.line.device(device) {
-            Some(_) => true,
-            None => false,
-        }
+        self.keeps();
+        self.dev_close(device)
     }
 
     /// The channel closes.
@@ -126,16 +97,7 @@ impl Run {
         ensures happens { OnOk result (Happens self.old self.new) }
         ensures err { OnErr result (Stays self.old self.new) }
     {
-        if self.has_channel() {
-            self.gw_close()
-        } else {
-            Err(Stopped::AtEnd)
-        }
-    }
-
-    fn has_channel(&self) -> bool
-        ensures { IsTrue result → Calls (seen self.now) model.ChannelCloses → IsRight self.now GwClose }
-    {
-        self.line.has_channel()
+        self.keeps();
+        self.gw_close()
     }
 }

@@ -21,8 +21,6 @@ mod room;
 mod run;
 mod sends;
 mod stopped;
-#[cfg(test)]
-mod tests;
 mod turn;
 
 pub use bus::SimBus;

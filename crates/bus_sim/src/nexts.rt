@@ -173,6 +173,7 @@ impl Run {
         requires free { NothingCalled (seen self.now) }
         requires settled { Settled Commissions (world self.now) }
         ensures few { result ≤ left }
+        ensures some { 1 ≤ left → 1 ≤ result }
         ensures right { IsRight self.now (Pass result) }
     {
         let now = self.line.now();
@@ -183,13 +184,14 @@ impl Run {
     }
 }
 
-/// From now to the end, or this long where that is sooner.
+/// From now to the end, at least a millisecond, or this long where that is sooner.
 fn sooner(now: u64, end: u64, left: u32) -> u32
     ensures few { result ≤ left }
-    ensures until { (result ≡ 0) ⊎ (now + result ≤ end) }
+    ensures some { 1 ≤ left → 1 ≤ result }
+    ensures until { (result ≤ 1) ⊎ (now + result ≤ end) }
 {
     if end <= now {
-        return 0;
+        return left.min(1);
     }
     if end - now < u64::from(left) {
         (end - now) as u32

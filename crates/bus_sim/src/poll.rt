@@ -3,7 +3,7 @@
 ghost use Rattle.std.specs.Prelude.{◌≡◌, ◌+◌, ◌≤◌, ◌<◌, ◌^◌, ◌-◌, IfOk, OnErr, length, take};
 ghost use Rattle.knx_model.specs.Connection.{last_time};
 ghost use Rattle.line_model.specs.World.{now};
-ghost use Rattle.bus_sim.specs.Polls.{PolledSo, EndedSo, GoesOnFrom};
+ghost use Rattle.bus_sim.specs.Polls.{PolledSo, EndedSo, StopsWithin};
 ghost use Rattle.bus_sim.specs.Went.{world};
 
 use crate::run::Run;
@@ -16,7 +16,7 @@ impl Run {
     /// The line goes on until the client gets a datagram, which stands in the buffer then, or so many milliseconds have passed.
     pub fn poll(&mut self, into: &mut [u8; 512], wait_ms: u32) -> Result<Polled, Stopped>
         ensures polled { IfOk result (λ polled. PolledSo polled into.new wait_ms self.old self.new) }
-        ensures err { OnErr result (GoesOnFrom self.old self.new) }
+        ensures err { OnErr result (StopsWithin wait_ms self.old self.new) }
     {
         if self.now() > u64::MAX - u64::from(wait_ms) {
             return Err(Stopped::AtEnd);
@@ -39,7 +39,7 @@ impl Run {
     fn run_for(&mut self, wait: u32) -> Result<Option<Datagram>, Stopped>
         requires { now (world self.old) + wait ≤ last_time }
         ensures ended { IfOk result (λ got. EndedSo got wait self.old self.new) }
-        ensures err { OnErr result (GoesOnFrom self.old self.new) }
+        ensures err { OnErr result (StopsWithin wait self.old self.new) }
     {
         let mut left = wait;
         loop {

@@ -7,8 +7,7 @@ use knx_model::NoMemory;
 pub enum Stopped {
     /// There was no memory.
     NoMemory(NoMemory),
-    /// A number has come to its greatest value, 2^62 events or a time of 2^64 - 1 ms, or what the script calls for can't happen. No run comes
-    /// to that.
+    /// A number has come to its greatest value, 2^62 events or a time of 2^64 - 1 ms. No run comes to that.
     AtEnd,
 }
 

@@ -5,7 +5,7 @@ ghost use Rattle.knx_model.specs.Connection.{last_time};
 ghost use Rattle.line_model.specs.World.{now};
 ghost use Rattle.bus_sim.specs.Owing.{meant};
 ghost use Rattle.bus_sim.specs.RunNow.{Calls, seen};
-ghost use Rattle.bus_sim.specs.Turns.{Turns, Happens};
+ghost use Rattle.bus_sim.specs.Turns.{Turns};
 ghost use Rattle.bus_sim.specs.Went.{Stays, world};
 
 use crate::owed::Owed;
@@ -20,7 +20,7 @@ pub enum Turn {
     Got(Datagram),
     /// Something else happened, at once.
     Went,
-    /// So many milliseconds passed, until something was due.
+    /// So many milliseconds passed, at least one, until something was due.
     Passed(u32),
     /// The rest of the wait passed.
     Quiet,
@@ -48,34 +48,27 @@ impl Run {
         ensures err { OnErr result (Stays self.old self.new) }
     {
         match owed {
+            Owed::DeliverAgain(number) => {
+                self.deliver_again(number)?;
+                Ok(Turn::Went)
+            }
             Owed::ReachAgain(number) => Ok(Turn::Got(self.reach_again(number)?)),
-            other => self.meet_other(other),
-        }
-    }
-
-    /// What the script calls for happens at once, and the client gets nothing.
-    fn meet_other(&mut self, owed: Owed) -> Result<Turn, Stopped>
-        requires { Calls (seen self.old) (meant owed) }
-        ensures turns { IfOk result (λ turn. (left : ℕ) → Turns turn left self.old self.new) }
-        ensures err { OnErr result (Stays self.old self.new) }
-    {
-        self.happen(owed)?;
-        Ok(Turn::Went)
-    }
-
-    /// The same, but for what the client gets, which doesn't happen here.
-    fn happen(&mut self, owed: Owed) -> Result<(), Stopped>
-        requires { Calls (seen self.old) (meant owed) }
-        ensures happens { OnOk result (Happens self.old self.new) }
-        ensures err { OnErr result (Stays self.old self.new) }
-    {
-        match owed {
-            Owed::DeliverAgain(number) => self.deliver_again(number),
-            Owed::ReachAgain(_) => Err(Stopped::AtEnd),
-            Owed::BringAgain(device) => self.frame_again(device),
-            Owed::PowerReturns(device) => self.power_again(device),
-            Owed::ConnectionCloses(device) => self.connection_closes(device),
-            Owed::ChannelCloses => self.channel_closes(),
+            Owed::BringAgain(device) => {
+                self.frame_again(device)?;
+                Ok(Turn::Went)
+            }
+            Owed::PowerReturns(device) => {
+                self.power_again(device)?;
+                Ok(Turn::Went)
+            }
+            Owed::ConnectionCloses(device) => {
+                self.connection_closes(device)?;
+                Ok(Turn::Went)
+            }
+            Owed::ChannelCloses => {
+                self.channel_closes()?;
+                Ok(Turn::Went)
+            }
         }
     }
 }

@@ -2,9 +2,16 @@
 //! status is that call's. Nothing is written to standard error.
 #![tactic(auto)]
 
+mod clients;
+mod dial;
 mod disk;
 mod ended;
+mod link;
 mod output;
+mod port;
+mod socket;
+#[cfg(test)]
+mod stops;
 mod words;
 
 use crate::disk::Disk;

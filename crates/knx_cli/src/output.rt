@@ -1,7 +1,7 @@
 //! An output: what it took is what its writer took, and it counts its writes and those that failed.
 
 ghost use Rattle.std.specs.IoError.{error_kind};
-ghost use Rattle.std.specs.Prelude.{◌≡◌, ◌≤◌, ℕ, IfOk, OnErr, OnOk, length, take};
+ghost use Rattle.std.specs.Prelude.{◌≡◌, ◌≤◌, ◌↔◌, ℕ, IfOk, IsOk, OnErr, OnOk, length, take};
 ghost use Rattle.std.specs.Io.KnownBytes.{Appends, WriteAppends};
 
 use knx_model::{Sink, SinkFailed};
@@ -42,7 +42,8 @@ impl<W: Steady> Output<W> {
 
 /// A write that a signal interrupted took nothing, and is to be tried again; any other error is a failure.
 fn unless_interrupted(error: &io::Error) -> Result<usize, SinkFailed>
-    ensures { IfOk result (λ count. (count ≡ 0) × (error_kind error.now ≡ ErrorKind.Interrupted)) }
+    ensures again { IsOk result ↔ (error_kind error.now ≡ ErrorKind.Interrupted) }
+    ensures nothing { IfOk result (λ count. count ≡ 0) }
 {
     match error.kind() {
         ErrorKind::Interrupted => Ok(0),

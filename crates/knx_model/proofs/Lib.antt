@@ -1,6 +1,7 @@
 pub mod Cutting
 pub mod Faults
 pub mod Finite
+pub mod FlagLetters
 pub mod FlagWords
 pub mod Joined
 pub mod LeastLine

@@ -21,7 +21,7 @@ pub up_to_some : (most : ℕ) (o : Option ℕ) (n : ℕ) → up_to most o ≡ So
 up_to_some most None n e = absurd cc
 up_to_some most (Some m) n e = let h = cond_some (leb m most) m n e in (ap (λ (x : ℕ). Some x) h.1, subst (λ (x : ℕ). x ≤ most) h.1 (leb-true m most h.0))
 
-part_to : (most : ℕ) (w : List ℕ) (n : ℕ) → part_value most w ≡ Some n → SpellsPart most w n
+pub part_to : (most : ℕ) (w : List ℕ) (n : ℕ) → part_value most w ≡ Some n → SpellsPart most w n
 unfolding part_value numeral
 part_to most w n e =
     let u = up_to_some most (numeral 10 3 w) n e in
@@ -85,7 +85,7 @@ no_mark mark (d ∷ ds) worth e =
     let small : digit_value d < 10 = ltb-true _ _ h.0 in
     (ne_eqb d mark (λ q. let same : digit_value d ≡ digit_value mark = ap digit_value q in omega arith), no_mark mark ds worth h.1)
 
-none : (mark : ℕ) (ds : List ℕ) → digit_value mark ≡ 36 → list_all (is_digit 10) ds ≡ true → All (λ b. eqb b mark ≡ false) ds
+pub none : (mark : ℕ) (ds : List ℕ) → digit_value mark ≡ 36 → list_all (is_digit 10) ds ≡ true → All (λ b. eqb b mark ≡ false) ds
 none mark ds worth e = All-from_recursion (λ b. eqb b mark ≡ false) ds (no_mark mark ds worth e)
 
 -- three parts that are joined by a mark are cut into the three

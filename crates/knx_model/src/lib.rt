@@ -132,6 +132,7 @@ pub use words::ind_spelled;
 pub use words::is_name;
 pub use words::is_name_in;
 pub use words::is_text;
+pub use words::is_word;
 pub use words::line_text;
 pub use words::name_spelled;
 pub use words::next_field;

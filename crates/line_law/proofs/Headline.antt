@@ -8,11 +8,12 @@ use Rattle.line_model.specs.declared.log.LogEntry.{LogEntry}
 use Rattle.line_model.specs.declared.log.LogWhat.{LogWhat}
 use Rattle.line_model.specs.declared.log.LogWhat.TheVariants.{Took, Done, Failed, Refused, Sent, Lost}
 use Rattle.line_model.specs.Asks.{EachRight}
-use Rattle.line_model.specs.Headline.{IsGoodJob, IsDisciplined, EveryInterleaving}
+use Rattle.line_law.specs.Safe.{EachAsked, IsSafe, KeepsSafe, EverySafeInterleaving}
+use Rattle.line_model.specs.Headline.{IsGoodJob, IsDisciplined, KeepsFull, EveryInterleaving}
 use Rattle.line_model.specs.Legal.{OfDevice}
 use Rattle.line_model.specs.Log.{Job, job_of, IsLog, OneDownloaderPerDevice}
 use Rattle.line_model.specs.OldStoppedOrNew.{first_events, world_at, DoneSo, EachDoneSo, RunsWhereDone}
-use Rattle.line_model.specs.Record.{placed, record_of}
+use Rattle.line_model.specs.Record.{Placed, placed, record_of}
 use Rattle.line_model.specs.Renews.{RenewsRightly}
 use Rattle.line_model.specs.Sendings.{SendsRightly}
 use Rattle.line_model.specs.Told.{ToldTruly}
@@ -34,7 +35,7 @@ module _ (jobs : List Job) (turns : List GroupTurn) (log : List LogEntry) (good 
       let v : World = with_devices start (joined a start.devices) in
       let renews : RenewsRightly (record_of v events) = subst RenewsRightly (sym s.recorded) run.renews in
       let sends : SendsRightly (record_of v events) = subst SendsRightly (sym s.recorded) run.sends in
-      record { begins = joined_fresh a start run.begins; legal = s.legal; renews = renews; sends = sends; asks = subst (EachRight jobs turns log) (sym s.placed_so) run.asks; once = line_once v events (joined_fresh a start run.begins) s.legal renews sends }
+      record { begins = joined_fresh a start run.begins; legal = s.legal; renews = renews; sends = sends; asks = subst (EachAsked jobs turns log) (sym s.placed_so) run.asks; once = line_once v events (joined_fresh a start run.begins) s.legal renews sends }
 
   module _ (number : ℕ) (job : Job) (there : job_of jobs number ≡ Some job) (newer older : List LogEntry) (e : LogEntry) (whole : log ≡ newer ++ e ∷ older) (what : e.what ≡ Done number) where
     nowhere : start.devices job.device.raw ≡ None → ⊥
@@ -71,10 +72,10 @@ module _ (jobs : List Job) (turns : List GroupTurn) (log : List LogEntry) (good 
   pub done_always : RunsWhereDone jobs start events log
   done_always = each_done [] log refl
 
-pub every_run : EveryInterleaving
-every_run = λ jobs turns start events log good k.
+pub safe_run : EverySafeInterleaving
+safe_run = λ jobs turns start events log good k.
     (let run : IsRun jobs turns log start events = is_run jobs turns start events log k in
-    let d : IsDisciplined jobs turns (length events) (placed start events) log = k.disciplined in
+    let d : IsSafe jobs turns (length events) (placed start events) log = k.safe in
     record {
       devices = record {
         case = case_always jobs turns (length events) log good d.form d.alone start events run;
@@ -85,3 +86,19 @@ every_run = λ jobs turns start events log good k.
       done = done_always jobs turns log good start events d.form d.alone d.truly run;
       once = run.once;
     })
+
+each_asked : (jobs : List Job) (turns : List GroupTurn) (log : List LogEntry) (places : List Placed) → EachRight jobs turns log places → EachAsked jobs turns log places
+each_asked jobs turns log [] h = tt
+each_asked jobs turns log (p ∷ older) h = (h.0.asks, each_asked jobs turns log older h.1)
+
+keeps_safe : (jobs : List Job) (turns : List GroupTurn) (start : World) (events : List Event) (log : List LogEntry) → KeepsFull jobs turns start events log → KeepsSafe jobs turns start events log
+keeps_safe jobs turns start events log k =
+    let d : IsDisciplined jobs turns (length events) (placed start events) log = k.disciplined in
+    record {
+      fresh = k.fresh;
+      legal = k.legal;
+      safe = record { form = d.form; alone = d.alone; truly = d.truly; renews = d.renews; sends = d.sends; asks = each_asked jobs turns log (placed start events) d.asks.each };
+    }
+
+pub every_run : EveryInterleaving
+every_run = λ jobs turns start events log good k. safe_run jobs turns start events log good (keeps_safe jobs turns start events log k)

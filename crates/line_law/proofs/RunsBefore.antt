@@ -4,7 +4,7 @@ use Rattle.knx_model.specs.declared.frames.cemi.Ldata.{Ldata}
 use Rattle.line_model.specs.declared.group.GroupTurn.{GroupTurn}
 use Rattle.line_model.specs.declared.log.LogEntry.{LogEntry}
 use Rattle.line_model.specs.ActedOnce.{IsActedOnce, ActedOnce}
-use Rattle.line_model.specs.Asks.{EachRight}
+use Rattle.line_law.specs.Safe.{EachAsked}
 use Rattle.line_model.specs.Fresh.{IsFresh}
 use Rattle.line_model.specs.Legal.{IsLegal}
 use Rattle.line_model.specs.Log.{Job}
@@ -27,10 +27,10 @@ pub record IsRun (jobs : List Job) (turns : List GroupTurn) (log : List LogEntry
   pub legal : IsLegal Commissions start events
   pub renews : RenewsRightly (record_of start events)
   pub sends : SendsRightly (record_of start events)
-  pub asks : EachRight jobs turns log (placed start events)
+  pub asks : EachAsked jobs turns log (placed start events)
   pub once : ActedOnce start events
 
-pub asks_by : (jobs : List Job) (turns : List GroupTurn) (log : List LogEntry) (n t : ℕ) (o : Option Item) (older : List Placed) → EachRight jobs turns log (placed_if n t o older) → EachRight jobs turns log older
+pub asks_by : (jobs : List Job) (turns : List GroupTurn) (log : List LogEntry) (n t : ℕ) (o : Option Item) (older : List Placed) → EachAsked jobs turns log (placed_if n t o older) → EachAsked jobs turns log older
 asks_by jobs turns log n t None older h = h
 asks_by jobs turns log n t (Some item) older h = h.1
 

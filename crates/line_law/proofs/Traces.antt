@@ -5,7 +5,8 @@ use Rattle.knx_model.specs.GoodPlan.{IsSendable}
 use Rattle.line_model.specs.declared.group.GroupTurn.{GroupTurn}
 use Rattle.line_model.specs.declared.log.LogEntry.{LogEntry}
 use Rattle.line_model.specs.ActedOnce.{Has, IsActedOnce}
-use Rattle.line_model.specs.Asks.{IsRightDeed, IsRightEntry, EachRight}
+use Rattle.line_model.specs.Asks.{IsRightDeed}
+use Rattle.line_law.specs.Safe.{IsAsked, EachAsked}
 use Rattle.line_model.specs.Attempts.{attempts}
 use Rattle.line_model.specs.ClientView.{ClientChannel, Fresh, Sought, RefusedBy, Unanswered, Open, Lost, Deed, View, unused, channel, deed, views, after_entry, goes_on, after_fresh}
 use Rattle.line_model.specs.ClientView as view
@@ -94,7 +95,7 @@ module _ (jobs : List Job) (turns : List GroupTurn) (count : ℕ) (log : List Lo
       → (step (line.replay start events) e).tunnel.present ≡ (line.replay start events).tunnel.present
       → (x : Entry) → x ≡ entry item (now (step (line.replay start events) e))
       → z.device.address.raw ≡ a → InvT (books (record_of start events)) (line.replay start events).tunnel → InvT (books (x ∷ record_of start events)) (step (line.replay start events) e).tunnel → IsActedOnce (step (line.replay start events) e).tunnel.gateway (x ∷ record_of start events)
-      → IsRightEntry jobs turns (log_before (suc (length events)) log) (placed start events) (record { at = suc (length events); what = x }) → Coupled a (step (line.replay start events) e) (record_of start events) z
+      → IsAsked jobs turns (log_before (suc (length events)) log) (placed start events) (record { at = suc (length events); what = x }) → Coupled a (step (line.replay start events) e) (record_of start events) z
       → StepBy jobs log a (length events) (step (line.replay start events) e) (x ∷ record_of start events) (moments (placed start events)) (record { at = suc (length events); what = x } ∷ placed start events) s
   entered e item z first is legal follows silent client kept present x x_is named old inv once asks c =
       let r : List Entry = record_of start events in
@@ -106,7 +107,7 @@ module _ (jobs : List Job) (turns : List GroupTurn) (count : ℕ) (log : List Lo
       let no_renewal : is_renewal x.what ≡ false = ap (λ (y : Entry). is_renewal y.what) x_is ∙ kept in
       let deed_is : deed (channel (entries older)) x ≡ deed (channel r) x = ap (λ y. deed (channel y) x) same in
       let ask : IsRightDeed jobs turns (log_before (suc (length events)) log) older (record { what = deed (channel r) x; now = x.now; at = suc (length events) }) (deed (channel r) x)
-      = subst (λ y. IsRightDeed jobs turns (log_before (suc (length events)) log) older (record { what = y; now = x.now; at = suc (length events) }) y) deed_is asks.asks in
+      = subst (λ y. IsRightDeed jobs turns (log_before (suc (length events)) log) older (record { what = y; now = x.now; at = suc (length events) }) y) deed_is asks in
       let g : EntryGoes jobs (log_before (suc (length events)) log) a (step (line.replay start events) e) (x ∷ r) (moments older) (record { what = deed (channel r) x; now = x.now; at = suc (length events) }) z
       = entry_next jobs turns (log_before (suc (length events)) log) a (step (line.replay start events) e) r older x (length events) z same no_renewal view_ inv once named time upto (one_job jobs turns count log form alone a (suc (length events)))
       (λ p. can p.number p.job p.there) c (λ p. subst (Attempted a (moments older) p.job p.since) (sym client) (f.attempted p)) ask in
@@ -158,7 +159,7 @@ module _ (jobs : List Job) (turns : List GroupTurn) (count : ℕ) (log : List Lo
   got_step : (age : ℕ) (o : Option Sent) → s.device.address.raw ≡ a → InvT (books (record_of start events)) (line.replay start events).tunnel
       → InvT (books (noted (got o) (now (step (line.replay start events) (Down age))) (record_of start events))) (step (line.replay start events) (Down age)).tunnel
       → IsActedOnce (step (line.replay start events) (Down age)).tunnel.gateway (noted (got o) (now (step (line.replay start events) (Down age))) (record_of start events))
-      → EachRight jobs turns log (placed_if (suc (length events)) (now (step (line.replay start events) (Down age))) (got o) (placed start events)) → OfSent (λ d. Unit {0}) o
+      → EachAsked jobs turns log (placed_if (suc (length events)) (now (step (line.replay start events) (Down age))) (got o) (placed start events)) → OfSent (λ d. Unit {0}) o
       → StepBy jobs log a (length events) (step (line.replay start events) (Down age)) (noted (got o) (now (step (line.replay start events) (Down age))) (record_of start events)) (moments (placed start events))
       (placed_if (suc (length events)) (now (step (line.replay start events) (Down age))) (got o) (placed start events)) s
   got_step age None named old inv once asks may = absurd may

@@ -8,7 +8,7 @@ ghost use Rattle.project_text.specs.Reading.{Added, with_line};
 
 use crate::fields::{flags_field, name_field, object_field, size_field, value_field};
 use knx_model::{
-    List, Statement, What, Why, device_field, first_word, group_field, line_text, no_more,
+    List, Statement, What, Why, device_field, first_word, group_field, is_word, line_text, no_more,
     words_of_text,
 };
 
@@ -164,19 +164,19 @@ fn words_in<'a>(statements: &mut List<Statement<'a>>, line: u32, rest: &'a [u8])
     match first_word(rest) {
         None => Ok(()),
         Some((word, rest)) => {
-            if word == b"project".as_slice() {
+            if is_word(word, b"project") {
                 add_title(statements, line, rest)
-            } else if word == b"ga".as_slice() {
+            } else if is_word(word, b"ga") {
                 add_group(statements, line, rest)
-            } else if word == b"device".as_slice() {
+            } else if is_word(word, b"device") {
                 add_device(statements, line, rest)
-            } else if word == b"object".as_slice() {
+            } else if is_word(word, b"object") {
                 add_object(statements, line, rest)
-            } else if word == b"link".as_slice() {
+            } else if is_word(word, b"link") {
                 add_link(statements, line, rest)
-            } else if word == b"flags".as_slice() {
+            } else if is_word(word, b"flags") {
                 add_flags(statements, line, rest)
-            } else if word == b"param".as_slice() {
+            } else if is_word(word, b"param") {
                 add_parameter(statements, line, rest)
             } else {
                 Err(Why::UnknownWord)

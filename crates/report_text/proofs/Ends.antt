@@ -1,6 +1,7 @@
 -- What a log tells of a job that is over and of one that isn't yet; and that no done is told of a job that failed or was refused.
 use Rattle.std.proofs.Common.{◌≡◌, ◌≢◌, ℕ, Bool, true, false, ◌||◌, eqb, List, [], ◌∷◌, Option, None, refl, sym, ◌∙◌, ap, subst}
 use Rattle.std.specs.Prelude.{◌==◌}
+use native.Mathlib.Omega.{arith}
 use Rattle.std.proofs.lemmas.Bool.Decides.{eqb_tells}
 use Rattle.line_model.specs.declared.group.GroupTurn.{GroupTurn}
 use Rattle.line_model.specs.declared.log.LogEntry.{LogEntry}
@@ -12,10 +13,10 @@ use Rattle.report_text.specs.LineStatus.{is_failure, has_failure, is_done, tells
 -- ---- tests
 
 same : (j k : ℕ) → (j == k) ≡ true → j ≡ k
-same j k e = grind (e, eqb_tells j k)
+same j k e = grind (arith, e, eqb_tells j k)
 
 itself : (k : ℕ) → (k == k) ≡ true
-itself k = grind (eqb_tells k k)
+itself k = grind (arith, eqb_tells k k)
 
 neither : (a b : Bool) → (a || b) ≡ false → (a ≡ false) × (b ≡ false)
 neither true b e = absurd (let z : true ≡ false = e in cc)
@@ -112,14 +113,16 @@ fails (Lost turn) f = absurd (let z : false ≡ true = f in cc)
 
 -- ---- where no failure is told, done is told of each job that is over
 
+over_entry : (k : ℕ) (e : LogEntry) (l : List LogEntry) → IsTo k e → is_failure e.what ≡ false → (state_of k l ≡ Over → tells_done k l ≡ true) → state_of k (e ∷ l) ≡ Over → tells_done k (e ∷ l) ≡ true
+over_entry k e l (TakesIt t) fine older o = absurd (let z : Held e.worker e.at ≡ Over = sym (after_taking k e (state_of k l) t) ∙ o in cc)
+over_entry k e l (EndsIt t d) fine older o = one (is_done k e.what) (tells_done k l) (end_is_done k e.what d fine)
+over_entry k e l (Else t d) fine older o = other (is_done k e.what) (tells_done k l) (older (sym (after_other k e (state_of k l) t d) ∙ o))
+
 pub done_where_over : (k : ℕ) (l : List LogEntry) → has_failure l ≡ false → state_of k l ≡ Over → tells_done k l ≡ true
 done_where_over k [] fine o = absurd (let z : Untaken ≡ Over = o in cc)
-done_where_over k (e ∷ l) fine o = by_entry (is_to k e) (neither (is_failure e.what) (has_failure l) fine)
-  where
-    by_entry : IsTo k e → (is_failure e.what ≡ false) × (has_failure l ≡ false) → tells_done k (e ∷ l) ≡ true
-    by_entry (TakesIt t) fine = absurd (let z : Held e.worker e.at ≡ Over = sym (after_taking k e (state_of k l) t) ∙ o in cc)
-    by_entry (EndsIt t d) fine = one (is_done k e.what) (tells_done k l) (end_is_done k e.what d fine.0)
-    by_entry (Else t d) fine = other (is_done k e.what) (tells_done k l) (done_where_over k l fine.1 (sym (after_other k e (state_of k l) t d) ∙ o))
+done_where_over k (e ∷ l) fine o =
+    let both : (is_failure e.what ≡ false) × (has_failure l ≡ false) = neither (is_failure e.what) (has_failure l) fine in
+    over_entry k e l (is_to k e) both.0 (done_where_over k l both.1) o
 
 -- ---- in a log of these jobs
 
@@ -141,24 +144,24 @@ module _ (jobs : List Job) (turns : List GroupTurn) (count : ℕ) where
   ending k worker l (Lost turn) d h = absurd (let z : false ≡ true = d in cc)
 
   -- of a job that isn't over no done is told
+  undone_entry : (k : ℕ) (e : LogEntry) (l : List LogEntry) → MayFollow jobs turns e.worker l e.what → IsTo k e → (is_over (state_of k l) ≡ false → tells_done k l ≡ false) → is_over (state_of k (e ∷ l)) ≡ false → tells_done k (e ∷ l) ≡ false
+  undone_entry k e l h (TakesIt t) older o = both_not (is_done k e.what) (tells_done k l) (taking_isnt_done k e.what t) (older (ap is_over (taking k e.worker l e.what t h).1))
+  undone_entry k e l h (EndsIt t d) older o = absurd (let z : true ≡ false = sym (ap is_over (after_end k e (state_of k l) t d)) ∙ o in cc)
+  undone_entry k e l h (Else t d) older o = both_not (is_done k e.what) (tells_done k l) (no_end_isnt_done k e.what d) (older (sym (ap is_over (after_other k e (state_of k l) t d)) ∙ o))
+
   undone : (k : ℕ) (l : List LogEntry) → IsLog jobs turns count l → is_over (state_of k l) ≡ false → tells_done k l ≡ false
   undone k [] h o = refl
-  undone k (e ∷ l) h o = by_entry (is_to k e)
-    where
-      by_entry : IsTo k e → tells_done k (e ∷ l) ≡ false
-      by_entry (TakesIt t) = both_not (is_done k e.what) (tells_done k l) (taking_isnt_done k e.what t) (undone k l h.1 (ap is_over (taking k e.worker l e.what t h.0.follows).1))
-      by_entry (EndsIt t d) = absurd (let z : true ≡ false = sym (ap is_over (after_end k e (state_of k l) t d)) ∙ o in cc)
-      by_entry (Else t d) = both_not (is_done k e.what) (tells_done k l) (no_end_isnt_done k e.what d) (undone k l h.1 (sym (ap is_over (after_other k e (state_of k l) t d)) ∙ o))
+  undone k (e ∷ l) h o = undone_entry k e l h.0.follows (is_to k e) (undone k l h.1) o
 
   -- a job that was taken is one of these
+  there_entry : (k : ℕ) (e : LogEntry) (l : List LogEntry) → MayFollow jobs turns e.worker l e.what → IsTo k e → (is_taken (state_of k l) ≡ true → job_of jobs k ≢ None) → is_taken (state_of k (e ∷ l)) ≡ true → job_of jobs k ≢ None
+  there_entry k e l h (TakesIt t) older taken = (taking k e.worker l e.what t h).0
+  there_entry k e l h (EndsIt t d) older taken = older (held e.worker (state_of k l) (ending k e.worker l e.what d h)).0
+  there_entry k e l h (Else t d) older taken = older (sym (ap is_taken (after_other k e (state_of k l) t d)) ∙ taken)
+
   there : (k : ℕ) (l : List LogEntry) → IsLog jobs turns count l → is_taken (state_of k l) ≡ true → job_of jobs k ≢ None
   there k [] h t = absurd (let z : false ≡ true = t in cc)
-  there k (e ∷ l) h taken = by_entry (is_to k e)
-    where
-      by_entry : IsTo k e → job_of jobs k ≢ None
-      by_entry (TakesIt t) = (taking k e.worker l e.what t h.0.follows).0
-      by_entry (EndsIt t d) = there k l h.1 (held e.worker (state_of k l) (ending k e.worker l e.what d h.0.follows)).0
-      by_entry (Else t d) = there k l h.1 (sym (ap is_taken (after_other k e (state_of k l) t d)) ∙ taken)
+  there k (e ∷ l) h taken = there_entry k e l h.0.follows (is_to k e) (there k l h.1) taken
 
   -- a job of which no done will be told
   pub record Undone (k : ℕ) (l : List LogEntry) : Type 0 where
@@ -175,20 +178,25 @@ module _ (jobs : List Job) (turns : List GroupTurn) (count : ℕ) where
     untold = both_not (is_done k e.what) (tells_done k l) (no_end_isnt_done k e.what d) u.untold;
   }
 
+  failure_now : (e : LogEntry) (l : List LogEntry) → MayFollow jobs turns e.worker l e.what → IsLog jobs turns count l → (k : ℕ) × Fails k e.what → (k : ℕ) × Undone k (e ∷ l)
+  failure_now e l h log (k, it) =
+      let was : (is_taken (state_of k l) ≡ true) × (is_over (state_of k l) ≡ false) = held e.worker (state_of k l) (ending k e.worker l e.what it.ends h) in (
+        k,
+        record {
+          there = there k l log was.0;
+          over = ap is_over (after_end k e (state_of k l) it.taken_not it.ends);
+          untold = both_not (is_done k e.what) (tells_done k l) it.done_not (undone k l log was.1);
+        },
+      )
+
+  failure_older : (e : LogEntry) (l : List LogEntry) → MayFollow jobs turns e.worker l e.what → (k : ℕ) × Undone k l → (k : ℕ) × Undone k (e ∷ l)
+  failure_older e l h (k, older) = (k, stays k e l h older (is_to k e))
+
+  failure_by : (e : LogEntry) (l : List LogEntry) → MayFollow jobs turns e.worker l e.what → IsLog jobs turns count l → (has_failure l ≡ true → (k : ℕ) × Undone k l) → (is_failure e.what || has_failure l) ≡ true → (b : Bool) → is_failure e.what ≡ b
+      → (k : ℕ) × Undone k (e ∷ l)
+  failure_by e l h log older f true b = failure_now e l h log (fails e.what b)
+  failure_by e l h log older f false b = failure_older e l h (older (sym (ap (λ (a : Bool). a || has_failure l) b) ∙ f))
+
   pub failure : (l : List LogEntry) → IsLog jobs turns count l → has_failure l ≡ true → (k : ℕ) × Undone k l
   failure [] h f = absurd (let z : false ≡ true = f in cc)
-  failure (e ∷ l) h f = by_entry (is_failure e.what) refl
-    where
-      of_it : (k : ℕ) × Fails k e.what → (k : ℕ) × Undone k (e ∷ l)
-      of_it (k, it) =
-          let was : (is_taken (state_of k l) ≡ true) × (is_over (state_of k l) ≡ false) = held e.worker (state_of k l) (ending k e.worker l e.what it.ends h.0.follows) in
-          (k, record {
-            there = there k l h.1 was.0;
-            over = ap is_over (after_end k e (state_of k l) it.taken_not it.ends);
-            untold = both_not (is_done k e.what) (tells_done k l) it.done_not (undone k l h.1 was.1);
-          })
-      by_entry : (b : Bool) → is_failure e.what ≡ b → (k : ℕ) × Undone k (e ∷ l)
-      by_entry true b = of_it (fails e.what b)
-      by_entry false b =
-          let older : (k : ℕ) × Undone k l = failure l h.1 (sym (ap (λ (a : Bool). a || has_failure l) b) ∙ f) in
-          (older.0, stays older.0 e l h.0.follows older.1 (is_to older.0 e))
+  failure (e ∷ l) h f = failure_by e l h.0.follows h.1 (failure l h.1) f (is_failure e.what) refl

@@ -49,11 +49,13 @@ done_exactly jobs turns count log report is form over = (there, back)
   where
     any_in : (p : LogEntry → Bool) → list_any p report.log ≡ list_any p log
     any_in p = ap (list_any p) is ∙ any_reversed p log
+
     there : status_of report.fault report.log ≡ status.Done → (report.fault ≡ None) × EachDone jobs report.log
     there e =
         let fine : (report.fault ≡ None) × (has_failure report.log ≡ false) = fine_where_done report.fault report.log e in
         let unfailed : has_failure log ≡ false = sym (any_in (λ (e : LogEntry). is_failure e.what)) ∙ fine.1 in
         (fine.0, λ k is_job. any_in (λ (e : LogEntry). is_done k e.what) ∙ done_where_over k log unfailed (over fine.0 k is_job))
+
     back : (report.fault ≡ None) × EachDone jobs report.log → status_of report.fault report.log ≡ status.Done
     back h = by_log (has_failure log) refl
       where

@@ -11,6 +11,8 @@ mod devices;
 #[cfg(test)]
 mod field_words;
 #[cfg(test)]
+mod line_reports;
+#[cfg(test)]
 mod link_frames;
 #[cfg(test)]
 mod line_reports;

@@ -11,8 +11,11 @@ use std::process::Abort;
 use std::test::Fail;
 
 const DEVICE: IndAddr = IndAddr { raw: 0x1105 };
+
 const OTHER: IndAddr = IndAddr { raw: 0x1209 };
+
 const TUNNEL: IndAddr = IndAddr { raw: 0x11FF };
+
 const GROUP: GroupAddr = GroupAddr { raw: 0x0A03 };
 
 fn entry(at: u64, worker: u8, what: LogWhat) -> LogEntry {
@@ -156,8 +159,26 @@ fn each_end_has_its_line_and_its_status(rt: HostRuntime) -> Result<(), Fail> {
     };
     let elsewhere_text = b"wrong line 1.2.9 tunnel 1.1.255\n";
     ends_so(&rt, alloc, None, b"missed 0\n", Status::Done)?;
-    ends_so(&rt, alloc, Some(HubFault::LinkFailed), b"missed 0\nlink fault\n", Status::Link)?;
-    ends_so(&rt, alloc, Some(HubFault::Flooded), b"missed 0\nflooded\n", Status::Flooded)?;
-    ends_so(&rt, alloc, Some(elsewhere), elsewhere_text, Status::WrongLine)?;
+    ends_so(
+        &rt,
+        alloc,
+        Some(HubFault::LinkFailed),
+        b"missed 0\nlink fault\n",
+        Status::Link,
+    )?;
+    ends_so(
+        &rt,
+        alloc,
+        Some(HubFault::Flooded),
+        b"missed 0\nflooded\n",
+        Status::Flooded,
+    )?;
+    ends_so(
+        &rt,
+        alloc,
+        Some(elsewhere),
+        elsewhere_text,
+        Status::WrongLine,
+    )?;
     Ok(())
 }

@@ -1,12 +1,14 @@
 //! Words that are addresses.
 
-ghost use Rattle.std.specs.Prelude.{◌≡◌, ℕ, List, ◌↔◌, ◌==◌, ◌∷◌, ◌<◌, ◌%◌, [], MatchOption, IfSome, position};
+ghost use Rattle.std.specs.Prelude.{◌≡◌, ℕ, List, ◌↔◌, ◌==◌, ◌∷◌, ◌<◌, ◌≤◌, ◌%◌, [], MatchOption, IfSome, position};
 ghost use Rattle.std.specs.List.{slice_split, list_all};
-ghost use Rattle.std.specs.Option.{option_map};
+ghost use Rattle.std.specs.Char.{digit_value};
+ghost use Rattle.std.specs.Option.{option_map, option_and_then};
 ghost use Rattle.knx_model.specs.Spells.{SpellsGroup, SpellsDevice};
 ghost use Rattle.knx_model.specs.declared.address.GroupAddr.{GroupAddr};
 ghost use Rattle.knx_model.specs.declared.address.IndAddr.{IndAddr};
 ghost use Rattle.knx_model.specs.Addresses.{three, group_value, ind_value};
+ghost use Rattle.knx_model.specs.Numbers.{part_value};
 
 use crate::address::{GroupAddr, IndAddr};
 use crate::words::number::part_in;
@@ -28,17 +30,20 @@ fn cut_at(word: &[u8], by: u8) -> Option<(&[u8], &[u8])>
     Some((front, rest))
 }
 
-/// The parts of a word that is joined of three by `by`.
-#[tactic(auto, using(crate::proofs::Parts::four_parts))]
-fn three_parts(word: &[u8], by: u8) -> Option<(&[u8], &[u8], &[u8])>
-    ensures { option_map (λ x. (x.0.now, x.1.now, x.2.now)) result ≡ three (slice_split (λ b. b == by) word.now) }
+/// The numbers, each up to its most, of a word that is joined of three by `by`.
+#[inline(always)]
+fn three_parts(word: &[u8], by: u8, most: (u32, u32, u32)) -> Option<(u32, u32, u32)>
+    requires { digit_value by ≡ 36 }
+    ensures value { result ≡ option_and_then (λ parts. option_and_then (λ a. option_and_then (λ b. option_map (λ c. (a, b, c)) (part_value most.2 parts.2)) (part_value most.1 parts.1)) (part_value most.0 parts.0)) (three (slice_split (λ b. b == by) word.now)) }
+    ensures within { IfSome result (λ x. (x.0 ≤ most.0) × (x.1 ≤ most.1) × (x.2 ≤ most.2)) }
 {
     let (first, rest) = cut_at(word, by)?;
+    // A `by` in what comes after the second one is no digit.
     let (second, third) = cut_at(rest, by)?;
-    match cut_at(third, by) {
-        Some(_) => None,
-        None => Some((first, second, third)),
-    }
+    let first = part_in(most.0, first)?;
+    let second = part_in(most.1, second)?;
+    let third = part_in(most.2, third)?;
+    Some((first, second, third))
 }
 
 /// The device that a word names.
@@ -47,10 +52,7 @@ pub fn ind_in(word: &[u8]) -> Option<IndAddr>
     ensures value { result ≡ ind_value word.now }
     ensures fits { IfSome result (λ d. (0 < d.raw % 256) × (d.raw % 256 < 255)) }
 {
-    let (area, line, device) = three_parts(word, b'.')?;
-    let area = part_in(15, area)?;
-    let line = part_in(15, line)?;
-    let device = part_in(254, device)?;
+    let (area, line, device) = three_parts(word, b'.', (15, 15, 254))?;
     if device == 0 {
         return None;
     }
@@ -65,10 +67,7 @@ pub fn group_in(word: &[u8]) -> Option<GroupAddr>
     ensures value { result ≡ group_value word.now }
     ensures fits { IfSome result (λ g. 0 < g.raw) }
 {
-    let (main, middle, sub) = three_parts(word, b'/')?;
-    let main = part_in(31, main)?;
-    let middle = part_in(7, middle)?;
-    let sub = part_in(255, sub)?;
+    let (main, middle, sub) = three_parts(word, b'/', (31, 7, 255))?;
     let raw = main * 2048 + middle * 256 + sub;
     if raw == 0 {
         return None;

@@ -22,7 +22,7 @@ pub use put::{
     put_number_word, put_word,
 };
 pub use reading::{
-    LONGEST_TEXT, device_field, group_field, line_text, next_field, no_more, refused_at,
+    LONGEST_TEXT, device_field, group_field, is_word, line_text, next_field, no_more, refused_at,
     words_of_text,
 };
 pub use size::{bits_of, size_code, size_code_in, size_code_of, size_spelled};

@@ -1,7 +1,6 @@
 //! Words that are names.
 
-ghost use Rattle.std.specs.Prelude.{◌≡◌, ℕ, ◌↔◌, List, IsTrue};
-ghost use Rattle.std.specs.List.{list_all};
+ghost use Rattle.std.specs.Prelude.{◌≡◌, ℕ, ◌↔◌, ◌&&◌, true, fold, List, IsTrue};
 ghost use Rattle.knx_model.specs.Numbers.{is_name, is_name_octet};
 ghost use Rattle.knx_model.specs.Spells.{SpellsName};
 ghost use Rattle.knx_model.specs.Statements.{name_value};
@@ -14,10 +13,11 @@ fn is_name_octet(c: u8) -> bool
     c.is_ascii_alphanumeric() || c == b'_' || c == b'-' || c == b'.'
 }
 
+/// Whether all octets of a word are a name's. It goes through all of them without a branch.
 fn are_name_octets(word: &[u8]) -> bool
-    ensures { result ≡ list_all is_name_octet word.now }
+    ensures { result ≡ fold (λ all c. all && is_name_octet c) true word.now }
 {
-    word.iter().all(|c| is_name_octet(*c))
+    word.iter().fold(true, |all, c| all & is_name_octet(*c))
 }
 
 /// Whether a word is a name.

@@ -1,6 +1,6 @@
 //! Words that are numbers.
 
-ghost use Rattle.std.specs.Prelude.{◌≡◌, ℕ, ◌≤◌, ◌↔◌, List, Some, IfSome};
+ghost use Rattle.std.specs.Prelude.{◌≡◌, ℕ, ◌≤◌, ◌↔◌, List, [], ◌∷◌, Some, IfSome};
 ghost use Rattle.std.specs.Char.{digit_value};
 ghost use Rattle.knx_model.specs.Numbers.{numeral, number_value, part_value};
 ghost use Rattle.knx_model.specs.Spells.{SpellsNumber};
@@ -41,6 +41,47 @@ pub fn numeral(radix: u64, most: usize, digits: &[u8]) -> Option<u64>
     Some(number)
 }
 
+/// The number that one decimal digit writes.
+#[tactic(auto, unfolding(crate::specs::Numbers::numeral))]
+fn one_digit(a: u8) -> Option<u32>
+    ensures { result ≡ numeral 10 3 (a ∷ []) }
+{
+    match a {
+        b'0'..=b'9' => Some(u32::from(a - b'0')),
+        _ => None,
+    }
+}
+
+/// The number that two decimal digits write.
+#[tactic(auto, unfolding(crate::specs::Numbers::numeral))]
+fn two_digits(a: u8, b: u8) -> Option<u32>
+    ensures { result ≡ numeral 10 3 (a ∷ b ∷ []) }
+{
+    Some(one_digit(a)? * 10 + one_digit(b)?)
+}
+
+/// The number that three decimal digits write.
+#[tactic(auto, unfolding(crate::specs::Numbers::numeral))]
+fn three_digits(a: u8, b: u8, c: u8) -> Option<u32>
+    ensures { result ≡ numeral 10 3 (a ∷ b ∷ c ∷ []) }
+{
+    Some(two_digits(a, b)? * 10 + one_digit(c)?)
+}
+
+/// The number that 1 to 3 decimal digits write.
+#[tactic(auto, unfolding(crate::specs::Numbers::numeral))]
+#[inline(always)]
+fn up_to_three_digits(word: &[u8]) -> Option<u32>
+    ensures { result ≡ numeral 10 3 word.now }
+{
+    match word {
+        [a] => one_digit(*a),
+        [a, b] => two_digits(*a, *b),
+        [a, b, c] => three_digits(*a, *b, *c),
+        _ => None,
+    }
+}
+
 /// The number that a word writes, in decimal or behind `0x` in hexadecimal.
 #[tactic(auto, unfolding(crate::specs::Numbers::number_value))]
 pub fn number_in(word: &[u8]) -> Option<u32>
@@ -59,16 +100,13 @@ pub fn number_in(word: &[u8]) -> Option<u32>
 
 /// A part of an address: 1 to 3 decimal digits.
 #[tactic(auto, unfolding(crate::specs::Numbers::part_value))]
+#[inline(always)]
 pub fn part_in(most: u32, word: &[u8]) -> Option<u32>
     ensures value { result ≡ part_value most word.now }
     ensures within { IfSome result (λ n. n ≤ most) }
 {
-    let number = numeral(10, 3, word)?;
-    if number <= u64::from(most) {
-        Some(number as u32)
-    } else {
-        None
-    }
+    let number = up_to_three_digits(word)?;
+    if number <= most { Some(number) } else { None }
 }
 
 /// The number that a word writes, in decimal or behind `0x` in hexadecimal, up to 4,294,967,295; none for another word.

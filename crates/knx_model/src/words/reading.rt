@@ -1,6 +1,6 @@
 //! What the readers of all texts share: the words of a line, and the places that more than one language has.
 
-ghost use Rattle.std.specs.Prelude.{◌≡◌, ◌<◌, ◌%◌, ◌∷◌, [], IfOk, IfErr, IsTrue};
+ghost use Rattle.std.specs.Prelude.{◌≡◌, ◌<◌, ◌%◌, ◌∷◌, [], IfOk, IfErr, IsTrue, bytes_eq};
 ghost use Rattle.knx_model.specs.Words.{words, is_text};
 ghost use Rattle.knx_model.specs.Addresses.{group_value, ind_value};
 ghost use Rattle.knx_model.specs.Answers.{Answers};
@@ -67,6 +67,21 @@ pub fn device_field(rest: &[u8]) -> Result<(IndAddr, &[u8]), Why>
     let (word, rest) = next_field(rest)?;
     let device = ind_in(word).ok_or(Why::BadAddress)?;
     Ok((device, rest))
+}
+
+/// Whether a word is a keyword. Keywords are short: they are compared octet by octet, without a call.
+pub fn is_word(word: &[u8], keyword: &[u8]) -> bool
+    ensures { result ≡ bytes_eq word.now keyword.now }
+{
+    if word.len() != keyword.len() {
+        return false;
+    }
+    for i in 0..word.len() {
+        if word[i] != keyword[i] {
+            return false;
+        }
+    }
+    true
 }
 
 /// No word is left.

@@ -1,8 +1,5 @@
-use Rattle.std.proofs.Common.{◌≡◌, ℕ, suc, ◌+◌, ◌-◌, ◌≤◌, ◌<◌, length, drop, ◌∷◌, sym, ap, subst, refl, ◌∙◌, arith, IfSome}
-use Rattle.knx_model.specs.Device.{Fits}
-use Rattle.line_model.specs.Lines.{Script}
+use Rattle.std.proofs.Common.{◌≡◌, ℕ, suc, ◌-◌, ◌<◌, length, drop, sym, ap, subst, ◌∙◌, arith}
 use Rattle.line_model.specs.StartOf.{line_of}
-use Rattle.script_index.specs.Stands.{StandsFor}
 use Rattle.line_sim.specs.Places.{AreDevices}
 use Rattle.bus_sim.specs.Begun.{device_begun}
 use Rattle.bus_sim.proofs.Begins.{can_at, one_put}

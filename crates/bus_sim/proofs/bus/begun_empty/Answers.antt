@@ -1,4 +1,4 @@
-use Rattle.std.proofs.Common.{◌≡◌, [], refl, sym, subst}
+use Rattle.std.proofs.Common.{[], refl, sym, subst}
 use Rattle.knx_model.specs.ScriptText as text
 use Rattle.bus_sim.specs.Held.{IsLoaded}
 use Rattle.bus_sim.proofs.bus.begun_empty.Goals as goal

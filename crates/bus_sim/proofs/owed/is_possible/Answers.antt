@@ -1,4 +1,4 @@
-use Rattle.std.proofs.Common.{◌≡◌, ap, sym, ◌∙◌}
+use Rattle.std.proofs.Common.{ap, sym, ◌∙◌}
 use Rattle.line_model.specs.Owed.{is_possible}
 use Rattle.line_model.specs.Tunnel.{Commissions}
 use Rattle.bus_sim.specs.Owing.{meant}

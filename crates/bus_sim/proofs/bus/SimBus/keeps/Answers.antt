@@ -1,4 +1,4 @@
-use Rattle.std.proofs.Common.{◌≡◌, ap, sym, subst, ◌∙◌}
+use Rattle.std.proofs.Common.{ap, sym, subst, ◌∙◌}
 use Rattle.line_model.specs.Follows.{Follows}
 use Rattle.line_model.specs.Legal.{IsLegal}
 use Rattle.line_model.specs.Tunnel.{Commissions}

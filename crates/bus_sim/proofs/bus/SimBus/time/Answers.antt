@@ -1,4 +1,4 @@
-use Rattle.std.proofs.Common.{◌≡◌, ap, sym, ◌∙◌}
+use Rattle.std.proofs.Common.{ap, sym, ◌∙◌}
 use Rattle.bus_sim.specs.Loaded.{BusNow, bus_of}
 use Rattle.bus_sim.specs.RunNow.{time}
 use Rattle.bus_sim.proofs.bus.SimBus.time.Goals as goal

@@ -1,4 +1,4 @@
-use Rattle.std.proofs.Common.{◌≡◌, ◌+◌, ◌∷◌, [], ◌++◌, length, reverse, ap, ◌∙◌, sym, arith, length-append}
+use Rattle.std.proofs.Common.{◌≡◌, ◌+◌, ◌∷◌, [], ◌++◌, length, reverse, ap, ◌∙◌, sym, length-append}
 use Rattle.bus_sim.specs.Kept.{octets_of, octets_of_all, told, event_of}
 use Rattle.bus_sim.proofs.Kept.{all_more, newest}
 use Rattle.bus_sim.proofs.events.Events.push.Goals as goal

@@ -1,5 +1,4 @@
-use Rattle.std.proofs.Common.{◌≡◌, refl}
-use Rattle.bus_sim.proofs.Turning.{may_down, next_down_is}
+use Rattle.bus_sim.proofs.NextEvents.{may_down, next_down_is}
 use Rattle.bus_sim.proofs.run.Run.age_down.Goals as goal
 
 pub returns-clause-may : goal.returns-clause-may

@@ -1,5 +1,4 @@
-use Rattle.std.proofs.Common.{◌≡◌, refl}
-use Rattle.bus_sim.proofs.Turning.{may_up, next_up_is}
+use Rattle.bus_sim.proofs.NextEvents.{may_up, next_up_is}
 use Rattle.bus_sim.proofs.run.Run.age_up.Goals as goal
 
 pub returns-clause-may : goal.returns-clause-may

@@ -1,4 +1,3 @@
-use Rattle.std.proofs.Common.{◌≡◌}
 use Rattle.line_model.specs.Tunnel.{Commissions}
 use Rattle.bus_sim.specs.Went.{world}
 use Rattle.bus_sim.proofs.run.Run.at_devices.Goals as goal

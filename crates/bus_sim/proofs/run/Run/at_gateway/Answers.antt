@@ -1,4 +1,4 @@
-use Rattle.std.proofs.Common.{◌≡◌, ap, sym, ◌∙◌}
+use Rattle.std.proofs.Common.{ap, sym, ◌∙◌}
 use Rattle.line_model.specs.Follows.{at_gateway}
 use Rattle.bus_sim.specs.Begun.{said}
 use Rattle.bus_sim.proofs.Numbers.{heard_is}

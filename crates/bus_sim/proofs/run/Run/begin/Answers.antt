@@ -1,4 +1,4 @@
-use Rattle.std.proofs.Common.{◌≡◌, subst}
+use Rattle.std.proofs.Common.{subst}
 use Rattle.line_model.specs.Lines.{script_of}
 use Rattle.script_index.specs.Stands.{StandsFor}
 use Rattle.bus_sim.specs.Begun.{said, device_begun}

@@ -1,8 +1,6 @@
-use Rattle.std.proofs.Common.{◌≡◌, ℕ, true, false, ◌&&◌, ◌<◌, [], ◌∷◌, suc, refl, subst, sym, ap, ◌∙◌, is_some}
+use Rattle.std.proofs.Common.{◌≡◌, ◌∷◌, refl, subst, sym, ap, ◌∙◌, is_some}
 use Rattle.line_model.specs.World.{BusAgain, replay}
-use Rattle.line_model.specs.Counts.{frames_taken, takes_alone}
-use Rattle.line_model.specs.Lines.{closes}
-use Rattle.line_model.specs.Owed.{ConnectionCloses, owed_if}
+use Rattle.line_model.specs.Counts.{takes_alone}
 use Rattle.line_sim.specs.Line.{last_at}
 use Rattle.bus_sim.specs.Begun.{said, start_of}
 use Rattle.bus_sim.specs.Counted.{CountsNow, AreCounts}

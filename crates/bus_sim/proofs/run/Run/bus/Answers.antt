@@ -1,16 +1,18 @@
-use Rattle.std.proofs.Common.{◌≡◌, ℕ, true, false, not, ◌&&◌, is_some, [], ◌∷◌, ◌++◌, Some, None, refl, subst, sym, ap, ◌∙◌, List}
+use Rattle.std.proofs.Common.{◌≡◌, ℕ, ◌&&◌, is_some, ◌∷◌, Some, refl, subst, sym, ap, ◌∙◌, List}
 use Rattle.std.specs.Prelude.{option_to_list}
 use Rattle.line_model.specs.Counts.{takes_alone, write_of}
 use Rattle.line_model.specs.World.{World, Bus, next_frame, replay}
 use Rattle.line_sim.specs.Line.{taken_in, write_in}
 use Rattle.bus_sim.specs.Begun.{said, start_of}
 use Rattle.bus_sim.specs.Counted.{CountsNow, AreCounts}
-use Rattle.bus_sim.specs.Went.{IsRight, world}
+use Rattle.bus_sim.specs.Went.{world}
 use Rattle.bus_sim.proofs.Calls.{two_called}
-use Rattle.bus_sim.proofs.Carried.{AreNamed, bus_calls, bus_one, comes}
+use Rattle.bus_sim.proofs.Carried.{AreNamed, bus_one, comes}
+use Rattle.bus_sim.proofs.CarriedCalls.{bus_calls}
 use Rattle.bus_sim.proofs.Counting.{counted}
 use Rattle.bus_sim.proofs.Holds.{after_own, run}
-use Rattle.bus_sim.proofs.Turning.{carried_so_right, carried_right, goes_over}
+use Rattle.bus_sim.proofs.Carriages.{carried_right}
+use Rattle.bus_sim.proofs.NextEvents.{carried_so_right, goes_over}
 use Rattle.line_model.specs.Tunnel.{Commissions}
 use Rattle.bus_sim.proofs.Laws.{allowed}
 use Rattle.bus_sim.specs.Choices.{carried}

@@ -1,19 +1,20 @@
-use Rattle.std.proofs.Common.{◌≡◌, ℕ, true, false, ◌&&◌, is_some, nat_lt, [], ◌∷◌, ◌++◌, Some, None, refl, subst, sym, ap, ◌∙◌, List}
+use Rattle.std.proofs.Common.{◌≡◌, true, is_some, nat_lt, [], ◌∷◌, Some, refl, subst, sym, ap, ◌∙◌}
 use Rattle.knx_model.specs.Device.{written_front}
-use Rattle.knx_model.specs.DeviceFrames.{worn_octets}
-use Rattle.line_model.specs.Counts.{takes_alone, write_of}
+use Rattle.line_model.specs.Counts.{write_of}
 use Rattle.line_model.specs.Owed.{PowerReturns}
 use Rattle.line_model.specs.World.{World, BusTorn, next_frame, replay}
 use Rattle.line_sim.specs.Line.{effect_due, write_due}
 use Rattle.bus_sim.specs.Begun.{said, start_of}
 use Rattle.bus_sim.specs.Counted.{CountsNow, AreCounts}
-use Rattle.bus_sim.specs.Went.{IsRight, world}
-use Rattle.bus_sim.proofs.Calls.{three_called, two_called}
-use Rattle.bus_sim.proofs.Carried.{AreNamed, IsWritten, is_written, torn_one, write_calls}
+use Rattle.bus_sim.specs.Went.{world}
+use Rattle.bus_sim.proofs.Calls.{three_called}
+use Rattle.bus_sim.proofs.Carried.{AreNamed, IsWritten, is_written, torn_one}
+use Rattle.bus_sim.proofs.CarriedCalls.{write_calls}
 use Rattle.bus_sim.proofs.Counting.{counted}
 use Rattle.bus_sim.proofs.Holds.{after_own, run}
 use Rattle.bus_sim.proofs.Wants.{write_alike}
-use Rattle.bus_sim.proofs.Turning.{carried_so_right, carried_right}
+use Rattle.bus_sim.proofs.Carriages.{carried_right}
+use Rattle.bus_sim.proofs.NextEvents.{carried_so_right}
 use Rattle.line_model.specs.Tunnel.{Commissions}
 use Rattle.line_sim.specs.Allowed.{Allows}
 use Rattle.bus_sim.proofs.Laws.{allowed}

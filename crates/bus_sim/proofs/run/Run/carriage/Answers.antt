@@ -1,11 +1,11 @@
-use Rattle.std.proofs.Common.{◌≡◌, ◌≢◌, ℕ, suc, true, false, [], ◌∷◌, Some, None, ap, sym, subst, refl, ◌∙◌, if◌then◌else◌}
-use Rattle.line_model.specs.Counts.{write_of, writes}
-use Rattle.line_model.specs.Deliveries.{carried_to, write_event}
+use Rattle.std.proofs.Common.{◌≡◌, suc, Some, None, ap, sym, subst, ◌∙◌}
+use Rattle.line_model.specs.Counts.{writes}
+use Rattle.line_model.specs.Deliveries.{write_event}
 use Rattle.line_model.specs.StartOf.{line_of}
-use Rattle.line_model.specs.World.{World, Bus, next_frame, replay}
+use Rattle.line_model.specs.World.{World, next_frame, replay}
 use Rattle.line_sim.specs.Line.{effect_due, write_in}
 use Rattle.bus_sim.specs.Begun.{said, start_of}
-use Rattle.bus_sim.specs.Choices.{carried, is_lost_for, written_so}
+use Rattle.bus_sim.specs.Choices.{written_so}
 use Rattle.bus_sim.specs.RunNow.{RunState}
 use Rattle.bus_sim.specs.Went.{world}
 use Rattle.bus_sim.proofs.Wants.{carried_is, there_on, writes_there}

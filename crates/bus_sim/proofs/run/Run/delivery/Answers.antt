@@ -1,8 +1,6 @@
-use Rattle.std.proofs.Common.{◌≡◌, true, ap, sym, ◌∙◌}
-use Rattle.line_model.specs.Counts.{is_connect_at}
+use Rattle.std.proofs.Common.{ap, sym, ◌∙◌}
 use Rattle.line_model.specs.Deliveries.{refused_if}
-use Rattle.line_model.specs.World.{replay}
-use Rattle.bus_sim.specs.Begun.{said, start_of}
+use Rattle.bus_sim.specs.Begun.{said}
 use Rattle.bus_sim.proofs.Wants.{refused_so}
 use Rattle.bus_sim.proofs.run.Run.delivery.Goals as goal
 

@@ -1,4 +1,4 @@
-use Rattle.std.proofs.Common.{◌≡◌, [], ◌∷◌, refl, subst, sym, ap}
+use Rattle.std.proofs.Common.{[], ◌∷◌, refl, subst, sym}
 use Rattle.line_model.specs.World.{AtGateway, DevRepeat}
 use Rattle.line_sim.specs.Tunnels.{at_gateway}
 use Rattle.bus_sim.specs.Begun.{start_of}

@@ -1,9 +1,10 @@
-use Rattle.std.proofs.Common.{◌≡◌, [], Some, ap, refl, ◌∙◌}
+use Rattle.std.proofs.Common.{[], Some, ap, refl, ◌∙◌}
 use Rattle.line_model.specs.Tunnel.{Commissions}
 use Rattle.line_model.specs.World.{DevSend, DevRepeat, DevClose}
 use Rattle.bus_sim.specs.Choices.{heard_so}
 use Rattle.bus_sim.specs.Went.{world}
-use Rattle.bus_sim.proofs.Turning.{sends_right, repeats_right, closing_right, ok_happens}
+use Rattle.bus_sim.proofs.NextEvents.{sends_right, repeats_right, closing_right}
+use Rattle.bus_sim.proofs.Turning.{ok_happens}
 use Rattle.bus_sim.proofs.run.Run.device_sends.Goals as goal
 
 pub dev_repeat-requires-clause-right : goal.dev_repeat-requires-clause-right

@@ -1,8 +1,9 @@
-use Rattle.std.proofs.Common.{◌≡◌, refl}
+use Rattle.std.proofs.Common.{refl}
 use Rattle.line_model.specs.Tunnel.{Commissions}
 use Rattle.line_model.specs.World.{GwClose}
 use Rattle.bus_sim.specs.Went.{world}
-use Rattle.bus_sim.proofs.Turning.{gateway_closes_right, ok_happens}
+use Rattle.bus_sim.proofs.NextEvents.{gateway_closes_right}
+use Rattle.bus_sim.proofs.Turning.{ok_happens}
 use Rattle.bus_sim.proofs.run.Run.gateway_closes.Goals as goal
 
 pub gw_close-requires : goal.gw_close-requires

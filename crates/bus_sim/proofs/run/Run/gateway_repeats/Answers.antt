@@ -1,8 +1,9 @@
-use Rattle.std.proofs.Common.{◌≡◌, refl}
+use Rattle.std.proofs.Common.{refl}
 use Rattle.line_model.specs.Tunnel.{Commissions}
 use Rattle.line_model.specs.World.{GwRepeat}
 use Rattle.bus_sim.specs.Went.{world}
-use Rattle.bus_sim.proofs.Turning.{gateway_repeats_right, ok_happens}
+use Rattle.bus_sim.proofs.NextEvents.{gateway_repeats_right}
+use Rattle.bus_sim.proofs.Turning.{ok_happens}
 use Rattle.bus_sim.proofs.run.Run.gateway_repeats.Goals as goal
 
 pub gw_repeat-requires-clause-right : goal.gw_repeat-requires-clause-right

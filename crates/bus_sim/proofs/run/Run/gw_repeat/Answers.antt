@@ -1,4 +1,4 @@
-use Rattle.std.proofs.Common.{◌≡◌, [], refl, subst, sym, ap, ◌∙◌}
+use Rattle.std.proofs.Common.{◌≡◌, [], refl, subst, sym, ◌∙◌}
 use Rattle.line_model.specs.Gateway.{gateway_expired}
 use Rattle.line_model.specs.World.{GwRepeat, now, replay}
 use Rattle.line_sim.specs.Gateways.{due_of}

@@ -1,4 +1,3 @@
-use Rattle.std.proofs.Common.{◌≡◌, ap, sym, ◌∙◌}
 use Rattle.bus_sim.specs.Begun.{said}
 use Rattle.bus_sim.proofs.Wants.{lost_so}
 use Rattle.bus_sim.proofs.run.Run.is_lost_for.Goals as goal

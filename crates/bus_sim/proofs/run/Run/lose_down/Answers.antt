@@ -1,4 +1,4 @@
-use Rattle.std.proofs.Common.{◌≡◌, [], refl, subst, sym}
+use Rattle.std.proofs.Common.{[], refl, subst, sym}
 use Rattle.line_model.specs.World.{LoseDown}
 use Rattle.bus_sim.specs.Went.{IsRight}
 use Rattle.bus_sim.proofs.Counting.{uncounted, takes_nothing, writes_nothing}

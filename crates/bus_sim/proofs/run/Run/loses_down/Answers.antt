@@ -1,7 +1,7 @@
-use Rattle.std.proofs.Common.{◌≡◌, refl, ◌∙◌}
+use Rattle.std.proofs.Common.{◌∙◌}
 use Rattle.bus_sim.specs.Begun.{said}
 use Rattle.bus_sim.specs.RunNow.{seen}
-use Rattle.bus_sim.proofs.Turning.{down_says, lost_down_right, got_right}
+use Rattle.bus_sim.proofs.NextEvents.{down_says, lost_down_right, got_right}
 use Rattle.bus_sim.proofs.run.Run.loses_down.Goals as goal
 
 pub returns-clause-lost : goal.returns-clause-lost

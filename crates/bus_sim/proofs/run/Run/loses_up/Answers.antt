@@ -1,7 +1,7 @@
-use Rattle.std.proofs.Common.{◌≡◌, refl, ◌∙◌}
+use Rattle.std.proofs.Common.{◌∙◌}
 use Rattle.bus_sim.specs.Begun.{said}
 use Rattle.bus_sim.specs.RunNow.{seen}
-use Rattle.bus_sim.proofs.Turning.{up_says, lost_up_right, comes_right, lines_of}
+use Rattle.bus_sim.proofs.NextEvents.{up_says, lost_up_right, comes_right, lines_of}
 use Rattle.bus_sim.proofs.run.Run.loses_up.Goals as goal
 
 pub returns-clause-lost : goal.returns-clause-lost

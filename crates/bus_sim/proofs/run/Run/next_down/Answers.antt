@@ -1,4 +1,4 @@
-use Rattle.std.proofs.Common.{◌≡◌, refl}
+use Rattle.std.proofs.Common.{refl}
 use Rattle.line_model.specs.World.{LoseDown}
 use Rattle.bus_sim.proofs.Turning.{happens}
 use Rattle.bus_sim.proofs.run.Run.next_down.Goals as goal

@@ -1,4 +1,3 @@
-use Rattle.std.proofs.Common.{◌≡◌, refl}
 use Rattle.bus_sim.proofs.Turning.{ok_carried}
 use Rattle.bus_sim.proofs.run.Run.next_frame.Goals as goal
 

@@ -1,5 +1,4 @@
-use Rattle.std.proofs.Common.{◌≡◌}
-use Rattle.bus_sim.proofs.Turning.{sender_is}
+use Rattle.bus_sim.proofs.NextEvents.{sender_is}
 use Rattle.bus_sim.proofs.run.Run.next_sender.Goals as goal
 
 pub returns-clause-found : goal.returns-clause-found

@@ -1,4 +1,4 @@
-use Rattle.std.proofs.Common.{◌≡◌, refl}
+use Rattle.std.proofs.Common.{refl}
 use Rattle.line_model.specs.World.{LoseUp}
 use Rattle.bus_sim.proofs.Turning.{ok_happens, ok_delivered}
 use Rattle.bus_sim.proofs.run.Run.next_up.Goals as goal

@@ -1,6 +1,11 @@
-use Rattle.std.proofs.Common.{◌≡◌, refl}
+use Rattle.std.proofs.Common.{◌+◌, ◌≤◌, ℕ, refl, arith}
+use Rattle.line_model.specs.World.{now}
+use Rattle.bus_sim.specs.Went.{world}
 use Rattle.bus_sim.proofs.Turning.{goes_same}
 use Rattle.bus_sim.proofs.run.Run.poll.Goals as goal
 
+later : (now wait : ℕ) → now ≤ now + wait
+later now wait = omega arith
+
 pub returns-then-now-from-clause-err : goal.returns-then-now-from-clause-err
-returns-then-now-from-clause-err c = goes_same c.args.self.now c.args.self.now refl
+returns-then-now-from-clause-err c = record { goes = goes_same c.args.self.now c.args.self.now refl; in_time = later (now (world c.args.self.now)) c.args.wait_ms }

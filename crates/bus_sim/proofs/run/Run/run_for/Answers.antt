@@ -1,9 +1,9 @@
-use Rattle.std.proofs.Common.{◌≡◌, ◌≤◌, refl, sym, subst}
+use Rattle.std.proofs.Common.{◌<◌, ◌≤◌, refl, sym, subst}
 use Rattle.knx_model.specs.Connection.{last_time}
 use Rattle.line_model.specs.World.{Pass}
-use Rattle.bus_sim.specs.Polls.{GoesOnFrom}
+use Rattle.bus_sim.specs.Polls.{StopsWithin}
 use Rattle.bus_sim.specs.Turns.{Turns, Happens, Passes}
-use Rattle.bus_sim.proofs.Polling.{OnErrAny, smaller, goes_on, time_goes, stays_so, ends_got, ends_quiet}
+use Rattle.bus_sim.proofs.Polling.{OnErrAny, smaller, goes_on, time_goes, stops, ends_got, ends_quiet}
 use Rattle.bus_sim.proofs.Turning.{goes_same}
 use Rattle.bus_sim.proofs.run.Run.run_for.Goals as goal
 
@@ -14,7 +14,7 @@ pub turn-requires : goal.turn-requires
 turn-requires c = subst (λ n. n ≤ last_time) (sym c.loop-octets.invariant.1) c.requires
 
 pub returns-in_err-octets-clause-err : goal.returns-in_err-octets-clause-err
-returns-in_err-octets-clause-err c = OnErrAny c.from_residual.result (GoesOnFrom c.args.self.now c.turn.new.self) (stays_so c.args.self.now c.loop-octets.self c.turn.new.self c.loop-octets.invariant.0 c.in_err-octets.ensures.err)
+returns-in_err-octets-clause-err c = OnErrAny c.from_residual.result (StopsWithin c.args.wait c.args.self.now c.turn.new.self) (stops c.args.self.now c.loop-octets.self c.turn.new.self c.loop-octets.left c.args.wait c.loop-octets.invariant c.in_err-octets.ensures.err)
 
 pub returns-in-Got-clause-ended : goal.returns-in-Got-clause-ended
 returns-in-Got-clause-ended c = ends_got c.args.self.now c.loop-octets.self c.turn.new.self c.in-Got.octets c.loop-octets.left c.args.wait c.loop-octets.invariant
@@ -31,13 +31,13 @@ loop-octets-preserved-in-Went c = goes_on c.args.self.now c.loop-octets.self c.t
 
 pub loop-octets-smaller : goal.loop-octets-smaller
 loop-octets-smaller c =
-    let h : (c.in-Passed.ms ≤ c.loop-octets.left) × Passes c.in-Passed.ms c.loop-octets.self c.turn.new.self = subst (λ t. Turns t c.loop-octets.left c.loop-octets.self c.turn.new.self) c.in-Passed.is c.in_ok-octets.ensures.turns in
-    smaller c.loop-octets.self c.turn.new.self (Pass c.in-Passed.ms) c.few.ensures h.1.went
+    let h : (0 < c.in-Passed.ms) × (c.in-Passed.ms ≤ c.loop-octets.left) × Passes c.in-Passed.ms c.loop-octets.self c.turn.new.self = subst (λ t. Turns t c.loop-octets.left c.loop-octets.self c.turn.new.self) c.in-Passed.is c.in_ok-octets.ensures.turns in
+    smaller c.loop-octets.self c.turn.new.self (Pass c.in-Passed.ms) c.few.ensures h.2.went
 
 pub loop-octets-preserved : goal.loop-octets-preserved
 loop-octets-preserved c =
-    let h : (c.in-Passed.ms ≤ c.loop-octets.left) × Passes c.in-Passed.ms c.loop-octets.self c.turn.new.self = subst (λ t. Turns t c.loop-octets.left c.loop-octets.self c.turn.new.self) c.in-Passed.is c.in_ok-octets.ensures.turns in
-    time_goes c.args.self.now c.loop-octets.self c.turn.new.self c.loop-octets.left c.in-Passed.ms c.args.wait c.loop-octets.invariant h.0 h.1
+    let h : (0 < c.in-Passed.ms) × (c.in-Passed.ms ≤ c.loop-octets.left) × Passes c.in-Passed.ms c.loop-octets.self c.turn.new.self = subst (λ t. Turns t c.loop-octets.left c.loop-octets.self c.turn.new.self) c.in-Passed.is c.in_ok-octets.ensures.turns in
+    time_goes c.args.self.now c.loop-octets.self c.turn.new.self c.loop-octets.left c.in-Passed.ms c.args.wait c.loop-octets.invariant h.0 h.1 h.2
 
 pub returns-in-Quiet-clause-ended : goal.returns-in-Quiet-clause-ended
 returns-in-Quiet-clause-ended c = ends_quiet c.args.self.now c.loop-octets.self c.turn.new.self c.loop-octets.left c.args.wait c.loop-octets.invariant

@@ -1,4 +1,4 @@
-use Rattle.std.proofs.Common.{◌≡◌, [], refl}
+use Rattle.std.proofs.Common.{refl}
 use Rattle.line_model.specs.World.{Send}
 use Rattle.bus_sim.specs.Begun.{start_of}
 use Rattle.bus_sim.proofs.Counting.{uncounted, takes_nothing, writes_nothing}

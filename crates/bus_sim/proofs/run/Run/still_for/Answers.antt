@@ -1,8 +1,7 @@
-use Rattle.std.proofs.Common.{◌≡◌}
 use Rattle.line_model.specs.Tunnel.{Commissions}
 use Rattle.line_model.specs.World.{replay}
 use Rattle.bus_sim.specs.Begun.{start_of}
-use Rattle.bus_sim.proofs.Turning.{pass_right, settled_of, still_until}
+use Rattle.bus_sim.proofs.NextEvents.{pass_right, settled_of, still_until}
 use Rattle.bus_sim.proofs.run.Run.still_for.Goals as goal
 
 pub returns-in-Some-clause-right : goal.returns-in-Some-clause-right

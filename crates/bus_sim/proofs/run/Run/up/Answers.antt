@@ -1,4 +1,4 @@
-use Rattle.std.proofs.Common.{◌≡◌, ℕ, ◌+◌, ◌*◌, ◌^◌, ◌<◌, ◌≤◌, [], ◌∷◌, length, refl, subst, sym, ap, ◌∙◌, arith, nat_lt, ◌&&◌}
+use Rattle.std.proofs.Common.{◌≡◌, ℕ, ◌∷◌, length, refl, subst, sym, ap, ◌∙◌, arith, nat_lt, ◌&&◌}
 use Rattle.line_model.specs.Lines.{drops, repeats_up}
 use Rattle.line_model.specs.Owed.{ChannelCloses, DeliverAgain, owed_if}
 use Rattle.line_model.specs.World.{World, Up, replay, step}

@@ -1,4 +1,4 @@
-use Rattle.std.proofs.Common.{◌≡◌, ℕ, true, [], ◌∷◌, refl, subst, sym, ap, ◌∙◌}
+use Rattle.std.proofs.Common.{ℕ, true, ◌∷◌, refl, subst, sym, ap, ◌∙◌}
 use Rattle.std.specs.Prelude.{slice_get}
 use Rattle.line_model.specs.Lines.{repeats_up}
 use Rattle.line_model.specs.Owed.{DeliverAgain, owed_if}

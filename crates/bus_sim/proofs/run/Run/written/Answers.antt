@@ -1,4 +1,4 @@
-use Rattle.std.proofs.Common.{◌≡◌, Some, None, ap, sym, subst, refl, ◌∙◌}
+use Rattle.std.proofs.Common.{◌≡◌, ap, sym, refl, ◌∙◌}
 use Rattle.line_model.specs.Lines.{wears}
 use Rattle.line_model.specs.Deliveries.{torn_if}
 use Rattle.line_model.specs.StartOf.{line_of}

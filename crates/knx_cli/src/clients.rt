@@ -1,0 +1,76 @@
+//! The clients of a port, each by a number: the first is 0, and each new one has the next number. A number names its client for ever.
+
+ghost use Rattle.std.specs.Prelude.{◌≡◌, ◌<◌, [], Contains, IfNone, IfOk, IfSome, Some, length, slice_get};
+ghost use Rattle.std.specs.List.{HoldsAt};
+ghost use Rattle.knx_cli.specs.Datagrams.{NamesOn};
+
+use std::alloc::Global;
+use std::io::{self, ErrorKind};
+use std::marker::Model;
+use std::net::SocketAddr;
+
+/// The addresses of the clients that a port knows, by their numbers.
+#[derive(Drop)]
+pub struct Clients {
+    addresses: Vec<SocketAddr>,
+}
+
+impl Model for Clients {
+    ghost use Rattle.std.specs.Prelude.{List};
+    ghost use Rattle.std.specs.declared.net.socket_addr.SocketAddr.{SocketAddr as Address};
+
+    ghost Value = { List Address };
+
+    ghost view = { λ c. c.addresses.items };
+}
+
+/// The first place of an address.
+fn position_of(addresses: &[SocketAddr], address: SocketAddr) -> Option<usize>
+    ensures within { IfSome result (λ at. at < length addresses.now) }
+    ensures found { IfSome result (λ at. HoldsAt (λ known. known ≡ address) addresses.now at) }
+    ensures absent { IfNone result (¬ Contains addresses.now address) }
+{
+    addresses.iter().position(|known| *known == address)
+}
+
+/// The number of a place; clients have no further ones.
+fn number_of(at: usize) -> io::Result<u32>
+    ensures { IfOk result (λ number. number ≡ at) }
+{
+    match u32::try_from(at) {
+        Ok(number) => Ok(number),
+        Err(_) => Err(io::Error::from(ErrorKind::FileTooLarge)),
+    }
+}
+
+impl Clients {
+    /// No clients. It takes no memory.
+    pub fn none(alloc: Global) -> Clients
+        ensures { result ≡ [] }
+    {
+        Clients {
+            addresses: Vec::new(alloc),
+        }
+    }
+
+    /// The address of a client.
+    pub fn address(&self, number: u32) -> Option<SocketAddr>
+        ensures { result ≡ slice_get self.now number }
+    {
+        self.addresses.get(number as usize).copied()
+    }
+
+    /// The number of the client at an address, the next one where it has none yet. It fails where there is no memory or no further number.
+    pub fn number(&mut self, address: SocketAddr) -> io::Result<u32>
+        ensures named { IfOk result (λ number. slice_get self.new number ≡ Some address) }
+        ensures kept { NamesOn self.old self.new }
+        ensures known { Contains self.old address → self.new ≡ self.old }
+    {
+        if let Some(at) = position_of(&self.addresses, address) {
+            return number_of(at);
+        }
+        let number = number_of(self.addresses.len())?;
+        self.addresses.push(address)?;
+        Ok(number)
+    }
+}

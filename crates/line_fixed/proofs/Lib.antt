@@ -1,0 +1,4 @@
+pub mod Answered
+pub mod NewestFirst
+pub mod Stories
+pub mod Wholes

@@ -1,0 +1,47 @@
+-- A dialer of fixed data as contracts see it: the link and the port that it has to hand out, those that came back last, the host and the
+-- port number that it was given last, and its counts.
+use Rattle.std.specs.Prelude.{◌≡◌, ℕ, zero, suc, [], Option, None, Some, option_map, IfSome}
+use Rattle.knx_model.specs.Outside.{one_more}
+use Rattle.line_model.specs.Dialled.{Address}
+use Rattle.line_model.specs.LinkStory as of_link
+use Rattle.line_model.specs.PortStory as of_port
+use Rattle.line_fixed.specs.declared.link.FixedLink.{FixedLink}
+use Rattle.line_fixed.specs.declared.port.FixedPort.{FixedPort}
+use Rattle.line_fixed.specs.declared.dialer.Address as kept
+
+pub record Dialling : Type 0 where
+  pub link : Option FixedLink
+  pub port : Option FixedPort
+  pub link_back : Option FixedLink
+  pub port_back : Option FixedPort
+  pub given : Option Address
+  pub calls : ℕ
+  pub faults : ℕ
+
+abbrev pub address_of : kept.Address → Address
+address_of address = record { host = address.host; port = address.port }
+
+-- nothing was done on a link, nor at a port, and no call of it failed
+abbrev pub IsUnusedLink : FixedLink → Type 0
+IsUnusedLink link = (link.entries ≡ []) × (link.faults ≡ 0)
+
+abbrev pub IsUnusedPort : FixedPort → Type 0
+IsUnusedPort port = (port.items ≡ []) × (port.faults ≡ 0)
+
+-- what came back told last; nothing, where nothing came back yet
+abbrev pub link_told : Option FixedLink → of_link.Story
+link_told None = of_link.Untold
+link_told (Some link) = of_link.Recorded link.entries
+
+abbrev pub port_told : Option FixedPort → of_port.PortStory
+port_told None = of_port.Untold
+port_told (Some port) = of_port.Recorded port.items
+
+-- the count of faults after a call that hands out what there is; after one that takes something back with so many faults
+abbrev pub handing : {X : Type 0} → Option X → ℕ → ℕ
+handing None faults = one_more faults
+handing (Some x) faults = faults
+
+abbrev pub taking_back : ℕ → ℕ → ℕ
+taking_back zero faults = faults
+taking_back (suc more) faults = one_more faults

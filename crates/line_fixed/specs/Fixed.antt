@@ -1,0 +1,72 @@
+-- What links, ports and dialers of fixed data do: which datagram is given next, which calls fail, and what a call leaves. Calls are numbered
+-- from 1; a count stands still at the greatest number of 64 bits.
+use Rattle.std.specs.Prelude.{◌≡◌, ℕ, ◌+◌, ◌<◌, ◌⊎◌, List, ◌∷◌, length, min, take, slice_get, Contains, Option, Some, None, Result, Ok, Err}
+use Rattle.std.specs.Option.{option_or}
+use Rattle.knx_model.specs.Outside.{one_more, greatest_count}
+use Rattle.line_model.specs.declared.outside.link.LinkFault.{LinkFault}
+use Rattle.line_model.specs.declared.outside.link.LinkFault.TheVariants as link_fault
+use Rattle.line_model.specs.declared.outside.link.Polled.{Polled}
+use Rattle.line_model.specs.declared.outside.link.Polled.TheVariants as link_answer
+use Rattle.line_model.specs.declared.outside.port.PortFault.{PortFault}
+use Rattle.line_model.specs.declared.outside.port.PortFault.TheVariants as port_fault
+use Rattle.line_model.specs.declared.outside.port.PortPolled.{PortPolled}
+use Rattle.line_model.specs.declared.outside.port.PortPolled.TheVariants as port_answer
+use Rattle.line_model.specs.LinkStory.{newest_time}
+use Rattle.line_model.specs.PortStory as of_port
+use Rattle.line_model.specs.PortStory.{PortItem}
+use Rattle.line_model.specs.Record.{Entry, Got, Quiet, entry, longest_got}
+
+-- ---- what a call leaves
+
+-- the count of faults after a call
+abbrev pub with_fault : {X : Type 0} → Result X LinkFault → ℕ → ℕ
+with_fault (Ok x) faults = faults
+with_fault (Err (link_fault.NoMemory want)) faults = faults
+with_fault (Err link_fault.Failed) faults = one_more faults
+
+abbrev pub with_port_fault : {X : Type 0} → Result X PortFault → ℕ → ℕ
+with_port_fault (Ok x) faults = faults
+with_port_fault (Err (port_fault.NoMemory want)) faults = faults
+with_port_fault (Err port_fault.Failed) faults = one_more faults
+
+-- a list after a call that adds to it, or fails and leaves it
+abbrev pub with_entry : {A X E : Type 0} → Result X E → A → List A → List A
+with_entry (Ok x) new entries = new ∷ entries
+with_entry (Err why) new entries = entries
+
+-- how many polls were answered after one
+abbrev pub with_answer : {X E : Type 0} → Result X E → ℕ → ℕ
+with_answer (Ok x) answered = one_more answered
+with_answer (Err why) answered = answered
+
+-- ---- a link
+
+-- the datagram that the next poll brings: those of the list in order, and then the last one for ever
+abbrev pub next_of : List (List ℕ) → Option (List ℕ) → ℕ → Option (List ℕ)
+next_of gives last answered = option_or (slice_get gives answered) last
+
+-- the entry of a poll that brings it: at once, cut off after 512 octets; where there is none, a wait of so many milliseconds
+abbrev pub brought : Option (List ℕ) → ℕ → ℕ → Entry
+brought (Some octets) now wait = entry (Got (take longest_got octets)) now
+brought None now wait = entry Quiet (now + wait)
+
+-- and its answer, with the octets of the buffer
+abbrev pub Answers : Polled → List ℕ → Option (List ℕ) → Type 0
+Answers (link_answer.Got n) into (Some octets) = (n ≡ min longest_got (length octets)) × (take n into ≡ take longest_got octets)
+Answers link_answer.Quiet into None = Unit {0}
+Answers polled into next = ⊥
+
+-- a call fails where it is listed, or where the record has no room for its entry: its place or its time would pass the greatest number
+abbrev pub Fails : List ℕ → ℕ → List Entry → ℕ → Type 0
+Fails listed call entries time = Contains listed call ⊎ ((length entries ≡ greatest_count) ⊎ (greatest_count < time))
+
+-- ---- a port
+
+abbrev pub took : Option (ℕ × List ℕ) → PortItem
+took (Some given) = of_port.Took given.0 (take longest_got given.1)
+took None = of_port.Quiet
+
+abbrev pub AnswersPort : PortPolled → List ℕ → Option (ℕ × List ℕ) → Type 0
+AnswersPort (port_answer.Got n from) into (Some given) = (from ≡ given.0) × (n ≡ min longest_got (length given.1)) × (take n into ≡ take longest_got given.1)
+AnswersPort port_answer.Quiet into None = Unit {0}
+AnswersPort polled into next = ⊥

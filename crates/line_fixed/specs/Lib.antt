@@ -1,0 +1,4 @@
+pub mod Entries
+pub mod PortItems
+pub mod Fixed
+pub mod Dialling

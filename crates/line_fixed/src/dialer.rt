@@ -1,0 +1,174 @@
+//! A dialer of fixed data.
+
+ghost use Rattle.std.specs.Prelude.{◌≡◌, ◌≤◌, IfOk, IfSome, IsErr, MatchOption, None, Ok, OnErr, Some, option_copied, option_map};
+ghost use Rattle.knx_model.specs.Outside.{Rose, one_more};
+ghost use Rattle.line_model.specs.Dialled.{Address as Told, TakesBack, Tells};
+ghost use Rattle.line_model.specs.LinkStory.{IsNewLink, Recorded as LinkTold};
+ghost use Rattle.line_model.specs.PortStory.{IsNewPort, Recorded as PortTold};
+ghost use Rattle.line_fixed.specs.Dialling.{IsUnusedLink, IsUnusedPort, address_of, handing, link_told, port_told, taking_back};
+
+use crate::link::FixedLink;
+use crate::port::FixedPort;
+use line_model::{DialFailed, Dialer};
+use std::marker::Model;
+
+/// A host and a port number.
+#[derive(Clone, Copy, Drop)]
+pub struct Address {
+    pub host: [u8; 4],
+    pub port: u16,
+}
+
+/// A dialer that hands its link and its port out once, keeps those that it takes back, and tells the host and the port number that it was
+/// given last. A call of `dial` or `bind` that finds none fails.
+#[derive(Drop)]
+pub struct FixedDialer {
+    link: Option<FixedLink>,
+    port: Option<FixedPort>,
+    link_back: Option<FixedLink>,
+    port_back: Option<FixedPort>,
+    given: Option<Address>,
+    calls: u64,
+    faults: u64,
+}
+
+impl Model for FixedDialer {
+    ghost use Rattle.std.specs.Prelude.{IfSome, option_map};
+    ghost use Rattle.line_fixed.specs.Dialling.{Dialling, IsUnusedLink, IsUnusedPort, address_of};
+
+    ghost Value = { Dialling };
+
+    ghost view = { λ d. record { link = d.link; port = d.port; link_back = d.link_back; port_back = d.port_back; given = option_map address_of d.given; calls = d.calls; faults = d.faults } };
+
+    ghost invariant = { λ d. IfSome d.link IsUnusedLink × IfSome d.port IsUnusedPort };
+}
+
+impl FixedDialer {
+    /// A dialer of which no call was made yet.
+    pub fn new(link: Option<FixedLink>, port: Option<FixedPort>) -> FixedDialer
+        requires link { IfSome link IsUnusedLink }
+        requires port { IfSome port IsUnusedPort }
+        ensures { result ≡ record { link = link; port = port; link_back = None; port_back = None; given = None; calls = 0; faults = 0 } }
+    {
+        FixedDialer {
+            link,
+            port,
+            link_back: None,
+            port_back: None,
+            given: None,
+            calls: 0,
+            faults: 0,
+        }
+    }
+
+    /// The link that it took back last.
+    pub fn link_back(&self) -> Option<&FixedLink>
+        ensures { option_copied result ≡ self.now.link_back }
+    {
+        self.link_back.as_ref()
+    }
+
+    /// The port that it took back last.
+    pub fn port_back(&self) -> Option<&FixedPort>
+        ensures { option_copied result ≡ self.now.port_back }
+    {
+        self.port_back.as_ref()
+    }
+
+    /// The host and the port number that `dial` or `bind` was given last.
+    pub fn given(&self) -> Option<Address>
+        ensures { option_map address_of result ≡ self.now.given }
+    {
+        self.given
+    }
+
+    /// How many calls failed, those of what was taken back counted as one.
+    pub fn faults(&self) -> u64
+        ensures { result ≡ self.now.faults }
+    {
+        self.faults
+    }
+}
+
+impl Dialer for FixedDialer {
+    ghost use Rattle.line_fixed.specs.Dialling.{link_told, port_told};
+
+    type L = FixedLink;
+
+    type P = FixedPort;
+
+    ghost faults = { λ d. d.faults };
+
+    ghost given = { λ d. d.given };
+
+    ghost link_back = { λ d. link_told d.link_back };
+
+    ghost port_back = { λ d. port_told d.port_back };
+
+    fn dial(&mut self, host: [u8; 4], port: u16) -> Result<FixedLink, DialFailed>
+        ensures fresh { IfOk result (λ l. IsNewLink (LinkTold l.entries)) }
+        ensures sound { IfOk result (λ l. l.faults ≡ 0) }
+        ensures failed { OnErr result (Rose self.old.faults self.new.faults) }
+        ensures count { self.old.faults ≤ self.new.faults }
+        ensures tells { Tells host port self.new.given }
+        // the link is handed out, where there is one
+        ensures answer { MatchOption self.old.link (IsErr result) (λ l. result ≡ Ok l) }
+        ensures after { self.new ≡ record self.old { link = None; given = Some (record { host = host; port = port }); calls = one_more self.old.calls; faults = handing self.old.link self.old.faults } }
+    {
+        self.calls = self.calls.saturating_add(1);
+        self.given = Some(Address { host, port });
+        match self.link.take() {
+            Some(link) => Ok(link),
+            None => {
+                self.faults = self.faults.saturating_add(1);
+                Err(DialFailed)
+            }
+        }
+    }
+
+    fn bind(&mut self, host: [u8; 4], port: u16) -> Result<FixedPort, DialFailed>
+        ensures fresh { IfOk result (λ p. IsNewPort (PortTold p.items)) }
+        ensures sound { IfOk result (λ p. p.faults ≡ 0) }
+        ensures failed { OnErr result (Rose self.old.faults self.new.faults) }
+        ensures count { self.old.faults ≤ self.new.faults }
+        ensures tells { Tells host port self.new.given }
+        ensures answer { MatchOption self.old.port (IsErr result) (λ p. result ≡ Ok p) }
+        ensures after { self.new ≡ record self.old { port = None; given = Some (record { host = host; port = port }); calls = one_more self.old.calls; faults = handing self.old.port self.old.faults } }
+    {
+        self.calls = self.calls.saturating_add(1);
+        self.given = Some(Address { host, port });
+        match self.port.take() {
+            Some(door) => Ok(door),
+            None => {
+                self.faults = self.faults.saturating_add(1);
+                Err(DialFailed)
+            }
+        }
+    }
+
+    fn hang(&mut self, line: FixedLink)
+        ensures count { TakesBack line.faults self.old.faults self.new.faults }
+        ensures told { link_told self.new.link_back ≡ LinkTold line.entries }
+        ensures given { self.new.given ≡ self.old.given }
+        ensures after { self.new ≡ record self.old { link_back = Some line; calls = one_more self.old.calls; faults = taking_back line.faults self.old.faults } }
+    {
+        self.calls = self.calls.saturating_add(1);
+        if line.faults != 0 {
+            self.faults = self.faults.saturating_add(1);
+        }
+        self.link_back = Some(line);
+    }
+
+    fn shut(&mut self, door: FixedPort)
+        ensures count { TakesBack door.faults self.old.faults self.new.faults }
+        ensures told { port_told self.new.port_back ≡ PortTold door.items }
+        ensures given { self.new.given ≡ self.old.given }
+        ensures after { self.new ≡ record self.old { port_back = Some door; calls = one_more self.old.calls; faults = taking_back door.faults self.old.faults } }
+    {
+        self.calls = self.calls.saturating_add(1);
+        if door.faults != 0 {
+            self.faults = self.faults.saturating_add(1);
+        }
+        self.port_back = Some(door);
+    }
+}

@@ -1,0 +1,186 @@
+//! A link of fixed data.
+
+ghost use Rattle.std.specs.Prelude.{◌≡◌, ◌≤◌, ◌↔◌, ◌+◌, ◌<◌, ℕ, [], Err, IfOk, OnErr, OnOk, length, option_copied};
+ghost use Rattle.knx_model.specs.Outside.{greatest_count, one_more};
+ghost use Rattle.line_model.specs.LinkStory.{IsPlace, IsTime, Recorded, Renews, RenewsOrNot, Sends, SendsOrNot, newest_time};
+ghost use Rattle.line_model.specs.Polled.{FailsWhere, PollsSo};
+ghost use Rattle.line_model.specs.Record.{Put, Renewed, entry};
+ghost use Rattle.line_model.specs.declared.outside.link.LinkFault.TheVariants.{Failed};
+ghost use Rattle.line_fixed.specs.Entries.{told};
+ghost use Rattle.line_fixed.specs.Fixed.{Answers, Fails, brought, next_of, with_answer, with_entry, with_fault};
+
+use crate::entries::Entries;
+use crate::item::Item;
+use crate::next::{LONGEST_GOT, copy_into, next_of};
+use knx_model::{List, NoMemory, Octets, front};
+use line_model::{Link, LinkFault, Polled};
+use std::alloc::Global;
+
+/// A link that gives its datagrams in order, and then its last one for ever or quiet waits. It takes no time but in a quiet wait. The calls
+/// with the numbers in `fails`, from 1, fail and do nothing else; so does one for which the record has no room.
+#[derive(Drop)]
+pub struct FixedLink {
+    alloc: Global,
+    pub gives: List<Octets>,
+    pub last: Option<Octets>,
+    pub fails: List<u64>,
+    /// How many polls were answered.
+    pub answered: usize,
+    /// What was done.
+    pub entries: Entries,
+    pub calls: u64,
+    pub faults: u64,
+}
+
+impl FixedLink {
+    /// A link on which nothing was done yet.
+    pub fn new(
+        alloc: Global,
+        gives: List<Octets>,
+        last: Option<Octets>,
+        fails: List<u64>,
+    ) -> FixedLink
+        ensures given { (result.gives ≡ gives) × (result.last ≡ last) × (result.fails ≡ fails) }
+        ensures entries { result.entries ≡ [] }
+        ensures counts { (result.answered ≡ 0) × (result.calls ≡ 0) × (result.faults ≡ 0) }
+    {
+        FixedLink {
+            alloc,
+            gives,
+            last,
+            fails,
+            answered: 0,
+            entries: Entries::new(alloc),
+            calls: 0,
+            faults: 0,
+        }
+    }
+
+    /// Counts a call that takes so many milliseconds, and answers the time after it; or it fails.
+    fn begin(&mut self, wait_ms: u32) -> Result<u64, LinkFault>
+        ensures after { self.new ≡ record self.old { calls = one_more self.old.calls; faults = with_fault result self.old.faults } }
+        ensures time { IfOk result (λ now. now ≡ newest_time self.old.entries + wait_ms) }
+        ensures room { OnOk result (length self.old.entries < greatest_count) }
+        ensures fails { (result ≡ Err Failed) ↔ Fails self.old.fails self.new.calls self.old.entries (newest_time self.old.entries + wait_ms) }
+        ensures failed { OnErr result (result ≡ Err Failed) }
+        ensures count { self.old.faults ≤ self.new.faults }
+    {
+        self.calls = self.calls.saturating_add(1);
+        match self.entries.time_of_next(wait_ms) {
+            Some(now) if !self.fails.as_slice().contains(&self.calls) => Ok(now),
+            _ => {
+                self.faults = self.faults.saturating_add(1);
+                Err(LinkFault::Failed)
+            }
+        }
+    }
+
+    /// How many milliseconds the next poll takes.
+    fn wait_of(&self, wait_ms: u32) -> u32
+        ensures { newest_time self.now.entries + result ≡ (brought (next_of self.now.gives self.now.last self.now.answered) (newest_time self.now.entries) wait_ms).now }
+    {
+        match next_of(self.gives.as_slice(), &self.last, self.answered) {
+            Some(_) => 0,
+            None => wait_ms,
+        }
+    }
+}
+
+/// What a poll that brings a datagram, or none, is in the record, and its answer.
+fn brought(
+    alloc: Global,
+    next: Option<&Octets>,
+    into: &mut [u8; LONGEST_GOT],
+) -> Result<(Item, Polled), NoMemory>
+    ensures item { IfOk result (λ r. (now wait : ℕ) → told r.0 ≡ (brought (option_copied next.entry) now wait).what) }
+    ensures answer { IfOk result (λ r. Answers r.1 into.new (option_copied next.entry)) }
+{
+    match next {
+        Some(octets) => {
+            let got = Octets::from_slice(alloc, front(octets.as_slice(), LONGEST_GOT))?;
+            Ok((
+                Item::Got(got),
+                Polled::Got(copy_into(octets.as_slice(), into)),
+            ))
+        }
+        None => Ok((Item::Quiet, Polled::Quiet)),
+    }
+}
+
+impl Link for FixedLink {
+    ghost use Rattle.std.specs.Prelude.{length};
+    ghost use Rattle.line_model.specs.LinkStory.{Recorded, newest_time};
+
+    ghost story = { λ l. Recorded l.entries };
+
+    ghost clock = { λ l. newest_time l.entries };
+
+    ghost place = { λ l. length l.entries };
+
+    ghost faults = { λ l. l.faults };
+
+    fn send(&mut self, octets: &[u8]) -> Result<(), LinkFault>
+        ensures sent { OnOk result (Sends octets.now (Recorded self.old.entries) (Recorded self.new.entries)) }
+        ensures failed { OnErr result (SendsOrNot octets.now (Recorded self.old.entries) (Recorded self.new.entries)) }
+        ensures cause { FailsWhere result self.old.faults self.new.faults }
+        ensures count { self.old.faults ≤ self.new.faults }
+        ensures time { newest_time self.old.entries ≤ newest_time self.new.entries }
+        ensures events { length self.old.entries ≤ length self.new.entries }
+        // a call adds its entry, or fails and adds nothing
+        ensures after { self.new ≡ record self.old { calls = one_more self.old.calls; faults = with_fault result self.old.faults; entries = with_entry result (entry (Put octets.now) (newest_time self.old.entries)) self.old.entries } }
+        ensures fails { (result ≡ Err Failed) ↔ Fails self.old.fails self.new.calls self.old.entries (newest_time self.old.entries) }
+    {
+        let now = self.begin(0)?;
+        let octets = Octets::from_slice(self.alloc, octets)?;
+        self.entries.add(Item::Put(octets), now)?;
+        Ok(())
+    }
+
+    fn renew(&mut self) -> Result<(), LinkFault>
+        ensures renewed { OnOk result (Renews (Recorded self.old.entries) (Recorded self.new.entries)) }
+        ensures failed { OnErr result (RenewsOrNot (Recorded self.old.entries) (Recorded self.new.entries)) }
+        ensures cause { FailsWhere result self.old.faults self.new.faults }
+        ensures count { self.old.faults ≤ self.new.faults }
+        ensures time { newest_time self.old.entries ≤ newest_time self.new.entries }
+        ensures events { length self.old.entries ≤ length self.new.entries }
+        ensures after { self.new ≡ record self.old { calls = one_more self.old.calls; faults = with_fault result self.old.faults; entries = with_entry result (entry Renewed (newest_time self.old.entries)) self.old.entries } }
+        ensures fails { (result ≡ Err Failed) ↔ Fails self.old.fails self.new.calls self.old.entries (newest_time self.old.entries) }
+    {
+        let now = self.begin(0)?;
+        self.entries.add(Item::Renewed, now)?;
+        Ok(())
+    }
+
+    fn poll(&mut self, into: &mut [u8; LONGEST_GOT], wait_ms: u32) -> Result<Polled, LinkFault>
+        ensures polled { PollsSo result into.new wait_ms (newest_time self.new.entries) (Recorded self.old.entries) (Recorded self.new.entries) }
+        ensures cause { FailsWhere result self.old.faults self.new.faults }
+        ensures count { self.old.faults ≤ self.new.faults }
+        ensures time { newest_time self.old.entries ≤ newest_time self.new.entries }
+        ensures events { length self.old.entries ≤ length self.new.entries }
+        // a call brings the next datagram or a quiet wait, or it fails and brings nothing
+        ensures after { let now = brought (next_of self.old.gives self.old.last self.old.answered) (newest_time self.old.entries) wait_ms in self.new ≡ record self.old { calls = one_more self.old.calls; faults = with_fault result self.old.faults; answered = with_answer result self.old.answered; entries = with_entry result now self.old.entries } }
+        ensures fails { let now = brought (next_of self.old.gives self.old.last self.old.answered) (newest_time self.old.entries) wait_ms in (result ≡ Err Failed) ↔ Fails self.old.fails self.new.calls self.old.entries now.now }
+        ensures answer { IfOk result (λ polled. Answers polled into.new (next_of self.old.gives self.old.last self.old.answered)) }
+    {
+        let now = self.begin(self.wait_of(wait_ms))?;
+        let next = next_of(self.gives.as_slice(), &self.last, self.answered);
+        let (item, polled) = brought(self.alloc, next, into)?;
+        self.entries.add(item, now)?;
+        self.answered = self.answered.saturating_add(1);
+        Ok(polled)
+    }
+
+    fn now(&self) -> u64
+        ensures value { result ≡ newest_time self.now.entries }
+        ensures told { IsTime result (Recorded self.now.entries) }
+    {
+        self.entries.newest_time()
+    }
+
+    fn at(&self) -> u64
+        ensures value { result ≡ length self.now.entries }
+        ensures told { IsPlace result (Recorded self.now.entries) }
+    {
+        self.entries.len()
+    }
+}
