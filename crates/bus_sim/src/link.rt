@@ -6,9 +6,11 @@ use line_model::{Link, LinkFault, Polled};
 impl Link for SimBus {
     ghost use Rattle.std.specs.Prelude.{length};
     ghost use Rattle.bus_sim.specs.Loaded.{BusNow};
-    ghost use Rattle.bus_sim.specs.RunNow.{story, time};
+    ghost use Rattle.bus_sim.specs.RunNow.{script, story, time};
 
     ghost story = { λ (b : BusNow). story b.run };
+
+    ghost script = { λ (b : BusNow). script b.run };
 
     ghost clock = { λ (b : BusNow). time b.run };
 

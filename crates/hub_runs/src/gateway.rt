@@ -210,10 +210,12 @@ fn request(number: u8, frame: &Ldata) -> Datagram {
 }
 
 impl Link for Gateway {
-    ghost use Rattle.std.specs.Prelude.{ℕ};
+    ghost use Rattle.std.specs.Prelude.{ℕ, []};
     ghost use Rattle.line_model.specs.LinkStory.{Story, Untold};
 
     ghost story = { λ _. Untold };
+
+    ghost script = { λ _. [] };
 
     ghost clock = { λ g. g.now };
 

@@ -124,8 +124,11 @@ impl<'a, R: Net + Clock, S: Datagrams> UdpLink<'a, R, S> {
 
 impl<R: Net + Clock, S: Datagrams> Link for UdpLink<'_, R, S> {
     ghost use Rattle.line_model.specs.LinkStory.{Untold};
+    ghost use Rattle.std.specs.Prelude.{[]};
 
     ghost story = { λ l. Untold };
+
+    ghost script = { λ l. [] };
 
     ghost clock = { λ l. l.time };
 

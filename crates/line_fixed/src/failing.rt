@@ -64,6 +64,8 @@ impl<L: Link> FailingLink<L> {
 impl<L: Link> Link for FailingLink<L> {
     ghost story = { λ f. L.story f.link };
 
+    ghost script = { λ f. L.script f.link };
+
     ghost clock = { λ f. L.clock f.link };
 
     ghost place = { λ f. L.place f.link };
@@ -77,6 +79,7 @@ impl<L: Link> Link for FailingLink<L> {
         ensures count { self.old.faults ≤ self.new.faults }
         ensures time { L.clock self.old.link ≤ L.clock self.new.link }
         ensures events { L.place self.old.link ≤ L.place self.new.link }
+        ensures script { L.script self.new.link ≡ L.script self.old.link }
         // the one call fails and isn't passed on; of another that fails the link's count rose
         ensures counts { self.new ≡ record self.old { link = self.new.link; calls = one_more self.old.calls; faults = with_fault result self.old.faults } }
         ensures fails { self.new.calls ≡ self.old.fails_at → (result ≡ Err Failed) × (self.new.link ≡ self.old.link) }
@@ -94,6 +97,7 @@ impl<L: Link> Link for FailingLink<L> {
         ensures count { self.old.faults ≤ self.new.faults }
         ensures time { L.clock self.old.link ≤ L.clock self.new.link }
         ensures events { L.place self.old.link ≤ L.place self.new.link }
+        ensures script { L.script self.new.link ≡ L.script self.old.link }
         ensures counts { self.new ≡ record self.old { link = self.new.link; calls = one_more self.old.calls; faults = with_fault result self.old.faults } }
         ensures fails { self.new.calls ≡ self.old.fails_at → (result ≡ Err Failed) × (self.new.link ≡ self.old.link) }
         ensures passes { self.new.calls ≢ self.old.fails_at → FailsWhere result (L.faults self.old.link) (L.faults self.new.link) }
@@ -109,6 +113,7 @@ impl<L: Link> Link for FailingLink<L> {
         ensures count { self.old.faults ≤ self.new.faults }
         ensures time { L.clock self.old.link ≤ L.clock self.new.link }
         ensures events { L.place self.old.link ≤ L.place self.new.link }
+        ensures script { L.script self.new.link ≡ L.script self.old.link }
         ensures counts { self.new ≡ record self.old { link = self.new.link; calls = one_more self.old.calls; faults = with_fault result self.old.faults } }
         ensures fails { self.new.calls ≡ self.old.fails_at → (result ≡ Err Failed) × (self.new.link ≡ self.old.link) }
         ensures passes { self.new.calls ≢ self.old.fails_at → FailsWhere result (L.faults self.old.link) (L.faults self.new.link) }

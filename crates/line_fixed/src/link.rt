@@ -108,10 +108,12 @@ fn brought(
 }
 
 impl Link for FixedLink {
-    ghost use Rattle.std.specs.Prelude.{length};
+    ghost use Rattle.std.specs.Prelude.{length, []};
     ghost use Rattle.line_model.specs.LinkStory.{Recorded, newest_time};
 
     ghost story = { λ l. Recorded l.entries };
+
+    ghost script = { λ _. [] };
 
     ghost clock = { λ l. newest_time l.entries };
 

@@ -7,7 +7,7 @@ use Rattle.line_model.specs.Record.{Entry, is_got, is_poll}
 use Rattle.line_model.specs.ClientView.{channel, indications}
 use Rattle.line_model.specs.Dropped.{is_dropped}
 use Rattle.line_model.specs.LinkStory.{newest_time}
-use Rattle.line_model.specs.Renews.{is_due}
+use Rattle.line_model.specs.Renews.{is_left, is_late}
 
 -- the entries of one call, the newest first
 pub record Adds (before after added : List Entry) : Type 0 where
@@ -22,19 +22,19 @@ abbrev pub drops_all : List Entry → List Entry → Bool
 drops_all before [] = true
 drops_all before (x ∷ added) = (not (is_got x.what) || is_dropped (added ++ before) x) && drops_all before added
 
--- a deadline of the channel was reached when the call began
-abbrev pub was_due : List Entry → Bool
-was_due before = is_due (channel before) (newest_time before)
+-- a deadline of the channel was reached when the call began; once the closing has begun no new endpoint is to be taken
+abbrev pub was_due : Bool → List Entry → Bool
+was_due closing before = is_late (channel before) (newest_time before) || (not closing && is_left (channel before))
 
 -- only where the poll was quiet or what was got was dropped, and the call sent nothing and no deadline was reached
-pub record IsNothing (before added : List Entry) : Type 0 where
+pub record IsNothing (closing : Bool) (before added : List Entry) : Type 0 where
   pub silent : sends_nothing added ≡ true
   pub got_nothing : drops_all before added ≡ true
-  pub no_deadline : was_due before ≡ false
+  pub no_deadline : was_due closing before ≡ false
 
 -- only where it got a datagram that wasn't dropped, or sent one, or a deadline was reached
-abbrev pub IsMoved : List Entry → List Entry → Type 0
-IsMoved before added = (sends_nothing added ≡ false) ⊎ ((drops_all before added ≡ false) ⊎ (was_due before ≡ true))
+abbrev pub IsMoved : Bool → List Entry → List Entry → Type 0
+IsMoved closing before added = (sends_nothing added ≡ false) ⊎ ((drops_all before added ≡ false) ⊎ (was_due closing before ≡ true))
 
 -- exactly where it took this group indication
 abbrev pub HasHeard : List Entry → List Entry → Indication → Type 0

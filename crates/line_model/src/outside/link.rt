@@ -39,10 +39,14 @@ pub enum Polled {
 /// the greatest number of 64 bits.
 pub trait Link: Drop {
     ghost use Rattle.line_model.specs.LinkStory.{Story};
+    ghost use Rattle.line_model.specs.Lines.{Script};
     ghost use Rattle.std.specs.Prelude.{ℕ};
 
     /// What it tells of itself.
     ghost story: { Self → Story };
+
+    /// The script that its line follows, empty where it follows none; it stays as it is.
+    ghost script: { Self → Script };
 
     /// The last time that it read, in milliseconds.
     ghost clock: { Self → ℕ };
@@ -60,7 +64,8 @@ pub trait Link: Drop {
         ensures cause { FailsWhere result (faults self.old) (faults self.new) }
         ensures count { faults self.old ≤ faults self.new }
         ensures time { clock self.old ≤ clock self.new }
-        ensures events { place self.old ≤ place self.new };
+        ensures events { place self.old ≤ place self.new }
+        ensures script { script self.new ≡ script self.old };
 
     /// Takes a new endpoint.
     fn renew(&mut self) -> Result<(), LinkFault>
@@ -69,7 +74,8 @@ pub trait Link: Drop {
         ensures cause { FailsWhere result (faults self.old) (faults self.new) }
         ensures count { faults self.old ≤ faults self.new }
         ensures time { clock self.old ≤ clock self.new }
-        ensures events { place self.old ≤ place self.new };
+        ensures events { place self.old ≤ place self.new }
+        ensures script { script self.new ≡ script self.old };
 
     /// Waits for a datagram. Meanwhile whatever is legal may happen on the line.
     fn poll(&mut self, into: &mut [u8; 512], wait_ms: u32) -> Result<Polled, LinkFault>
@@ -77,7 +83,8 @@ pub trait Link: Drop {
         ensures cause { FailsWhere result (faults self.old) (faults self.new) }
         ensures count { faults self.old ≤ faults self.new }
         ensures time { clock self.old ≤ clock self.new }
-        ensures events { place self.old ≤ place self.new };
+        ensures events { place self.old ≤ place self.new }
+        ensures script { script self.new ≡ script self.old };
 
     /// The last time that was read, in milliseconds. A link that tells something has no other clock than that.
     fn now(&self) -> u64
