@@ -1,4 +1,4 @@
-//! Runs of a hub with one caller: a worker's turns and the group thread's, with a poll after each that waits.
+//! Runs of a line by one caller, over a gateway with its device.
 
 ghost use Rattle.std.specs.Prelude.{◌<◌, length, IfOk};
 ghost use Rattle.std.specs.List.{AllByRecursion};
@@ -7,13 +7,13 @@ ghost use Rattle.hub_work.specs.Requests.{IsTurnInRange};
 
 use crate::gateway::{Gateway, Mood};
 use device_sim::Device;
-use hub_core::{
-    CheckPlan, Finished, GroupDid, GroupTurn, Hub, HubEnd, HubFault, HubJob, JobPlan, LoadPlan,
-    LogWhat, Turned,
-};
+use hub_core::{CheckPlan, GroupTurn, HubJob, JobPlan, LoadPlan, LogWhat};
+use hub_driver::commission;
 use knx_model::{GroupAddr, GroupService, Image, IndAddr, List, NoMemory, Octets, Value};
+use line_model::Gate;
 use std::alloc::Global;
 use std::process::Abort;
+use std::sync::Wait;
 use std::test::Fail;
 
 const DEVICE: IndAddr = IndAddr { raw: 0x1105 };
@@ -25,7 +25,7 @@ fn image(alloc: Global) -> Result<Image, NoMemory>
     Ok(Image {
         addr: Octets::from_slice(alloc, &[0x00, 0x01, 0x0A, 0x03])?,
         assoc: Octets::from_slice(alloc, &[0x00, 0x01, 0x00, 0x01, 0x00, 0x01])?,
-        objs: Octets::from_slice(alloc, &[0x00, 0x01, 0x57, 0x00])?,
+        objs: Octets::from_slice(alloc, &[0x00, 0x01, 0x5F, 0x00])?,
         params: Octets::from_slice(alloc, &[])?,
     })
 }
@@ -57,70 +57,54 @@ struct Row {
     name: &'static str,
     /// Whether each job is a load; else it is a check.
     jobs: &'static [bool],
-    groups: u8,
+    groups: &'static [Telegram],
     mood: Mood,
     log: &'static [Told],
     connects: u32,
     disconnects: u32,
+    heard: usize,
+    fails: bool,
 }
 
-/// One step of the next group telegram.
-fn telegram(hub: &mut Hub<Gateway>) -> Result<(), HubFault> {
-    if let Some(k) = hub.next_group() {
-        match hub.send_group(k)? {
-            GroupDid::Sent | GroupDid::Lost | GroupDid::Put => {}
-            GroupDid::Wait => {
-                let _ = hub.pump()?;
-            }
-        }
-    }
-    Ok(())
+/// A gate that returns at once.
+struct OpenGate;
+
+impl Gate for OpenGate {
+    fn pass(&self, _job: u32) {}
 }
 
-/// Drives the hub to its end.
-fn run(hub: &mut Hub<Gateway>) -> Result<(), HubFault> {
-    for _ in 0..100_000 {
-        telegram(hub)?;
-        match hub.turn(1)? {
-            Turned::Wait | Turned::Later => {
-                let _ = hub.pump()?;
-            }
-            Turned::NoMore if hub.next_group().is_none() => break,
-            _ => {}
-        }
-    }
-    for _ in 0..1_000 {
-        if let Finished::Over = hub.finish()? {
-            break;
-        }
-    }
-    Ok(())
+/// A group telegram of a row.
+#[derive(Clone, Copy, Drop)]
+enum Telegram {
+    Write,
+    WriteAfterJobs,
+    ReadAfterJobs,
 }
 
-fn write(after: bool) -> GroupTurn
+fn group_turn(telegram: Telegram) -> GroupTurn
     ensures { IsTurnInRange result }
 {
+    let (after, service) = match telegram {
+        Telegram::Write => (false, GroupService::Write(Value::Short(1))),
+        Telegram::WriteAfterJobs => (true, GroupService::Write(Value::Short(1))),
+        Telegram::ReadAfterJobs => (true, GroupService::Read),
+    };
     GroupTurn {
         after,
         group: GroupAddr { raw: 0x0A03 },
-        service: GroupService::Write(Value::Short(1)),
+        service,
     }
 }
 
-/// So many group telegrams, at most two: one alone is sent after the jobs.
-fn telegrams(alloc: Global, count: u8) -> Result<List<GroupTurn>, NoMemory>
+fn group_turns(alloc: Global, telegrams: &[Telegram]) -> Result<List<GroupTurn>, NoMemory>
+    requires { length telegrams.now < 100 }
     ensures range { IfOk result (AllByRecursion IsTurnInRange) }
     ensures few { IfOk result (λ turns. length turns < 4294967296) }
 {
     let mut turns = List::new(alloc);
-    if count == 0 {
-        return Ok(turns);
+    for telegram in telegrams {
+        turns.push(group_turn(*telegram))?;
     }
-    turns.push(write(count == 1))?;
-    if count == 1 {
-        return Ok(turns);
-    }
-    turns.push(write(false))?;
     Ok(turns)
 }
 
@@ -138,43 +122,29 @@ fn job(alloc: Global, load: bool) -> Result<HubJob, NoMemory> {
     })
 }
 
-/// A hub for the jobs and telegrams of a row.
-fn begin(rt: &impl Abort, alloc: Global, row: &Row) -> Result<Hub<Gateway>, NoMemory> {
-    let mut jobs = Vec::new(alloc);
-    for load in row.jobs {
-        let job = job(alloc, *load)?;
-        jobs.push(job)?;
+/// The jobs of a row.
+fn jobs_of(alloc: Global, loads: &[bool]) -> Result<List<HubJob>, NoMemory> {
+    let mut jobs = List::new(alloc);
+    for load in loads {
+        jobs.push(job(alloc, *load)?)?;
     }
-    let jobs = List::from_vec(jobs);
-    assert!(rt; jobs.len() < 100);
-    let groups = telegrams(alloc, row.groups)?;
-    let device = Device::blank(alloc, DEVICE)?;
-    let link = Gateway::new(alloc, device, row.mood);
-    match Hub::begin(alloc, jobs, groups, 1, link) {
-        Ok(hub) => Ok(hub),
-        Err(refused) => {
-            let (_link, no_memory) = refused;
-            Err(no_memory)
-        }
-    }
+    Ok(jobs)
 }
 
-fn drive(rt: &impl Abort, alloc: Global, row: &Row) -> Result<(), NoMemory> {
-    let mut hub = begin(rt, alloc, row)?;
-    let ended = run(&mut hub);
-    let HubEnd {
-        link,
-        log,
-        missed: _,
-        dropped,
-        fault,
-    } = hub.close();
+fn drive<R: Abort + Wait>(rt: &R, alloc: Global, row: &Row) -> Result<(), NoMemory> {
+    let jobs = jobs_of(alloc, row.jobs)?;
+    assert!(rt; jobs.len() < 100);
+    assert!(rt; row.groups.len() < 100);
+    let groups = group_turns(alloc, row.groups)?;
+    let link = Gateway::new(alloc, Device::blank(alloc, DEVICE)?, row.mood);
+    let (link, report) = commission(rt, alloc, jobs, groups, link, &OpenGate);
     assert_eq!(rt; link.side.connects, row.connects, "{}", row.name);
     assert_eq!(rt; link.side.disconnects, row.disconnects, "{}", row.name);
-    assert_eq!(rt; log.len(), row.log.len(), "{}", row.name);
-    assert_eq!(rt; dropped, 0, "{}", row.name);
-    assert_eq!(rt; ended.is_err(), fault.is_some(), "{}", row.name);
-    for (i, entry) in log.as_slice().iter().enumerate() {
+    assert_eq!(rt; report.fault.is_some(), row.fails, "{}", row.name);
+    assert_eq!(rt; report.heard.len(), row.heard, "{}", row.name);
+    assert_eq!(rt; report.dropped, 0, "{}", row.name);
+    assert_eq!(rt; report.log.len(), row.log.len(), "{}", row.name);
+    for (i, entry) in report.log.as_slice().iter().enumerate() {
         assert_eq!(rt; row.log.get(i), Some(&told_of(&entry.what)), "{}", row.name);
     }
     Ok(())
@@ -186,16 +156,18 @@ fn runs(rt: HostRuntime) -> Result<(), Fail> {
         Row {
             name: "nothing to do",
             jobs: &[],
-            groups: 0,
+            groups: &[],
             mood: Mood::Answers,
             log: &[],
             connects: 0,
             disconnects: 0,
+            heard: 0,
+            fails: false,
         },
         Row {
             name: "a load, a check and a telegram after them",
             jobs: &[true, false],
-            groups: 1,
+            groups: &[Telegram::WriteAfterJobs],
             mood: Mood::Answers,
             log: &[
                 Told::Took(1),
@@ -206,42 +178,63 @@ fn runs(rt: HostRuntime) -> Result<(), Fail> {
             ],
             connects: 1,
             disconnects: 1,
+            heard: 0,
+            fails: false,
+        },
+        Row {
+            name: "a load, and the answer to a read after it",
+            jobs: &[true],
+            groups: &[Telegram::ReadAfterJobs],
+            mood: Mood::Answers,
+            log: &[Told::Took(1), Told::Done(1), Told::Sent(1)],
+            connects: 1,
+            disconnects: 1,
+            heard: 1,
+            fails: false,
         },
         Row {
             name: "a check of a blank device is refused",
             jobs: &[false],
-            groups: 0,
+            groups: &[],
             mood: Mood::Answers,
             log: &[Told::Took(1), Told::Refused(1, 2)],
             connects: 1,
             disconnects: 1,
+            heard: 0,
+            fails: false,
         },
         Row {
             name: "a channel is lost, and the next attempt loads",
             jobs: &[true],
-            groups: 0,
+            groups: &[],
             mood: Mood::DropsFrom(9),
             log: &[Told::Took(1), Told::Done(1)],
             connects: 2,
             disconnects: 2,
+            heard: 0,
+            fails: false,
         },
         Row {
             name: "a telegram is lost with its channel",
             jobs: &[],
-            groups: 2,
+            groups: &[Telegram::Write, Telegram::Write],
             mood: Mood::DropsFrom(1),
             log: &[Told::Lost(1), Told::Sent(2)],
             connects: 2,
             disconnects: 2,
+            heard: 0,
+            fails: false,
         },
         Row {
             name: "three tries are refused",
             jobs: &[true],
-            groups: 0,
+            groups: &[],
             mood: Mood::Refuses(0x24),
             log: &[Told::Took(1)],
             connects: 3,
             disconnects: 0,
+            heard: 0,
+            fails: true,
         },
     ];
     for row in &rows {

@@ -18,7 +18,7 @@ use crate::disk::Disk;
 use crate::ended::status_of;
 use crate::output::Output;
 use crate::words::words_of;
-use knx_top::Bench;
+use knx_top::SimBus;
 use std::process::ExitCode;
 use std::{env, io};
 
@@ -26,7 +26,10 @@ fn main(rt: HostRuntime) -> ExitCode {
     let alloc = rt.alloc();
     let mut files = Disk::new(alloc, &rt);
     let mut out = Output::new(io::writer(&rt));
-    let mut sim = Bench::empty(alloc);
+    let mut sim = SimBus::empty(alloc);
+    let mut last = None;
     let words = words_of(alloc, env::args(&rt));
-    ExitCode::from(status_of(alloc, &words, &mut files, &mut out, &mut sim))
+    ExitCode::from(status_of(
+        &rt, alloc, &words, &mut files, &mut out, &mut sim, &mut last,
+    ))
 }

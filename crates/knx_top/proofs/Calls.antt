@@ -1,21 +1,23 @@
 -- A whole call, from what was read to what was written.
-use Rattle.std.proofs.Common.{ℕ, ◌≡◌, ◌≢◌, List, Option, Some, None, Result, Ok, Err, ◌⊎◌, refl, subst, inl, inr}
+use Rattle.std.proofs.Common.{ℕ, ◌≡◌, ◌≢◌, List, Option, Some, None, Result, Ok, Err, ◌⊎◌, refl, sym, ◌∙◌, subst, inl, inr}
 use Rattle.frame_text.specs.FrameText.{IsFrameText, hex_word}
 use Rattle.knx_model.specs.declared.command.Stop.{Stop}
 use Rattle.knx_model.specs.declared.command.Stop.TheVariants as stop
 use Rattle.knx_model.specs.declared.status.Status.{Status}
+use Rattle.knx_model.specs.declared.log.JobWord.{JobWord}
 use Rattle.knx_model.specs.declared.status.Status.TheVariants as status
 use Rattle.knx_model.specs.ReportText.{stop_text}
-use Rattle.knx_top.specs.Bench.{Trace}
+use Rattle.bus_sim.specs.Loaded.{BusNow}
+use Rattle.bus_sim.specs.RunNow.{RunNow}
 use Rattle.knx_model.specs.Meaning.{Installation}
 use Rattle.knx_model.specs.Outside.{FileContent}
-use Rattle.knx_top.specs.Moments.{AtEveryMoment}
+use Rattle.line_model.specs.declared.log.Report.{Report}
 use Rattle.knx_top.specs.Command.{Command, Check, Tables, Sim, Decode, ProjectWords, SimWords, asked}
-use Rattle.knx_top.specs.Call.{Does, TellsText, TellsOf, TellsOfProject, TellsOfFrame, RunsScript, HasRunOf, IsAsBefore, HasRun, IsCountsText, IsTablesText, AtMostOneRose, Replies, Writes, octets_or_usage, outcome_status}
+use Rattle.knx_top.specs.Call.{Does, TellsText, TellsOf, TellsOfProject, TellsOfFrame, Left, HasNoRun, RunsScript, HasRunOf, NoRun, HasRun, IsCountsText, IsTablesText, AtMostOneRose, Replies, Writes, octets_or_usage, outcome_status}
 use Rattle.knx_top.specs.Ended.{IsTextOf, wanting}
 use Rattle.knx_top.specs.Input.{ProjectIsRead, SimIsRead, OnlyRose, failed_of_project, failed_of_sim, first_some}
 use Rattle.knx_top.specs.Judged.{judged, judged_project}
-use Rattle.knx_top.specs.Ran.{Outcome, Stops, Tells, BreaksOff, Reports, StopsFor, Runs, Commissions}
+use Rattle.knx_top.specs.Ran.{Outcome, Stops, Tells, BreaksOff, Reports, StopsFor, Ran, Runs, Comes, report_in}
 use Rattle.knx_top.specs.Stops.{Commission, project_tests, project_told, sim_tests, commission_told}
 use Rattle.knx_top.specs.declared.input.ProjectTexts.{ProjectTexts}
 use Rattle.knx_top.specs.declared.input.SimTexts.{SimTexts}
@@ -26,35 +28,42 @@ use Rattle.knx_top.proofs.Stops.{unless_stopped, stopped_by, stopped_by_none, ju
 stop_wants : (why : Stop) (outcome : Outcome) → StopsFor why outcome → StopsFor why (wanting outcome)
 stop_wants why (Stops told) h = inr refl
 stop_wants why (Tells text) h = absurd h
-stop_wants why BreaksOff h = absurd h
-stop_wants why (Reports report jobs devices) h = absurd h
+stop_wants why (BreaksOff report) h = absurd h
+stop_wants why (Reports report jobs devices log) h = absurd h
 
 text_wants : (IsText : List ℕ → Type 0) (outcome : Outcome) → TellsText IsText outcome → TellsText IsText (wanting outcome)
 text_wants IsText (Stops told) h = refl
 text_wants IsText (Tells text) h = refl
-text_wants IsText BreaksOff h = absurd h
-text_wants IsText (Reports report jobs devices) h = absurd h
+text_wants IsText (BreaksOff report) h = absurd h
+text_wants IsText (Reports report jobs devices log) h = absurd h
 
 told_wants : {A : Type 0} (IsText : A → List ℕ → Type 0) (found : Result A Stop) (outcome : Outcome) → TellsOf IsText found outcome → TellsOf IsText found (wanting outcome)
 told_wants IsText (Err why) outcome h = stop_wants why outcome h
 told_wants IsText (Ok found) outcome h = text_wants (IsText found) outcome h
 
-run_wants : (c : Commission) (before after : Option Trace) (outcome : Outcome) → Runs c before after outcome → Runs c before after (wanting outcome)
+run_wants : (c : Commission) (before after : BusNow) (outcome : Outcome) → Runs c before after outcome → Runs c before after (wanting outcome)
 run_wants c before after (Stops told) h = (refl, h.1)
 run_wants c before after (Tells text) h = absurd h
-run_wants c before after BreaksOff h = h
-run_wants c before after (Reports report jobs devices) h = (h.0, (h.1.0, h.1.1.began))
+run_wants c before after (BreaksOff report) h = h
+run_wants c before after (Reports report jobs devices log) h = (jobs, h.ran)
 
-commission_wants : (j : Result Commission Stop) (before after : Option Trace) (outcome : Outcome) → Commissions j before after outcome → Commissions j before after (wanting outcome)
-commission_wants (Err why) before after outcome h = (stop_wants why outcome h.0, h.1)
-commission_wants (Ok c) before after outcome h = run_wants c before after outcome h
+comes_wanting : (j : Result Commission Stop) (before after : BusNow) (outcome : Outcome) → Comes j before after outcome → Comes j before after (wanting outcome)
+comes_wanting (Err why) before after outcome h = (stop_wants why outcome h.0, h.1)
+comes_wanting (Ok c) before after outcome h = run_wants c before after outcome h
+
+-- the same run
+report_wants : (outcome : Outcome) → report_in (wanting outcome) ≡ report_in outcome
+report_wants (Stops told) = refl
+report_wants (Tells text) = refl
+report_wants (BreaksOff report) = refl
+report_wants (Reports report jobs devices log) = refl
 
 -- what is written where memory is wanting for a text is the text of the outcome that wants it
 pub replied_wanting : (outcome : Outcome) (faults faults' : ℕ) (taken taken' : Option (List ℕ)) (told : Status) → Writes (stop_text (stop.NoMemory tt)) status.NoMemory faults faults' taken taken' told → Replies faults faults' taken taken' told (wanting outcome)
 replied_wanting (Stops why) faults faults' taken taken' told h = h
 replied_wanting (Tells text) faults faults' taken taken' told h = h
-replied_wanting BreaksOff faults faults' taken taken' told h = h
-replied_wanting (Reports report jobs devices) faults faults' taken taken' told h = h
+replied_wanting (BreaksOff report) faults faults' taken taken' told h = h
+replied_wanting (Reports report jobs devices log) faults faults' taken taken' told h = h
 
 pub replied_text : (outcome : Outcome) (text : List ℕ) (ending : Status) (faults faults' : ℕ) (taken taken' : Option (List ℕ)) (told : Status) → IsTextOf outcome text ending → Writes text ending faults faults' taken taken' told → Replies faults faults' taken taken' told outcome
 replied_text outcome text ending faults faults' taken taken' told is h =
@@ -85,78 +94,90 @@ pub frame_tells : (word : List ℕ) (Replied : Outcome → Type 0) (outcome : Ou
 frame_tells word Replied outcome tells (inl replied) = record { outcome = outcome; tells = tells; replied = replied }
 frame_tells word Replied outcome tells (inr replied) = record { outcome = wanting outcome; tells = told_wants IsFrameText _ outcome tells; replied = replied }
 
-sim_from : (words : SimWords) (file : List ℕ → FileContent) (faults faults' : List ℕ → ℕ) (before after : Option Trace) (Replied : Outcome → Type 0) (texts : SimTexts) (outcome : Outcome)
-    → SimIsRead file words texts → OnlyRose (failed_of_sim words texts) faults faults' → Commissions (judged words texts) before after outcome → Replied outcome → RunsScript words file faults faults' before after Replied
-sim_from words file faults faults' before after Replied texts outcome is counts comes replied =
-    let came : Commissions (unless_stopped (sim_tests words texts) (commission_told texts)) before after outcome = subst (λ (r : Result Commission Stop). Commissions r before after outcome) (judged_is words texts) comes in
+sim_from : (words : SimWords) (file : List ℕ → FileContent) (faults faults' : List ℕ → ℕ) (before : BusNow) (after : Left) (Replied : Outcome → Type 0) (texts : SimTexts) (outcome : Outcome)
+    → SimIsRead file words texts → OnlyRose (failed_of_sim words texts) faults faults' → Comes (judged words texts) before after.line outcome → after.report ≡ report_in outcome → Replied outcome → RunsScript words file faults faults' before after Replied
+sim_from words file faults faults' before after Replied texts outcome is counts comes report replied =
+    let came : Comes (unless_stopped (sim_tests words texts) (commission_told words texts)) before after.line outcome = subst (λ (r : Result Commission Stop). Comes r before after.line outcome) (judged_is words texts) comes in
     record {
       texts = texts;
       is_read = is;
       counts = counts;
       outcome = outcome;
-      stops = λ why e. subst (λ (r : Result Commission Stop). Commissions r before after outcome) (stopped_by (sim_tests words texts) (commission_told texts) why e) came;
-      runs = λ e. subst (λ (r : Result Commission Stop). Commissions r before after outcome) (stopped_by_none (sim_tests words texts) (commission_told texts) e) came;
+      stops = λ why e. subst (λ (r : Result Commission Stop). Comes r before after.line outcome) (stopped_by (sim_tests words texts) (commission_told words texts) why e) came;
+      runs = λ e. subst (λ (r : Result Commission Stop). Comes r before after.line outcome) (stopped_by_none (sim_tests words texts) (commission_told words texts) e) came;
+      report = report;
       replied = replied;
     }
 
-pub sim_runs : (words : SimWords) (file : List ℕ → FileContent) (faults faults' : List ℕ → ℕ) (before after : Option Trace) (Replied : Outcome → Type 0) (texts : SimTexts) (outcome : Outcome)
-    → SimIsRead file words texts → OnlyRose (failed_of_sim words texts) faults faults' → Commissions (judged words texts) before after outcome → Replied outcome ⊎ Replied (wanting outcome) → RunsScript words file faults faults' before after Replied
-sim_runs words file faults faults' before after Replied texts outcome is counts comes (inl replied) = sim_from words file faults faults' before after Replied texts outcome is counts comes replied
-sim_runs words file faults faults' before after Replied texts outcome is counts comes (inr replied) = sim_from words file faults faults' before after Replied texts (wanting outcome) is counts (commission_wants _ before after outcome comes) replied
+pub sim_runs : (words : SimWords) (file : List ℕ → FileContent) (faults faults' : List ℕ → ℕ) (before : BusNow) (after : Left) (Replied : Outcome → Type 0) (texts : SimTexts) (outcome : Outcome)
+    → SimIsRead file words texts → OnlyRose (failed_of_sim words texts) faults faults' → Comes (judged words texts) before after.line outcome → after.report ≡ report_in outcome → Replied outcome ⊎ Replied (wanting outcome) → RunsScript words file faults faults' before after Replied
+sim_runs words file faults faults' before after Replied texts outcome is counts comes report (inl replied) = sim_from words file faults faults' before after Replied texts outcome is counts comes report replied
+sim_runs words file faults faults' before after Replied texts outcome is counts comes report (inr replied) =
+    sim_from words file faults faults' before after Replied texts (wanting outcome) is counts (comes_wanting _ before after.line outcome comes) (report ∙ sym (report_wants outcome)) replied
 
 -- ---- each clause of the whole call
 
-pub usage_of : (command : Option Command) (file : List ℕ → FileContent) (faults faults' : List ℕ → ℕ) (before after : Option Trace) (Replied : Outcome → Type 0) → Does command file faults faults' before after Replied → command ≡ None → Replied (Stops stop.Usage)
+pub usage_of : (command : Option Command) (file : List ℕ → FileContent) (faults faults' : List ℕ → ℕ) (before : BusNow) (after : Left) (Replied : Outcome → Type 0) → Does command file faults faults' before after Replied → command ≡ None → Replied (Stops stop.Usage)
 usage_of command file faults faults' before after Replied does e = (subst (λ (o : Option Command). Does o file faults faults' before after Replied) e does).0
 
-pub check_of : (command : Option Command) (file : List ℕ → FileContent) (faults faults' : List ℕ → ℕ) (before after : Option Trace) (Replied : Outcome → Type 0) (words : ProjectWords) → Does command file faults faults' before after Replied → command ≡ Some (Check words) → TellsOfProject IsCountsText words file faults faults' Replied
+pub check_of : (command : Option Command) (file : List ℕ → FileContent) (faults faults' : List ℕ → ℕ) (before : BusNow) (after : Left) (Replied : Outcome → Type 0) (words : ProjectWords) → Does command file faults faults' before after Replied → command ≡ Some (Check words) → TellsOfProject IsCountsText words file faults faults' Replied
 check_of command file faults faults' before after Replied words does e = (subst (λ (o : Option Command). Does o file faults faults' before after Replied) e does).0
 
-pub tables_of : (command : Option Command) (file : List ℕ → FileContent) (faults faults' : List ℕ → ℕ) (before after : Option Trace) (Replied : Outcome → Type 0) (words : ProjectWords) → Does command file faults faults' before after Replied → command ≡ Some (Tables words) → TellsOfProject IsTablesText words file faults faults' Replied
+pub tables_of : (command : Option Command) (file : List ℕ → FileContent) (faults faults' : List ℕ → ℕ) (before : BusNow) (after : Left) (Replied : Outcome → Type 0) (words : ProjectWords) → Does command file faults faults' before after Replied → command ≡ Some (Tables words) → TellsOfProject IsTablesText words file faults faults' Replied
 tables_of command file faults faults' before after Replied words does e = (subst (λ (o : Option Command). Does o file faults faults' before after Replied) e does).0
 
-pub decode_of : (command : Option Command) (file : List ℕ → FileContent) (faults faults' : List ℕ → ℕ) (before after : Option Trace) (Replied : Outcome → Type 0) (word : List ℕ) → Does command file faults faults' before after Replied → command ≡ Some (Decode word) → TellsOfFrame word Replied
+pub decode_of : (command : Option Command) (file : List ℕ → FileContent) (faults faults' : List ℕ → ℕ) (before : BusNow) (after : Left) (Replied : Outcome → Type 0) (word : List ℕ) → Does command file faults faults' before after Replied → command ≡ Some (Decode word) → TellsOfFrame word Replied
 decode_of command file faults faults' before after Replied word does e = (subst (λ (o : Option Command). Does o file faults faults' before after Replied) e does).0
 
-pub sim_of : (command : Option Command) (file : List ℕ → FileContent) (faults faults' : List ℕ → ℕ) (before after : Option Trace) (Replied : Outcome → Type 0) (words : SimWords) → Does command file faults faults' before after Replied → command ≡ Some (Sim words) → RunsScript words file faults faults' before after Replied
+pub sim_of : (command : Option Command) (file : List ℕ → FileContent) (faults faults' : List ℕ → ℕ) (before : BusNow) (after : Left) (Replied : Outcome → Type 0) (words : SimWords) → Does command file faults faults' before after Replied → command ≡ Some (Sim words) → RunsScript words file faults faults' before after Replied
 sim_of command file faults faults' before after Replied words does e = subst (λ (o : Option Command). Does o file faults faults' before after Replied) e does
 
-pub bench_of : (command : Option Command) (file : List ℕ → FileContent) (faults faults' : List ℕ → ℕ) (before after : Option Trace) (Replied : Outcome → Type 0) → Does command file faults faults' before after Replied → ((words : SimWords) → command ≢ Some (Sim words)) → after ≡ before
-bench_of None file faults faults' before after Replied does other = does.2
-bench_of (Some (Check words)) file faults faults' before after Replied does other = does.1
-bench_of (Some (Tables words)) file faults faults' before after Replied does other = does.1
-bench_of (Some (Sim words)) file faults faults' before after Replied does other = absurd (other words refl)
-bench_of (Some (Decode word)) file faults faults' before after Replied does other = does.2
+pub line_of : (command : Option Command) (file : List ℕ → FileContent) (faults faults' : List ℕ → ℕ) (before : BusNow) (after : Left) (Replied : Outcome → Type 0) → Does command file faults faults' before after Replied → ((words : SimWords) → command ≢ Some (Sim words)) → HasNoRun before after
+line_of None file faults faults' before after Replied does other = does.2
+line_of (Some (Check words)) file faults faults' before after Replied does other = does.1
+line_of (Some (Tables words)) file faults faults' before after Replied does other = does.1
+line_of (Some (Sim words)) file faults faults' before after Replied does other = absurd (other words refl)
+line_of (Some (Decode word)) file faults faults' before after Replied does other = does.2
 
-pub faults_in : (command : Option Command) (file : List ℕ → FileContent) (faults faults' : List ℕ → ℕ) (before after : Option Trace) (Replied : Outcome → Type 0) → Does command file faults faults' before after Replied → AtMostOneRose faults faults'
+pub faults_in : (command : Option Command) (file : List ℕ → FileContent) (faults faults' : List ℕ → ℕ) (before : BusNow) (after : Left) (Replied : Outcome → Type 0) → Does command file faults faults' before after Replied → AtMostOneRose faults faults'
 faults_in None file faults faults' before after Replied does = (None, does.1)
 faults_in (Some (Check words)) file faults faults' before after Replied does = (failed_of_project words does.0.texts, does.0.counts)
 faults_in (Some (Tables words)) file faults faults' before after Replied does = (failed_of_project words does.0.texts, does.0.counts)
 faults_in (Some (Sim words)) file faults faults' before after Replied does = (failed_of_sim words does.texts, does.counts)
 faults_in (Some (Decode word)) file faults faults' before after Replied does = (None, does.1)
 
--- ---- old, stopped or new
+-- ---- what is so of each run
 
-abbrev Old : Commission → Trace → Type 0
-Old c t = AtEveryMoment c.project c.device t
+begun_of : (P : Commission → RunNow → Report → Type 0) → ((c : Commission) (r : RunNow) (report : Report) (jobs : List JobWord) → Ran c r report jobs → P c r report)
+    → (words : List (List ℕ)) (names : SimWords) (file : List ℕ → FileContent) (before : BusNow) (after : Left) (texts : SimTexts) (outcome : Outcome) → after.report ≡ report_in outcome
+    → asked words ≡ Some (Sim names) → SimIsRead file names texts → Runs (commission_told names texts) before after.line outcome → HasRunOf P words file before after
+begun_of P get words names file before after texts (Stops told) report e is runs = NoRun (record { line = runs.1; report = report })
+begun_of P get words names file before after texts (Tells text) report e is runs = absurd runs
+begun_of P get words names file before after texts (BreaksOff told) report e is runs = HasRun names texts told e is report (get (commission_told names texts) after.line.run told runs.0 runs.1)
+begun_of P get words names file before after texts (Reports told jobs devices log) report e is runs = HasRun names texts told e is report (get (commission_told names texts) after.line.run told jobs runs.ran)
 
-begun_of : (words : List (List ℕ)) (names : SimWords) (file : List ℕ → FileContent) (before after : Option Trace) (texts : SimTexts) (outcome : Outcome) → asked words ≡ Some (Sim names) → SimIsRead file names texts → Runs (commission_told texts) before after outcome → HasRunOf Old words file before after
-begun_of words names file before after texts (Stops told) e is runs = IsAsBefore runs.1
-begun_of words names file before after texts (Tells text) e is runs = absurd runs
-begun_of words names file before after texts BreaksOff e is runs = HasRun names texts runs.0 e is runs.1.0 runs.1.1.old_stopped_or_new
-begun_of words names file before after texts (Reports report jobs devices) e is runs = HasRun names texts runs.0 e is runs.1.0 runs.1.1.began.old_stopped_or_new
+-- where a test fails there is no run
+stopped_of : (why : Stop) (outcome : Outcome) → StopsFor why outcome → report_in outcome ≡ None
+stopped_of why (Stops told) h = refl
+stopped_of why (Tells text) h = refl
+stopped_of why (BreaksOff report) h = absurd h
+stopped_of why (Reports report jobs devices log) h = absurd h
 
-tested : (tests : Option Stop) (words : List (List ℕ)) (names : SimWords) (file : List ℕ → FileContent) (faults faults' : List ℕ → ℕ) (before after : Option Trace) (Replied : Outcome → Type 0) (run : RunsScript names file faults faults' before after Replied)
-    → first_some (sim_tests names run.texts) ≡ tests → asked words ≡ Some (Sim names) → HasRunOf Old words file before after
-tested (Some why) words names file faults faults' before after Replied run t e = IsAsBefore (run.stops why t).1
-tested None words names file faults faults' before after Replied run t e = begun_of words names file before after run.texts run.outcome e run.is_read (run.runs t)
+tested : (P : Commission → RunNow → Report → Type 0) → ((c : Commission) (r : RunNow) (report : Report) (jobs : List JobWord) → Ran c r report jobs → P c r report)
+    → (tests : Option Stop) (words : List (List ℕ)) (names : SimWords) (file : List ℕ → FileContent) (faults faults' : List ℕ → ℕ) (before : BusNow) (after : Left) (Replied : Outcome → Type 0) (run : RunsScript names file faults faults' before after Replied)
+    → first_some (sim_tests names run.texts) ≡ tests → asked words ≡ Some (Sim names) → HasRunOf P words file before after
+tested P get (Some why) words names file faults faults' before after Replied run t e = NoRun (record { line = (run.stops why t).1; report = run.report ∙ stopped_of why run.outcome (run.stops why t).0 })
+tested P get None words names file faults faults' before after Replied run t e = begun_of P get words names file before after run.texts run.outcome run.report e run.is_read (run.runs t)
 
-old_in : (command : Option Command) (words : List (List ℕ)) (file : List ℕ → FileContent) (faults faults' : List ℕ → ℕ) (before after : Option Trace) (Replied : Outcome → Type 0) → asked words ≡ command → Does command file faults faults' before after Replied → HasRunOf Old words file before after
-old_in None words file faults faults' before after Replied e does = IsAsBefore does.2
-old_in (Some (Check names)) words file faults faults' before after Replied e does = IsAsBefore does.1
-old_in (Some (Tables names)) words file faults faults' before after Replied e does = IsAsBefore does.1
-old_in (Some (Sim names)) words file faults faults' before after Replied e does = tested _ words names file faults faults' before after Replied does refl e
-old_in (Some (Decode word)) words file faults faults' before after Replied e does = IsAsBefore does.2
+ran_in : (P : Commission → RunNow → Report → Type 0) → ((c : Commission) (r : RunNow) (report : Report) (jobs : List JobWord) → Ran c r report jobs → P c r report)
+    → (command : Option Command) (words : List (List ℕ)) (file : List ℕ → FileContent) (faults faults' : List ℕ → ℕ) (before : BusNow) (after : Left) (Replied : Outcome → Type 0) → asked words ≡ command → Does command file faults faults' before after Replied → HasRunOf P words file before after
+ran_in P get None words file faults faults' before after Replied e does = NoRun does.2
+ran_in P get (Some (Check names)) words file faults faults' before after Replied e does = NoRun does.1
+ran_in P get (Some (Tables names)) words file faults faults' before after Replied e does = NoRun does.1
+ran_in P get (Some (Sim names)) words file faults faults' before after Replied e does = tested P get _ words names file faults faults' before after Replied does refl e
+ran_in P get (Some (Decode word)) words file faults faults' before after Replied e does = NoRun does.2
 
-pub old_of : (words : List (List ℕ)) (file : List ℕ → FileContent) (faults faults' : List ℕ → ℕ) (before after : Option Trace) (Replied : Outcome → Type 0) → Does (asked words) file faults faults' before after Replied → HasRunOf Old words file before after
-old_of words file faults faults' before after Replied does = old_in (asked words) words file faults faults' before after Replied refl does
+-- what is so of each run that a commission describes is so of the call's
+pub ran_of : (P : Commission → RunNow → Report → Type 0) → ((c : Commission) (r : RunNow) (report : Report) (jobs : List JobWord) → Ran c r report jobs → P c r report)
+    → (words : List (List ℕ)) (file : List ℕ → FileContent) (faults faults' : List ℕ → ℕ) (before : BusNow) (after : Left) (Replied : Outcome → Type 0) → Does (asked words) file faults faults' before after Replied → HasRunOf P words file before after
+ran_of P get words file faults faults' before after Replied does = ran_in P get (asked words) words file faults faults' before after Replied refl does

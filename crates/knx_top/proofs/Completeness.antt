@@ -89,8 +89,8 @@ memory_told : (outcome : Outcome) → StopsFor (stop.NoMemory tt) outcome → ou
 memory_told (Stops told) (inl e) = ap stop_status e
 memory_told (Stops told) (inr e) = ap stop_status e
 memory_told (Tells text) h = absurd h
-memory_told BreaksOff h = absurd h
-memory_told (Reports report jobs devices) h = absurd h
+memory_told (BreaksOff report) h = absurd h
+memory_told (Reports report jobs devices log) h = absurd h
 
 ended : (outcome : Outcome) (sink sink' : ℕ) (taken taken' : Option (List ℕ)) (ending : Status) → ¬ Rose sink sink' → Replies sink sink' taken taken' ending outcome → ending ≡ outcome_status outcome
 ended outcome sink sink' taken taken' ending still (inl wrote) = wrote.0
@@ -100,8 +100,8 @@ told_whole : (IsText : List ℕ → Type 0) (outcome : Outcome) (sink sink' : �
 told_whole IsText (Stops told) sink sink' taken taken' ending still h replied = inl (ended (Stops told) sink sink' taken taken' ending still replied ∙ ap stop_status h)
 told_whole IsText (Tells text) sink sink' taken taken' ending still h (inl wrote) = inr (wrote.0, (text, (h, wrote.1)))
 told_whole IsText (Tells text) sink sink' taken taken' ending still h (inr refused) = absurd (still refused.2)
-told_whole IsText BreaksOff sink sink' taken taken' ending still h replied = absurd h
-told_whole IsText (Reports report jobs devices) sink sink' taken taken' ending still h replied = absurd h
+told_whole IsText (BreaksOff report) sink sink' taken taken' ending still h replied = absurd h
+told_whole IsText (Reports report jobs devices log) sink sink' taken taken' ending still h replied = absurd h
 
 -- by what came of both files
 by_readings : (IsText : Installation → List ℕ → Type 0) (words : ProjectWords) (file : List ℕ → FileContent) (faults faults' : List ℕ → ℕ) (sink sink' : ℕ) (taken taken' : Option (List ℕ)) (ending : Status)

@@ -91,7 +91,7 @@ project_rose file words texts a b c is first second =
     rose_then words.catalogue texts.catalogue project a b c behind first (subst (λ (o : Option (List ℕ)). OnlyRose o b c) (sym (alone (failed (Some words.project) texts.project))) second)
 
 pub sim_rose : (file : List ℕ → FileContent) (words : SimWords) (texts : SimTexts) (a b c d e : List ℕ → ℕ) → SimIsRead file words texts
-    → OnlyRose (failed words.catalogue texts.catalogue) a b → OnlyRose (failed (Some words.new) texts.new) b c → OnlyRose (failed (Some words.old) texts.old) c d → OnlyRose (failed (Some words.script) texts.script) d e
+    → OnlyRose (failed words.options.catalogue texts.catalogue) a b → OnlyRose (failed (Some words.new) texts.new) b c → OnlyRose (failed (Some words.old) texts.old) c d → OnlyRose (failed (Some words.script) texts.script) d e
     → OnlyRose (failed_of_sim words texts) a e
 sim_rose file words texts a b c d e is first second third fourth =
     let script : List (Option (List ℕ)) = failed (Some words.script) texts.script ∷ [] in
@@ -101,7 +101,7 @@ sim_rose file words texts a b c d e is first second third fourth =
     let behind_new : goes_on texts.new ≡ false → first_some old ≡ None = tail_of (goes_on texts.new) file (Some words.old) texts.old script is.old behind_old in
     let behind_catalogue : goes_on texts.catalogue ≡ false → first_some new ≡ None = tail_of (goes_on texts.catalogue) file (Some words.new) texts.new old is.new behind_new in
     let scripted : OnlyRose (first_some script) d e = subst (λ (o : Option (List ℕ)). OnlyRose o d e) (sym (alone (failed (Some words.script) texts.script))) fourth in
-    rose_then words.catalogue texts.catalogue new a b e behind_catalogue first
+    rose_then words.options.catalogue texts.catalogue new a b e behind_catalogue first
     (rose_then (Some words.new) texts.new old b c e behind_new second
     (rose_then (Some words.old) texts.old script c d e behind_old third scripted))
 

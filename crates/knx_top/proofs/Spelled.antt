@@ -4,7 +4,8 @@ use Rattle.std.specs.Prelude.{bytes_eq, if◌then◌else◌}
 use Rattle.std.specs.Option.{option_map}
 use Rattle.std.proofs.lemmas.List.{take-append-drop}
 use Rattle.std.proofs.lemmas.Slice.Eq.{bytes_eq-Decides}
-use Rattle.knx_top.specs.Command.{Command, Check, Tables, Sim, Decode, ProjectWords, SimWords, SpellsOption, NoOption, CatalogueOption, SpellsCommand, SpellsCheck, SpellsTables, SpellsSim, SpellsDecode, options, project_words, sim_words, decode_word, asked}
+use Rattle.knx_top.specs.Command.{Command, Check, Tables, Sim, Decode, ProjectWords, SimOptions, SimWords, SpellsOption, NoOption, CatalogueOption, SpellsCommand, SpellsCheck, SpellsTables, SpellsSim, SpellsDecode, options, project_words, sim_options, sim_words, decode_word, asked}
+use Rattle.knx_top.proofs.SpelledOptions.{options_to, sim_options_from}
 
 -- ---- from the words that spell it
 
@@ -15,7 +16,7 @@ options_from others catalogue (CatalogueOption name) = refl
 asked_from : (words : List (List ℕ)) (command : Command) → SpellsCommand words command → asked words ≡ Some command
 asked_from words command (SpellsCheck project others catalogue o) = rw (options_from others catalogue o) refl
 asked_from words command (SpellsTables project others catalogue o) = rw (options_from others catalogue o) refl
-asked_from words command (SpellsSim new old script others catalogue o) = rw (options_from others catalogue o) refl
+asked_from words command (SpellsSim new old script others options o) = rw (sim_options_from others options o) refl
 asked_from words command (SpellsDecode word) = refl
 
 -- ---- from the command that is asked
@@ -52,11 +53,11 @@ tables_to None project others command is e = absurd cc
 tables_to (Some catalogue) project others command is e =
     subst (λ (c : Command). SpellsCommand (codes "tables" ∷ project ∷ others) c) (some_command (Tables (record { project = project; catalogue = catalogue })) command e) (SpellsTables project others catalogue (option_to others catalogue is))
 
-sim_to : (o : Option (Option (List ℕ))) (new old script : List ℕ) (others : List (List ℕ)) (command : Command) → options others ≡ o
-    → option_map Sim (option_map (λ (catalogue : Option (List ℕ)). let w : SimWords = record { new = new; old = old; script = script; catalogue = catalogue } in w) o) ≡ Some command → SpellsCommand (codes "sim" ∷ new ∷ old ∷ script ∷ others) command
+sim_to : (o : Option SimOptions) (new old script : List ℕ) (others : List (List ℕ)) (command : Command) → sim_options others ≡ o
+    → option_map Sim (option_map (λ (options : SimOptions). let w : SimWords = record { new = new; old = old; script = script; options = options } in w) o) ≡ Some command → SpellsCommand (codes "sim" ∷ new ∷ old ∷ script ∷ others) command
 sim_to None new old script others command is e = absurd cc
-sim_to (Some catalogue) new old script others command is e =
-    subst (λ (c : Command). SpellsCommand (codes "sim" ∷ new ∷ old ∷ script ∷ others) c) (some_command (Sim (record { new = new; old = old; script = script; catalogue = catalogue })) command e) (SpellsSim new old script others catalogue (option_to others catalogue is))
+sim_to (Some options) new old script others command is e =
+    subst (λ (c : Command). SpellsCommand (codes "sim" ∷ new ∷ old ∷ script ∷ others) c) (some_command (Sim (record { new = new; old = old; script = script; options = options })) command e) (SpellsSim new old script others options (options_to others options is))
 
 check_words : (words : List (List ℕ)) (command : Command) → option_map Check (project_words words) ≡ Some command → SpellsCommand (codes "check" ∷ words) command
 check_words [] command e = absurd cc
@@ -70,7 +71,7 @@ sim_of_words : (words : List (List ℕ)) (command : Command) → option_map Sim 
 sim_of_words [] command e = absurd cc
 sim_of_words (new ∷ []) command e = absurd cc
 sim_of_words (new ∷ old ∷ []) command e = absurd cc
-sim_of_words (new ∷ old ∷ script ∷ others) command e = sim_to (options others) new old script others command refl e
+sim_of_words (new ∷ old ∷ script ∷ others) command e = sim_to (sim_options others) new old script others command refl e
 
 decode_words : (words : List (List ℕ)) (command : Command) → option_map Decode (decode_word words) ≡ Some command → SpellsCommand (codes "decode" ∷ words) command
 decode_words [] command e = absurd cc

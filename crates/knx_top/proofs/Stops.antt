@@ -1,10 +1,9 @@
 -- The tests one after another come to the first of the list that fails.
-use Rattle.std.proofs.Common.{ℕ, ◌≡◌, Bool, true, false, List, [], ◌∷◌, ◌++◌, Option, Some, None, Result, Ok, Err, refl, ap, ◌∙◌}
-use Rattle.std.specs.Prelude.{if◌then◌else◌, unwrap_or}
-use Rattle.std.specs.List.{list_all}
+use Rattle.std.proofs.Common.{ℕ, ◌≡◌, List, [], ◌∷◌, ◌++◌, Option, Some, None, Result, Ok, Err, refl, ap, ◌∙◌}
+use Rattle.std.specs.Prelude.{not}
+use Rattle.std.specs.List.{list_all, list_any}
 use Rattle.std.specs.Option.{option_map}
 use Rattle.catalogue.specs.Catalogue.{catalogue_of}
-use Rattle.knx_model.specs.declared.address.IndAddr.{IndAddr}
 use Rattle.knx_model.specs.declared.catalogue.model.NamedModel.{NamedModel}
 use Rattle.knx_model.specs.declared.catalogue.refused.CatRefused.{CatRefused}
 use Rattle.knx_model.specs.declared.command.InputFile.{InputFile}
@@ -14,13 +13,15 @@ use Rattle.knx_model.specs.declared.command.Stop.TheVariants as stop
 use Rattle.knx_model.specs.declared.refusal.Refused.{Refused}
 use Rattle.knx_model.specs.declared.script.ScriptLine.{ScriptLine}
 use Rattle.knx_model.specs.Answers.{◌>>=◌}
-use Rattle.knx_model.specs.Rules.{first_broken, devices_of}
+use Rattle.knx_model.specs.Meaning.{Installation}
+use Rattle.knx_model.specs.Rules.{first_broken}
 use Rattle.knx_model.specs.ScriptText.{script_reading, first_stranger}
 use Rattle.knx_model.specs.Statements.{reading}
-use Rattle.knx_top.specs.Command.{ProjectWords, SimWords}
+use Rattle.knx_top.specs.Command.{ProjectWords, SimOptions, SimWords}
 use Rattle.knx_top.specs.Input.{fault_in, octets_of, first_some}
-use Rattle.knx_top.specs.Judged.{read_of, models_or, models_of, unless_refused, unless_broken, sound, installed, project_of_models, project_of_text, project_of_catalogue, project_of, judged_project, built, with_at_most, known_conditions, own_conditions, script_conditions, with_conditions, with_begins, with_device, with_before, with_old, with_project, with_new, with_models, after_script, after_old, after_new, after_catalogue, judged}
-use Rattle.knx_top.specs.Stops.{refusal_of, given_or, catalogue_refused, models_in, text_refused, rule_broken, project_told, project_tests, Commission, the_device, has_at_most, unless_built, lines_in, commission_told, is_some_device, sim_tests, is_of_bench, conditions_of}
+use Rattle.knx_top.specs.Judged.{read_of, models_or, models_of, unless_refused, unless_broken, unless_failed, sound, installed, project_of_models, project_of_text, project_of_catalogue, project_of, judged_project, unless_grouped, unless_strange, known_jobs, with_jobs, with_script, with_known, with_lines, with_before, with_old, with_project, with_new, with_models, after_script, after_old, after_new, after_catalogue, judged}
+use Rattle.knx_top.specs.OnLine.{on_bus}
+use Rattle.knx_top.specs.Stops.{refusal_of, given_or, catalogue_refused, models_in, text_refused, rule_broken, project_told, project_tests, Commission, is_group_line, is_known, stranger_named, unless_built, unless_known, commission_told, sim_tests}
 use Rattle.knx_top.specs.declared.input.ProjectTexts.{ProjectTexts}
 use Rattle.knx_top.specs.declared.input.Reading.{Reading}
 use Rattle.knx_top.specs.declared.input.Reading.TheVariants as read
@@ -80,13 +81,9 @@ broken_step : {A : Type 0} (place : InputFile) (broken : Option Refused) (x : A)
 broken_step place None x = refl
 broken_step place (Some why) x = refl
 
-device_step : (place : InputFile) (device : Option IndAddr) → built place device ≡ unless_stopped (unless_built place (is_some_device device) ∷ []) (unwrap_or device (record { raw = 0 }))
-device_step place None = refl
-device_step place (Some device) = refl
-
-if_step : {A : Type 0} (place : InputFile) (b : Bool) (x : A) → built place (if b then Some x else None) ≡ unless_stopped (unless_built place b ∷ []) x
-if_step place true x = refl
-if_step place false x = refl
+failed_step : {A : Type 0} (failed : Option Stop) (x : A) → unless_failed failed x ≡ unless_stopped (failed ∷ []) x
+failed_step None x = refl
+failed_step (Some why) x = refl
 
 -- ---- `check` and `tables`
 
@@ -108,26 +105,28 @@ judged_project_is words texts =
 
 -- ---- `sim`
 
-script_is : (device : IndAddr) (octets : List ℕ) → let ls : List ScriptLine = given_or [] (script_reading octets) in
-    script_conditions device octets ≡ unless_stopped (text_refused file.Script (script_reading octets) ∷ option_map (λ refused. let s : Stop = stop.Refused file.Script refused in s) (first_stranger (device ∷ []) ls) ∷ unless_built file.Script (list_all is_of_bench ls) ∷ []) (conditions_of ls)
-script_is device octets =
-    let ls : List ScriptLine = given_or [] (script_reading octets) in
-    let t1 : Option Stop = text_refused file.Script (script_reading octets) in
-    let t2 : Option Stop = option_map (λ refused. let s : Stop = stop.Refused file.Script refused in s) (first_stranger (device ∷ []) ls) in
-    let t3 : Option Stop = unless_built file.Script (list_all is_of_bench ls) in
-    step (t1 ∷ []) (t2 ∷ t3 ∷ []) (unless_refused file.Script (script_reading octets)) ls (own_conditions device) (conditions_of ls) (text_step file.Script [] (script_reading octets))
-    (step (t2 ∷ []) (t3 ∷ []) (unless_broken file.Script (first_stranger (device ∷ []) ls) ls) ls known_conditions (conditions_of ls) (broken_step file.Script (first_stranger (device ∷ []) ls) ls)
-    (if_step file.Script (list_all is_of_bench ls) (conditions_of ls)))
+-- the tests of a script and of the devices that it and the jobs name
+pub script_is : (options : SimOptions) (project before : Installation) (ls : List ScriptLine)
+    → with_lines options project before ls ≡ unless_stopped (stranger_named (first_stranger (on_bus project before) ls) ∷ unless_known (list_all (is_known project) options.jobs) ∷ unless_built file.Script (not (list_any is_group_line ls)) ∷ [])
+        (let c : Commission = record { project = project; before = before; script = ls; options = options } in c)
+script_is options project before ls =
+    let c : Commission = record { project = project; before = before; script = ls; options = options } in
+    let t1 : Option Stop = stranger_named (first_stranger (on_bus project before) ls) in
+    let t2 : Option Stop = unless_known (list_all (is_known project) options.jobs) in
+    let t3 : Option Stop = unless_built file.Script (not (list_any is_group_line ls)) in
+    step (t1 ∷ []) (t2 ∷ t3 ∷ []) (unless_strange project before ls) ls (with_known options project before) c (failed_step t1 ls)
+    (step (t2 ∷ []) (t3 ∷ []) (known_jobs project options.jobs) options.jobs (with_jobs options project before ls) c (failed_step t2 options.jobs)
+    (step (t3 ∷ []) [] (unless_grouped ls) ls (with_script options project before) c (failed_step t3 ls) refl))
 
-pub judged_is : (words : SimWords) (texts : SimTexts) → judged words texts ≡ unless_stopped (sim_tests words texts) (commission_told texts)
+pub judged_is : (words : SimWords) (texts : SimTexts) → judged words texts ≡ unless_stopped (sim_tests words texts) (commission_told words texts)
 judged_is words texts =
-    let c : Commission = commission_told texts in
+    let c : Commission = commission_told words texts in
+    let options : SimOptions = words.options in
     let new : List ℕ = octets_of texts.new in
     let old : List ℕ = octets_of texts.old in
     let script : List ℕ = octets_of texts.script in
     let models : List NamedModel = models_in texts.catalogue in
-    let ls : List ScriptLine = lines_in texts.script in
-    let t1 : Option Stop = fault_in words.catalogue texts.catalogue in
+    let t1 : Option Stop = fault_in words.options.catalogue texts.catalogue in
     let t2 : Option Stop = fault_in (Some words.new) texts.new in
     let t3 : Option Stop = fault_in (Some words.old) texts.old in
     let t4 : Option Stop = fault_in (Some words.script) texts.script in
@@ -136,20 +135,16 @@ judged_is words texts =
     let t7 : Option Stop = rule_broken file.New c.project in
     let t8 : Option Stop = text_refused file.Old (reading old) in
     let t9 : Option Stop = rule_broken file.Old c.before in
-    let t10 : Option Stop = unless_built file.New (is_some_device (the_device (devices_of c.project.statements))) in
-    let t11 : Option Stop = unless_built file.Old (has_at_most c.device (devices_of c.before.statements)) in
-    let t12 : Option Stop = text_refused file.Script (script_reading script) in
-    let t13 : Option Stop = option_map (λ refused. let s : Stop = stop.Refused file.Script refused in s) (first_stranger (c.device ∷ []) ls) in
-    let t14 : Option Stop = unless_built file.Script (list_all is_of_bench ls) in
-    step (t1 ∷ []) (t2 ∷ t3 ∷ t4 ∷ t5 ∷ t6 ∷ t7 ∷ t8 ∷ t9 ∷ t10 ∷ t11 ∷ t12 ∷ t13 ∷ t14 ∷ []) (read_of words.catalogue texts.catalogue) (octets_of texts.catalogue) (after_catalogue words texts) c (read_step words.catalogue texts.catalogue)
-    (step (t2 ∷ []) (t3 ∷ t4 ∷ t5 ∷ t6 ∷ t7 ∷ t8 ∷ t9 ∷ t10 ∷ t11 ∷ t12 ∷ t13 ∷ t14 ∷ []) (read_of (Some words.new) texts.new) new (after_new words texts) c (read_step (Some words.new) texts.new)
-    (step (t3 ∷ []) (t4 ∷ t5 ∷ t6 ∷ t7 ∷ t8 ∷ t9 ∷ t10 ∷ t11 ∷ t12 ∷ t13 ∷ t14 ∷ []) (read_of (Some words.old) texts.old) old (after_old words texts new) c (read_step (Some words.old) texts.old)
-    (step (t4 ∷ []) (t5 ∷ t6 ∷ t7 ∷ t8 ∷ t9 ∷ t10 ∷ t11 ∷ t12 ∷ t13 ∷ t14 ∷ []) (read_of (Some words.script) texts.script) script (after_script texts new old) c (read_step (Some words.script) texts.script)
-    (step (t5 ∷ []) (t6 ∷ t7 ∷ t8 ∷ t9 ∷ t10 ∷ t11 ∷ t12 ∷ t13 ∷ t14 ∷ []) (models_of texts.catalogue) models (with_models new old script) c (models_step texts.catalogue)
-    (step (t6 ∷ []) (t7 ∷ t8 ∷ t9 ∷ t10 ∷ t11 ∷ t12 ∷ t13 ∷ t14 ∷ []) (unless_refused file.New (reading new)) (given_or [] (reading new)) (with_new models old script) c (text_step file.New [] (reading new))
-    (step (t7 ∷ []) (t8 ∷ t9 ∷ t10 ∷ t11 ∷ t12 ∷ t13 ∷ t14 ∷ []) (sound file.New c.project) c.project (with_project models old script) c (broken_step file.New (first_broken c.project.catalogue c.project.statements) c.project)
-    (step (t8 ∷ []) (t9 ∷ t10 ∷ t11 ∷ t12 ∷ t13 ∷ t14 ∷ []) (unless_refused file.Old (reading old)) (given_or [] (reading old)) (with_old models script c.project) c (text_step file.Old [] (reading old))
-    (step (t9 ∷ []) (t10 ∷ t11 ∷ t12 ∷ t13 ∷ t14 ∷ []) (sound file.Old c.before) c.before (with_before script c.project) c (broken_step file.Old (first_broken c.before.catalogue c.before.statements) c.before)
-    (step (t10 ∷ []) (t11 ∷ t12 ∷ t13 ∷ t14 ∷ []) (built file.New (the_device (devices_of c.project.statements))) c.device (with_device script c.project c.before) c (device_step file.New (the_device (devices_of c.project.statements)))
-    (step (t11 ∷ []) (t12 ∷ t13 ∷ t14 ∷ []) (built file.Old (with_at_most c.device c.before)) c.before (with_begins script c.project c.device) c (if_step file.Old (has_at_most c.device (devices_of c.before.statements)) c.before)
-    (step (t12 ∷ t13 ∷ t14 ∷ []) [] (script_conditions c.device script) c.conditions (with_conditions c.project c.device c.before) c (script_is c.device script) refl)))))))))))
+    let t10 : Option Stop = text_refused file.Script (script_reading script) in
+    let rest : List (Option Stop) = stranger_named (first_stranger (on_bus c.project c.before) c.script) ∷ unless_known (list_all (is_known c.project) c.options.jobs) ∷ unless_built file.Script (not (list_any is_group_line c.script)) ∷ [] in
+    step (t1 ∷ []) (t2 ∷ t3 ∷ t4 ∷ t5 ∷ t6 ∷ t7 ∷ t8 ∷ t9 ∷ t10 ∷ rest) (read_of words.options.catalogue texts.catalogue) (octets_of texts.catalogue) (after_catalogue words texts) c (read_step words.options.catalogue texts.catalogue)
+    (step (t2 ∷ []) (t3 ∷ t4 ∷ t5 ∷ t6 ∷ t7 ∷ t8 ∷ t9 ∷ t10 ∷ rest) (read_of (Some words.new) texts.new) new (after_new words texts) c (read_step (Some words.new) texts.new)
+    (step (t3 ∷ []) (t4 ∷ t5 ∷ t6 ∷ t7 ∷ t8 ∷ t9 ∷ t10 ∷ rest) (read_of (Some words.old) texts.old) old (after_old words texts new) c (read_step (Some words.old) texts.old)
+    (step (t4 ∷ []) (t5 ∷ t6 ∷ t7 ∷ t8 ∷ t9 ∷ t10 ∷ rest) (read_of (Some words.script) texts.script) script (after_script options texts new old) c (read_step (Some words.script) texts.script)
+    (step (t5 ∷ []) (t6 ∷ t7 ∷ t8 ∷ t9 ∷ t10 ∷ rest) (models_of texts.catalogue) models (with_models options new old script) c (models_step texts.catalogue)
+    (step (t6 ∷ []) (t7 ∷ t8 ∷ t9 ∷ t10 ∷ rest) (unless_refused file.New (reading new)) (given_or [] (reading new)) (with_new options models old script) c (text_step file.New [] (reading new))
+    (step (t7 ∷ []) (t8 ∷ t9 ∷ t10 ∷ rest) (sound file.New c.project) c.project (with_project options models old script) c (broken_step file.New (first_broken c.project.catalogue c.project.statements) c.project)
+    (step (t8 ∷ []) (t9 ∷ t10 ∷ rest) (unless_refused file.Old (reading old)) (given_or [] (reading old)) (with_old options models script c.project) c (text_step file.Old [] (reading old))
+    (step (t9 ∷ []) (t10 ∷ rest) (sound file.Old c.before) c.before (with_before options script c.project) c (broken_step file.Old (first_broken c.before.catalogue c.before.statements) c.before)
+    (step (t10 ∷ []) rest (unless_refused file.Script (script_reading script)) c.script (with_lines options c.project c.before) c (text_step file.Script [] (script_reading script))
+    (script_is options c.project c.before c.script))))))))))

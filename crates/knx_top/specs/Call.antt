@@ -1,27 +1,28 @@
 -- What a call of the program does, for each of its commands.
-use Rattle.std.specs.Prelude.{ℕ, ◌≡◌, ◌⊎◌, Bool, true, false, List, map, IsPermutation, Option, Some, None, Result, Ok, Err, if◌then◌else◌}
-use Rattle.std.specs.List.{AllZip, list_any, flat_map, zip}
+use Rattle.std.specs.Prelude.{ℕ, ◌≡◌, ◌⊎◌, List, map, IsPermutation, Option, Some, None, Result, Ok, Err}
+use Rattle.std.specs.List.{AllZip, flat_map, zip}
 use Rattle.std.specs.List.Sorted.{IsStrictlyIncreasing}
+use Rattle.bus_sim.specs.Loaded.{BusNow}
+use Rattle.bus_sim.specs.RunNow.{RunNow}
 use Rattle.frame_text.specs.FrameText.{IsFrameText, hex_word}
 use Rattle.knx_model.specs.declared.address.IndAddr.{IndAddr}
 use Rattle.knx_model.specs.declared.command.Stop.{Stop}
 use Rattle.knx_model.specs.declared.command.Stop.TheVariants as stop
 use Rattle.knx_model.specs.declared.config.Image.{Image}
-use Rattle.knx_model.specs.declared.log.LogEntry.{LogEntry}
-use Rattle.knx_model.specs.declared.log.LogWhat.{LogWhat}
-use Rattle.knx_model.specs.declared.log.LogWhat.TheVariants.{Failed}
 use Rattle.knx_model.specs.declared.status.Status.{Status}
 use Rattle.knx_model.specs.declared.status.Status.TheVariants as status
-use Rattle.knx_top.specs.Bench.{Trace}
 use Rattle.knx_model.specs.Meaning.{Installation, meaning}
 use Rattle.knx_model.specs.Outside.{FileContent, Rose, Wrote, WroteFront}
-use Rattle.knx_model.specs.ReportText.{counts_line, tables_lines, report_text, stop_text, stop_status}
+use Rattle.knx_model.specs.ReportText.{counts_line, tables_lines, stop_text, stop_status}
 use Rattle.knx_model.specs.Counts.{counts_of}
 use Rattle.knx_model.specs.Rules.{devices_of}
 use Rattle.knx_model.specs.Tables.{StandsFor}
+use Rattle.line_model.specs.declared.log.Report.{Report}
+use Rattle.line_model.specs.Printed.{line_report_text}
+use Rattle.report_text.specs.LineStatus.{line_status}
 use Rattle.knx_top.specs.Command.{Command, Check, Tables, Sim, Decode, ProjectWords, SimWords, asked}
 use Rattle.knx_top.specs.Input.{ProjectIsRead, SimIsRead, OnlyRose, failed_of_project, failed_of_sim, first_some}
-use Rattle.knx_top.specs.Ran.{Outcome, Stops, Tells, BreaksOff, Reports, StopsFor, Runs}
+use Rattle.knx_top.specs.Ran.{Outcome, Stops, Tells, BreaksOff, Reports, StopsFor, Runs, report_in}
 use Rattle.knx_top.specs.Stops.{Commission, project_tests, project_told, sim_tests, commission_told}
 use Rattle.knx_top.specs.declared.input.ProjectTexts.{ProjectTexts}
 use Rattle.knx_top.specs.declared.input.SimTexts.{SimTexts}
@@ -59,26 +60,18 @@ TellsOf IsText (Ok found) outcome = TellsText (IsText found) outcome
 
 -- ---- what is written
 
-abbrev pub is_failed : LogWhat → Bool
-is_failed (Failed job signs) = true
-is_failed _ = false
-
--- 1 where the log tells of a failed job, else 0
-abbrev pub log_status : List LogEntry → Status
-log_status log = if list_any (λ e. is_failed e.what) log then status.SomeFailed else status.Done
-
 abbrev pub outcome_status : Outcome → Status
 outcome_status (Stops why) = stop_status why
 outcome_status (Tells text) = status.Done
-outcome_status BreaksOff = status.NoMemory
-outcome_status (Reports report jobs devices) = log_status report.log
+outcome_status (BreaksOff report) = status.NoMemory
+outcome_status (Reports report jobs devices log) = line_status report
 
--- the text of an outcome
+-- the text of an outcome; a script has no group telegrams
 abbrev pub outcome_text : Outcome → List ℕ
 outcome_text (Stops why) = stop_text why
 outcome_text (Tells text) = text
-outcome_text BreaksOff = stop_text (stop.NoMemory tt)
-outcome_text (Reports report jobs devices) = report_text report jobs devices
+outcome_text (BreaksOff report) = stop_text (stop.NoMemory tt)
+outcome_text (Reports report jobs devices log) = line_report_text report jobs 0 devices log
 
 -- A text was to be written, where the sink's count of faults was `faults` and is `faults'` and it had taken `taken` and has taken `taken'`: it
 -- was written whole and the status is its own; or the write failed, a front of the text was taken, and the status tells that.
@@ -113,32 +106,44 @@ pub record TellsOfFrame (word : List ℕ) (Replied : Outcome → Type 0) : Type 
   pub tells : TellsOf IsFrameText (octets_or_usage (hex_word word)) outcome
   pub replied : Replied outcome
 
--- `sim NEW OLD SCRIPT`, where the bench was `before` and is `after`
-pub record RunsScript (words : SimWords) (file : List ℕ → FileContent) (faults faults' : List ℕ → ℕ) (before after : Option Trace) (Replied : Outcome → Type 0) : Type 0 where
+-- what a call leaves: the simulated line, and the report of the run, where the call began one
+pub record Left : Type 0 where
+  pub line : BusNow
+  pub report : Option Report
+
+-- no run was begun
+pub record HasNoRun (before : BusNow) (after : Left) : Type 0 where
+  pub line : after.line ≡ before
+  pub report : after.report ≡ None
+
+-- `sim NEW OLD SCRIPT` with options and jobs
+pub record RunsScript (words : SimWords) (file : List ℕ → FileContent) (faults faults' : List ℕ → ℕ) (before : BusNow) (after : Left) (Replied : Outcome → Type 0) : Type 0 where
   pub texts : SimTexts
   pub is_read : SimIsRead file words texts
   pub counts : OnlyRose (failed_of_sim words texts) faults faults'
   pub outcome : Outcome
   -- the first test that fails is told, and no run is begun
-  pub stops : (why : Stop) → first_some (sim_tests words texts) ≡ Some why → StopsFor why outcome × (after ≡ before)
-  -- where none fails, what the texts ask for is run
-  pub runs : first_some (sim_tests words texts) ≡ None → Runs (commission_told texts) before after outcome
+  pub stops : (why : Stop) → first_some (sim_tests words texts) ≡ Some why → StopsFor why outcome × (after.line ≡ before)
+  -- where none fails, what the words and the texts ask for is run
+  pub runs : first_some (sim_tests words texts) ≡ None → Runs (commission_told words texts) before after.line outcome
+  pub report : after.report ≡ report_in outcome
   pub replied : Replied outcome
 
 -- ---- a call, by what its words ask for
 
-abbrev pub Does : Option Command → (List ℕ → FileContent) → (List ℕ → ℕ) → (List ℕ → ℕ) → Option Trace → Option Trace → (Outcome → Type 0) → Type 0
-Does None file faults faults' before after Replied = Replied (Stops stop.Usage) × OnlyRose None faults faults' × (after ≡ before)
-Does (Some (Check words)) file faults faults' before after Replied = TellsOfProject IsCountsText words file faults faults' Replied × (after ≡ before)
-Does (Some (Tables words)) file faults faults' before after Replied = TellsOfProject IsTablesText words file faults faults' Replied × (after ≡ before)
+abbrev pub Does : Option Command → (List ℕ → FileContent) → (List ℕ → ℕ) → (List ℕ → ℕ) → BusNow → Left → (Outcome → Type 0) → Type 0
+Does None file faults faults' before after Replied = Replied (Stops stop.Usage) × OnlyRose None faults faults' × HasNoRun before after
+Does (Some (Check words)) file faults faults' before after Replied = TellsOfProject IsCountsText words file faults faults' Replied × HasNoRun before after
+Does (Some (Tables words)) file faults faults' before after Replied = TellsOfProject IsTablesText words file faults faults' Replied × HasNoRun before after
 Does (Some (Sim words)) file faults faults' before after Replied = RunsScript words file faults faults' before after Replied
-Does (Some (Decode word)) file faults faults' before after Replied = TellsOfFrame word Replied × OnlyRose None faults faults' × (after ≡ before)
+Does (Some (Decode word)) file faults faults' before after Replied = TellsOfFrame word Replied × OnlyRose None faults faults' × HasNoRun before after
 
 -- the count of one file rose at most
 abbrev pub AtMostOneRose : (List ℕ → ℕ) → (List ℕ → ℕ) → Type 0
 AtMostOneRose faults faults' = (one : Option (List ℕ)) × OnlyRose one faults faults'
 
--- the bench is as it was, or has a run of what the words ask for and the files gave
-pub data HasRunOf (P : Commission → Trace → Type 0) (words : List (List ℕ)) (file : List ℕ → FileContent) (before after : Option Trace) : Type 0 where
-  IsAsBefore : after ≡ before → HasRunOf P words file before after
-  HasRun : (names : SimWords) (texts : SimTexts) (t : Trace) → asked words ≡ Some (Sim names) → SimIsRead file names texts → after ≡ Some t → P (commission_told texts) t → HasRunOf P words file before after
+-- no run was begun, or the line has a run of what the words ask for and the files gave, of which P holds, and its report is left
+pub data HasRunOf (P : Commission → RunNow → Report → Type 0) (words : List (List ℕ)) (file : List ℕ → FileContent) (before : BusNow) (after : Left) : Type 0 where
+  NoRun : HasNoRun before after → HasRunOf P words file before after
+  HasRun : (names : SimWords) (texts : SimTexts) (report : Report) → asked words ≡ Some (Sim names) → SimIsRead file names texts → after.report ≡ Some report
+      → P (commission_told names texts) after.line.run report → HasRunOf P words file before after

@@ -38,7 +38,7 @@ pub record ProjectIsRead (file : List ℕ → FileContent) (words : ProjectWords
   pub project : IsRead file (goes_on texts.catalogue) (Some words.project) texts.project
 
 pub record SimIsRead (file : List ℕ → FileContent) (words : SimWords) (texts : SimTexts) : Type 0 where
-  pub catalogue : IsRead file true words.catalogue texts.catalogue
+  pub catalogue : IsRead file true words.options.catalogue texts.catalogue
   pub new : IsRead file (goes_on texts.catalogue) (Some words.new) texts.new
   pub old : IsRead file (goes_on texts.new) (Some words.old) texts.old
   pub script : IsRead file (goes_on texts.old) (Some words.script) texts.script
@@ -66,7 +66,7 @@ failed_of_project words texts = first_some (failed words.catalogue texts.catalog
 
 abbrev pub failed_of_sim : SimWords → SimTexts → Option (List ℕ)
 failed_of_sim words texts =
-    first_some (failed words.catalogue texts.catalogue ∷ failed (Some words.new) texts.new ∷ failed (Some words.old) texts.old ∷ failed (Some words.script) texts.script ∷ [])
+    first_some (failed words.options.catalogue texts.catalogue ∷ failed (Some words.new) texts.new ∷ failed (Some words.old) texts.old ∷ failed (Some words.script) texts.script ∷ [])
 
 -- ---- what was read, and why the call stops where a read was refused
 

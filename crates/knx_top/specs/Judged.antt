@@ -1,26 +1,26 @@
 -- The same tests one after another, each with what it gives to the next: what the code does.
-use Rattle.std.specs.Prelude.{ℕ, ◌≡◌, List, [], ◌∷◌, Option, Some, None, unwrap_or, Result, Ok, Err, if◌then◌else◌}
-use Rattle.std.specs.List.{list_all}
+use Rattle.std.specs.Prelude.{ℕ, ◌≡◌, not, List, [], Option, Some, None, unwrap_or, Result, Ok, Err}
+use Rattle.std.specs.List.{list_all, list_any}
 use Rattle.catalogue.specs.Catalogue.{catalogue_of}
-use Rattle.knx_model.specs.declared.address.IndAddr.{IndAddr}
 use Rattle.knx_model.specs.declared.catalogue.model.NamedModel.{NamedModel}
 use Rattle.knx_model.specs.declared.catalogue.refused.CatRefused.{CatRefused}
 use Rattle.knx_model.specs.declared.command.InputFile.{InputFile}
 use Rattle.knx_model.specs.declared.command.InputFile.TheVariants as file
 use Rattle.knx_model.specs.declared.command.Stop.{Stop}
 use Rattle.knx_model.specs.declared.command.Stop.TheVariants as stop
+use Rattle.knx_model.specs.declared.log.JobWord.{JobWord}
 use Rattle.knx_model.specs.declared.project.Statement.{Statement}
 use Rattle.knx_model.specs.declared.refusal.Refused.{Refused}
 use Rattle.knx_model.specs.declared.script.ScriptLine.{ScriptLine}
 use Rattle.knx_model.specs.Answers.{◌>>=◌, AnswersUnless}
 use Rattle.knx_model.specs.Meaning.{Installation}
-use Rattle.knx_model.specs.Rules.{first_broken, devices_of}
+use Rattle.knx_model.specs.Rules.{first_broken}
 use Rattle.knx_model.specs.ScriptText.{script_reading, first_stranger}
 use Rattle.knx_model.specs.Statements.{reading}
-use Rattle.knx_top.specs.Command.{ProjectWords, SimWords}
+use Rattle.knx_top.specs.Command.{ProjectWords, SimOptions, SimWords}
 use Rattle.knx_top.specs.Input.{fault_told}
-use Rattle.knx_top.specs.Stops.{Commission, the_device, has_at_most, not_built, is_of_bench, conditions_of}
-use Rattle.knx_top.specs.declared.conditions.Conditions.{Conditions}
+use Rattle.knx_top.specs.OnLine.{on_bus}
+use Rattle.knx_top.specs.Stops.{Commission, is_group_line, is_known, stranger_named, unless_built, unless_known}
 use Rattle.knx_top.specs.declared.input.ProjectTexts.{ProjectTexts}
 use Rattle.knx_top.specs.declared.input.Reading.{Reading}
 use Rattle.knx_top.specs.declared.input.Reading.TheVariants as read
@@ -78,56 +78,53 @@ judged_project words texts = project_of words texts >>= sound file.New
 
 -- ---- `sim NEW OLD SCRIPT`
 
-abbrev pub built : {A : Type 0} → InputFile → Option A → Result A Stop
-built place None = Err (not_built place)
-built place (Some x) = Ok x
+abbrev pub unless_failed : {A : Type 0} → Option Stop → A → Result A Stop
+unless_failed None x = Ok x
+unless_failed (Some why) x = Err why
 
-abbrev pub with_at_most : IndAddr → Installation → Option Installation
-with_at_most device i = if has_at_most device (devices_of i.statements) then Some i else None
+-- a script that reads, names no device but those on the bus and has no group telegrams
+abbrev pub unless_grouped : List ScriptLine → Result (List ScriptLine) Stop
+unless_grouped ls = unless_failed (unless_built file.Script (not (list_any is_group_line ls))) ls
 
--- each line is one that the bench has
-abbrev pub bench_conditions : List ScriptLine → Option Conditions
-bench_conditions ls = if list_all is_of_bench ls then Some (conditions_of ls) else None
+abbrev pub unless_strange : Installation → Installation → List ScriptLine → Result (List ScriptLine) Stop
+unless_strange project before ls = unless_failed (stranger_named (first_stranger (on_bus project before) ls)) ls
 
-abbrev pub known_conditions : List ScriptLine → Result Conditions Stop
-known_conditions known = built file.Script (bench_conditions known)
+-- jobs of NEW's devices
+abbrev pub known_jobs : Installation → List JobWord → Result (List JobWord) Stop
+known_jobs project jobs = unless_failed (unless_known (list_all (is_known project) jobs)) jobs
 
-abbrev pub own_conditions : IndAddr → List ScriptLine → Result Conditions Stop
-own_conditions device ls = unless_broken file.Script (first_stranger (device ∷ []) ls) ls >>= known_conditions
+abbrev pub with_script : SimOptions → Installation → Installation → List ScriptLine → Result Commission Stop
+with_script options project before script = Ok (record { project = project; before = before; script = script; options = options })
 
--- a script that reads, names no device but this one and has lines that the bench has
-abbrev pub script_conditions : IndAddr → List ℕ → Result Conditions Stop
-script_conditions device octets = unless_refused file.Script (script_reading octets) >>= own_conditions device
+abbrev pub with_jobs : SimOptions → Installation → Installation → List ScriptLine → List JobWord → Result Commission Stop
+with_jobs options project before ls jobs = unless_grouped ls >>= with_script options project before
 
-abbrev pub with_conditions : Installation → IndAddr → Installation → Conditions → Result Commission Stop
-with_conditions project device before conditions = Ok (record { project = project; device = device; before = before; conditions = conditions })
+abbrev pub with_known : SimOptions → Installation → Installation → List ScriptLine → Result Commission Stop
+with_known options project before ls = known_jobs project options.jobs >>= with_jobs options project before ls
 
-abbrev pub with_begins : List ℕ → Installation → IndAddr → Installation → Result Commission Stop
-with_begins script project device before = script_conditions device script >>= with_conditions project device before
+abbrev pub with_lines : SimOptions → Installation → Installation → List ScriptLine → Result Commission Stop
+with_lines options project before ls = unless_strange project before ls >>= with_known options project before
 
-abbrev pub with_device : List ℕ → Installation → Installation → IndAddr → Result Commission Stop
-with_device script project before device = built file.Old (with_at_most device before) >>= with_begins script project device
+abbrev pub with_before : SimOptions → List ℕ → Installation → Installation → Result Commission Stop
+with_before options script project before = unless_refused file.Script (script_reading script) >>= with_lines options project before
 
-abbrev pub with_before : List ℕ → Installation → Installation → Result Commission Stop
-with_before script project before = built file.New (the_device (devices_of project.statements)) >>= with_device script project before
+abbrev pub with_old : SimOptions → List NamedModel → List ℕ → Installation → List Statement → Result Commission Stop
+with_old options models script project ss = sound file.Old (installed models ss) >>= with_before options script project
 
-abbrev pub with_old : List NamedModel → List ℕ → Installation → List Statement → Result Commission Stop
-with_old models script project ss = sound file.Old (installed models ss) >>= with_before script project
+abbrev pub with_project : SimOptions → List NamedModel → List ℕ → List ℕ → Installation → Result Commission Stop
+with_project options models old script project = unless_refused file.Old (reading old) >>= with_old options models script project
 
-abbrev pub with_project : List NamedModel → List ℕ → List ℕ → Installation → Result Commission Stop
-with_project models old script project = unless_refused file.Old (reading old) >>= with_old models script project
+abbrev pub with_new : SimOptions → List NamedModel → List ℕ → List ℕ → List Statement → Result Commission Stop
+with_new options models old script ss = sound file.New (installed models ss) >>= with_project options models old script
 
-abbrev pub with_new : List NamedModel → List ℕ → List ℕ → List Statement → Result Commission Stop
-with_new models old script ss = sound file.New (installed models ss) >>= with_project models old script
+abbrev pub with_models : SimOptions → List ℕ → List ℕ → List ℕ → List NamedModel → Result Commission Stop
+with_models options new old script models = unless_refused file.New (reading new) >>= with_new options models old script
 
-abbrev pub with_models : List ℕ → List ℕ → List ℕ → List NamedModel → Result Commission Stop
-with_models new old script models = unless_refused file.New (reading new) >>= with_new models old script
-
-abbrev pub after_script : SimTexts → List ℕ → List ℕ → List ℕ → Result Commission Stop
-after_script texts new old script = models_of texts.catalogue >>= with_models new old script
+abbrev pub after_script : SimOptions → SimTexts → List ℕ → List ℕ → List ℕ → Result Commission Stop
+after_script options texts new old script = models_of texts.catalogue >>= with_models options new old script
 
 abbrev pub after_old : SimWords → SimTexts → List ℕ → List ℕ → Result Commission Stop
-after_old words texts new old = read_of (Some words.script) texts.script >>= after_script texts new old
+after_old words texts new old = read_of (Some words.script) texts.script >>= after_script words.options texts new old
 
 abbrev pub after_new : SimWords → SimTexts → List ℕ → Result Commission Stop
 after_new words texts new = read_of (Some words.old) texts.old >>= after_old words texts new
@@ -136,7 +133,7 @@ abbrev pub after_catalogue : SimWords → SimTexts → List ℕ → Result Commi
 after_catalogue words texts catalogue = read_of (Some words.new) texts.new >>= after_new words texts
 
 abbrev pub judged : SimWords → SimTexts → Result Commission Stop
-judged words texts = read_of words.catalogue texts.catalogue >>= after_catalogue words texts
+judged words texts = read_of words.options.catalogue texts.catalogue >>= after_catalogue words texts
 
 -- ---- an answer of the code beside the definition's: the same, unless memory was wanting
 abbrev pub Gives : {A B : Type 0} → (A → B) → Result A Stop → Result B Stop → Type 0

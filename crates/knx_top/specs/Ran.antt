@@ -1,92 +1,111 @@
--- What a run did: from where it began, over what was done to the device, to what was told of it.
-use Rattle.std.specs.Prelude.{ℕ, ◌≡◌, ◌⊎◌, List, [], ◌∷◌, length, Option, Some, Result, Ok, Err}
+-- What a run did: from where it began, over all events of the line, to what was told of it. This is the headline on `sim`: in every interleaving and
+-- at every moment, whatever is lost, repeated or cut, each device has its starting content, or is stopped, or runs what the new project says; each
+-- group telegram acts on exactly the objects that the running configuration links; `done` is told only where the new project's runs; no device has
+-- two downloaders at once, and no tunnelling request acts twice.
+use Rattle.std.specs.Prelude.{◌≡◌, ◌⊎◌, ℕ, Bool, List, [], length, reverse, Option, Some, None, Result, Ok, Err}
+use Rattle.bus_sim.specs.Loaded.{BusNow}
+use Rattle.bus_sim.specs.RunNow.{RunNow, start, world}
 use Rattle.knx_model.specs.declared.command.Stop.{Stop}
 use Rattle.knx_model.specs.declared.command.Stop.TheVariants as stop
-use Rattle.knx_model.specs.declared.config.Image.{Image}
-use Rattle.knx_model.specs.declared.log.Case.{Case}
-use Rattle.knx_model.specs.declared.log.DeviceCase.{DeviceCase}
-use Rattle.knx_model.specs.declared.log.JobKind.TheVariants.{Load}
 use Rattle.knx_model.specs.declared.log.JobWord.{JobWord}
-use Rattle.knx_model.specs.declared.log.LogEntry.{LogEntry}
-use Rattle.knx_model.specs.declared.log.LogWhat.{LogWhat}
-use Rattle.knx_model.specs.declared.log.LogWhat.TheVariants.{Took, Done, Failed}
-use Rattle.knx_model.specs.declared.log.Report.{Report}
-use Rattle.knx_model.specs.declared.log.Sign.TheVariants.{Closed}
-use Rattle.knx_top.specs.Bench.{Trace, now, moment}
-use Rattle.knx_model.specs.Meaning.{meaning}
-use Rattle.knx_model.specs.DeviceState.{DeviceState, framed}
-use Rattle.knx_model.specs.LoadPlan.{load_plan}
-use Rattle.knx_model.specs.Promises.{StartOf, IsCase, DoneIsTrue, OldUntilTaken, StaysFromDone}
-use Rattle.knx_top.specs.Moments.{AtEveryMoment}
-use Rattle.knx_top.specs.Script.{Follows}
-use Rattle.knx_model.specs.Tables.{StandsFor}
-use Rattle.knx_top.specs.Attempts.{WereCutOff, GotThrough, KeptToPlan}
+use Rattle.line_model.specs.declared.log.LogEntry.{LogEntry}
+use Rattle.line_model.specs.declared.log.Report.{Report}
+use Rattle.line_model.specs.ActedOnce.{ActedOnce}
+use Rattle.line_model.specs.ClientView.{indications}
+use Rattle.line_model.specs.Dropped.{dropped}
+use Rattle.line_model.specs.Faults.{FaultRight}
+use Rattle.line_model.specs.Follows.{Follows}
+use Rattle.line_model.specs.Fresh.{IsFresh}
+use Rattle.line_model.specs.Headline.{IsDisciplined}
+use Rattle.line_model.specs.Legal.{IsLegal}
+use Rattle.line_model.specs.Lines.{script_of}
+use Rattle.line_model.specs.Log.{Job, AllOver}
+use Rattle.line_model.specs.OldStoppedOrNew.{OldStoppedOrNew, RunsMeaning, MeansWhereDone}
+use Rattle.line_model.specs.Printed.{DeviceShown}
+use Rattle.line_model.specs.Record.{placed, record_of}
+use Rattle.line_model.specs.StartOf.{BusOf}
+use Rattle.line_model.specs.Telegrams.{TelegramsActRight, ActsByProject}
+use Rattle.line_model.specs.Tunnel.{Commissions}
+use Rattle.knx_top.specs.Jobs.{AreJobs, ArePlanned}
+use Rattle.knx_top.specs.OnLine.{on_bus}
+use Rattle.knx_top.specs.Shown.{AreShown}
 use Rattle.knx_top.specs.Stops.{Commission}
 
--- ---- a run
+-- the log as the definitions have it, the newest entry first
+abbrev pub log_in : Report → List LogEntry
+log_in report = reverse report.log
 
--- the device begins as the project before says, and takes the frames that the script says
-pub record BeginsAs (c : Commission) (d : DeviceState) : Type 0 where
-  pub loaded : DeviceState
-  pub start : StartOf c.before c.device loaded
-  pub is : d ≡ framed c.conditions.frames loaded
+-- ---- the premises: the line began as it is stated, and what happened is what may happen and what the script says
 
--- A run that has begun, whether it ends or memory is wanting on the way: its start is the one that is stated, its events follow the
--- script and keep to the load plan of the project's image, and each moment is old, stopped or new.
-pub record Began (c : Commission) (t : Trace) : Type 0 where
-  pub start : BeginsAs c t.start
-  pub follows : Follows c.conditions.cuts t.start 0 t.events
-  pub old_stopped_or_new : AtEveryMoment c.project c.device t
-  pub image : Image
-  pub stands : StandsFor image (meaning c.project c.device)
-  pub kept_to : KeptToPlan (load_plan image) t
+pub record IsRunOf (c : Commission) (r : RunNow) : Type 0 where
+  pub begins : BusOf c.project c.before (script_of c.script) (start r)
+  pub fresh : IsFresh (start r)
+  pub legal : IsLegal Commissions (start r) r.events
+  pub follows : Follows (script_of c.script) Commissions (start r) r.events
 
--- ---- how a run ends
+-- ---- the headline
 
-abbrev pub entry : ℕ → LogWhat → LogEntry
-entry at what = record { at = at; worker = 1; what = what }
+pub record KeepsPromises (c : Commission) (jobs : List Job) (r : RunNow) (log : List LogEntry) : Type 0 where
+  pub devices : OldStoppedOrNew (RunsMeaning c.project) jobs (start r) r.events log
+  pub telegrams : TelegramsActRight (ActsByProject c.before c.project) (start r) r.events
+  pub done : MeansWhereDone c.project jobs (start r) r.events log
+  pub once : ActedOnce (start r) r.events
 
--- the one job was taken at the beginning and told of at the end: done where an attempt got through with the whole plan of the project's
--- image, or failed where a cut ended each of three
-pub data IsOver (c : Commission) (t : Trace) : List LogEntry → Type 0 where
-  IsDone : (image : Image) → StandsFor image (meaning c.project c.device) → GotThrough (load_plan image) t → IsOver c t (entry 0 (Took 1) ∷ entry (length t.events) (Done 1) ∷ [])
-  HasFailed : (image : Image) → StandsFor image (meaning c.project c.device) → WereCutOff (load_plan image) t.start 3 t.events → IsOver c t (entry 0 (Took 1) ∷ entry (length t.events) (Failed 1 (Closed ∷ Closed ∷ Closed ∷ [])) ∷ [])
+-- ---- what is told: by record and log alone
 
--- What was told of a run that has ended: `done` is true where it is told, the device keeps its starting content until the job is taken and
--- what it has from its done on, and the report is of this job and this device.
-pub record Ran (c : Commission) (t : Trace) (report : Report) (jobs : List JobWord) (devices : List DeviceCase) : Type 0 where
-  pub began : Began c t
-  pub done_is_true : DoneIsTrue c.project jobs report.log (λ device k. (moment t k).kept)
-  pub old_until_taken : OldUntilTaken jobs c.device report.log (length t.events) (λ k. (moment t k).kept)
-  pub stays_from_done : StaysFromDone jobs c.device report.log (length t.events) (λ k. (moment t k).kept)
-  pub over : IsOver c t report.log
-  pub job : jobs ≡ record { device = c.device; kind = Load } ∷ []
+pub record IsTold (jobs : List Job) (r : RunNow) (report : Report) : Type 0 where
+  pub disciplined : IsDisciplined jobs [] (length r.events) (placed (start r) r.events) (log_in report)
+  pub fault : FaultRight jobs (log_in report) (record_of (start r) r.events) report.fault
+  pub ended : report.fault ≡ None → AllOver jobs (log_in report)
+  pub heard : report.fault ≡ None → report.heard ≡ reverse (indications (record_of (start r) r.events))
   pub missed : report.missed ≡ 0
-  pub case : Case
-  pub case_is : IsCase c.project c.device (now t).kept case
-  pub device : devices ≡ record { device = c.device; case = case } ∷ []
+  pub dropped : report.dropped ≡ dropped (record_of (start r) r.events)
 
--- ---- how a call ends: it stops, it tells a text, memory is wanting in a run or for its report, or it reports jobs and devices
+-- a run that has begun, whether it ends or not, with its jobs, as their words and with their plans, and its report
+pub record Ran (c : Commission) (r : RunNow) (report : Report) (words : List JobWord) : Type 0 where
+  pub run : IsRunOf c r
+  pub words_are : AreJobs c.options.jobs c.project words
+  pub jobs : List Job
+  pub planned : ArePlanned c.project jobs words
+  pub promises : KeepsPromises c jobs r (log_in report)
+  pub told : IsTold jobs r report
+
+-- ---- how a call ends: it stops, it tells a text, memory is wanting for the text of a run, or it reports the run, its jobs and devices, with the log
+-- or without
+
 pub data Outcome : Type 0 where
   Stops : Stop → Outcome
   Tells : List ℕ → Outcome
-  BreaksOff : Outcome
-  Reports : Report → List JobWord → List DeviceCase → Outcome
+  BreaksOff : Report → Outcome
+  Reports : Report → List JobWord → List DeviceShown → Bool → Outcome
+
+-- the report of the run, where one began
+abbrev pub report_in : Outcome → Option Report
+report_in (Stops why) = None
+report_in (Tells text) = None
+report_in (BreaksOff report) = Some report
+report_in (Reports report jobs devices log) = Some report
 
 -- a call stopped for a reason, or for want of memory
 abbrev pub StopsFor : Stop → Outcome → Type 0
 StopsFor why (Stops told) = (told ≡ why) ⊎ (told ≡ stop.NoMemory tt)
 StopsFor why outcome = ⊥
 
--- What comes of a commission, where the bench was `before` and is `after`: memory is wanting and no run is begun, or a run is begun and
--- the bench has it from its beginning on, whether it is broken off or reported.
-abbrev pub Runs : Commission → Option Trace → Option Trace → Outcome → Type 0
+-- what is reported of a run: its jobs, and what the devices have come to
+pub record IsReported (c : Commission) (r : RunNow) (report : Report) (jobs : List JobWord) (devices : List DeviceShown) (log : Bool) : Type 0 where
+  pub ran : Ran c r report jobs
+  pub shown : AreShown c.project (world r) devices (on_bus c.project c.before)
+  pub with_log : log ≡ c.options.log
+
+-- What comes of a commission, where the line was `before` and is `after`: memory is wanting and no run is begun, or a run is begun and the line has it,
+-- from its beginning on, whether it ends or memory is wanting on the way.
+abbrev pub Runs : Commission → BusNow → BusNow → Outcome → Type 0
 Runs c before after (Stops told) = (told ≡ stop.NoMemory tt) × (after ≡ before)
 Runs c before after (Tells text) = ⊥
-Runs c before after BreaksOff = (t : Trace) × ((after ≡ Some t) × Began c t)
-Runs c before after (Reports report jobs devices) = (t : Trace) × ((after ≡ Some t) × Ran c t report jobs devices)
+Runs c before after (BreaksOff report) = (jobs : List JobWord) × Ran c after.run report jobs
+Runs c before after (Reports report jobs devices log) = IsReported c after.run report jobs devices log
 
--- `sim`: it stops where it must, and the bench is as it was, or else it runs
-abbrev pub Commissions : Result Commission Stop → Option Trace → Option Trace → Outcome → Type 0
-Commissions (Err why) before after outcome = StopsFor why outcome × (after ≡ before)
-Commissions (Ok c) before after outcome = Runs c before after outcome
+-- `sim`: it stops where it must, and the line is as it was, or else it runs
+abbrev pub Comes : Result Commission Stop → BusNow → BusNow → Outcome → Type 0
+Comes (Err why) before after outcome = StopsFor why outcome × (after ≡ before)
+Comes (Ok c) before after outcome = Runs c before after outcome

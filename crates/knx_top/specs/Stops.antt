@@ -1,28 +1,26 @@
 -- Where a call stops: a list of tests, in the order in which they are made. The first that fails is told.
-use Rattle.std.specs.Prelude.{Bool, true, false, ◌||◌, ◌==◌, List, [], ◌∷◌, Option, Some, None, unwrap_or, Result, Ok, Err, if◌then◌else◌}
+use Rattle.std.specs.Prelude.{Bool, true, false, not, List, [], ◌∷◌, Option, Some, None, Result, Ok, Err, if◌then◌else◌}
 use Rattle.std.specs.List.{list_all, list_any}
 use Rattle.std.specs.Option.{option_map}
 use Rattle.catalogue.specs.Catalogue.{catalogue_of}
-use Rattle.knx_model.specs.declared.address.IndAddr.{IndAddr}
 use Rattle.knx_model.specs.declared.catalogue.model.NamedModel.{NamedModel}
 use Rattle.knx_model.specs.declared.command.InputFile.{InputFile}
 use Rattle.knx_model.specs.declared.command.InputFile.TheVariants as file
 use Rattle.knx_model.specs.declared.command.Stop.{Stop}
 use Rattle.knx_model.specs.declared.command.Stop.TheVariants as stop
-use Rattle.knx_model.specs.declared.device.FrameSupport.{FrameSupport}
-use Rattle.knx_model.specs.declared.device.FrameSupport.TheVariants.{Standard, Extended}
+use Rattle.knx_model.specs.declared.log.JobWord.{JobWord}
 use Rattle.knx_model.specs.declared.refusal.Refused.{Refused}
-use Rattle.knx_model.specs.declared.refusal.Why.TheVariants.{NotBuilt}
+use Rattle.knx_model.specs.declared.refusal.Why.TheVariants.{NoDevice, NotBuilt}
 use Rattle.knx_model.specs.declared.script.ScriptLine.{ScriptLine}
 use Rattle.knx_model.specs.declared.script.ScriptWhat.{ScriptWhat}
-use Rattle.knx_model.specs.declared.script.ScriptWhat.TheVariants as line
+use Rattle.knx_model.specs.declared.script.ScriptWhat.TheVariants.{Group}
 use Rattle.knx_model.specs.Meaning.{Installation}
-use Rattle.knx_model.specs.Rules.{first_broken, devices_of}
-use Rattle.knx_model.specs.ScriptText.{cuts_of, script_reading, is_cut, first_stranger}
+use Rattle.knx_model.specs.Rules.{first_broken, has_device}
+use Rattle.knx_model.specs.ScriptText.{script_reading, first_stranger}
 use Rattle.knx_model.specs.Statements.{reading}
-use Rattle.knx_top.specs.Command.{ProjectWords, SimWords}
+use Rattle.knx_top.specs.Command.{ProjectWords, SimOptions, SimWords}
 use Rattle.knx_top.specs.Input.{fault_in, octets_of}
-use Rattle.knx_top.specs.declared.conditions.Conditions.{Conditions}
+use Rattle.knx_top.specs.OnLine.{on_bus}
 use Rattle.knx_top.specs.declared.input.ProjectTexts.{ProjectTexts}
 use Rattle.knx_top.specs.declared.input.Reading.{Reading}
 use Rattle.knx_top.specs.declared.input.Reading.TheVariants as read
@@ -78,42 +76,20 @@ project_tests words texts =
 
 -- ---- `sim`
 
--- what a run is begun with: NEW and its one device, OLD, and what the script says
+-- what a run is begun with: NEW, OLD, the lines of the script, and the options and jobs of the words
 pub record Commission : Type 0 where
   pub project : Installation
-  pub device : IndAddr
   pub before : Installation
-  pub conditions : Conditions
+  pub script : List ScriptLine
+  pub options : SimOptions
 
--- a line says that its device takes standard frames alone
-abbrev pub is_standard : ScriptWhat → Bool
-is_standard (line.Standard device) = true
-is_standard _ = false
+-- a line with a group telegram
+abbrev pub is_group : ScriptWhat → Bool
+is_group (Group after group service) = true
+is_group _ = false
 
-abbrev pub says_standard : ScriptLine → Bool
-says_standard l = is_standard l.what
-
--- a bench has power cuts and devices of either kind, and no other disturbance
-abbrev pub is_of_bench : ScriptLine → Bool
-is_of_bench l = is_cut l || says_standard l
-
-abbrev pub frames_of : List ScriptLine → FrameSupport
-frames_of ls = if list_any says_standard ls then Standard else Extended
-
--- where power is cut, and which frames the one device takes
-abbrev pub conditions_of : List ScriptLine → Conditions
-conditions_of ls = record { cuts = cuts_of ls; frames = frames_of ls }
-
--- NEW has just one device
-abbrev pub the_device : List IndAddr → Option IndAddr
-the_device (device ∷ []) = Some device
-the_device _ = None
-
--- OLD has no device, or just NEW's
-abbrev pub has_at_most : IndAddr → List IndAddr → Bool
-has_at_most device [] = true
-has_at_most device (other ∷ []) = other.raw == device.raw
-has_at_most device _ = false
+abbrev pub is_group_line : ScriptLine → Bool
+is_group_line l = is_group l.what
 
 -- a text of a form that isn't built yet is refused at line 0
 abbrev pub not_built : InputFile → Stop
@@ -123,29 +99,38 @@ abbrev pub unless_built : InputFile → Bool → Option Stop
 unless_built place true = None
 unless_built place false = Some (not_built place)
 
-abbrev pub device_in : Installation → IndAddr
-device_in project = unwrap_or (the_device (devices_of project.statements)) (record { raw = 0 })
+-- the job's device is one of NEW's
+abbrev pub is_known : Installation → JobWord → Bool
+is_known project job = has_device project.statements job.device.raw
+
+-- a job's device that NEW hasn't is refused at line 0
+abbrev pub unknown_job : Stop
+unknown_job = stop.Refused file.New (record { line = 0; why = NoDevice })
+
+abbrev pub unless_known : Bool → Option Stop
+unless_known true = None
+unless_known false = Some unknown_job
 
 abbrev pub lines_in : Reading → List ScriptLine
 lines_in text = given_or [] (script_reading (octets_of text))
 
--- what the texts of `sim` ask for
-abbrev pub commission_told : SimTexts → Commission
-commission_told texts = record {
-  project = project_in texts.catalogue texts.new;
-  device = device_in (project_in texts.catalogue texts.new);
-  before = project_in texts.catalogue texts.old;
-  conditions = conditions_of (lines_in texts.script);
-}
+-- a line of the script names a device that isn't on the bus
+abbrev pub stranger_named : Option Refused → Option Stop
+stranger_named stranger = option_map (λ refused. let s : Stop = stop.Refused file.Script refused in s) stranger
 
-abbrev pub is_some_device : Option IndAddr → Bool
-is_some_device None = false
-is_some_device (Some device) = true
+-- what the words and the texts of `sim` ask for
+abbrev pub commission_told : SimWords → SimTexts → Commission
+commission_told words texts = record {
+  project = project_in texts.catalogue texts.new;
+  before = project_in texts.catalogue texts.old;
+  script = lines_in texts.script;
+  options = words.options;
+}
 
 abbrev pub sim_tests : SimWords → SimTexts → List (Option Stop)
 sim_tests words texts =
-    let c : Commission = commission_told texts in
-    fault_in words.catalogue texts.catalogue
+    let c : Commission = commission_told words texts in
+    fault_in words.options.catalogue texts.catalogue
     ∷ fault_in (Some words.new) texts.new
     ∷ fault_in (Some words.old) texts.old
     ∷ fault_in (Some words.script) texts.script
@@ -154,9 +139,8 @@ sim_tests words texts =
     ∷ rule_broken file.New c.project
     ∷ text_refused file.Old (reading (octets_of texts.old))
     ∷ rule_broken file.Old c.before
-    ∷ unless_built file.New (is_some_device (the_device (devices_of c.project.statements)))
-    ∷ unless_built file.Old (has_at_most c.device (devices_of c.before.statements))
     ∷ text_refused file.Script (script_reading (octets_of texts.script))
-    ∷ option_map (λ refused. let s : Stop = stop.Refused file.Script refused in s) (first_stranger (c.device ∷ []) (lines_in texts.script))
-    ∷ unless_built file.Script (list_all is_of_bench (lines_in texts.script))
+    ∷ stranger_named (first_stranger (on_bus c.project c.before) c.script)
+    ∷ unless_known (list_all (is_known c.project) c.options.jobs)
+    ∷ unless_built file.Script (not (list_any is_group_line c.script))
     ∷ []

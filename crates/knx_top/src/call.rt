@@ -1,50 +1,25 @@
 //! The top call.
 
 ghost use Rattle.std.specs.Prelude.{◌≡◌, ◌≢◌, ℕ, List, None, Some, map, string_bytes, IfOk};
-ghost use Rattle.std.specs.List.{list_any};
 ghost use Rattle.knx_model.specs.declared.command.Stop.TheVariants.{Usage};
 ghost use Rattle.knx_model.specs.Outside.{one_more};
-ghost use Rattle.knx_top.specs.Call.{AtMostOneRose, Does, HasRunOf, IsCountsText, IsTablesText, Replies, RunsScript, TellsOfFrame, TellsOfProject, Writes, is_failed, log_status};
+ghost use Rattle.knx_top.specs.Call.{AtMostOneRose, Does, HasNoRun, HasRunOf, IsCountsText, IsTablesText, Replies, RunsScript, TellsOfFrame, TellsOfProject, Writes};
 ghost use Rattle.knx_top.specs.Command.{ProjectWords, SimWords, asked, Check as AskedCheck, Decode as AskedDecode, Sim as AskedSim, Tables as AskedTables};
 ghost use Rattle.knx_top.specs.Ended.{IsTextOf, RepliesOf, outcome_of, told_outcome};
-ghost use Rattle.knx_top.specs.Moments.{AtEveryMoment};
+ghost use Rattle.knx_top.specs.Headline.{ActsOnce, BeganRightly, EndsEveryJob, HasFaultRight, HasOldStoppedOrNew, HasTelegramsRight, IsToldRightly, RunsWhereDone};
 ghost use Rattle.knx_top.specs.Names.{command_of, project_words_of, sim_words_of};
 ghost use Rattle.knx_top.specs.Ran.{Outcome, Stops};
 
-use crate::bench::Bench;
 use crate::command::{Command, ProjectNames, SimNames, asked};
-use crate::commission::{Ended, Unreported, commission};
+use crate::commission::{Reported, SimEnd, commission};
 use crate::input::{read_project_texts, read_sim_texts};
 use crate::told::{check_told, decode_told, tables_told};
-use knx_model::{Files, LogEntry, LogWhat, NoMemory, Octets, Sink, Status, Stop};
-use report_text::{NO_MEMORY, USAGE, report_of, stop_status, stop_text};
+use bus_sim::SimBus;
+use knx_model::{Files, NoMemory, Octets, Sink, Status, Stop};
+use line_model::Report;
+use report_text::{NO_MEMORY, USAGE, line_report_of, line_status, stop_status, stop_text};
 use std::alloc::Global;
-
-fn is_failed(what: LogWhat) -> bool
-    ensures { result ≡ is_failed what }
-{
-    match what {
-        LogWhat::Failed(_, _) => true,
-        _ => false,
-    }
-}
-
-fn has_failed(log: &[LogEntry]) -> bool
-    ensures { result ≡ list_any (λ e. is_failed e.what) log.now }
-{
-    log.iter().any(|entry| is_failed(entry.what))
-}
-
-/// The status that a log stands for.
-fn log_status(log: &[LogEntry]) -> Status
-    ensures { result ≡ log_status log.now }
-{
-    if has_failed(log) {
-        Status::SomeFailed
-    } else {
-        Status::Done
-    }
-}
+use std::sync::Wait;
 
 /// A text to write, and the status that goes with it.
 #[derive(Drop)]
@@ -75,18 +50,32 @@ fn text_of_told(alloc: Global, told: Result<Octets, Stop>) -> Result<Text, NoMem
     }
 }
 
-/// What is printed of a run.
-fn text_of_run(alloc: Global, ended: &Result<Ended, Unreported>) -> Result<Text, NoMemory>
-    ensures { IfOk result (λ p. IsTextOf (outcome_of ended.now) p.octets p.status) }
+/// What is printed of a run, in which no group telegrams are sent.
+fn text_of_report(alloc: Global, reported: &Reported) -> Result<Text, NoMemory>
+    ensures { IfOk result (λ p. IsTextOf (outcome_of (SimEnd.Reported reported.now)) p.octets p.status) }
 {
-    match ended {
-        Ok(ended) => {
-            let status = log_status(ended.report.log.as_slice());
-            let octets = report_of(alloc, &ended.report, &[ended.job], &[ended.device])?;
-            Ok(Text { status, octets })
-        }
-        Err(Unreported::Stopped(stop)) => text_of_stop(alloc, stop),
-        Err(Unreported::BrokenOff(want)) => Err(*want),
+    let octets = line_report_of(
+        alloc,
+        &reported.report,
+        reported.jobs.as_slice(),
+        0,
+        reported.devices.as_slice(),
+        reported.log,
+    )?;
+    Ok(Text {
+        status: line_status(&reported.report),
+        octets,
+    })
+}
+
+/// What is printed of `sim`.
+fn text_of_sim(alloc: Global, end: &SimEnd) -> Result<Text, NoMemory>
+    ensures { IfOk result (λ p. IsTextOf (outcome_of end.now) p.octets p.status) }
+{
+    match end {
+        SimEnd::Stopped(stop) => text_of_stop(alloc, stop),
+        SimEnd::BrokenOff(_, want) => Err(*want),
+        SimEnd::Reported(reported) => text_of_report(alloc, reported),
     }
 }
 
@@ -154,68 +143,80 @@ fn tell_decode<K: Sink>(alloc: Global, word: &str, out: &mut K) -> Status
 }
 
 /// `sim`: a run, and its report.
-fn tell_sim<F: Files, K: Sink>(
+fn tell_sim<R: Wait, F: Files, K: Sink>(
+    rt: &R,
     alloc: Global,
     names: SimNames<'_>,
     files: &mut F,
     out: &mut K,
-    sim: &mut Bench,
+    sim: &mut SimBus,
+    last: &mut Option<Report>,
 ) -> Status
-    ensures told { RunsScript (sim_words_of names.entry) (F.file files.old) (F.faults files.old) (F.faults files.new) sim.old sim.new (Replies (K.faults out.old) (K.faults out.new) (K.taken out.old) (K.taken out.new) result) }
+    ensures told { RunsScript (sim_words_of names.entry) (F.file files.old) (F.faults files.old) (F.faults files.new) sim.old (record { line = sim.new; report = last.new }) (Replies (K.faults out.old) (K.faults out.new) (K.taken out.old) (K.taken out.new) result) }
     ensures stays { (other : List ℕ) → F.file files.new other ≡ F.file files.old other }
     ensures written { K.writes out.new ≡ one_more (K.writes out.old) }
 {
     let texts = read_sim_texts(alloc, files, names);
-    let ended = commission(alloc, names, &texts, sim);
-    tell_text(out, text_of_run(alloc, &ended))
+    let end = commission(rt, alloc, names, &texts, sim);
+    let status = tell_text(out, text_of_sim(alloc, &end));
+    *last = end.report();
+    status
 }
 
-/// A command of words.
-fn run<F: Files, K: Sink>(
+/// A command of words, where no run was begun yet.
+fn run<R: Wait, F: Files, K: Sink>(
+    rt: &R,
     alloc: Global,
     command: Command<'_>,
     files: &mut F,
     out: &mut K,
-    sim: &mut Bench,
+    sim: &mut SimBus,
+    last: &mut Option<Report>,
 ) -> Status
-    ensures does { Does (Some (command_of command.entry)) (F.file files.old) (F.faults files.old) (F.faults files.new) sim.old sim.new (Replies (K.faults out.old) (K.faults out.new) (K.taken out.old) (K.taken out.new) result) }
+    requires { last.old ≡ None }
+    ensures does { Does (Some (command_of command.entry)) (F.file files.old) (F.faults files.old) (F.faults files.new) sim.old (record { line = sim.new; report = last.new }) (Replies (K.faults out.old) (K.faults out.new) (K.taken out.old) (K.taken out.new) result) }
     ensures stays { (other : List ℕ) → F.file files.new other ≡ F.file files.old other }
     ensures written { K.writes out.new ≡ one_more (K.writes out.old) }
 {
     match command {
         Command::Check(names) => tell_check(alloc, names, files, out),
         Command::Tables(names) => tell_tables(alloc, names, files, out),
-        Command::Sim(names) => tell_sim(alloc, names, files, out, sim),
+        Command::Sim(names) => tell_sim(rt, alloc, names, files, out, sim, last),
         Command::Decode(word) => tell_decode(alloc, word, out),
     }
 }
 
-/// What the words ask for is done.
-fn answer<F: Files, K: Sink>(
+/// What the words ask for is done, where no run was begun yet.
+fn answer<R: Wait, F: Files, K: Sink>(
+    rt: &R,
     alloc: Global,
     words: &[String],
     files: &mut F,
     out: &mut K,
-    sim: &mut Bench,
+    sim: &mut SimBus,
+    last: &mut Option<Report>,
 ) -> Status
-    ensures does { Does (asked (map string_bytes words.now)) (F.file files.old) (F.faults files.old) (F.faults files.new) sim.old sim.new (Replies (K.faults out.old) (K.faults out.new) (K.taken out.old) (K.taken out.new) result) }
+    requires { last.old ≡ None }
+    ensures does { Does (asked (map string_bytes words.now)) (F.file files.old) (F.faults files.old) (F.faults files.new) sim.old (record { line = sim.new; report = last.new }) (Replies (K.faults out.old) (K.faults out.new) (K.taken out.old) (K.taken out.new) result) }
     ensures stays { (other : List ℕ) → F.file files.new other ≡ F.file files.old other }
     ensures written { K.writes out.new ≡ one_more (K.writes out.old) }
 {
     match asked(words) {
-        Some(command) => run(alloc, command, files, out, sim),
+        Some(command) => run(rt, alloc, command, files, out, sim, last),
         None => tell(out, USAGE, Status::Usage),
     }
 }
 
 /// All that the program does: it reads the words, reads the files, begins and ends the run, and writes the text. The status is
-/// the program's exit status.
-pub fn knx<F: Files, K: Sink>(
+/// the program's exit status. `last` becomes the report of the run, and None where no run began.
+pub fn knx<R: Wait, F: Files, K: Sink>(
+    rt: &R,
     alloc: Global,
     words: &[String],
     files: &mut F,
     out: &mut K,
-    sim: &mut Bench,
+    sim: &mut SimBus,
+    last: &mut Option<Report>,
 ) -> Status
     // other words than a command's are told so
     ensures usage { asked (map string_bytes words.now) ≡ None → Replies (K.faults out.old) (K.faults out.new) (K.taken out.old) (K.taken out.new) result (Stops Usage) }
@@ -223,15 +224,29 @@ pub fn knx<F: Files, K: Sink>(
     ensures check { (names : ProjectWords) → asked (map string_bytes words.now) ≡ Some (AskedCheck names) → TellsOfProject IsCountsText names (F.file files.old) (F.faults files.old) (F.faults files.new) (Replies (K.faults out.old) (K.faults out.new) (K.taken out.old) (K.taken out.new) result) }
     ensures tables { (names : ProjectWords) → asked (map string_bytes words.now) ≡ Some (AskedTables names) → TellsOfProject IsTablesText names (F.file files.old) (F.faults files.old) (F.faults files.new) (Replies (K.faults out.old) (K.faults out.new) (K.taken out.old) (K.taken out.new) result) }
     ensures decode { (word : List ℕ) → asked (map string_bytes words.now) ≡ Some (AskedDecode word) → TellsOfFrame word (Replies (K.faults out.old) (K.faults out.new) (K.taken out.old) (K.taken out.new) result) }
-    ensures sim { (names : SimWords) → asked (map string_bytes words.now) ≡ Some (AskedSim names) → RunsScript names (F.file files.old) (F.faults files.old) (F.faults files.new) sim.old sim.new (Replies (K.faults out.old) (K.faults out.new) (K.taken out.old) (K.taken out.new) result) }
-    // whatever is cut, at every moment of a run the device keeps its starting content, or is stopped, or runs exactly what the project says
-    ensures old_stopped_or_new { HasRunOf (λ c t. AtEveryMoment c.project c.device t) (map string_bytes words.now) (F.file files.old) sim.old sim.new }
+    ensures sim { (names : SimWords) → asked (map string_bytes words.now) ≡ Some (AskedSim names) → RunsScript names (F.file files.old) (F.faults files.old) (F.faults files.new) sim.old (record { line = sim.new; report = last.new }) (Replies (K.faults out.old) (K.faults out.new) (K.taken out.old) (K.taken out.new) result) }
+    // a run begins as it is stated, and what happens on the line is legal and follows the script
+    ensures begins { HasRunOf BeganRightly (map string_bytes words.now) (F.file files.old) sim.old (record { line = sim.new; report = last.new }) }
+    // whatever is lost, repeated or cut, at every moment of a run each device keeps its starting content, or is stopped, or runs what the project says
+    ensures old_stopped_or_new { HasRunOf HasOldStoppedOrNew (map string_bytes words.now) (F.file files.old) sim.old (record { line = sim.new; report = last.new }) }
+    // each group telegram acts on exactly the objects that the running configuration links
+    ensures telegrams { HasRunOf HasTelegramsRight (map string_bytes words.now) (F.file files.old) sim.old (record { line = sim.new; report = last.new }) }
+    // done is told only where what the project says runs
+    ensures done { HasRunOf RunsWhereDone (map string_bytes words.now) (F.file files.old) sim.old (record { line = sim.new; report = last.new }) }
+    // no tunnelling request acts twice
+    ensures once { HasRunOf ActsOnce (map string_bytes words.now) (F.file files.old) sim.old (record { line = sim.new; report = last.new }) }
+    // no device has two downloaders at once, and the log tells nothing that the record doesn't show
+    ensures told { HasRunOf IsToldRightly (map string_bytes words.now) (F.file files.old) sim.old (record { line = sim.new; report = last.new }) }
+    // a run ends without its end exactly at a cause, and else every job has its end
+    ensures fault { HasRunOf HasFaultRight (map string_bytes words.now) (F.file files.old) sim.old (record { line = sim.new; report = last.new }) }
+    ensures over { HasRunOf EndsEveryJob (map string_bytes words.now) (F.file files.old) sim.old (record { line = sim.new; report = last.new }) }
     // only `sim` begins a run
-    ensures bench { ((names : SimWords) → asked (map string_bytes words.now) ≢ Some (AskedSim names)) → sim.new ≡ sim.old }
+    ensures line { ((names : SimWords) → asked (map string_bytes words.now) ≢ Some (AskedSim names)) → HasNoRun sim.old (record { line = sim.new; report = last.new }) }
     // what the files tell stays, the count of one file rose at most, and there is just one write
     ensures files { (name : List ℕ) → F.file files.new name ≡ F.file files.old name }
     ensures faults { AtMostOneRose (F.faults files.old) (F.faults files.new) }
     ensures written { K.writes out.new ≡ one_more (K.writes out.old) }
 {
-    answer(alloc, words, files, out, sim)
+    *last = None;
+    answer(rt, alloc, words, files, out, sim, last)
 }

@@ -5,6 +5,8 @@ ghost use Rattle.std.specs.Option.{option_map};
 ghost use Rattle.knx_top.specs.Command.{Command as Commanded, SpellsCommand, asked, catalogue_name, decode_word, options, project_words, sim_words};
 ghost use Rattle.knx_top.specs.Names.{command_of, named, project_words_of, sim_words_of, the_word};
 
+use crate::options::{SimOptions, behind, sim_options};
+
 /// The names in `P [catalogue=F]`.
 #[derive(Clone, Copy)]
 pub struct ProjectNames<'a> {
@@ -12,13 +14,13 @@ pub struct ProjectNames<'a> {
     pub catalogue: Option<&'a str>,
 }
 
-/// The names in `NEW OLD SCRIPT [catalogue=F]`.
+/// The names in `NEW OLD SCRIPT`, with options and jobs.
 #[derive(Clone, Copy)]
 pub struct SimNames<'a> {
     pub new: &'a str,
     pub old: &'a str,
     pub script: &'a str,
-    pub catalogue: Option<&'a str>,
+    pub options: SimOptions<'a>,
 }
 
 /// A command with its words.
@@ -28,7 +30,7 @@ pub enum Command<'a> {
     Check(ProjectNames<'a>),
     /// `tables P [catalogue=F]`
     Tables(ProjectNames<'a>),
-    /// `sim NEW OLD SCRIPT [catalogue=F]`
+    /// `sim NEW OLD SCRIPT [catalogue=F] [log]`, and jobs
     Sim(SimNames<'a>),
     /// `decode HEX`
     Decode(&'a str),
@@ -38,7 +40,7 @@ pub enum Command<'a> {
 fn catalogue_name(word: &str) -> Option<&str>
     ensures { option_map the_word result ≡ catalogue_name word.now }
 {
-    word.strip_prefix("catalogue=")
+    behind("catalogue=", word)
 }
 
 /// The catalogue that the options name, if they name one; none at all for other words.
@@ -71,12 +73,12 @@ fn sim_names(words: &[String]) -> Option<SimNames<'_>>
     let [new, old, script, others @ ..] = words else {
         return None;
     };
-    let catalogue = options(others)?;
+    let options = sim_options(others)?;
     Some(SimNames {
         new: new.as_str(),
         old: old.as_str(),
         script: script.as_str(),
-        catalogue,
+        options,
     })
 }
 

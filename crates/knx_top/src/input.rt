@@ -108,7 +108,7 @@ pub fn read_sim_texts<F: Files>(alloc: Global, files: &mut F, names: SimNames<'_
     ensures counts { OnlyRose (failed_of_sim (sim_words_of names.entry) result) (F.faults files.old) (F.faults files.new) }
     ensures stays { (other : List ℕ) → F.file files.new other ≡ F.file files.old other }
 {
-    let catalogue = read_named(alloc, files, names.catalogue);
+    let catalogue = read_named(alloc, files, names.options.catalogue);
     let new = read_after(alloc, files, &catalogue, names.new);
     let old = read_after(alloc, files, &new, names.old);
     let script = read_after(alloc, files, &old, names.script);

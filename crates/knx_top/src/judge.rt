@@ -1,100 +1,134 @@
-//! What was read is judged in order: the catalogue, NEW, OLD, then the script and its devices.
+//! What was read is judged in order: the catalogue, NEW, OLD, the script and its devices, then the devices of the jobs.
 
-ghost use Rattle.std.specs.Prelude.{◌≡◌, ◌≢◌, Err, IfOk, IfErr};
-ghost use Rattle.knx_model.specs.declared.command.InputFile.TheVariants.{New, Old};
+ghost use Rattle.std.specs.Prelude.{◌≡◌, ◌≢◌, Err, IfErr, IfOk};
+ghost use Rattle.std.specs.List.{list_any};
+ghost use Rattle.knx_model.specs.declared.command.InputFile.TheVariants.{Script as OfScript};
 ghost use Rattle.knx_model.specs.declared.command.Stop.TheVariants.{NoMemory as OutOfMemory};
-ghost use Rattle.knx_model.specs.Rules.{devices_of};
-ghost use Rattle.knx_top.specs.Judged.{Gives, built, judged, script_conditions, with_at_most};
-ghost use Rattle.knx_top.specs.Names.{sim_words_of};
-ghost use Rattle.knx_top.specs.Stops.{the_device};
-ghost use Rattle.knx_top.specs.Order.{IsBefore, IsImage, OrderFor};
+ghost use Rattle.knx_model.specs.ScriptText.{script_reading};
+ghost use Rattle.knx_top.specs.Begun.{BeginsLine, IsPrepared, OrderFor};
+ghost use Rattle.knx_top.specs.Judged.{Gives, judged, unless_refused, with_lines};
+ghost use Rattle.knx_top.specs.Names.{options_of, sim_words_of};
+ghost use Rattle.knx_top.specs.Stops.{is_group_line};
 
 use crate::command::SimNames;
-use crate::conditions::{Conditions, bench_conditions};
 use crate::input::SimTexts;
-use crate::project::{models_in, not_built, project_in, read_of, refusal, sound_in};
-use knx_model::{Image, IndAddr, InputFile, Stop};
+use crate::jobs::{all_planned, are_known, jobs_of};
+use crate::line::{compiled, line_begun, on_bus};
+use crate::options::{SimOptions, named_jobs};
+use crate::project::{models_in, not_built, project_in, read_of, refusal, sound_in, unknown_job};
+use bus_sim::SimBus;
+use hub_work::HubJob;
+use knx_model::{Image, IndAddr, InputFile, JobWord, List, NoMemory, ScriptLine, ScriptWhat, Stop};
 use project_check::Checked;
-use script_text::{first_stranger, read_script};
+use script_text::{Script, read_script};
 use std::alloc::Global;
-use table_compiler::compile;
 
-/// All that a run needs: NEW's device and image, OLD's image of it, and what the script says.
+/// All that a run is begun with.
 #[derive(Drop)]
 pub struct Order {
-    pub device: IndAddr,
-    pub image: Image,
-    pub before: Option<Image>,
-    pub conditions: Conditions,
+    /// The line, to which nothing was done.
+    pub line: SimBus,
+    /// The jobs, as words name them.
+    pub jobs: List<JobWord>,
+    /// The same jobs with their plans.
+    pub plans: List<HubJob>,
+    /// The devices on the line, ascending, each with NEW's image where NEW has it.
+    pub devices: List<(IndAddr, Option<Image>)>,
 }
 
-/// NEW's device, where it has just one.
-fn the_device(new: &Checked<'_, '_>) -> Result<IndAddr, Stop>
-    ensures { Gives (λ x. x) result (built New (the_device (devices_of new.now.statements))) }
+fn is_group_line(line: &ScriptLine) -> bool
+    ensures { result ≡ is_group_line line.now }
 {
-    match (new.counts().devices, new.first()) {
-        (1, Some(device)) => Ok(device),
-        _ => Err(not_built(InputFile::New)),
+    matches!(line.what, ScriptWhat::Group { .. })
+}
+
+/// A script, where it reads.
+fn script_in(alloc: Global, octets: &[u8]) -> Result<Script, Stop>
+    ensures { Gives (λ s. s.lines) result (unless_refused OfScript (script_reading octets.now)) }
+{
+    match read_script(alloc, octets) {
+        Ok(script) => Ok(script),
+        Err(refused) => Err(refusal(InputFile::Script, refused)),
     }
 }
 
-/// OLD has no device but this one.
-fn has_at_most(device: IndAddr, old: &Checked<'_, '_>) -> Result<(), Stop>
-    ensures { Gives (λ _. old.now) result (built Old (with_at_most device old.now)) }
+/// Whether a line of a script has a group telegram.
+fn has_groups(lines: &[ScriptLine]) -> bool
+    ensures { result ≡ list_any is_group_line lines.now }
 {
-    match (old.counts().devices, old.first()) {
-        (0, _) => Ok(()),
-        (1, Some(other)) if other.raw == device.raw => Ok(()),
-        _ => Err(not_built(InputFile::Old)),
-    }
+    lines.iter().any(|line| is_group_line(line))
 }
 
-/// The conditions of a script, where it reads, names no other device than this one and has no line but those that the bench has.
-fn conditions_in(alloc: Global, octets: &[u8], device: IndAddr) -> Result<Conditions, Stop>
-    ensures { Gives (λ conditions. conditions) result (script_conditions device octets.now) }
-{
-    let script = match read_script(alloc, octets) {
-        Ok(script) => script,
-        Err(refused) => return Err(refusal(InputFile::Script, refused)),
-    };
-    let lines = script.lines.as_slice();
-    if let Some(refused) = first_stranger(&[device], lines) {
-        return Err(refusal(InputFile::Script, refused));
-    }
-    bench_conditions(alloc, lines)?.ok_or(not_built(InputFile::Script))
-}
-
-/// The image of a device of a project.
-fn image_of(alloc: Global, checked: &Checked<'_, '_>, device: IndAddr) -> Result<Image, Stop>
-    ensures ok { IfOk result (λ image. IsImage checked.now device image) }
-    ensures err { IfErr result (λ why. why ≡ OutOfMemory tt) }
-{
-    let image = compile(alloc, checked, device)?;
-    Ok(image)
-}
-
-/// The image of a device where a project has it.
-fn image_before(
+/// What a run is begun with, over a line that has begun.
+fn order_of(
     alloc: Global,
-    checked: &Checked<'_, '_>,
-    device: IndAddr,
-) -> Result<Option<Image>, Stop>
-    ensures ok { IfOk result (λ image. IsBefore checked.now device image) }
-    ensures err { IfErr result (λ why. why ≡ OutOfMemory tt) }
+    named: &[JobWord],
+    new: &Checked<'_, '_>,
+    old: &Checked<'_, '_>,
+    line: SimBus,
+) -> Result<Order, NoMemory>
+    ensures line { IfOk result (λ order. order.line ≡ line) }
+    ensures prepared { IfOk result (λ order. IsPrepared new.now old.now named.now order) }
 {
-    if checked.has(device) {
-        Ok(Some(image_of(alloc, checked, device)?))
-    } else {
-        Ok(None)
+    let jobs = jobs_of(alloc, named, new)?;
+    let plans = all_planned(alloc, new, jobs.as_slice())?;
+    let bus = on_bus(alloc, new, old)?;
+    let devices = compiled(alloc, new, bus.as_slice())?;
+    Ok(Order {
+        line,
+        jobs,
+        plans,
+        devices,
+    })
+}
+
+/// The last tests, of the devices that the jobs name and of the form of a script, over a line that has begun.
+fn judge_jobs(
+    alloc: Global,
+    options: SimOptions<'_>,
+    new: &Checked<'_, '_>,
+    old: &Checked<'_, '_>,
+    lines: &[ScriptLine],
+    line: SimBus,
+) -> Result<Order, Stop>
+    requires { BeginsLine new.now old.now lines.now line.run }
+    ensures ok { IfOk result (λ order. OrderFor (with_lines (options_of options.entry) new.now old.now lines.now) order) }
+    ensures err { IfErr result (λ why. why ≢ OutOfMemory tt → with_lines (options_of options.entry) new.now old.now lines.now ≡ Err why) }
+{
+    let named = named_jobs(alloc, options)?;
+    if !are_known(new, named.as_slice()) {
+        return Err(unknown_job());
+    }
+    if has_groups(lines) {
+        return Err(not_built(InputFile::Script));
+    }
+    let order = order_of(alloc, named.as_slice(), new, old, line)?;
+    Ok(order)
+}
+
+/// The tests of a script and of the devices that it and the jobs name.
+fn judge_script(
+    alloc: Global,
+    options: SimOptions<'_>,
+    new: &Checked<'_, '_>,
+    old: &Checked<'_, '_>,
+    script: &Script,
+) -> Result<Order, Stop>
+    ensures ok { IfOk result (λ order. OrderFor (with_lines (options_of options.entry) new.now old.now script.now.lines) order) }
+    ensures err { IfErr result (λ why. why ≢ OutOfMemory tt → with_lines (options_of options.entry) new.now old.now script.now.lines ≡ Err why) }
+{
+    match line_begun(alloc, new, old, script) {
+        Ok(line) => judge_jobs(alloc, options, new, old, script.lines.as_slice(), line),
+        Err(why) => Err(why),
     }
 }
 
-/// What a run needs, or why the call stops before one.
+/// What a run is begun with, or why the call stops before one.
 pub fn judge(alloc: Global, names: SimNames<'_>, texts: &SimTexts) -> Result<Order, Stop>
     ensures ok { IfOk result (λ order. OrderFor (judged (sim_words_of names.entry) texts.now) order) }
     ensures err { IfErr result (λ why. why ≢ OutOfMemory tt → judged (sim_words_of names.entry) texts.now ≡ Err why) }
 {
-    read_of(alloc, names.catalogue, &texts.catalogue)?;
+    read_of(alloc, names.options.catalogue, &texts.catalogue)?;
     let new = read_of(alloc, Some(names.new), &texts.new)?;
     let old = read_of(alloc, Some(names.old), &texts.old)?;
     let script = read_of(alloc, Some(names.script), &texts.script)?;
@@ -103,15 +137,7 @@ pub fn judge(alloc: Global, names: SimNames<'_>, texts: &SimTexts) -> Result<Ord
     let new = sound_in(alloc, InputFile::New, &new, &models)?;
     let old = project_in(alloc, InputFile::Old, old)?;
     let old = sound_in(alloc, InputFile::Old, &old, &models)?;
-    let device = the_device(&new)?;
-    has_at_most(device, &old)?;
-    let conditions = conditions_in(alloc, script, device)?;
-    let image = image_of(alloc, &new, device)?;
-    let before = image_before(alloc, &old, device)?;
-    Ok(Order {
-        device,
-        image,
-        before,
-        conditions,
-    })
+    let script = script_in(alloc, script)?;
+    let order = judge_script(alloc, names.options, &new, &old, &script)?;
+    Ok(order)
 }

@@ -7,7 +7,7 @@ ghost use Rattle.knx_model.specs.Statements.{reading};
 ghost use Rattle.knx_top.specs.Input.{fault_told};
 ghost use Rattle.knx_top.specs.Judged.{Gives, models_of, read_of, sound, unless_refused};
 ghost use Rattle.knx_top.specs.Names.{named};
-ghost use Rattle.knx_top.specs.Stops.{not_built};
+ghost use Rattle.knx_top.specs.Stops.{not_built, unknown_job};
 
 use crate::input::Reading;
 use catalogue::read_catalogue;
@@ -25,6 +25,14 @@ pub fn not_built(place: InputFile) -> Stop
 {
     let why = Why::NotBuilt;
     Stop::Refused(place, Refused { line: 0, why })
+}
+
+/// A job names a device that the project hasn't.
+pub fn unknown_job() -> Stop
+    ensures { result ≡ unknown_job }
+{
+    let why = Why::NoDevice;
+    Stop::Refused(InputFile::New, Refused { line: 0, why })
 }
 
 /// Why the call stops at a file of this name that couldn't be read.

@@ -1,4 +1,4 @@
-use crate::{Bench, Status, knx};
+use crate::{SimBus, Status, knx};
 use knx_model::{MemoryFile, MemoryFiles, MemorySink, NoMemory};
 use std::alloc::Global;
 use std::test::Fail;
@@ -73,8 +73,9 @@ fn faults_of_the_outside_are_told(rt: HostRuntime) -> Result<(), Fail> {
         let mut files = files(alloc, reads).ok().ok_or("memory")?;
         let mut out = MemorySink::new(alloc);
         out.failing = Vec::from_slice(alloc, writes)?;
-        let mut bench = Bench::empty(alloc);
-        let told = knx(alloc, words.as_slice(), &mut files, &mut out, &mut bench);
+        let mut sim = SimBus::empty(alloc);
+        let mut last = None;
+        let told = knx(&rt, alloc, words.as_slice(), &mut files, &mut out, &mut sim, &mut last);
         assert_eq!(rt; told, status, "{line}");
         assert_eq!(rt; out.taken.as_slice(), text.as_bytes(), "{line}");
     }

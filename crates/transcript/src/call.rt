@@ -3,8 +3,9 @@
 use crate::fault::Fault;
 use crate::text::TextFile;
 use knx_model::{MemoryFile, MemoryFiles, MemorySink, NoMemory};
-use knx_top::{Bench, knx};
+use knx_top::{SimBus, knx};
 use std::alloc::Global;
+use std::sync::Wait;
 
 /// The longest output that is copied, in octets.
 const LONGEST_COPIED: usize = 2_000;
@@ -44,7 +45,8 @@ fn put_output(alloc: Global, out: &mut String, written: &[u8]) -> Result<(), Fau
 }
 
 /// Adds what a call with these words writes, and its status.
-pub fn put_call(
+pub fn put_call<R: Wait>(
+    rt: &R,
     alloc: Global,
     out: &mut String,
     texts: &[TextFile],
@@ -56,8 +58,9 @@ pub fn put_call(
     }
     let mut files = files_of(alloc, texts)?;
     let mut sink = MemorySink::new(alloc);
-    let mut sim = Bench::empty(alloc);
-    let status = knx(alloc, words.as_slice(), &mut files, &mut sink, &mut sim);
+    let mut sim = SimBus::empty(alloc);
+    let mut last = None;
+    let status = knx(rt, alloc, words.as_slice(), &mut files, &mut sink, &mut sim, &mut last);
     put_output(alloc, out, sink.taken.as_slice())?;
     let status = status.number();
     out.push_str(format!(in alloc; "status {status}\n")?.as_str())?;

@@ -17,6 +17,7 @@ use crate::fault::Fault;
 use crate::text::{TextFile, unescaped};
 use std::alloc::Global;
 use std::io;
+use std::sync::Wait;
 
 /// The file that a `>` line states.
 const STATED: &str = "s";
@@ -66,14 +67,14 @@ impl Transcript {
     }
 
     /// A line outside of all files.
-    fn follow(&mut self, alloc: Global, line: &str) -> Result<(), Fault> {
+    fn follow<R: Wait>(&mut self, rt: &R, alloc: Global, line: &str) -> Result<(), Fault> {
         if let Some(name) = line.strip_prefix("file ") {
             self.open = Some(TextFile::new(alloc, name)?);
             return Ok(());
         }
         self.put_line(line)?;
         if let Some(words) = line.strip_prefix("$ ") {
-            put_call(alloc, &mut self.out, self.files.as_slice(), words)?;
+            put_call(rt, alloc, &mut self.out, self.files.as_slice(), words)?;
         } else if let Some(words) = line.strip_prefix("with ") {
             self.words = String::from_str(alloc, words)?;
         } else if let Some(text) = line.strip_prefix("> ") {
@@ -81,6 +82,7 @@ impl Transcript {
             let name = String::from_str(alloc, STATED)?;
             self.put_file(TextFile { name, content })?;
             put_call(
+                rt,
                 alloc,
                 &mut self.out,
                 self.files.as_slice(),
@@ -90,10 +92,10 @@ impl Transcript {
         Ok(())
     }
 
-    fn read(&mut self, alloc: Global, line: &str) -> Result<(), Fault> {
+    fn read<R: Wait>(&mut self, rt: &R, alloc: Global, line: &str) -> Result<(), Fault> {
         match self.open.take() {
             Some(file) => self.add_to(alloc, file, line),
-            None => self.follow(alloc, line),
+            None => self.follow(rt, alloc, line),
         }
     }
 }
@@ -103,7 +105,7 @@ fn main(rt: HostRuntime) -> Result<(), Fault> {
     let input = io::read_to_string(alloc, rt.stdin())?;
     let mut transcript = Transcript::new(alloc);
     for line in input.lines() {
-        transcript.read(alloc, line)?;
+        transcript.read(&rt, alloc, line)?;
     }
     rt.print(transcript.out.as_str())?;
     Ok(())

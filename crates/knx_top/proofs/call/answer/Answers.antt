@@ -5,4 +5,4 @@ pub returns-in-Some-clause-does : goal.returns-in-Some-clause-does
 returns-in-Some-clause-does g c = rw (sym c.in-Some.ensures) c.run.ensures.does
 
 pub returns-in-None-clause-does : goal.returns-in-None-clause-does
-returns-in-None-clause-does g c = rw (sym c.in-None.ensures) (c.tell.ensures.told, (λ _. refl), refl)
+returns-in-None-clause-does g c = rw (sym c.in-None.ensures) (c.tell.ensures.told, (λ _. refl), record { line = refl; report = c.requires })

@@ -1,4 +1,6 @@
-use Rattle.knx_top.proofs.Calls.{usage_of, check_of, tables_of, decode_of, sim_of, bench_of, faults_in, old_of}
+use Rattle.knx_top.specs.Headline.{BeganRightly, HasOldStoppedOrNew, HasTelegramsRight, RunsWhereDone, ActsOnce, IsToldRightly, HasFaultRight, EndsEveryJob}
+use Rattle.knx_top.proofs.Calls.{usage_of, check_of, tables_of, decode_of, sim_of, line_of, faults_in, ran_of}
+use Rattle.knx_top.proofs.Promised as promised
 use Rattle.knx_top.proofs.call.knx.Goals as goal
 
 pub returns-clause-usage : goal.returns-clause-usage
@@ -16,11 +18,32 @@ returns-clause-decode g c = λ word. decode_of _ _ _ _ _ _ _ word c.answer.ensur
 pub returns-clause-sim : goal.returns-clause-sim
 returns-clause-sim g c = λ names. sim_of _ _ _ _ _ _ _ names c.answer.ensures.does
 
-pub returns-clause-old_stopped_or_new : goal.returns-clause-old_stopped_or_new
-returns-clause-old_stopped_or_new g c = old_of _ _ _ _ _ _ _ c.answer.ensures.does
-
-pub returns-clause-bench : goal.returns-clause-bench
-returns-clause-bench g c = bench_of _ _ _ _ _ _ _ c.answer.ensures.does
+pub returns-clause-line : goal.returns-clause-line
+returns-clause-line g c = line_of _ _ _ _ _ _ _ c.answer.ensures.does
 
 pub returns-clause-faults : goal.returns-clause-faults
 returns-clause-faults g c = faults_in _ _ _ _ _ _ _ c.answer.ensures.does
+
+pub returns-clause-begins : goal.returns-clause-begins
+returns-clause-begins g c = ran_of BeganRightly promised.began _ _ _ _ _ _ _ c.answer.ensures.does
+
+pub returns-clause-old_stopped_or_new : goal.returns-clause-old_stopped_or_new
+returns-clause-old_stopped_or_new g c = ran_of HasOldStoppedOrNew promised.old_stopped_or_new _ _ _ _ _ _ _ c.answer.ensures.does
+
+pub returns-clause-telegrams : goal.returns-clause-telegrams
+returns-clause-telegrams g c = ran_of HasTelegramsRight promised.telegrams_right _ _ _ _ _ _ _ c.answer.ensures.does
+
+pub returns-clause-done : goal.returns-clause-done
+returns-clause-done g c = ran_of RunsWhereDone promised.runs_where_done _ _ _ _ _ _ _ c.answer.ensures.does
+
+pub returns-clause-once : goal.returns-clause-once
+returns-clause-once g c = ran_of ActsOnce promised.acts_once _ _ _ _ _ _ _ c.answer.ensures.does
+
+pub returns-clause-told : goal.returns-clause-told
+returns-clause-told g c = ran_of IsToldRightly promised.told_rightly _ _ _ _ _ _ _ c.answer.ensures.does
+
+pub returns-clause-fault : goal.returns-clause-fault
+returns-clause-fault g c = ran_of HasFaultRight promised.fault_right _ _ _ _ _ _ _ c.answer.ensures.does
+
+pub returns-clause-over : goal.returns-clause-over
+returns-clause-over g c = ran_of EndsEveryJob promised.ends_every_job _ _ _ _ _ _ _ c.answer.ensures.does

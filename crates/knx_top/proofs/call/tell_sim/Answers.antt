@@ -5,5 +5,5 @@ use Rattle.knx_top.proofs.call.tell_sim.Goals as goal
 
 pub returns-clause-told : goal.returns-clause-told
 returns-clause-told g c =
-    sim_runs (sim_words_of c.args.names) _ _ _ _ _ _ c.read_sim_texts-texts.result (outcome_of c.commission-ended.result)
-    c.read_sim_texts-texts.ensures.read c.read_sim_texts-texts.ensures.counts c.commission-ended.ensures (c.tell_text.ensures.told (outcome_of c.commission-ended.result) c.text_of_run.ensures)
+    sim_runs (sim_words_of c.args.names) _ _ _ _ _ _ c.read_sim_texts-texts.result (outcome_of c.commission-end.result)
+    c.read_sim_texts-texts.ensures.read c.read_sim_texts-texts.ensures.counts c.commission-end.ensures c.report.ensures (c.tell_text-status.ensures.told (outcome_of c.commission-end.result) c.text_of_sim.ensures)

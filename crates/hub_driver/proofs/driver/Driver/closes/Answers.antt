@@ -1,0 +1,24 @@
+use Rattle.std.proofs.Common.{rules, sym, subst, ◌∙◌}
+use Rattle.tunnel_link.specs.Goes.{GoesOn}
+use Rattle.tunnel_link.proofs.Stories.{goes_again}
+use Rattle.hub_driver.proofs.driver.Driver.closes.Goals.{in-None, in-Some+in_ok-finishes+then-branch}
+use Rattle.hub_driver.proofs.driver.Driver.closes.Goals as goal
+
+pub returns-in_err-finishes-clause-grows : goal.returns-in_err-finishes-clause-grows
+returns-in_err-finishes-clause-grows g c = goes_again _ _ _ c.loop.invariant.grows c.finishes.ensures.grows
+
+pub loop-preserved : goal.loop-preserved
+loop-preserved g c = record {
+  next = tt;
+  finite = tt;
+  grows = goes_again _ _ _ c.loop.invariant.grows c.finishes.ensures.grows;
+  run = search rules;
+  log = c.finishes.ensures.log ∙ c.loop.invariant.log;
+}
+
+pub returns-clause-grows : goal.returns-clause-grows
+returns-clause-grows g c = elim c.match-next.branch [
+  | in-None w ↦ subst (λ s. GoesOn (g.L.Link.story c.args.self.now.hub.link) (g.L.Link.story s.hub.link)) (sym w.self-is) c.loop.invariant.grows
+  | in-Some+in_ok-finishes+then-branch w ↦
+      subst (λ s. GoesOn (g.L.Link.story c.args.self.now.hub.link) (g.L.Link.story s.hub.link)) (sym w.self-is) (goes_again _ _ _ c.loop.invariant.grows w.finishes.ensures.grows)
+]

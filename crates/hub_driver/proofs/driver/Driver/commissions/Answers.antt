@@ -1,0 +1,18 @@
+use Rattle.std.proofs.Common.{rules}
+use Rattle.tunnel_link.proofs.Stories.{goes_again}
+use Rattle.hub_driver.proofs.driver.Driver.commissions.Goals as goal
+
+pub returns-in_err-works-clause-grows : goal.returns-in_err-works-clause-grows
+returns-in_err-works-clause-grows g c = goes_again _ _ _ c.loop.invariant.grows c.works.ensures.grows
+
+pub returns-in_err-tells-clause-grows : goal.returns-in_err-tells-clause-grows
+returns-in_err-tells-clause-grows g c = goes_again _ _ _ (goes_again _ _ _ c.loop.invariant.grows c.works.ensures.grows) c.tells.ensures.grows
+
+pub loop-preserved : goal.loop-preserved
+loop-preserved g c = record {
+  next = tt;
+  finite = tt;
+  grows = goes_again _ _ _ (goes_again _ _ _ c.loop.invariant.grows c.works.ensures.grows) c.tells.ensures.grows;
+  run = search rules;
+  open_jobs = c.tells.ensures.open;
+}

@@ -1,0 +1,14 @@
+use Rattle.hub_core.specs.Seen.{SameRun}
+use Rattle.tunnel_link.specs.Goes.{GoesOn}
+use Rattle.hub_driver.specs.Drives.{LeavesOpen}
+use Rattle.hub_driver.proofs.driver.Driver.commissions.Given as goal
+
+-- the link's story goes on, and so many jobs have no end yet
+abbrev pub invariant-loop : goal.invariant-loop
+invariant-loop g l = record {
+  next : (goal.iterator-loop g).can_next l.iterator';
+  finite : (goal.iterator-loop g).is_finite l.iterator';
+  grows : GoesOn (g.L.Link.story l.fn.self.hub.link) (g.L.Link.story l.self.hub.link);
+  run : SameRun l.fn.self.hub l.self.hub;
+  open_jobs : LeavesOpen l.self.hub l.self.unfinished;
+}

@@ -1,0 +1,5 @@
+use Rattle.tunnel_link.proofs.Stories.{goes_again}
+use Rattle.hub_driver.proofs.driver.Driver.runs.Goals as goal
+
+pub returns-clause-grows : goal.returns-clause-grows
+returns-clause-grows g c = goes_again _ _ _ c.commissions.ensures.grows c.closes.ensures.grows

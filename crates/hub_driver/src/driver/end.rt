@@ -1,0 +1,66 @@
+//! What is told of a run.
+
+ghost use Rattle.std.specs.Prelude.{◌≡◌, None, IfSome, List, reverse};
+ghost use Rattle.std.specs.List.{AllByRecursion};
+ghost use Rattle.hub_core.specs.Promises.{IsRightOver, FaultRightIn, DropsIn};
+ghost use Rattle.hub_core.specs.Seen.{AreJobs};
+ghost use Rattle.hub_driver.specs.Drives.{AllDone, HasEndedSo, TellsFault};
+ghost use Rattle.hub_work.specs.Books.{AreJobsOf};
+ghost use Rattle.line_model.specs.Headline.{Keeps, IsGoodJob};
+ghost use Rattle.line_model.specs.LinkStory.{record_in};
+ghost use Rattle.line_model.specs.Log.{Job, IsLog, OneDownloaderPerDevice, AllOver, TurnUnfinished};
+
+use super::Driver;
+use hub_core::{HubEnd, HubFault};
+use line_model::{Link, Report};
+
+/// The fault that is told of a hub that has ended so, or goes on, and was broken off for this, or wasn't.
+fn told_fault(ended: Option<HubFault>, broken_off: Option<HubFault>) -> Option<HubFault>
+    requires cause { IfSome broken_off (HasEndedSo ended) }
+    ensures fault { TellsFault ended result }
+    ensures none { result ≡ None → broken_off ≡ None }
+{
+    match ended {
+        Some(fault) => Some(fault),
+        None => broken_off,
+    }
+}
+
+impl<L: Link> Driver<L> {
+    /// Hands the link back, and what is told of a run that was broken off for this, or wasn't.
+    pub(super) fn close(self, broken_off: Option<HubFault>) -> (L, Report)
+        requires done { broken_off ≡ None → AllDone self.hub }
+        requires cause { IfSome broken_off (HasEndedSo self.hub.fault) }
+        ensures link { result.0 ≡ self.hub.link }
+        ensures headline { (all : List Job) → AreJobs self.hub.jobs all → Keeps all self.hub.turns (L.story result.0) (reverse result.1.log) }
+        ensures right { (all : List Job) → AreJobs self.hub.jobs all → AllByRecursion IsGoodJob all → IsRightOver all (L.story result.0) (reverse result.1.log) }
+        ensures fault { (all : List Job) → AreJobs self.hub.jobs all → FaultRightIn all (reverse result.1.log) result.1.fault (record_in (L.story result.0)) }
+        ensures dropped { DropsIn result.1.dropped (record_in (L.story result.0)) }
+        ensures form { (all : List Job) → AreJobsOf self.hub.devices all → IsLog all self.hub.turns (L.place result.0) (reverse result.1.log) }
+        ensures alone { (all : List Job) → AreJobsOf self.hub.devices all → OneDownloaderPerDevice all (reverse result.1.log) }
+        ensures over { result.1.fault ≡ None → (all : List Job) → AreJobsOf self.hub.devices all → AllOver all (reverse result.1.log) }
+        ensures told { result.1.fault ≡ None → ¬ TurnUnfinished self.hub.turns (reverse result.1.log) }
+    {
+        let Driver {
+            hub,
+            unfinished: _,
+            heard,
+        } = self;
+        hub.keeps();
+        let HubEnd {
+            link,
+            log,
+            missed,
+            dropped,
+            fault,
+        } = hub.close();
+        let report = Report {
+            log,
+            heard,
+            missed,
+            dropped,
+            fault: told_fault(fault, broken_off),
+        };
+        (link, report)
+    }
+}

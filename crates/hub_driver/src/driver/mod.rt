@@ -1,0 +1,211 @@
+//! A hub with its only caller.
+
+mod end;
+
+ghost use Rattle.std.specs.Prelude.{◌≡◌, ◌+◌, None, List, [], ◌∷◌, ◌++◌, IfErr, OnOk, true, length, reverse};
+ghost use Rattle.std.specs.List.{AllByRecursion};
+ghost use Rattle.hub_core.specs.Promises.{IsRightOver, FaultRightIn, DropsIn};
+ghost use Rattle.hub_core.specs.Seen.{SameRun, AreJobs};
+ghost use Rattle.hub_driver.specs.Drives.{ends, LeavesOpen, AllDone, IsNoMemory, HasEndedSo};
+ghost use Rattle.hub_work.specs.Books.{AreJobsOf};
+ghost use Rattle.line_model.specs.Headline.{Keeps, IsGoodJob};
+ghost use Rattle.line_model.specs.LinkStory.{record_in};
+ghost use Rattle.line_model.specs.Log.{Job, IsLog, OneDownloaderPerDevice, AllOver, TurnUnfinished};
+ghost use Rattle.tunnel_link.specs.Goes.{GoesOn};
+
+use hub_core::{Finished, GroupDid, Hub, HubFault, Indication, Pumped, Turned};
+use knx_model::List;
+use line_model::{Gate, Link, Report};
+use std::alloc::Global;
+use std::sync::Wait;
+
+const WORKER: u8 = 1;
+
+/// A hub with its only caller.
+///
+/// ```text
+///   turn about:   turn(1), and a pump where it answers Wait or Later
+///                 send_group(k), and a pump where it answers Wait
+///   then:         finish, until it answers Over
+/// ```
+#[derive(Drop)]
+pub struct Driver<L: Link> {
+    hub: Hub<L>,
+    /// How many jobs have no end yet.
+    unfinished: usize,
+    heard: List<Indication>,
+}
+
+impl<L: Link> Driver<L> {
+    /// A hub of so many jobs, of which nothing is done.
+    pub fn new(alloc: Global, hub: Hub<L>, jobs: usize) -> Driver<L>
+        ensures hub { result.hub ≡ hub }
+        ensures unfinished { result.unfinished ≡ jobs }
+        ensures heard { result.heard ≡ [] }
+    {
+        Driver {
+            hub,
+            unfinished: jobs,
+            heard: List::new(alloc),
+        }
+    }
+
+    /// Goes through all jobs and group telegrams, and then through the closing. It gives the link back, and what is told.
+    pub fn drives<R: Wait, G: Gate>(self, rt: &R, gate: &G) -> (L, Report)
+        requires open { LeavesOpen self.hub self.unfinished }
+        ensures grows { GoesOn (L.story self.hub.link) (L.story result.0) }
+        ensures headline { (all : List Job) → AreJobs self.hub.jobs all → Keeps all self.hub.turns (L.story result.0) (reverse result.1.log) }
+        ensures right { (all : List Job) → AreJobs self.hub.jobs all → AllByRecursion IsGoodJob all → IsRightOver all (L.story result.0) (reverse result.1.log) }
+        ensures fault { (all : List Job) → AreJobs self.hub.jobs all → FaultRightIn all (reverse result.1.log) result.1.fault (record_in (L.story result.0)) }
+        ensures dropped { DropsIn result.1.dropped (record_in (L.story result.0)) }
+        ensures form { (all : List Job) → AreJobsOf self.hub.devices all → IsLog all self.hub.turns (L.place result.0) (reverse result.1.log) }
+        ensures alone { (all : List Job) → AreJobsOf self.hub.devices all → OneDownloaderPerDevice all (reverse result.1.log) }
+        ensures over { result.1.fault ≡ None → (all : List Job) → AreJobsOf self.hub.devices all → AllOver all (reverse result.1.log) }
+        ensures told { result.1.fault ≡ None → ¬ TurnUnfinished self.hub.turns (reverse result.1.log) }
+    {
+        let mut driver = self;
+        let ended = driver.runs(rt, gate);
+        driver.close(ended.err())
+    }
+
+    /// Goes through all jobs and group telegrams, and then through the closing.
+    fn runs<R: Wait, G: Gate>(&mut self, rt: &R, gate: &G) -> Result<(), HubFault>
+        requires open { LeavesOpen self.old.hub self.old.unfinished }
+        ensures grows { GoesOn (L.story self.old.hub.link) (L.story self.new.hub.link) }
+        ensures run { SameRun self.old.hub self.new.hub }
+        ensures done { OnOk result (AllDone self.new.hub) }
+        ensures cause { IfErr result (HasEndedSo self.new.hub.fault) }
+    {
+        self.commissions(rt, gate)?;
+        self.closes(rt)
+    }
+
+    /// Goes through all jobs and group telegrams.
+    fn commissions<R: Wait, G: Gate>(&mut self, rt: &R, gate: &G) -> Result<(), HubFault>
+        requires open { LeavesOpen self.old.hub self.old.unfinished }
+        ensures grows { GoesOn (L.story self.old.hub.link) (L.story self.new.hub.link) }
+        ensures run { SameRun self.old.hub self.new.hub }
+        ensures done { OnOk result (AllDone self.new.hub) }
+        ensures cause { IfErr result (HasEndedSo self.new.hub.fault) }
+    {
+        for _ in rt.forever() {
+            if self.has_done_all() {
+                break;
+            }
+            self.works(gate)?;
+            self.tells()?;
+        }
+        Ok(())
+    }
+
+    /// Whether each job has its end, and each group telegram is told.
+    fn has_done_all(&self) -> bool
+        requires open { LeavesOpen self.now.hub self.now.unfinished }
+        ensures { result ≡ true → AllDone self.now.hub }
+    {
+        self.hub.keeps();
+        self.unfinished == 0 && self.hub.next_group().is_none()
+    }
+
+    /// One turn of the worker, and a poll where it waits.
+    fn works<G: Gate>(&mut self, gate: &G) -> Result<(), HubFault>
+        requires open { LeavesOpen self.old.hub self.old.unfinished }
+        ensures grows { GoesOn (L.story self.old.hub.link) (L.story self.new.hub.link) }
+        ensures run { SameRun self.old.hub self.new.hub }
+        ensures open { LeavesOpen self.new.hub self.new.unfinished }
+        ensures cause { IfErr result (HasEndedSo self.new.hub.fault) }
+    {
+        match self.hub.turn(WORKER)? {
+            Turned::Took(job) => gate.pass(job),
+            Turned::Wait | Turned::Later => self.pumps()?,
+            Turned::Done(_) | Turned::Failed(_) | Turned::Refused(_) => self.ended(),
+            Turned::Moved | Turned::NoMore => {}
+        }
+        Ok(())
+    }
+
+    /// One job more has its end.
+    fn ended(&mut self)
+        requires one_more { self.old.unfinished + ends self.old.hub.log ≡ length self.old.hub.devices + 1 }
+        ensures hub { self.new.hub ≡ self.old.hub }
+        ensures open { LeavesOpen self.new.hub self.new.unfinished }
+    {
+        self.hub.keeps();
+        self.unfinished -= 1;
+    }
+
+    /// One step of the next group telegram, and a poll where it waits.
+    #[tactic(auto, using(crate::proofs::Telling::no_end_told))]
+    fn tells(&mut self) -> Result<(), HubFault>
+        requires open { LeavesOpen self.old.hub self.old.unfinished }
+        ensures grows { GoesOn (L.story self.old.hub.link) (L.story self.new.hub.link) }
+        ensures run { SameRun self.old.hub self.new.hub }
+        ensures open { LeavesOpen self.new.hub self.new.unfinished }
+        ensures cause { IfErr result (HasEndedSo self.new.hub.fault) }
+    {
+        let Some(k) = self.hub.next_group() else {
+            return Ok(());
+        };
+        match self.hub.send_group(k)? {
+            GroupDid::Wait => self.pumps(),
+            GroupDid::Put | GroupDid::Sent | GroupDid::Lost => Ok(()),
+        }
+    }
+
+    /// One poll.
+    fn pumps(&mut self) -> Result<(), HubFault>
+        ensures grows { GoesOn (L.story self.old.hub.link) (L.story self.new.hub.link) }
+        ensures run { SameRun self.old.hub self.new.hub }
+        ensures log { self.new.hub.log ≡ self.old.hub.log }
+        ensures unfinished { self.new.unfinished ≡ self.old.unfinished }
+        ensures cause { IfErr result (HasEndedSo self.new.hub.fault) }
+    {
+        match self.hub.pump()? {
+            Pumped::Heard(indication) => self.hears(indication),
+            Pumped::Nothing | Pumped::Moved => Ok(()),
+        }
+    }
+
+    /// The closing.
+    fn closes<R: Wait>(&mut self, rt: &R) -> Result<(), HubFault>
+        ensures grows { GoesOn (L.story self.old.hub.link) (L.story self.new.hub.link) }
+        ensures run { SameRun self.old.hub self.new.hub }
+        ensures log { self.new.hub.log ≡ self.old.hub.log }
+        ensures cause { IfErr result (HasEndedSo self.new.hub.fault) }
+    {
+        for _ in rt.forever() {
+            if self.finishes()? {
+                break;
+            }
+        }
+        Ok(())
+    }
+
+    /// One step of the closing. Tells whether it is over.
+    fn finishes(&mut self) -> Result<bool, HubFault>
+        ensures grows { GoesOn (L.story self.old.hub.link) (L.story self.new.hub.link) }
+        ensures run { SameRun self.old.hub self.new.hub }
+        ensures log { self.new.hub.log ≡ self.old.hub.log }
+        ensures cause { IfErr result (HasEndedSo self.new.hub.fault) }
+    {
+        match self.hub.finish()? {
+            Finished::Heard(indication) => {
+                self.hears(indication)?;
+                Ok(false)
+            }
+            Finished::Going => Ok(false),
+            Finished::Over => Ok(true),
+        }
+    }
+
+    /// A group telegram was heard.
+    fn hears(&mut self, indication: Indication) -> Result<(), HubFault>
+        ensures hub { self.new.hub ≡ self.old.hub }
+        ensures unfinished { self.new.unfinished ≡ self.old.unfinished }
+        ensures heard { OnOk result (self.new.heard ≡ self.old.heard ++ indication ∷ []) }
+        ensures cause { IfErr result IsNoMemory }
+    {
+        self.heard.push(indication)?;
+        Ok(())
+    }
+}

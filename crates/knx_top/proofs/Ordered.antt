@@ -1,0 +1,38 @@
+-- The last tests of `sim`, and what a run is begun with.
+use Rattle.std.proofs.Common.{◌≡◌, ◌≢◌, Bool, true, false, List, map, None, Result, Ok, Err, refl, subst, sym}
+use Rattle.std.specs.List.{list_all, list_any}
+use Rattle.bus_sim.specs.Loaded.{BusNow}
+use Rattle.knx_model.specs.declared.command.InputFile.TheVariants as file
+use Rattle.knx_model.specs.declared.command.Stop.{Stop}
+use Rattle.knx_model.specs.declared.command.Stop.TheVariants as stop
+use Rattle.knx_model.specs.declared.log.JobWord.{JobWord}
+use Rattle.knx_model.specs.declared.script.ScriptLine.{ScriptLine}
+use Rattle.knx_model.specs.Meaning.{Installation}
+use Rattle.knx_top.specs.Begun.{BeginsLine, IsPrepared, OrderFor}
+use Rattle.knx_top.specs.Command.{SimOptions}
+use Rattle.knx_top.specs.Judged.{unless_strange, with_lines}
+use Rattle.knx_top.specs.Stops.{is_group_line, is_known, not_built, unknown_job}
+use Rattle.knx_top.specs.declared.judge.Order.{Order}
+
+pub strange_ends : (o : SimOptions) (new old : Installation) (lines : List ScriptLine) (why : Stop) → (why ≢ stop.NoMemory tt → unless_strange new old lines ≡ Err why) → why ≢ stop.NoMemory tt → with_lines o new old lines ≡ Err why
+strange_ends o new old lines why h w = rw (h w) refl
+
+pub unknown_ends : (o : SimOptions) (new old : Installation) (lines : List ScriptLine) (named : List JobWord) (line : BusNow) → BeginsLine new old lines line.run → named ≡ o.jobs → list_all (is_known new) named ≡ false → with_lines o new old lines ≡ Err unknown_job
+unknown_ends o new old lines named line begins are all =
+    let these : list_all (is_known new) o.jobs ≡ false = subst (λ (jobs : List JobWord). list_all (is_known new) jobs ≡ false) are all in
+    rw (begins.known, these) refl
+
+pub grouped_ends : (o : SimOptions) (new old : Installation) (lines : List ScriptLine) (named : List JobWord) (line : BusNow) → BeginsLine new old lines line.run → named ≡ o.jobs → list_all (is_known new) named ≡ true → list_any is_group_line lines ≡ true
+    → with_lines o new old lines ≡ Err (not_built file.Script)
+grouped_ends o new old lines named line begins are all groups =
+    let these : list_all (is_known new) o.jobs ≡ true = subst (λ (jobs : List JobWord). list_all (is_known new) jobs ≡ true) are all in
+    rw (begins.known, these, groups) refl
+
+pub ordered : (o : SimOptions) (new old : Installation) (lines : List ScriptLine) (named : List JobWord) (line : BusNow) (order : Order) → BeginsLine new old lines line.run → named ≡ o.jobs → list_all (is_known new) named ≡ true → list_any is_group_line lines ≡ false
+    → order.line ≡ line → IsPrepared new old named order → OrderFor (with_lines o new old lines) order
+ordered o new old lines named line order begins are all groups is prepared =
+    let these : list_all (is_known new) o.jobs ≡ true = subst (λ (jobs : List JobWord). list_all (is_known new) jobs ≡ true) are all in
+    rw (begins.known, these, groups) (record {
+      line = subst (λ (l : BusNow). BeginsLine new old lines l.run) (sym is) begins;
+      prepared = subst (λ (jobs : List JobWord). IsPrepared new old jobs order) are prepared;
+    })

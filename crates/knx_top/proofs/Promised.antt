@@ -1,0 +1,36 @@
+-- Each sentence of the headline, of a run as a commission describes it.
+use Rattle.std.proofs.Common.{List, refl}
+use Rattle.bus_sim.specs.RunNow.{RunNow}
+use Rattle.knx_model.specs.declared.log.JobWord.{JobWord}
+use Rattle.line_model.specs.declared.log.Report.{Report}
+use Rattle.line_model.specs.Log.{Job}
+use Rattle.knx_top.specs.Headline.{OfItsJobs, BeganRightly, HasOldStoppedOrNew, HasTelegramsRight, RunsWhereDone, ActsOnce, IsToldRightly, HasFaultRight, EndsEveryJob}
+use Rattle.knx_top.specs.Ran.{Ran}
+use Rattle.knx_top.specs.Stops.{Commission}
+
+of_its_jobs : (c : Commission) (r : RunNow) (report : Report) (words : List JobWord) (P : List Job → Type 0) (ran : Ran c r report words) → P ran.jobs → OfItsJobs c P
+of_its_jobs c r report words P ran h = record { words = words; are = ran.words_are; jobs = ran.jobs; planned = ran.planned; holds = h }
+
+pub began : (c : Commission) (r : RunNow) (report : Report) (words : List JobWord) → Ran c r report words → BeganRightly c r report
+began c r report words ran = ran.run
+
+pub old_stopped_or_new : (c : Commission) (r : RunNow) (report : Report) (words : List JobWord) → Ran c r report words → HasOldStoppedOrNew c r report
+old_stopped_or_new c r report words ran = of_its_jobs c r report words _ ran ran.promises.devices
+
+pub telegrams_right : (c : Commission) (r : RunNow) (report : Report) (words : List JobWord) → Ran c r report words → HasTelegramsRight c r report
+telegrams_right c r report words ran = ran.promises.telegrams
+
+pub runs_where_done : (c : Commission) (r : RunNow) (report : Report) (words : List JobWord) → Ran c r report words → RunsWhereDone c r report
+runs_where_done c r report words ran = of_its_jobs c r report words _ ran ran.promises.done
+
+pub acts_once : (c : Commission) (r : RunNow) (report : Report) (words : List JobWord) → Ran c r report words → ActsOnce c r report
+acts_once c r report words ran = ran.promises.once
+
+pub told_rightly : (c : Commission) (r : RunNow) (report : Report) (words : List JobWord) → Ran c r report words → IsToldRightly c r report
+told_rightly c r report words ran = of_its_jobs c r report words _ ran ran.told.disciplined
+
+pub fault_right : (c : Commission) (r : RunNow) (report : Report) (words : List JobWord) → Ran c r report words → HasFaultRight c r report
+fault_right c r report words ran = of_its_jobs c r report words _ ran ran.told.fault
+
+pub ends_every_job : (c : Commission) (r : RunNow) (report : Report) (words : List JobWord) → Ran c r report words → EndsEveryJob c r report
+ends_every_job c r report words ran = of_its_jobs c r report words _ ran ran.told.ended

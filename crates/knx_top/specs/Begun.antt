@@ -1,0 +1,36 @@
+-- What a run is begun with in the code, and the commission of the definitions that it stands for.
+use Rattle.std.specs.Prelude.{◌≡◌, List, [], map, None, Result, Ok, Err}
+use Rattle.bus_sim.specs.RunNow.{RunNow, script, start}
+use Rattle.knx_model.specs.declared.command.Stop.{Stop}
+use Rattle.knx_model.specs.declared.log.JobWord.{JobWord}
+use Rattle.knx_model.specs.declared.script.ScriptLine.{ScriptLine}
+use Rattle.knx_model.specs.Meaning.{Installation}
+use Rattle.knx_model.specs.ScriptText.{first_stranger}
+use Rattle.line_model.specs.Lines.{script_of}
+use Rattle.line_model.specs.StartOf.{BusOf}
+use Rattle.knx_top.specs.Jobs.{AreJobs, ArePlanned, seen_job}
+use Rattle.knx_top.specs.OnLine.{AreCompiled, on_bus}
+use Rattle.knx_top.specs.Stops.{Commission}
+use Rattle.knx_top.specs.declared.judge.Order.{Order}
+
+-- a line as a run of these projects and this script begins, to which nothing was done
+pub record BeginsLine (new old : Installation) (lines : List ScriptLine) (r : RunNow) : Type 0 where
+  pub begins : BusOf new old (script_of lines) (start r)
+  pub says : script r ≡ script_of lines
+  pub nothing : r.events ≡ []
+  pub known : first_stranger (on_bus new old) lines ≡ None
+
+-- the jobs and the devices of a run, by the jobs that words name
+pub record IsPrepared (new old : Installation) (named : List JobWord) (order : Order) : Type 0 where
+  pub jobs : AreJobs named new order.jobs
+  pub plans : ArePlanned new (map seen_job order.plans) order.jobs
+  pub devices : AreCompiled new order.devices (on_bus new old)
+
+pub record IsOrder (c : Commission) (order : Order) : Type 0 where
+  pub line : BeginsLine c.project c.before c.script order.line.run
+  pub prepared : IsPrepared c.project c.before c.options.jobs order
+
+-- what was judged was compiled, and a line with its devices has begun
+abbrev pub OrderFor : Result Commission Stop → Order → Type 0
+OrderFor (Ok c) order = IsOrder c order
+OrderFor (Err why) order = ⊥

@@ -1,0 +1,55 @@
+-- The sentences of the headline, each of a run that the words and the texts ask for, of the line with its events, and of the run's report.
+use Rattle.std.specs.Prelude.{◌≡◌, List, [], length, None}
+use Rattle.bus_sim.specs.RunNow.{RunNow, start}
+use Rattle.knx_model.specs.declared.log.JobWord.{JobWord}
+use Rattle.line_model.specs.declared.log.Report.{Report}
+use Rattle.line_model.specs.ActedOnce.{ActedOnce}
+use Rattle.line_model.specs.Faults.{FaultRight}
+use Rattle.line_model.specs.Headline.{IsDisciplined}
+use Rattle.line_model.specs.Log.{Job, AllOver}
+use Rattle.line_model.specs.OldStoppedOrNew.{OldStoppedOrNew, RunsMeaning, MeansWhereDone}
+use Rattle.line_model.specs.Record.{placed, record_of}
+use Rattle.line_model.specs.Telegrams.{TelegramsActRight, ActsByProject}
+use Rattle.knx_top.specs.Jobs.{AreJobs, ArePlanned}
+use Rattle.knx_top.specs.Ran.{IsRunOf, log_in}
+use Rattle.knx_top.specs.Stops.{Commission}
+
+-- P holds of the jobs of the run: those that the words name, or a load of each device, with the plans of the new project's compiled images
+pub record OfItsJobs (c : Commission) (P : List Job → Type 0) : Type 0 where
+  pub words : List JobWord
+  pub are : AreJobs c.options.jobs c.project words
+  pub jobs : List Job
+  pub planned : ArePlanned c.project jobs words
+  pub holds : P jobs
+
+-- it began as it is stated; what happened is legal, and follows the script
+abbrev pub BeganRightly : Commission → RunNow → Report → Type 0
+BeganRightly c r report = IsRunOf c r
+
+-- at every moment each device has its starting content, or is stopped, or runs what the new project says
+abbrev pub HasOldStoppedOrNew : Commission → RunNow → Report → Type 0
+HasOldStoppedOrNew c r report = OfItsJobs c (λ jobs. OldStoppedOrNew (RunsMeaning c.project) jobs (start r) r.events (log_in report))
+
+-- each group telegram acts on exactly the objects that the running configuration links
+abbrev pub HasTelegramsRight : Commission → RunNow → Report → Type 0
+HasTelegramsRight c r report = TelegramsActRight (ActsByProject c.before c.project) (start r) r.events
+
+-- done is told only where what the new project says runs
+abbrev pub RunsWhereDone : Commission → RunNow → Report → Type 0
+RunsWhereDone c r report = OfItsJobs c (λ jobs. MeansWhereDone c.project jobs (start r) r.events (log_in report))
+
+-- no tunnelling request acts twice
+abbrev pub ActsOnce : Commission → RunNow → Report → Type 0
+ActsOnce c r report = ActedOnce (start r) r.events
+
+-- no device has two downloaders at once, and all that the log tells is told truly, by the record alone
+abbrev pub IsToldRightly : Commission → RunNow → Report → Type 0
+IsToldRightly c r report = OfItsJobs c (λ jobs. IsDisciplined jobs [] (length r.events) (placed (start r) r.events) (log_in report))
+
+-- a fault comes exactly at its cause
+abbrev pub HasFaultRight : Commission → RunNow → Report → Type 0
+HasFaultRight c r report = OfItsJobs c (λ jobs. FaultRight jobs (log_in report) (record_of (start r) r.events) report.fault)
+
+-- and without one every job has its end
+abbrev pub EndsEveryJob : Commission → RunNow → Report → Type 0
+EndsEveryJob c r report = OfItsJobs c (λ jobs. report.fault ≡ None → AllOver jobs (log_in report))

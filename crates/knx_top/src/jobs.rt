@@ -1,0 +1,90 @@
+//! The jobs of a run.
+
+ghost use Rattle.std.specs.Prelude.{◌≡◌, IfOk, map};
+ghost use Rattle.std.specs.List.{list_all};
+ghost use Rattle.knx_top.specs.Jobs.{AreJobs, ArePlanned, IsPlanned, load_of, PlansImage, seen_job};
+ghost use Rattle.knx_model.specs.Device.{Fits};
+ghost use Rattle.knx_top.specs.Stops.{is_known};
+
+use hub_work::{CheckPlan, HubJob, JobPlan, LoadPlan};
+use knx_model::{Image, IndAddr, JobKind, JobWord, List, NoMemory};
+use project_check::Checked;
+use std::alloc::Global;
+use table_compiler::compile;
+
+/// Whether each job's device is one of the project's.
+pub fn are_known(project: &Checked<'_, '_>, jobs: &[JobWord]) -> bool
+    ensures { result ≡ list_all (is_known project.now) jobs.now }
+{
+    jobs.iter().all(|job| project.has(job.device))
+}
+
+/// A load of each of these devices.
+fn loads_of(alloc: Global, devices: &[IndAddr]) -> Result<List<JobWord>, NoMemory>
+    ensures { IfOk result (λ jobs. jobs ≡ map load_of devices.now) }
+{
+    let mut jobs = List::new(alloc);
+    for device in devices {
+        jobs.push(JobWord {
+            device: *device,
+            kind: JobKind::Load,
+        })?;
+    }
+    Ok(jobs)
+}
+
+/// The jobs of the run: those that are named, or else a load of each device of the project.
+pub fn jobs_of(
+    alloc: Global,
+    named: &[JobWord],
+    project: &Checked<'_, '_>,
+) -> Result<List<JobWord>, NoMemory>
+    ensures { IfOk result (λ jobs. AreJobs named.now project.now jobs) }
+{
+    if named.is_empty() {
+        loads_of(alloc, project.devices())
+    } else {
+        Ok(List::from_vec(Vec::from_slice(alloc, named)?))
+    }
+}
+
+/// The plan by which a job loads or checks an image.
+fn plan_of(kind: JobKind, image: Image) -> JobPlan
+    requires { Fits image }
+    ensures { PlansImage kind image result }
+{
+    match kind {
+        JobKind::Load => JobPlan::Load(LoadPlan::of(image)),
+        JobKind::Check => JobPlan::Check(CheckPlan::of(image)),
+    }
+}
+
+/// A job with the plan of the project's image.
+fn planned(
+    alloc: Global,
+    project: &Checked<'_, '_>,
+    job: JobWord,
+) -> Result<HubJob, NoMemory>
+    ensures { IfOk result (λ planned. IsPlanned project.now (seen_job planned) job) }
+{
+    let image = compile(alloc, project, job.device)?;
+    Ok(HubJob {
+        device: job.device,
+        plan: plan_of(job.kind, image),
+    })
+}
+
+/// The jobs, each with its plan.
+pub fn all_planned(
+    alloc: Global,
+    project: &Checked<'_, '_>,
+    jobs: &[JobWord],
+) -> Result<List<HubJob>, NoMemory>
+    ensures { IfOk result (λ planned. ArePlanned project.now (map seen_job planned) jobs.now) }
+{
+    let mut all = List::new(alloc);
+    for job in jobs {
+        all.push(planned(alloc, project, *job)?)?;
+    }
+    Ok(all)
+}

@@ -1,0 +1,126 @@
+//! The simulated line at its beginning: its tunnel and its devices.
+
+ghost use Rattle.std.specs.Prelude.{◌≡◌, ◌≢◌, Err, IfErr, IfOk, List as Seq, OnOk, [], slice_get, ◌∷◌, ◌++◌, ◌||◌, if◌then◌else◌};
+ghost use Rattle.knx_model.specs.Rules.{has_device};
+ghost use Rattle.knx_model.specs.declared.address.IndAddr.{IndAddr as Address};
+ghost use Rattle.knx_model.specs.declared.command.Stop.TheVariants.{NoMemory as OutOfMemory};
+ghost use Rattle.line_model.specs.StartOf.{on_line_of_first, tunnel_address};
+ghost use Rattle.knx_top.specs.Begun.{BeginsLine};
+ghost use Rattle.knx_top.specs.Judged.{unless_strange};
+ghost use Rattle.knx_top.specs.OnLine.{AreCompiled, IsImageWhere, on_bus};
+
+use crate::project::refusal;
+use bus_sim::SimBus;
+use knx_model::{Image, IndAddr, InputFile, List, NoMemory, Stop};
+use project_check::Checked;
+use script_text::Script;
+use std::alloc::Global;
+use table_compiler::compile;
+
+/// The device part of a tunnel's address.
+const TUNNEL: u16 = 255;
+
+/// The tunnel's address where a project has no device: 1.1.255.
+const DEFAULT_TUNNEL: IndAddr = IndAddr { raw: 0x11FF };
+
+/// The tunnel's address on the line of this device, the first of some.
+fn tunnel_beside(first: Option<IndAddr>) -> IndAddr
+    ensures { (devices : Seq Address) → slice_get devices 0 ≡ first → result ≡ on_line_of_first devices }
+{
+    match first {
+        Some(first) => IndAddr {
+            raw: first.raw / 256 * 256 + TUNNEL,
+        },
+        None => DEFAULT_TUNNEL,
+    }
+}
+
+/// The tunnel's address on the line of a project's first device.
+fn tunnel_address(new: &Checked<'_, '_>) -> IndAddr
+    ensures { result ≡ tunnel_address new.now }
+{
+    tunnel_beside(new.first())
+}
+
+/// Whether one of two projects has a device.
+fn is_in_either(new: &Checked<'_, '_>, old: &Checked<'_, '_>, device: IndAddr) -> bool
+    ensures { result ≡ (has_device new.now.statements device.raw || has_device old.now.statements device.raw) }
+{
+    new.has(device) || old.has(device)
+}
+
+/// Appends a device where it is on the bus.
+fn push_where(devices: &mut List<IndAddr>, device: IndAddr, on: bool) -> Result<(), NoMemory>
+    ensures { OnOk result (devices.new ≡ devices.old ++ (if on then device ∷ [] else [])) }
+{
+    if on { devices.push(device) } else { Ok(()) }
+}
+
+/// The devices on the bus, ascending: those of both projects on the tunnel's line.
+pub fn on_bus(
+    alloc: Global,
+    new: &Checked<'_, '_>,
+    old: &Checked<'_, '_>,
+) -> Result<List<IndAddr>, NoMemory>
+    ensures { IfOk result (λ devices. devices ≡ on_bus new.now old.now) }
+{
+    let line = tunnel_address(new).raw / 256;
+    let mut devices = List::new(alloc);
+    for part in 0..256 {
+        let device = IndAddr {
+            raw: line * 256 + part,
+        };
+        push_where(&mut devices, device, is_in_either(new, old, device))?;
+    }
+    Ok(devices)
+}
+
+/// The image of a device where a project has it.
+fn image_in(
+    alloc: Global,
+    checked: &Checked<'_, '_>,
+    device: IndAddr,
+) -> Result<Option<Image>, NoMemory>
+    ensures { IfOk result (λ image. IsImageWhere checked.now device image) }
+{
+    if checked.has(device) {
+        Ok(Some(compile(alloc, checked, device)?))
+    } else {
+        Ok(None)
+    }
+}
+
+/// These devices, each with its image where a project has it.
+pub fn compiled(
+    alloc: Global,
+    checked: &Checked<'_, '_>,
+    devices: &[IndAddr],
+) -> Result<List<(IndAddr, Option<Image>)>, NoMemory>
+    ensures { IfOk result (λ listed. AreCompiled checked.now listed devices.now) }
+{
+    let mut listed = List::new(alloc);
+    for device in devices {
+        let image = image_in(alloc, checked, *device)?;
+        listed.push((*device, image))?;
+    }
+    Ok(listed)
+}
+
+/// The line at the beginning of a run, where the script names no device but those on the bus.
+pub fn line_begun(
+    alloc: Global,
+    new: &Checked<'_, '_>,
+    old: &Checked<'_, '_>,
+    script: &Script,
+) -> Result<SimBus, Stop>
+    ensures begun { IfOk result (λ line. BeginsLine new.now old.now script.now.lines line.run) }
+    ensures refused { IfErr result (λ why. why ≢ OutOfMemory tt → unless_strange new.now old.now script.now.lines ≡ Err why) }
+{
+    let bus = on_bus(alloc, new, old)?;
+    let devices = compiled(alloc, old, bus.as_slice())?;
+    let mut line = SimBus::empty(alloc);
+    match line.load(alloc, tunnel_address(new), devices.as_slice(), script) {
+        Ok(()) => Ok(line),
+        Err(refused) => Err(refusal(InputFile::Script, refused)),
+    }
+}
