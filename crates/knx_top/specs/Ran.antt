@@ -2,12 +2,13 @@
 -- at every moment, whatever is lost, repeated or cut, each device has its starting content, or is stopped, or runs what the new project says; each
 -- group telegram acts on exactly the objects that the running configuration links; `done` is told only where the new project's runs; no device has
 -- two downloaders at once, and no tunnelling request acts twice.
-use Rattle.std.specs.Prelude.{◌≡◌, ◌⊎◌, ℕ, Bool, List, [], length, reverse, Option, Some, None, Result, Ok, Err}
+use Rattle.std.specs.Prelude.{◌≡◌, ◌⊎◌, ℕ, ◌-◌, ◌^◌, min, Bool, List, [], length, reverse, Option, Some, None, Result, Ok, Err}
 use Rattle.bus_sim.specs.Loaded.{BusNow}
 use Rattle.bus_sim.specs.RunNow.{RunNow, start, world}
 use Rattle.knx_model.specs.declared.command.Stop.{Stop}
 use Rattle.knx_model.specs.declared.command.Stop.TheVariants as stop
 use Rattle.knx_model.specs.declared.log.JobWord.{JobWord}
+use Rattle.line_law.specs.Safe.{IsSafe}
 use Rattle.line_model.specs.declared.log.LogEntry.{LogEntry}
 use Rattle.line_model.specs.declared.log.Report.{Report}
 use Rattle.line_model.specs.ActedOnce.{ActedOnce}
@@ -16,7 +17,6 @@ use Rattle.line_model.specs.Dropped.{dropped}
 use Rattle.line_model.specs.Faults.{FaultRight}
 use Rattle.line_model.specs.Follows.{Follows}
 use Rattle.line_model.specs.Fresh.{IsFresh}
-use Rattle.line_model.specs.Headline.{IsDisciplined}
 use Rattle.line_model.specs.Legal.{IsLegal}
 use Rattle.line_model.specs.Lines.{script_of}
 use Rattle.line_model.specs.Log.{Job, AllOver}
@@ -51,15 +51,17 @@ pub record KeepsPromises (c : Commission) (jobs : List Job) (r : RunNow) (log : 
   pub done : MeansWhereDone c.project jobs (start r) r.events log
   pub once : ActedOnce (start r) r.events
 
--- ---- what is told: by record and log alone
+-- ---- what is told: by record and log alone. The script has no group telegrams.
 
 pub record IsTold (jobs : List Job) (r : RunNow) (report : Report) : Type 0 where
-  pub disciplined : IsDisciplined jobs [] (length r.events) (placed (start r) r.events) (log_in report)
+  -- all that a client keeps to on the line, but that no poll passes over a deadline and each request is acknowledged
+  pub safe : IsSafe jobs [] (length r.events) (placed (start r) r.events) (log_in report)
   pub fault : FaultRight jobs (log_in report) (record_of (start r) r.events) report.fault
   pub ended : report.fault ≡ None → AllOver jobs (log_in report)
   pub heard : report.fault ≡ None → report.heard ≡ reverse (indications (record_of (start r) r.events))
   pub missed : report.missed ≡ 0
-  pub dropped : report.dropped ≡ dropped (record_of (start r) r.events)
+  -- a number of 64 bits, which stands still at its greatest
+  pub dropped : report.dropped ≡ min (dropped (record_of (start r) r.events)) (2 ^ 64 - 1)
 
 -- a run that has begun, whether it ends or not, with its jobs, as their words and with their plans, and its report
 pub record Ran (c : Commission) (r : RunNow) (report : Report) (words : List JobWord) : Type 0 where

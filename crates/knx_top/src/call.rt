@@ -235,7 +235,7 @@ pub fn knx<R: Wait, F: Files, K: Sink>(
     ensures done { HasRunOf RunsWhereDone (map string_bytes words.now) (F.file files.old) sim.old (record { line = sim.new; report = last.new }) }
     // no tunnelling request acts twice
     ensures once { HasRunOf ActsOnce (map string_bytes words.now) (F.file files.old) sim.old (record { line = sim.new; report = last.new }) }
-    // no device has two downloaders at once, and the log tells nothing that the record doesn't show
+    // no device has two downloaders at once, the log tells nothing that the record doesn't show, and all that is sent is right
     ensures told { HasRunOf IsToldRightly (map string_bytes words.now) (F.file files.old) sim.old (record { line = sim.new; report = last.new }) }
     // a run ends without its end exactly at a cause, and else every job has its end
     ensures fault { HasRunOf HasFaultRight (map string_bytes words.now) (F.file files.old) sim.old (record { line = sim.new; report = last.new }) }

@@ -1,11 +1,14 @@
 //! A run of `sim`: what was judged is commissioned over the simulated line, and what came of it is reported.
 
-ghost use Rattle.std.specs.Prelude.{◌≡◌, ◌<◌, [], All, IsSome, Option, length};
+ghost use Rattle.std.specs.Prelude.{◌≡◌, ◌<◌, [], All, IsSome, Option, length, map};
+ghost use Rattle.std.specs.List.{AllByRecursion};
 ghost use Rattle.bus_sim.specs.RunNow.{world};
 ghost use Rattle.knx_model.specs.declared.address.IndAddr.{IndAddr as Address};
 ghost use Rattle.knx_model.specs.declared.config.Image.{Image as Compiled};
+ghost use Rattle.line_model.specs.Headline.{IsGoodJob};
 ghost use Rattle.knx_top.specs.Ended.{ShowsRun, outcome_of};
 ghost use Rattle.knx_top.specs.Judged.{judged};
+ghost use Rattle.knx_top.specs.Jobs.{seen_job};
 ghost use Rattle.knx_top.specs.Names.{sim_words_of};
 ghost use Rattle.knx_top.specs.Begun.{IsOrder};
 ghost use Rattle.knx_top.specs.Ran.{Comes, Runs, report_in};
@@ -89,6 +92,7 @@ fn end_of_run(
 fn run<R: Wait>(rt: &R, alloc: Global, order: Order, log: bool, sim: &mut SimBus) -> SimEnd
     requires new { order.line.run.events ≡ [] }
     requires few { length order.plans < 4294967296 }
+    requires good { AllByRecursion IsGoodJob (map seen_job order.plans) }
     requires devices { All (λ (d : Address × Option Compiled). IsSome ((world order.line.run).devices d.0.raw)) order.devices }
     ensures { (c : Commission) → IsOrder c order → log ≡ c.options.log → Runs c sim.old sim.new (outcome_of result) }
 {
