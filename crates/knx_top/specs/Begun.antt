@@ -1,17 +1,25 @@
 -- What a run is begun with in the code, and the commission of the definitions that it stands for.
-use Rattle.std.specs.Prelude.{◌≡◌, List, [], map, None, Result, Ok, Err}
+use Rattle.std.specs.Prelude.{◌≡◌, ℕ, ◌<◌, ◌^◌, true, List, [], length, map, None, Result, Ok, Err}
+use Rattle.std.specs.List.{AllByRecursion}
 use Rattle.bus_sim.specs.RunNow.{RunNow, script, start}
 use Rattle.knx_model.specs.declared.command.Stop.{Stop}
 use Rattle.knx_model.specs.declared.log.JobWord.{JobWord}
 use Rattle.knx_model.specs.declared.script.ScriptLine.{ScriptLine}
-use Rattle.knx_model.specs.Meaning.{Installation}
+use Rattle.knx_model.specs.Acts.{IsInRange}
+use Rattle.knx_model.specs.Meaning.{Installation, meaning}
+use Rattle.knx_model.specs.Rules.{has_device}
 use Rattle.knx_model.specs.ScriptText.{first_stranger}
 use Rattle.line_model.specs.Lines.{script_of}
-use Rattle.line_model.specs.StartOf.{BusOf}
+use Rattle.line_model.specs.Headline.{IsGoodJob}
+use Rattle.line_model.specs.StartOf.{BusOf, is_on_bus}
 use Rattle.knx_top.specs.Jobs.{AreJobs, ArePlanned, seen_job}
 use Rattle.knx_top.specs.OnLine.{AreCompiled, on_bus}
 use Rattle.knx_top.specs.Stops.{Commission}
 use Rattle.knx_top.specs.declared.judge.Order.{Order}
+
+-- what the old project says of each device on the bus that it has is of two octets
+abbrev pub IsOldInRange : Installation → Installation → Type 0
+IsOldInRange new old = (device : ℕ) → is_on_bus new old device ≡ true → has_device old.statements device ≡ true → IsInRange (meaning old (record { raw = device }))
 
 -- a line as a run of these projects and this script begins, to which nothing was done
 pub record BeginsLine (new old : Installation) (lines : List ScriptLine) (r : RunNow) : Type 0 where
@@ -19,11 +27,14 @@ pub record BeginsLine (new old : Installation) (lines : List ScriptLine) (r : Ru
   pub says : script r ≡ script_of lines
   pub nothing : r.events ≡ []
   pub known : first_stranger (on_bus new old) lines ≡ None
+  pub in_range : IsOldInRange new old
 
 -- the jobs and the devices of a run, by the jobs that words name
 pub record IsPrepared (new old : Installation) (named : List JobWord) (order : Order) : Type 0 where
   pub jobs : AreJobs named new order.jobs
+  pub few : length order.plans < 2 ^ 32
   pub plans : ArePlanned new (map seen_job order.plans) order.jobs
+  pub good : AllByRecursion IsGoodJob (map seen_job order.plans)
   pub devices : AreCompiled new order.devices (on_bus new old)
 
 pub record IsOrder (c : Commission) (order : Order) : Type 0 where

@@ -32,6 +32,17 @@ pub data Command : Type 0 where
   Sim : SimWords → Command
   Decode : List ℕ → Command
 
+-- the words name at most 1,024 jobs
+abbrev pub most_jobs : ℕ
+most_jobs = 1024
+
+abbrev pub HasFewJobs : SimOptions → Type 0
+HasFewJobs options = length options.jobs ≤ most_jobs
+
+abbrev pub NamesFewJobs : Command → Type 0
+NamesFewJobs (Sim words) = HasFewJobs words.options
+NamesFewJobs _ = Unit {0}
+
 -- ---- the words that spell a command
 
 -- an option is a word `catalogue=F`, and may be left out
@@ -67,9 +78,6 @@ job_in (CatalogueWord name) = None
 job_in LogWord = None
 job_in (JobNamed job) = Some job
 
-abbrev pub most_jobs : ℕ
-most_jobs = 1024
-
 abbrev pub at_most_one : {A : Type 0} → Option A → List A
 at_most_one None = []
 at_most_one (Some x) = x ∷ []
@@ -85,7 +93,7 @@ pub record SpellsOptions (words : List (List ℕ)) (options : SimOptions) : Type
   pub catalogue : filter_map catalogue_in named ≡ at_most_one options.catalogue
   pub log : filter_map log_in named ≡ at_most_one (if_said options.log)
   pub jobs : filter_map job_in named ≡ options.jobs
-  pub few : length options.jobs ≤ most_jobs
+  pub few : HasFewJobs options
 
 -- `check P`, `tables P`, each with its option behind, `sim NEW OLD SCRIPT` with options and jobs, and `decode HEX`
 pub data SpellsCommand : List (List ℕ) → Command → Type 0 where

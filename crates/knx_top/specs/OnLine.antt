@@ -4,6 +4,7 @@ use Rattle.std.specs.Prelude.{◌≡◌, ℕ, ◌+◌, ◌*◌, true, false, Lis
 use Rattle.std.specs.List.{AllZip, range_with_len}
 use Rattle.knx_model.specs.declared.address.IndAddr.{IndAddr}
 use Rattle.knx_model.specs.declared.config.Image.{Image}
+use Rattle.knx_model.specs.Acts.{IsInRange}
 use Rattle.knx_model.specs.Device.{Fits}
 use Rattle.knx_model.specs.Meaning.{Installation, meaning}
 use Rattle.knx_model.specs.Rules.{has_device}
@@ -23,10 +24,11 @@ on_bus new old = filter (λ (device : IndAddr). is_on_bus new old device.raw) (a
 
 -- ---- compiled images
 
--- the compiled image of what a project says of a device, which fits
+-- the compiled image of what a project says of a device: it fits, and its tables' numbers have two octets
 pub record IsImage (project : Installation) (device : IndAddr) (image : Image) : Type 0 where
   pub stands : StandsFor image (meaning project device)
   pub fits : Fits image
+  pub in_range : IsInRange (meaning project device)
 
 -- the image of the device where the project has it
 abbrev pub IsImageWhere : Installation → IndAddr → Option Image → Type 0

@@ -1,8 +1,8 @@
 //! What the words ask for.
 
-ghost use Rattle.std.specs.Prelude.{◌≡◌, ◌↔◌, ℕ, List, Some, map, string_bytes};
+ghost use Rattle.std.specs.Prelude.{◌≡◌, ◌↔◌, ℕ, IfSome, List, Some, map, string_bytes};
 ghost use Rattle.std.specs.Option.{option_map};
-ghost use Rattle.knx_top.specs.Command.{Command as Commanded, SpellsCommand, asked, catalogue_name, decode_word, options, project_words, sim_words};
+ghost use Rattle.knx_top.specs.Command.{Command as Commanded, NamesFewJobs, SpellsCommand, asked, catalogue_name, decode_word, options, project_words, sim_words};
 ghost use Rattle.knx_top.specs.Names.{command_of, named, project_words_of, sim_words_of, the_word};
 
 use crate::options::{SimOptions, behind, sim_options};
@@ -93,7 +93,8 @@ fn decode_word(words: &[String]) -> Option<&str>
 
 /// The command of the words; none for words that are no command.
 pub fn asked(words: &[String]) -> Option<Command<'_>>
-    ensures { option_map command_of result ≡ asked (map string_bytes words.now) }
+    ensures is { option_map command_of result ≡ asked (map string_bytes words.now) }
+    ensures few { IfSome result (λ command. NamesFewJobs (command_of command)) }
 {
     let [command, others @ ..] = words else {
         return None;

@@ -1,11 +1,12 @@
 //! What was read is judged in order: the catalogue, NEW, OLD, the script and its devices, then the devices of the jobs.
 
-ghost use Rattle.std.specs.Prelude.{◌≡◌, ◌≢◌, Err, IfErr, IfOk};
+ghost use Rattle.std.specs.Prelude.{◌≡◌, ◌≢◌, ◌≤◌, Err, IfErr, IfOk, length};
 ghost use Rattle.std.specs.List.{list_any};
 ghost use Rattle.knx_model.specs.declared.command.InputFile.TheVariants.{Script as OfScript};
 ghost use Rattle.knx_model.specs.declared.command.Stop.TheVariants.{NoMemory as OutOfMemory};
 ghost use Rattle.knx_model.specs.ScriptText.{script_reading};
 ghost use Rattle.knx_top.specs.Begun.{BeginsLine, IsPrepared, OrderFor};
+ghost use Rattle.knx_top.specs.Command.{HasFewJobs, most_jobs};
 ghost use Rattle.knx_top.specs.Judged.{Gives, judged, unless_refused, with_lines};
 ghost use Rattle.knx_top.specs.Names.{options_of, sim_words_of};
 ghost use Rattle.knx_top.specs.Stops.{is_group_line};
@@ -67,6 +68,7 @@ fn order_of(
     old: &Checked<'_, '_>,
     line: SimBus,
 ) -> Result<Order, NoMemory>
+    requires { length named.now ≤ most_jobs }
     ensures line { IfOk result (λ order. order.line ≡ line) }
     ensures prepared { IfOk result (λ order. IsPrepared new.now old.now named.now order) }
 {
@@ -91,7 +93,8 @@ fn judge_jobs(
     lines: &[ScriptLine],
     line: SimBus,
 ) -> Result<Order, Stop>
-    requires { BeginsLine new.now old.now lines.now line.run }
+    requires few { HasFewJobs (options_of options.entry) }
+    requires begins { BeginsLine new.now old.now lines.now line.run }
     ensures ok { IfOk result (λ order. OrderFor (with_lines (options_of options.entry) new.now old.now lines.now) order) }
     ensures err { IfErr result (λ why. why ≢ OutOfMemory tt → with_lines (options_of options.entry) new.now old.now lines.now ≡ Err why) }
 {
@@ -114,6 +117,7 @@ fn judge_script(
     old: &Checked<'_, '_>,
     script: &Script,
 ) -> Result<Order, Stop>
+    requires { HasFewJobs (options_of options.entry) }
     ensures ok { IfOk result (λ order. OrderFor (with_lines (options_of options.entry) new.now old.now script.now.lines) order) }
     ensures err { IfErr result (λ why. why ≢ OutOfMemory tt → with_lines (options_of options.entry) new.now old.now script.now.lines ≡ Err why) }
 {
@@ -125,6 +129,7 @@ fn judge_script(
 
 /// What a run is begun with, or why the call stops before one.
 pub fn judge(alloc: Global, names: SimNames<'_>, texts: &SimTexts) -> Result<Order, Stop>
+    requires { HasFewJobs (options_of names.entry.options) }
     ensures ok { IfOk result (λ order. OrderFor (judged (sim_words_of names.entry) texts.now) order) }
     ensures err { IfErr result (λ why. why ≢ OutOfMemory tt → judged (sim_words_of names.entry) texts.now ≡ Err why) }
 {

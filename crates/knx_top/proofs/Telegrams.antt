@@ -1,0 +1,1 @@
+-- Each group telegram acts by the projects: what a device runs stands for what the old or the new project says of it.
