@@ -1,0 +1,96 @@
+-- A run that one caller of the hub drives over the simulated line: what is promised of it, in the words of its commission.
+use Rattle.std.proofs.Common.{◌≡◌, List, [], ◌∷◌, ◌++◌, map, Some, None, refl, sym, ap, ◌∙◌, subst}
+use Rattle.bus_sim.specs.Loaded.{BusNow}
+use Rattle.bus_sim.specs.RunNow.{RunNow, script, start, story}
+use Rattle.hub_core.specs.Promises.{IsRightOver, IsSafeOver, FaultRightIn, DropsIn}
+use Rattle.hub_core.specs.Seen.{AreJobs}
+use Rattle.hub_driver.specs.Heard.{HeardAll}
+use Rattle.hub_work.specs.declared.job.HubJob.{HubJob}
+use Rattle.hub_work.specs.Books.{AreJobsOf}
+use Rattle.hub_work.specs.Downloaders.{Task, task_of_hub_job}
+use Rattle.knx_model.specs.declared.address.IndAddr.{IndAddr}
+use Rattle.line_model.specs.declared.log.LogEntry.{LogEntry}
+use Rattle.line_model.specs.declared.log.Report.{Report}
+use Rattle.line_model.specs.Follows.{Follows}
+use Rattle.line_model.specs.Fresh.{IsFresh}
+use Rattle.line_model.specs.Headline.{IsRight}
+use Rattle.line_model.specs.Legal.{IsLegal}
+use Rattle.line_model.specs.Lines.{Script, script_of}
+use Rattle.line_model.specs.LinkStory.{Full, IsNewLink, record_in}
+use Rattle.line_model.specs.Log.{Job, AllOver}
+use Rattle.line_model.specs.StartOf.{BusOf}
+use Rattle.line_model.specs.Tunnel.{Commissions}
+use Rattle.line_model.specs.World.{World, Event}
+use Rattle.tunnel_link.specs.Goes.{GoesOn}
+use Rattle.knx_top.specs.Begun.{IsOrder}
+use Rattle.knx_top.specs.Jobs.{seen_job}
+use Rattle.knx_top.specs.Ran.{IsRunOf, IsTold, KeepsPromises, Ran, log_in}
+use Rattle.knx_top.specs.Stops.{Commission}
+use Rattle.knx_top.specs.declared.judge.Order.{Order}
+use Rattle.knx_top.proofs.Meanings.{devices_mean, done_means}
+use Rattle.knx_top.proofs.Telegrams.{telegrams_by_project}
+
+-- ---- the jobs of the hub are those that the definitions see
+
+pub jobs_seen : (plans : List HubJob) → AreJobs plans (map seen_job plans)
+jobs_seen [] = refl
+jobs_seen (job ∷ plans) = ap (λ (tasks : List Task). task_of_hub_job job ∷ tasks) (jobs_seen plans)
+
+pub devices_seen : (plans : List HubJob) → AreJobsOf (map (λ (job : HubJob). job.device) plans) (map seen_job plans)
+devices_seen [] = refl
+devices_seen (job ∷ plans) = ap (λ (devices : List IndAddr). job.device ∷ devices) (devices_seen plans)
+
+-- ---- the line is new, and its start stays
+
+pub new_line : (line : BusNow) → line.run.events ≡ [] → IsFresh (start line.run) → IsNewLink (story line.run)
+new_line line nothing fresh = (nothing, fresh)
+
+pub same_start : (before after : RunNow) → GoesOn (story before) (story after) → start after ≡ start before
+same_start before after goes = one_start (start after) (start before) after.events (goes.0 ++ before.events) goes.1
+  where
+    one_start : (one other : World) (events more : List Event) → Full one events ≡ Full other more → one ≡ other
+    one_start one other events more e = cc
+
+-- ---- the premises, and what is promised
+
+is_run : (c : Commission) (order : Order) (r : RunNow) → IsOrder c order → start r ≡ start order.line.run → script r ≡ script order.line.run
+    → IsFresh (start r) → IsLegal Commissions (start r) r.events → Follows (script r) Commissions (start r) r.events → IsRunOf c r
+is_run c order r is begun says fresh legal follows = record {
+  begins = subst (λ (w : World). BusOf c.project c.before (script_of c.script) w) (sym begun) is.line.begins;
+  fresh = fresh;
+  legal = legal;
+  follows = subst (λ (s : Script). Follows s Commissions (start r) r.events) (says ∙ is.line.says) follows;
+}
+
+keeps_promises : (c : Commission) (order : Order) (r : RunNow) (log : List LogEntry) → IsOrder c order → IsRunOf c r → IsRight (map seen_job order.plans) (start r) r.events log → KeepsPromises c (map seen_job order.plans) r log
+keeps_promises c order r log is run right =
+    let jobs : List Job = map seen_job order.plans in
+    record {
+      devices = devices_mean c.project jobs order.jobs (start r) r.events log is.prepared.plans right.devices;
+      telegrams = telegrams_by_project c.project c.before (script_of c.script) jobs order.jobs (start r) r.events log run.begins is.line.in_range is.prepared.plans right.devices right.telegrams;
+      done = done_means c.project jobs order.jobs (start r) r.events log is.prepared.plans right.done;
+      once = right.once;
+    }
+
+-- ---- all of it
+
+pub driven : (c : Commission) (order : Order) (line : BusNow) (report : Report) → IsOrder c order → GoesOn (story order.line.run) (story line.run) → script line.run ≡ script order.line.run
+    → IsFresh (start line.run) → IsLegal Commissions (start line.run) line.run.events → Follows (script line.run) Commissions (start line.run) line.run.events
+    → IsSafeOver (map seen_job order.plans) [] (story line.run) (log_in report)
+    → IsRightOver (map seen_job order.plans) (story line.run) (log_in report)
+    → FaultRightIn (map seen_job order.plans) (log_in report) report.fault (record_in (story line.run))
+    → (report.fault ≡ None → AllOver (map seen_job order.plans) (log_in report))
+    → (report.fault ≡ None → HeardAll report.heard (record_in (story line.run)))
+    → report.missed ≡ 0
+    → DropsIn report.dropped (record_in (story line.run))
+    → Ran c line.run report order.jobs
+driven c order line report is goes says fresh legal follows safe right fault over heard missed dropped =
+    let run : IsRunOf c line.run = is_run c order line.run is (same_start order.line.run line.run goes) says fresh legal follows in
+    record {
+      run = run;
+      words_are = is.prepared.jobs;
+      jobs = map seen_job order.plans;
+      planned = is.prepared.plans;
+      promises = keeps_promises c order line.run (log_in report) is run right;
+      told = record { safe = safe.safe; fault = fault; ended = over; heard = heard; missed = missed; dropped = dropped };
+    }

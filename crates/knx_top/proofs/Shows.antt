@@ -1,0 +1,75 @@
+-- What is shown of the devices of the line when a run has ended: each is there still, and its case is told by what the project says of it.
+use Rattle.std.proofs.Common.{◌≡◌, List, [], ◌∷◌, Option, Some, None, All, refl, sym, ◌∙◌, subst}
+use Rattle.std.specs.Prelude.{Bool, IsSome}
+use Rattle.std.proofs.lemmas.List.Elements.{All-weaker}
+use Rattle.bus_sim.specs.RunNow.{RunNow, start, world}
+use Rattle.knx_model.specs.declared.address.IndAddr.{IndAddr}
+use Rattle.knx_model.specs.declared.config.Image.{Image}
+use Rattle.knx_model.specs.Device.{NonVolatile}
+use Rattle.knx_model.specs.DeviceState.{DeviceState}
+use Rattle.knx_model.specs.Meaning.{Installation}
+use Rattle.line_model.specs.declared.log.LogEntry.{LogEntry}
+use Rattle.line_model.specs.declared.log.Report.{Report}
+use Rattle.line_model.specs.Legal.{AtEveryMoment}
+use Rattle.line_model.specs.Log.{Job}
+use Rattle.line_model.specs.OldStoppedOrNew.{Both, IsCase as IsCaseAt, Meant, OldStoppedOr, OldStoppedOrNew}
+use Rattle.line_model.specs.Printed.{DeviceShown}
+use Rattle.line_model.specs.World.{World, Event, replay}
+use Rattle.knx_model.specs.declared.log.JobWord.{JobWord}
+use Rattle.knx_top.specs.Ended.{ShowsRun}
+use Rattle.knx_top.specs.OnLine.{AreCompiled, IsCompiled, IsImageWhere, on_bus}
+use Rattle.knx_top.specs.Ran.{Outcome, Stops, Tells, BreaksOff, Reports, Ran, Runs}
+use Rattle.knx_top.specs.Shown.{AreShown, AreShownOf, IsCase, IsShown, IsShownIn}
+use Rattle.knx_top.specs.Stops.{Commission}
+use Rattle.bus_sim.specs.Loaded.{BusNow}
+
+-- ---- the devices of the line stay on it
+
+there_still : (P : NonVolatile → NonVolatile → Type 0) (one other : Option DeviceState) → Both P one other → IsSome one → IsSome other
+there_still P (Some old) (Some new) both some = refl
+there_still P (Some old) None both some = absurd both
+there_still P None other both some = absurd cc
+
+now_case : (P : List Event → Type 0) (events : List Event) → AtEveryMoment P events → P events
+now_case P [] h = h
+now_case P (e ∷ events) h = h.0
+
+pub all_still : (IsNew : Meant) (jobs : List Job) (began start : World) (events : List Event) (log : List LogEntry) (devices : List (IndAddr × Option Image)) → start ≡ began → OldStoppedOrNew IsNew jobs start events log
+    → All (λ (d : IndAddr × Option Image). IsSome (began.devices d.0.raw)) devices → All (λ (d : IndAddr × Option Image). IsSome ((replay start events).devices d.0.raw)) devices
+all_still IsNew jobs began start events log devices same o there =
+    All-weaker (λ (d : IndAddr × Option Image). IsSome (start.devices d.0.raw)) (λ (d : IndAddr × Option Image). IsSome ((replay start events).devices d.0.raw))
+    (λ d some. there_still (OldStoppedOr (IsNew d.0.raw)) (start.devices d.0.raw) ((replay start events).devices d.0.raw) (now_case (IsCaseAt IsNew start) events o.case d.0.raw) some)
+    devices (subst (λ (w : World). All (λ (d : IndAddr × Option Image). IsSome (w.devices d.0.raw)) devices) (sym same) there)
+
+-- ---- by what the project says of each
+
+is_shown : (project : Installation) (w : World) (shown : DeviceShown) (d : IndAddr × Option Image) (address : IndAddr) → IsShownIn w shown d → IsCompiled project d address → IsShown project w shown address
+is_shown project w shown d address is compiled =
+    subst (λ (a : IndAddr). IsShown project w shown a) compiled.device (record {
+      device = is.shows.device;
+      state = is.state;
+      there = is.there;
+      case = is.shows.case project (subst (λ (a : IndAddr). IsImageWhere project a d.1) (sym compiled.device) compiled.image);
+      values = is.shows.values;
+    })
+
+pub are_shown : (project : Installation) (w : World) (shown : List DeviceShown) (devices : List (IndAddr × Option Image)) (listed : List IndAddr) → AreShownOf w shown devices → AreCompiled project devices listed → AreShown project w shown listed
+are_shown project w [] [] [] of compiled = tt
+are_shown project w [] [] (a ∷ listed) of compiled = absurd compiled
+are_shown project w [] (d ∷ devices) listed of compiled = absurd of
+are_shown project w (s ∷ shown) [] listed of compiled = absurd of
+are_shown project w (s ∷ shown) (d ∷ devices) [] of compiled = absurd compiled
+are_shown project w (s ∷ shown) (d ∷ devices) (a ∷ listed) of compiled = (is_shown project w s d a of.0 compiled.0, are_shown project w shown devices listed of.1 compiled.1)
+
+-- ---- the end of a run, as it is reported or as memory was wanting for that
+
+pub runs_so : (c : Commission) (before after : BusNow) (report : Report) (jobs : List JobWord) (devices : List (IndAddr × Option Image)) (log : Bool) (outcome : Outcome) → Ran c after.run report jobs → AreCompiled c.project devices (on_bus c.project c.before)
+    → log ≡ c.options.log → ShowsRun after.run report jobs devices log outcome → Runs c before after outcome
+runs_so c before after report jobs devices log (Stops why) ran compiled logs shows = absurd shows
+runs_so c before after report jobs devices log (Tells text) ran compiled logs shows = absurd shows
+runs_so c before after report jobs devices log (BreaksOff told) ran compiled logs shows = (jobs, subst (λ (r : Report). Ran c after.run r jobs) (sym shows) ran)
+runs_so c before after report jobs devices log (Reports told words shown with_log) ran compiled logs shows = record {
+  ran = subst (λ (r : Report). Ran c after.run r words) (sym shows.0) (subst (λ (ws : List JobWord). Ran c after.run report ws) (sym shows.1) ran);
+  shown = are_shown c.project (world after.run) shown devices (on_bus c.project c.before) shows.2 compiled;
+  with_log = shows.3 ∙ logs;
+}
