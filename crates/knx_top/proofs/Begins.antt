@@ -16,12 +16,14 @@ use Rattle.knx_model.specs.declared.refusal.Refused.{Refused}
 use Rattle.knx_model.specs.declared.refusal.Why.{Why}
 use Rattle.knx_model.specs.declared.refusal.Why.TheVariants as why
 use Rattle.knx_model.specs.declared.script.ScriptLine.{ScriptLine}
-use Rattle.knx_model.specs.Meaning.{Installation}
+use Rattle.knx_model.specs.Acts.{IsInRange}
+use Rattle.knx_model.specs.Meaning.{Installation, meaning}
 use Rattle.knx_model.specs.Promises.{StartOf, BeginsLoaded, BeginsBlank}
+use Rattle.knx_model.specs.Rules.{has_device}
 use Rattle.knx_model.specs.ScriptText.{first_stranger}
 use Rattle.line_model.specs.Lines.{Script, script_of}
 use Rattle.line_model.specs.StartOf.{BeginsAs, DeviceBegins, line_of, tunnel_address, is_on_bus}
-use Rattle.knx_top.specs.Begun.{BeginsLine}
+use Rattle.knx_top.specs.Begun.{BeginsLine, IsOldInRange}
 use Rattle.knx_top.specs.Judged.{unless_failed, unless_strange}
 use Rattle.knx_top.specs.OnLine.{AreCompiled, IsCompiled, IsImageWhere, addresses_of_line, on_bus}
 use Rattle.knx_top.specs.Stops.{stranger_named}
@@ -71,6 +73,30 @@ addresses_are old [] (a ∷ listed) h = absurd h
 addresses_are old (d ∷ ds) [] h = absurd h
 addresses_are old (d ∷ ds) (a ∷ listed) h = rw (h.0.device, addresses_are old ds listed h.1) refl
 
+-- ---- what the old project says of them has numbers of two octets
+
+image_in_range : (old : Installation) (a : IndAddr) (image : Option Image) → IsImageWhere old a image → has_device old.statements a.raw ≡ true → IsInRange (meaning old a)
+image_in_range old a None none has = absurd (let no : false ≡ true = sym none ∙ has in cc)
+image_in_range old a (Some image) is has = is.1.in_range
+
+listed_in_range : (old : Installation) (devices : List (IndAddr × Option Image)) (listed : List IndAddr) (device : ℕ) → AreCompiled old devices listed → list_any (λ (x : IndAddr). x.raw == device) listed ≡ true → has_device old.statements device ≡ true
+    → IsInRange (meaning old (record { raw = device }))
+listed_in_range old [] [] device h on has = absurd cc
+listed_in_range old [] (a ∷ listed) device h on has = absurd h
+listed_in_range old (d ∷ ds) [] device h on has = absurd h
+listed_in_range old (d ∷ ds) (a ∷ listed) device h on has = by_test (a.raw == device) refl on
+  where
+    by_test : (b : Bool) → (a.raw == device) ≡ b → (b || list_any (λ (x : IndAddr). x.raw == device) listed) ≡ true → IsInRange (meaning old (record { raw = device }))
+    by_test true e on =
+        let same : a.raw ≡ device = same_number a.raw device e in
+        subst (λ (raw : ℕ). IsInRange (meaning old (record { raw = raw }))) same (image_in_range old a d.1 h.0.image (subst (λ (raw : ℕ). has_device old.statements raw ≡ true) (sym same) has))
+    by_test false e on = listed_in_range old ds listed device h.1 on has
+
+old_in_range : (new old : Installation) (devices : List (IndAddr × Option Image)) → AreCompiled old devices (on_bus new old) → IsOldInRange new old
+old_in_range new old devices are device on has = listed_in_range old devices (on_bus new old) device are (any_on_bus new old device ∙ on) has
+
+-- ---- the line
+
 abbrev begun : IndAddr → List (IndAddr × Option Image) → List ScriptLine → RunNow
 begun tunnel devices lines = record { begun = record { tunnel = tunnel; devices = devices; script = lines }; events = [] }
 
@@ -85,6 +111,7 @@ begins_line new old lines tunnel devices r e at are known = subst (BeginsLine ne
   says = refl;
   nothing = refl;
   known = subst (λ (listed : List IndAddr). first_stranger listed lines ≡ None) (addresses_are old devices (on_bus new old) are) known;
+  in_range = old_in_range new old devices are;
 })
 
 -- ---- it can be loaded

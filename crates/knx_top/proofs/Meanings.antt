@@ -17,10 +17,11 @@ use Rattle.line_model.specs.Log.{Job, job_of}
 use Rattle.line_model.specs.OldStoppedOrNew.{Both, DoneSo, EachDoneSo, IsCase, MeansWhereDone, OldStoppedOr, OldStoppedOrNew, RunsJob, RunsMeaning, RunsWhereDone, world_at}
 use Rattle.line_model.specs.World.{World, Event, replay}
 use Rattle.knx_top.specs.Jobs.{ArePlanned}
+use Rattle.knx_top.specs.OnLine.{IsImage}
 
 -- ---- the job of a number
 
-planned_at : (project : Installation) (jobs : List Job) (words : List JobWord) (k : ℕ) (job : Job) → ArePlanned project jobs words → slice_get jobs k ≡ Some job → StandsFor job.image (meaning project job.device)
+planned_at : (project : Installation) (jobs : List Job) (words : List JobWord) (k : ℕ) (job : Job) → ArePlanned project jobs words → slice_get jobs k ≡ Some job → IsImage project job.device job.image
 planned_at project [] [] k job h e = absurd (none_there k e)
   where
     none_there : (k : ℕ) → slice_get (let js : List Job = [] in js) k ≡ Some job → ⊥
@@ -30,14 +31,14 @@ planned_at project [] (w ∷ ws) k job h e = absurd h
 planned_at project (j ∷ js) [] k job h e = absurd h
 planned_at project (j ∷ js) (w ∷ ws) zero job h e =
     let same : j ≡ job = some_job j job e in
-    let stands : StandsFor j.image (meaning project j.device) = subst (λ (d : IndAddr). StandsFor j.image (meaning project d)) (sym h.0.device) h.0.image.stands in
-    subst (λ (x : Job). StandsFor x.image (meaning project x.device)) same stands
+    let is : IsImage project j.device j.image = subst (λ (d : IndAddr). IsImage project d j.image) (sym h.0.device) h.0.image in
+    subst (λ (x : Job). IsImage project x.device x.image) same is
   where
     some_job : (one other : Job) → Some one ≡ Some other → one ≡ other
     some_job one other e = cc
 planned_at project (j ∷ js) (w ∷ ws) (suc k) job h e = planned_at project js ws k job h.1 e
 
-planned_of : (project : Installation) (jobs : List Job) (words : List JobWord) (k : ℕ) (job : Job) → ArePlanned project jobs words → job_of jobs k ≡ Some job → StandsFor job.image (meaning project job.device)
+pub planned_of : (project : Installation) (jobs : List Job) (words : List JobWord) (k : ℕ) (job : Job) → ArePlanned project jobs words → job_of jobs k ≡ Some job → IsImage project job.device job.image
 planned_of project jobs words k job h e = planned_at project jobs words (k - 1) job h (place_of (k == 0) jobs k job e)
   where
     place_of : (b : Bool) (jobs : List Job) (k : ℕ) (job : Job) → (if b then None else slice_get jobs (k - 1)) ≡ Some job → slice_get jobs (k - 1) ≡ Some job
@@ -46,7 +47,7 @@ planned_of project jobs words k job h e = planned_at project jobs words (k - 1) 
 
 runs_meaning : (project : Installation) (jobs : List Job) (words : List JobWord) (device : ℕ) (nv : NonVolatile) → ArePlanned project jobs words → RunsJob jobs device nv → RunsMeaning project device nv
 runs_meaning project jobs words device nv h r =
-    let stands : StandsFor r.job.image (meaning project r.job.device) = planned_of project jobs words r.number r.job h r.there in
+    let stands : StandsFor r.job.image (meaning project r.job.device) = (planned_of project jobs words r.number r.job h r.there).stands in
     record {
       image = r.job.image;
       runs_it = r.runs_it;
@@ -89,7 +90,7 @@ done_so : (project : Installation) (jobs : List Job) (words : List JobWord) (sta
 done_so project jobs words start events e (Took k) h so = tt
 done_so project jobs words start events e (Done k) h so = λ job there.
     of_device_means (λ d. runs d.kept ≡ Some job.image) (λ d. RunsProject project job.device d.kept) ((world_at start events e.at).devices job.device.raw)
-    (λ d runs_it. record { image = job.image; runs_it = runs_it; stands = planned_of project jobs words k job h there }) (so job there)
+    (λ d runs_it. record { image = job.image; runs_it = runs_it; stands = (planned_of project jobs words k job h there).stands }) (so job there)
 done_so project jobs words start events e (Failed k signs) h so = tt
 done_so project jobs words start events e (Refused k op got expected) h so = tt
 done_so project jobs words start events e (Sent k) h so = tt
@@ -107,7 +108,8 @@ there_still P (Some old) None d h e = absurd h
 there_still P None (Some new) d h e = absurd h
 there_still P None None d h e = absurd cc
 
-now_case : (P : List Event → Type 0) (events : List Event) → AtEveryMoment P events → P events
+-- what holds at every moment holds at the last one
+pub now_case : (P : List Event → Type 0) (events : List Event) → AtEveryMoment P events → P events
 now_case P [] h = h
 now_case P (e ∷ events) h = h.0
 

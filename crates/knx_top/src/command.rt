@@ -2,8 +2,8 @@
 
 ghost use Rattle.std.specs.Prelude.{◌≡◌, ◌↔◌, ℕ, IfSome, List, Some, map, string_bytes};
 ghost use Rattle.std.specs.Option.{option_map};
-ghost use Rattle.knx_top.specs.Command.{Command as Commanded, NamesFewJobs, SpellsCommand, asked, catalogue_name, decode_word, options, project_words, sim_words};
-ghost use Rattle.knx_top.specs.Names.{command_of, named, project_words_of, sim_words_of, the_word};
+ghost use Rattle.knx_top.specs.Command.{Command as Commanded, HasFewJobs, NamesFewJobs, SpellsCommand, asked, catalogue_name, decode_word, options, project_words, sim_words};
+ghost use Rattle.knx_top.specs.Names.{command_of, named, options_of, project_words_of, sim_words_of, the_word};
 
 use crate::options::{SimOptions, behind, sim_options};
 
@@ -68,7 +68,8 @@ fn project_names(words: &[String]) -> Option<ProjectNames<'_>>
 }
 
 fn sim_names(words: &[String]) -> Option<SimNames<'_>>
-    ensures { option_map sim_words_of result ≡ sim_words (map string_bytes words.now) }
+    ensures is { option_map sim_words_of result ≡ sim_words (map string_bytes words.now) }
+    ensures few { IfSome result (λ names. HasFewJobs (options_of names.options)) }
 {
     let [new, old, script, others @ ..] = words else {
         return None;

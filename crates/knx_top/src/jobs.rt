@@ -1,8 +1,9 @@
 //! The jobs of a run.
 
-ghost use Rattle.std.specs.Prelude.{◌≡◌, IfOk, map};
+ghost use Rattle.std.specs.Prelude.{◌≡◌, ◌≤◌, IfOk, length, map};
 ghost use Rattle.std.specs.List.{list_all};
-ghost use Rattle.knx_top.specs.Jobs.{AreJobs, ArePlanned, IsPlanned, load_of, PlansImage, seen_job};
+ghost use Rattle.knx_top.specs.Command.{most_jobs};
+ghost use Rattle.knx_top.specs.Jobs.{AreJobs, ArePlanned, IsPlanned, LoadsEach, load_of, PlansImage, seen_job};
 ghost use Rattle.knx_model.specs.Device.{Fits};
 ghost use Rattle.knx_top.specs.Stops.{is_known};
 
@@ -33,16 +34,27 @@ fn loads_of(alloc: Global, devices: &[IndAddr]) -> Result<List<JobWord>, NoMemor
     Ok(jobs)
 }
 
+/// A load of each device of a project, which has at most 255, since it breaks no rule.
+fn all_loads(alloc: Global, project: &Checked<'_, '_>) -> Result<List<JobWord>, NoMemory>
+    ensures loads { IfOk result (λ jobs. LoadsEach project.now jobs) }
+    ensures few { IfOk result (λ jobs. length jobs ≤ most_jobs) }
+{
+    let _statements = project.statements();
+    let jobs = loads_of(alloc, project.devices())?;
+    Ok(jobs)
+}
+
 /// The jobs of the run: those that are named, or else a load of each device of the project.
 pub fn jobs_of(
     alloc: Global,
     named: &[JobWord],
     project: &Checked<'_, '_>,
 ) -> Result<List<JobWord>, NoMemory>
-    ensures { IfOk result (λ jobs. AreJobs named.now project.now jobs) }
+    ensures are { IfOk result (λ jobs. AreJobs named.now project.now jobs) }
+    ensures few { IfOk result (λ jobs. length named.now ≤ most_jobs → length jobs ≤ most_jobs) }
 {
     if named.is_empty() {
-        loads_of(alloc, project.devices())
+        all_loads(alloc, project)
     } else {
         Ok(List::from_vec(Vec::from_slice(alloc, named)?))
     }

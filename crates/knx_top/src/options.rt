@@ -1,9 +1,9 @@
 //! What stands behind the script: options and jobs, in any order.
 
-ghost use Rattle.std.specs.Prelude.{◌≡◌, nat_eq, count_by, None, Some, drop, length, map, string_bytes, IfOk, if◌then◌else◌};
+ghost use Rattle.std.specs.Prelude.{◌≡◌, nat_eq, count_by, None, Some, drop, length, map, string_bytes, IfOk, IfSome, if◌then◌else◌};
 ghost use Rattle.std.specs.List.{filter_map, list_all, list_any, starts_with};
 ghost use Rattle.std.specs.Option.{option_map};
-ghost use Rattle.knx_top.specs.Command.{are_few, are_options, catalogue_said, first_of_some, is_catalogue, is_job, is_log, is_word, job_named, job_said, options_once, sim_options, sim_word};
+ghost use Rattle.knx_top.specs.Command.{HasFewJobs, are_few, are_options, catalogue_said, first_of_some, is_catalogue, is_job, is_log, is_word, job_named, job_said, options_once, sim_options, sim_word};
 ghost use Rattle.knx_top.specs.Names.{named, options_of, sim_word_of, the_word};
 
 use knx_model::{JobKind, JobWord, List, NoMemory, ind_of};
@@ -183,7 +183,8 @@ fn has_log(words: &[String]) -> bool
 
 /// What the words ask for; none for other words.
 pub fn sim_options(words: &[String]) -> Option<SimOptions<'_>>
-    ensures { option_map options_of result ≡ sim_options (map string_bytes words.now) }
+    ensures is { option_map options_of result ≡ sim_options (map string_bytes words.now) }
+    ensures few { IfSome result (λ options. HasFewJobs (options_of options)) }
 {
     if !are_options(words) {
         return None;
