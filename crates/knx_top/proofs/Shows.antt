@@ -2,7 +2,8 @@
 use Rattle.std.proofs.Common.{◌≡◌, List, [], ◌∷◌, Option, Some, None, All, refl, sym, ◌∙◌, subst}
 use Rattle.std.specs.Prelude.{Bool, IsSome}
 use Rattle.std.proofs.lemmas.List.Elements.{All-weaker}
-use Rattle.bus_sim.specs.RunNow.{RunNow, start, world}
+use Rattle.bus_sim.specs.Loaded.{BusNow}
+use Rattle.bus_sim.specs.RunNow.{RunNow, world}
 use Rattle.knx_model.specs.declared.address.IndAddr.{IndAddr}
 use Rattle.knx_model.specs.declared.config.Image.{Image}
 use Rattle.knx_model.specs.Device.{NonVolatile}
@@ -10,7 +11,6 @@ use Rattle.knx_model.specs.DeviceState.{DeviceState}
 use Rattle.knx_model.specs.Meaning.{Installation}
 use Rattle.line_model.specs.declared.log.LogEntry.{LogEntry}
 use Rattle.line_model.specs.declared.log.Report.{Report}
-use Rattle.line_model.specs.Legal.{AtEveryMoment}
 use Rattle.line_model.specs.Log.{Job}
 use Rattle.line_model.specs.OldStoppedOrNew.{Both, IsCase as IsCaseAt, Meant, OldStoppedOr, OldStoppedOrNew}
 use Rattle.line_model.specs.Printed.{DeviceShown}
@@ -21,7 +21,7 @@ use Rattle.knx_top.specs.OnLine.{AreCompiled, IsCompiled, IsImageWhere, on_bus}
 use Rattle.knx_top.specs.Ran.{Outcome, Stops, Tells, BreaksOff, Reports, Ran, Runs}
 use Rattle.knx_top.specs.Shown.{AreShown, AreShownOf, IsCase, IsShown, IsShownIn}
 use Rattle.knx_top.specs.Stops.{Commission}
-use Rattle.bus_sim.specs.Loaded.{BusNow}
+use Rattle.knx_top.proofs.Meanings.{now_case}
 
 -- ---- the devices of the line stay on it
 
@@ -29,10 +29,6 @@ there_still : (P : NonVolatile → NonVolatile → Type 0) (one other : Option D
 there_still P (Some old) (Some new) both some = refl
 there_still P (Some old) None both some = absurd both
 there_still P None other both some = absurd cc
-
-now_case : (P : List Event → Type 0) (events : List Event) → AtEveryMoment P events → P events
-now_case P [] h = h
-now_case P (e ∷ events) h = h.0
 
 pub all_still : (IsNew : Meant) (jobs : List Job) (began start : World) (events : List Event) (log : List LogEntry) (devices : List (IndAddr × Option Image)) → start ≡ began → OldStoppedOrNew IsNew jobs start events log
     → All (λ (d : IndAddr × Option Image). IsSome (began.devices d.0.raw)) devices → All (λ (d : IndAddr × Option Image). IsSome ((replay start events).devices d.0.raw)) devices
