@@ -139,6 +139,7 @@ impl SimBus {
     pub(crate) fn poll_run(&mut self, into: &mut [u8; 512], wait_ms: u32) -> Result<Polled, Stopped>
         ensures polled { IfOk result (λ polled. PollsAs polled into.new wait_ms (time self.new.run) (story self.old.run) (story self.new.run)) }
         ensures err { OnErr result (PollsNothing wait_ms (story self.old.run) (story self.new.run)) }
+        ensures begun { self.new.run.begun ≡ self.old.run.begun }
         ensures faults { self.new.faults ≡ self.old.faults }
     {
         let mut run = self.take_run()?;

@@ -17,6 +17,7 @@ impl Run {
     pub fn poll(&mut self, into: &mut [u8; 512], wait_ms: u32) -> Result<Polled, Stopped>
         ensures polled { IfOk result (λ polled. PolledSo polled into.new wait_ms self.old self.new) }
         ensures err { OnErr result (StopsWithin wait_ms self.old self.new) }
+        ensures begun { self.new.begun ≡ self.old.begun }
     {
         if self.now() > u64::MAX - u64::from(wait_ms) {
             return Err(Stopped::AtEnd);
@@ -40,6 +41,7 @@ impl Run {
         requires { now (world self.old) + wait ≤ last_time }
         ensures ended { IfOk result (λ got. EndedSo got wait self.old self.new) }
         ensures err { OnErr result (StopsWithin wait self.old self.new) }
+        ensures begun { self.new.begun ≡ self.old.begun }
     {
         let mut left = wait;
         loop {

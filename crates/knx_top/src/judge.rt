@@ -93,7 +93,7 @@ fn judge_jobs(
     lines: &[ScriptLine],
     line: SimBus,
 ) -> Result<Order, Stop>
-    requires few { HasFewJobs (options_of options.entry) }
+    requires few { HasFewJobs (options_of options) }
     requires begins { BeginsLine new.now old.now lines.now line.run }
     ensures ok { IfOk result (λ order. OrderFor (with_lines (options_of options.entry) new.now old.now lines.now) order) }
     ensures err { IfErr result (λ why. why ≢ OutOfMemory tt → with_lines (options_of options.entry) new.now old.now lines.now ≡ Err why) }
@@ -117,7 +117,7 @@ fn judge_script(
     old: &Checked<'_, '_>,
     script: &Script,
 ) -> Result<Order, Stop>
-    requires { HasFewJobs (options_of options.entry) }
+    requires { HasFewJobs (options_of options) }
     ensures ok { IfOk result (λ order. OrderFor (with_lines (options_of options.entry) new.now old.now script.now.lines) order) }
     ensures err { IfErr result (λ why. why ≢ OutOfMemory tt → with_lines (options_of options.entry) new.now old.now script.now.lines ≡ Err why) }
 {
@@ -129,7 +129,7 @@ fn judge_script(
 
 /// What a run is begun with, or why the call stops before one.
 pub fn judge(alloc: Global, names: SimNames<'_>, texts: &SimTexts) -> Result<Order, Stop>
-    requires { HasFewJobs (options_of names.entry.options) }
+    requires { HasFewJobs (options_of names.options) }
     ensures ok { IfOk result (λ order. OrderFor (judged (sim_words_of names.entry) texts.now) order) }
     ensures err { IfErr result (λ why. why ≢ OutOfMemory tt → judged (sim_words_of names.entry) texts.now ≡ Err why) }
 {

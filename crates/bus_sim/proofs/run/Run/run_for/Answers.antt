@@ -1,8 +1,9 @@
-use Rattle.std.proofs.Common.{◌<◌, ◌≤◌, refl, sym, subst}
+use Rattle.std.proofs.Common.{◌<◌, ◌≤◌, refl, ap, sym, subst, ◌∙◌}
 use Rattle.knx_model.specs.Connection.{last_time}
 use Rattle.line_model.specs.World.{Pass}
 use Rattle.bus_sim.specs.Polls.{StopsWithin}
-use Rattle.bus_sim.specs.Turns.{Turns, Happens, Passes}
+use Rattle.bus_sim.specs.RunNow.{RunNow}
+use Rattle.bus_sim.specs.Turns.{Turns, Gets, Happens, Passes}
 use Rattle.bus_sim.proofs.Polling.{OnErrAny, smaller, goes_on, time_goes, stops, ends_got, ends_quiet}
 use Rattle.bus_sim.proofs.Turning.{goes_same}
 use Rattle.bus_sim.proofs.run.Run.run_for.Goals as goal
@@ -42,3 +43,16 @@ loop-octets-preserved c =
 pub returns-in-Quiet-clause-ended : goal.returns-in-Quiet-clause-ended
 returns-in-Quiet-clause-ended c = ends_quiet c.args.self.now c.loop-octets.self c.turn.new.self c.loop-octets.left c.args.wait c.loop-octets.invariant
     (subst (λ t. Turns t c.loop-octets.left c.loop-octets.self c.turn.new.self) c.in-Quiet.is c.in_ok-octets.ensures.turns)
+
+pub returns-in_err-octets-clause-begun : goal.returns-in_err-octets-clause-begun
+returns-in_err-octets-clause-begun c = ap (λ (r : RunNow). r.begun) c.in_err-octets.ensures.err ∙ c.loop-octets.invariant.0.same
+
+pub returns-in-Got-clause-begun : goal.returns-in-Got-clause-begun
+returns-in-Got-clause-begun c =
+    let h : Gets c.in-Got.octets c.loop-octets.self c.turn.new.self = subst (λ t. Turns t c.loop-octets.left c.loop-octets.self c.turn.new.self) c.in-Got.is c.in_ok-octets.ensures.turns in
+    ap (λ (r : RunNow). r.begun) h.went ∙ c.loop-octets.invariant.0.same
+
+pub returns-in-Quiet-clause-begun : goal.returns-in-Quiet-clause-begun
+returns-in-Quiet-clause-begun c =
+    let h : Passes c.loop-octets.left c.loop-octets.self c.turn.new.self = subst (λ t. Turns t c.loop-octets.left c.loop-octets.self c.turn.new.self) c.in-Quiet.is c.in_ok-octets.ensures.turns in
+    ap (λ (r : RunNow). r.begun) h.went ∙ c.loop-octets.invariant.0.same
