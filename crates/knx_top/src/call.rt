@@ -152,7 +152,7 @@ fn tell_sim<R: Wait, F: Files, K: Sink>(
     sim: &mut SimBus,
     last: &mut Option<Report>,
 ) -> Status
-    requires { HasFewJobs (options_of names.entry.options) }
+    requires { HasFewJobs (options_of names.options) }
     ensures told { RunsScript (sim_words_of names.entry) (F.file files.old) (F.faults files.old) (F.faults files.new) sim.old (record { line = sim.new; report = last.new }) (Replies (K.faults out.old) (K.faults out.new) (K.taken out.old) (K.taken out.new) result) }
     ensures stays { (other : List ℕ) → F.file files.new other ≡ F.file files.old other }
     ensures written { K.writes out.new ≡ one_more (K.writes out.old) }
@@ -175,7 +175,7 @@ fn run<R: Wait, F: Files, K: Sink>(
     last: &mut Option<Report>,
 ) -> Status
     requires none { last.old ≡ None }
-    requires few { NamesFewJobs (command_of command.entry) }
+    requires few { NamesFewJobs (command_of command) }
     ensures does { Does (Some (command_of command.entry)) (F.file files.old) (F.faults files.old) (F.faults files.new) sim.old (record { line = sim.new; report = last.new }) (Replies (K.faults out.old) (K.faults out.new) (K.taken out.old) (K.taken out.new) result) }
     ensures stays { (other : List ℕ) → F.file files.new other ≡ F.file files.old other }
     ensures written { K.writes out.new ≡ one_more (K.writes out.old) }
