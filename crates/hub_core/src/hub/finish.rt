@@ -1,7 +1,8 @@
 //! The closing.
 
-ghost use Rattle.std.specs.Prelude.{◌≡◌, IfErr, OnOk, Some, None};
+ghost use Rattle.std.specs.Prelude.{◌≡◌, IfErr, IfOk, OnOk, Some, None};
 ghost use Rattle.tunnel_link.specs.Goes.{GoesOn};
+ghost use Rattle.hub_core.specs.Hears.{HearsSo, heard_at_end};
 ghost use Rattle.hub_core.specs.Seen.{SameRun, StaysEnded};
 
 use super::Hub;
@@ -12,6 +13,8 @@ impl<L: Link> Hub<L> {
     /// One step of the closing: it listens, then asks to end the channel, then waits for the answer. No job and no group telegram is unfinished.
     pub fn finish(&mut self) -> Result<Finished, HubFault>
         ensures grows { GoesOn (L.story self.old.link) (L.story self.new.link) }
+        ensures script { L.script self.new.link ≡ L.script self.old.link }
+        ensures heard { IfOk result (λ done. HearsSo (heard_at_end done) (L.story self.old.link) (L.story self.new.link)) }
         ensures run { SameRun self.old self.new }
         ensures log { self.new.log ≡ self.old.log }
         ensures ended { StaysEnded self.old.fault result self.new.fault (self.new.link ≡ self.old.link) }
@@ -31,6 +34,8 @@ impl<L: Link> Hub<L> {
     fn goes_on(&mut self) -> Result<Finished, HubFault>
         requires stands { self.old.fault ≡ None }
         ensures grows { GoesOn (L.story self.old.link) (L.story self.new.link) }
+        ensures script { L.script self.new.link ≡ L.script self.old.link }
+        ensures heard { IfOk result (λ done. HearsSo (heard_at_end done) (L.story self.old.link) (L.story self.new.link)) }
         ensures fault { IfErr result (λ fault. self.new.fault ≡ Some fault) }
         ensures stands { OnOk result (self.new.fault ≡ None) }
         ensures run { SameRun self.old self.new }
@@ -48,6 +53,8 @@ impl<L: Link> Hub<L> {
     fn leave(&mut self) -> Result<Finished, HubFault>
         requires stands { self.old.fault ≡ None }
         ensures grows { GoesOn (L.story self.old.link) (L.story self.new.link) }
+        ensures script { L.script self.new.link ≡ L.script self.old.link }
+        ensures heard { IfOk result (λ done. HearsSo (heard_at_end done) (L.story self.old.link) (L.story self.new.link)) }
         ensures fault { IfErr result (λ fault. self.new.fault ≡ Some fault) }
         ensures stands { OnOk result (self.new.fault ≡ None) }
         ensures run { SameRun self.old self.new }
@@ -67,6 +74,8 @@ impl<L: Link> Hub<L> {
     fn listen(&mut self) -> Result<Finished, HubFault>
         requires stands { self.old.fault ≡ None }
         ensures grows { GoesOn (L.story self.old.link) (L.story self.new.link) }
+        ensures script { L.script self.new.link ≡ L.script self.old.link }
+        ensures heard { IfOk result (λ done. HearsSo (heard_at_end done) (L.story self.old.link) (L.story self.new.link)) }
         ensures fault { IfErr result (λ fault. self.new.fault ≡ Some fault) }
         ensures stands { OnOk result (self.new.fault ≡ None) }
         ensures run { SameRun self.old self.new }
