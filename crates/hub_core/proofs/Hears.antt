@@ -1,12 +1,13 @@
 -- Which group indications the calls took, one after another.
 use Rattle.std.proofs.Common.{◌≡◌, ◌⊎◌, inl, inr, ℕ, List, [], ◌∷◌, ◌++◌, Bool, Option, Some, None, Result, Ok, Err, refl, sym, ap, subst, ◌∙◌}
-use Rattle.std.specs.Prelude.{filter_map, OnOk}
+use Rattle.std.specs.Prelude.{filter_map, IfOk, OnOk}
 use Rattle.std.specs.List.{cons_option}
 use Rattle.line_model.specs.declared.fault.HubFault.{HubFault}
 use Rattle.line_model.specs.declared.group.Indication.{Indication}
 use Rattle.line_model.specs.Record.{Placed, entries}
 use Rattle.line_model.specs.LinkStory.{Story, places_in}
-use Rattle.line_model.specs.ClientView.{Takes, and_takes, group_indication, indication_of, indications}
+use Rattle.line_model.specs.Asks.{HasPlace}
+use Rattle.line_model.specs.ClientView.{Takes, and_takes, channel, group_indication, indication_of, indications}
 use Rattle.line_model.specs.Moments.{Moment, moments}
 use Rattle.line_model.specs.Told.{IsLoss}
 use Rattle.tunnel_link.specs.declared.came.Came.{Came}
@@ -14,9 +15,11 @@ use Rattle.tunnel_link.specs.declared.came.Loss.{Loss}
 use Rattle.tunnel_link.specs.declared.came.Loss.TheVariants.{Stays, Ended, Told}
 use Rattle.tunnel_link.specs.declared.came.What.{What}
 use Rattle.tunnel_link.specs.declared.came.What.TheVariants as came
-use Rattle.tunnel_link.specs.Adds.{place_of, moments_on, Grows, Growing, AllNothing, Seeks, TakesAt, TakesUnread, OrLoses, DoesSo, PollAdds}
+use Rattle.tunnel_link.specs.Adds.{place_of, moments_on, Grows, Growing, AllNothing, PutsIt, PutsOne, Seeks, TakesAt, TakesUnread, OrLoses, DoesSo, PollAdds}
 use Rattle.tunnel_link.specs.Goes.{GoesOn}
-use Rattle.hub_core.specs.Hears.{HearsSo}
+use Rattle.tunnel_link.specs.Rights.{WhereTold}
+use Rattle.hub_work.specs.declared.answers.Finished.{Finished}
+use Rattle.hub_core.specs.Hears.{HearsSo, heard_at_end}
 use Rattle.hub_core.specs.Taking.{HeardIn}
 use Rattle.hub_core.proofs.Counting.{some_is, told_before}
 use Rattle.hub_core.proofs.Hearing.{heard_in, heard_is, nothings, one_heard, takes_heard, loses_heard}
@@ -54,8 +57,19 @@ does_heard (came.Frame frame) loss now l ms heard h is =
 pub hears_poll : (s t : Story) (what : Came) (heard : Option Indication) → Growing (PollAdds (Ok what)) s t → HeardIn what.what heard → HearsSo heard s t
 hears_poll s t what heard grows is = hears_by heard s t (PollAdds (Ok what)) grows (λ old added h. does_heard what.what what.loss _ (moments_on old added) (moments old) heard h.does is)
 
+-- a request, where the place in flight was free
+pub hears_put : (s t : Story) (x : Unit {0}) (cemi : List ℕ) (at : ℕ) → Growing (PutsOne {X = Unit {0}} (Ok x) cemi at) s t → WhereTold (λ places. HasPlace (channel (entries places))) s → HearsSo None s t
+hears_put s t x cemi at grows place =
+    hears_by None s t (PutsIt cemi at) put (λ old added h. ap (λ (l : List Moment). heard_in (l ++ moments old)) h) where
+  put : Growing (PutsIt cemi at) s t
+  put old es = let g : Grows (PutsOne {X = Unit {0}} (Ok x) cemi at) (place_of s) (place_of t) old t = grows old es in record { new = g.new; told = g.told; added = g.added; grown = g.grown; is = g.is (place old es) }
+
 -- after a call that took none
 pub hears_then : (a b c : Story) (heard : Option Indication) → GoesOn b c → HearsSo None a b → HearsSo heard b c → HearsSo heard a c
 hears_then a b c heard goes none h old new ea ec = by_middle (told_before b c new goes ec) where
   by_middle : (mid : List Placed) × (places_in b ≡ Some mid) → indications (entries new) ≡ cons_option heard (indications (entries old))
   by_middle mid = h mid.0 new mid.1 ec ∙ ap (cons_option heard) (none old mid.0 ea mid.1)
+
+pub hears_after : (a b c : Story) (result : Result Finished HubFault) → GoesOn b c → HearsSo None a b → IfOk result (λ done. HearsSo (heard_at_end done) b c) → IfOk result (λ done. HearsSo (heard_at_end done) a c)
+hears_after a b c (Ok done) goes none h = hears_then a b c (heard_at_end done) goes none h
+hears_after a b c (Err fault) goes none h = tt
