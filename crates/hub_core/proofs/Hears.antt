@@ -18,8 +18,10 @@ use Rattle.tunnel_link.specs.declared.came.What.TheVariants as came
 use Rattle.tunnel_link.specs.Adds.{place_of, moments_on, Grows, Growing, AllNothing, PutsIt, PutsOne, Seeks, TakesAt, TakesUnread, OrLoses, DoesSo, PollAdds}
 use Rattle.tunnel_link.specs.Goes.{GoesOn}
 use Rattle.tunnel_link.specs.Rights.{WhereTold}
+use Rattle.tunnel_link.proofs.Stories.{goes_again}
 use Rattle.hub_work.specs.declared.answers.Finished.{Finished}
-use Rattle.hub_core.specs.Hears.{HearsSo, heard_at_end}
+use Rattle.hub_work.specs.declared.answers.Pumped.{Pumped}
+use Rattle.hub_core.specs.Hears.{HearsSo, heard_of, heard_at_end}
 use Rattle.hub_core.specs.Taking.{HeardIn}
 use Rattle.hub_core.proofs.Counting.{some_is, told_before}
 use Rattle.hub_core.proofs.Hearing.{heard_in, heard_is, nothings, one_heard, takes_heard, loses_heard}
@@ -69,6 +71,11 @@ pub hears_then : (a b c : Story) (heard : Option Indication) → GoesOn b c → 
 hears_then a b c heard goes none h old new ea ec = by_middle (told_before b c new goes ec) where
   by_middle : (mid : List Placed) × (places_in b ≡ Some mid) → indications (entries new) ≡ cons_option heard (indications (entries old))
   by_middle mid = h mid.0 new mid.1 ec ∙ ap (cons_option heard) (none old mid.0 ea mid.1)
+
+-- after two of them
+pub hears_all : (a b c d : Story) (p : Pumped) (heard : Option Indication) → heard_of p ≡ heard → GoesOn b c → GoesOn c d → HearsSo None a b → HearsSo None b c → HearsSo heard c d → HearsSo (heard_of p) a d
+hears_all a b c d p heard is goes last first second third =
+    subst (λ o. HearsSo o a d) (sym is) (hears_then a b d heard (goes_again b c d goes last) first (hears_then b c d heard last second third))
 
 pub hears_after : (a b c : Story) (result : Result Finished HubFault) → GoesOn b c → HearsSo None a b → IfOk result (λ done. HearsSo (heard_at_end done) b c) → IfOk result (λ done. HearsSo (heard_at_end done) a c)
 hears_after a b c (Ok done) goes none h = hears_then a b c (heard_at_end done) goes none h

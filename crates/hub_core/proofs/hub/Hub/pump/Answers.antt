@@ -1,7 +1,5 @@
-use Rattle.std.proofs.Common.{sym, subst}
 use Rattle.tunnel_link.proofs.Stories.{goes_again}
-use Rattle.hub_core.specs.Hears.{HearsSo}
-use Rattle.hub_core.proofs.Hears.{hears_then}
+use Rattle.hub_core.proofs.Hears.{hears_all}
 use Rattle.hub_core.proofs.hub.Hub.pump.Goals as goal
 
 pub returns-in_err-sought-clause-grows : goal.returns-in_err-sought-clause-grows
@@ -15,6 +13,4 @@ returns-clause-grows g c = (goes_again _ _ _ (goes_again _ _ _ c.act.ensures.gro
 
 pub returns-clause-heard : goal.returns-clause-heard
 returns-clause-heard g c =
-    subst (λ o. HearsSo o (g.L.Link.story c.args.self.now.link) (g.L.Link.story c.poll.new.self.link)) (sym c.pumped.ensures)
-    (hears_then _ (g.L.Link.story c.act.new.self.link) _ _ (goes_again _ _ _ c.seek.ensures.grows c.poll.ensures.grows) c.in_ok-acted.ensures.heard
-    (hears_then _ (g.L.Link.story c.seek.new.self.link) _ _ c.poll.ensures.grows c.in_ok-sought.ensures.heard c.in_ok-polled.ensures.heard))
+    hears_all _ (g.L.Link.story c.act.new.self.link) (g.L.Link.story c.seek.new.self.link) _ c.pumped.result c.in_ok-polled.polled.heard c.pumped.ensures c.seek.ensures.grows c.poll.ensures.grows c.in_ok-acted.ensures.heard c.in_ok-sought.ensures.heard c.in_ok-polled.ensures.heard
