@@ -1,5 +1,5 @@
 -- Which group indications the calls took, one after another.
-use Rattle.std.proofs.Common.{◌≡◌, ◌⊎◌, inl, inr, ℕ, List, [], ◌∷◌, ◌++◌, Bool, Option, Some, None, Result, Ok, Err, refl, sym, ap, subst, ◌∙◌}
+use Rattle.std.proofs.Common.{◌≡◌, inl, inr, ℕ, List, ◌++◌, Bool, Option, Some, None, Result, Ok, Err, refl, sym, ap, subst, ◌∙◌}
 use Rattle.std.specs.Prelude.{filter_map, IfOk, OnOk}
 use Rattle.std.specs.List.{cons_option}
 use Rattle.line_model.specs.declared.fault.HubFault.{HubFault}
@@ -7,7 +7,7 @@ use Rattle.line_model.specs.declared.group.Indication.{Indication}
 use Rattle.line_model.specs.Record.{Placed, entries}
 use Rattle.line_model.specs.LinkStory.{Story, places_in}
 use Rattle.line_model.specs.Asks.{HasPlace}
-use Rattle.line_model.specs.ClientView.{Takes, and_takes, channel, group_indication, indication_of, indications}
+use Rattle.line_model.specs.ClientView.{and_takes, channel, group_indication, indication_of, indications}
 use Rattle.line_model.specs.Moments.{Moment, moments}
 use Rattle.line_model.specs.Told.{IsLoss}
 use Rattle.tunnel_link.specs.declared.came.Came.{Came}
@@ -63,8 +63,8 @@ hears_poll s t what heard grows is = hears_by heard s t (PollAdds (Ok what)) gro
 pub hears_put : (s t : Story) (x : Unit {0}) (cemi : List ℕ) (at : ℕ) → Growing (PutsOne {X = Unit {0}} (Ok x) cemi at) s t → WhereTold (λ places. HasPlace (channel (entries places))) s → HearsSo None s t
 hears_put s t x cemi at grows place =
     hears_by None s t (PutsIt cemi at) put (λ old added h. ap (λ (l : List Moment). heard_in (l ++ moments old)) h) where
-  put : Growing (PutsIt cemi at) s t
-  put old es = let g : Grows (PutsOne {X = Unit {0}} (Ok x) cemi at) (place_of s) (place_of t) old t = grows old es in record { new = g.new; told = g.told; added = g.added; grown = g.grown; is = g.is (place old es) }
+      put : Growing (PutsIt cemi at) s t
+      put old es = let g : Grows (PutsOne {X = Unit {0}} (Ok x) cemi at) (place_of s) (place_of t) old t = grows old es in record { new = g.new; told = g.told; added = g.added; grown = g.grown; is = g.is (place old es) }
 
 -- after a call that took none
 pub hears_then : (a b c : Story) (heard : Option Indication) → GoesOn b c → HearsSo None a b → HearsSo heard b c → HearsSo heard a c

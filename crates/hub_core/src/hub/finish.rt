@@ -7,7 +7,7 @@ ghost use Rattle.hub_core.specs.Seen.{SameRun, StaysEnded};
 
 use super::Hub;
 use hub_work::{Closing, Finished, moments_go_on};
-use line_model::{HubFault, Link};
+use line_model::{HubFault, Indication, Link};
 
 impl<L: Link> Hub<L> {
     /// One step of the closing: it listens, then asks to end the channel, then waits for the answer. No job and no group telegram is unfinished.
@@ -83,14 +83,22 @@ impl<L: Link> Hub<L> {
     {
         let polled = self.poll()?;
         if polled.got {
-            let now = self.tunnel.now();
-            self.work.closing = Some(self.closing().got(now));
+            self.count();
         }
-        match polled.heard {
-            Some(indication) => Ok(Finished::Heard(indication)),
-            None if self.is_over() => Ok(Finished::Over),
-            None => Ok(Finished::Going),
-        }
+        let is_over = self.is_over();
+        Ok(finished(polled.heard, is_over))
+    }
+
+    /// One datagram more was got in the closing.
+    fn count(&mut self)
+        requires stands { self.old.fault ≡ None }
+        ensures link { self.new.link ≡ self.old.link }
+        ensures run { SameRun self.old self.new }
+        ensures log { self.new.log ≡ self.old.log }
+        ensures stands { self.new.fault ≡ None }
+    {
+        let now = self.tunnel.now();
+        self.work.closing = Some(self.closing().got(now));
     }
 
     /// How far the closing is, which begins with the first call.
@@ -122,5 +130,16 @@ impl<L: Link> Hub<L> {
         let now = self.tunnel.now();
         let is_open = self.tunnel.is_open();
         self.closing().is_over(is_open, now)
+    }
+}
+
+/// What a poll of the closing comes to.
+fn finished(heard: Option<Indication>, is_over: bool) -> Finished
+    ensures { heard_at_end result ≡ heard }
+{
+    match heard {
+        Some(indication) => Finished::Heard(indication),
+        None if is_over => Finished::Over,
+        None => Finished::Going,
     }
 }

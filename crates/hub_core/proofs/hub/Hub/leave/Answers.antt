@@ -27,5 +27,5 @@ invariant_of-self-else-asked g c =
 pub returns-then-asked-clause-heard : goal.returns-then-asked-clause-heard
 returns-then-asked-clause-heard g c = rw (← c.self.view_is) (hears_none _ _ _ c.in_ok-asked.ensures.adds (λ old added h. h.nothing))
 
-pub returns-else-asked-clause-heard : goal.returns-else-asked-clause-heard
-returns-else-asked-clause-heard g c = rw (← c.self.view_is) (hears_none _ _ _ c.in_ok-asked.ensures.adds (λ old added h. h.nothing))
+pub returns-clause-heard : goal.returns-clause-heard
+returns-clause-heard g c = rw (← c.self.view_is) (hears_none _ _ _ c.in_ok-asked.ensures.adds (λ old added h. h.nothing))
