@@ -1,12 +1,11 @@
 -- What is told of a run that never began, over a link on which nothing was done.
-use Rattle.std.proofs.Common.{◌≡◌, List, [], length, Some, refl, sym, subst}
+use Rattle.std.proofs.Common.{List, [], length, Some, refl, sym, subst}
 use Rattle.std.specs.List.{AllByRecursion}
 use Rattle.line_model.specs.declared.group.GroupTurn.{GroupTurn}
 use Rattle.line_model.specs.Headline.{IsGoodJob}
 use Rattle.line_model.specs.LinkStory.{Story, Untold, Recorded, Full, IsNewLink, record_in}
 use Rattle.line_model.specs.Log.{Job}
-use Rattle.line_model.specs.Record.{Entry, counted}
-use Rattle.line_model.specs.World.{World, Event}
+use Rattle.line_model.specs.Record.{counted}
 use Rattle.line_law.specs.Safe.{IsSafe, KeepsSafe, EverySafeInterleaving}
 use Rattle.hub_core.specs.Promises.{IsRightOver, IsSafeOver, DropsIn}
 use Rattle.hub_driver.specs.Heard.{HeardAll}
