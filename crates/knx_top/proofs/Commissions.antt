@@ -1,12 +1,16 @@
 -- A commission: what was judged is run, or the call stops.
-use Rattle.std.proofs.Common.{◌≡◌, ◌≢◌, Result, Ok, Err, refl, inl, inr, ◌⊎◌}
+use Rattle.std.proofs.Common.{◌≡◌, ◌≢◌, Result, Ok, Err, refl, sym, ap, ◌∙◌, inl, inr, ◌⊎◌}
 use Rattle.bus_sim.specs.Loaded.{BusNow}
 use Rattle.knx_model.specs.declared.command.Stop.{Stop}
 use Rattle.knx_model.specs.declared.command.Stop.TheVariants as stop
 use Rattle.knx_top.specs.declared.judge.Order.{Order}
 use Rattle.knx_top.specs.Begun.{OrderFor, IsOrder}
-use Rattle.knx_top.specs.Ran.{Comes, Stops, Outcome}
-use Rattle.knx_top.specs.Stops.{Commission}
+use Rattle.knx_top.specs.Command.{SimOptions, SimWords}
+use Rattle.knx_top.specs.Judged.{judged}
+use Rattle.knx_top.specs.Ran.{Comes, Outcome, Runs, Stops}
+use Rattle.knx_top.specs.Stops.{Commission, commission_told, sim_tests}
+use Rattle.knx_top.specs.declared.input.SimTexts.{SimTexts}
+use Rattle.knx_top.proofs.Stops.{judged_is, passed}
 
 -- ---- where the call stops before a run
 
@@ -36,6 +40,22 @@ pub decided_stop : (j : Result Commission Stop) (told : Stop) (line : BusNow) �
 decided_stop (Err why) told line h = (stops_for why told h, refl)
 decided_stop (Ok c) told line h = (no_stop c told h, refl)
 
-pub decided_run : (j : Result Commission Stop) (order : Order) (before after : BusNow) (outcome : Outcome) → OrderFor j order → ((c : Commission) → IsOrder c order → Comes (Ok c) before after outcome) → Comes j before after outcome
-decided_run (Err why) order before after outcome o h = absurd o
-decided_run (Ok c) order before after outcome o h = h c o
+-- ---- where it is run
+
+-- of what an order is for
+pub of_order : (P : Type 0) (j : Result Commission Stop) (order : Order) → OrderFor j order → ((c : Commission) → IsOrder c order → P) → P
+of_order P (Err why) order o h = absurd o
+of_order P (Ok c) order o h = h c o
+
+-- what was judged has the options of the words
+its_options : (words : SimWords) (texts : SimTexts) (c : Commission) → judged words texts ≡ Ok c → c.options ≡ words.options
+its_options words texts c e = ap (λ (told : Commission). told.options) (passed (sim_tests words texts) (commission_told words texts) c (sym (judged_is words texts) ∙ e))
+
+decided : (j : Result Commission Stop) (options : SimOptions) (order : Order) (before after : BusNow) (outcome : Outcome) → ((c : Commission) → j ≡ Ok c → c.options ≡ options) → OrderFor j order
+    → ((c : Commission) → IsOrder c order → options.log ≡ c.options.log → Runs c before after outcome) → Comes j before after outcome
+decided (Err why) options order before after outcome has o runs = absurd o
+decided (Ok c) options order before after outcome has o runs = runs c o (sym (ap (λ (these : SimOptions). these.log) (has c refl)))
+
+pub decided_run : (words : SimWords) (texts : SimTexts) (order : Order) (before after : BusNow) (outcome : Outcome) → OrderFor (judged words texts) order
+    → ((c : Commission) → IsOrder c order → words.options.log ≡ c.options.log → Runs c before after outcome) → Comes (judged words texts) before after outcome
+decided_run words texts order before after outcome o runs = decided (judged words texts) words.options order before after outcome (its_options words texts) o runs

@@ -100,20 +100,7 @@ pub done_means : (project : Installation) (jobs : List Job) (words : List JobWor
 done_means project jobs words start events [] h done = tt
 done_means project jobs words start events (e ∷ log) h done = (done_so project jobs words start events e e.what h done.0, done_means project jobs words start events log h done.1)
 
--- ---- the devices of the bus stay on it
-
-there_still : (P : NonVolatile → NonVolatile → Type 0) (one other : Option DeviceState) (d : DeviceState) → Both P one other → one ≡ Some d → (now : DeviceState) × (other ≡ Some now)
-there_still P (Some old) (Some new) d h e = (new, refl)
-there_still P (Some old) None d h e = absurd h
-there_still P None (Some new) d h e = absurd h
-there_still P None None d h e = absurd cc
-
 -- what holds at every moment holds at the last one
 pub now_case : (P : List Event → Type 0) (events : List Event) → AtEveryMoment P events → P events
 now_case P [] h = h
 now_case P (e ∷ events) h = h.0
-
-pub stays_there : (project : Installation) (jobs : List Job) (start : World) (events : List Event) (log : List LogEntry) (device : ℕ) (d : DeviceState) → OldStoppedOrNew (RunsMeaning project) jobs start events log → start.devices device ≡ Some d
-    → (now : DeviceState) × ((replay start events).devices device ≡ Some now)
-stays_there project jobs start events log device d o e =
-    there_still (OldStoppedOr (RunsMeaning project device)) (start.devices device) ((replay start events).devices device) d (now_case (IsCase (RunsMeaning project) start) events o.case device) e

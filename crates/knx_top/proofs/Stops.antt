@@ -46,6 +46,15 @@ stopped_by_none [] x e = refl
 stopped_by_none (None ∷ tests) x e = stopped_by_none tests x e
 stopped_by_none (Some told ∷ tests) x e = absurd cc
 
+-- where none failed, it is that value
+pub passed : {A : Type 0} (tests : List (Option Stop)) (x y : A) → unless_stopped tests x ≡ Ok y → y ≡ x
+passed [] x y e = same x y e
+  where
+    same : {A : Type 0} (x y : A) → (let answer : Result A Stop = Ok x in answer) ≡ Ok y → y ≡ x
+    same x y e = cc
+passed (None ∷ tests) x y e = passed tests x y e
+passed (Some told ∷ tests) x y e = absurd cc
+
 -- some tests, and those of the step that follows
 bind_tests : {A B : Type 0} (tests rest : List (Option Stop)) (x : A) (next : A → Result B Stop) (v : B) → next x ≡ unless_stopped rest v → (unless_stopped tests x >>= next) ≡ unless_stopped (tests ++ rest) v
 bind_tests [] rest x next v e = e

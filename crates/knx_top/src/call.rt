@@ -4,10 +4,10 @@ ghost use Rattle.std.specs.Prelude.{◌≡◌, ◌≢◌, ℕ, List, None, Some,
 ghost use Rattle.knx_model.specs.declared.command.Stop.TheVariants.{Usage};
 ghost use Rattle.knx_model.specs.Outside.{one_more};
 ghost use Rattle.knx_top.specs.Call.{AtMostOneRose, Does, HasNoRun, HasRunOf, IsCountsText, IsTablesText, Replies, RunsScript, TellsOfFrame, TellsOfProject, Writes};
-ghost use Rattle.knx_top.specs.Command.{ProjectWords, SimWords, asked, Check as AskedCheck, Decode as AskedDecode, Sim as AskedSim, Tables as AskedTables};
+ghost use Rattle.knx_top.specs.Command.{HasFewJobs, NamesFewJobs, ProjectWords, SimWords, asked, Check as AskedCheck, Decode as AskedDecode, Sim as AskedSim, Tables as AskedTables};
 ghost use Rattle.knx_top.specs.Ended.{IsTextOf, RepliesOf, outcome_of, told_outcome};
 ghost use Rattle.knx_top.specs.Headline.{ActsOnce, BeganRightly, EndsEveryJob, HasFaultRight, HasOldStoppedOrNew, HasTelegramsRight, IsToldRightly, RunsWhereDone};
-ghost use Rattle.knx_top.specs.Names.{command_of, project_words_of, sim_words_of};
+ghost use Rattle.knx_top.specs.Names.{command_of, options_of, project_words_of, sim_words_of};
 ghost use Rattle.knx_top.specs.Ran.{Outcome, Stops};
 
 use crate::command::{Command, ProjectNames, SimNames, asked};
@@ -152,6 +152,7 @@ fn tell_sim<R: Wait, F: Files, K: Sink>(
     sim: &mut SimBus,
     last: &mut Option<Report>,
 ) -> Status
+    requires { HasFewJobs (options_of names.options) }
     ensures told { RunsScript (sim_words_of names.entry) (F.file files.old) (F.faults files.old) (F.faults files.new) sim.old (record { line = sim.new; report = last.new }) (Replies (K.faults out.old) (K.faults out.new) (K.taken out.old) (K.taken out.new) result) }
     ensures stays { (other : List ℕ) → F.file files.new other ≡ F.file files.old other }
     ensures written { K.writes out.new ≡ one_more (K.writes out.old) }
@@ -173,7 +174,8 @@ fn run<R: Wait, F: Files, K: Sink>(
     sim: &mut SimBus,
     last: &mut Option<Report>,
 ) -> Status
-    requires { last.old ≡ None }
+    requires none { last.old ≡ None }
+    requires few { NamesFewJobs (command_of command) }
     ensures does { Does (Some (command_of command.entry)) (F.file files.old) (F.faults files.old) (F.faults files.new) sim.old (record { line = sim.new; report = last.new }) (Replies (K.faults out.old) (K.faults out.new) (K.taken out.old) (K.taken out.new) result) }
     ensures stays { (other : List ℕ) → F.file files.new other ≡ F.file files.old other }
     ensures written { K.writes out.new ≡ one_more (K.writes out.old) }

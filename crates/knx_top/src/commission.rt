@@ -9,8 +9,9 @@ ghost use Rattle.line_model.specs.Headline.{IsGoodJob};
 ghost use Rattle.knx_top.specs.Ended.{ShowsRun, outcome_of};
 ghost use Rattle.knx_top.specs.Judged.{judged};
 ghost use Rattle.knx_top.specs.Jobs.{seen_job};
-ghost use Rattle.knx_top.specs.Names.{sim_words_of};
+ghost use Rattle.knx_top.specs.Names.{options_of, sim_words_of};
 ghost use Rattle.knx_top.specs.Begun.{IsOrder};
+ghost use Rattle.knx_top.specs.Command.{HasFewJobs};
 ghost use Rattle.knx_top.specs.Ran.{Comes, Runs, report_in};
 ghost use Rattle.knx_top.specs.Stops.{Commission};
 
@@ -117,6 +118,7 @@ pub fn commission<R: Wait>(
     texts: &SimTexts,
     sim: &mut SimBus,
 ) -> SimEnd
+    requires { HasFewJobs (options_of names.options) }
     ensures { Comes (judged (sim_words_of names.entry) texts.now) sim.old sim.new (outcome_of result) }
 {
     match judge(alloc, names, texts) {
