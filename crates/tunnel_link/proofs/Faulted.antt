@@ -1,5 +1,5 @@
 -- A fault to which a call comes itself is one of the link, or that three tries failed.
-use Rattle.std.proofs.Common.{◌≡◌, ◌⊎◌, inl, inr, ℕ, List, [], ◌∷◌, Bool, true, false, cond, Option, Some, None, Result, Ok, Err, IfErr, refl, sym, subst, ap, ◌∙◌}
+use Rattle.std.proofs.Common.{◌≡◌, inl, inr, ℕ, List, Bool, true, false, cond, Option, Some, None, Result, Ok, Err, IfErr, refl, subst}
 use Rattle.knx_model.specs.declared.frames.cemi.Ldata.{Ldata}
 use Rattle.knx_model.specs.declared.frames.ip.IpFrame.{IpFrame}
 use Rattle.line_model.specs.declared.client_end.ChannelExpired.{ChannelExpired}
@@ -8,7 +8,7 @@ use Rattle.line_model.specs.declared.client_end.ChannelTook.{ChannelTook}
 use Rattle.line_model.specs.declared.client_end.ChannelTook.TheVariants as took
 use Rattle.line_model.specs.declared.fault.HubFault.{HubFault}
 use Rattle.line_model.specs.declared.fault.HubFault.TheVariants.{NoMemory, LinkFailed, GatewayRefused, Flooded, WrongLine}
-use Rattle.line_model.specs.Reading.{datagram_in, ldata_in, is_con}
+use Rattle.line_model.specs.Reading.{datagram_in, ldata_in}
 use Rattle.line_model.specs.Record.{Item, Put, Renewed, Got, Quiet}
 use Rattle.line_model.specs.LinkStory.{Story}
 use Rattle.line_model.specs.ClientEnd.{lost, is_over, channel_expired}
@@ -18,7 +18,7 @@ use Rattle.tunnel_link.specs.declared.known.Known.{Known}
 use Rattle.tunnel_link.specs.declared.tries.Tries.{Tries}
 use Rattle.tunnel_link.specs.declared.tries.Tries.TheVariants.{Zero, One, Two, Three}
 use Rattle.tunnel_link.specs.Calls.{SendsSo, ConnectsSo, AnswersSo, ListensSo, after_item}
-use Rattle.tunnel_link.specs.Kept.{refused, one_more, tried, left, is_unconfirmed_now, lapsed, after_expiry, with_due, with_heard, after_told, counted, with_channel_of, taken, dropped_as_unread, after_got, read_or_dropped, answers_heartbeat}
+use Rattle.tunnel_link.specs.Kept.{refused, left, is_unconfirmed_now, lapsed, after_expiry, with_due, with_heard, after_told, counted, with_channel_of, taken, dropped_as_unread, read_or_dropped, answers_heartbeat}
 use Rattle.tunnel_link.specs.Rights.{IsOfLink, IsOfTunnel}
 
 abbrev pub OfTunnel : Option HubFault → Type 0

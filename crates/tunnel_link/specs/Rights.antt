@@ -16,7 +16,6 @@ use Rattle.line_model.specs.Faults.{tries, datagrams_taken}
 use Rattle.line_model.specs.ClientEnd.{ClientEnd, Idle, Seeking, Open, Leaving, JustLost, is_over, put_refused}
 use Rattle.tunnel_channel.specs.Fits.{HasNone, KnowsOpen, acknowledged_in, confirmed_in}
 use Rattle.tunnel_channel.specs.Follows.{IsCurrent}
-use Rattle.tunnel_link.specs.declared.flight.Flight.{Flight}
 use Rattle.tunnel_link.specs.declared.known.Known.{Known}
 use Rattle.tunnel_link.specs.declared.tries.Tries.{Tries}
 use Rattle.tunnel_link.specs.declared.tries.Tries.TheVariants.{Zero, One, Two, Three}
