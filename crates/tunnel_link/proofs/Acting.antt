@@ -102,7 +102,7 @@ dues_two false false old one two x y = rw (y.none, x.none) (record { nothing = t
 
 module _ (lapse : Result Loss HubFault) (s0 s1 : Story) (still : WhereTold (λ places. (lapse ≡ Ok Stays) × (s1 ≡ s0)) s0) where
   -- nothing was done before
-  at_first : (P : List Placed → List Placed → Type 0) (u : Story) → Growing P s1 u → Growing P s0 u
+  pub at_first : (P : List Placed → List Placed → Type 0) (u : Story) → Growing P s1 u → Growing P s0 u
   at_first P u f old p = let h = (still old p).1 in subst (λ (s : Story). Grows P (place_of s) (place_of u) old u) h (f old (ap places_in h ∙ p))
 
   pub act_lost : (P : List Placed → List Placed → Type 0) (fault : HubFault) → lapse ≡ Err fault → Growing P s0 s1

@@ -196,7 +196,7 @@ full_polls what wait start older events fresh poll p =
       up = let h = f.up in omega arith;
     })
 
-same_places : (s : Story) (places old : List Placed) → places_in s ≡ Some places → places_in s ≡ Some old → places ≡ old
+pub same_places : (s : Story) (places old : List Placed) → places_in s ≡ Some places → places_in s ≡ Some old → places ≡ old
 same_places s places old h p = some_is places old (sym h ∙ p)
 
 pub polls_more : (what : Item) (wait clock : ℕ) (before after : Story) (old : List Placed) → is_poll what ≡ true → Keeps before → Polls what wait clock before after → IsTime clock after → places_in before ≡ Some old

@@ -1,5 +1,5 @@
 -- A poll over a link: what it adds to the places, and that what is kept of the record is kept.
-use Rattle.std.proofs.Common.{◌≡◌, ◌≢◌, ◌⊎◌, inl, inr, ℕ, suc, ◌<◌, ◌≤◌, List, [], ◌∷◌, ◌++◌, length, Bool, true, false, Option, Some, None, Result, Ok, Err, IfOk, refl, sym, subst, ap, ◌∙◌, arith}
+use Rattle.std.proofs.Common.{◌≡◌, ◌≢◌, ◌⊎◌, inl, inr, ℕ, suc, ◌+◌, ◌<◌, ◌≤◌, List, [], ◌∷◌, ◌++◌, length, Bool, true, false, Option, Some, None, Result, Ok, Err, IfOk, refl, sym, subst, ap, ◌∙◌, arith}
 use Rattle.std.specs.Prelude.{◌||◌}
 use Rattle.knx_model.specs.declared.frames.ip.IpFrame.{IpFrame}
 use Rattle.line_model.specs.declared.fault.HubFault.{HubFault}
@@ -29,6 +29,7 @@ use Rattle.tunnel_link.proofs.Waited.{Waited, InTime, Lapsed, Unheard, IsLoss}
 use Rattle.tunnel_link.proofs.Lapses.{Outcome, asks_to_leave, Answers}
 use Rattle.tunnel_link.proofs.Polls.{newest_last, waits_all, waits_right}
 use Rattle.tunnel_link.proofs.PollEnds.{Comes, comes}
+use Rattle.tunnel_link.proofs.PollParts.{Polls, PollsAndSends, IsPolling}
 
 -- ---- nothing is put
 
@@ -129,15 +130,17 @@ pub record PollCall (result : Result Came HubFault) (k new : Known) (before afte
   pub adds : KeepsAll k before → k.fault ≡ None → Growing (PollAdds result) before after
 
 -- of old places
-pub record PollOf (result : Result Came HubFault) (new : Known) (before after : Story) (old : List Placed) : Type 0 where
+pub record PollOf (result : Result Came HubFault) (wait : ℕ) (new : Known) (before after : Story) (old : List Placed) : Type 0 where
   pub is : After (λ places. IsKept new (entries places)) after
   pub grows : Grows (PollAdds result) (place_of before) (place_of after) old after
+  pub polling : IsPolling wait old grows.added
 
-module _ (result : Result Came HubFault) (new : Known) (before between after : Story) (old ws : List Placed) (legal : Keeps between) (next : Known) (a : Answer) (p : Placed) (poll : is_poll p.what.what ≡ true)
-    (times : AreWaits (newest_time (entries old)) (entries ws)) (c : Comes next a old ws p) (told : places_in between ≡ Some (p ∷ (ws ++ old))) (above : IsAbove (place_of before) (p ∷ ws)) (upto : IsUpto (place_of between) (p ∷ ws)) (up : place_of before ≤ place_of between) where
+module _ (result : Result Came HubFault) (wait : ℕ) (new : Known) (before between after : Story) (old ws : List Placed) (legal : Keeps between) (next : Known) (a : Answer) (p : Placed) (poll : is_poll p.what.what ≡ true)
+    (times : AreWaits (newest_time (entries old)) (entries ws)) (in_time : newest_time (entries (ws ++ old)) ≤ newest_time (entries old) + wait) (c : Comes next a old ws p) (told : places_in between ≡ Some (p ∷ (ws ++ old))) (above : IsAbove (place_of before) (p ∷ ws)) (upto : IsUpto (place_of between) (p ∷ ws)) (up : place_of before ≤ place_of between) where
   pub by_answer : (sends : Option (List ℕ)) → Outcome next sends (entries ((p ∷ ws) ++ old)) → asks_to_leave sends ≡ is_told a.loss → IfOk result (λ (x : Came). x ≡ record { what = a.what; loss = a.loss; sent = is_there sends }) → AnswersSo result sends next new between after
-      → PollOf result new before after old
+      → PollOf result wait new before after old
   by_answer None kept tells gives u = record {
+    polling = record { rest = p ∷ []; waits = ws; parts = refl; once = Polls p; times = times; in_time = in_time };
     is = record { new = p ∷ (ws ++ old); told = ap places_in u.story ∙ told; is = rw u.known kept };
     grows = record {
       new = p ∷ (ws ++ old);
@@ -149,6 +152,7 @@ module _ (result : Result Came HubFault) (new : Known) (before between after : S
   }
   by_answer (Some octets) may tells gives (inl s) =
       let m = adds_more (Put octets) _ (sends_it octets) between after (p ∷ (ws ++ old)) legal s.story told in record {
+        polling = record { rest = one_sent octets (place_of after) (p ∷ (ws ++ old)) ∷ p ∷ []; waits = ws; parts = refl; once = PollsAndSends (one_sent octets (place_of after) (p ∷ (ws ++ old))) p refl; times = times; in_time = in_time };
         is = record { new = one_sent octets (place_of after) (p ∷ (ws ++ old)) ∷ p ∷ (ws ++ old); told = m.told; is = rw s.known (sent_kept next octets Nothing (entries ((p ∷ ws) ++ old)) may) };
         grows = record {
           new = one_sent octets (place_of after) (p ∷ (ws ++ old)) ∷ p ∷ (ws ++ old);
@@ -167,9 +171,10 @@ module _ (result : Result Came HubFault) (new : Known) (before between after : S
       err_gives (Ok y) sent h = absurd (cc)
       err_gives (Err e) sent h = tt
 
-      failed : SendsOrNot octets between after → PollOf result new before after old
+      failed : SendsOrNot octets between after → PollOf result wait new before after old
       failed (inl s) =
           let m = adds_more (Put octets) _ (sends_it octets) between after (p ∷ (ws ++ old)) legal s told in record {
+            polling = record { rest = one_sent octets (place_of after) (p ∷ (ws ++ old)) ∷ p ∷ []; waits = ws; parts = refl; once = PollsAndSends (one_sent octets (place_of after) (p ∷ (ws ++ old))) p refl; times = times; in_time = in_time };
             is = record { new = one_sent octets (place_of after) (p ∷ (ws ++ old)) ∷ p ∷ (ws ++ old); told = m.told; is = rw f.fails.known (failed_kept next _ f.fault f.fails.by_link (sent_right next octets Nothing (entries ((p ∷ ws) ++ old)) may)) };
             grows = record {
               new = one_sent octets (place_of after) (p ∷ (ws ++ old)) ∷ p ∷ (ws ++ old);
@@ -180,6 +185,7 @@ module _ (result : Result Came HubFault) (new : Known) (before between after : S
             };
           }
       failed (inr e) = record {
+        polling = record { rest = p ∷ []; waits = ws; parts = refl; once = Polls p; times = times; in_time = in_time };
         is = record { new = p ∷ (ws ++ old); told = ap places_in e ∙ told; is = bad may.right };
         grows = record {
           new = p ∷ (ws ++ old);

@@ -95,7 +95,7 @@ over_now (Leaving e) t ch before b (inl f) o = f
 over_now (Leaving e) t ch before b (inr f) o = absurd (let h = f.over in cc)
 over_now (JustLost c) t ch before b f o = absurd b
 
-none_stays : (ch : ClientChannel) (what : Item) (now : ℕ) → is_poll what ≡ true → HasNone ch → after_entry ch (entry what now) ≡ ch
+pub none_stays : (ch : ClientChannel) (what : Item) (now : ℕ) → is_poll what ≡ true → HasNone ch → after_entry ch (entry what now) ≡ ch
 unfolding after_entry
 none_stays ch (Put octets) now p n = absurd (cc)
 none_stays ch Renewed now p n = absurd (cc)
