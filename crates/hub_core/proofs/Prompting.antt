@@ -1,9 +1,9 @@
 -- What was polled promptly stays so: each entry that a call adds is prompt, or nothing is left to be done.
-use Rattle.std.proofs.Common.{◌≡◌, ◌⊎◌, inl, inr, ℕ, List, [], ◌∷◌, ◌++◌, Option, Some, None, refl, sym, subst, ◌∙◌}
+use Rattle.std.proofs.Common.{◌≡◌, ◌⊎◌, inl, inr, List, [], ◌∷◌, ◌++◌, Option, Some, None, refl, sym, subst, ◌∙◌}
 use Rattle.line_model.specs.declared.group.GroupTurn.{GroupTurn}
 use Rattle.line_model.specs.declared.log.LogEntry.{LogEntry}
 use Rattle.line_model.specs.Record.{Placed, entries}
-use Rattle.line_model.specs.LinkStory.{Story, places_in}
+use Rattle.line_model.specs.LinkStory.{Story}
 use Rattle.line_model.specs.Log.{Job, JobUnfinished, TurnUnfinished}
 use Rattle.line_model.specs.Renews.{PollsPromptly}
 use Rattle.tunnel_link.specs.Adds.{place_of, Grows, Growing, AllPrompt}

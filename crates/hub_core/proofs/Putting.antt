@@ -23,7 +23,7 @@ use Rattle.hub_work.specs.declared.work.turn.Turn.TheVariants as turn
 use Rattle.hub_work.specs.Fits.{Fits, in_flight}
 use Rattle.hub_work.specs.Follows.{IsNew, PutFollows, TurnFollows, TellsTruly, TelegramIsRight, TelegramFollows}
 use Rattle.hub_work.specs.Telegrams.{IsNextRequest}
-use Rattle.hub_work.specs.Works.{KeepsBooks, tasks}
+use Rattle.hub_work.specs.Works.{KeepsBooks}
 use Rattle.hub_core.specs.Discipline.{Asks, TellsAndAsks}
 use Rattle.hub_core.specs.Keeps.{HasOwnCause, KeepsTold, Keeps}
 use Rattle.hub_core.proofs.Calls.{added_to, not_none, same_refl, same_some, own_of_tunnel}
