@@ -7,7 +7,7 @@ use Rattle.knx_model.specs.declared.plan.Expect.{Expect}
 use Rattle.knx_model.specs.declared.plan.Expect.TheVariants.{AckOnly, Is, Note}
 use Rattle.knx_model.specs.Connection.{IsApdu}
 use Rattle.knx_model.specs.ClientConnection.{has_answer}
-use Rattle.knx_model.specs.Device.{NonVolatile, HasCapacities, runs, whole, effect_in, answer_in}
+use Rattle.knx_model.specs.Device.{NonVolatile, runs, whole, effect_in, answer_in}
 use Rattle.knx_model.specs.DeviceFrames.{Outcome, Whole, Torn, Worn, kept_after}
 use Rattle.knx_model.specs.Plans.{Plan, Over, Asks, Suits}
 
@@ -46,10 +46,10 @@ pub record GoodPlan (plan : Plan) (image : Image) : Type 0 where
   pub beginnings : (frames : FrameSupport) (start end : NonVolatile) → Beginning (answer_in frames) plan start end → OldStoppedOrImage start image end
   pub whole_runs : (frames : FrameSupport) (start end : NonVolatile) → WholeRun (answer_in frames) plan start end → runs end ≡ Some image
 
--- a plan that checks changes nothing, and a device with its memories that answers all of it as wanted runs the image
+-- a plan that checks changes nothing, and a device that answers all of it as wanted runs the image
 pub record GoodCheck (plan : Plan) (image : Image) : Type 0 where
   pub changes_nothing : (frames : FrameSupport) (start end : NonVolatile) → Beginning (answer_in frames) plan start end → end ≡ start
-  pub tells : (frames : FrameSupport) (start end : NonVolatile) → HasCapacities start → WholeRun (answer_in frames) plan start end → runs start ≡ Some image
+  pub tells : (frames : FrameSupport) (start end : NonVolatile) → WholeRun (answer_in frames) plan start end → runs start ≡ Some image
 
 -- ---- a plan that is given to a device that nothing disturbs: each operation is taken whole
 

@@ -9,11 +9,11 @@ use Rattle.knx_model.specs.declared.log.JobKind.TheVariants.{Load, Check}
 use Rattle.knx_model.specs.declared.log.JobWord.{JobWord}
 use Rattle.knx_model.specs.Device.{Fits, HasCapacities, NonVolatile, answer_in, effect_in, runs, whole}
 use Rattle.knx_model.specs.DeviceFrames.{Whole}
-use Rattle.knx_model.specs.GoodPlan.{Answering, AnswersAll, Beginning, Last, Then, GoodCheck, GoodPlan, IsSendable, WholeRun, AtEnd, Goes, kept_by}
+use Rattle.knx_model.specs.GoodPlan.{Answering, AnswersAll, Beginning, Last, Then, GoodPlan, IsSendable, WholeRun, AtEnd, Goes, kept_by}
 use Rattle.knx_model.specs.LoadPlan.{check_plan}
 use Rattle.knx_model.specs.Meaning.{Installation}
 use Rattle.knx_model.specs.Plans.{Plan}
-use Rattle.line_model.specs.Headline.{IsGoodJob}
+use Rattle.line_model.specs.Headline.{GoodCheck, IsGoodJob}
 use Rattle.line_model.specs.Log.{Job, loads}
 use Rattle.knx_top.specs.Jobs.{ArePlanned, plan_of}
 

@@ -5,12 +5,12 @@ use Rattle.std.specs.List.{AllByRecursion}
 use Rattle.knx_model.specs.declared.device.FrameSupport.{FrameSupport}
 use Rattle.knx_model.specs.Device.{NonVolatile, HasCapacities, runs, answer_in, effect_in}
 use Rattle.knx_model.specs.DeviceState.{DeviceState}
-use Rattle.knx_model.specs.GoodPlan.{Answering, GoodCheck, IsSendable, Beginning, NotBegun, Then, WholeRun, AtEnd, Goes, kept_by}
+use Rattle.knx_model.specs.GoodPlan.{Answering, IsSendable, Beginning, NotBegun, Then, WholeRun, AtEnd, Goes, kept_by}
 use Rattle.knx_model.specs.Plans.{Plan}
 use Rattle.line_model.specs.declared.log.LogEntry.{LogEntry}
 use Rattle.line_model.specs.declared.log.LogWhat.{LogWhat}
 use Rattle.line_model.specs.declared.log.LogWhat.TheVariants.{Took, Done, Failed, Refused, Sent, Lost}
-use Rattle.line_model.specs.Headline.{IsGoodJob}
+use Rattle.line_model.specs.Headline.{GoodCheck, IsGoodJob}
 use Rattle.line_model.specs.Log.{Job, Untaken, Held, Over, loads, job_of, log_before, takes_it, ends_it, state_after, state_of}
 use Rattle.line_model.specs.OldStoppedOrNew.{RunsJob, OldStoppedOr, loads_device, takes_load, load_taken}
 use Rattle.line_model.specs.World.{World, Event, me}
