@@ -23,7 +23,7 @@ use Rattle.hub_work.specs.Fits.{Fits}
 use Rattle.hub_work.specs.Follows.{IsAside}
 use Rattle.hub_work.specs.Works.{KeepsBooks, tasks}
 
--- ---- the work but for its closing: its jobs, its log and its books stay as they are
+-- ---- the work but for how far it closes: its jobs, its log and its books stay as they are, and the closing doesn't begin
 
 pub record SameWork (old new : Work) : Type 0 where
   pub reservation : new.reservation ≡ old.reservation
@@ -33,6 +33,7 @@ pub record SameWork (old new : Work) : Type 0 where
   pub journal : new.journal ≡ old.journal
   pub unfinished : new.unfinished ≡ old.unfinished
   pub tasks_are : tasks new ≡ tasks old
+  pub unbegun : old.closing ≡ None → new.closing ≡ None
 
 -- ---- the moments that a poll added, the newest first
 

@@ -1,6 +1,7 @@
 //! One poll of the link, with what is due before it.
 
 ghost use Rattle.std.specs.Prelude.{◌≡◌, IfErr, IfOk, OnOk, Some, None};
+ghost use Rattle.tunnel_link.specs.Adds.{HasActed, Ready};
 ghost use Rattle.tunnel_link.specs.Goes.{GoesOn};
 ghost use Rattle.hub_core.specs.Hears.{HearsSo, heard_of};
 ghost use Rattle.hub_core.specs.Seen.{SameRun, StaysEnded};
@@ -34,6 +35,7 @@ impl<L: Link> Hub<L> {
     /// Does what is due by the time. Tells whether it did something.
     pub(super) fn act(&mut self) -> Result<bool, HubFault>
         requires stands { self.old.fault ≡ None }
+        ensures acted { OnOk result (HasActed self.new.known (L.story self.new.link)) }
         ensures grows { GoesOn (L.story self.old.link) (L.story self.new.link) }
         ensures script { L.script self.new.link ≡ L.script self.old.link }
         ensures heard { OnOk result (HearsSo None (L.story self.old.link) (L.story self.new.link)) }
@@ -52,6 +54,8 @@ impl<L: Link> Hub<L> {
     /// Asks for a channel. Tells whether it did.
     fn seek(&mut self) -> Result<bool, HubFault>
         requires stands { self.old.fault ≡ None }
+        requires acted { HasActed self.old.known (L.story self.old.link) }
+        ensures ready { OnOk result (self.new.closing ≡ None → Ready self.new.known (L.story self.new.link)) }
         ensures grows { GoesOn (L.story self.old.link) (L.story self.new.link) }
         ensures script { L.script self.new.link ≡ L.script self.old.link }
         ensures heard { OnOk result (HearsSo None (L.story self.old.link) (L.story self.new.link)) }
@@ -74,6 +78,7 @@ impl<L: Link> Hub<L> {
     /// Makes one poll.
     pub(super) fn poll(&mut self) -> Result<Polled, HubFault>
         requires stands { self.old.fault ≡ None }
+        requires ready { self.old.closing ≡ None → Ready self.old.known (L.story self.old.link) }
         ensures grows { GoesOn (L.story self.old.link) (L.story self.new.link) }
         ensures script { L.script self.new.link ≡ L.script self.old.link }
         ensures heard { IfOk result (λ polled. HearsSo polled.heard (L.story self.old.link) (L.story self.new.link)) }

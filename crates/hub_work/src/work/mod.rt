@@ -3,7 +3,7 @@
 mod deliver;
 mod turn;
 
-ghost use Rattle.std.specs.Prelude.{◌≡◌, ℕ, ◌<◌, length, map, reverse, ◌/◌, ◌==◌, not, IfOk, IfSome};
+ghost use Rattle.std.specs.Prelude.{◌≡◌, ℕ, ◌<◌, length, map, reverse, ◌/◌, ◌==◌, not, IfOk, IfSome, None};
 ghost use Rattle.hub_work.specs.declared.job.HubJob.{HubJob as Job};
 ghost use Rattle.std.specs.List.{AllByRecursion, find};
 ghost use Rattle.knx_model.specs.declared.address.IndAddr.{IndAddr as Address};
@@ -66,6 +66,7 @@ impl Work {
         requires sendable { AllByRecursion IsTurnInRange groups }
         ensures begins { IfOk result (λ work. BeginsWith (map (λ (j : Job). j.device) jobs) groups work) }
         ensures books { IfOk result (λ work. (at : ℕ) → KeepsBooks at work) }
+        ensures unbegun { IfOk result (λ work. work.closing ≡ None) }
         ensures tasks { IfOk result (λ work. tasks work ≡ map task_of_hub_job jobs) }
         ensures fits { IfOk result (BeginsRightly jobs) }
     {

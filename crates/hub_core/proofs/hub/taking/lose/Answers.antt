@@ -1,7 +1,8 @@
-use Rattle.std.proofs.Common.{sym, subst}
+use Rattle.std.proofs.Common.{◌≡◌, true, false, ap, sym, subst, ◌∙◌}
+use Rattle.std.specs.Prelude.{is_some}
 use Rattle.tunnel_link.specs.declared.came.Loss.{Loss}
 use Rattle.hub_work.specs.declared.work.Work.{Work}
-use Rattle.hub_core.specs.Taking.{AsideOrLost, LosesIn}
+use Rattle.hub_core.specs.Taking.{SameWork, AsideOrLost, LosesIn}
 use Rattle.hub_core.proofs.Keeps.{of_books}
 use Rattle.hub_core.proofs.Losing.{loss_follows, closing_follows}
 use Rattle.hub_core.proofs.Quiet.{asides_fit}
@@ -28,3 +29,17 @@ returns-else-is_some-clause-fits c =
     let v : Work = c.lost-in-Told.new.self in
     subst (λ (x : Loss). LosesIn x c.args.now c.args.work.now v) (sym c.in-Told.is)
     (loss_follows c.args.work.now v c.args.now (of_books _ _ c.lost-in-Told.ensures.books) c.moments_go_on.ensures.aside c.lost-in-Told.ensures.follows)
+
+pub returns-then-is_some-clause-books : goal.returns-then-is_some-clause-books
+returns-then-is_some-clause-books c =
+    let b : SameWork c.args.work.now c.lost-in-Told.new.self = of_books _ _ c.lost-in-Told.ensures.books in
+    record {
+      reservation = b.reservation;
+      turns = b.turns;
+      told = b.told;
+      held = b.held;
+      journal = b.journal;
+      unfinished = b.unfinished;
+      tasks_are = b.tasks_are;
+      unbegun = λ e. absurd (let no : c.is_some.result ≡ false = c.is_some.ensures ∙ ap is_some (b.unbegun e) in let z : true ≡ false = sym c.if-is_some.true ∙ no in cc);
+    }
