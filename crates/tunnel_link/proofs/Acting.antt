@@ -1,8 +1,8 @@
 -- What is due, one after another, adds what each adds.
-use Rattle.std.proofs.Common.{◌≡◌, ◌≢◌, ◌⊎◌, inl, inr, ℕ, ◌+◌, ◌<◌, ◌≤◌, List, [], ◌∷◌, ◌++◌, length, Bool, true, false, Option, Some, None, Result, Ok, Err, refl, sym, subst, ap, ◌∙◌, arith}
+use Rattle.std.proofs.Common.{◌≡◌, ◌≢◌, ℕ, ◌≤◌, List, [], ◌∷◌, ◌++◌, Bool, true, false, Some, Result, Ok, Err, refl, sym, subst, ap, ◌∙◌, arith}
 use Rattle.std.proofs.lemmas.List.{append_assoc, length-append}
 use Rattle.std.specs.Prelude.{◌||◌}
-use Rattle.std.specs.List.{AllByRecursion, list_any}
+use Rattle.std.specs.List.{list_any}
 use Rattle.line_model.specs.declared.fault.HubFault.{HubFault}
 use Rattle.line_model.specs.Record.{Placed, entries, is_poll}
 use Rattle.line_model.specs.LinkStory.{Story, Untold, Recorded, Full, places_in, newest_time}
@@ -14,7 +14,7 @@ use Rattle.tunnel_link.specs.declared.came.Loss.{Loss}
 use Rattle.tunnel_link.specs.declared.came.Loss.TheVariants.{Stays}
 use Rattle.tunnel_link.specs.Goes.{GoesOn}
 use Rattle.tunnel_link.specs.Rights.{WhereTold}
-use Rattle.tunnel_link.specs.Adds.{place_of, Added, Grows, Growing, AllNothing, Dues, DuesOne, DuesNone, Acts, ActsSo, is_told}
+use Rattle.tunnel_link.specs.Adds.{place_of, Grows, Growing, AllNothing, Dues, DuesOne, Acts, is_told}
 use Rattle.tunnel_link.proofs.Growth.{IsAbove, IsUpto, upto_more}
 use Rattle.tunnel_link.proofs.Places.{added_of}
 

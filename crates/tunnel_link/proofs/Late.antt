@@ -1,5 +1,5 @@
 -- What is late is a matter of what this end knows. It stays late, and two calls of what is due leave nothing late.
-use Rattle.std.proofs.Common.{◌≡◌, ℕ, ◌<◌, ◌≤◌, List, [], ◌∷◌, Bool, true, false, cond, Option, Some, None, refl, sym, ◌∙◌, arith}
+use Rattle.std.proofs.Common.{◌≡◌, ℕ, ◌<◌, ◌≤◌, List, [], ◌∷◌, Bool, true, false, cond, Option, Some, None, refl, arith}
 use Rattle.std.specs.Prelude.{◌||◌, is_some}
 use Rattle.std.proofs.lemmas.Bool.Decides.{nat_tests}
 use Rattle.knx_model.specs.KnxNetIp.{Written}
@@ -13,7 +13,7 @@ use Rattle.line_model.specs.ClientView as seen
 use Rattle.line_model.specs.ClientView.{ClientChannel, channel, after_entry}
 use Rattle.line_model.specs.ChannelLost.{answer_wait, heartbeat_pause, own, is_lost}
 use Rattle.line_model.specs.Renews.{is_repeat_due, is_beat_due, is_late}
-use Rattle.line_model.specs.ClientEnd.{ClientEnd, Idle, Seeking, Open, Leaving, JustLost, Outstanding, OpenEnd, open_end, is_given_up, is_dead, repeat_due, repeat_or_beat, open_expired, channel_expired, after_expired, repeated, beaten}
+use Rattle.line_model.specs.ClientEnd.{ClientEnd, Idle, Seeking, Open, Leaving, JustLost, OpenEnd, open_end, is_given_up, is_dead, repeat_due, open_expired, channel_expired, after_expired, repeated, beaten}
 use Rattle.tunnel_channel.specs.Fits.{HasNone, KnowsOpen, outstanding_of}
 use Rattle.tunnel_link.specs.Rights.{FitsNow}
 use Rattle.tunnel_link.proofs.Waited.{or_neither}

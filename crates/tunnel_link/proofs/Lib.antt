@@ -2,6 +2,7 @@ pub mod Acting
 pub mod Beats
 pub mod CallAnswers
 pub mod CallsKept
+pub mod Caused
 pub mod Clock
 pub mod Deadlines
 pub mod DueLate

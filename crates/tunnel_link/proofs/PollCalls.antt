@@ -1,15 +1,12 @@
 -- A poll over a link: what it adds to the places, and that what is kept of the record is kept.
-use Rattle.std.proofs.Common.{◌≡◌, ◌≢◌, ◌⊎◌, inl, inr, ℕ, suc, ◌+◌, ◌<◌, ◌≤◌, List, [], ◌∷◌, ◌++◌, length, Bool, true, false, Option, Some, None, Result, Ok, Err, IfOk, refl, sym, subst, ap, ◌∙◌, arith}
+use Rattle.std.proofs.Common.{◌≡◌, inl, inr, ℕ, ◌+◌, ◌≤◌, List, [], ◌∷◌, ◌++◌, Bool, true, false, Option, Some, None, Result, Ok, Err, IfOk, refl, sym, subst, ap, ◌∙◌, arith}
 use Rattle.std.specs.Prelude.{◌||◌}
-use Rattle.knx_model.specs.declared.frames.ip.IpFrame.{IpFrame}
 use Rattle.line_model.specs.declared.fault.HubFault.{HubFault}
-use Rattle.line_model.specs.Reading.{datagram_in}
-use Rattle.line_model.specs.Record.{Item, Put, Entry, entry, is_poll, Placed, entries}
-use Rattle.line_model.specs.LinkStory.{Story, places_in, newest_time, AreWaits, Sends, SendsOrNot}
+use Rattle.line_model.specs.Record.{Put, entry, is_poll, Placed, entries}
+use Rattle.line_model.specs.LinkStory.{Story, places_in, newest_time, AreWaits, SendsOrNot}
 use Rattle.line_model.specs.ClientView.{channel, Puts, Takes, Loses, Nothing, deed}
 use Rattle.line_model.specs.Moments.{Moment}
 use Rattle.line_model.specs.Signs.{Every}
-use Rattle.line_model.specs.ClientFrames.{HasTunnelIfUp}
 use Rattle.tunnel_link.specs.declared.came.Answer.{Answer}
 use Rattle.tunnel_link.specs.declared.came.Came.{Came}
 use Rattle.tunnel_link.specs.declared.came.Loss.{Loss}
@@ -17,18 +14,16 @@ use Rattle.tunnel_link.specs.declared.came.Loss.TheVariants as loss
 use Rattle.tunnel_link.specs.declared.came.What.{What}
 use Rattle.tunnel_link.specs.declared.came.What.TheVariants as came
 use Rattle.tunnel_link.specs.declared.known.Known.{Known}
-use Rattle.tunnel_link.specs.Goes.{GoesOn, Goes, Keeps, KeepsAll}
-use Rattle.tunnel_link.specs.Rights.{IsRight, FitsRecord, IsKept, KeepsRecord}
-use Rattle.tunnel_link.specs.Adds.{place_of, Added, Grows, Growing, IsNothing, PutsNone, One, AllNothing, DoesSo, OrLoses, Brings, PollAdds, moments_on, asks_end, is_told}
-use Rattle.tunnel_link.specs.Calls.{Fails, Polled, AnswersSo, Listening, Unpolled, ListensSo, is_there, after_item, item_answer}
-use Rattle.tunnel_link.proofs.Growth.{IsAbove, IsUpto, upto_more, quiet_places, Polling, polls_more, Failing, fails_more, OneMore, sends_it, adds_more}
-use Rattle.tunnel_link.proofs.MaySend.{Sending, sent_right, sent_kept, failed_kept}
-use Rattle.tunnel_link.proofs.Places.{added_of, After, where_after, one_sent}
-use Rattle.tunnel_link.proofs.Stories.{goes_then, stays, sends_goes, sends_or_goes, polls_goes, nothing_goes}
+use Rattle.tunnel_link.specs.Goes.{Goes, Keeps, KeepsAll}
+use Rattle.tunnel_link.specs.Rights.{IsRight, IsKept}
+use Rattle.tunnel_link.specs.Adds.{place_of, Grows, Growing, IsNothing, PutsNone, One, DoesSo, OrLoses, PollAdds, moments_on, is_told}
+use Rattle.tunnel_link.specs.Calls.{AnswersSo, is_there}
+use Rattle.tunnel_link.proofs.Growth.{IsAbove, IsUpto, upto_more, quiet_places, sends_it, adds_more}
+use Rattle.tunnel_link.proofs.MaySend.{sent_right, sent_kept, failed_kept}
+use Rattle.tunnel_link.proofs.Places.{added_of, After, one_sent}
 use Rattle.tunnel_link.proofs.Waited.{Waited, InTime, Lapsed, Unheard, IsLoss}
-use Rattle.tunnel_link.proofs.Lapses.{Outcome, asks_to_leave, Answers}
-use Rattle.tunnel_link.proofs.Polls.{newest_last, waits_all, waits_right}
-use Rattle.tunnel_link.proofs.PollEnds.{Comes, comes}
+use Rattle.tunnel_link.proofs.Lapses.{Outcome, asks_to_leave}
+use Rattle.tunnel_link.proofs.PollEnds.{Comes}
 use Rattle.tunnel_link.proofs.PollParts.{Polls, PollsAndSends, IsPolling}
 
 -- ---- nothing is put

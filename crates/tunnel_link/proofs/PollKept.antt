@@ -1,22 +1,21 @@
 -- A poll over a link keeps what is kept of the record, and adds what it says.
-use Rattle.std.proofs.Common.{◌≡◌, ◌≢◌, ◌⊎◌, inl, inr, ℕ, suc, ◌<◌, ◌≤◌, List, [], ◌∷◌, ◌++◌, length, Bool, true, false, Option, Some, None, Result, Ok, Err, IfOk, refl, sym, subst, ap, ◌∙◌, arith}
+use Rattle.std.proofs.Common.{◌≡◌, inl, inr, ℕ, ◌≤◌, List, [], ◌∷◌, ◌++◌, Option, Some, None, Result, refl, sym, subst, ap, ◌∙◌, arith}
 use Rattle.knx_model.specs.declared.frames.ip.IpFrame.{IpFrame}
 use Rattle.line_model.specs.declared.fault.HubFault.{HubFault}
 use Rattle.line_model.specs.Reading.{datagram_in}
-use Rattle.line_model.specs.Record.{Item, Put, Entry, entry, is_poll, Placed, entries}
-use Rattle.line_model.specs.LinkStory.{Story, places_in, newest_time, AreWaits}
-use Rattle.line_model.specs.ClientView.{Nothing}
+use Rattle.line_model.specs.Record.{entry, Placed, entries}
+use Rattle.line_model.specs.LinkStory.{Story, places_in, newest_time}
 use Rattle.line_model.specs.ClientFrames.{HasTunnelIfUp}
 use Rattle.tunnel_link.specs.declared.came.Answer.{Answer}
 use Rattle.tunnel_link.specs.declared.came.Came.{Came}
 use Rattle.tunnel_link.specs.declared.known.Known.{Known}
-use Rattle.tunnel_link.specs.Goes.{GoesOn, Goes, Keeps, KeepsAll}
-use Rattle.tunnel_link.specs.Rights.{IsRight, FitsRecord, IsKept, KeepsRecord}
-use Rattle.tunnel_link.specs.Adds.{place_of, Grows, Growing, PollAdds}
-use Rattle.tunnel_link.specs.Calls.{Polled, AnswersSo, Listening, Unpolled, ListensSo, is_there, after_item, item_answer}
-use Rattle.tunnel_link.proofs.Growth.{IsAbove, IsUpto, upto_more, Polling, polls_more, Failing, fails_more}
-use Rattle.tunnel_link.proofs.MaySend.{Sending, failed_kept}
-use Rattle.tunnel_link.proofs.Places.{added_of, After, where_after}
+use Rattle.tunnel_link.specs.Goes.{Goes, Keeps, KeepsAll}
+use Rattle.tunnel_link.specs.Rights.{IsRight, IsKept}
+use Rattle.tunnel_link.specs.Adds.{place_of, Growing, PollAdds}
+use Rattle.tunnel_link.specs.Calls.{Polled, AnswersSo, Listening, Unpolled, ListensSo, after_item, item_answer}
+use Rattle.tunnel_link.proofs.Growth.{Polling, polls_more, Failing, fails_more}
+use Rattle.tunnel_link.proofs.MaySend.{failed_kept}
+use Rattle.tunnel_link.proofs.Places.{added_of, where_after}
 use Rattle.tunnel_link.proofs.Stories.{goes_then, stays, sends_goes, sends_or_goes, polls_goes, nothing_goes}
 use Rattle.tunnel_link.proofs.Polls.{newest_last, waits_all, waits_right}
 use Rattle.tunnel_link.proofs.PollEnds.{Comes, comes}

@@ -1,5 +1,5 @@
 -- What a poll is made of, whatever comes of it: waits, then at most one more poll, and at most one sending after that.
-use Rattle.std.proofs.Common.{◌≡◌, ℕ, ◌+◌, ◌≤◌, List, [], ◌∷◌, ◌++◌, Bool, false}
+use Rattle.std.proofs.Common.{◌≡◌, ℕ, ◌+◌, ◌≤◌, List, [], ◌∷◌, ◌++◌, false}
 use Rattle.line_model.specs.Record.{is_poll, Placed, entries}
 use Rattle.line_model.specs.LinkStory.{newest_time, AreWaits}
 

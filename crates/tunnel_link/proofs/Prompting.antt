@@ -1,12 +1,11 @@
 -- Within one poll no deadline is passed over: no wait goes on past it.
-use Rattle.std.proofs.Common.{◌≡◌, ℕ, ◌+◌, ◌<◌, ◌≤◌, List, [], ◌∷◌, ◌++◌, Bool, true, false, refl, sym, subst, ap, ◌∙◌, arith}
-use Rattle.std.specs.Prelude.{◌&&◌, ◌||◌}
-use Rattle.line_model.specs.Record.{Item, Quiet, Entry, entry, is_poll, Placed, entries}
+use Rattle.std.proofs.Common.{◌≡◌, ℕ, ◌+◌, ◌<◌, ◌≤◌, List, [], ◌∷◌, ◌++◌, Bool, true, false, refl, subst, ap, ◌∙◌, arith}
+use Rattle.std.specs.Prelude.{◌&&◌}
+use Rattle.line_model.specs.Record.{Item, Quiet, Entry, entry, Placed, entries}
 use Rattle.line_model.specs.LinkStory.{newest_time, AreWaits}
 use Rattle.line_model.specs.ClientView.{ClientChannel, channel, after_entry}
 use Rattle.line_model.specs.Renews.{is_left, is_late, is_overdue, PollsPromptly, to_last_poll, to_poll_before}
 use Rattle.line_model.specs.ClientEnd.{ClientEnd, Idle, Seeking, Open, Leaving, JustLost, is_over}
-use Rattle.tunnel_channel.specs.Fits.{HasNone}
 use Rattle.tunnel_link.specs.declared.known.Known.{Known}
 use Rattle.tunnel_link.specs.Goes.{TimesMove}
 use Rattle.tunnel_link.specs.Kept as kept

@@ -1,20 +1,19 @@
 -- Which calls poll promptly: those that poll nothing, and a poll where nothing was due when it began. And where a call leaves nothing due.
-use Rattle.std.proofs.Common.{◌≡◌, ◌⊎◌, inl, inr, ℕ, suc, ◌+◌, ◌<◌, ◌≤◌, List, [], ◌∷◌, ◌++◌, Bool, true, false, Option, Some, None, Result, Ok, Err, refl, sym, subst, ap, ◌∙◌, append_assoc, arith}
+use Rattle.std.proofs.Common.{◌≡◌, inl, inr, ℕ, ◌+◌, ◌≤◌, List, [], ◌∷◌, ◌++◌, false, None, Result, Ok, Err, refl, sym, subst, ap, ◌∙◌, append_assoc, arith}
 use Rattle.knx_model.specs.declared.frames.ip.IpFrame.TheVariants.{ConnectRequest}
 use Rattle.knx_model.specs.KnxNetIp.{Written}
 use Rattle.line_model.specs.declared.fault.HubFault.{HubFault}
-use Rattle.line_model.specs.Record.{Put, Renewed, Entry, entry, Placed, entries}
-use Rattle.line_model.specs.LinkStory.{Story, places_in, newest_time, IsTime, Renews, RenewsOrNot}
+use Rattle.line_model.specs.Record.{Renewed, entry, Placed, entries}
+use Rattle.line_model.specs.LinkStory.{Story, newest_time, IsTime, Renews, RenewsOrNot}
 use Rattle.line_model.specs.ClientView.{channel}
-use Rattle.line_model.specs.Renews.{PollsPromptly, is_left, is_late}
+use Rattle.line_model.specs.Renews.{PollsPromptly}
 use Rattle.line_model.specs.ClientEnd.{ClientEnd, Seeking, MayConnect}
 use Rattle.tunnel_link.specs.declared.came.Came.{Came}
 use Rattle.tunnel_link.specs.declared.known.Known.{Known}
 use Rattle.tunnel_link.specs.Goes.{GoesOn, Keeps, KeepsAll}
 use Rattle.tunnel_link.specs.Kept.{with_connect, with_due, next_due}
-use Rattle.tunnel_link.specs.Rights.{FitsRecord, WhileFits}
-use Rattle.tunnel_link.specs.Adds.{place_of, Grows, Growing, HasActed, Ready, AllPrompt}
-use Rattle.tunnel_link.specs.Calls.{SendsSo, Connecting, ConnectsSo, ListensSo}
+use Rattle.tunnel_link.specs.Adds.{place_of, Growing, HasActed, Ready, AllPrompt}
+use Rattle.tunnel_link.specs.Calls.{SendsSo, ConnectsSo, ListensSo}
 use Rattle.tunnel_link.proofs.Acting.{grows_then}
 use Rattle.tunnel_link.proofs.CallAnswers.{sends_go_on}
 use Rattle.tunnel_link.proofs.CallsKept.{time_is}

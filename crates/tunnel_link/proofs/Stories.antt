@@ -1,9 +1,9 @@
 -- Each call of a link lets its story go on, legally, and lets time move in polls alone.
-use Rattle.std.proofs.Common.{◌≡◌, ◌⊎◌, inl, inr, ℕ, ◌<◌, ◌≤◌, List, [], ◌∷◌, ◌++◌, Bool, true, false, Result, Ok, Err, refl, sym, subst, ap, append_assoc, ◌∙◌, take, arith}
+use Rattle.std.proofs.Common.{◌≡◌, inl, inr, ℕ, List, [], ◌∷◌, ◌++◌, Bool, true, false, refl, sym, subst, ap, append_assoc, arith}
 use Rattle.line_model.specs.Tunnel.{Commissions}
 use Rattle.line_model.specs.World.{World, Event, Send, Renew, replay}
-use Rattle.line_model.specs.Legal.{MayHappen, IsLegal}
-use Rattle.line_model.specs.Record.{Item, Put, Renewed, Got, Quiet, Entry, entry, is_poll}
+use Rattle.line_model.specs.Legal.{MayHappen}
+use Rattle.line_model.specs.Record.{Item, Put, Renewed, Entry, entry, is_poll}
 use Rattle.line_model.specs.LinkStory as told
 use Rattle.line_model.specs.LinkStory.{Story, Untold, Recorded, Full, Adds, Sends, Renews, SendsOrNot, RenewsOrNot, Polls, PollsNothing, FailsFull, PollsFull, PollsRecord, Same, More, IsNewLink, AreWaits, last_wait}
 use Rattle.tunnel_link.specs.Goes.{GoesOn, Goes, MovesSo, TimesMove, Keeps, IsLegalRun}

@@ -1,13 +1,13 @@
 -- What a call adds to the places of its link's story, where that tells them: which entries, and what each of them put, took or lost. The newest
 -- first. And when a poll is prompt.
-use Rattle.std.specs.Prelude.{◌≡◌, ◌≢◌, ℕ, ◌<◌, ◌≤◌, ◌⊎◌, Bool, true, false, is_some, List, [], ◌∷◌, ◌++◌, length, Option, Some, None, Result, Ok, Err}
+use Rattle.std.specs.Prelude.{◌≡◌, ◌≢◌, ℕ, ◌<◌, ◌≤◌, ◌⊎◌, Bool, true, false, List, [], ◌∷◌, ◌++◌, length, Option, Some, None, Result, Ok, Err}
 use Rattle.std.specs.List.{AllByRecursion, list_any}
 use Rattle.knx_model.specs.declared.frames.cemi.Ldata.{Ldata}
 use Rattle.line_model.specs.declared.fault.HubFault.{HubFault}
-use Rattle.line_model.specs.Reading.{ldata_in, disconnect_request_in}
-use Rattle.line_model.specs.Record.{Item, Put, Renewed, Got, Quiet, Entry, Placed, entries, put_in, is_got, is_poll}
+use Rattle.line_model.specs.Reading.{ldata_in}
+use Rattle.line_model.specs.Record.{Quiet, Entry, Placed, entries, is_got, is_poll}
 use Rattle.line_model.specs.LinkStory.{Story, Untold, Recorded, Full, places_in, newest_time}
-use Rattle.line_model.specs.ClientView.{ClientChannel, channel, Deed, Puts, Takes, Loses, Nothing, deed}
+use Rattle.line_model.specs.ClientView.{channel, Puts, Takes, Loses, Nothing, deed}
 use Rattle.line_model.specs.Closing.{asks_to_end, is_open}
 use Rattle.line_model.specs.Dropped.{is_dropped}
 use Rattle.line_model.specs.Faults.{opens}

@@ -4,7 +4,7 @@ ghost use Rattle.std.specs.Prelude.{◌≡◌, ◌≤◌, IfErr, OnOk, Ok, Some,
 ghost use Rattle.line_model.specs.ClientEnd.{IsCemi};
 ghost use Rattle.line_model.specs.LinkStory.{IsTime};
 ghost use Rattle.tunnel_link.specs.Goes.{GoesOn, AfterFault};
-ghost use Rattle.tunnel_link.specs.Rights.{IsOfTunnel, WhereTold};
+ghost use Rattle.tunnel_link.specs.Rights.{FailsWhere, IsOfTunnel, WhereTold};
 ghost use Rattle.tunnel_link.specs.Adds.{Growing, place_of, Seeks, PutsOne, Leaves, Dues, Acts, PollAdds, AllPrompt, HasActed, Ready};
 ghost use Rattle.tunnel_link.specs.Kept.{with_due};
 ghost use Rattle.tunnel_link.specs.declared.came.Loss.TheVariants.{Stays};
@@ -30,6 +30,7 @@ impl<L: Link> Tunnel<L> {
         ensures count { L.faults self.old.link ≤ L.faults self.new.link }
         ensures events { L.place self.old.link ≤ L.place self.new.link }
         ensures script { L.script self.new.link ≡ L.script self.old.link }
+        ensures cause { self.old.known.fault ≡ None → IfErr result (λ fault. FailsWhere fault (L.faults self.old.link) (L.faults self.new.link)) }
         ensures prompt { Growing AllPrompt (L.story self.old.link) (L.story self.new.link) }
         ensures ready { OnOk result (HasActed self.old.known (L.story self.old.link) → Ready self.new.known (L.story self.new.link)) }
     {
@@ -54,6 +55,7 @@ impl<L: Link> Tunnel<L> {
         ensures count { L.faults self.old.link ≤ L.faults self.new.link }
         ensures events { L.place self.old.link ≤ L.place self.new.link }
         ensures script { L.script self.new.link ≡ L.script self.old.link }
+        ensures cause { self.old.known.fault ≡ None → IfErr result (λ fault. FailsWhere fault (L.faults self.old.link) (L.faults self.new.link)) }
         ensures prompt { Growing AllPrompt (L.story self.old.link) (L.story self.new.link) }
     {
         self.known.standing()?;
@@ -76,6 +78,7 @@ impl<L: Link> Tunnel<L> {
         ensures count { L.faults self.old.link ≤ L.faults self.new.link }
         ensures events { L.place self.old.link ≤ L.place self.new.link }
         ensures script { L.script self.new.link ≡ L.script self.old.link }
+        ensures cause { self.old.known.fault ≡ None → IfErr result (λ fault. FailsWhere fault (L.faults self.old.link) (L.faults self.new.link)) }
         ensures prompt { Growing AllPrompt (L.story self.old.link) (L.story self.new.link) }
     {
         self.known.standing()?;
@@ -101,6 +104,7 @@ impl<L: Link> Tunnel<L> {
         ensures count { L.faults self.old.link ≤ L.faults self.new.link }
         ensures events { L.place self.old.link ≤ L.place self.new.link }
         ensures script { L.script self.new.link ≡ L.script self.old.link }
+        ensures cause { self.old.known.fault ≡ None → IfErr result (λ fault. FailsWhere fault (L.faults self.old.link) (L.faults self.new.link)) }
         ensures prompt { Growing AllPrompt (L.story self.old.link) (L.story self.new.link) }
         ensures acted { OnOk result (HasActed self.new.known (L.story self.new.link)) }
     {
@@ -127,6 +131,7 @@ impl<L: Link> Tunnel<L> {
         ensures count { L.faults self.old.link ≤ L.faults self.new.link }
         ensures events { L.place self.old.link ≤ L.place self.new.link }
         ensures script { L.script self.new.link ≡ L.script self.old.link }
+        ensures cause { IfErr result (λ fault. FailsWhere fault (L.faults self.old.link) (L.faults self.new.link)) }
     {
         let Answer { loss, sends, .. } = self.known.lapse(What::Quiet, now);
         answered(&mut self.link, &mut self.known, sends)?;
@@ -147,6 +152,7 @@ impl<L: Link> Tunnel<L> {
         ensures count { L.faults self.old.link ≤ L.faults self.new.link }
         ensures events { L.place self.old.link ≤ L.place self.new.link }
         ensures script { L.script self.new.link ≡ L.script self.old.link }
+        ensures cause { IfErr result (λ fault. FailsWhere fault (L.faults self.old.link) (L.faults self.new.link)) }
         ensures prompt { Growing AllPrompt (L.story self.old.link) (L.story self.new.link) }
         ensures known { OnOk result (self.new.known ≡ with_due self.old.known now) }
     {
@@ -172,6 +178,7 @@ impl<L: Link> Tunnel<L> {
         ensures count { L.faults self.old.link ≤ L.faults self.new.link }
         ensures events { L.place self.old.link ≤ L.place self.new.link }
         ensures script { L.script self.new.link ≡ L.script self.old.link }
+        ensures cause { self.old.known.fault ≡ None → IfErr result (λ fault. FailsWhere fault (L.faults self.old.link) (L.faults self.new.link)) }
         ensures prompt { Ready self.old.known (L.story self.old.link) → Growing AllPrompt (L.story self.old.link) (L.story self.new.link) }
     {
         frames_are_read();

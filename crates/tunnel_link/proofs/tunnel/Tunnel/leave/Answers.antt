@@ -1,5 +1,5 @@
 use Rattle.std.proofs.Common.{rules, sym, ◌∙◌, ap}
-use Rattle.tunnel_link.proofs.CallAnswers.{sends_go_on, leave_call_keeps, leave_call_err, leave_call_ok, leave_none_keeps, unleft_adds}
+use Rattle.tunnel_link.proofs.CallAnswers.{sends_go_on, leave_call_keeps, leave_call_err, leave_call_ok, unleft_adds}
 use Rattle.tunnel_link.proofs.Faulted.{sends_of, passed_on}
 use Rattle.tunnel_link.proofs.Prompts.{none_prompt, sends_prompt}
 use Rattle.tunnel_link.proofs.tunnel.Tunnel.leave.Goals as goal

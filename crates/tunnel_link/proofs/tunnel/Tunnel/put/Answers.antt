@@ -1,5 +1,5 @@
-use Rattle.std.proofs.Common.{rules, sym, ◌∙◌, ap}
-use Rattle.tunnel_link.proofs.CallAnswers.{sends_go_on, put_call_keeps, put_call_adds, put_none_keeps}
+use Rattle.std.proofs.Common.{sym, ◌∙◌, ap}
+use Rattle.tunnel_link.proofs.CallAnswers.{sends_go_on, put_call_keeps, put_call_adds}
 use Rattle.tunnel_link.proofs.CallsKept.{unput_adds}
 use Rattle.tunnel_link.proofs.Faulted.{sends_of}
 use Rattle.tunnel_link.proofs.Prompts.{none_prompt, sends_prompt}

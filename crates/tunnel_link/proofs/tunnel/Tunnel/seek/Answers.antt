@@ -1,8 +1,8 @@
-use Rattle.std.proofs.Common.{rules, sym, ◌∙◌, ap}
+use Rattle.std.proofs.Common.{rules, ap}
 use Rattle.tunnel_link.proofs.SeekKept.{seek_keeps, seek_goes}
 use Rattle.tunnel_link.proofs.CallAnswers.{sought_err, sought_ok}
 use Rattle.tunnel_link.proofs.Faulted.{connects_of, passed_on}
-use Rattle.tunnel_link.proofs.Prompts.{connects_prompt, sought_ready, unsought_ready}
+use Rattle.tunnel_link.proofs.Prompts.{connects_prompt, sought_ready}
 use Rattle.tunnel_link.proofs.tunnel.Tunnel.seek.Goals as goal
 
 pub invariant_of-self : goal.invariant_of-self
