@@ -22,6 +22,7 @@ impl<L: Link> Hub<L> {
         ensures script { L.script self.new.link ≡ L.script self.old.link }
         ensures count { L.faults self.old.link ≤ L.faults self.new.link }
         ensures cause { self.old.fault ≡ None → IfErr result (λ fault. FailsWhere fault (L.faults self.old.link) (L.faults self.new.link)) }
+        ensures stands { OnOk result (self.new.fault ≡ None) }
         ensures heard { IfOk result (λ done. HearsSo (heard_at_end done) (L.story self.old.link) (L.story self.new.link)) }
         ensures run { SameRun self.old self.new }
         ensures log { self.new.log ≡ self.old.log }

@@ -29,6 +29,7 @@ impl<L: Link> Hub<L> {
         ensures script { L.script self.new.link ≡ L.script self.old.link }
         ensures count { L.faults self.old.link ≤ L.faults self.new.link }
         ensures cause { self.old.fault ≡ None → IfErr result (λ fault. FailsWhere fault (L.faults self.old.link) (L.faults self.new.link)) }
+        ensures stands { OnOk result (self.new.fault ≡ None) }
         ensures heard { OnOk result (HearsSo None (L.story self.old.link) (L.story self.new.link)) }
         ensures waits { IfOk result (λ did. WaitsExactly self.old.jobs self.old.turns self.old.log (L.place self.old.link) k did (L.story self.old.link)) }
         ensures told { IfOk result (λ did. GroupTells (L.place self.old.link) k did self.old.log self.new.log) }

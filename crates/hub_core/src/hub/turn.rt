@@ -19,6 +19,7 @@ impl<L: Link> Hub<L> {
         ensures script { L.script self.new.link ≡ L.script self.old.link }
         ensures count { L.faults self.old.link ≤ L.faults self.new.link }
         ensures cause { self.old.fault ≡ None → IfErr result (λ fault. FailsWhere fault (L.faults self.old.link) (L.faults self.new.link)) }
+        ensures stands { OnOk result (self.new.fault ≡ None) }
         ensures heard { OnOk result (HearsSo None (L.story self.old.link) (L.story self.new.link)) }
         ensures told { IfOk result (λ turned. TurnTells (L.place self.old.link) worker turned self.old.log self.new.log) }
         ensures free { IfOk result (WhyFreeByLog self.old.devices self.old.log) }
