@@ -24,7 +24,7 @@ use Rattle.hub_core.proofs.Requests.{nothings_put}
 use Rattle.hub_core.proofs.Taking.{NoneGot, sent_not_got}
 
 pub same_refl : (w : Work) → SameWork w w
-same_refl w = record { reservation = refl; turns = refl; told = refl; held = refl; journal = refl; tasks_are = refl; unfinished = refl; unbegun = λ e. e }
+same_refl w = record { reservation = refl; turns = refl; told = refl; held = refl; journal = refl; tasks_are = refl; unfinished = refl; begun = refl }
 
 pub not_none : (g : Option HubFault) (fault : HubFault) → g ≡ Some fault → g ≡ None → ⊥
 not_none g fault e none = absurd (let z : Some fault ≡ None = sym e ∙ none in cc)

@@ -1,5 +1,6 @@
 -- What a hub keeps is kept where its link goes on and its work leaves its books as they are.
-use Rattle.std.proofs.Common.{◌≡◌, ℕ, ◌≤◌, Bool, List, [], ◌∷◌, Option, Some, None, sym, ap, subst, ◌∙◌, arith}
+use Rattle.std.proofs.Common.{◌≡◌, ℕ, ◌≤◌, Bool, true, false, List, [], ◌∷◌, Option, Some, None, refl, sym, ap, subst, ◌∙◌, arith}
+use Rattle.std.specs.Prelude.{is_some}
 use Rattle.line_model.specs.declared.fault.HubFault.{HubFault}
 use Rattle.line_model.specs.declared.group.GroupTurn.{GroupTurn}
 use Rattle.line_model.specs.declared.log.LogEntry.{LogEntry}
@@ -9,6 +10,7 @@ use Rattle.line_model.specs.Log.{Job, IsLog, AllOver, TurnUnfinished}
 use Rattle.device_reservation.specs.Reservation.{Reservation}
 use Rattle.tunnel_link.specs.Adds.{place_of}
 use Rattle.tunnel_link.specs.Goes.{GoesOn}
+use Rattle.hub_work.specs.declared.closing.Closing.{Closing}
 use Rattle.hub_work.specs.declared.work.Work.{Work}
 use Rattle.hub_work.specs.Books.{AreJobsOf, IsWritten, IsLive, TellsInTurn, jobs_held}
 use Rattle.hub_work.specs.Downloaders.{Task, AreJobsWith}
@@ -22,7 +24,7 @@ use Rattle.hub_core.proofs.Counting.{told_before}
 -- ---- the books
 
 pub of_books : (w v : Work) → SameBooks w v → SameWork w v
-of_books w v s = record { reservation = s.reservation; turns = s.turns; told = s.told; held = s.held; journal = s.journal; unfinished = s.unfinished; tasks_are = s.tasks_are; unbegun = λ e. s.closing ∙ e }
+of_books w v s = record { reservation = s.reservation; turns = s.turns; told = s.told; held = s.held; journal = s.journal; unfinished = s.unfinished; tasks_are = s.tasks_are; begun = ap is_some s.closing }
 
 -- fields that are the same
 module _ (w v : Work) (s : SameWork w v) where
@@ -95,13 +97,18 @@ Prompts s t w =
     (jobs : List Job) (old new : List Placed) → AreJobsOf w.reservation.devices jobs → places_in s ≡ Some old → places_in t ≡ Some new → IsLog jobs w.telegrams.turns (place_of s) w.journal.entries
     → EachSo (IsPrompt jobs w.telegrams.turns) w.journal.entries old → EachSo (IsPrompt jobs w.telegrams.turns) w.journal.entries new
 
--- the jobs, telegrams and log stay
+-- the closing hasn't begun, and doesn't
+none_stays : (a b : Option Closing) → is_some b ≡ is_some a → a ≡ None → b ≡ None
+none_stays a None e none = refl
+none_stays a (Some x) e none = absurd (let z : true ≡ false = e ∙ ap is_some none in cc)
+
+-- the jobs, telegrams and log stay, and no closing begins
 pub record Stays (w v : Work) : Type 0 where
   pub tasks_are : tasks v ≡ tasks w
   pub devices : v.reservation.devices ≡ w.reservation.devices
   pub turns : v.telegrams.turns ≡ w.telegrams.turns
   pub logs : v.journal.entries ≡ w.journal.entries
-  pub unbegun : w.closing ≡ None → v.closing ≡ None
+  pub begun : is_some v.closing ≡ is_some w.closing
 
 pub moved : (p q : ℕ) (s t : Story) (w v : Work) (met after : Bool) (f g : Option HubFault) → f ≡ None → Stays w v → KeepsBooks q v → GoesOn s t → Tolds s t w v met after g → Prompts s t w → Keeps p s w met f → Keeps q t v after g
 moved p q s t w v met after f g none stays books goes tolds prompts k = record {
@@ -109,7 +116,7 @@ moved p q s t w v met after f g none stays books goes tolds prompts k = record {
   jobs_are = λ jobs of. subst (λ ds. AreJobsOf ds jobs) (sym stays.devices) (k.jobs_are jobs (back jobs of));
   closes = λ begun jobs are.
       subst (λ (ts : List GroupTurn). IsAllOver jobs ts v.journal.entries) (sym stays.turns)
-      (subst (λ (l : List LogEntry). IsAllOver jobs w.telegrams.turns l) (sym stays.logs) (k.closes (λ e. begun (stays.unbegun e)) jobs (subst (λ ds. AreJobsOf ds jobs) stays.devices are)));
+      (subst (λ (l : List LogEntry). IsAllOver jobs w.telegrams.turns l) (sym stays.logs) (k.closes (λ e. begun (none_stays w.closing v.closing stays.begun e)) jobs (subst (λ ds. AreJobsOf ds jobs) stays.devices are)));
   told = λ jobs of new told. by_old jobs (back jobs of) new told (told_before s t new goes told);
   prompt = λ jobs of new told. promptly jobs (back jobs of) new told (told_before s t new goes told);
 }
@@ -128,7 +135,7 @@ moved p q s t w v met after f g none stays books goes tolds prompts k = record {
         (prompts jobs was.0 new (k.jobs_are jobs of) was.1 told (k.told jobs of was.0 was.1).tells.form (k.prompt jobs of was.0 was.1)))
 
 pub stays_same : (w v : Work) → SameWork w v → Stays w v
-stays_same w v same = record { tasks_are = same.tasks_are; devices = ap (λ r. r.devices) same.reservation; turns = same.turns; logs = same_log w v same; unbegun = same.unbegun }
+stays_same w v same = record { tasks_are = same.tasks_are; devices = ap (λ r. r.devices) same.reservation; turns = same.turns; logs = same_log w v same; begun = same.begun }
 
 pub moves : (p q : ℕ) (s t : Story) (w v : Work) (met after : Bool) (f g : Option HubFault) → f ≡ None → p ≤ q → SameWork w v → GoesOn s t → Tolds s t w v met after g → Prompts s t w → Keeps p s w met f → Keeps q t v after g
 moves p q s t w v met after f g none le same goes tolds prompts k =

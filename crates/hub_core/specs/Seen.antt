@@ -1,5 +1,6 @@
 -- What contracts see of a hub: its link, what its end of the tunnel knows, its jobs, by device and plan, their devices, its group telegrams, its log,
--- the newest entry first, why it has ended, how far it closes, and how many indications were counted as missed. After a fault each later call answers that fault, and the link stays as it is.
+-- the newest entry first, why it has ended, how far its closing is, and how many indications were counted as missed. After a fault each later call
+-- answers that fault, and the link stays as it is.
 use Rattle.std.specs.Prelude.{◌≡◌, ℕ, List, map, Option, Some, None, Result, Err}
 use Rattle.knx_model.specs.declared.address.IndAddr.{IndAddr}
 use Rattle.line_model.specs.declared.fault.HubFault.{HubFault}

@@ -1,8 +1,9 @@
 //! The closing.
 
-ghost use Rattle.std.specs.Prelude.{◌≡◌, ◌≢◌, List, IfErr, IfOk, OnOk, Some, None};
+ghost use Rattle.std.specs.Prelude.{◌≡◌, ◌≢◌, ◌≤◌, List, IfErr, IfOk, OnOk, Some, None};
 ghost use Rattle.line_model.specs.Log.{Job, AllOver, TurnUnfinished};
 ghost use Rattle.tunnel_link.specs.Goes.{GoesOn};
+ghost use Rattle.tunnel_link.specs.Rights.{FailsWhere};
 ghost use Rattle.hub_work.specs.Books.{AreJobsOf};
 ghost use Rattle.hub_core.specs.Hears.{HearsSo, heard_at_end};
 ghost use Rattle.hub_core.specs.Keeps.{IsAllDone};
@@ -19,6 +20,9 @@ impl<L: Link> Hub<L> {
         requires told { ¬ TurnUnfinished self.old.turns self.old.log }
         ensures grows { GoesOn (L.story self.old.link) (L.story self.new.link) }
         ensures script { L.script self.new.link ≡ L.script self.old.link }
+        ensures count { L.faults self.old.link ≤ L.faults self.new.link }
+        ensures cause { self.old.fault ≡ None → IfErr result (λ fault. FailsWhere fault (L.faults self.old.link) (L.faults self.new.link)) }
+        ensures stands { OnOk result (self.new.fault ≡ None) }
         ensures heard { IfOk result (λ done. HearsSo (heard_at_end done) (L.story self.old.link) (L.story self.new.link)) }
         ensures run { SameRun self.old self.new }
         ensures log { self.new.log ≡ self.old.log }
@@ -41,6 +45,8 @@ impl<L: Link> Hub<L> {
         requires over { IsAllDone self.old.devices self.old.turns self.old.log }
         ensures grows { GoesOn (L.story self.old.link) (L.story self.new.link) }
         ensures script { L.script self.new.link ≡ L.script self.old.link }
+        ensures count { L.faults self.old.link ≤ L.faults self.new.link }
+        ensures cause { IfErr result (λ fault. FailsWhere fault (L.faults self.old.link) (L.faults self.new.link)) }
         ensures heard { IfOk result (λ done. HearsSo (heard_at_end done) (L.story self.old.link) (L.story self.new.link)) }
         ensures fault { IfErr result (λ fault. self.new.fault ≡ Some fault) }
         ensures stands { OnOk result (self.new.fault ≡ None) }
@@ -61,6 +67,8 @@ impl<L: Link> Hub<L> {
         requires over { IsAllDone self.old.devices self.old.turns self.old.log }
         ensures grows { GoesOn (L.story self.old.link) (L.story self.new.link) }
         ensures script { L.script self.new.link ≡ L.script self.old.link }
+        ensures count { L.faults self.old.link ≤ L.faults self.new.link }
+        ensures cause { IfErr result (λ fault. FailsWhere fault (L.faults self.old.link) (L.faults self.new.link)) }
         ensures heard { IfOk result (λ done. HearsSo (heard_at_end done) (L.story self.old.link) (L.story self.new.link)) }
         ensures fault { IfErr result (λ fault. self.new.fault ≡ Some fault) }
         ensures stands { OnOk result (self.new.fault ≡ None) }
@@ -84,6 +92,8 @@ impl<L: Link> Hub<L> {
         requires over { IsAllDone self.old.devices self.old.turns self.old.log }
         ensures grows { GoesOn (L.story self.old.link) (L.story self.new.link) }
         ensures script { L.script self.new.link ≡ L.script self.old.link }
+        ensures count { L.faults self.old.link ≤ L.faults self.new.link }
+        ensures cause { IfErr result (λ fault. FailsWhere fault (L.faults self.old.link) (L.faults self.new.link)) }
         ensures heard { IfOk result (λ done. HearsSo (heard_at_end done) (L.story self.old.link) (L.story self.new.link)) }
         ensures fault { IfErr result (λ fault. self.new.fault ≡ Some fault) }
         ensures stands { OnOk result (self.new.fault ≡ None) }

@@ -4,6 +4,7 @@ use Rattle.hub_core.proofs.Keeps.{none_inside}
 use Rattle.hub_core.proofs.Prompting.{prompts_told}
 use Rattle.hub_core.proofs.View.{same_run}
 use Rattle.hub_core.proofs.Hears.{hears_none}
+use Rattle.hub_core.proofs.Pumping.{acts_so}
 use Rattle.hub_core.proofs.hub.Hub.act.Goals as goal
 
 pub invariant_of-self : goal.invariant_of-self
@@ -21,3 +22,9 @@ returns-clause-run g c = rw (← c.self.view_is) (same_run _ _ _ _ c.self.inside
 
 pub returns-clause-heard : goal.returns-clause-heard
 returns-clause-heard g c = rw (← c.self.view_is) (hears_none _ _ _ c.in_ok-acted.ensures.adds (λ old added h. h.0))
+
+pub returns-clause-does : goal.returns-clause-does
+returns-clause-does g c = rw (← c.self.view_is) (acts_so _ _ c.in_ok-acted.acted c.in_ok-acted.ensures.adds)
+
+pub returns-clause-begun : goal.returns-clause-begun
+returns-clause-begun g c = rw (← c.self.view_is) c.lose.ensures.books.begun

@@ -9,6 +9,7 @@ use Rattle.hub_core.proofs.Polling.{polls_kept}
 use Rattle.hub_core.proofs.Prompting.{prompts_polled}
 use Rattle.hub_core.proofs.View.{same_run}
 use Rattle.hub_core.proofs.Hears.{hears_poll}
+use Rattle.hub_core.proofs.Pumping.{polls_so}
 use Rattle.hub_core.proofs.hub.Hub.poll.Goals as goal
 
 pub invariant_of-self : goal.invariant_of-self
@@ -39,3 +40,6 @@ returns-in-None-clause-run g c = rw (← c.self.view_is) (same_run _ _ _ _ c.sel
 
 pub returns-in-None-clause-heard : goal.returns-in-None-clause-heard
 returns-in-None-clause-heard g c = rw (← c.self.view_is) (hears_poll _ _ c.in_ok-came.came _ c.in_ok-came.ensures.adds c.take_in-polled.ensures.heard)
+
+pub returns-in-None-clause-moves : goal.returns-in-None-clause-moves
+returns-in-None-clause-moves g c = rw (← c.self.view_is) (rw c.take_in-polled.ensures.moved (polls_so _ _ c.in_ok-came.came c.in_ok-came.ensures.adds))

@@ -1,4 +1,4 @@
-use Rattle.std.proofs.Common.{◌≡◌, ℕ, None, refl, sym, subst, ◌∙◌}
+use Rattle.std.proofs.Common.{◌≡◌, ℕ, true, false, None, refl, sym, subst, ◌∙◌}
 use Rattle.line_model.specs.Asks.{HasPlace}
 use Rattle.line_model.specs.ClientView.{channel}
 use Rattle.line_model.specs.Moments.{moments, time}
@@ -11,6 +11,11 @@ use Rattle.hub_core.proofs.Putting.{telegram_so, put_done, put_failed}
 use Rattle.hub_core.proofs.View.{same_run, work_run}
 use Rattle.hub_core.proofs.Written.{written, told_writes}
 use Rattle.hub_core.proofs.Hears.{hears_put}
+use Rattle.hub_core.proofs.Waits.{waits_under_way, waits_unplaced, waits_held, sent_waits_not, lost_waits_not, put_waits_not}
+use Rattle.std.specs.Prelude.{is_none}
+use Rattle.line_model.specs.LinkStory.{IsPlace}
+use Rattle.line_model.specs.Log.{IsNextTurn}
+use Rattle.hub_work.specs.Waits.{HoldsBack}
 use Rattle.hub_core.proofs.hub.Hub.send_group.Goals as goal
 
 pub invariant_of-self : goal.invariant_of-self
@@ -63,3 +68,41 @@ pub returns-in_ok-put-in-Unput-clause-heard : goal.returns-in_ok-put-in-Unput-cl
 returns-in_ok-put-in-Unput-clause-heard g c =
     let none : c.self.inside.tunnel.known.fault ≡ None = sym c.fault.ensures ∙ c.in_default.is in
     rw (← c.self.view_is) (hears_put _ _ _ _ _ c.in_ok-put-in-Unput.ensures.adds (λ old es. (c.has_place.ensures.told none old es).0 c.if-not-has_place.false))
+
+pub returns-in-UnderWay-clause-waits : goal.returns-in-UnderWay-clause-waits
+returns-in-UnderWay-clause-waits g c =
+    let none : c.self.inside.tunnel.known.fault ≡ None = sym c.fault.ensures ∙ c.in_default.is in
+    rw (← c.self.view_is) (waits_under_way _ c.args.k _ c.self.inside.work _ _ none (subst (λ (n : ℕ). IsPlace n (g.L.Link.story c.self.inside.tunnel.link)) c.at-at.ensures.value c.at-at.ensures.told) c.self.invariant
+    (subst (λ v. IsNextTurn v.turns v.log c.args.k) (sym c.self.view_is) c.requires.next) (sym c.stage.ensures ∙ c.in-UnderWay.is))
+
+pub returns-then-not-has_place-clause-waits : goal.returns-then-not-has_place-clause-waits
+returns-then-not-has_place-clause-waits g c =
+    let none : c.self.inside.tunnel.known.fault ≡ None = sym c.fault.ensures ∙ c.in_default.is in
+    rw (← c.self.view_is) (waits_unplaced _ c.args.k _ c.self.inside.work _ _ none (subst (λ (n : ℕ). IsPlace n (g.L.Link.story c.self.inside.tunnel.link)) c.at-at.ensures.value c.at-at.ensures.told) c.self.invariant
+    (subst (λ v. IsNextTurn v.turns v.log c.args.k) (sym c.self.view_is) c.requires.next) (sym c.stage.ensures ∙ c.in-Unput.is) (λ places e place. let isnt : true ≡ false = sym ((c.has_place.ensures.told none places e).1 place) ∙ c.if-not-has_place.true in cc))
+
+pub returns-in_default-telegram-clause-waits : goal.returns-in_default-telegram-clause-waits
+returns-in_default-telegram-clause-waits g c =
+    let none : c.self.inside.tunnel.known.fault ≡ None = sym c.fault.ensures ∙ c.in_default.is in
+    rw (← c.self.view_is) (waits_held _ c.args.k _ c.self.inside.work _ _ none (subst (λ (n : ℕ). IsPlace n (g.L.Link.story c.self.inside.tunnel.link)) c.at-at.ensures.value c.at-at.ensures.told) c.self.invariant
+    (subst (λ v. IsNextTurn v.turns v.log c.args.k) (sym c.self.view_is) c.requires.next) (sym c.stage.ensures ∙ c.in-Unput.is)
+    (subst (λ o. HoldsBack c.self.inside.work (is_none o)) c.in_default-telegram.is c.telegram.ensures.held))
+
+pub returns-in-Confirmed-clause-waits : goal.returns-in-Confirmed-clause-waits
+returns-in-Confirmed-clause-waits g c =
+    let none : c.self.inside.tunnel.known.fault ≡ None = sym c.fault.ensures ∙ c.in_default.is in
+    rw (← c.self.view_is) (sent_waits_not _ c.args.k _ c.self.inside.work _ _ none (subst (λ (n : ℕ). IsPlace n (g.L.Link.story c.self.inside.tunnel.link)) c.at-at.ensures.value c.at-at.ensures.told) c.self.invariant
+    (subst (λ v. IsNextTurn v.turns v.log c.args.k) (sym c.self.view_is) c.requires.next) (sym c.stage.ensures ∙ c.in-Confirmed.is))
+
+pub returns-in-Lost-clause-waits : goal.returns-in-Lost-clause-waits
+returns-in-Lost-clause-waits g c =
+    let none : c.self.inside.tunnel.known.fault ≡ None = sym c.fault.ensures ∙ c.in_default.is in
+    rw (← c.self.view_is) (lost_waits_not _ c.args.k _ c.self.inside.work _ _ none (subst (λ (n : ℕ). IsPlace n (g.L.Link.story c.self.inside.tunnel.link)) c.at-at.ensures.value c.at-at.ensures.told) c.self.invariant
+    (subst (λ v. IsNextTurn v.turns v.log c.args.k) (sym c.self.view_is) c.requires.next) (sym c.stage.ensures ∙ c.in-Lost.is))
+
+pub returns-in_ok-put-in-Unput-clause-waits : goal.returns-in_ok-put-in-Unput-clause-waits
+returns-in_ok-put-in-Unput-clause-waits g c =
+    let none : c.self.inside.tunnel.known.fault ≡ None = sym c.fault.ensures ∙ c.in_default.is in
+    rw (← c.self.view_is) (put_waits_not _ c.args.k _ c.self.inside.work _ _ none (subst (λ (n : ℕ). IsPlace n (g.L.Link.story c.self.inside.tunnel.link)) c.at-at.ensures.value c.at-at.ensures.told) c.self.invariant
+    (subst (λ v. IsNextTurn v.turns v.log c.args.k) (sym c.self.view_is) c.requires.next) (sym c.stage.ensures ∙ c.in-Unput.is) (λ places e. (c.has_place.ensures.told none places e).0 c.if-not-has_place.false)
+    (subst (λ o. HoldsBack c.self.inside.work (is_none o)) c.in-Some-telegram.is c.telegram.ensures.held))

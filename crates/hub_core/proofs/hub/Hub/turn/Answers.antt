@@ -1,4 +1,5 @@
-use Rattle.std.proofs.Common.{◌≡◌, None, sym, ◌∙◌}
+use Rattle.std.proofs.Common.{◌≡◌, None, sym, ap, ◌∙◌}
+use Rattle.std.specs.Prelude.{is_some}
 use Rattle.line_model.specs.Asks.{HasPlace}
 use Rattle.line_model.specs.ClientView.{channel}
 use Rattle.line_model.specs.Record.{entries}
@@ -18,7 +19,7 @@ invariant_of-self g c =
 pub invariant_of-self-in_err-put-in-Puts : goal.invariant_of-self-in_err-put-in-Puts
 invariant_of-self-in_err-put-in-Puts g c =
     let none : c.self.inside.tunnel.known.fault ≡ None = sym c.fault.ensures ∙ c.in_default.is in
-    put_failed _ _ _ _ c.self.inside.work c.turn.new.self _ _ _ none c.put.ensures.events c.put.ensures.grows _ c.at-at.result c.at-at.ensures.value (record { tasks_are = c.turn.ensures.run.tasks_are; devices = c.turn.ensures.run.devices; turns = c.turn.ensures.run.turns; logs = c.in-Puts.ensures.told; unbegun = λ e. c.turn.ensures.run.closing ∙ e }) c.turn.ensures.books (prompts_told _ _ c.self.inside.work c.put.ensures.prompt)
+    put_failed _ _ _ _ c.self.inside.work c.turn.new.self _ _ _ none c.put.ensures.events c.put.ensures.grows _ c.at-at.result c.at-at.ensures.value (record { tasks_are = c.turn.ensures.run.tasks_are; devices = c.turn.ensures.run.devices; turns = c.turn.ensures.run.turns; logs = c.in-Puts.ensures.told; begun = ap is_some c.turn.ensures.run.closing }) c.turn.ensures.books (prompts_told _ _ c.self.inside.work c.put.ensures.prompt)
     (λ jobs old es fits.
     let place : HasPlace (channel (entries old)) = (c.has_place-has_place.ensures.told none old es).0 c.in-Puts.ensures.placed in
     turn_so _ c.self.inside.work c.turn.new.self _ c.now-now.result c.at-at.result jobs old es c.at-at.ensures.told (c.now-now.ensures.newest old es) place (c.places_are_free.ensures old (c.keeps.ensures.record old es).right.renews place) c.in-Puts.ensures.follows fits)
@@ -27,7 +28,7 @@ invariant_of-self-in_err-put-in-Puts g c =
 pub invariant_of-self-in-Puts : goal.invariant_of-self-in-Puts
 invariant_of-self-in-Puts g c =
     let none : c.self.inside.tunnel.known.fault ≡ None = sym c.fault.ensures ∙ c.in_default.is in
-    put_done _ _ _ _ c.self.inside.work c.turn.new.self _ _ _ none c.put.ensures.events c.put.ensures.grows _ c.at-at.result c.at-at.ensures.value (record { tasks_are = c.turn.ensures.run.tasks_are; devices = c.turn.ensures.run.devices; turns = c.turn.ensures.run.turns; logs = c.in-Puts.ensures.told; unbegun = λ e. c.turn.ensures.run.closing ∙ e }) c.turn.ensures.books (prompts_told _ _ c.self.inside.work c.put.ensures.prompt)
+    put_done _ _ _ _ c.self.inside.work c.turn.new.self _ _ _ none c.put.ensures.events c.put.ensures.grows _ c.at-at.result c.at-at.ensures.value (record { tasks_are = c.turn.ensures.run.tasks_are; devices = c.turn.ensures.run.devices; turns = c.turn.ensures.run.turns; logs = c.in-Puts.ensures.told; begun = ap is_some c.turn.ensures.run.closing }) c.turn.ensures.books (prompts_told _ _ c.self.inside.work c.put.ensures.prompt)
     (λ jobs old es fits.
     let place : HasPlace (channel (entries old)) = (c.has_place-has_place.ensures.told none old es).0 c.in-Puts.ensures.placed in
     turn_so _ c.self.inside.work c.turn.new.self _ c.now-now.result c.at-at.result jobs old es c.at-at.ensures.told (c.now-now.ensures.newest old es) place (c.places_are_free.ensures old (c.keeps.ensures.record old es).right.renews place) c.in-Puts.ensures.follows fits)

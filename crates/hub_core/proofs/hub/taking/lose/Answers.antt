@@ -1,5 +1,4 @@
-use Rattle.std.proofs.Common.{◌≡◌, true, false, ap, sym, subst, ◌∙◌}
-use Rattle.std.specs.Prelude.{is_some}
+use Rattle.std.proofs.Common.{sym, subst, ◌∙◌}
 use Rattle.tunnel_link.specs.declared.came.Loss.{Loss}
 use Rattle.hub_work.specs.declared.work.Work.{Work}
 use Rattle.hub_core.specs.Taking.{SameWork, AsideOrLost, LosesIn}
@@ -41,5 +40,5 @@ returns-then-is_some-clause-books c =
       journal = b.journal;
       unfinished = b.unfinished;
       tasks_are = b.tasks_are;
-      unbegun = λ e. absurd (let no : c.is_some.result ≡ false = c.is_some.ensures ∙ ap is_some (b.unbegun e) in let z : true ≡ false = sym c.if-is_some.true ∙ no in cc);
+      begun = sym c.if-is_some.true ∙ (c.is_some.ensures ∙ b.begun);
     }
