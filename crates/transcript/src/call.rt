@@ -60,7 +60,15 @@ pub fn put_call<R: Wait>(
     let mut sink = MemorySink::new(alloc);
     let mut sim = SimBus::empty(alloc);
     let mut last = None;
-    let status = knx(rt, alloc, words.as_slice(), &mut files, &mut sink, &mut sim, &mut last);
+    let status = knx(
+        rt,
+        alloc,
+        words.as_slice(),
+        &mut files,
+        &mut sink,
+        &mut sim,
+        &mut last,
+    );
     put_output(alloc, out, sink.taken.as_slice())?;
     let status = status.number();
     out.push_str(format!(in alloc; "status {status}\n")?.as_str())?;
