@@ -26,7 +26,7 @@ returns g c = λ commission is logs.
     let line = c.commission-line.result.0 in
     let report = c.commission-line.result.1 in
     let keeps : Keeps jobs [] (story line.run) (log_in report) =
-        subst (λ (groups : List GroupTurn). Keeps jobs groups (story line.run) (log_in report)) c.new.ensures (c.commission-line.ensures.headline jobs (jobs_seen c.args.order.plans)) in
+    subst (λ (groups : List GroupTurn). Keeps jobs groups (story line.run) (log_in report)) c.new.ensures (c.commission-line.ensures.headline jobs (jobs_seen c.args.order.plans)) in
     runs_so commission c.args.sim.now line report c.args.order.jobs c.args.order.devices c.args.log (outcome_of c.end_of_run.result)
     (driven commission c.args.order line report is c.commission-line.ensures.grows c.commission-line.ensures.script c.keeps-2.ensures.fresh c.keeps-2.ensures.legal c.keeps-2.ensures.follows
     keeps (c.commission-line.ensures.right jobs (jobs_seen c.args.order.plans) c.requires.good) (c.commission-line.ensures.fault jobs (jobs_seen c.args.order.plans))
