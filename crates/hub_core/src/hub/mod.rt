@@ -54,7 +54,7 @@ impl<L: Link> Model for Hub<L> {
     ghost use Rattle.std.specs.Prelude.{map};
     ghost use Rattle.hub_core.specs.Seen.{hub_job_of};
 
-    ghost view = { λ h. record { link = h.tunnel.link; known = h.tunnel.known; jobs = map hub_job_of h.work.downloaders; devices = h.work.reservation.devices; turns = h.work.telegrams.turns; log = h.work.journal.entries; fault = h.tunnel.known.fault; closing = h.work.closing; missed = h.missed } };
+    ghost view = { λ h. record { link = h.tunnel.link; known = h.tunnel.known; jobs = map hub_job_of h.work.downloaders; devices = h.work.reservation.devices; crew = h.work.crew; turns = h.work.telegrams.turns; log = h.work.journal.entries; fault = h.tunnel.known.fault; closing = h.work.closing; missed = h.missed } };
 
     ghost invariant = { λ h. Keeps (L.place h.tunnel.link) (L.story h.tunnel.link) h.work h.met h.tunnel.known.fault };
 }
