@@ -82,6 +82,7 @@ impl<L: Link> Hub<L> {
         ensures log { IfOk result (λ hub. hub.log ≡ []) }
         ensures fault { IfOk result (λ hub. hub.fault ≡ None) }
         ensures missed { IfOk result (λ hub. hub.missed ≡ 0) }
+        ensures unbegun { IfOk result (λ hub. hub.closing ≡ None) }
         ensures handed_back { IfErr result (λ e. e.0 ≡ link) }
     {
         match Work::new(alloc, jobs, groups, workers) {
@@ -103,6 +104,7 @@ impl<L: Link> Hub<L> {
         ensures devices { self.new.devices ≡ self.old.devices }
         ensures turns { self.new.turns ≡ self.old.turns }
         ensures log { self.new.log ≡ self.old.log }
+        ensures closing { self.new.closing ≡ self.old.closing }
         ensures missed { self.new.missed ≡ min (self.old.missed + 1) (2 ^ 64 - 1) }
     {
         self.missed = self.missed.saturating_add(1);

@@ -25,6 +25,7 @@ impl<L: Link> Hub<L> {
         ensures heard { IfOk result (λ pumped. HearsSo (heard_of pumped) (L.story self.old.link) (L.story self.new.link)) }
         ensures says { IfOk result (λ pumped. PumpsSo (is_some self.old.closing) pumped (L.story self.old.link) (L.story self.new.link)) }
         ensures run { SameRun self.old self.new }
+        ensures begun { is_some self.new.closing ≡ is_some self.old.closing }
         ensures log { self.new.log ≡ self.old.log }
         ensures ended { StaysEnded self.old.fault result self.new.fault (self.new.link ≡ self.old.link) }
         ensures fault { IfErr result (λ fault. self.new.fault ≡ Some fault) }
@@ -49,7 +50,7 @@ impl<L: Link> Hub<L> {
         ensures heard { OnOk result (HearsSo None (L.story self.old.link) (L.story self.new.link)) }
         ensures does { IfOk result (λ did. AddsSo (Does is_late_now did) (L.story self.old.link) (L.story self.new.link)) }
         ensures resumes { OnOk result (AddsSo (Resumes self.old.closing self.new.closing) (L.story self.old.link) (L.story self.new.link)) }
-        ensures begun { OnOk result (is_some self.new.closing ≡ is_some self.old.closing) }
+        ensures begun { is_some self.new.closing ≡ is_some self.old.closing }
         ensures fault { IfErr result (λ fault. self.new.fault ≡ Some fault) }
         ensures stands { OnOk result (self.new.fault ≡ None) }
         ensures run { SameRun self.old self.new }
@@ -77,6 +78,7 @@ impl<L: Link> Hub<L> {
         ensures fault { IfErr result (λ fault. self.new.fault ≡ Some fault) }
         ensures stands { OnOk result (self.new.fault ≡ None) }
         ensures run { SameRun self.old self.new }
+        ensures begun { is_some self.new.closing ≡ is_some self.old.closing }
         ensures log { self.new.log ≡ self.old.log }
     {
         moments_go_on();
@@ -105,6 +107,7 @@ impl<L: Link> Hub<L> {
         ensures fault { IfErr result (λ fault. self.new.fault ≡ Some fault) }
         ensures stands { OnOk result (self.new.fault ≡ None) }
         ensures run { SameRun self.old self.new }
+        ensures begun { is_some self.new.closing ≡ is_some self.old.closing }
         ensures log { self.new.log ≡ self.old.log }
     {
         moments_go_on();

@@ -27,6 +27,7 @@ impl<L: Link> Hub<L> {
         ensures free { IfOk result (WhyFreeByLog self.old.devices self.old.log) }
         ensures untold { OnErr result (self.new.log ≡ self.old.log) }
         ensures run { SameRun self.old self.new }
+        ensures closing { self.new.closing ≡ self.old.closing }
         ensures ended { StaysEnded self.old.fault result self.new.fault (self.new.link ≡ self.old.link) }
         ensures fault { IfErr result (λ fault. self.new.fault ≡ Some fault) }
     {
