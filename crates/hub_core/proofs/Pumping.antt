@@ -32,7 +32,7 @@ and_none : (b : Bool) → (b && false) ≡ false
 and_none true = refl
 and_none false = refl
 
-adds_by : (s t : Story) (P : List Placed → List Placed → Type 0) (Q : List Entry → List Entry → Type 0) → Growing P s t → ((old added : List Placed) → P old added → Q (entries old) (entries added)) → AddsSo Q s t
+pub adds_by : (s t : Story) (P : List Placed → List Placed → Type 0) (Q : List Entry → List Entry → Type 0) → Growing P s t → ((old added : List Placed) → P old added → Q (entries old) (entries added)) → AddsSo Q s t
 adds_by s t P Q grows h old new es et =
     let g : Grows P (place_of s) (place_of t) old t = grows old es in
     let same : new ≡ g.new = sym (some_is g.new new (sym g.told ∙ et)) in

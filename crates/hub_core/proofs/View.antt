@@ -22,7 +22,7 @@ tasks_stay w v e = seen_tasks v ∙ (e ∙ sym (seen_tasks w))
 -- ---- the same run
 
 abbrev pub seen : {L : Type 0} → L → TunnelKnown → Work → Option HubFault → ℕ → Seen L
-seen link known w fault missed = record { link = link; known = known; jobs = map hub_job_of w.downloaders; devices = w.reservation.devices; turns = w.telegrams.turns; log = w.journal.entries; fault = fault; closing = w.closing; missed = missed }
+seen link known w fault missed = record { link = link; known = known; jobs = map hub_job_of w.downloaders; devices = w.reservation.devices; crew = w.crew; turns = w.telegrams.turns; log = w.journal.entries; fault = fault; closing = w.closing; missed = missed }
 
 pub same_run : {L : Type 0} (l m : L) (c d : TunnelKnown) (w v : Work) (f g : Option HubFault) (x : ℕ) → SameWork w v → SameRun (seen l c w f x) (seen m d v g x)
 same_run l m c d w v f g x s = record { tasks = tasks_stay w v s.tasks_are; devices = ap (λ r. r.devices) s.reservation; turns = s.turns; missed = refl }

@@ -6,3 +6,4 @@ pub mod Taking
 pub mod Hears
 pub mod Pumps
 pub mod Waits
+pub mod Closes

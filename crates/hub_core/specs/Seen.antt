@@ -1,6 +1,6 @@
--- What contracts see of a hub: its link, what its end of the tunnel knows, its jobs, by device and plan, their devices, its group telegrams, its log,
--- the newest entry first, why it has ended, how far its closing is, and how many indications were counted as missed. After a fault each later call
--- answers that fault, and the link stays as it is.
+-- What contracts see of a hub: its link, what its end of the tunnel knows, its jobs, by device and plan, their devices, what each worker holds and how
+-- much of what came for it waits, its group telegrams, its log, the newest entry first, why it has ended, how far its closing is, and how many
+-- indications were counted as missed. After a fault each later call answers that fault, and the link stays as it is.
 use Rattle.std.specs.Prelude.{◌≡◌, ℕ, List, map, Option, Some, None, Result, Err}
 use Rattle.knx_model.specs.declared.address.IndAddr.{IndAddr}
 use Rattle.line_model.specs.declared.fault.HubFault.{HubFault}
@@ -10,6 +10,7 @@ use Rattle.line_model.specs.Log.{Job}
 use Rattle.download_core.specs.Keeps.{Known}
 use Rattle.tunnel_link.specs.declared.known.Known.{Known as TunnelKnown}
 use Rattle.hub_work.specs.declared.closing.Closing.{Closing}
+use Rattle.hub_work.specs.declared.crew.Held.{Held}
 use Rattle.hub_work.specs.declared.job.HubJob.{HubJob}
 use Rattle.hub_work.specs.Downloaders.{Task, task_of_hub_job, AreJobsWith}
 
@@ -18,6 +19,7 @@ pub record Seen (L : Type 0) : Type 0 where
   pub known : TunnelKnown
   pub jobs : List HubJob
   pub devices : List IndAddr
+  pub crew : List (Option Held)
   pub turns : List GroupTurn
   pub log : List LogEntry
   pub fault : Option HubFault

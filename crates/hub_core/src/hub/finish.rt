@@ -3,10 +3,14 @@
 ghost use Rattle.std.specs.Prelude.{◌≡◌, ◌≢◌, ◌≤◌, List, IfErr, IfOk, OnOk, Some, None};
 ghost use Rattle.line_model.specs.Log.{Job, AllOver, TurnUnfinished};
 ghost use Rattle.tunnel_link.specs.Goes.{GoesOn};
-ghost use Rattle.tunnel_link.specs.Rights.{FailsWhere};
+ghost use Rattle.tunnel_link.specs.Rights.{FailsWhere, WhereTold};
 ghost use Rattle.hub_work.specs.Books.{AreJobsOf};
+ghost use Rattle.line_model.specs.LinkStory.{newest_time};
+ghost use Rattle.line_model.specs.Record.{entries};
+ghost use Rattle.hub_core.specs.Closes.{AsksNow, Begins, Closes, EndsAs, FinishesSo, GoesSo, OverExactly, Resumes};
 ghost use Rattle.hub_core.specs.Hears.{HearsSo, heard_at_end};
 ghost use Rattle.hub_core.specs.Keeps.{IsAllDone};
+ghost use Rattle.hub_core.specs.Pumps.{AddsSo};
 ghost use Rattle.hub_core.specs.Seen.{SameRun, StaysEnded};
 
 use super::Hub;
@@ -24,6 +28,9 @@ impl<L: Link> Hub<L> {
         ensures cause { self.old.fault ≡ None → IfErr result (λ fault. FailsWhere fault (L.faults self.old.link) (L.faults self.new.link)) }
         ensures stands { OnOk result (self.new.fault ≡ None) }
         ensures heard { IfOk result (λ done. HearsSo (heard_at_end done) (L.story self.old.link) (L.story self.new.link)) }
+        ensures closes { OnOk result (AddsSo (Closes self.old.closing self.new.closing) (L.story self.old.link) (L.story self.new.link)) }
+        ensures ends { IfOk result (λ done. EndsAs done self.new.closing (L.story self.new.link)) }
+        ensures goes { IfOk result (λ done. GoesSo done (L.story self.old.link) (L.story self.new.link)) }
         ensures run { SameRun self.old self.new }
         ensures log { self.new.log ≡ self.old.log }
         ensures ended { StaysEnded self.old.fault result self.new.fault (self.new.link ≡ self.old.link) }
@@ -48,6 +55,9 @@ impl<L: Link> Hub<L> {
         ensures count { L.faults self.old.link ≤ L.faults self.new.link }
         ensures cause { IfErr result (λ fault. FailsWhere fault (L.faults self.old.link) (L.faults self.new.link)) }
         ensures heard { IfOk result (λ done. HearsSo (heard_at_end done) (L.story self.old.link) (L.story self.new.link)) }
+        ensures closes { OnOk result (AddsSo (Closes self.old.closing self.new.closing) (L.story self.old.link) (L.story self.new.link)) }
+        ensures ends { IfOk result (λ done. EndsAs done self.new.closing (L.story self.new.link)) }
+        ensures goes { IfOk result (λ done. GoesSo done (L.story self.old.link) (L.story self.new.link)) }
         ensures fault { IfErr result (λ fault. self.new.fault ≡ Some fault) }
         ensures stands { OnOk result (self.new.fault ≡ None) }
         ensures run { SameRun self.old self.new }
@@ -64,12 +74,16 @@ impl<L: Link> Hub<L> {
     /// Asks to end the channel.
     fn leave(&mut self) -> Result<Finished, HubFault>
         requires stands { self.old.fault ≡ None }
+        requires waited { AsksNow self.old.closing (L.story self.old.link) }
         requires over { IsAllDone self.old.devices self.old.turns self.old.log }
         ensures grows { GoesOn (L.story self.old.link) (L.story self.new.link) }
         ensures script { L.script self.new.link ≡ L.script self.old.link }
         ensures count { L.faults self.old.link ≤ L.faults self.new.link }
         ensures cause { IfErr result (λ fault. FailsWhere fault (L.faults self.old.link) (L.faults self.new.link)) }
         ensures heard { IfOk result (λ done. HearsSo (heard_at_end done) (L.story self.old.link) (L.story self.new.link)) }
+        ensures resumes { OnOk result (AddsSo (Resumes self.old.closing self.new.closing) (L.story self.old.link) (L.story self.new.link)) }
+        ensures ends { IfOk result (λ done. EndsAs done self.new.closing (L.story self.new.link)) }
+        ensures goes { IfOk result (λ done. GoesSo done (L.story self.old.link) (L.story self.new.link)) }
         ensures fault { IfErr result (λ fault. self.new.fault ≡ Some fault) }
         ensures stands { OnOk result (self.new.fault ≡ None) }
         ensures run { SameRun self.old self.new }
@@ -78,11 +92,13 @@ impl<L: Link> Hub<L> {
         moments_go_on();
         let asked = self.tunnel.leave()?;
         let now = self.tunnel.now();
-        if asked {
-            self.work.closing = Some(Closing::asked(now));
-            return Ok(Finished::Going);
+        self.tunnel.keeps();
+        if !asked {
+            return Ok(Finished::Over);
         }
-        Ok(Finished::Over)
+        self.work.closing = Some(Closing::asked(now));
+        let is_over = self.is_over();
+        Ok(finished(None, is_over))
     }
 
     /// Makes one poll.
@@ -95,36 +111,26 @@ impl<L: Link> Hub<L> {
         ensures count { L.faults self.old.link ≤ L.faults self.new.link }
         ensures cause { IfErr result (λ fault. FailsWhere fault (L.faults self.old.link) (L.faults self.new.link)) }
         ensures heard { IfOk result (λ done. HearsSo (heard_at_end done) (L.story self.old.link) (L.story self.new.link)) }
+        ensures resumes { OnOk result (AddsSo (Resumes self.old.closing self.new.closing) (L.story self.old.link) (L.story self.new.link)) }
+        ensures ends { IfOk result (λ done. EndsAs done self.new.closing (L.story self.new.link)) }
+        ensures goes { IfOk result (λ done. GoesSo done (L.story self.old.link) (L.story self.new.link)) }
         ensures fault { IfErr result (λ fault. self.new.fault ≡ Some fault) }
         ensures stands { OnOk result (self.new.fault ≡ None) }
         ensures run { SameRun self.old self.new }
         ensures log { self.new.log ≡ self.old.log }
     {
         let polled = self.poll()?;
-        if polled.got {
-            self.count();
-        }
         let is_over = self.is_over();
         Ok(finished(polled.heard, is_over))
-    }
-
-    /// One datagram more was got in the closing.
-    fn count(&mut self)
-        requires stands { self.old.fault ≡ None }
-        requires over { IsAllDone self.old.devices self.old.turns self.old.log }
-        ensures link { self.new.link ≡ self.old.link }
-        ensures run { SameRun self.old self.new }
-        ensures log { self.new.log ≡ self.old.log }
-        ensures stands { self.new.fault ≡ None }
-    {
-        let now = self.tunnel.now();
-        self.work.closing = Some(self.closing().got(now));
     }
 
     /// How far the closing is, which begins with the first call.
     fn closing(&mut self) -> Closing
         requires stands { self.old.fault ≡ None }
         requires over { IsAllDone self.old.devices self.old.turns self.old.log }
+        ensures is { self.new.closing ≡ Some result }
+        ensures begins { WhereTold (λ places. Begins (newest_time (entries places)) self.old.closing self.new.closing) (L.story self.old.link) }
+        ensures stays { self.old.closing ≢ None → self.new.closing ≡ self.old.closing }
         ensures begun { self.new.closing ≢ None }
         ensures link { self.new.link ≡ self.old.link }
         ensures run { SameRun self.old self.new }
@@ -145,6 +151,9 @@ impl<L: Link> Hub<L> {
     fn is_over(&mut self) -> bool
         requires stands { self.old.fault ≡ None }
         requires over { IsAllDone self.old.devices self.old.turns self.old.log }
+        ensures over { OverExactly result self.new.closing (L.story self.new.link) }
+        ensures begins { WhereTold (λ places. Begins (newest_time (entries places)) self.old.closing self.new.closing) (L.story self.old.link) }
+        ensures stays { self.old.closing ≢ None → self.new.closing ≡ self.old.closing }
         ensures link { self.new.link ≡ self.old.link }
         ensures run { SameRun self.old self.new }
         ensures log { self.new.log ≡ self.old.log }
@@ -158,7 +167,8 @@ impl<L: Link> Hub<L> {
 
 /// What a poll of the closing comes to.
 fn finished(heard: Option<Indication>, is_over: bool) -> Finished
-    ensures { heard_at_end result ≡ heard }
+    ensures heard { heard_at_end result ≡ heard }
+    ensures over { FinishesSo is_over result }
 {
     match heard {
         Some(indication) => Finished::Heard(indication),

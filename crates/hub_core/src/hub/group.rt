@@ -35,6 +35,7 @@ impl<L: Link> Hub<L> {
         ensures told { IfOk result (λ did. GroupTells (L.place self.old.link) k did self.old.log self.new.log) }
         ensures untold { OnErr result (self.new.log ≡ self.old.log) }
         ensures run { SameRun self.old self.new }
+        ensures closing { self.new.closing ≡ self.old.closing }
         ensures ended { StaysEnded self.old.fault result self.new.fault (self.new.link ≡ self.old.link) }
         ensures fault { IfErr result (λ fault. self.new.fault ≡ Some fault) }
     {

@@ -54,7 +54,7 @@ impl<L: Link> Model for Hub<L> {
     ghost use Rattle.std.specs.Prelude.{map};
     ghost use Rattle.hub_core.specs.Seen.{hub_job_of};
 
-    ghost view = { λ h. record { link = h.tunnel.link; known = h.tunnel.known; jobs = map hub_job_of h.work.downloaders; devices = h.work.reservation.devices; turns = h.work.telegrams.turns; log = h.work.journal.entries; fault = h.tunnel.known.fault; closing = h.work.closing; missed = h.missed } };
+    ghost view = { λ h. record { link = h.tunnel.link; known = h.tunnel.known; jobs = map hub_job_of h.work.downloaders; devices = h.work.reservation.devices; crew = h.work.crew; turns = h.work.telegrams.turns; log = h.work.journal.entries; fault = h.tunnel.known.fault; closing = h.work.closing; missed = h.missed } };
 
     ghost invariant = { λ h. Keeps (L.place h.tunnel.link) (L.story h.tunnel.link) h.work h.met h.tunnel.known.fault };
 }
@@ -82,6 +82,7 @@ impl<L: Link> Hub<L> {
         ensures log { IfOk result (λ hub. hub.log ≡ []) }
         ensures fault { IfOk result (λ hub. hub.fault ≡ None) }
         ensures missed { IfOk result (λ hub. hub.missed ≡ 0) }
+        ensures unbegun { IfOk result (λ hub. hub.closing ≡ None) }
         ensures handed_back { IfErr result (λ e. e.0 ≡ link) }
     {
         match Work::new(alloc, jobs, groups, workers) {
@@ -103,6 +104,7 @@ impl<L: Link> Hub<L> {
         ensures devices { self.new.devices ≡ self.old.devices }
         ensures turns { self.new.turns ≡ self.old.turns }
         ensures log { self.new.log ≡ self.old.log }
+        ensures closing { self.new.closing ≡ self.old.closing }
         ensures missed { self.new.missed ≡ min (self.old.missed + 1) (2 ^ 64 - 1) }
     {
         self.missed = self.missed.saturating_add(1);

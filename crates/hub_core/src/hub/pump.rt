@@ -4,6 +4,7 @@ ghost use Rattle.std.specs.Prelude.{◌≡◌, ◌≤◌, ◌||◌, is_some, IfE
 ghost use Rattle.tunnel_link.specs.Adds.{HasActed, Ready};
 ghost use Rattle.tunnel_link.specs.Goes.{GoesOn};
 ghost use Rattle.tunnel_link.specs.Rights.{FailsWhere};
+ghost use Rattle.hub_core.specs.Closes.{HasDone, Resumes};
 ghost use Rattle.hub_core.specs.Hears.{HearsSo, heard_of};
 ghost use Rattle.hub_core.specs.Pumps.{AddsSo, AnswersSo, PumpsSo, Does, is_late_now, is_left_now, Moves};
 ghost use Rattle.hub_core.specs.Seen.{SameRun, StaysEnded};
@@ -24,6 +25,7 @@ impl<L: Link> Hub<L> {
         ensures heard { IfOk result (λ pumped. HearsSo (heard_of pumped) (L.story self.old.link) (L.story self.new.link)) }
         ensures says { IfOk result (λ pumped. PumpsSo (is_some self.old.closing) pumped (L.story self.old.link) (L.story self.new.link)) }
         ensures run { SameRun self.old self.new }
+        ensures begun { is_some self.new.closing ≡ is_some self.old.closing }
         ensures log { self.new.log ≡ self.old.log }
         ensures ended { StaysEnded self.old.fault result self.new.fault (self.new.link ≡ self.old.link) }
         ensures fault { IfErr result (λ fault. self.new.fault ≡ Some fault) }
@@ -47,7 +49,8 @@ impl<L: Link> Hub<L> {
         ensures cause { IfErr result (λ fault. FailsWhere fault (L.faults self.old.link) (L.faults self.new.link)) }
         ensures heard { OnOk result (HearsSo None (L.story self.old.link) (L.story self.new.link)) }
         ensures does { IfOk result (λ did. AddsSo (Does is_late_now did) (L.story self.old.link) (L.story self.new.link)) }
-        ensures begun { OnOk result (is_some self.new.closing ≡ is_some self.old.closing) }
+        ensures resumes { OnOk result (AddsSo (Resumes self.old.closing self.new.closing) (L.story self.old.link) (L.story self.new.link)) }
+        ensures begun { is_some self.new.closing ≡ is_some self.old.closing }
         ensures fault { IfErr result (λ fault. self.new.fault ≡ Some fault) }
         ensures stands { OnOk result (self.new.fault ≡ None) }
         ensures run { SameRun self.old self.new }
@@ -56,7 +59,8 @@ impl<L: Link> Hub<L> {
         moments_go_on();
         let acted = self.tunnel.act()?;
         let now = self.tunnel.now();
-        lose(&mut self.work, acted.loss, now);
+        lose(&mut self.work, false, acted.loss, now);
+        self.tunnel.keeps();
         Ok(acted.sent)
     }
 
@@ -74,6 +78,7 @@ impl<L: Link> Hub<L> {
         ensures fault { IfErr result (λ fault. self.new.fault ≡ Some fault) }
         ensures stands { OnOk result (self.new.fault ≡ None) }
         ensures run { SameRun self.old self.new }
+        ensures begun { is_some self.new.closing ≡ is_some self.old.closing }
         ensures log { self.new.log ≡ self.old.log }
     {
         moments_go_on();
@@ -97,9 +102,12 @@ impl<L: Link> Hub<L> {
         ensures cause { IfErr result (λ fault. FailsWhere fault (L.faults self.old.link) (L.faults self.new.link)) }
         ensures heard { IfOk result (λ polled. HearsSo polled.heard (L.story self.old.link) (L.story self.new.link)) }
         ensures moves { IfOk result (λ polled. AddsSo (Moves polled.moved) (L.story self.old.link) (L.story self.new.link)) }
+        ensures resumes { OnOk result (AddsSo (Resumes self.old.closing self.new.closing) (L.story self.old.link) (L.story self.new.link)) }
+        ensures done { OnOk result (AddsSo HasDone (L.story self.old.link) (L.story self.new.link)) }
         ensures fault { IfErr result (λ fault. self.new.fault ≡ Some fault) }
         ensures stands { OnOk result (self.new.fault ≡ None) }
         ensures run { SameRun self.old self.new }
+        ensures begun { is_some self.new.closing ≡ is_some self.old.closing }
         ensures log { self.new.log ≡ self.old.log }
     {
         moments_go_on();

@@ -1,6 +1,8 @@
 //! What a poll brought, taken in.
 
 ghost use Rattle.std.specs.Prelude.{◌≡◌, ◌||◌};
+ghost use Rattle.hub_work.specs.Works.{SameBooks};
+ghost use Rattle.hub_core.specs.Closes.{ClosesBy};
 ghost use Rattle.hub_core.specs.Taking.{SameWork, DeliversIn, EndsSo, HeardIn, LosesIn, MeetsSo, TakesIn, is_got as got_one, is_taken as took_one};
 
 use hub_work::{Closing, Work, moments_go_on};
@@ -13,8 +15,6 @@ const FLOOD: u64 = 16_777_216;
 /// What a poll did.
 #[derive(Drop)]
 pub struct Polled {
-    /// A datagram was got.
-    pub got: bool,
     /// Something moved.
     pub moved: bool,
     pub heard: Option<Indication>,
@@ -25,13 +25,12 @@ pub fn take_in(work: &mut Work, came: &Came, now: u64) -> Polled
     ensures books { SameWork work.old work.new }
     ensures fits { TakesIn came.now now work.old work.new }
     ensures heard { HeardIn came.now.what result.heard }
-    ensures got { result.got ≡ got_one came.now.what }
+    ensures closes { ClosesBy (got_one came.now.what) came.now.loss now work.old.closing work.new.closing }
     ensures moved { result.moved ≡ (came.now.sent || took_one came.now.what) }
 {
     let heard = deliver(work, &came.what, now);
-    lose(work, came.loss, now);
+    lose(work, is_got(&came.what), came.loss, now);
     Polled {
-        got: is_got(&came.what),
         moved: came.sent || is_taken(&came.what),
         heard,
     }
@@ -41,6 +40,7 @@ pub fn take_in(work: &mut Work, came: &Came, now: u64) -> Polled
 fn deliver(work: &mut Work, what: &What, now: u64) -> Option<Indication>
     ensures books { SameWork work.old work.new }
     ensures fits { DeliversIn what.now now work.old work.new }
+    ensures closing { work.new.closing ≡ work.old.closing }
     ensures heard { HeardIn what.now result }
 {
     moments_go_on();
@@ -50,21 +50,38 @@ fn deliver(work: &mut Work, what: &What, now: u64) -> Option<Indication>
     }
 }
 
-/// Tells the work of the loss of its channel, at this time, where it was lost.
-pub fn lose(work: &mut Work, loss: Loss, now: u64)
+/// Tells the work of the loss of its channel, at this time, where it was lost, and how far the closing is then, where it has begun.
+pub fn lose(work: &mut Work, got: bool, loss: Loss, now: u64)
     ensures books { SameWork work.old work.new }
+    ensures fits { LosesIn loss now work.old work.new }
+    ensures closes { ClosesBy got loss now work.old.closing work.new.closing }
+{
+    give_up(work, loss, now);
+    work.closing = closing_after(work.closing, got, loss, now);
+}
+
+/// Tells the work of the loss of its channel, at this time, where it was lost.
+fn give_up(work: &mut Work, loss: Loss, now: u64)
+    ensures books { SameBooks work.old work.new }
     ensures fits { LosesIn loss now work.old work.new }
 {
     moments_go_on();
     match loss {
         Loss::Stays => {}
         Loss::Ended => work.lost(now),
-        Loss::Told => {
-            work.lost(now);
-            if work.closing.is_some() {
-                work.closing = Some(Closing::asked(now));
-            }
-        }
+        Loss::Told => work.lost(now),
+    }
+}
+
+/// How far the closing is after a datagram was got or wasn't, and after this became of the channel.
+fn closing_after(closing: Option<Closing>, got: bool, loss: Loss, now: u64) -> Option<Closing>
+    ensures { ClosesBy got loss now closing result }
+{
+    let closing = closing?;
+    match loss {
+        Loss::Told => Some(Closing::asked(now)),
+        Loss::Stays | Loss::Ended if got => Some(closing.got(now)),
+        Loss::Stays | Loss::Ended => Some(closing),
     }
 }
 

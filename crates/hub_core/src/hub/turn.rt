@@ -5,6 +5,7 @@ ghost use Rattle.hub_work.specs.Turns.{TurnTells, WhyFreeByLog};
 ghost use Rattle.tunnel_link.specs.Goes.{GoesOn};
 ghost use Rattle.tunnel_link.specs.Rights.{FailsWhere};
 ghost use Rattle.hub_core.specs.Hears.{HearsSo};
+ghost use Rattle.hub_core.specs.Waits.{TurnWaitsExactly};
 ghost use Rattle.hub_core.specs.Seen.{SameRun, StaysEnded};
 
 use super::Hub;
@@ -22,9 +23,11 @@ impl<L: Link> Hub<L> {
         ensures stands { OnOk result (self.new.fault ≡ None) }
         ensures heard { OnOk result (HearsSo None (L.story self.old.link) (L.story self.new.link)) }
         ensures told { IfOk result (λ turned. TurnTells (L.place self.old.link) worker turned self.old.log self.new.log) }
+        ensures waits { IfOk result (λ turned. TurnWaitsExactly self.old.jobs self.old.turns self.old.log self.old.crew (L.place self.old.link) worker turned (L.story self.old.link)) }
         ensures free { IfOk result (WhyFreeByLog self.old.devices self.old.log) }
         ensures untold { OnErr result (self.new.log ≡ self.old.log) }
         ensures run { SameRun self.old self.new }
+        ensures closing { self.new.closing ≡ self.old.closing }
         ensures ended { StaysEnded self.old.fault result self.new.fault (self.new.link ≡ self.old.link) }
         ensures fault { IfErr result (λ fault. self.new.fault ≡ Some fault) }
     {

@@ -5,6 +5,7 @@ use Rattle.hub_core.proofs.Prompting.{prompts_told}
 use Rattle.hub_core.proofs.View.{same_run}
 use Rattle.hub_core.proofs.Hears.{hears_none}
 use Rattle.hub_core.proofs.Pumping.{acts_so}
+use Rattle.hub_core.proofs.Endings.{acts_resume}
 use Rattle.hub_core.proofs.hub.Hub.act.Goals as goal
 
 pub invariant_of-self : goal.invariant_of-self
@@ -28,3 +29,6 @@ returns-clause-does g c = rw (← c.self.view_is) (acts_so _ _ c.in_ok-acted.act
 
 pub returns-clause-begun : goal.returns-clause-begun
 returns-clause-begun g c = rw (← c.self.view_is) c.lose.ensures.books.begun
+
+pub returns-clause-resumes : goal.returns-clause-resumes
+returns-clause-resumes g c = rw (← c.self.view_is) (acts_resume _ _ c.in_ok-acted.acted c.now-now.result _ _ c.keeps.ensures.legal c.now-now.ensures.newest c.in_ok-acted.ensures.adds c.lose.ensures.closes)

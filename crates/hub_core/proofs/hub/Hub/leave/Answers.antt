@@ -1,4 +1,4 @@
-use Rattle.std.proofs.Common.{◌≡◌, None, sym, subst}
+use Rattle.std.proofs.Common.{◌≡◌, Some, None, sym, subst}
 use Rattle.hub_core.specs.Keeps.{IsAllDone}
 use Rattle.hub_core.proofs.Calls.{leaves_failed, leaves_done, same_refl}
 use Rattle.hub_core.proofs.Closings.{closing_kept}
@@ -6,6 +6,10 @@ use Rattle.hub_core.proofs.Keeps.{none_inside}
 use Rattle.hub_core.proofs.Prompting.{prompts_told}
 use Rattle.hub_core.proofs.Quiet.{asides_fit}
 use Rattle.hub_core.proofs.Hears.{hears_none}
+use Rattle.hub_core.specs.Closes.{Resumes, AsksNow, HasDone}
+use Rattle.hub_core.specs.Hears.{HearsSo}
+use Rattle.hub_core.specs.Pumps.{AddsSo}
+use Rattle.hub_core.proofs.Endings.{some_begun, asked_resumes, unasked_resumes, unasked_over, asked_did, goes_by}
 use Rattle.hub_core.proofs.hub.Hub.leave.Goals as goal
 
 pub invariant_of-self : goal.invariant_of-self
@@ -13,22 +17,41 @@ invariant_of-self g c =
     let none : c.self.inside.tunnel.known.fault ≡ None = none_inside _ _ c.self.view_is c.requires.stands in
     leaves_failed _ _ _ _ _ _ _ none c.leave.ensures.events c.leave.ensures.grows _ _ c.in_err-asked.ensures.adds c.in_err-asked.ensures.fault (c.in_err-asked.ensures.by_tunnel none) (prompts_told _ _ c.self.inside.work c.leave.ensures.prompt) c.self.invariant
 
-pub invariant_of-self-then-asked : goal.invariant_of-self-then-asked
-invariant_of-self-then-asked g c =
+pub invariant_of-self-2 : goal.invariant_of-self-2
+invariant_of-self-2 g c =
     let over : IsAllDone c.self.inside.work.reservation.devices c.self.inside.work.telegrams.turns c.self.inside.work.journal.entries = subst (λ v. IsAllDone v.devices v.turns v.log) (sym c.self.view_is) c.requires.over in
     let none : c.self.inside.tunnel.known.fault ≡ None = none_inside _ _ c.self.view_is c.requires.stands in
     closing_kept _ _ c.self.inside.work _ _ _ over
     (leaves_done _ _ _ _ _ _ _ none c.leave.ensures.events c.leave.ensures.grows c.self.inside.work c.self.inside.work c.in_ok-asked.asked c.now-now.result c.in_ok-asked.ensures.adds c.in_ok-asked.ensures.stands (same_refl c.self.inside.work)
     c.moments_go_on.ensures.later (asides_fit c.self.inside.work c.now-now.result c.moments_go_on.ensures.aside) c.now-now.ensures.newest (prompts_told _ _ c.self.inside.work c.leave.ensures.prompt) c.self.invariant)
 
-pub invariant_of-self-else-asked : goal.invariant_of-self-else-asked
-invariant_of-self-else-asked g c =
+pub invariant_of-self-then-not-asked : goal.invariant_of-self-then-not-asked
+invariant_of-self-then-not-asked g c =
     let none : c.self.inside.tunnel.known.fault ≡ None = none_inside _ _ c.self.view_is c.requires.stands in
     leaves_done _ _ _ _ _ _ _ none c.leave.ensures.events c.leave.ensures.grows c.self.inside.work c.self.inside.work c.in_ok-asked.asked c.now-now.result c.in_ok-asked.ensures.adds c.in_ok-asked.ensures.stands (same_refl c.self.inside.work)
     c.moments_go_on.ensures.later (asides_fit c.self.inside.work c.now-now.result c.moments_go_on.ensures.aside) c.now-now.ensures.newest (prompts_told _ _ c.self.inside.work c.leave.ensures.prompt) c.self.invariant
 
-pub returns-then-asked-clause-heard : goal.returns-then-asked-clause-heard
-returns-then-asked-clause-heard g c = rw (← c.self.view_is) (hears_none _ _ _ c.in_ok-asked.ensures.adds (λ old added h. h.nothing))
+pub returns-then-not-asked-clause-heard : goal.returns-then-not-asked-clause-heard
+returns-then-not-asked-clause-heard g c = rw (← c.self.view_is) (hears_none _ _ _ c.in_ok-asked.ensures.adds (λ old added h. h.nothing))
+
+pub returns-then-not-asked-clause-resumes : goal.returns-then-not-asked-clause-resumes
+returns-then-not-asked-clause-resumes g c = rw (← c.self.view_is) (unasked_resumes _ _ c.in_ok-asked.asked _ c.in_ok-asked.ensures.adds c.if-not-asked.true)
+
+pub returns-then-not-asked-clause-ends : goal.returns-then-not-asked-clause-ends
+returns-then-not-asked-clause-ends g c =
+    unasked_over (g.L.Link.story c.self.inside.tunnel.link) _ c.in_ok-asked.asked c.self.inside.work.closing c.leave.ensures.grows c.in_ok-asked.ensures.adds c.if-not-asked.true (subst (λ v. AsksNow v.closing (g.L.Link.story v.link)) (sym c.self.view_is) c.requires.waited)
 
 pub returns-clause-heard : goal.returns-clause-heard
-returns-clause-heard g c = rw (← c.self.view_is) (hears_none _ _ _ c.in_ok-asked.ensures.adds (λ old added h. h.nothing))
+returns-clause-heard g c =
+    rw (← c.self.view_is) (subst (λ o. HearsSo o (g.L.Link.story c.self.inside.tunnel.link) (g.L.Link.story c.is_over-is_over.new.self.link)) (sym c.finished.ensures.heard)
+    (subst (λ l. HearsSo None (g.L.Link.story c.self.inside.tunnel.link) (g.L.Link.story l)) (sym c.is_over-is_over.ensures.link) (hears_none _ _ _ c.in_ok-asked.ensures.adds (λ old added h. h.nothing))))
+
+pub returns-clause-resumes : goal.returns-clause-resumes
+returns-clause-resumes g c =
+    rw (← c.self.view_is) (subst (λ o. AddsSo (Resumes c.self.inside.work.closing o) (g.L.Link.story c.self.inside.tunnel.link) (g.L.Link.story c.is_over-is_over.new.self.link)) (sym (c.is_over-is_over.ensures.stays (some_begun c.asked.result)))
+    (subst (λ l. AddsSo (Resumes c.self.inside.work.closing (Some c.asked.result)) (g.L.Link.story c.self.inside.tunnel.link) (g.L.Link.story l)) (sym c.is_over-is_over.ensures.link)
+    (asked_resumes _ _ c.in_ok-asked.asked c.now-now.result _ c.asked.result c.keeps.ensures.legal c.now-now.ensures.newest c.in_ok-asked.ensures.adds c.if-not-asked.false c.asked.ensures)))
+
+pub returns-clause-goes : goal.returns-clause-goes
+returns-clause-goes g c =
+    rw (← c.self.view_is) (goes_by c.finished.result (g.L.Link.story c.self.inside.tunnel.link) (g.L.Link.story c.is_over-is_over.new.self.link) (subst (λ l. AddsSo HasDone (g.L.Link.story c.self.inside.tunnel.link) (g.L.Link.story l)) (sym c.is_over-is_over.ensures.link) (asked_did _ _ c.in_ok-asked.asked c.in_ok-asked.ensures.adds c.if-not-asked.false)))

@@ -10,6 +10,7 @@ use Rattle.hub_core.proofs.Prompting.{prompts_polled}
 use Rattle.hub_core.proofs.View.{same_run}
 use Rattle.hub_core.proofs.Hears.{hears_poll}
 use Rattle.hub_core.proofs.Pumping.{polls_so}
+use Rattle.hub_core.proofs.Endings.{polls_resume, polls_done}
 use Rattle.hub_core.proofs.hub.Hub.poll.Goals as goal
 
 pub invariant_of-self : goal.invariant_of-self
@@ -43,3 +44,9 @@ returns-in-None-clause-heard g c = rw (← c.self.view_is) (hears_poll _ _ c.in_
 
 pub returns-in-None-clause-moves : goal.returns-in-None-clause-moves
 returns-in-None-clause-moves g c = rw (← c.self.view_is) (rw c.take_in-polled.ensures.moved (polls_so _ _ c.in_ok-came.came c.in_ok-came.ensures.adds))
+
+pub returns-in-None-clause-resumes : goal.returns-in-None-clause-resumes
+returns-in-None-clause-resumes g c = rw (← c.self.view_is) (polls_resume _ _ c.in_ok-came.came c.now-now-2.result _ _ c.keeps.ensures.legal c.now-now-2.ensures.newest c.in_ok-came.ensures.adds c.take_in-polled.ensures.closes)
+
+pub returns-in-None-clause-done : goal.returns-in-None-clause-done
+returns-in-None-clause-done g c = rw (← c.self.view_is) (polls_done _ _ c.in_ok-came.came c.in_ok-came.ensures.adds)

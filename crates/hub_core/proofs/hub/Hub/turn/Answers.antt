@@ -1,4 +1,4 @@
-use Rattle.std.proofs.Common.{◌≡◌, None, sym, ap, ◌∙◌}
+use Rattle.std.proofs.Common.{◌≡◌, ℕ, None, sym, ap, subst, ◌∙◌}
 use Rattle.std.specs.Prelude.{is_some}
 use Rattle.line_model.specs.Asks.{HasPlace}
 use Rattle.line_model.specs.ClientView.{channel}
@@ -8,6 +8,10 @@ use Rattle.hub_core.proofs.Putting.{turn_so, turn_did, put_done, put_failed}
 use Rattle.hub_core.proofs.View.{work_run}
 use Rattle.hub_core.proofs.Written.{written, turn_writes}
 use Rattle.hub_core.proofs.Hears.{hears_put}
+use Rattle.line_model.specs.LinkStory.{IsPlace}
+use Rattle.hub_work.specs.declared.answers.Turned.TheVariants as answer
+use Rattle.hub_work.specs.Waits.{WaitsExactly}
+use Rattle.hub_core.proofs.Waits.{turn_waits, did_same, puts_same}
 use Rattle.hub_core.proofs.hub.Hub.turn.Goals as goal
 
 pub invariant_of-self : goal.invariant_of-self
@@ -47,3 +51,17 @@ pub returns-in_ok-put-in-Puts-clause-heard : goal.returns-in_ok-put-in-Puts-clau
 returns-in_ok-put-in-Puts-clause-heard g c =
     let none : c.self.inside.tunnel.known.fault ≡ None = sym c.fault.ensures ∙ c.in_default.is in
     rw (← c.self.view_is) (hears_put _ _ _ _ _ c.in_ok-put-in-Puts.ensures.adds (λ old es. (c.has_place-has_place.ensures.told none old es).0 c.in-Puts.ensures.placed))
+
+pub returns-in-Did-clause-waits : goal.returns-in-Did-clause-waits
+returns-in-Did-clause-waits g c =
+    let none : c.self.inside.tunnel.known.fault ≡ None = sym c.fault.ensures ∙ c.in_default.is in
+    rw (← c.self.view_is) (turn_waits (g.L.Link.place c.self.inside.tunnel.link) (g.L.Link.story c.self.inside.tunnel.link) c.self.inside.work _ _ none (subst (λ (n : ℕ). IsPlace n (g.L.Link.story c.self.inside.tunnel.link)) c.at-at.ensures.value c.at-at.ensures.told) c.self.invariant
+    c.args.worker c.now-now.result c.now-now.ensures.newest c.has_place-has_place.result (c.has_place-has_place.ensures.told none) c.turn.result c.in-Did.turned
+    (subst (λ (n : ℕ). WaitsExactly c.now-now.result n c.has_place-has_place.result c.args.worker c.self.inside.work c.turn.result) c.at-at.ensures.value c.turn.ensures.waits) (did_same c.turn.result c.in-Did.turned c.in-Did.is))
+
+pub returns-in_ok-put-in-Puts-clause-waits : goal.returns-in_ok-put-in-Puts-clause-waits
+returns-in_ok-put-in-Puts-clause-waits g c =
+    let none : c.self.inside.tunnel.known.fault ≡ None = sym c.fault.ensures ∙ c.in_default.is in
+    rw (← c.self.view_is) (turn_waits (g.L.Link.place c.self.inside.tunnel.link) (g.L.Link.story c.self.inside.tunnel.link) c.self.inside.work _ _ none (subst (λ (n : ℕ). IsPlace n (g.L.Link.story c.self.inside.tunnel.link)) c.at-at.ensures.value c.at-at.ensures.told) c.self.invariant
+    c.args.worker c.now-now.result c.now-now.ensures.newest c.has_place-has_place.result (c.has_place-has_place.ensures.told none) c.turn.result answer.Moved
+    (subst (λ (n : ℕ). WaitsExactly c.now-now.result n c.has_place-has_place.result c.args.worker c.self.inside.work c.turn.result) c.at-at.ensures.value c.turn.ensures.waits) (puts_same c.turn.result c.in-Puts.cemi c.in-Puts.is))
