@@ -4,7 +4,7 @@ use Rattle.std.specs.Prelude.{is_none, IfSome}
 use Rattle.line_model.specs.declared.group.GroupTurn.{GroupTurn}
 use Rattle.line_model.specs.Record.{Placed, entries}
 use Rattle.line_model.specs.ClientView.{Loses, channel}
-use Rattle.line_model.specs.Moments.{Moment, moments, between, confirmation_in, put_frame}
+use Rattle.line_model.specs.Moments.{Moment, moments, between}
 use Rattle.line_model.specs.Signs.{Every, IsntConfirmation}
 use Rattle.line_model.specs.Log.{Job, JobUnfinished, IsNextTurn, turn_of, turn_place}
 use Rattle.line_model.specs.Told.{PutsTurn, PutsNoGroup, PutOnce, IsConfirmed, IsLoss, is_group}
