@@ -150,11 +150,11 @@ faults_in (Some (Decode word)) file faults faults' before after Replied does = (
 
 begun_of : (P : Commission → RunNow → Report → Type 0) → ((c : Commission) (r : RunNow) (report : Report) (jobs : List JobWord) → Ran c r report jobs → P c r report)
     → (words : List (List ℕ)) (names : SimWords) (file : List ℕ → FileContent) (before : BusNow) (after : Left) (texts : SimTexts) (outcome : Outcome) → after.report ≡ report_in outcome
-    → asked words ≡ Some (Sim names) → SimIsRead file names texts → Runs (commission_told names texts) before after.line outcome → HasRunOf P words file before after
-begun_of P get words names file before after texts (Stops told) report e is runs = NoRun (record { line = runs.1; report = report })
-begun_of P get words names file before after texts (Tells text) report e is runs = absurd runs
-begun_of P get words names file before after texts (BreaksOff told) report e is runs = HasRun names texts told e is report (get (commission_told names texts) after.line.run told runs.0 runs.1)
-begun_of P get words names file before after texts (Reports told jobs devices log) report e is runs = HasRun names texts told e is report (get (commission_told names texts) after.line.run told jobs runs.ran)
+    → asked words ≡ Some (Sim names) → SimIsRead file names texts → first_some (sim_tests names texts) ≡ None → Runs (commission_told names texts) before after.line outcome → HasRunOf P words file before after
+begun_of P get words names file before after texts (Stops told) report e is passes runs = NoRun (record { line = runs.1; report = report })
+begun_of P get words names file before after texts (Tells text) report e is passes runs = absurd runs
+begun_of P get words names file before after texts (BreaksOff told) report e is passes runs = HasRun names texts told e is passes report (get (commission_told names texts) after.line.run told runs.0 runs.1)
+begun_of P get words names file before after texts (Reports told jobs devices log) report e is passes runs = HasRun names texts told e is passes report (get (commission_told names texts) after.line.run told jobs runs.ran)
 
 -- where a test fails there is no run
 stopped_of : (why : Stop) (outcome : Outcome) → StopsFor why outcome → report_in outcome ≡ None
@@ -167,7 +167,7 @@ tested : (P : Commission → RunNow → Report → Type 0) → ((c : Commission)
     → (tests : Option Stop) (words : List (List ℕ)) (names : SimWords) (file : List ℕ → FileContent) (faults faults' : List ℕ → ℕ) (before : BusNow) (after : Left) (Replied : Outcome → Type 0) (run : RunsScript names file faults faults' before after Replied)
     → first_some (sim_tests names run.texts) ≡ tests → asked words ≡ Some (Sim names) → HasRunOf P words file before after
 tested P get (Some why) words names file faults faults' before after Replied run t e = NoRun (record { line = (run.stops why t).1; report = run.report ∙ stopped_of why run.outcome (run.stops why t).0 })
-tested P get None words names file faults faults' before after Replied run t e = begun_of P get words names file before after run.texts run.outcome run.report e run.is_read (run.runs t)
+tested P get None words names file faults faults' before after Replied run t e = begun_of P get words names file before after run.texts run.outcome run.report e run.is_read t (run.runs t)
 
 ran_in : (P : Commission → RunNow → Report → Type 0) → ((c : Commission) (r : RunNow) (report : Report) (jobs : List JobWord) → Ran c r report jobs → P c r report)
     → (command : Option Command) (words : List (List ℕ)) (file : List ℕ → FileContent) (faults faults' : List ℕ → ℕ) (before : BusNow) (after : Left) (Replied : Outcome → Type 0) → asked words ≡ command → Does command file faults faults' before after Replied → HasRunOf P words file before after

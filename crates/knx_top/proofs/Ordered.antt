@@ -1,5 +1,5 @@
 -- The last tests of `sim`, and what a run is begun with.
-use Rattle.std.proofs.Common.{◌≡◌, ◌≢◌, Bool, true, false, List, map, None, Result, Ok, Err, refl, subst, sym}
+use Rattle.std.proofs.Common.{◌≡◌, ◌≢◌, Bool, true, false, List, map, None, Result, Ok, Err, refl, ap, ◌∙◌, subst, sym}
 use Rattle.std.specs.List.{list_all, list_any}
 use Rattle.bus_sim.specs.Loaded.{BusNow}
 use Rattle.knx_model.specs.declared.command.InputFile.TheVariants as file
@@ -29,10 +29,11 @@ grouped_ends o new old lines named line begins are all groups =
     rw (begins.known, these, groups) refl
 
 pub ordered : (o : SimOptions) (new old : Installation) (lines : List ScriptLine) (named : List JobWord) (line : BusNow) (order : Order) → BeginsLine new old lines line.run → named ≡ o.jobs → list_all (is_known new) named ≡ true → list_any is_group_line lines ≡ false
-    → order.line ≡ line → IsPrepared new old named order → OrderFor (with_lines o new old lines) order
-ordered o new old lines named line order begins are all groups is prepared =
+    → line.faults ≡ 0 → order.line ≡ line → IsPrepared new old named order → OrderFor (with_lines o new old lines) order
+ordered o new old lines named line order begins are all groups sound is prepared =
     let these : list_all (is_known new) o.jobs ≡ true = subst (λ (jobs : List JobWord). list_all (is_known new) jobs ≡ true) are all in
     rw (begins.known, these, groups) (record {
       line = subst (λ (l : BusNow). BeginsLine new old lines l.run) (sym is) begins;
+      sound = ap (λ (l : BusNow). l.faults) is ∙ sound;
       prepared = subst (λ (jobs : List JobWord). IsPrepared new old jobs order) are prepared;
     })

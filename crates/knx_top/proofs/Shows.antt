@@ -20,7 +20,7 @@ use Rattle.knx_model.specs.declared.log.JobWord.{JobWord}
 use Rattle.tunnel_link.specs.Goes.{GoesOn}
 use Rattle.knx_top.specs.Ended.{ShowsRun}
 use Rattle.knx_top.specs.OnLine.{AreCompiled, IsCompiled, IsImageWhere, on_bus}
-use Rattle.knx_top.specs.Ran.{Outcome, Stops, Tells, BreaksOff, Reports, Ran, Runs}
+use Rattle.knx_top.specs.Ran.{FaultsOfLine, Outcome, Stops, Tells, BreaksOff, Reports, Ran, Runs, report_in}
 use Rattle.knx_top.specs.Shown.{AreShown, AreShownOf, IsCase, IsShown, IsShownIn}
 use Rattle.knx_top.specs.Stops.{Commission}
 use Rattle.knx_top.proofs.Driven.{same_start}
@@ -79,3 +79,11 @@ runs_so c before after report jobs devices log (Reports told words shown with_lo
   shown = are_shown c.project (world after.run) shown devices (on_bus c.project c.before) shows.2 compiled;
   with_log = shows.3 ∙ logs;
 }
+
+-- it is told with the same fault
+pub fault_so : (r : RunNow) (report : Report) (jobs : List JobWord) (devices : List (IndAddr × Option Image)) (log : Bool) (outcome : Outcome) (after : BusNow) → ShowsRun r report jobs devices log outcome
+    → FaultsOfLine (Some report) after → FaultsOfLine (report_in outcome) after
+fault_so r report jobs devices log (Stops why) after shows cause = absurd shows
+fault_so r report jobs devices log (Tells text) after shows cause = absurd shows
+fault_so r report jobs devices log (BreaksOff told) after shows cause = subst (λ (told : Report). FaultsOfLine (Some told) after) (sym shows) cause
+fault_so r report jobs devices log (Reports told words shown with_log) after shows cause = subst (λ (told : Report). FaultsOfLine (Some told) after) (sym shows.0) cause

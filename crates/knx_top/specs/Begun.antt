@@ -39,6 +39,8 @@ pub record IsPrepared (new old : Installation) (named : List JobWord) (order : O
 
 pub record IsOrder (c : Commission) (order : Order) : Type 0 where
   pub line : BeginsLine c.project c.before c.script order.line.run
+  -- no call of the line has failed
+  pub sound : order.line.faults ≡ 0
   pub prepared : IsPrepared c.project c.before c.options.jobs order
 
 -- what was judged was compiled, and a line with its devices has begun

@@ -142,8 +142,8 @@ Does (Some (Decode word)) file faults faults' before after Replied = TellsOfFram
 abbrev pub AtMostOneRose : (List ℕ → ℕ) → (List ℕ → ℕ) → Type 0
 AtMostOneRose faults faults' = (one : Option (List ℕ)) × OnlyRose one faults faults'
 
--- no run was begun, or the line has a run of what the words ask for and the files gave, of which P holds, and its report is left
+-- no run was begun, or the line has a run of what the words ask for and the files gave, in which no test fails, of which P holds, and its report is left
 pub data HasRunOf (P : Commission → RunNow → Report → Type 0) (words : List (List ℕ)) (file : List ℕ → FileContent) (before : BusNow) (after : Left) : Type 0 where
   NoRun : HasNoRun before after → HasRunOf P words file before after
-  HasRun : (names : SimWords) (texts : SimTexts) (report : Report) → asked words ≡ Some (Sim names) → SimIsRead file names texts → after.report ≡ Some report
+  HasRun : (names : SimWords) (texts : SimTexts) (report : Report) → asked words ≡ Some (Sim names) → SimIsRead file names texts → first_some (sim_tests names texts) ≡ None → after.report ≡ Some report
       → P (commission_told names texts) after.line.run report → HasRunOf P words file before after

@@ -2,7 +2,7 @@
 -- at every moment, whatever is lost, repeated or cut, each device has its starting content, or is stopped, or runs what the new project says; each
 -- group telegram acts on exactly the objects that the running configuration links; `done` is told only where the new project's runs; no device has
 -- two downloaders at once, and no tunnelling request acts twice.
-use Rattle.std.specs.Prelude.{◌≡◌, ◌⊎◌, ℕ, ◌-◌, ◌^◌, min, Bool, List, [], length, reverse, Option, Some, None, Result, Ok, Err}
+use Rattle.std.specs.Prelude.{◌≡◌, ◌⊎◌, ℕ, ◌-◌, ◌^◌, min, Bool, List, [], length, reverse, IfSome, Option, Some, None, Result, Ok, Err}
 use Rattle.bus_sim.specs.Loaded.{BusNow}
 use Rattle.bus_sim.specs.RunNow.{RunNow, start, world}
 use Rattle.knx_model.specs.declared.command.Stop.{Stop}
@@ -26,6 +26,7 @@ use Rattle.line_model.specs.Record.{placed, record_of}
 use Rattle.line_model.specs.StartOf.{BusOf}
 use Rattle.line_model.specs.Telegrams.{TelegramsActRight, ActsByProject}
 use Rattle.line_model.specs.Tunnel.{Commissions}
+use Rattle.tunnel_link.specs.Rights.{FailsWhere}
 use Rattle.knx_top.specs.Jobs.{AreJobs, ArePlanned}
 use Rattle.knx_top.specs.OnLine.{on_bus}
 use Rattle.knx_top.specs.Shown.{AreShown}
@@ -86,6 +87,11 @@ report_in (Stops why) = None
 report_in (Tells text) = None
 report_in (BreaksOff report) = Some report
 report_in (Reports report jobs devices log) = Some report
+
+-- that the link failed is told only where the simulated line's count of failed calls rose, which is 0 where a run begins
+abbrev pub FaultsOfLine : Option Report → BusNow → Type 0
+FaultsOfLine None after = Unit {0}
+FaultsOfLine (Some report) after = IfSome report.fault (λ fault. FailsWhere fault 0 after.faults)
 
 -- a call stopped for a reason, or for want of memory
 abbrev pub StopsFor : Stop → Outcome → Type 0

@@ -8,7 +8,7 @@ ghost use Rattle.knx_top.specs.Command.{HasFewJobs, NamesFewJobs, ProjectWords, 
 ghost use Rattle.knx_top.specs.Ended.{IsTextOf, RepliesOf, outcome_of, told_outcome};
 ghost use Rattle.knx_top.specs.Headline.{ActsOnce, BeganRightly, EndsEveryJob, HasFaultRight, HasOldStoppedOrNew, HasTelegramsRight, IsToldRightly, RunsWhereDone};
 ghost use Rattle.knx_top.specs.Names.{command_of, options_of, project_words_of, sim_words_of};
-ghost use Rattle.knx_top.specs.Ran.{Outcome, Stops};
+ghost use Rattle.knx_top.specs.Ran.{FaultsOfLine, Outcome, Stops};
 
 use crate::command::{Command, ProjectNames, SimNames, asked};
 use crate::commission::{Reported, SimEnd, commission};
@@ -154,6 +154,7 @@ fn tell_sim<R: Wait, F: Files, K: Sink>(
 ) -> Status
     requires { HasFewJobs (options_of names.options) }
     ensures told { RunsScript (sim_words_of names.entry) (F.file files.old) (F.faults files.old) (F.faults files.new) sim.old (record { line = sim.new; report = last.new }) (Replies (K.faults out.old) (K.faults out.new) (K.taken out.old) (K.taken out.new) result) }
+    ensures link { FaultsOfLine last.new sim.new }
     ensures stays { (other : List ℕ) → F.file files.new other ≡ F.file files.old other }
     ensures written { K.writes out.new ≡ one_more (K.writes out.old) }
 {
@@ -177,6 +178,7 @@ fn run<R: Wait, F: Files, K: Sink>(
     requires none { last.old ≡ None }
     requires few { NamesFewJobs (command_of command) }
     ensures does { Does (Some (command_of command.entry)) (F.file files.old) (F.faults files.old) (F.faults files.new) sim.old (record { line = sim.new; report = last.new }) (Replies (K.faults out.old) (K.faults out.new) (K.taken out.old) (K.taken out.new) result) }
+    ensures link { FaultsOfLine last.new sim.new }
     ensures stays { (other : List ℕ) → F.file files.new other ≡ F.file files.old other }
     ensures written { K.writes out.new ≡ one_more (K.writes out.old) }
 {
@@ -200,6 +202,7 @@ fn answer<R: Wait, F: Files, K: Sink>(
 ) -> Status
     requires { last.old ≡ None }
     ensures does { Does (asked (map string_bytes words.now)) (F.file files.old) (F.faults files.old) (F.faults files.new) sim.old (record { line = sim.new; report = last.new }) (Replies (K.faults out.old) (K.faults out.new) (K.taken out.old) (K.taken out.new) result) }
+    ensures link { FaultsOfLine last.new sim.new }
     ensures stays { (other : List ℕ) → F.file files.new other ≡ F.file files.old other }
     ensures written { K.writes out.new ≡ one_more (K.writes out.old) }
 {
@@ -242,6 +245,8 @@ pub fn knx<R: Wait, F: Files, K: Sink>(
     // a run ends without its end exactly at a cause, and else every job has its end
     ensures fault { HasRunOf HasFaultRight (map string_bytes words.now) (F.file files.old) sim.old (record { line = sim.new; report = last.new }) }
     ensures over { HasRunOf EndsEveryJob (map string_bytes words.now) (F.file files.old) sim.old (record { line = sim.new; report = last.new }) }
+    // that the link failed is told only where a call of the simulated line failed
+    ensures link { FaultsOfLine last.new sim.new }
     // only `sim` begins a run
     ensures line { ((names : SimWords) → asked (map string_bytes words.now) ≢ Some (AskedSim names)) → HasNoRun sim.old (record { line = sim.new; report = last.new }) }
     // what the files tell stays, the count of one file rose at most, and there is just one write

@@ -12,7 +12,7 @@ ghost use Rattle.knx_top.specs.Jobs.{seen_job};
 ghost use Rattle.knx_top.specs.Names.{options_of, sim_words_of};
 ghost use Rattle.knx_top.specs.Begun.{IsOrder};
 ghost use Rattle.knx_top.specs.Command.{HasFewJobs};
-ghost use Rattle.knx_top.specs.Ran.{Comes, Runs, report_in};
+ghost use Rattle.knx_top.specs.Ran.{Comes, FaultsOfLine, Runs, report_in};
 ghost use Rattle.knx_top.specs.Stops.{Commission};
 
 use crate::command::SimNames;
@@ -92,10 +92,12 @@ fn end_of_run(
 /// Goes through the jobs over the line, which is then the one that was run, whether the run ended or memory was wanting on the way.
 fn run<R: Wait>(rt: &R, alloc: Global, order: Order, log: bool, sim: &mut SimBus) -> SimEnd
     requires new { order.line.run.events ≡ [] }
+    requires sound { order.line.faults ≡ 0 }
     requires few { length order.plans < 4294967296 }
     requires good { AllByRecursion IsGoodJob (map seen_job order.plans) }
     requires devices { All (λ (d : Address × Option Compiled). IsSome ((world order.line.run).devices d.0.raw)) order.devices }
-    ensures { (c : Commission) → IsOrder c order → log ≡ c.options.log → Runs c sim.old sim.new (outcome_of result) }
+    ensures runs { (c : Commission) → IsOrder c order → log ≡ c.options.log → Runs c sim.old sim.new (outcome_of result) }
+    ensures link { FaultsOfLine (report_in (outcome_of result)) sim.new }
 {
     let Order {
         line,
@@ -119,7 +121,8 @@ pub fn commission<R: Wait>(
     sim: &mut SimBus,
 ) -> SimEnd
     requires { HasFewJobs (options_of names.options) }
-    ensures { Comes (judged (sim_words_of names.entry) texts.now) sim.old sim.new (outcome_of result) }
+    ensures comes { Comes (judged (sim_words_of names.entry) texts.now) sim.old sim.new (outcome_of result) }
+    ensures link { FaultsOfLine (report_in (outcome_of result)) sim.new }
 {
     match judge(alloc, names, texts) {
         Ok(order) => run(rt, alloc, order, names.options.log, sim),

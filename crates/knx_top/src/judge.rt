@@ -95,6 +95,7 @@ fn judge_jobs(
 ) -> Result<Order, Stop>
     requires few { HasFewJobs (options_of options) }
     requires begins { BeginsLine new.now old.now lines.now line.run }
+    requires sound { line.faults ≡ 0 }
     ensures ok { IfOk result (λ order. OrderFor (with_lines (options_of options.entry) new.now old.now lines.now) order) }
     ensures err { IfErr result (λ why. why ≢ OutOfMemory tt → with_lines (options_of options.entry) new.now old.now lines.now ≡ Err why) }
 {

@@ -114,6 +114,7 @@ pub fn line_begun(
     script: &Script,
 ) -> Result<SimBus, Stop>
     ensures begun { IfOk result (λ line. BeginsLine new.now old.now script.now.lines line.run) }
+    ensures sound { IfOk result (λ line. line.faults ≡ 0) }
     ensures refused { IfErr result (λ why. why ≢ OutOfMemory tt → unless_strange new.now old.now script.now.lines ≡ Err why) }
 {
     let bus = on_bus(alloc, new, old)?;

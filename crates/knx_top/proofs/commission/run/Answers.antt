@@ -1,16 +1,17 @@
-use Rattle.std.proofs.Common.{List, [], All, Option, map, sym, subst}
-use Rattle.std.specs.Prelude.{IsSome}
+use Rattle.std.proofs.Common.{ℕ, List, [], All, Option, Some, map, sym, subst}
+use Rattle.std.specs.Prelude.{IfSome, IsSome}
 use Rattle.bus_sim.specs.RunNow.{story, world}
 use Rattle.knx_model.specs.declared.address.IndAddr.{IndAddr}
 use Rattle.knx_model.specs.declared.config.Image.{Image}
 use Rattle.line_model.specs.declared.group.GroupTurn.{GroupTurn}
+use Rattle.tunnel_link.specs.Rights.{FailsWhere}
 use Rattle.line_model.specs.Headline.{Keeps}
 use Rattle.line_model.specs.Log.{Job}
 use Rattle.knx_top.specs.Ended.{ShowsRun, outcome_of}
 use Rattle.knx_top.specs.Jobs.{seen_job}
-use Rattle.knx_top.specs.Ran.{log_in}
+use Rattle.knx_top.specs.Ran.{FaultsOfLine, log_in}
 use Rattle.knx_top.proofs.Driven.{devices_seen, driven, jobs_seen}
-use Rattle.knx_top.proofs.Shows.{runs_so, still_there}
+use Rattle.knx_top.proofs.Shows.{fault_so, runs_so, still_there}
 use Rattle.knx_top.proofs.commission.run.Goals as goal
 
 pub end_of_run-requires : goal.end_of_run-requires
@@ -20,8 +21,8 @@ end_of_run-requires g c =
     (still_there jobs c.args.order.line.run c.commission-line.result.0.run (log_in c.commission-line.result.1) c.args.order.devices c.requires.new c.commission-line.ensures.grows
     (c.commission-line.ensures.right jobs (jobs_seen c.args.order.plans) c.requires.good) c.requires.devices)
 
-pub returns : goal.returns
-returns g c = λ commission is logs.
+pub returns-clause-runs : goal.returns-clause-runs
+returns-clause-runs g c = λ commission is logs.
     let jobs : List Job = map seen_job c.args.order.plans in
     let line = c.commission-line.result.0 in
     let report = c.commission-line.result.1 in
@@ -33,3 +34,10 @@ returns g c = λ commission is logs.
     (λ none. c.commission-line.ensures.over none jobs (devices_seen c.args.order.plans)) c.commission-line.ensures.heard c.commission-line.ensures.missed c.commission-line.ensures.dropped)
     is.prepared.devices logs
     (subst (λ (devices : List (IndAddr × Option Image)). ShowsRun line.run report c.args.order.jobs devices c.args.log (outcome_of c.end_of_run.result)) c.as_slice.ensures c.end_of_run.ensures)
+
+pub returns-clause-link : goal.returns-clause-link
+returns-clause-link g c =
+    let line = c.commission-line.result.0 in
+    let report = c.commission-line.result.1 in
+    let cause : FaultsOfLine (Some report) line = subst (λ (before : ℕ). IfSome report.fault (λ fault. FailsWhere fault before line.faults)) c.requires.sound c.commission-line.ensures.cause in
+    fault_so line.run report c.args.order.jobs c.as_slice.result.now c.args.log (outcome_of c.end_of_run.result) line c.end_of_run.ensures cause

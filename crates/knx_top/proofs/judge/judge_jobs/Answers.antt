@@ -15,4 +15,4 @@ returns-then-has_groups-clause-err c = λ _. rw c.not_built.ensures
 pub returns-clause-ok : goal.returns-clause-ok
 returns-clause-ok c =
     ordered (options_of c.args.options) c.args.new.now c.args.old.now c.args.lines.now c.in_ok-named.named c.args.line c.in_ok-order.order c.requires.begins c.in_ok-named.ensures (rw c.as_slice.ensures at (sym c.are_known.ensures ∙ c.if-not-are_known.false))
-    (sym c.has_groups.ensures ∙ c.if-has_groups.false) c.in_ok-order.ensures.line (rw c.as_slice-2.ensures at c.in_ok-order.ensures.prepared)
+    (sym c.has_groups.ensures ∙ c.if-has_groups.false) c.requires.sound c.in_ok-order.ensures.line (rw c.as_slice-2.ensures at c.in_ok-order.ensures.prepared)
