@@ -5,3 +5,24 @@ returns-in-Ok-clause-usage g c = rw (c.in-Ok.is, ← c.as_slice.ensures.value) c
 
 pub returns-in-Ok-clause-old_stopped_or_new : goal.returns-in-Ok-clause-old_stopped_or_new
 returns-in-Ok-clause-old_stopped_or_new g c = rw (c.in-Ok.is, ← c.as_slice.ensures.value) c.ended.ensures.old_stopped_or_new
+
+pub returns-in-Ok-clause-begins : goal.returns-in-Ok-clause-begins
+returns-in-Ok-clause-begins g c = rw (c.in-Ok.is, ← c.as_slice.ensures.value) c.ended.ensures.begins
+
+pub returns-in-Ok-clause-telegrams : goal.returns-in-Ok-clause-telegrams
+returns-in-Ok-clause-telegrams g c = rw (c.in-Ok.is, ← c.as_slice.ensures.value) c.ended.ensures.telegrams
+
+pub returns-in-Ok-clause-done : goal.returns-in-Ok-clause-done
+returns-in-Ok-clause-done g c = rw (c.in-Ok.is, ← c.as_slice.ensures.value) c.ended.ensures.done
+
+pub returns-in-Ok-clause-once : goal.returns-in-Ok-clause-once
+returns-in-Ok-clause-once g c = rw (c.in-Ok.is, ← c.as_slice.ensures.value) c.ended.ensures.once
+
+pub returns-in-Ok-clause-told : goal.returns-in-Ok-clause-told
+returns-in-Ok-clause-told g c = rw (c.in-Ok.is, ← c.as_slice.ensures.value) c.ended.ensures.told
+
+pub returns-in-Ok-clause-fault : goal.returns-in-Ok-clause-fault
+returns-in-Ok-clause-fault g c = rw (c.in-Ok.is, ← c.as_slice.ensures.value) c.ended.ensures.fault
+
+pub returns-in-Ok-clause-over : goal.returns-in-Ok-clause-over
+returns-in-Ok-clause-over g c = rw (c.in-Ok.is, ← c.as_slice.ensures.value) c.ended.ensures.over
