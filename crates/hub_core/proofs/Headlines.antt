@@ -11,7 +11,7 @@ use Rattle.line_model.specs.Log.{Job, OneDownloaderPerDevice}
 use Rattle.line_model.specs.Dropped.{dropped}
 use Rattle.line_model.specs.Faults.{tries, FaultRight}
 use Rattle.line_model.specs.Headline.{Keeps, IsGoodJob}
-use Rattle.line_law.specs.Safe.{EachAsked, EverySafeInterleaving}
+use Rattle.line_law.specs.Safe.{EachAsked, IsSafe, EverySafeInterleaving}
 use Rattle.hub_core.specs.Discipline.{EachSo, Asks, TellsAndAsks}
 use Rattle.tunnel_link.specs.declared.known.Known.{Known}
 use Rattle.tunnel_link.specs.Adds.{place_of}
@@ -20,7 +20,7 @@ use Rattle.tunnel_link.specs.Rights.{WhereTold, FitsFault, IsKept, KeepsRecord, 
 use Rattle.hub_work.specs.declared.work.Work.{Work}
 use Rattle.hub_work.proofs.Growing.{entries_placed, entries_counted}
 use Rattle.hub_core.specs.Keeps.{KeepsTold}
-use Rattle.hub_core.specs.Promises.{DropsIn, FaultRightIn, IsRightOver, PromptIn, TellsIn}
+use Rattle.hub_core.specs.Promises.{DropsIn, FaultRightIn, IsRightOver, IsSafeOver, PromptIn, TellsIn}
 use Rattle.hub_core.proofs.Disciplines.{disciplined}
 
 -- ---- the discipline
@@ -44,18 +44,29 @@ each_asked : (jobs : List Job) (turns : List GroupTurn) (log : List LogEntry) (p
 each_asked jobs turns log [] h = tt
 each_asked jobs turns log (p ∷ older) h = (h.0, each_asked jobs turns log older h.1)
 
-pub right_over : (jobs : List Job) (turns : List GroupTurn) (log : List LogEntry) (story : Story) (k : Known) → EverySafeInterleaving → AllByRecursion IsGoodJob jobs → OneDownloaderPerDevice jobs log → TellsIn jobs turns log story → KeepsRecord k story
-    → tunnel.Keeps story → IsRightOver jobs story log
-right_over jobs turns log Untold k law good alone tells kept legal = tt
-right_over jobs turns log (Recorded r) k law good alone tells kept legal = tt
-right_over jobs turns log (Full start events) k law good alone tells kept legal =
-    let right = (kept (placed start events) refl).right in
-    let told : TellsAndAsks jobs turns log (length events) (placed start events) = tells (placed start events) refl in
-    law jobs turns start events log good (record {
-      fresh = legal.fresh;
-      legal = legal.legal;
-      safe = record { form = told.form; alone = alone; truly = told.truly; renews = right.renews; sends = right.sends; asks = each_asked jobs turns log (placed start events) told.asks };
-    })
+safe_of : (jobs : List Job) (turns : List GroupTurn) (log : List LogEntry) (k : Known) (n : ℕ) (places : List Placed) → OneDownloaderPerDevice jobs log → TellsAndAsks jobs turns log n places → IsKept k (entries places) → IsSafe jobs turns n places log
+safe_of jobs turns log k n places alone told kept = record {
+  form = told.form;
+  alone = alone;
+  truly = told.truly;
+  renews = kept.right.renews;
+  sends = kept.right.sends;
+  asks = each_asked jobs turns log places told.asks;
+}
+
+pub safe_over : (jobs : List Job) (turns : List GroupTurn) (log : List LogEntry) (story : Story) (k : Known) → OneDownloaderPerDevice jobs log → TellsIn jobs turns log story → KeepsRecord k story → tunnel.Keeps story → IsSafeOver jobs turns story log
+safe_over jobs turns log Untold k alone tells kept legal = tt
+safe_over jobs turns log (Recorded r) k alone tells kept legal = safe_of jobs turns log k (length r) (counted r) alone (tells (counted r) refl) (kept (counted r) refl)
+safe_over jobs turns log (Full start events) k alone tells kept legal = record {
+  fresh = legal.fresh;
+  legal = legal.legal;
+  safe = safe_of jobs turns log k (length events) (placed start events) alone (tells (placed start events) refl) (kept (placed start events) refl);
+}
+
+pub right_over : (jobs : List Job) (turns : List GroupTurn) (log : List LogEntry) (story : Story) → EverySafeInterleaving → AllByRecursion IsGoodJob jobs → IsSafeOver jobs turns story log → IsRightOver jobs story log
+right_over jobs turns log Untold law good safe = tt
+right_over jobs turns log (Recorded r) law good safe = tt
+right_over jobs turns log (Full start events) law good safe = law jobs turns start events log good safe
 
 -- ---- the fault
 

@@ -3,3 +3,4 @@ pub mod Discipline
 pub mod Keeps
 pub mod Promises
 pub mod Taking
+pub mod Hears

@@ -1,15 +1,16 @@
 -- What a hub promises at every moment, for any jobs with its devices and plans: over a link that tells its events and good jobs, what the line's law
 -- says; and where the link tells something, that it has ended exactly where there is a cause.
-use Rattle.std.specs.Prelude.{◌≡◌, ℕ, ◌^◌, ◌-◌, min, List, Option, Some, None}
+use Rattle.std.specs.Prelude.{◌≡◌, ℕ, ◌^◌, ◌-◌, min, length, List, Option, Some, None}
 use Rattle.line_model.specs.declared.fault.HubFault.{HubFault}
 use Rattle.line_model.specs.declared.group.GroupTurn.{GroupTurn}
 use Rattle.line_model.specs.declared.log.LogEntry.{LogEntry}
-use Rattle.line_model.specs.Record.{Entry}
+use Rattle.line_model.specs.Record.{Entry, counted}
 use Rattle.line_model.specs.LinkStory.{Story, Untold, Recorded, Full}
 use Rattle.line_model.specs.Log.{Job}
 use Rattle.line_model.specs.Dropped.{dropped}
 use Rattle.line_model.specs.Faults.{FaultRight}
 use Rattle.line_model.specs.Headline.{IsRight}
+use Rattle.line_law.specs.Safe.{IsSafe, KeepsSafe}
 use Rattle.tunnel_link.specs.Adds.{place_of}
 use Rattle.tunnel_link.specs.Rights.{WhereTold}
 use Rattle.hub_core.specs.Discipline.{EachSo, IsPrompt, TellsAndAsks}
@@ -18,6 +19,12 @@ abbrev pub IsRightOver : List Job → Story → List LogEntry → Type 0
 IsRightOver jobs Untold log = Unit {0}
 IsRightOver jobs (Recorded r) log = Unit {0}
 IsRightOver jobs (Full start events) log = IsRight jobs start events log
+
+-- all that the line's promises need of the client
+abbrev pub IsSafeOver : List Job → List GroupTurn → Story → List LogEntry → Type 0
+IsSafeOver jobs turns Untold log = Unit {0}
+IsSafeOver jobs turns (Recorded r) log = IsSafe jobs turns (length r) (counted r) log
+IsSafeOver jobs turns (Full start events) log = KeepsSafe jobs turns start events log
 
 -- in each poll, while there was something to do, no deadline of the channel was passed over
 abbrev pub PromptIn : List Job → List GroupTurn → List LogEntry → Story → Type 0

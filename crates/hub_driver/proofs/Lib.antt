@@ -1,3 +1,5 @@
 pub mod Ends
+pub mod Hearing
+pub mod New
 pub mod Telling
 pub mod Told

@@ -5,9 +5,10 @@ ghost use Rattle.std.specs.List.{AllByRecursion};
 ghost use Rattle.hub_work.specs.declared.job.HubJob.{HubJob as JobOfHub};
 ghost use Rattle.hub_work.specs.Books.{AreJobsOf};
 ghost use Rattle.hub_work.specs.Requests.{IsTurnInRange};
-ghost use Rattle.hub_core.specs.Promises.{IsRightOver, FaultRightIn, DropsIn};
+ghost use Rattle.hub_core.specs.Promises.{IsRightOver, IsSafeOver, FaultRightIn, DropsIn};
 ghost use Rattle.hub_core.specs.Seen.{AreJobs};
-ghost use Rattle.line_model.specs.Headline.{Keeps, IsGoodJob};
+ghost use Rattle.hub_driver.specs.Heard.{HeardAll};
+ghost use Rattle.line_model.specs.Headline.{IsGoodJob};
 ghost use Rattle.line_model.specs.LinkStory.{IsNewLink, record_in};
 ghost use Rattle.line_model.specs.Log.{Job, IsLog, OneDownloaderPerDevice, AllOver, TurnUnfinished};
 ghost use Rattle.tunnel_link.specs.Goes.{GoesOn};
@@ -15,7 +16,7 @@ ghost use Rattle.tunnel_link.specs.Goes.{GoesOn};
 use crate::driver::Driver;
 use hub_core::{GroupTurn, Hub, HubFault, HubJob};
 use knx_model::{List, NoMemory};
-use line_law::every_interleaving;
+use line_law::every_safe_interleaving;
 use line_model::{Gate, Link, Report};
 use std::alloc::Global;
 use std::sync::Wait;
@@ -39,7 +40,7 @@ fn nothing_done(alloc: Global, no_memory: NoMemory) -> Report
 
 /// Commissions a line: goes through all jobs, sends all group telegrams, and closes, over a link on which nothing was done. The gate is passed between
 /// taking a job and starting it. It gives the link back, and what is told of the run; want of memory is the report's fault.
-#[tactic(auto, using(crate::proofs::Told::new_keeps, crate::proofs::Told::right_where_kept, crate::proofs::Told::new_drops_none))]
+#[tactic(auto, using(crate::proofs::New::new_safe, crate::proofs::New::new_right, crate::proofs::New::new_drops_none, crate::proofs::New::new_hears_none))]
 pub fn commission<R: Wait, L: Link, G: Gate>(
     rt: &R,
     alloc: Global,
@@ -53,7 +54,8 @@ pub fn commission<R: Wait, L: Link, G: Gate>(
     requires sendable { AllByRecursion IsTurnInRange groups }
     requires new { IsNewLink (L.story link) }
     ensures grows { GoesOn (L.story link) (L.story result.0) }
-    ensures headline { (all : List Job) → AreJobs jobs all → Keeps all groups (L.story result.0) (reverse result.1.log) }
+    ensures script { L.script result.0 ≡ L.script link }
+    ensures safe { (all : List Job) → AreJobs jobs all → IsSafeOver all groups (L.story result.0) (reverse result.1.log) }
     ensures right { (all : List Job) → AreJobs jobs all → AllByRecursion IsGoodJob all → IsRightOver all (L.story result.0) (reverse result.1.log) }
     ensures fault { (all : List Job) → AreJobs jobs all → FaultRightIn all (reverse result.1.log) result.1.fault (record_in (L.story result.0)) }
     ensures dropped { DropsIn result.1.dropped (record_in (L.story result.0)) }
@@ -61,12 +63,14 @@ pub fn commission<R: Wait, L: Link, G: Gate>(
     ensures alone { (all : List Job) → AreJobsOf (map (λ (j : JobOfHub). j.device) jobs) all → OneDownloaderPerDevice all (reverse result.1.log) }
     ensures over { result.1.fault ≡ None → (all : List Job) → AreJobsOf (map (λ (j : JobOfHub). j.device) jobs) all → AllOver all (reverse result.1.log) }
     ensures told { result.1.fault ≡ None → ¬ TurnUnfinished groups (reverse result.1.log) }
+    ensures heard { result.1.fault ≡ None → HeardAll result.1.heard (record_in (L.story result.0)) }
+    ensures missed { result.1.missed ≡ 0 }
 {
     let unfinished = jobs.len();
     match Hub::begin(alloc, jobs, groups, 1, link) {
         Ok(hub) => Driver::new(alloc, hub, unfinished).drives(rt, gate),
         Err((link, no_memory)) => {
-            every_interleaving();
+            every_safe_interleaving();
             (link, nothing_done(alloc, no_memory))
         }
     }

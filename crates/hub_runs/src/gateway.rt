@@ -1,7 +1,7 @@
 //! A link in memory, which tells nothing: a gateway that answers at once, with one device on the bus.
 
 use device_sim::Device;
-use knx_model::{Datagram, IndAddr, IpFrame, Ldata, LdataCode, NoMemory, Took};
+use knx_model::{ApduOctets, Datagram, IndAddr, IpFrame, Ldata, LdataCode, NoMemory, Took};
 use line_model::{Link, LinkFault, Polled};
 use std::alloc::Global;
 
@@ -17,6 +17,8 @@ pub enum Mood {
     Answers,
     /// The connect requests are refused with this status.
     Refuses(u8),
+    /// The device tells the descriptor 0012 in place of its own.
+    OtherMask,
     /// The tunnelling requests from the n-th on are neither acknowledged nor acted on, until the next channel.
     DropsFrom(u32),
 }
@@ -144,12 +146,23 @@ impl Side {
             match self.device.sends(now) {
                 Some(frame) => self.waiting.push(Ldata {
                     code: LdataCode::Ind,
+                    tpdu: self.told(frame.tpdu),
                     ..frame
                 })?,
                 None => return Ok(()),
             }
         }
         Ok(())
+    }
+
+    /// What the gateway makes of what the device sends.
+    fn told(&self, tpdu: ApduOctets) -> ApduOctets {
+        match (self.mood, tpdu.as_slice()) {
+            (Mood::OtherMask, [first, 0x40, 0x07, 0xB0]) => {
+                ApduOctets::from_slice(&[*first, 0x40, 0x00, 0x12])
+            }
+            _ => tpdu,
+        }
     }
 
     /// The frame that waits longest goes to the client.

@@ -18,6 +18,7 @@ pub fn sent<L: Link>(link: &mut L, known: &mut Known, datagram: &Datagram) -> Re
     ensures time { L.clock link.old ≤ L.clock link.new }
     ensures count { L.faults link.old ≤ L.faults link.new }
     ensures events { L.place link.old ≤ L.place link.new }
+    ensures script { L.script link.new ≡ L.script link.old }
 {
     match link.send(datagram.as_slice()) {
         Ok(()) => Ok(()),
@@ -32,6 +33,7 @@ pub fn connected<L: Link>(link: &mut L, known: &mut Known) -> Result<(), HubFaul
     ensures time { L.clock link.old ≤ L.clock link.new }
     ensures count { L.faults link.old ≤ L.faults link.new }
     ensures events { L.place link.old ≤ L.place link.new }
+    ensures script { L.script link.new ≡ L.script link.old }
 {
     if let Err(fault) = link.renew() {
         return Err(known.failed(fault));
@@ -47,6 +49,7 @@ pub fn polled<L: Link>(link: &mut L, known: &mut Known, wait_ms: u32) -> Result<
     ensures time { L.clock link.old ≤ L.clock link.new }
     ensures count { L.faults link.old ≤ L.faults link.new }
     ensures events { L.place link.old ≤ L.place link.new }
+    ensures script { L.script link.new ≡ L.script link.old }
 {
     let mut into = [0; LONGEST];
     match link.poll(&mut into, wait_ms) {
@@ -72,6 +75,7 @@ pub fn answered<L: Link>(
     ensures time { L.clock link.old ≤ L.clock link.new }
     ensures count { L.faults link.old ≤ L.faults link.new }
     ensures events { L.place link.old ≤ L.place link.new }
+    ensures script { L.script link.new ≡ L.script link.old }
 {
     match sends {
         Some(datagram) => {
@@ -88,6 +92,7 @@ pub fn listened<L: Link>(link: &mut L, known: &mut Known, wait_ms: u32) -> Resul
     ensures time { L.clock link.old ≤ L.clock link.new }
     ensures count { L.faults link.old ≤ L.faults link.new }
     ensures events { L.place link.old ≤ L.place link.new }
+    ensures script { L.script link.new ≡ L.script link.old }
 {
     let Answer { what, loss, sends } = polled(link, known, wait_ms)?;
     let sent = sends.is_some();

@@ -1,17 +1,20 @@
 //! The closing.
 
-ghost use Rattle.std.specs.Prelude.{◌≡◌, IfErr, OnOk, Some, None};
+ghost use Rattle.std.specs.Prelude.{◌≡◌, IfErr, IfOk, OnOk, Some, None};
 ghost use Rattle.tunnel_link.specs.Goes.{GoesOn};
+ghost use Rattle.hub_core.specs.Hears.{HearsSo, heard_at_end};
 ghost use Rattle.hub_core.specs.Seen.{SameRun, StaysEnded};
 
 use super::Hub;
 use hub_work::{Closing, Finished, moments_go_on};
-use line_model::{HubFault, Link};
+use line_model::{HubFault, Indication, Link};
 
 impl<L: Link> Hub<L> {
     /// One step of the closing: it listens, then asks to end the channel, then waits for the answer. No job and no group telegram is unfinished.
     pub fn finish(&mut self) -> Result<Finished, HubFault>
         ensures grows { GoesOn (L.story self.old.link) (L.story self.new.link) }
+        ensures script { L.script self.new.link ≡ L.script self.old.link }
+        ensures heard { IfOk result (λ done. HearsSo (heard_at_end done) (L.story self.old.link) (L.story self.new.link)) }
         ensures run { SameRun self.old self.new }
         ensures log { self.new.log ≡ self.old.log }
         ensures ended { StaysEnded self.old.fault result self.new.fault (self.new.link ≡ self.old.link) }
@@ -31,6 +34,8 @@ impl<L: Link> Hub<L> {
     fn goes_on(&mut self) -> Result<Finished, HubFault>
         requires stands { self.old.fault ≡ None }
         ensures grows { GoesOn (L.story self.old.link) (L.story self.new.link) }
+        ensures script { L.script self.new.link ≡ L.script self.old.link }
+        ensures heard { IfOk result (λ done. HearsSo (heard_at_end done) (L.story self.old.link) (L.story self.new.link)) }
         ensures fault { IfErr result (λ fault. self.new.fault ≡ Some fault) }
         ensures stands { OnOk result (self.new.fault ≡ None) }
         ensures run { SameRun self.old self.new }
@@ -48,6 +53,8 @@ impl<L: Link> Hub<L> {
     fn leave(&mut self) -> Result<Finished, HubFault>
         requires stands { self.old.fault ≡ None }
         ensures grows { GoesOn (L.story self.old.link) (L.story self.new.link) }
+        ensures script { L.script self.new.link ≡ L.script self.old.link }
+        ensures heard { IfOk result (λ done. HearsSo (heard_at_end done) (L.story self.old.link) (L.story self.new.link)) }
         ensures fault { IfErr result (λ fault. self.new.fault ≡ Some fault) }
         ensures stands { OnOk result (self.new.fault ≡ None) }
         ensures run { SameRun self.old self.new }
@@ -67,6 +74,8 @@ impl<L: Link> Hub<L> {
     fn listen(&mut self) -> Result<Finished, HubFault>
         requires stands { self.old.fault ≡ None }
         ensures grows { GoesOn (L.story self.old.link) (L.story self.new.link) }
+        ensures script { L.script self.new.link ≡ L.script self.old.link }
+        ensures heard { IfOk result (λ done. HearsSo (heard_at_end done) (L.story self.old.link) (L.story self.new.link)) }
         ensures fault { IfErr result (λ fault. self.new.fault ≡ Some fault) }
         ensures stands { OnOk result (self.new.fault ≡ None) }
         ensures run { SameRun self.old self.new }
@@ -74,14 +83,22 @@ impl<L: Link> Hub<L> {
     {
         let polled = self.poll()?;
         if polled.got {
-            let now = self.tunnel.now();
-            self.work.closing = Some(self.closing().got(now));
+            self.count();
         }
-        match polled.heard {
-            Some(indication) => Ok(Finished::Heard(indication)),
-            None if self.is_over() => Ok(Finished::Over),
-            None => Ok(Finished::Going),
-        }
+        let is_over = self.is_over();
+        Ok(finished(polled.heard, is_over))
+    }
+
+    /// One datagram more was got in the closing.
+    fn count(&mut self)
+        requires stands { self.old.fault ≡ None }
+        ensures link { self.new.link ≡ self.old.link }
+        ensures run { SameRun self.old self.new }
+        ensures log { self.new.log ≡ self.old.log }
+        ensures stands { self.new.fault ≡ None }
+    {
+        let now = self.tunnel.now();
+        self.work.closing = Some(self.closing().got(now));
     }
 
     /// How far the closing is, which begins with the first call.
@@ -113,5 +130,16 @@ impl<L: Link> Hub<L> {
         let now = self.tunnel.now();
         let is_open = self.tunnel.is_open();
         self.closing().is_over(is_open, now)
+    }
+}
+
+/// What a poll of the closing comes to.
+fn finished(heard: Option<Indication>, is_over: bool) -> Finished
+    ensures { heard_at_end result ≡ heard }
+{
+    match heard {
+        Some(indication) => Finished::Heard(indication),
+        None if is_over => Finished::Over,
+        None => Finished::Going,
     }
 }

@@ -1,9 +1,10 @@
 //! The group telegrams.
 
-ghost use Rattle.std.specs.Prelude.{◌≡◌, IfErr, IfOk, IfSome, OnErr, Some, None};
+ghost use Rattle.std.specs.Prelude.{◌≡◌, IfErr, IfOk, IfSome, OnErr, OnOk, Some, None};
 ghost use Rattle.tunnel_link.specs.Goes.{GoesOn};
 ghost use Rattle.line_model.specs.Log.{IsNextTurn, TurnUnfinished};
 ghost use Rattle.hub_work.specs.Turns.{GroupTells};
+ghost use Rattle.hub_core.specs.Hears.{HearsSo};
 ghost use Rattle.hub_core.specs.Seen.{SameRun, StaysEnded};
 
 use super::Hub;
@@ -23,6 +24,8 @@ impl<L: Link> Hub<L> {
     pub fn send_group(&mut self, k: u32) -> Result<GroupDid, HubFault>
         requires next { IsNextTurn self.old.turns self.old.log k }
         ensures grows { GoesOn (L.story self.old.link) (L.story self.new.link) }
+        ensures script { L.script self.new.link ≡ L.script self.old.link }
+        ensures heard { OnOk result (HearsSo None (L.story self.old.link) (L.story self.new.link)) }
         ensures told { IfOk result (λ did. GroupTells (L.place self.old.link) k did self.old.log self.new.log) }
         ensures untold { OnErr result (self.new.log ≡ self.old.log) }
         ensures run { SameRun self.old self.new }

@@ -14,7 +14,7 @@ ghost use Rattle.line_model.specs.Log.{Job, IsLog, OneDownloaderPerDevice};
 ghost use Rattle.hub_work.specs.Books.{AreJobsOf};
 ghost use Rattle.hub_work.specs.Requests.{IsTurnInRange};
 ghost use Rattle.hub_work.specs.declared.job.HubJob.{HubJob as JobOfHub};
-ghost use Rattle.hub_core.specs.Promises.{DropsIn, FaultRightIn, IsRightOver, PromptIn, TellsIn};
+ghost use Rattle.hub_core.specs.Promises.{DropsIn, FaultRightIn, IsRightOver, IsSafeOver, PromptIn, TellsIn};
 ghost use Rattle.hub_core.specs.Seen.{AreJobs, tasks_seen};
 
 use crate::end::HubEnd;
@@ -135,12 +135,13 @@ impl<L: Link> Hub<L> {
     }
 
     /// What its type keeps, at every moment and after a fault too, for any jobs with its devices and plans. Where its link tells something: the log is
-    /// one of its jobs and telegrams, what it tells is true, and each request was right; it has ended exactly where there is a cause; over a link that
-    /// tells its events and with good jobs, what the law of the line says; and where it polled promptly, the whole discipline of the client. Over every
-    /// link its log is one of its jobs and telegrams, with one downloader for each device.
+    /// one of its jobs and telegrams, what it tells is true, each request was right, and so is all that the line's promises need of the client; it has
+    /// ended exactly where there is a cause; over a link that tells its events and with good jobs, what the law of the line says; and where it polled
+    /// promptly, the whole discipline of the client. Over every link its log is one of its jobs and telegrams, with one downloader for each device.
     pub fn keeps(&self)
         ensures tells { (jobs : List Job) → AreJobs self.now.jobs jobs → TellsIn jobs self.now.turns self.now.log (L.story self.now.link) }
         ensures headline { (jobs : List Job) → AreJobs self.now.jobs jobs → PromptIn jobs self.now.turns self.now.log (L.story self.now.link) → Keeps jobs self.now.turns (L.story self.now.link) self.now.log }
+        ensures safe { (jobs : List Job) → AreJobs self.now.jobs jobs → IsSafeOver jobs self.now.turns (L.story self.now.link) self.now.log }
         ensures right { (jobs : List Job) → AreJobs self.now.jobs jobs → AllByRecursion IsGoodJob jobs → IsRightOver jobs (L.story self.now.link) self.now.log }
         ensures fault { (jobs : List Job) → AreJobs self.now.jobs jobs → FaultRightIn jobs self.now.log self.now.fault (record_in (L.story self.now.link)) }
         ensures form { (jobs : List Job) → AreJobsOf self.now.devices jobs → IsLog jobs self.now.turns (L.place self.now.link) self.now.log }

@@ -1,7 +1,8 @@
 //! One poll of the link, with what is due before it.
 
-ghost use Rattle.std.specs.Prelude.{◌≡◌, IfErr, OnOk, Some, None};
+ghost use Rattle.std.specs.Prelude.{◌≡◌, IfErr, IfOk, OnOk, Some, None};
 ghost use Rattle.tunnel_link.specs.Goes.{GoesOn};
+ghost use Rattle.hub_core.specs.Hears.{HearsSo, heard_of};
 ghost use Rattle.hub_core.specs.Seen.{SameRun, StaysEnded};
 
 use super::Hub;
@@ -14,6 +15,8 @@ impl<L: Link> Hub<L> {
     /// Does what is due, asks for a channel where there is none and the closing hasn't begun, and makes one poll.
     pub fn pump(&mut self) -> Result<Pumped, HubFault>
         ensures grows { GoesOn (L.story self.old.link) (L.story self.new.link) }
+        ensures script { L.script self.new.link ≡ L.script self.old.link }
+        ensures heard { IfOk result (λ pumped. HearsSo (heard_of pumped) (L.story self.old.link) (L.story self.new.link)) }
         ensures run { SameRun self.old self.new }
         ensures log { self.new.log ≡ self.old.log }
         ensures ended { StaysEnded self.old.fault result self.new.fault (self.new.link ≡ self.old.link) }
@@ -25,17 +28,15 @@ impl<L: Link> Hub<L> {
         let acted = self.act()?;
         let sought = self.seek()?;
         let polled = self.poll()?;
-        match polled.heard {
-            Some(indication) => Ok(Pumped::Heard(indication)),
-            None if acted || sought || polled.moved => Ok(Pumped::Moved),
-            None => Ok(Pumped::Nothing),
-        }
+        Ok(pumped(acted || sought, polled))
     }
 
     /// Does what is due by the time. Tells whether it did something.
     pub(super) fn act(&mut self) -> Result<bool, HubFault>
         requires stands { self.old.fault ≡ None }
         ensures grows { GoesOn (L.story self.old.link) (L.story self.new.link) }
+        ensures script { L.script self.new.link ≡ L.script self.old.link }
+        ensures heard { OnOk result (HearsSo None (L.story self.old.link) (L.story self.new.link)) }
         ensures fault { IfErr result (λ fault. self.new.fault ≡ Some fault) }
         ensures stands { OnOk result (self.new.fault ≡ None) }
         ensures run { SameRun self.old self.new }
@@ -52,6 +53,8 @@ impl<L: Link> Hub<L> {
     fn seek(&mut self) -> Result<bool, HubFault>
         requires stands { self.old.fault ≡ None }
         ensures grows { GoesOn (L.story self.old.link) (L.story self.new.link) }
+        ensures script { L.script self.new.link ≡ L.script self.old.link }
+        ensures heard { OnOk result (HearsSo None (L.story self.old.link) (L.story self.new.link)) }
         ensures fault { IfErr result (λ fault. self.new.fault ≡ Some fault) }
         ensures stands { OnOk result (self.new.fault ≡ None) }
         ensures run { SameRun self.old self.new }
@@ -72,6 +75,8 @@ impl<L: Link> Hub<L> {
     pub(super) fn poll(&mut self) -> Result<Polled, HubFault>
         requires stands { self.old.fault ≡ None }
         ensures grows { GoesOn (L.story self.old.link) (L.story self.new.link) }
+        ensures script { L.script self.new.link ≡ L.script self.old.link }
+        ensures heard { IfOk result (λ polled. HearsSo polled.heard (L.story self.old.link) (L.story self.new.link)) }
         ensures fault { IfErr result (λ fault. self.new.fault ≡ Some fault) }
         ensures stands { OnOk result (self.new.fault ≡ None) }
         ensures run { SameRun self.old self.new }
@@ -89,5 +94,16 @@ impl<L: Link> Hub<L> {
             Some(fault) => Err(self.tunnel.fail(fault)),
             None => Ok(polled),
         }
+    }
+}
+
+/// What a call did, by whether it did something before its poll, and by what the poll did.
+fn pumped(did: bool, polled: Polled) -> Pumped
+    ensures { heard_of result ≡ polled.heard }
+{
+    match polled.heard {
+        Some(indication) => Pumped::Heard(indication),
+        None if did || polled.moved => Pumped::Moved,
+        None => Pumped::Nothing,
     }
 }

@@ -1,8 +1,9 @@
 //! A worker's turn.
 
-ghost use Rattle.std.specs.Prelude.{◌≡◌, ◌≤◌, IfErr, IfOk, OnErr, Some};
+ghost use Rattle.std.specs.Prelude.{◌≡◌, ◌≤◌, IfErr, IfOk, OnErr, OnOk, Some, None};
 ghost use Rattle.hub_work.specs.Turns.{TurnTells, WhyFreeByLog};
 ghost use Rattle.tunnel_link.specs.Goes.{GoesOn};
+ghost use Rattle.hub_core.specs.Hears.{HearsSo};
 ghost use Rattle.hub_core.specs.Seen.{SameRun, StaysEnded};
 
 use super::Hub;
@@ -14,6 +15,8 @@ impl<L: Link> Hub<L> {
     pub fn turn(&mut self, worker: u8) -> Result<Turned, HubFault>
         requires worker { 1 ≤ worker }
         ensures grows { GoesOn (L.story self.old.link) (L.story self.new.link) }
+        ensures script { L.script self.new.link ≡ L.script self.old.link }
+        ensures heard { OnOk result (HearsSo None (L.story self.old.link) (L.story self.new.link)) }
         ensures told { IfOk result (λ turned. TurnTells (L.place self.old.link) worker turned self.old.log self.new.log) }
         ensures free { IfOk result (WhyFreeByLog self.old.devices self.old.log) }
         ensures untold { OnErr result (self.new.log ≡ self.old.log) }

@@ -4,11 +4,12 @@ mod end;
 
 ghost use Rattle.std.specs.Prelude.{◌≡◌, ◌+◌, None, List, [], ◌∷◌, ◌++◌, IfErr, OnOk, true, length, reverse};
 ghost use Rattle.std.specs.List.{AllByRecursion};
-ghost use Rattle.hub_core.specs.Promises.{IsRightOver, FaultRightIn, DropsIn};
+ghost use Rattle.hub_core.specs.Promises.{IsRightOver, IsSafeOver, FaultRightIn, DropsIn};
 ghost use Rattle.hub_core.specs.Seen.{SameRun, AreJobs};
 ghost use Rattle.hub_driver.specs.Drives.{ends, LeavesOpen, AllDone, IsNoMemory, HasEndedSo};
+ghost use Rattle.hub_driver.specs.Heard.{HeardAll};
 ghost use Rattle.hub_work.specs.Books.{AreJobsOf};
-ghost use Rattle.line_model.specs.Headline.{Keeps, IsGoodJob};
+ghost use Rattle.line_model.specs.Headline.{IsGoodJob};
 ghost use Rattle.line_model.specs.LinkStory.{record_in};
 ghost use Rattle.line_model.specs.Log.{Job, IsLog, OneDownloaderPerDevice, AllOver, TurnUnfinished};
 ghost use Rattle.tunnel_link.specs.Goes.{GoesOn};
@@ -53,8 +54,10 @@ impl<L: Link> Driver<L> {
     /// Goes through all jobs and group telegrams, and then through the closing. It gives the link back, and what is told.
     pub fn drives<R: Wait, G: Gate>(self, rt: &R, gate: &G) -> (L, Report)
         requires open { LeavesOpen self.hub self.unfinished }
+        requires heard { HeardAll self.heard (record_in (L.story self.hub.link)) }
         ensures grows { GoesOn (L.story self.hub.link) (L.story result.0) }
-        ensures headline { (all : List Job) → AreJobs self.hub.jobs all → Keeps all self.hub.turns (L.story result.0) (reverse result.1.log) }
+        ensures script { L.script result.0 ≡ L.script self.hub.link }
+        ensures safe { (all : List Job) → AreJobs self.hub.jobs all → IsSafeOver all self.hub.turns (L.story result.0) (reverse result.1.log) }
         ensures right { (all : List Job) → AreJobs self.hub.jobs all → AllByRecursion IsGoodJob all → IsRightOver all (L.story result.0) (reverse result.1.log) }
         ensures fault { (all : List Job) → AreJobs self.hub.jobs all → FaultRightIn all (reverse result.1.log) result.1.fault (record_in (L.story result.0)) }
         ensures dropped { DropsIn result.1.dropped (record_in (L.story result.0)) }
@@ -62,6 +65,8 @@ impl<L: Link> Driver<L> {
         ensures alone { (all : List Job) → AreJobsOf self.hub.devices all → OneDownloaderPerDevice all (reverse result.1.log) }
         ensures over { result.1.fault ≡ None → (all : List Job) → AreJobsOf self.hub.devices all → AllOver all (reverse result.1.log) }
         ensures told { result.1.fault ≡ None → ¬ TurnUnfinished self.hub.turns (reverse result.1.log) }
+        ensures heard { result.1.fault ≡ None → HeardAll result.1.heard (record_in (L.story result.0)) }
+        ensures missed { result.1.missed ≡ self.hub.missed }
     {
         let mut driver = self;
         let ended = driver.runs(rt, gate);
@@ -71,9 +76,12 @@ impl<L: Link> Driver<L> {
     /// Goes through all jobs and group telegrams, and then through the closing.
     fn runs<R: Wait, G: Gate>(&mut self, rt: &R, gate: &G) -> Result<(), HubFault>
         requires open { LeavesOpen self.old.hub self.old.unfinished }
+        requires heard { HeardAll self.old.heard (record_in (L.story self.old.hub.link)) }
         ensures grows { GoesOn (L.story self.old.hub.link) (L.story self.new.hub.link) }
+        ensures script { L.script self.new.hub.link ≡ L.script self.old.hub.link }
         ensures run { SameRun self.old.hub self.new.hub }
         ensures done { OnOk result (AllDone self.new.hub) }
+        ensures heard { OnOk result (HeardAll self.new.heard (record_in (L.story self.new.hub.link))) }
         ensures cause { IfErr result (HasEndedSo self.new.hub.fault) }
     {
         self.commissions(rt, gate)?;
@@ -83,9 +91,12 @@ impl<L: Link> Driver<L> {
     /// Goes through all jobs and group telegrams.
     fn commissions<R: Wait, G: Gate>(&mut self, rt: &R, gate: &G) -> Result<(), HubFault>
         requires open { LeavesOpen self.old.hub self.old.unfinished }
+        requires heard { HeardAll self.old.heard (record_in (L.story self.old.hub.link)) }
         ensures grows { GoesOn (L.story self.old.hub.link) (L.story self.new.hub.link) }
+        ensures script { L.script self.new.hub.link ≡ L.script self.old.hub.link }
         ensures run { SameRun self.old.hub self.new.hub }
         ensures done { OnOk result (AllDone self.new.hub) }
+        ensures heard { OnOk result (HeardAll self.new.heard (record_in (L.story self.new.hub.link))) }
         ensures cause { IfErr result (HasEndedSo self.new.hub.fault) }
     {
         for _ in rt.forever() {
@@ -110,9 +121,12 @@ impl<L: Link> Driver<L> {
     /// One turn of the worker, and a poll where it waits.
     fn works<G: Gate>(&mut self, gate: &G) -> Result<(), HubFault>
         requires open { LeavesOpen self.old.hub self.old.unfinished }
+        requires heard { HeardAll self.old.heard (record_in (L.story self.old.hub.link)) }
         ensures grows { GoesOn (L.story self.old.hub.link) (L.story self.new.hub.link) }
+        ensures script { L.script self.new.hub.link ≡ L.script self.old.hub.link }
         ensures run { SameRun self.old.hub self.new.hub }
         ensures open { LeavesOpen self.new.hub self.new.unfinished }
+        ensures heard { OnOk result (HeardAll self.new.heard (record_in (L.story self.new.hub.link))) }
         ensures cause { IfErr result (HasEndedSo self.new.hub.fault) }
     {
         match self.hub.turn(WORKER)? {
@@ -128,6 +142,7 @@ impl<L: Link> Driver<L> {
     fn ended(&mut self)
         requires one_more { self.old.unfinished + ends self.old.hub.log ≡ length self.old.hub.devices + 1 }
         ensures hub { self.new.hub ≡ self.old.hub }
+        ensures heard { self.new.heard ≡ self.old.heard }
         ensures open { LeavesOpen self.new.hub self.new.unfinished }
     {
         self.hub.keeps();
@@ -138,9 +153,12 @@ impl<L: Link> Driver<L> {
     #[tactic(auto, using(crate::proofs::Telling::no_end_told))]
     fn tells(&mut self) -> Result<(), HubFault>
         requires open { LeavesOpen self.old.hub self.old.unfinished }
+        requires heard { HeardAll self.old.heard (record_in (L.story self.old.hub.link)) }
         ensures grows { GoesOn (L.story self.old.hub.link) (L.story self.new.hub.link) }
+        ensures script { L.script self.new.hub.link ≡ L.script self.old.hub.link }
         ensures run { SameRun self.old.hub self.new.hub }
         ensures open { LeavesOpen self.new.hub self.new.unfinished }
+        ensures heard { OnOk result (HeardAll self.new.heard (record_in (L.story self.new.hub.link))) }
         ensures cause { IfErr result (HasEndedSo self.new.hub.fault) }
     {
         let Some(k) = self.hub.next_group() else {
@@ -154,10 +172,13 @@ impl<L: Link> Driver<L> {
 
     /// One poll.
     fn pumps(&mut self) -> Result<(), HubFault>
+        requires heard { HeardAll self.old.heard (record_in (L.story self.old.hub.link)) }
         ensures grows { GoesOn (L.story self.old.hub.link) (L.story self.new.hub.link) }
+        ensures script { L.script self.new.hub.link ≡ L.script self.old.hub.link }
         ensures run { SameRun self.old.hub self.new.hub }
         ensures log { self.new.hub.log ≡ self.old.hub.log }
         ensures unfinished { self.new.unfinished ≡ self.old.unfinished }
+        ensures heard { OnOk result (HeardAll self.new.heard (record_in (L.story self.new.hub.link))) }
         ensures cause { IfErr result (HasEndedSo self.new.hub.fault) }
     {
         match self.hub.pump()? {
@@ -168,9 +189,12 @@ impl<L: Link> Driver<L> {
 
     /// The closing.
     fn closes<R: Wait>(&mut self, rt: &R) -> Result<(), HubFault>
+        requires heard { HeardAll self.old.heard (record_in (L.story self.old.hub.link)) }
         ensures grows { GoesOn (L.story self.old.hub.link) (L.story self.new.hub.link) }
+        ensures script { L.script self.new.hub.link ≡ L.script self.old.hub.link }
         ensures run { SameRun self.old.hub self.new.hub }
         ensures log { self.new.hub.log ≡ self.old.hub.log }
+        ensures heard { OnOk result (HeardAll self.new.heard (record_in (L.story self.new.hub.link))) }
         ensures cause { IfErr result (HasEndedSo self.new.hub.fault) }
     {
         for _ in rt.forever() {
@@ -183,9 +207,12 @@ impl<L: Link> Driver<L> {
 
     /// One step of the closing. Tells whether it is over.
     fn finishes(&mut self) -> Result<bool, HubFault>
+        requires heard { HeardAll self.old.heard (record_in (L.story self.old.hub.link)) }
         ensures grows { GoesOn (L.story self.old.hub.link) (L.story self.new.hub.link) }
+        ensures script { L.script self.new.hub.link ≡ L.script self.old.hub.link }
         ensures run { SameRun self.old.hub self.new.hub }
         ensures log { self.new.hub.log ≡ self.old.hub.log }
+        ensures heard { OnOk result (HeardAll self.new.heard (record_in (L.story self.new.hub.link))) }
         ensures cause { IfErr result (HasEndedSo self.new.hub.fault) }
     {
         match self.hub.finish()? {

@@ -28,6 +28,7 @@ impl<L: Link> Tunnel<L> {
         ensures time { L.clock self.old.link ≤ L.clock self.new.link }
         ensures count { L.faults self.old.link ≤ L.faults self.new.link }
         ensures events { L.place self.old.link ≤ L.place self.new.link }
+        ensures script { L.script self.new.link ≡ L.script self.old.link }
     {
         self.known.standing()?;
         if !self.known.channel.may_connect() {
@@ -49,6 +50,7 @@ impl<L: Link> Tunnel<L> {
         ensures time { L.clock self.old.link ≤ L.clock self.new.link }
         ensures count { L.faults self.old.link ≤ L.faults self.new.link }
         ensures events { L.place self.old.link ≤ L.place self.new.link }
+        ensures script { L.script self.new.link ≡ L.script self.old.link }
     {
         self.known.standing()?;
         let now = self.link.now();
@@ -69,6 +71,7 @@ impl<L: Link> Tunnel<L> {
         ensures time { L.clock self.old.link ≤ L.clock self.new.link }
         ensures count { L.faults self.old.link ≤ L.faults self.new.link }
         ensures events { L.place self.old.link ≤ L.place self.new.link }
+        ensures script { L.script self.new.link ≡ L.script self.old.link }
     {
         self.known.standing()?;
         match self.known.leaves() {
@@ -92,6 +95,7 @@ impl<L: Link> Tunnel<L> {
         ensures time { L.clock self.old.link ≤ L.clock self.new.link }
         ensures count { L.faults self.old.link ≤ L.faults self.new.link }
         ensures events { L.place self.old.link ≤ L.place self.new.link }
+        ensures script { L.script self.new.link ≡ L.script self.old.link }
     {
         self.known.standing()?;
         let now = self.link.now();
@@ -114,6 +118,7 @@ impl<L: Link> Tunnel<L> {
         ensures time { L.clock self.old.link ≤ L.clock self.new.link }
         ensures count { L.faults self.old.link ≤ L.faults self.new.link }
         ensures events { L.place self.old.link ≤ L.place self.new.link }
+        ensures script { L.script self.new.link ≡ L.script self.old.link }
     {
         let Answer { loss, sends, .. } = self.known.lapse(What::Quiet, now);
         answered(&mut self.link, &mut self.known, sends)?;
@@ -133,6 +138,7 @@ impl<L: Link> Tunnel<L> {
         ensures time { L.clock self.old.link ≤ L.clock self.new.link }
         ensures count { L.faults self.old.link ≤ L.faults self.new.link }
         ensures events { L.place self.old.link ≤ L.place self.new.link }
+        ensures script { L.script self.new.link ≡ L.script self.old.link }
     {
         match self.known.due(now) {
             Some(datagram) => {
@@ -155,6 +161,7 @@ impl<L: Link> Tunnel<L> {
         ensures time { L.clock self.old.link ≤ L.clock self.new.link }
         ensures count { L.faults self.old.link ≤ L.faults self.new.link }
         ensures events { L.place self.old.link ≤ L.place self.new.link }
+        ensures script { L.script self.new.link ≡ L.script self.old.link }
     {
         frames_are_read();
         self.known.standing()?;

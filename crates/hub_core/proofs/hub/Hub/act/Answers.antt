@@ -2,6 +2,7 @@ use Rattle.std.proofs.Common.{◌≡◌, None}
 use Rattle.hub_core.proofs.Calls.{acts_failed, acts_done}
 use Rattle.hub_core.proofs.Keeps.{none_inside}
 use Rattle.hub_core.proofs.View.{same_run}
+use Rattle.hub_core.proofs.Hears.{hears_none}
 use Rattle.hub_core.proofs.hub.Hub.act.Goals as goal
 
 pub invariant_of-self : goal.invariant_of-self
@@ -16,3 +17,6 @@ invariant_of-self-2 g c =
 
 pub returns-clause-run : goal.returns-clause-run
 returns-clause-run g c = rw (← c.self.view_is) (same_run _ _ c.self.inside.work c.lose.new.work _ _ _ c.lose.ensures.books)
+
+pub returns-clause-heard : goal.returns-clause-heard
+returns-clause-heard g c = rw (← c.self.view_is) (hears_none _ _ _ c.in_ok-acted.ensures.adds (λ old added h. h.0))

@@ -1,6 +1,6 @@
 use Rattle.std.proofs.Common.{List, subst}
 use Rattle.hub_work.specs.Downloaders.{Task, AreJobsWith}
-use Rattle.hub_core.proofs.Headlines.{headline, right_over, fault_in}
+use Rattle.hub_core.proofs.Headlines.{headline, safe_over, right_over, fault_in}
 use Rattle.hub_core.proofs.View.{seen_tasks}
 use Rattle.hub_core.proofs.hub.Hub.keeps.Goals as goal
 
@@ -16,13 +16,22 @@ returns-clause-headline g c =
     (c.one_downloader_per_device.ensures.alone jobs c.self.inside.work.journal.entries (c.self.invariant.books.written.reserved jobs (c.self.invariant.jobs_are jobs here)))
     (λ places e. (c.self.invariant.told jobs here places e).tells) c.keeps.ensures.record c.keeps.ensures.legal prompt)
 
+pub returns-clause-safe : goal.returns-clause-safe
+returns-clause-safe g c =
+    rw (← c.self.view_is) (λ jobs of.
+    let here : AreJobsWith _ jobs = subst (λ (ts : List Task). AreJobsWith ts jobs) (seen_tasks c.self.inside.work) of in
+    safe_over jobs c.self.inside.work.telegrams.turns c.self.inside.work.journal.entries _ c.self.inside.tunnel.known
+    (c.one_downloader_per_device.ensures.alone jobs c.self.inside.work.journal.entries (c.self.invariant.books.written.reserved jobs (c.self.invariant.jobs_are jobs here)))
+    (λ places e. (c.self.invariant.told jobs here places e).tells) c.keeps.ensures.record c.keeps.ensures.legal)
+
 pub returns-clause-right : goal.returns-clause-right
 returns-clause-right g c =
     rw (← c.self.view_is) (λ jobs of good.
     let here : AreJobsWith _ jobs = subst (λ (ts : List Task). AreJobsWith ts jobs) (seen_tasks c.self.inside.work) of in
-    right_over jobs c.self.inside.work.telegrams.turns c.self.inside.work.journal.entries _ c.self.inside.tunnel.known c.every_safe_interleaving.ensures good
+    right_over jobs c.self.inside.work.telegrams.turns c.self.inside.work.journal.entries _ c.every_safe_interleaving.ensures good
+    (safe_over jobs c.self.inside.work.telegrams.turns c.self.inside.work.journal.entries _ c.self.inside.tunnel.known
     (c.one_downloader_per_device.ensures.alone jobs c.self.inside.work.journal.entries (c.self.invariant.books.written.reserved jobs (c.self.invariant.jobs_are jobs here)))
-    (λ places e. (c.self.invariant.told jobs here places e).tells) c.keeps.ensures.record c.keeps.ensures.legal)
+    (λ places e. (c.self.invariant.told jobs here places e).tells) c.keeps.ensures.record c.keeps.ensures.legal))
 
 pub returns-clause-fault : goal.returns-clause-fault
 returns-clause-fault g c =

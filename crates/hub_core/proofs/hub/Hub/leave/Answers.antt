@@ -3,6 +3,7 @@ use Rattle.hub_core.proofs.Calls.{leaves_failed, leaves_done, same_refl}
 use Rattle.hub_core.proofs.Closings.{closing_kept}
 use Rattle.hub_core.proofs.Keeps.{none_inside}
 use Rattle.hub_core.proofs.Quiet.{asides_fit}
+use Rattle.hub_core.proofs.Hears.{hears_none}
 use Rattle.hub_core.proofs.hub.Hub.leave.Goals as goal
 
 pub invariant_of-self : goal.invariant_of-self
@@ -22,3 +23,9 @@ invariant_of-self-else-asked g c =
     let none : c.self.inside.tunnel.known.fault ≡ None = none_inside _ _ c.self.view_is c.requires.stands in
     leaves_done _ _ _ _ _ _ _ none c.leave.ensures.events c.leave.ensures.grows c.self.inside.work c.self.inside.work c.in_ok-asked.asked c.now-now.result c.in_ok-asked.ensures.adds c.in_ok-asked.ensures.stands (same_refl c.self.inside.work)
     c.moments_go_on.ensures.later (asides_fit c.self.inside.work c.now-now.result c.moments_go_on.ensures.aside) c.now-now.ensures.newest c.self.invariant
+
+pub returns-then-asked-clause-heard : goal.returns-then-asked-clause-heard
+returns-then-asked-clause-heard g c = rw (← c.self.view_is) (hears_none _ _ _ c.in_ok-asked.ensures.adds (λ old added h. h.nothing))
+
+pub returns-clause-heard : goal.returns-clause-heard
+returns-clause-heard g c = rw (← c.self.view_is) (hears_none _ _ _ c.in_ok-asked.ensures.adds (λ old added h. h.nothing))

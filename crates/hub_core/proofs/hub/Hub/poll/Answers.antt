@@ -6,6 +6,7 @@ use Rattle.hub_core.proofs.Calls.{polls_failed}
 use Rattle.hub_core.proofs.Keeps.{none_inside}
 use Rattle.hub_core.proofs.Polling.{polls_kept}
 use Rattle.hub_core.proofs.View.{same_run}
+use Rattle.hub_core.proofs.Hears.{hears_poll}
 use Rattle.hub_core.proofs.hub.Hub.poll.Goals as goal
 
 pub invariant_of-self : goal.invariant_of-self
@@ -33,3 +34,6 @@ returns-in-Some-clause-run g c = rw (← c.self.view_is) (same_run _ _ c.self.in
 
 pub returns-in-None-clause-run : goal.returns-in-None-clause-run
 returns-in-None-clause-run g c = rw (← c.self.view_is) (same_run _ _ c.self.inside.work c.take_in-polled.new.work _ _ _ c.take_in-polled.ensures.books)
+
+pub returns-in-None-clause-heard : goal.returns-in-None-clause-heard
+returns-in-None-clause-heard g c = rw (← c.self.view_is) (hears_poll _ _ c.in_ok-came.came _ c.in_ok-came.ensures.adds c.take_in-polled.ensures.heard)

@@ -9,6 +9,7 @@ use Rattle.hub_core.proofs.Keeps.{books_same, of_books, same_log}
 use Rattle.hub_core.proofs.Putting.{telegram_so, put_done, put_failed}
 use Rattle.hub_core.proofs.View.{same_run, work_run}
 use Rattle.hub_core.proofs.Written.{written, told_writes}
+use Rattle.hub_core.proofs.Hears.{hears_put}
 use Rattle.hub_core.proofs.hub.Hub.send_group.Goals as goal
 
 pub invariant_of-self : goal.invariant_of-self
@@ -58,3 +59,8 @@ returns-in-Lost-clause-run g c = rw (← c.self.view_is) (work_run _ _ c.self.in
 
 pub returns-in_ok-put-in-Unput-clause-run : goal.returns-in_ok-put-in-Unput-clause-run
 returns-in_ok-put-in-Unput-clause-run g c = rw (← c.self.view_is) (same_run _ _ c.self.inside.work c.telegram_put.new.self _ _ _ (of_books c.self.inside.work c.telegram_put.new.self c.telegram_put.ensures.books))
+
+pub returns-in_ok-put-in-Unput-clause-heard : goal.returns-in_ok-put-in-Unput-clause-heard
+returns-in_ok-put-in-Unput-clause-heard g c =
+    let none : c.self.inside.tunnel.known.fault ≡ None = sym c.fault.ensures ∙ c.in_default.is in
+    rw (← c.self.view_is) (hears_put _ _ _ _ _ c.in_ok-put-in-Unput.ensures.adds (λ old es. (c.has_place.ensures.told none old es).0 c.if-not-has_place.false))

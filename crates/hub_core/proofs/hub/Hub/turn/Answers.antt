@@ -5,6 +5,7 @@ use Rattle.line_model.specs.Record.{entries}
 use Rattle.hub_core.proofs.Putting.{turn_so, turn_did, put_done, put_failed}
 use Rattle.hub_core.proofs.View.{work_run}
 use Rattle.hub_core.proofs.Written.{written, turn_writes}
+use Rattle.hub_core.proofs.Hears.{hears_put}
 use Rattle.hub_core.proofs.hub.Hub.turn.Goals as goal
 
 pub invariant_of-self : goal.invariant_of-self
@@ -39,3 +40,8 @@ returns-in-Did-clause-run g c = rw (← c.self.view_is) (work_run _ _ c.self.ins
 
 pub returns-in_ok-put-in-Puts-clause-run : goal.returns-in_ok-put-in-Puts-clause-run
 returns-in_ok-put-in-Puts-clause-run g c = rw (← c.self.view_is) (work_run _ _ c.self.inside.work c.turn.new.self _ _ _ c.turn.ensures.run)
+
+pub returns-in_ok-put-in-Puts-clause-heard : goal.returns-in_ok-put-in-Puts-clause-heard
+returns-in_ok-put-in-Puts-clause-heard g c =
+    let none : c.self.inside.tunnel.known.fault ≡ None = sym c.fault.ensures ∙ c.in_default.is in
+    rw (← c.self.view_is) (hears_put _ _ _ _ _ c.in_ok-put-in-Puts.ensures.adds (λ old es. (c.has_place-has_place.ensures.told none old es).0 c.in-Puts.ensures.placed))

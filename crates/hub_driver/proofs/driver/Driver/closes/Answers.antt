@@ -12,8 +12,10 @@ loop-preserved g c = record {
   next = tt;
   finite = tt;
   grows = goes_again _ _ _ c.loop.invariant.grows c.finishes.ensures.grows;
+  script = c.finishes.ensures.script ∙ c.loop.invariant.script;
   run = search rules;
   log = c.finishes.ensures.log ∙ c.loop.invariant.log;
+  heard = c.in_ok-finishes.ensures.heard;
 }
 
 pub returns-clause-grows : goal.returns-clause-grows
@@ -21,4 +23,10 @@ returns-clause-grows g c = elim c.match-next.branch [
   | in-None w ↦ subst (λ s. GoesOn (g.L.Link.story c.args.self.now.hub.link) (g.L.Link.story s.hub.link)) (sym w.self-is) c.loop.invariant.grows
   | in-Some+in_ok-finishes+then-branch w ↦
       subst (λ s. GoesOn (g.L.Link.story c.args.self.now.hub.link) (g.L.Link.story s.hub.link)) (sym w.self-is) (goes_again _ _ _ c.loop.invariant.grows w.finishes.ensures.grows)
+]
+
+pub returns-clause-heard : goal.returns-clause-heard
+returns-clause-heard g c = elim c.match-next.branch [
+  | in-None w ↦ rw w.self-is c.loop.invariant.heard
+  | in-Some+in_ok-finishes+then-branch w ↦ rw w.self-is w.in_ok-finishes.ensures.heard
 ]

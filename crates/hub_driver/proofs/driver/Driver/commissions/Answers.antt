@@ -1,4 +1,4 @@
-use Rattle.std.proofs.Common.{rules}
+use Rattle.std.proofs.Common.{rules, ◌∙◌}
 use Rattle.tunnel_link.proofs.Stories.{goes_again}
 use Rattle.hub_driver.proofs.driver.Driver.commissions.Goals as goal
 
@@ -13,6 +13,8 @@ loop-preserved g c = record {
   next = tt;
   finite = tt;
   grows = goes_again _ _ _ (goes_again _ _ _ c.loop.invariant.grows c.works.ensures.grows) c.tells.ensures.grows;
+  script = c.tells.ensures.script ∙ (c.works.ensures.script ∙ c.loop.invariant.script);
   run = search rules;
   open_jobs = c.tells.ensures.open;
+  heard = c.in_ok-tells.ensures.heard;
 }

@@ -1,14 +1,19 @@
+use Rattle.std.specs.Prelude.{◌≡◌}
+use Rattle.line_model.specs.LinkStory.{record_in}
 use Rattle.hub_core.specs.Seen.{SameRun}
 use Rattle.tunnel_link.specs.Goes.{GoesOn}
 use Rattle.hub_driver.specs.Drives.{LeavesOpen}
+use Rattle.hub_driver.specs.Heard.{HeardAll}
 use Rattle.hub_driver.proofs.driver.Driver.commissions.Given as goal
 
--- the link's story goes on, and so many jobs have no end yet
+-- the link's story goes on, so many jobs have no end yet, and all that was taken is told
 abbrev pub invariant-loop : goal.invariant-loop
 invariant-loop g l = record {
   next : (goal.iterator-loop g).can_next l.iterator';
   finite : (goal.iterator-loop g).is_finite l.iterator';
   grows : GoesOn (g.L.Link.story l.fn.self.hub.link) (g.L.Link.story l.self.hub.link);
+  script : g.L.Link.script l.self.hub.link ≡ g.L.Link.script l.fn.self.hub.link;
   run : SameRun l.fn.self.hub l.self.hub;
   open_jobs : LeavesOpen l.self.hub l.self.unfinished;
+  heard : HeardAll l.self.heard (record_in (g.L.Link.story l.self.hub.link));
 }

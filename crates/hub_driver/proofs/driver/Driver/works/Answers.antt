@@ -1,8 +1,14 @@
-use Rattle.std.proofs.Common.{sym, ap, subst, ◌∙◌}
+use Rattle.std.proofs.Common.{None, refl, sym, ap, subst, ◌∙◌}
+use Rattle.line_model.specs.LinkStory.{record_in}
 use Rattle.tunnel_link.specs.Goes.{GoesOn}
 use Rattle.tunnel_link.proofs.Stories.{goes_again}
+use Rattle.hub_driver.specs.Heard.{HeardAll}
+use Rattle.hub_driver.proofs.Hearing.{hears_none}
 use Rattle.hub_driver.proofs.driver.Driver.works.Goals.{in-Took, in-Wait+in_ok-pumps-in-Wait, in-Done, in-Moved}
 use Rattle.hub_driver.proofs.driver.Driver.works.Goals as goal
+
+pub pumps-requires : goal.pumps-requires
+pumps-requires g c = record { heard = hears_none _ None _ _ refl c.turn.ensures.grows c.in_ok-job.ensures.heard c.requires.heard }
 
 pub returns-in_err-pumps-in-Wait-clause-grows : goal.returns-in_err-pumps-in-Wait-clause-grows
 returns-in_err-pumps-in-Wait-clause-grows g c = goes_again _ _ _ c.turn.ensures.grows c.pumps.ensures.grows
@@ -16,3 +22,13 @@ returns-clause-grows g c = elim c.match-branch-2.branch [
       subst (λ h. GoesOn (g.L.Link.story c.args.self.now.hub.link) (g.L.Link.story h.link)) (sym (ap (λ s. s.hub) w.self-is ∙ w.ended.ensures.hub)) c.turn.ensures.grows
   | in-Moved w ↦ subst (λ s. GoesOn (g.L.Link.story c.args.self.now.hub.link) (g.L.Link.story s.hub.link)) (sym w.self-is) c.turn.ensures.grows
 ]
+
+pub returns-clause-heard : goal.returns-clause-heard
+returns-clause-heard g c =
+    let none : HeardAll c.args.self.now.heard (record_in (g.L.Link.story c.turn.new.self.link)) = hears_none _ None _ _ refl c.turn.ensures.grows c.in_ok-job.ensures.heard c.requires.heard in
+    elim c.match-branch-2.branch [
+      | in-Took w ↦ rw w.self-is none
+      | in-Wait+in_ok-pumps-in-Wait w ↦ rw w.self-is w.in_ok-pumps-in-Wait.ensures.heard
+      | in-Done w ↦ rw (w.self-is, w.ended.ensures.heard, w.ended.ensures.hub) none
+      | in-Moved w ↦ rw w.self-is none
+    ]

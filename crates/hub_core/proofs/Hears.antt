@@ -1,0 +1,82 @@
+-- Which group indications the calls took, one after another.
+use Rattle.std.proofs.Common.{◌≡◌, inl, inr, ℕ, List, ◌++◌, Bool, Option, Some, None, Result, Ok, Err, refl, sym, ap, subst, ◌∙◌}
+use Rattle.std.specs.Prelude.{filter_map, IfOk, OnOk}
+use Rattle.std.specs.List.{cons_option}
+use Rattle.line_model.specs.declared.fault.HubFault.{HubFault}
+use Rattle.line_model.specs.declared.group.Indication.{Indication}
+use Rattle.line_model.specs.Record.{Placed, entries}
+use Rattle.line_model.specs.LinkStory.{Story, places_in}
+use Rattle.line_model.specs.Asks.{HasPlace}
+use Rattle.line_model.specs.ClientView.{and_takes, channel, group_indication, indication_of, indications}
+use Rattle.line_model.specs.Moments.{Moment, moments}
+use Rattle.line_model.specs.Told.{IsLoss}
+use Rattle.tunnel_link.specs.declared.came.Came.{Came}
+use Rattle.tunnel_link.specs.declared.came.Loss.{Loss}
+use Rattle.tunnel_link.specs.declared.came.Loss.TheVariants.{Stays, Ended, Told}
+use Rattle.tunnel_link.specs.declared.came.What.{What}
+use Rattle.tunnel_link.specs.declared.came.What.TheVariants as came
+use Rattle.tunnel_link.specs.Adds.{place_of, moments_on, Grows, Growing, AllNothing, PutsIt, PutsOne, Seeks, TakesAt, TakesUnread, OrLoses, DoesSo, PollAdds}
+use Rattle.tunnel_link.specs.Goes.{GoesOn}
+use Rattle.tunnel_link.specs.Rights.{WhereTold}
+use Rattle.tunnel_link.proofs.Stories.{goes_again}
+use Rattle.hub_work.specs.declared.answers.Finished.{Finished}
+use Rattle.hub_work.specs.declared.answers.Pumped.{Pumped}
+use Rattle.hub_core.specs.Hears.{HearsSo, heard_of, heard_at_end}
+use Rattle.hub_core.specs.Taking.{HeardIn}
+use Rattle.hub_core.proofs.Counting.{some_is, told_before}
+use Rattle.hub_core.proofs.Hearing.{heard_in, heard_is, nothings, one_heard, takes_heard, loses_heard}
+
+hears_by : (heard : Option Indication) (s t : Story) (P : List Placed → List Placed → Type 0) → Growing P s t → ((old added : List Placed) → P old added → heard_in (moments_on old added ++ moments old) ≡ cons_option heard (heard_in (moments old))) → HearsSo heard s t
+hears_by heard s t P grows h old new es et =
+    let g : Grows P (place_of s) (place_of t) old t = grows old es in
+    let same : new ≡ g.new = sym (some_is g.new new (sym g.told ∙ et)) in
+    heard_is new ∙ (ap (λ (l : List Placed). heard_in (moments l)) same ∙ (ap heard_in g.grown.moments_grow ∙ (h old g.added g.is ∙ ap (cons_option heard) (sym (heard_is old)))))
+
+pub hears_none : (s t : Story) (P : List Placed → List Placed → Type 0) → Growing P s t → ((old added : List Placed) → P old added → AllNothing old added) → HearsSo None s t
+hears_none s t P grows none = hears_by None s t P grows (λ old added h. nothings (moments_on old added) (moments old) (none old added h))
+
+pub seeks_heard : (s t : Story) (result : Result Bool HubFault) → Growing (Seeks result) s t → OnOk result (HearsSo None s t)
+seeks_heard s t (Ok b) grows = hears_none s t (Seeks (Ok b)) grows (λ old added h. h.nothing)
+seeks_heard s t (Err fault) grows = tt
+
+unread_heard : (m : Moment) (taken : List (List ℕ)) → TakesUnread m → filter_map group_indication (and_takes m.what taken) ≡ cons_option None (filter_map group_indication taken)
+unread_heard m taken is = let none : group_indication is.octets ≡ None = ap indication_of is.unread in rw is.takes (rw none refl)
+
+or_loses_heard : (loss : Loss) (l ms : List Moment) → OrLoses loss l → heard_in (l ++ ms) ≡ heard_in ms
+or_loses_heard Stays l ms h = nothings l ms h
+or_loses_heard Ended l ms h = one_heard IsLoss None l ms (λ m taken is. loses_heard m taken is) h
+or_loses_heard Told l ms h = one_heard IsLoss None l ms (λ m taken is. loses_heard m taken is) h
+
+does_heard : (what : What) (loss : Loss) (now : ℕ) (l ms : List Moment) (heard : Option Indication) → DoesSo what loss now l → HeardIn what heard → heard_in (l ++ ms) ≡ cons_option heard (heard_in ms)
+does_heard came.Quiet loss now l ms heard h is = subst (λ o. heard_in (l ++ ms) ≡ cons_option o (heard_in ms)) (sym is) (or_loses_heard loss l ms h)
+does_heard came.Dropped loss now l ms heard (inl h) is = subst (λ o. heard_in (l ++ ms) ≡ cons_option o (heard_in ms)) (sym is) (or_loses_heard loss l ms h)
+does_heard came.Dropped loss now l ms heard (inr h) is = subst (λ o. heard_in (l ++ ms) ≡ cons_option o (heard_in ms)) (sym is) (one_heard TakesUnread None l ms unread_heard h.0)
+does_heard came.Tunnel loss now l ms heard h is = subst (λ o. heard_in (l ++ ms) ≡ cons_option o (heard_in ms)) (sym is) (or_loses_heard loss l ms h)
+does_heard (came.Up tunnel) loss now l ms heard h is = subst (λ o. heard_in (l ++ ms) ≡ cons_option o (heard_in ms)) (sym is) (or_loses_heard loss l ms h.0)
+does_heard (came.Frame frame) loss now l ms heard h is =
+    subst (λ o. heard_in (l ++ ms) ≡ cons_option o (heard_in ms)) (sym is) (one_heard (TakesAt frame now) (indication_of (Some frame)) l ms (λ m taken one. takes_heard frame one.octets m taken one.takes one.reads) h.0)
+
+pub hears_poll : (s t : Story) (what : Came) (heard : Option Indication) → Growing (PollAdds (Ok what)) s t → HeardIn what.what heard → HearsSo heard s t
+hears_poll s t what heard grows is = hears_by heard s t (PollAdds (Ok what)) grows (λ old added h. does_heard what.what what.loss _ (moments_on old added) (moments old) heard h.does is)
+
+-- a request, where the place in flight was free
+pub hears_put : (s t : Story) (x : Unit {0}) (cemi : List ℕ) (at : ℕ) → Growing (PutsOne {X = Unit {0}} (Ok x) cemi at) s t → WhereTold (λ places. HasPlace (channel (entries places))) s → HearsSo None s t
+hears_put s t x cemi at grows place =
+    hears_by None s t (PutsIt cemi at) put (λ old added h. ap (λ (l : List Moment). heard_in (l ++ moments old)) h) where
+      put : Growing (PutsIt cemi at) s t
+      put old es = let g : Grows (PutsOne {X = Unit {0}} (Ok x) cemi at) (place_of s) (place_of t) old t = grows old es in record { new = g.new; told = g.told; added = g.added; grown = g.grown; is = g.is (place old es) }
+
+-- after a call that took none
+pub hears_then : (a b c : Story) (heard : Option Indication) → GoesOn b c → HearsSo None a b → HearsSo heard b c → HearsSo heard a c
+hears_then a b c heard goes none h old new ea ec = by_middle (told_before b c new goes ec) where
+  by_middle : (mid : List Placed) × (places_in b ≡ Some mid) → indications (entries new) ≡ cons_option heard (indications (entries old))
+  by_middle mid = h mid.0 new mid.1 ec ∙ ap (cons_option heard) (none old mid.0 ea mid.1)
+
+-- after two of them
+pub hears_all : (a b c d : Story) (p : Pumped) (heard : Option Indication) → heard_of p ≡ heard → GoesOn b c → GoesOn c d → HearsSo None a b → HearsSo None b c → HearsSo heard c d → HearsSo (heard_of p) a d
+hears_all a b c d p heard is goes last first second third =
+    subst (λ o. HearsSo o a d) (sym is) (hears_then a b d heard (goes_again b c d goes last) first (hears_then b c d heard last second third))
+
+pub hears_after : (a b c : Story) (result : Result Finished HubFault) → GoesOn b c → HearsSo None a b → IfOk result (λ done. HearsSo (heard_at_end done) b c) → IfOk result (λ done. HearsSo (heard_at_end done) a c)
+hears_after a b c (Ok done) goes none h = hears_then a b c (heard_at_end done) goes none h
+hears_after a b c (Err fault) goes none h = tt

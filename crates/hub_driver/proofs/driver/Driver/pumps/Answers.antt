@@ -1,0 +1,22 @@
+use Rattle.std.proofs.Common.{◌≡◌, ◌⊎◌, inl, inr, ◌∷◌, [], ◌++◌, None, ap}
+use Rattle.std.proofs.lemmas.Result.{on_ok_weaker}
+use Rattle.line_model.specs.LinkStory.{record_in}
+use Rattle.hub_work.specs.declared.answers.Pumped.{Pumped}
+use Rattle.hub_work.specs.declared.answers.Pumped.TheVariants.{Nothing, Moved}
+use Rattle.hub_core.specs.Hears.{heard_of}
+use Rattle.hub_driver.specs.Heard.{HeardAll}
+use Rattle.hub_driver.proofs.Hearing.{hears_none, hears_one}
+use Rattle.hub_driver.proofs.driver.Driver.pumps.Goals as goal
+
+pub returns-in-Heard-clause-heard : goal.returns-in-Heard-clause-heard
+returns-in-Heard-clause-heard g c =
+    let one : HeardAll (c.args.self.now.heard ++ c.in-Heard.indication ∷ []) (record_in (g.L.Link.story c.pump.new.self.link)) =
+    hears_one _ c.in-Heard.indication _ _ _ (ap heard_of c.in-Heard.is) c.pump.ensures.grows c.in_ok-indication.ensures.heard c.requires.heard in
+    on_ok_weaker c.hears.result (λ (e : c.hears.new.self.heard ≡ c.args.self.now.heard ++ c.in-Heard.indication ∷ []). rw (e, c.hears.ensures.hub) one) c.hears.ensures.heard
+
+none : (pumped : Pumped) → (pumped ≡ Nothing) ⊎ (pumped ≡ Moved) → heard_of pumped ≡ None
+none pumped (inl e) = ap heard_of e
+none pumped (inr e) = ap heard_of e
+
+pub returns-in-Nothing-clause-heard : goal.returns-in-Nothing-clause-heard
+returns-in-Nothing-clause-heard g c = hears_none _ _ _ _ (none c.in_ok-indication.field-0 c.in-Nothing.is) c.pump.ensures.grows c.in_ok-indication.ensures.heard c.requires.heard
