@@ -60,7 +60,7 @@ impl SimEnd {
 }
 
 /// Lets each job start at once.
-struct Open;
+pub struct Open;
 
 impl Gate for Open {
     fn pass(&self, _job: u32) {}
@@ -118,7 +118,7 @@ pub fn commission<R: Wait>(
     texts: &SimTexts,
     sim: &mut SimBus,
 ) -> SimEnd
-    requires { HasFewJobs (options_of names.entry.options) }
+    requires { HasFewJobs (options_of names.options) }
     ensures { Comes (judged (sim_words_of names.entry) texts.now) sim.old sim.new (outcome_of result) }
 {
     match judge(alloc, names, texts) {

@@ -72,11 +72,7 @@ fn plan_of(kind: JobKind, image: Image) -> JobPlan
 }
 
 /// A job with the plan of the project's image.
-fn planned(
-    alloc: Global,
-    project: &Checked<'_, '_>,
-    job: JobWord,
-) -> Result<HubJob, NoMemory>
+fn planned(alloc: Global, project: &Checked<'_, '_>, job: JobWord) -> Result<HubJob, NoMemory>
     ensures { IfOk result (λ planned. IsPlanned project.now (seen_job planned) job) }
 {
     let image = compile(alloc, project, job.device)?;

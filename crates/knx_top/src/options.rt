@@ -124,7 +124,10 @@ fn are_words(words: &[String]) -> bool
 fn catalogues(words: &[String]) -> usize
     ensures { result ≡ count_by is_catalogue (map string_bytes words.now) }
 {
-    words.iter().filter(|word| is_catalogue(word.as_str())).count()
+    words
+        .iter()
+        .filter(|word| is_catalogue(word.as_str()))
+        .count()
 }
 
 #[tactic(auto, using(crate::proofs::SimWords::count_by_in))]

@@ -70,11 +70,7 @@ fn is_zero(value: &Value) -> bool
 }
 
 /// Appends the value of an object, where the device has it and it isn't all zero.
-fn push_value(
-    values: &mut List<(u8, Value)>,
-    device: &Device,
-    object: u8,
-) -> Result<(), NoMemory>
+fn push_value(values: &mut List<(u8, Value)>, device: &Device, object: u8) -> Result<(), NoMemory>
     ensures { OnOk result (values.new ≡ values.old ++ filter_map (λ o. shown o (value_of device.now o)) (object ∷ [])) }
 {
     if let Some(value) = device.value(object) {

@@ -75,7 +75,15 @@ fn faults_of_the_outside_are_told(rt: HostRuntime) -> Result<(), Fail> {
         out.failing = Vec::from_slice(alloc, writes)?;
         let mut sim = SimBus::empty(alloc);
         let mut last = None;
-        let told = knx(&rt, alloc, words.as_slice(), &mut files, &mut out, &mut sim, &mut last);
+        let told = knx(
+            &rt,
+            alloc,
+            words.as_slice(),
+            &mut files,
+            &mut out,
+            &mut sim,
+            &mut last,
+        );
         assert_eq!(rt; told, status, "{line}");
         assert_eq!(rt; out.taken.as_slice(), text.as_bytes(), "{line}");
     }
