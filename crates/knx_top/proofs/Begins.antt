@@ -84,13 +84,14 @@ listed_in_range : (old : Installation) (devices : List (IndAddr × Option Image)
 listed_in_range old [] [] device h on has = absurd cc
 listed_in_range old [] (a ∷ listed) device h on has = absurd h
 listed_in_range old (d ∷ ds) [] device h on has = absurd h
-listed_in_range old (d ∷ ds) (a ∷ listed) device h on has = by_test (a.raw == device) refl on
+listed_in_range old (d ∷ ds) (a ∷ listed) device h on has = by_test (a.raw == device) refl on (λ later. listed_in_range old ds listed device h.1 later has)
   where
-    by_test : (b : Bool) → (a.raw == device) ≡ b → (b || list_any (λ (x : IndAddr). x.raw == device) listed) ≡ true → IsInRange (meaning old (record { raw = device }))
-    by_test true e on =
+    by_test : (b : Bool) → (a.raw == device) ≡ b → (b || list_any (λ (x : IndAddr). x.raw == device) listed) ≡ true → (list_any (λ (x : IndAddr). x.raw == device) listed ≡ true → IsInRange (meaning old (record { raw = device })))
+        → IsInRange (meaning old (record { raw = device }))
+    by_test true e on rest =
         let same : a.raw ≡ device = same_number a.raw device e in
         subst (λ (raw : ℕ). IsInRange (meaning old (record { raw = raw }))) same (image_in_range old a d.1 h.0.image (subst (λ (raw : ℕ). has_device old.statements raw ≡ true) (sym same) has))
-    by_test false e on = listed_in_range old ds listed device h.1 on has
+    by_test false e on rest = rest on
 
 old_in_range : (new old : Installation) (devices : List (IndAddr × Option Image)) → AreCompiled old devices (on_bus new old) → IsOldInRange new old
 old_in_range new old devices are device on has = listed_in_range old devices (on_bus new old) device are (any_on_bus new old device ∙ on) has
@@ -127,6 +128,7 @@ on_its_line new old (a ∷ listed) = where_on (is_on_bus new old a.raw) new old 
     first_true : (a b : Bool) → (a && b) ≡ true → a ≡ true
     first_true true b h = refl
     first_true false b h = h
+
     where_on : (b : Bool) (new old : Installation) (a : IndAddr) (listed : List IndAddr) → is_on_bus new old a.raw ≡ b → AllByRecursion (λ (a : IndAddr). line_of a.raw ≡ line_of (tunnel_address new).raw) (filter (λ (d : IndAddr). is_on_bus new old d.raw) listed)
         → AllByRecursion (λ (a : IndAddr). line_of a.raw ≡ line_of (tunnel_address new).raw) (filter (λ (d : IndAddr). is_on_bus new old d.raw) (a ∷ listed))
     where_on true new old a listed e rest = rw e (same_number (line_of a.raw) (line_of (tunnel_address new).raw) (first_true (line_of a.raw == line_of (tunnel_address new).raw) _ e), rest)

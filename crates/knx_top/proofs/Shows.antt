@@ -1,9 +1,10 @@
 -- What is shown of the devices of the line when a run has ended: each is there still, and its case is told by what the project says of it.
-use Rattle.std.proofs.Common.{◌≡◌, List, [], ◌∷◌, Option, Some, None, All, refl, sym, ◌∙◌, subst}
+use Rattle.std.proofs.Common.{◌≡◌, List, [], ◌∷◌, Option, Some, None, All, refl, sym, ap, ◌∙◌, subst}
 use Rattle.std.specs.Prelude.{Bool, IsSome}
 use Rattle.std.proofs.lemmas.List.Elements.{All-weaker}
 use Rattle.bus_sim.specs.Loaded.{BusNow}
-use Rattle.bus_sim.specs.RunNow.{RunNow, world}
+use Rattle.bus_sim.specs.RunNow.{RunNow, start, story, world}
+use Rattle.hub_core.specs.Promises.{IsRightOver}
 use Rattle.knx_model.specs.declared.address.IndAddr.{IndAddr}
 use Rattle.knx_model.specs.declared.config.Image.{Image}
 use Rattle.knx_model.specs.Device.{NonVolatile}
@@ -12,15 +13,17 @@ use Rattle.knx_model.specs.Meaning.{Installation}
 use Rattle.line_model.specs.declared.log.LogEntry.{LogEntry}
 use Rattle.line_model.specs.declared.log.Report.{Report}
 use Rattle.line_model.specs.Log.{Job}
-use Rattle.line_model.specs.OldStoppedOrNew.{Both, IsCase as IsCaseAt, Meant, OldStoppedOr, OldStoppedOrNew}
+use Rattle.line_model.specs.OldStoppedOrNew.{Both, IsCase as IsCaseAt, Meant, OldStoppedOr, OldStoppedOrNew, RunsJob}
 use Rattle.line_model.specs.Printed.{DeviceShown}
 use Rattle.line_model.specs.World.{World, Event, replay}
 use Rattle.knx_model.specs.declared.log.JobWord.{JobWord}
+use Rattle.tunnel_link.specs.Goes.{GoesOn}
 use Rattle.knx_top.specs.Ended.{ShowsRun}
 use Rattle.knx_top.specs.OnLine.{AreCompiled, IsCompiled, IsImageWhere, on_bus}
 use Rattle.knx_top.specs.Ran.{Outcome, Stops, Tells, BreaksOff, Reports, Ran, Runs}
 use Rattle.knx_top.specs.Shown.{AreShown, AreShownOf, IsCase, IsShown, IsShownIn}
 use Rattle.knx_top.specs.Stops.{Commission}
+use Rattle.knx_top.proofs.Driven.{same_start}
 use Rattle.knx_top.proofs.Meanings.{now_case}
 
 -- ---- the devices of the line stay on it
@@ -30,12 +33,19 @@ there_still P (Some old) (Some new) both some = refl
 there_still P (Some old) None both some = absurd both
 there_still P None other both some = absurd cc
 
-pub all_still : (IsNew : Meant) (jobs : List Job) (began start : World) (events : List Event) (log : List LogEntry) (devices : List (IndAddr × Option Image)) → start ≡ began → OldStoppedOrNew IsNew jobs start events log
-    → All (λ (d : IndAddr × Option Image). IsSome (began.devices d.0.raw)) devices → All (λ (d : IndAddr × Option Image). IsSome ((replay start events).devices d.0.raw)) devices
-all_still IsNew jobs began start events log devices same o there =
+all_still : (IsNew : Meant) (jobs : List Job) (start : World) (events : List Event) (log : List LogEntry) (devices : List (IndAddr × Option Image)) → OldStoppedOrNew IsNew jobs start events log
+    → All (λ (d : IndAddr × Option Image). IsSome (start.devices d.0.raw)) devices → All (λ (d : IndAddr × Option Image). IsSome ((replay start events).devices d.0.raw)) devices
+all_still IsNew jobs start events log devices o there =
     All-weaker (λ (d : IndAddr × Option Image). IsSome (start.devices d.0.raw)) (λ (d : IndAddr × Option Image). IsSome ((replay start events).devices d.0.raw))
     (λ d some. there_still (OldStoppedOr (IsNew d.0.raw)) (start.devices d.0.raw) ((replay start events).devices d.0.raw) (now_case (IsCaseAt IsNew start) events o.case d.0.raw) some)
-    devices (subst (λ (w : World). All (λ (d : IndAddr × Option Image). IsSome (w.devices d.0.raw)) devices) (sym same) there)
+    devices there
+
+pub still_there : (jobs : List Job) (before after : RunNow) (log : List LogEntry) (devices : List (IndAddr × Option Image)) → before.events ≡ [] → GoesOn (story before) (story after) → IsRightOver jobs (story after) log
+    → All (λ (d : IndAddr × Option Image). IsSome ((world before).devices d.0.raw)) devices → All (λ (d : IndAddr × Option Image). IsSome ((world after).devices d.0.raw)) devices
+still_there jobs before after log devices nothing goes right there =
+    let begun : world before ≡ start before = ap (λ (events : List Event). replay (start before) events) nothing in
+    let same : world before ≡ start after = begun ∙ sym (same_start before after goes) in
+    all_still (RunsJob jobs) jobs (start after) after.events log devices right.devices (subst (λ (w : World). All (λ (d : IndAddr × Option Image). IsSome (w.devices d.0.raw)) devices) same there)
 
 -- ---- by what the project says of each
 

@@ -166,10 +166,10 @@ sim_options_from words options s =
     let few_logs : length (filter_map (λ w. said log_in (sim_word w)) words) ≤ 1 = rw logs (few_of_one (if_said options.log)) in
     let few_jobs : length (filter_map (λ w. said job_in (sim_word w)) words) ≤ most_jobs = rw jobs s.few in
     let once : options_once words ≡ true = both (nat_le (count_by is_catalogue words) 1) (nat_le (count_by is_log words) 1)
-        (within (count_by is_catalogue words) 1 (subst (λ (n : ℕ). n ≤ 1) (how_many (λ w. said catalogue_in (sim_word w)) words) few_names))
-        (within (count_by is_log words) 1 (subst (λ (n : ℕ). n ≤ 1) (how_many (λ w. said log_in (sim_word w)) words) few_logs)) in
+    (within (count_by is_catalogue words) 1 (subst (λ (n : ℕ). n ≤ 1) (how_many (λ w. said catalogue_in (sim_word w)) words) few_names))
+    (within (count_by is_log words) 1 (subst (λ (n : ℕ). n ≤ 1) (how_many (λ w. said log_in (sim_word w)) words) few_logs)) in
     let few : are_few words ≡ true = both (options_once words) (nat_le (count_by is_job words) most_jobs) once
-        (within (count_by is_job words) most_jobs (subst (λ (n : ℕ). n ≤ most_jobs) (how_many (λ w. said job_in (sim_word w)) words) few_jobs)) in
+    (within (count_by is_job words) most_jobs (subst (λ (n : ℕ). n ≤ most_jobs) (how_many (λ w. said job_in (sim_word w)) words) few_jobs)) in
     let are : are_options words ≡ true = both (list_all is_word words) (are_few words) (all_words words s.named say) few in
     let log : list_any is_log words ≡ options.log = any_says (λ w. said log_in (sim_word w)) words ∙ ap (λ (l : List (Unit {0})). has_one l) logs ∙ has_of_one options.log in
     let name : first_of_some (filter_map (λ w. said catalogue_in (sim_word w)) words) ≡ options.catalogue = ap (λ (l : List (List ℕ)). first_of_some l) names ∙ first_of_one options.catalogue in

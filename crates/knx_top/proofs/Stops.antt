@@ -117,7 +117,7 @@ judged_project_is words texts =
 -- the tests of a script and of the devices that it and the jobs name
 pub script_is : (options : SimOptions) (project before : Installation) (ls : List ScriptLine)
     → with_lines options project before ls ≡ unless_stopped (stranger_named (first_stranger (on_bus project before) ls) ∷ unless_known (list_all (is_known project) options.jobs) ∷ unless_built file.Script (not (list_any is_group_line ls)) ∷ [])
-        (let c : Commission = record { project = project; before = before; script = ls; options = options } in c)
+    (let c : Commission = record { project = project; before = before; script = ls; options = options } in c)
 script_is options project before ls =
     let c : Commission = record { project = project; before = before; script = ls; options = options } in
     let t1 : Option Stop = stranger_named (first_stranger (on_bus project before) ls) in

@@ -9,4 +9,4 @@ returns-clause-loads c = record { devices = c.devices.result.now; all = c.device
 
 pub returns-clause-few : goal.returns-clause-few
 returns-clause-few c =
-    subst (λ (jobs : List JobWord). length jobs ≤ most_jobs) (sym c.in_ok-jobs.ensures) (loads_few c.args.project.now c.devices.result.now c.statements.ensures.sound c.devices.ensures.all)
+    subst (λ (jobs : List JobWord). length jobs ≤ most_jobs) (sym c.in_ok-jobs.ensures) (loads_few c.args.project.now c.devices.result.now c.statements-statements.ensures.sound c.devices.ensures.all)

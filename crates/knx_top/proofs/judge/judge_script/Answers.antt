@@ -3,7 +3,7 @@ use Rattle.knx_top.proofs.Ordered.{strange_ends}
 use Rattle.knx_top.proofs.judge.judge_script.Goals as goal
 
 pub judge_jobs-requires : goal.judge_jobs-requires
-judge_jobs-requires c = rw c.as_slice.ensures c.in-Ok.ensures.begun
+judge_jobs-requires c = record { few = c.requires; begins = rw c.as_slice.ensures c.in-Ok.ensures.begun }
 
 pub returns-in-Ok-clause-ok : goal.returns-in-Ok-clause-ok
 returns-in-Ok-clause-ok c = rw c.as_slice.ensures at c.judge_jobs.ensures.ok

@@ -9,7 +9,7 @@ returns-in-Ok-clause-begun c =
     begins_line c.args.new.now c.args.old.now c.args.script.now.lines c.tunnel_address.result c.as_slice-2.result.now _ c.in-Ok.ensures.loaded c.tunnel_address.ensures
     (rw c.as_slice-2.ensures (rw (c.as_slice.ensures, c.in_ok-bus.ensures) at c.in_ok-devices.ensures)) c.in-Ok.ensures.known
 
-pub returns-in-Err-clause-refused : goal.returns-in-Err-clause-refused
-returns-in-Err-clause-refused c =
+pub returns-clause-refused : goal.returns-clause-refused
+returns-clause-refused c =
     strange c.args.new.now c.args.old.now c.args.script.now.lines c.as_slice-2.result.now c.in-Err.refused c.refusal.result
     (rw c.as_slice-2.ensures (rw (c.as_slice.ensures, c.in_ok-bus.ensures) at c.in_ok-devices.ensures)) c.in-Err.ensures.refused c.refusal.ensures.memory c.refusal.ensures.other
