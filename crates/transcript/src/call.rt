@@ -1,9 +1,10 @@
-//! One call of `knx` over files in memory.
+//! One call of `knx` over files in memory, and with a dialer that reaches no gateway.
 
 use crate::fault::Fault;
 use crate::text::TextFile;
 use knx_model::{MemoryFile, MemoryFiles, MemorySink, NoMemory};
 use knx_top::{SimBus, knx};
+use line_fixed::FixedDialer;
 use std::alloc::Global;
 use std::sync::Wait;
 
@@ -59,8 +60,18 @@ pub fn put_call<R: Wait>(
     let mut files = files_of(alloc, texts)?;
     let mut sink = MemorySink::new(alloc);
     let mut sim = SimBus::empty(alloc);
+    let mut dial = FixedDialer::new(None, None);
     let mut last = None;
-    let status = knx(rt, alloc, words.as_slice(), &mut files, &mut sink, &mut sim, &mut last);
+    let status = knx(
+        rt,
+        alloc,
+        words.as_slice(),
+        &mut files,
+        &mut sink,
+        &mut sim,
+        &mut dial,
+        &mut last,
+    );
     put_output(alloc, out, sink.taken.as_slice())?;
     let status = status.number();
     out.push_str(format!(in alloc; "status {status}\n")?.as_str())?;
