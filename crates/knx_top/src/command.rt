@@ -36,7 +36,7 @@ pub struct DownloadNames<'a> {
 impl<'a> DownloadNames<'a> {
     /// The names of the files.
     pub fn project(self) -> ProjectNames<'a>
-        ensures { project_words_of result ≡ project_named (download_words_of self) }
+        ensures { project_words_of result ≡ project_named (download_words_of self.entry) }
     {
         ProjectNames {
             project: self.new,

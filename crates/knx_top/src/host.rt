@@ -1,8 +1,9 @@
 //! The address of a gateway, as a word spells it.
 
 ghost use Rattle.std.specs.Prelude.{◌≡◌, ◌≤◌};
+ghost use Rattle.std.specs.List.{list_all};
 ghost use Rattle.std.specs.Option.{option_map};
-ghost use Rattle.knx_model.specs.Numbers.{numeral, part_value};
+ghost use Rattle.knx_model.specs.Numbers.{is_digit, numeral, part_value};
 ghost use Rattle.knx_top.specs.Host.{address_value, cut, host_value, port_value};
 ghost use Rattle.knx_top.specs.Names.{address_of, both_sides};
 
@@ -19,6 +20,7 @@ pub struct GatewayAddress {
 }
 
 /// What stands before the first mark, and behind it.
+#[tactic(auto, unfolding(crate::specs::Host::cut))]
 fn cut(word: &[u8], mark: u8) -> Option<(&[u8], &[u8])>
     ensures { option_map both_sides result ≡ cut mark word.now }
 {
@@ -28,18 +30,32 @@ fn cut(word: &[u8], mark: u8) -> Option<(&[u8], &[u8])>
     Some((front, behind))
 }
 
+fn is_digit(octet: u8) -> bool
+    ensures { result ≡ is_digit 10 octet }
+{
+    octet.is_ascii_digit()
+}
+
+fn are_digits(word: &[u8]) -> bool
+    ensures { result ≡ list_all (is_digit 10) word.now }
+{
+    word.iter().all(|octet| is_digit(*octet))
+}
+
 /// The number that 1 to `most` decimal digits write.
 fn digits(word: &[u8], most: usize) -> Option<u32>
     requires { most ≤ 5 }
     ensures { result ≡ numeral 10 most word.now }
 {
-    if word.len() > most || !word.iter().all(|octet| octet.is_ascii_digit()) {
-        return None;
+    if word.len() <= most && are_digits(word) {
+        number_in(word)
+    } else {
+        None
     }
-    number_in(word)
 }
 
 /// A part of a host: 1 to 3 digits, up to 255.
+#[tactic(auto, unfolding(knx_model::specs::Numbers::part_value))]
 fn part(word: &[u8]) -> Option<u8>
     ensures { result ≡ part_value 255 word.now }
 {
@@ -47,6 +63,7 @@ fn part(word: &[u8]) -> Option<u8>
 }
 
 /// A port number: 1 to 5 digits, from 1 to 65,535.
+#[tactic(auto, unfolding(crate::specs::Host::port_value))]
 fn port(word: &[u8]) -> Option<u16>
     ensures { result ≡ port_value word.now }
 {
@@ -57,6 +74,7 @@ fn port(word: &[u8]) -> Option<u16>
 }
 
 /// A host: four parts joined by dots.
+#[tactic(auto, unfolding(crate::specs::Host::host_value))]
 fn host(word: &[u8]) -> Option<[u8; 4]>
     ensures { result ≡ host_value word.now }
 {
@@ -68,6 +86,7 @@ fn host(word: &[u8]) -> Option<[u8; 4]>
 }
 
 /// The address that a word spells; none for another word.
+#[tactic(auto, unfolding(crate::specs::Host::address_value))]
 pub fn address_in(word: &str) -> Option<GatewayAddress>
     ensures { option_map address_of result ≡ address_value word.now }
 {

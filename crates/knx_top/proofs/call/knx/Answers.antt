@@ -1,5 +1,5 @@
 use Rattle.knx_top.specs.Headline.{BeganRightly, HasOldStoppedOrNew, HasTelegramsRight, RunsWhereDone, ActsOnce, IsToldRightly, HasFaultRight, EndsEveryJob}
-use Rattle.knx_top.proofs.Calls.{usage_of, check_of, tables_of, decode_of, sim_of, line_of, faults_in, ran_of}
+use Rattle.knx_top.proofs.Calls.{usage_of, check_of, tables_of, decode_of, sim_of, line_of, no_run_of, faults_in, ran_of}
 use Rattle.knx_top.proofs.Promised as promised
 use Rattle.knx_top.proofs.call.knx.Goals as goal
 
@@ -20,6 +20,9 @@ returns-clause-sim g c = λ names. sim_of _ _ _ _ _ _ _ names c.answer.ensures.d
 
 pub returns-clause-line : goal.returns-clause-line
 returns-clause-line g c = line_of _ _ _ _ _ _ _ c.answer.ensures.does
+
+pub returns-clause-no_run : goal.returns-clause-no_run
+returns-clause-no_run g c = no_run_of _ _ _ _ _ _ _ c.answer.ensures.does
 
 pub returns-clause-faults : goal.returns-clause-faults
 returns-clause-faults g c = faults_in _ _ _ _ _ _ _ c.answer.ensures.does
