@@ -12,7 +12,7 @@ use Rattle.hub_work.specs.declared.work.Work.{Work}
 use Rattle.hub_work.specs.Downloaders.{Task, AreJobsWith, task_of_hub_job}
 use Rattle.hub_work.specs.Follows.{BeginsRightly}
 use Rattle.hub_work.specs.Works.{KeepsBooks, tasks}
-use Rattle.hub_core.specs.Discipline.{TellsAndAsks}
+use Rattle.hub_core.specs.Discipline.{EachSo, IsPrompt, TellsAndAsks}
 use Rattle.hub_core.specs.Keeps.{KeepsTold, Keeps}
 use Rattle.hub_core.proofs.Calls.{not_none}
 use Rattle.hub_core.proofs.Counting.{some_is}
@@ -30,10 +30,12 @@ nothing_told jobs w n log none = record {
   asks = tt;
 }
 
-pub begins : (p : ℕ) (s : Story) (w : Work) (f : Option HubFault) (hub_jobs : List HubJob) → f ≡ None → IsNewLink s → ((at : ℕ) → KeepsBooks at w) → w.journal.entries ≡ [] → tasks w ≡ map task_of_hub_job hub_jobs → BeginsRightly hub_jobs w → Keeps p s w false f
-begins p s w f hub_jobs none new books empty are fits = record {
+pub begins : (p : ℕ) (s : Story) (w : Work) (f : Option HubFault) (hub_jobs : List HubJob) → f ≡ None → IsNewLink s → ((at : ℕ) → KeepsBooks at w) → w.journal.entries ≡ [] → tasks w ≡ map task_of_hub_job hub_jobs → w.closing ≡ None → BeginsRightly hub_jobs w → Keeps p s w false f
+begins p s w f hub_jobs none new books empty are unbegun fits = record {
   books = books p;
   jobs_are = λ jobs of. (fits jobs 0 0 (back jobs of)).devices;
+  closes = λ begun. absurd (begun unbegun);
+  prompt = λ jobs of places e. subst (EachSo (IsPrompt jobs w.telegrams.turns) w.journal.entries) (sym (no_places s places new e)) tt;
   told = λ jobs of places e. subst (λ (l : List Placed). KeepsTold jobs w false f (place_of s) l) (sym (no_places s places new e)) (record {
     books = books (place_of s);
     tells = nothing_told jobs w (place_of s) w.journal.entries empty;

@@ -18,13 +18,13 @@ use Rattle.hub_work.specs.Follows.{AsideFollows, StaysFitting}
 use Rattle.hub_core.specs.Keeps.{HasOwnCause, Keeps}
 use Rattle.hub_core.specs.Taking.{SameWork, FollowsAll, LosesIn}
 use Rattle.hub_core.proofs.Counting.{some_is, place_grows, places_ascend}
-use Rattle.hub_core.proofs.Keeps.{books_same, same_log, Tolds, moves}
+use Rattle.hub_core.proofs.Keeps.{books_same, same_log, Tolds, Prompts, moves}
 use Rattle.hub_core.proofs.Quiet.{Asides, nothing_aside, asides_fit, fits_after, quiet_told, quiet_runs}
 use Rattle.hub_core.proofs.Requests.{nothings_put}
 use Rattle.hub_core.proofs.Taking.{NoneGot, sent_not_got}
 
 pub same_refl : (w : Work) → SameWork w w
-same_refl w = record { reservation = refl; turns = refl; told = refl; held = refl; journal = refl; tasks_are = refl; unfinished = refl }
+same_refl w = record { reservation = refl; turns = refl; told = refl; held = refl; journal = refl; tasks_are = refl; unfinished = refl; begun = refl }
 
 pub not_none : (g : Option HubFault) (fault : HubFault) → g ≡ Some fault → g ≡ None → ⊥
 not_none g fault e none = absurd (let z : Some fault ≡ None = sym e ∙ none in cc)
@@ -69,36 +69,36 @@ module _ (s t : Story) (w v : Work) (met : Bool) (P : List Placed → List Place
 -- ---- each of them, all that is kept
 
 module _ (p q : ℕ) (s t : Story) (met : Bool) (f g : Option HubFault) (none : f ≡ None) (le : p ≤ q) (goes : GoesOn s t) where
-  pub acts_failed : (w : Work) (fault : HubFault) → Growing (Acts (Err fault)) s t → g ≡ Some fault → IsOfTunnel fault → Keeps p s w met f → Keeps q t w met g
-  acts_failed w fault adds is tunnel k =
-      moves p q s t w w met met f g none le (same_refl w) goes (failed s t w w met (Acts (Err fault)) goes (same_refl w) adds (λ old added h. nothings_put (moments_on old added) h) met g fault is tunnel) k
+  pub acts_failed : (w : Work) (fault : HubFault) → Growing (Acts (Err fault)) s t → g ≡ Some fault → IsOfTunnel fault → Prompts s t w → Keeps p s w met f → Keeps q t w met g
+  acts_failed w fault adds is tunnel prompts k =
+      moves p q s t w w met met f g none le (same_refl w) goes (failed s t w w met (Acts (Err fault)) goes (same_refl w) adds (λ old added h. nothings_put (moments_on old added) h) met g fault is tunnel) prompts k
 
-  pub acts_done : (w v : Work) (acted : Acted) (now : ℕ) → Growing (Acts (Ok acted)) s t → g ≡ None → SameWork w v → StaysFitting → LosesIn acted.loss now w v → WhereTold (λ places. now ≡ newest_time (entries places)) t → Keeps p s w met f → Keeps q t v met g
-  acts_done w v acted now adds stands same law loses told k =
+  pub acts_done : (w v : Work) (acted : Acted) (now : ℕ) → Growing (Acts (Ok acted)) s t → g ≡ None → SameWork w v → StaysFitting → LosesIn acted.loss now w v → WhereTold (λ places. now ≡ newest_time (entries places)) t → Prompts s t w → Keeps p s w met f → Keeps q t v met g
+  acts_done w v acted now adds stands same law loses told prompts k =
       moves p q s t w v met met f g none le same goes
-      (quiet s t w v met (Acts (Ok acted)) goes same adds now law told (λ old added h. (h.0, sent_not_got added h.1.only_sends, subst (λ (x : Loss). LosesIn x now w v) h.1.loss loses)) g stands) k
+      (quiet s t w v met (Acts (Ok acted)) goes same adds now law told (λ old added h. (h.0, sent_not_got added h.1.only_sends, subst (λ (x : Loss). LosesIn x now w v) h.1.loss loses)) g stands) prompts k
 
   pub seeks_kept : (w : Work) (result : Result Bool HubFault) (now : ℕ) → Growing (Seeks result) s t → IfErr result (λ fault. g ≡ Some fault) → OnOk result (g ≡ None) → IfErr result IsOfTunnel → StaysFitting → AsideFollows
-      → WhereTold (λ places. now ≡ newest_time (entries places)) t → Keeps p s w met f → Keeps q t w met g
-  seeks_kept w (Ok true) now adds is stands tunnel law aside told k =
+      → WhereTold (λ places. now ≡ newest_time (entries places)) t → Prompts s t w → Keeps p s w met f → Keeps q t w met g
+  seeks_kept w (Ok true) now adds is stands tunnel law aside told prompts k =
       moves p q s t w w met met f g none le (same_refl w) goes
-      (quiet s t w w met (Seeks (Ok true)) goes (same_refl w) adds now law told (λ old added h. (h.nothing, sent_not_got added h.so.0, asides_fit w now aside)) g stands) k
-  seeks_kept w (Ok false) now adds is stands tunnel law aside told k =
+      (quiet s t w w met (Seeks (Ok true)) goes (same_refl w) adds now law told (λ old added h. (h.nothing, sent_not_got added h.so.0, asides_fit w now aside)) g stands) prompts k
+  seeks_kept w (Ok false) now adds is stands tunnel law aside told prompts k =
       moves p q s t w w met met f g none le (same_refl w) goes
-      (quiet s t w w met (Seeks (Ok false)) goes (same_refl w) adds now law told (λ old added h. (h.nothing, subst NoneGot (sym h.so.0) tt, asides_fit w now aside)) g stands) k
-  seeks_kept w (Err fault) now adds is stands tunnel law aside told k =
+      (quiet s t w w met (Seeks (Ok false)) goes (same_refl w) adds now law told (λ old added h. (h.nothing, subst NoneGot (sym h.so.0) tt, asides_fit w now aside)) g stands) prompts k
+  seeks_kept w (Err fault) now adds is stands tunnel law aside told prompts k =
       moves p q s t w w met met f g none le (same_refl w) goes
-      (failed s t w w met (Seeks (Err fault)) goes (same_refl w) adds (λ old added h. nothings_put (moments_on old added) h.nothing) met g fault is tunnel) k
+      (failed s t w w met (Seeks (Err fault)) goes (same_refl w) adds (λ old added h. nothings_put (moments_on old added) h.nothing) met g fault is tunnel) prompts k
 
-  pub leaves_failed : (w : Work) (fault : HubFault) → Growing (Leaves (Err fault)) s t → g ≡ Some fault → IsOfTunnel fault → Keeps p s w met f → Keeps q t w met g
-  leaves_failed w fault adds is tunnel k =
-      moves p q s t w w met met f g none le (same_refl w) goes (failed s t w w met (Leaves (Err fault)) goes (same_refl w) adds (λ old added h. nothings_put (moments_on old added) h.nothing) met g fault is tunnel) k
+  pub leaves_failed : (w : Work) (fault : HubFault) → Growing (Leaves (Err fault)) s t → g ≡ Some fault → IsOfTunnel fault → Prompts s t w → Keeps p s w met f → Keeps q t w met g
+  leaves_failed w fault adds is tunnel prompts k =
+      moves p q s t w w met met f g none le (same_refl w) goes (failed s t w w met (Leaves (Err fault)) goes (same_refl w) adds (λ old added h. nothings_put (moments_on old added) h.nothing) met g fault is tunnel) prompts k
 
-  pub leaves_done : (w v : Work) (asked : Bool) (now : ℕ) → Growing (Leaves (Ok asked)) s t → g ≡ None → SameWork w v → StaysFitting → FollowsAll Asides now w v → WhereTold (λ places. now ≡ newest_time (entries places)) t → Keeps p s w met f → Keeps q t v met g
-  leaves_done w v asked now adds stands same law aside told k =
+  pub leaves_done : (w v : Work) (asked : Bool) (now : ℕ) → Growing (Leaves (Ok asked)) s t → g ≡ None → SameWork w v → StaysFitting → FollowsAll Asides now w v → WhereTold (λ places. now ≡ newest_time (entries places)) t → Prompts s t w → Keeps p s w met f → Keeps q t v met g
+  leaves_done w v asked now adds stands same law aside told prompts k =
       moves p q s t w v met met f g none le same goes
-      (quiet s t w v met (Leaves (Ok asked)) goes same adds now law told (λ old added h. (h.nothing, sent_not_got added h.so.2, aside)) g stands) k
+      (quiet s t w v met (Leaves (Ok asked)) goes same adds now law told (λ old added h. (h.nothing, sent_not_got added h.so.2, aside)) g stands) prompts k
 
-  pub polls_failed : (w : Work) (fault : HubFault) → Growing (PollAdds (Err fault)) s t → g ≡ Some fault → IsOfTunnel fault → Keeps p s w met f → Keeps q t w met g
-  polls_failed w fault adds is tunnel k =
-      moves p q s t w w met met f g none le (same_refl w) goes (failed s t w w met (PollAdds (Err fault)) goes (same_refl w) adds (λ old added h. h) met g fault is tunnel) k
+  pub polls_failed : (w : Work) (fault : HubFault) → Growing (PollAdds (Err fault)) s t → g ≡ Some fault → IsOfTunnel fault → Prompts s t w → Keeps p s w met f → Keeps q t w met g
+  polls_failed w fault adds is tunnel prompts k =
+      moves p q s t w w met met f g none le (same_refl w) goes (failed s t w w met (PollAdds (Err fault)) goes (same_refl w) adds (λ old added h. h) met g fault is tunnel) prompts k

@@ -7,8 +7,9 @@ use Rattle.line_model.specs.Moments.{moments, time}
 use Rattle.line_model.specs.Log.{Job}
 use Rattle.hub_work.specs.declared.closing.Closing.{Closing}
 use Rattle.hub_work.specs.declared.work.Work.{Work}
+use Rattle.hub_work.specs.Books.{AreJobsOf}
 use Rattle.hub_work.specs.Works.{KeepsBooks}
-use Rattle.hub_core.specs.Keeps.{KeepsTold, Keeps}
+use Rattle.hub_core.specs.Keeps.{IsAllOver, KeepsTold, Keeps}
 use Rattle.hub_core.proofs.Losing.{closing_fits}
 
 books_kept : (w : Work) (x : Option Closing) (at : ℕ) → KeepsBooks at w → KeepsBooks at (record w { closing = x })
@@ -22,9 +23,11 @@ told_kept w x met f jobs n places k = record {
   cause = k.cause;
 }
 
-pub closing_kept : (p : ℕ) (s : Story) (w : Work) (met : Bool) (f : Option HubFault) (x : Option Closing) → Keeps p s w met f → Keeps p s (record w { closing = x }) met f
-closing_kept p s w met f x k = record {
+pub closing_kept : (p : ℕ) (s : Story) (w : Work) (met : Bool) (f : Option HubFault) (x : Option Closing) → ((jobs : List Job) → AreJobsOf w.reservation.devices jobs → IsAllOver jobs w.telegrams.turns w.journal.entries) → Keeps p s w met f → Keeps p s (record w { closing = x }) met f
+closing_kept p s w met f x over k = record {
   books = books_kept w x p k.books;
   jobs_are = k.jobs_are;
+  closes = λ begun jobs are. over jobs are;
   told = λ jobs of places e. told_kept w x met f jobs _ places (k.told jobs of places e);
+  prompt = k.prompt;
 }

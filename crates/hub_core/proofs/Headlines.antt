@@ -12,7 +12,7 @@ use Rattle.line_model.specs.Dropped.{dropped}
 use Rattle.line_model.specs.Faults.{tries, FaultRight}
 use Rattle.line_model.specs.Headline.{Keeps, IsGoodJob}
 use Rattle.line_law.specs.Safe.{EachAsked, IsSafe, EverySafeInterleaving}
-use Rattle.hub_core.specs.Discipline.{EachSo, Asks, TellsAndAsks}
+use Rattle.hub_core.specs.Discipline.{EachSo, Asks, IsPrompt, TellsAndAsks}
 use Rattle.tunnel_link.specs.declared.known.Known.{Known}
 use Rattle.tunnel_link.specs.Adds.{place_of}
 use Rattle.tunnel_link.specs.Goes as tunnel
@@ -20,12 +20,12 @@ use Rattle.tunnel_link.specs.Rights.{WhereTold, FitsFault, IsKept, KeepsRecord, 
 use Rattle.hub_work.specs.declared.work.Work.{Work}
 use Rattle.hub_work.proofs.Growing.{entries_placed, entries_counted}
 use Rattle.hub_core.specs.Keeps.{KeepsTold}
-use Rattle.hub_core.specs.Promises.{DropsIn, FaultRightIn, IsRightOver, IsSafeOver, PromptIn, TellsIn}
+use Rattle.hub_core.specs.Promises.{DropsIn, FaultRightIn, IsRightOver, IsSafeOver, TellsIn}
 use Rattle.hub_core.proofs.Disciplines.{disciplined}
 
 -- ---- the discipline
 
-pub headline : (jobs : List Job) (turns : List GroupTurn) (log : List LogEntry) (story : Story) (k : Known) → OneDownloaderPerDevice jobs log → TellsIn jobs turns log story → KeepsRecord k story → tunnel.Keeps story → PromptIn jobs turns log story → Keeps jobs turns story log
+pub headline : (jobs : List Job) (turns : List GroupTurn) (log : List LogEntry) (story : Story) (k : Known) → OneDownloaderPerDevice jobs log → TellsIn jobs turns log story → KeepsRecord k story → tunnel.Keeps story → WhereTold (EachSo (IsPrompt jobs turns) log) story → Keeps jobs turns story log
 headline jobs turns log Untold k alone tells kept legal prompt = tt
 headline jobs turns log (Recorded r) k alone tells kept legal prompt =
     let right = (kept (counted r) refl).right in

@@ -1,28 +1,30 @@
 -- What a hub keeps is kept where its link goes on and its work leaves its books as they are.
-use Rattle.std.proofs.Common.{◌≡◌, ℕ, ◌≤◌, Bool, List, [], ◌∷◌, Option, Some, None, sym, ap, subst, ◌∙◌, arith}
+use Rattle.std.proofs.Common.{◌≡◌, ℕ, ◌≤◌, Bool, true, false, List, [], ◌∷◌, Option, Some, None, refl, sym, ap, subst, ◌∙◌, arith}
+use Rattle.std.specs.Prelude.{is_some}
 use Rattle.line_model.specs.declared.fault.HubFault.{HubFault}
 use Rattle.line_model.specs.declared.group.GroupTurn.{GroupTurn}
 use Rattle.line_model.specs.declared.log.LogEntry.{LogEntry}
 use Rattle.line_model.specs.Record.{Placed}
 use Rattle.line_model.specs.LinkStory.{Story, places_in}
-use Rattle.line_model.specs.Log.{Job, IsLog}
+use Rattle.line_model.specs.Log.{Job, IsLog, AllOver, TurnUnfinished}
 use Rattle.device_reservation.specs.Reservation.{Reservation}
 use Rattle.tunnel_link.specs.Adds.{place_of}
 use Rattle.tunnel_link.specs.Goes.{GoesOn}
+use Rattle.hub_work.specs.declared.closing.Closing.{Closing}
 use Rattle.hub_work.specs.declared.work.Work.{Work}
 use Rattle.hub_work.specs.Books.{AreJobsOf, IsWritten, IsLive, TellsInTurn, jobs_held}
 use Rattle.hub_work.specs.Downloaders.{Task, AreJobsWith}
 use Rattle.hub_work.specs.Works.{SameBooks, WritesRightly, Lives, TellsRightly, Counts, KeepsBooks, tasks}
-use Rattle.hub_core.specs.Discipline.{TellsAndAsks}
-use Rattle.hub_core.specs.Keeps.{KeepsTold, Keeps}
-use Rattle.hub_core.specs.Seen.{Seen}
+use Rattle.hub_core.specs.Discipline.{EachSo, IsPrompt, TellsAndAsks}
+use Rattle.hub_core.specs.Keeps.{IsAllOver, IsAllDone, KeepsTold, Keeps}
+use Rattle.hub_core.specs.Seen.{Seen, SameRun}
 use Rattle.hub_core.specs.Taking.{SameWork}
 use Rattle.hub_core.proofs.Counting.{told_before}
 
 -- ---- the books
 
 pub of_books : (w v : Work) → SameBooks w v → SameWork w v
-of_books w v s = record { reservation = s.reservation; turns = s.turns; told = s.told; held = s.held; journal = s.journal; unfinished = s.unfinished; tasks_are = s.tasks_are }
+of_books w v s = record { reservation = s.reservation; turns = s.turns; told = s.told; held = s.held; journal = s.journal; unfinished = s.unfinished; tasks_are = s.tasks_are; begun = ap is_some s.closing }
 
 -- fields that are the same
 module _ (w v : Work) (s : SameWork w v) where
@@ -89,24 +91,63 @@ abbrev pub Tolds : Story → Story → Work → Work → Bool → Bool → Optio
 Tolds s t w v met after g =
     (jobs : List Job) (old new : List Placed) → AreJobsOf w.reservation.devices jobs → places_in s ≡ Some old → places_in t ≡ Some new → KeepsTold jobs w met None (place_of s) old → KeepsTold jobs v after g (place_of t) new
 
-pub moved : (p q : ℕ) (s t : Story) (w v : Work) (met after : Bool) (f g : Option HubFault) → f ≡ None → tasks v ≡ tasks w → v.reservation.devices ≡ w.reservation.devices → KeepsBooks q v → GoesOn s t → Tolds s t w v met after g → Keeps p s w met f
-    → Keeps q t v after g
-moved p q s t w v met after f g none jobs_stay devices_stay books goes tolds k = record {
+-- what was polled promptly stays so, and what is added to the record was
+abbrev pub Prompts : Story → Story → Work → Type 0
+Prompts s t w =
+    (jobs : List Job) (old new : List Placed) → AreJobsOf w.reservation.devices jobs → places_in s ≡ Some old → places_in t ≡ Some new → IsLog jobs w.telegrams.turns (place_of s) w.journal.entries
+    → EachSo (IsPrompt jobs w.telegrams.turns) w.journal.entries old → EachSo (IsPrompt jobs w.telegrams.turns) w.journal.entries new
+
+-- the closing hasn't begun, and doesn't
+none_stays : (a b : Option Closing) → is_some b ≡ is_some a → a ≡ None → b ≡ None
+none_stays a None e none = refl
+none_stays a (Some x) e none = absurd (let z : true ≡ false = e ∙ ap is_some none in cc)
+
+-- the jobs, telegrams and log stay, and no closing begins
+pub record Stays (w v : Work) : Type 0 where
+  pub tasks_are : tasks v ≡ tasks w
+  pub devices : v.reservation.devices ≡ w.reservation.devices
+  pub turns : v.telegrams.turns ≡ w.telegrams.turns
+  pub logs : v.journal.entries ≡ w.journal.entries
+  pub begun : is_some v.closing ≡ is_some w.closing
+
+pub moved : (p q : ℕ) (s t : Story) (w v : Work) (met after : Bool) (f g : Option HubFault) → f ≡ None → Stays w v → KeepsBooks q v → GoesOn s t → Tolds s t w v met after g → Prompts s t w → Keeps p s w met f → Keeps q t v after g
+moved p q s t w v met after f g none stays books goes tolds prompts k = record {
   books = books;
-  jobs_are = λ jobs of. subst (λ ds. AreJobsOf ds jobs) (sym devices_stay) (k.jobs_are jobs (back jobs of));
+  jobs_are = λ jobs of. subst (λ ds. AreJobsOf ds jobs) (sym stays.devices) (k.jobs_are jobs (back jobs of));
+  closes = λ begun jobs are.
+      subst (λ (ts : List GroupTurn). IsAllOver jobs ts v.journal.entries) (sym stays.turns)
+      (subst (λ (l : List LogEntry). IsAllOver jobs w.telegrams.turns l) (sym stays.logs) (k.closes (λ e. begun (none_stays w.closing v.closing stays.begun e)) jobs (subst (λ ds. AreJobsOf ds jobs) stays.devices are)));
   told = λ jobs of new told. by_old jobs (back jobs of) new told (told_before s t new goes told);
+  prompt = λ jobs of new told. promptly jobs (back jobs of) new told (told_before s t new goes told);
 }
   where
     back : (jobs : List Job) → AreJobsWith (tasks v) jobs → AreJobsWith (tasks w) jobs
-    back jobs of = subst (λ (ts : List Task). AreJobsWith ts jobs) jobs_stay of
+    back jobs of = subst (λ (ts : List Task). AreJobsWith ts jobs) stays.tasks_are of
 
     by_old : (jobs : List Job) → AreJobsWith (tasks w) jobs → (new : List Placed) → places_in t ≡ Some new → (old : List Placed) × (places_in s ≡ Some old) → KeepsTold jobs v after g (place_of t) new
     by_old jobs of new told was =
         tolds jobs was.0 new (k.jobs_are jobs of) was.1 told (subst (λ (h : Option HubFault). KeepsTold jobs w met h (place_of s) was.0) none (k.told jobs of was.0 was.1))
 
-pub moves : (p q : ℕ) (s t : Story) (w v : Work) (met after : Bool) (f g : Option HubFault) → f ≡ None → p ≤ q → SameWork w v → GoesOn s t → Tolds s t w v met after g → Keeps p s w met f → Keeps q t v after g
-moves p q s t w v met after f g none le same goes tolds k =
-    moved p q s t w v met after f g none same.tasks_are (ap (λ r. r.devices) same.reservation) (books_same w v same q (books_later p q w le k.books)) goes tolds k
+    promptly : (jobs : List Job) → AreJobsWith (tasks w) jobs → (new : List Placed) → places_in t ≡ Some new → (old : List Placed) × (places_in s ≡ Some old) → EachSo (IsPrompt jobs v.telegrams.turns) v.journal.entries new
+    promptly jobs of new told was =
+        subst (λ (ts : List GroupTurn). EachSo (IsPrompt jobs ts) v.journal.entries new) (sym stays.turns)
+        (subst (λ (l : List LogEntry). EachSo (IsPrompt jobs w.telegrams.turns) l new) (sym stays.logs)
+        (prompts jobs was.0 new (k.jobs_are jobs of) was.1 told (k.told jobs of was.0 was.1).tells.form (k.prompt jobs of was.0 was.1)))
+
+pub stays_same : (w v : Work) → SameWork w v → Stays w v
+stays_same w v same = record { tasks_are = same.tasks_are; devices = ap (λ r. r.devices) same.reservation; turns = same.turns; logs = same_log w v same; begun = same.begun }
+
+pub moves : (p q : ℕ) (s t : Story) (w v : Work) (met after : Bool) (f g : Option HubFault) → f ≡ None → p ≤ q → SameWork w v → GoesOn s t → Tolds s t w v met after g → Prompts s t w → Keeps p s w met f → Keeps q t v after g
+moves p q s t w v met after f g none le same goes tolds prompts k =
+    moved p q s t w v met after f g none (stays_same w v same) (books_same w v same q (books_later p q w le k.books)) goes tolds prompts k
 
 pub none_inside : {L : Type 0} (a b : Seen L) → a ≡ b → b.fault ≡ None → a.fault ≡ None
 none_inside a b e none = ap (λ (s : Seen _). s.fault) e ∙ none
+
+-- all that is over stays so
+pub done_stays : {L : Type 0} (a b : Seen L) → SameRun a b → b.log ≡ a.log → IsAllDone a.devices a.turns a.log → IsAllDone b.devices b.turns b.log
+done_stays a b run log done =
+    subst (λ ds. IsAllDone ds b.turns b.log) (sym run.devices) (subst (λ (ts : List GroupTurn). IsAllDone a.devices ts b.log) (sym run.turns) (subst (λ (l : List LogEntry). IsAllDone a.devices a.turns l) (sym log) done))
+
+pub all_done : {L : Type 0} (a : Seen L) → ((jobs : List Job) → AreJobsOf a.devices jobs → AllOver jobs a.log) → ¬ TurnUnfinished a.turns a.log → IsAllDone a.devices a.turns a.log
+all_done a over told jobs are = record { jobs_over = λ u. u.2 (over jobs are u.0 u.1); turns_told = told }

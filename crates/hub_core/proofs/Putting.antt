@@ -23,13 +23,13 @@ use Rattle.hub_work.specs.declared.work.turn.Turn.TheVariants as turn
 use Rattle.hub_work.specs.Fits.{Fits, in_flight}
 use Rattle.hub_work.specs.Follows.{IsNew, PutFollows, TurnFollows, TellsTruly, TelegramIsRight, TelegramFollows}
 use Rattle.hub_work.specs.Telegrams.{IsNextRequest}
-use Rattle.hub_work.specs.Works.{KeepsBooks, tasks}
+use Rattle.hub_work.specs.Works.{KeepsBooks}
 use Rattle.hub_core.specs.Discipline.{Asks, TellsAndAsks}
 use Rattle.hub_core.specs.Keeps.{HasOwnCause, KeepsTold, Keeps}
 use Rattle.hub_core.proofs.Calls.{added_to, not_none, same_refl, same_some, own_of_tunnel}
 use Rattle.hub_core.proofs.Counting.{place_counts, place_grows}
 use Rattle.hub_core.proofs.Following.{newest}
-use Rattle.hub_core.proofs.Keeps.{books_later, tells_same, same_log, Tolds, moved}
+use Rattle.hub_core.proofs.Keeps.{books_later, tells_same, same_log, Tolds, Prompts, Stays, moved}
 use Rattle.hub_core.proofs.Quiet.{quiet_told, quiet_runs}
 use Rattle.hub_core.proofs.Requests.{Each, Single, single, request_right}
 use Rattle.hub_core.proofs.Taking.{NoneGot}
@@ -133,7 +133,7 @@ pub record PutsSo (s : Story) (w v : Work) (cemi : List ℕ) (at : ℕ) (jobs : 
   pub fits : (m : Moment) (later : ℕ) → m.what ≡ Puts cemi → IsNew m (time (moments old)) at later → Fits jobs v (time (moments old)) later (m ∷ moments old)
 
 module _ (p q : ℕ) (s t : Story) (w v : Work) (met : Bool) (f g : Option HubFault) (none : f ≡ None) (le : p ≤ q) (goes : GoesOn s t) (cemi : List ℕ) (at : ℕ) (at_place : at ≡ p)
-    (tasks_stay : tasks v ≡ tasks w) (devices : v.reservation.devices ≡ w.reservation.devices) (turns : v.telegrams.turns ≡ w.telegrams.turns) (logs : v.journal.entries ≡ w.journal.entries) (books : KeepsBooks at v)
+    (stays : Stays w v) (books : KeepsBooks at v) (prompts : Prompts s t w)
     (so : (jobs : List Job) (old : List Placed) → places_in s ≡ Some old → Fits jobs w (time (moments old)) (place_of s) (moments old) → PutsSo s w v cemi at jobs old) where
   abbrev Adding : Result (Unit {0}) HubFault → Type 0
   Adding result = Growing (PutsOne {X = Unit {0}} result cemi (place_of t)) s t
@@ -142,15 +142,15 @@ module _ (p q : ℕ) (s t : Story) (w v : Work) (met : Bool) (f g : Option HubFa
   books_then = books_later at q v (omega (arith, at_place, le)) books
 
   pub put_done : (x : Unit {0}) → Adding (Ok x) → g ≡ None → Keeps p s w met f → Keeps q t v met g
-  put_done x adds stands k = moved p q s t w v met met f g none tasks_stay devices books_then goes told k where
+  put_done x adds stands k = moved p q s t w v met met f g none stays books_then goes told prompts k where
     told : Tolds s t w v met met g
     told jobs old new are es et k =
         let how : PutsSo s w v cemi at jobs old = so jobs old es (k.runs refl).fits in
-        put_told s t goes w v met jobs old (adds old es).added new cemi (time (moments old)) at refl how.there turns logs books how.asks how.fits
+        put_told s t goes w v met jobs old (adds old es).added new cemi (time (moments old)) at refl how.there stays.turns stays.logs books how.asks how.fits
         (added_to s t w w met (PutsOne {X = Unit {0}} (Ok x) cemi (place_of t)) goes (same_refl w) adds old new es et) k ((adds old es).is how.place) g (λ why e. absurd (not_none g why e stands))
 
   pub put_failed : (fault : HubFault) → Adding (Err fault) → g ≡ Some fault → IsOfTunnel fault → Keeps p s w met f → Keeps q t v met g
-  put_failed fault adds is tunnel k = moved p q s t w v met met f g none tasks_stay devices books_then goes told k where
+  put_failed fault adds is tunnel k = moved p q s t w v met met f g none stays books_then goes told prompts k where
     told : Tolds s t w v met met g
     told jobs old new are es et k = by_put ((adds old es).is how.place) where
       how : PutsSo s w v cemi at jobs old
@@ -163,8 +163,8 @@ module _ (p q : ℕ) (s t : Story) (w v : Work) (met : Bool) (f g : Option HubFa
       cause why e = subst (HasOwnCause jobs v.journal.entries (entries new)) (same_some g fault why is e) (own_of_tunnel jobs v.journal.entries (entries new) fault tunnel)
 
       by_put : ((adds old es).added ≡ []) ⊎ PutsIt cemi (place_of t) old (adds old es).added → KeepsTold jobs v met g (place_of t) new
-      by_put (inl nothing) = unput_told s t goes w v met jobs old (adds old es).added new cemi (time (moments old)) at refl how.there turns logs books how.asks how.fits a k g fault is cause nothing
-      by_put (inr puts) = put_told s t goes w v met jobs old (adds old es).added new cemi (time (moments old)) at refl how.there turns logs books how.asks how.fits a k puts g cause
+      by_put (inl nothing) = unput_told s t goes w v met jobs old (adds old es).added new cemi (time (moments old)) at refl how.there stays.turns stays.logs books how.asks how.fits a k g fault is cause nothing
+      by_put (inr puts) = put_told s t goes w v met jobs old (adds old es).added new cemi (time (moments old)) at refl how.there stays.turns stays.logs books how.asks how.fits a k puts g cause
 
 -- ---- of a worker's turn, and of a group telegram
 

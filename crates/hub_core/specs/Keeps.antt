@@ -1,13 +1,15 @@
 -- What the type of a hub keeps. Its books are right when its link tells of so many events. Where its link tells something, what the log tells is true,
 -- and each request was asked rightly and promptly, always; and until it has ended its work fits the record, and there is no cause to end.
-use Rattle.std.specs.Prelude.{◌≡◌, ℕ, ◌<◌, Bool, is_some, List, Option, Some, None}
+use Rattle.std.specs.Prelude.{◌≡◌, ◌≢◌, ℕ, ◌<◌, Bool, is_some, List, Option, Some, None}
+use Rattle.knx_model.specs.declared.address.IndAddr.{IndAddr}
 use Rattle.line_model.specs.declared.fault.HubFault.{HubFault}
 use Rattle.line_model.specs.declared.fault.HubFault.TheVariants.{NoMemory, LinkFailed, GatewayRefused, Flooded, WrongLine}
+use Rattle.line_model.specs.declared.group.GroupTurn.{GroupTurn}
 use Rattle.line_model.specs.declared.log.LogEntry.{LogEntry}
 use Rattle.line_model.specs.Record.{Entry, Placed, entries}
 use Rattle.line_model.specs.LinkStory.{Story}
 use Rattle.line_model.specs.Moments.{moments, time}
-use Rattle.line_model.specs.Log.{Job, JobUnfinished}
+use Rattle.line_model.specs.Log.{Job, JobUnfinished, TurnUnfinished}
 use Rattle.line_model.specs.Faults.{datagrams_taken, flood, first_tunnel, first_elsewhere, IsFlooded, IsWrongLine}
 use Rattle.tunnel_link.specs.Adds.{place_of}
 use Rattle.tunnel_link.specs.Rights.{WhereTold}
@@ -16,7 +18,17 @@ use Rattle.hub_work.specs.Books.{AreJobsOf}
 use Rattle.hub_work.specs.Downloaders.{AreJobsWith}
 use Rattle.hub_work.specs.Fits.{Fits}
 use Rattle.hub_work.specs.Works.{KeepsBooks, tasks}
-use Rattle.hub_core.specs.Discipline.{TellsAndAsks}
+use Rattle.hub_core.specs.Discipline.{EachSo, IsPrompt, TellsAndAsks}
+
+-- ---- all jobs and group telegrams are over
+
+pub record IsAllOver (jobs : List Job) (turns : List GroupTurn) (log : List LogEntry) : Type 0 where
+  pub jobs_over : ¬ JobUnfinished jobs log
+  pub turns_told : ¬ TurnUnfinished turns log
+
+-- for any jobs of these devices
+abbrev pub IsAllDone : List IndAddr → List GroupTurn → List LogEntry → Type 0
+IsAllDone devices turns log = (jobs : List Job) → AreJobsOf devices jobs → IsAllOver jobs turns log
 
 -- ---- where something is told
 
@@ -46,4 +58,6 @@ pub record KeepsTold (jobs : List Job) (w : Work) (met : Bool) (fault : Option H
 pub record Keeps (place : ℕ) (story : Story) (w : Work) (met : Bool) (fault : Option HubFault) : Type 0 where
   pub books : KeepsBooks place w
   pub jobs_are : (jobs : List Job) → AreJobsWith (tasks w) jobs → AreJobsOf w.reservation.devices jobs
+  pub closes : w.closing ≢ None → IsAllDone w.reservation.devices w.telegrams.turns w.journal.entries
   pub told : (jobs : List Job) → AreJobsWith (tasks w) jobs → WhereTold (KeepsTold jobs w met fault (place_of story)) story
+  pub prompt : (jobs : List Job) → AreJobsWith (tasks w) jobs → WhereTold (EachSo (IsPrompt jobs w.telegrams.turns) w.journal.entries) story

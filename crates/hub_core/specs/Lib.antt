@@ -4,3 +4,5 @@ pub mod Keeps
 pub mod Promises
 pub mod Taking
 pub mod Hears
+pub mod Pumps
+pub mod Waits

@@ -13,7 +13,7 @@ use Rattle.line_model.specs.Headline.{IsRight}
 use Rattle.line_law.specs.Safe.{IsSafe, KeepsSafe}
 use Rattle.tunnel_link.specs.Adds.{place_of}
 use Rattle.tunnel_link.specs.Rights.{WhereTold}
-use Rattle.hub_core.specs.Discipline.{EachSo, IsPrompt, TellsAndAsks}
+use Rattle.hub_core.specs.Discipline.{TellsAndAsks}
 
 abbrev pub IsRightOver : List Job → Story → List LogEntry → Type 0
 IsRightOver jobs Untold log = Unit {0}
@@ -25,10 +25,6 @@ abbrev pub IsSafeOver : List Job → List GroupTurn → Story → List LogEntry 
 IsSafeOver jobs turns Untold log = Unit {0}
 IsSafeOver jobs turns (Recorded r) log = IsSafe jobs turns (length r) (counted r) log
 IsSafeOver jobs turns (Full start events) log = KeepsSafe jobs turns start events log
-
--- in each poll, while there was something to do, no deadline of the channel was passed over
-abbrev pub PromptIn : List Job → List GroupTurn → List LogEntry → Story → Type 0
-PromptIn jobs turns log story = WhereTold (EachSo (IsPrompt jobs turns) log) story
 
 -- the log is one of its jobs and telegrams, what it tells is true, and each request was right
 abbrev pub TellsIn : List Job → List GroupTurn → List LogEntry → Story → Type 0

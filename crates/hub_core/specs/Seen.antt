@@ -1,5 +1,6 @@
--- What contracts see of a hub: its link, its jobs, by device and plan, their devices, its group telegrams, its log, the newest entry first, why it has
--- ended, and how many indications were counted as missed. After a fault each later call answers that fault, and the link stays as it is.
+-- What contracts see of a hub: its link, what its end of the tunnel knows, its jobs, by device and plan, their devices, its group telegrams, its log,
+-- the newest entry first, why it has ended, how far its closing is, and how many indications were counted as missed. After a fault each later call
+-- answers that fault, and the link stays as it is.
 use Rattle.std.specs.Prelude.{◌≡◌, ℕ, List, map, Option, Some, None, Result, Err}
 use Rattle.knx_model.specs.declared.address.IndAddr.{IndAddr}
 use Rattle.line_model.specs.declared.fault.HubFault.{HubFault}
@@ -7,16 +8,20 @@ use Rattle.line_model.specs.declared.group.GroupTurn.{GroupTurn}
 use Rattle.line_model.specs.declared.log.LogEntry.{LogEntry}
 use Rattle.line_model.specs.Log.{Job}
 use Rattle.download_core.specs.Keeps.{Known}
+use Rattle.tunnel_link.specs.declared.known.Known.{Known as TunnelKnown}
+use Rattle.hub_work.specs.declared.closing.Closing.{Closing}
 use Rattle.hub_work.specs.declared.job.HubJob.{HubJob}
 use Rattle.hub_work.specs.Downloaders.{Task, task_of_hub_job, AreJobsWith}
 
 pub record Seen (L : Type 0) : Type 0 where
   pub link : L
+  pub known : TunnelKnown
   pub jobs : List HubJob
   pub devices : List IndAddr
   pub turns : List GroupTurn
   pub log : List LogEntry
   pub fault : Option HubFault
+  pub closing : Option Closing
   pub missed : ℕ
 
 -- the job that a downloader is of

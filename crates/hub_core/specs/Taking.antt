@@ -1,6 +1,6 @@
 -- What a hub does with what a poll brought: its work is told at once of a frame that was taken and of the loss of its channel, at the time that the
 -- link told last; and why the run ends after a poll.
-use Rattle.std.specs.Prelude.{◌≡◌, ℕ, ◌<◌, ◌≤◌, Bool, true, false, List, [], ◌∷◌, ◌++◌, Option, Some, None}
+use Rattle.std.specs.Prelude.{◌≡◌, ℕ, ◌<◌, ◌≤◌, Bool, true, false, List, [], ◌∷◌, ◌++◌, is_some, Option, Some, None}
 use Rattle.knx_model.specs.declared.address.IndAddr.{IndAddr}
 use Rattle.line_model.specs.declared.fault.HubFault.{HubFault}
 use Rattle.line_model.specs.declared.fault.HubFault.TheVariants.{NoMemory, LinkFailed, GatewayRefused, Flooded, WrongLine}
@@ -23,7 +23,7 @@ use Rattle.hub_work.specs.Fits.{Fits}
 use Rattle.hub_work.specs.Follows.{IsAside}
 use Rattle.hub_work.specs.Works.{KeepsBooks, tasks}
 
--- ---- the work but for its closing: its jobs, its log and its books stay as they are
+-- ---- the work but for how far its closing is: its jobs, its log and its books stay as they are, and no closing begins
 
 pub record SameWork (old new : Work) : Type 0 where
   pub reservation : new.reservation ≡ old.reservation
@@ -33,6 +33,7 @@ pub record SameWork (old new : Work) : Type 0 where
   pub journal : new.journal ≡ old.journal
   pub unfinished : new.unfinished ≡ old.unfinished
   pub tasks_are : tasks new ≡ tasks old
+  pub begun : is_some new.closing ≡ is_some old.closing
 
 -- ---- the moments that a poll added, the newest first
 
@@ -69,6 +70,16 @@ DeliversIn (came.Frame frame) now old new = FollowsAll (One (TakesAt frame now))
 
 abbrev pub TakesIn : Came → ℕ → Work → Work → Type 0
 TakesIn came now old new = FollowsAll (DoesSo came.what came.loss now) now old new
+
+-- a datagram was got, and one that acts on something
+abbrev pub is_got : What → Bool
+is_got came.Quiet = false
+is_got _ = true
+
+abbrev pub is_taken : What → Bool
+is_taken came.Quiet = false
+is_taken came.Dropped = false
+is_taken _ = true
 
 -- the group telegram that it tells of
 abbrev pub HeardIn : What → Option Indication → Type 0

@@ -2,13 +2,21 @@
 use Rattle.std.proofs.Common.{List, [], length, Some, refl, sym, subst}
 use Rattle.std.specs.List.{AllByRecursion}
 use Rattle.line_model.specs.declared.group.GroupTurn.{GroupTurn}
-use Rattle.line_model.specs.Headline.{IsGoodJob}
+use Rattle.line_model.specs.Headline.{IsDisciplined, KeepsFull, Keeps, IsGoodJob}
 use Rattle.line_model.specs.LinkStory.{Story, Untold, Recorded, Full, IsNewLink, record_in}
 use Rattle.line_model.specs.Log.{Job}
 use Rattle.line_model.specs.Record.{counted}
 use Rattle.line_law.specs.Safe.{IsSafe, KeepsSafe, EverySafeInterleaving}
 use Rattle.hub_core.specs.Promises.{IsRightOver, IsSafeOver, DropsIn}
 use Rattle.hub_driver.specs.Heard.{HeardAll}
+
+abbrev disciplined : (jobs : List Job) (turns : List GroupTurn) → IsDisciplined jobs turns 0 [] []
+disciplined jobs turns = record { form = tt; alone = tt; truly = tt; renews = tt; sends = tt; asks = record { each = tt; acknowledges = tt } }
+
+pub new_keeps : (jobs : List Job) (turns : List GroupTurn) (s : Story) → IsNewLink s → Keeps jobs turns s []
+new_keeps jobs turns Untold new = tt
+new_keeps jobs turns (Recorded r) new = subst (λ r. IsDisciplined jobs turns (length r) (counted r) []) (sym new) (disciplined jobs turns)
+new_keeps jobs turns (Full start events) new = subst (λ es. KeepsFull jobs turns start es []) (sym new.0) (record { fresh = new.1; legal = tt; disciplined = disciplined jobs turns })
 
 abbrev nothing : (jobs : List Job) (turns : List GroupTurn) → IsSafe jobs turns 0 [] []
 nothing jobs turns = record { form = tt; alone = tt; truly = tt; renews = tt; sends = tt; asks = tt }

@@ -1,11 +1,12 @@
--- What a hub with one caller has come to: how many jobs have ended by its log, and that all is done.
-use Rattle.std.specs.Prelude.{◌≡◌, ◌⊎◌, ℕ, suc, ◌+◌, Bool, true, false, List, [], ◌∷◌, length, if◌then◌else◌, Option, Some, None}
+-- What a hub with one caller has come to: how many jobs have ended by its log, that all is done, and why it ended.
+use Rattle.std.specs.Prelude.{◌≡◌, ◌⊎◌, ℕ, suc, ◌+◌, ◌≤◌, Bool, true, false, List, [], ◌∷◌, length, if◌then◌else◌, Option, Some, None, IfSome}
 use Rattle.line_model.specs.declared.fault.HubFault.{HubFault}
 use Rattle.line_model.specs.declared.fault.HubFault.TheVariants.{NoMemory}
 use Rattle.line_model.specs.declared.log.LogEntry.{LogEntry}
 use Rattle.line_model.specs.declared.log.LogWhat.{LogWhat}
 use Rattle.line_model.specs.declared.log.LogWhat.TheVariants.{Done, Failed, Refused}
 use Rattle.line_model.specs.Log.{Job, AllOver, TurnUnfinished}
+use Rattle.tunnel_link.specs.Rights.{FailsWhere}
 use Rattle.hub_work.specs.Books.{AreJobsOf}
 use Rattle.hub_core.specs.Seen.{Seen}
 
@@ -34,6 +35,10 @@ pub record AllDone {L : Type 0} (hub : Seen L) : Type 0 where
 abbrev pub IsNoMemory : HubFault → Type 0
 IsNoMemory (NoMemory want) = Unit {0}
 IsNoMemory _ = ⊥
+
+-- that the link failed is its fault only where the link's count of faults has risen since it was this, and the count didn't fall
+abbrev pub CausedSince : ℕ → Option HubFault → ℕ → Type 0
+CausedSince before fault now = (before ≤ now) × IfSome fault (λ why. FailsWhere why before now)
 
 -- the hub has ended so, or there was no memory for what was heard
 abbrev pub HasEndedSo : Option HubFault → HubFault → Type 0

@@ -144,24 +144,28 @@ impl Side {
     fn hears(&mut self, now: u64) -> Result<(), NoMemory> {
         for _ in 0..MOST_FRAMES {
             match self.device.sends(now) {
-                Some(frame) => self.waiting.push(Ldata {
-                    code: LdataCode::Ind,
-                    tpdu: self.told(frame.tpdu),
-                    ..frame
-                })?,
+                Some(frame) => {
+                    let frame = self.told(frame);
+                    self.waiting.push(frame)?;
+                }
                 None => return Ok(()),
             }
         }
         Ok(())
     }
 
-    /// What the gateway makes of what the device sends.
-    fn told(&self, tpdu: ApduOctets) -> ApduOctets {
-        match (self.mood, tpdu.as_slice()) {
+    /// What the gateway makes of a frame that the device sends.
+    fn told(&self, frame: Ldata) -> Ldata {
+        let tpdu = match (self.mood, frame.tpdu.as_slice()) {
             (Mood::OtherMask, [first, 0x40, 0x07, 0xB0]) => {
                 ApduOctets::from_slice(&[*first, 0x40, 0x00, 0x12])
             }
-            _ => tpdu,
+            _ => frame.tpdu.copied(),
+        };
+        Ldata {
+            code: LdataCode::Ind,
+            tpdu,
+            ..frame
         }
     }
 

@@ -27,4 +27,5 @@ mod Beginning
 mod Lines
 mod Places
 mod Waits
+pub mod GroupWaits
 pub mod Growing

@@ -2,7 +2,7 @@
 use Rattle.std.proofs.Common.{◌≡◌, List, [], ◌∷◌, ◌++◌, map, Some, None, refl, sym, ap, ◌∙◌, subst}
 use Rattle.bus_sim.specs.Loaded.{BusNow}
 use Rattle.bus_sim.specs.RunNow.{RunNow, script, start, story}
-use Rattle.hub_core.specs.Promises.{IsRightOver, IsSafeOver, FaultRightIn, DropsIn}
+use Rattle.hub_core.specs.Promises.{IsRightOver, FaultRightIn, DropsIn}
 use Rattle.hub_core.specs.Seen.{AreJobs}
 use Rattle.hub_driver.specs.Heard.{HeardAll}
 use Rattle.hub_work.specs.declared.job.HubJob.{HubJob}
@@ -13,7 +13,7 @@ use Rattle.line_model.specs.declared.log.LogEntry.{LogEntry}
 use Rattle.line_model.specs.declared.log.Report.{Report}
 use Rattle.line_model.specs.Follows.{Follows}
 use Rattle.line_model.specs.Fresh.{IsFresh}
-use Rattle.line_model.specs.Headline.{IsRight}
+use Rattle.line_model.specs.Headline.{IsRight, Keeps}
 use Rattle.line_model.specs.Legal.{IsLegal}
 use Rattle.line_model.specs.Lines.{Script, script_of}
 use Rattle.line_model.specs.LinkStory.{Full, IsNewLink, record_in}
@@ -76,7 +76,7 @@ keeps_promises c order r log is run right =
 
 pub driven : (c : Commission) (order : Order) (line : BusNow) (report : Report) → IsOrder c order → GoesOn (story order.line.run) (story line.run) → script line.run ≡ script order.line.run
     → IsFresh (start line.run) → IsLegal Commissions (start line.run) line.run.events → Follows (script line.run) Commissions (start line.run) line.run.events
-    → IsSafeOver (map seen_job order.plans) [] (story line.run) (log_in report)
+    → Keeps (map seen_job order.plans) [] (story line.run) (log_in report)
     → IsRightOver (map seen_job order.plans) (story line.run) (log_in report)
     → FaultRightIn (map seen_job order.plans) (log_in report) report.fault (record_in (story line.run))
     → (report.fault ≡ None → AllOver (map seen_job order.plans) (log_in report))
@@ -84,7 +84,7 @@ pub driven : (c : Commission) (order : Order) (line : BusNow) (report : Report) 
     → report.missed ≡ 0
     → DropsIn report.dropped (record_in (story line.run))
     → Ran c line.run report order.jobs
-driven c order line report is goes says fresh legal follows safe right fault over heard missed dropped =
+driven c order line report is goes says fresh legal follows keeps right fault over heard missed dropped =
     let run : IsRunOf c line.run = is_run c order line.run is (same_start order.line.run line.run goes) says fresh legal follows in
     record {
       run = run;
@@ -92,5 +92,5 @@ driven c order line report is goes says fresh legal follows safe right fault ove
       jobs = map seen_job order.plans;
       planned = is.prepared.plans;
       promises = keeps_promises c order line.run (log_in report) is run right;
-      told = record { safe = safe.safe; fault = fault; ended = over; heard = heard; missed = missed; dropped = dropped };
+      told = record { disciplined = keeps.disciplined; fault = fault; ended = over; heard = heard; missed = missed; dropped = dropped };
     }

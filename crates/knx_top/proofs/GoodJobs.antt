@@ -1,5 +1,5 @@
 -- Each job with the plan of a compiled image is a good one.
-use Rattle.std.proofs.Common.{ℕ, ◌≡◌, true, false, List, [], ◌∷◌, Option, Some, refl, sym, ap, ◌∙◌, subst}
+use Rattle.std.proofs.Common.{◌≡◌, true, false, List, [], ◌∷◌, Some, refl, sym, ◌∙◌, subst}
 use Rattle.std.specs.List.{AllByRecursion}
 use Rattle.download_plan.proofs.Plans.{plan_good, check_runs, check_stays, load_sendable, check_sendable}
 use Rattle.knx_model.specs.declared.config.Image.{Image}
@@ -9,13 +9,13 @@ use Rattle.knx_model.specs.declared.log.JobKind.TheVariants.{Load, Check}
 use Rattle.knx_model.specs.declared.log.JobWord.{JobWord}
 use Rattle.knx_model.specs.Device.{Fits, HasCapacities, NonVolatile, answer_in, effect_in, runs, whole}
 use Rattle.knx_model.specs.DeviceFrames.{Whole}
-use Rattle.knx_model.specs.GoodPlan.{Answering, AnswersAll, Beginning, Last, Then, GoodCheck, GoodPlan, IsSendable, WholeRun, AtEnd, Goes, kept_by}
-use Rattle.knx_model.specs.LoadPlan.{check_plan, load_plan}
+use Rattle.knx_model.specs.GoodPlan.{Answering, AnswersAll, Beginning, Last, Then, GoodPlan, IsSendable, WholeRun, AtEnd, Goes, kept_by}
+use Rattle.knx_model.specs.LoadPlan.{check_plan}
 use Rattle.knx_model.specs.Meaning.{Installation}
 use Rattle.knx_model.specs.Plans.{Plan}
-use Rattle.line_model.specs.Headline.{IsGoodJob}
+use Rattle.line_model.specs.Headline.{GoodCheck, IsGoodJob}
 use Rattle.line_model.specs.Log.{Job, loads}
-use Rattle.knx_top.specs.Jobs.{ArePlanned, IsPlanned, plan_of}
+use Rattle.knx_top.specs.Jobs.{ArePlanned, plan_of}
 
 -- a whole run of a plan that changes nothing gives every answer
 all_answered : (answers : Answering) (plan : Plan) (nv end : NonVolatile) → ((last : NonVolatile) → Beginning answers plan nv last → last ≡ nv) → WholeRun answers plan nv end → AnswersAll answers plan nv

@@ -1,8 +1,7 @@
 -- What a run promises by the images of its jobs it promises by the new project: each job has the image that stands for what the project says.
-use Rattle.std.proofs.Common.{ℕ, zero, suc, ◌≡◌, ◌-◌, Bool, true, false, List, [], ◌∷◌, slice_get, Option, Some, None, refl, sym, ap, ◌∙◌, subst, inl, inr, ◌⊎◌}
+use Rattle.std.proofs.Common.{ℕ, zero, suc, ◌≡◌, ◌-◌, Bool, true, false, List, [], ◌∷◌, slice_get, Option, Some, None, sym, subst, inl, inr, ◌⊎◌}
 use Rattle.std.specs.Prelude.{◌==◌, if◌then◌else◌}
 use Rattle.knx_model.specs.declared.address.IndAddr.{IndAddr}
-use Rattle.knx_model.specs.declared.config.Config.{Config}
 use Rattle.knx_model.specs.declared.log.JobWord.{JobWord}
 use Rattle.knx_model.specs.Device.{NonVolatile, runs}
 use Rattle.knx_model.specs.DeviceState.{DeviceState}
@@ -14,7 +13,7 @@ use Rattle.line_model.specs.declared.log.LogWhat.{LogWhat}
 use Rattle.line_model.specs.declared.log.LogWhat.TheVariants.{Took, Done, Failed, Refused, Sent, Lost}
 use Rattle.line_model.specs.Legal.{AtEveryMoment, OfDevice}
 use Rattle.line_model.specs.Log.{Job, job_of}
-use Rattle.line_model.specs.OldStoppedOrNew.{Both, DoneSo, EachDoneSo, IsCase, MeansWhereDone, OldStoppedOr, OldStoppedOrNew, RunsJob, RunsMeaning, RunsWhereDone, world_at}
+use Rattle.line_model.specs.OldStoppedOrNew.{Both, DoneSo, IsCase, MeansWhereDone, OldStoppedOr, OldStoppedOrNew, RunsJob, RunsMeaning, RunsWhereDone, world_at}
 use Rattle.line_model.specs.World.{World, Event, replay}
 use Rattle.knx_top.specs.Jobs.{ArePlanned}
 use Rattle.knx_top.specs.OnLine.{IsImage}

@@ -27,7 +27,7 @@ pub acts_once : (c : Commission) (r : RunNow) (report : Report) (words : List Jo
 acts_once c r report words ran = ran.promises.once
 
 pub told_rightly : (c : Commission) (r : RunNow) (report : Report) (words : List JobWord) → Ran c r report words → IsToldRightly c r report
-told_rightly c r report words ran = of_its_jobs c r report words _ ran ran.told.safe
+told_rightly c r report words ran = of_its_jobs c r report words _ ran ran.told.disciplined
 
 pub fault_right : (c : Commission) (r : RunNow) (report : Report) (words : List JobWord) → Ran c r report words → HasFaultRight c r report
 fault_right c r report words ran = of_its_jobs c r report words _ ran ran.told.fault

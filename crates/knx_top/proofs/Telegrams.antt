@@ -1,5 +1,5 @@
 -- Each group telegram acts by the projects: what a device runs stands for what the old or the new project says of it.
-use Rattle.std.proofs.Common.{ℕ, ◌≡◌, ◌-◌, Bool, true, false, List, [], ◌∷◌, ◌++◌, length, replicate, take, Option, Some, None, refl, sym, ap, ◌∙◌, subst, inl, inr, ◌⊎◌}
+use Rattle.std.proofs.Common.{ℕ, ◌≡◌, ◌-◌, Bool, true, false, List, [], ◌∷◌, ◌++◌, length, take, Option, Some, None, refl, sym, ap, ◌∙◌, subst, inl, inr, ◌⊎◌}
 use Rattle.std.proofs.Math.Seq.{take-append_seam}
 use Rattle.device_tables.proofs.Agreement.{acts_alike, same_lowest}
 use Rattle.knx_model.specs.declared.address.IndAddr.{IndAddr}
@@ -7,7 +7,7 @@ use Rattle.knx_model.specs.declared.config.Config.{Config}
 use Rattle.knx_model.specs.declared.config.Image.{Image}
 use Rattle.knx_model.specs.declared.log.JobWord.{JobWord}
 use Rattle.knx_model.specs.declared.script.GroupService.{GroupService}
-use Rattle.knx_model.specs.Acts.{IsInRange, accepts, acts_answerer, acts_written, answerer, can_answer, is_linked, is_linked_in, is_written, object_in_table, object_of_number}
+use Rattle.knx_model.specs.Acts.{IsInRange, accepts, answerer, can_answer, is_linked, is_linked_in, is_written, object_in_table, object_of_number}
 use Rattle.knx_model.specs.Device.{NonVolatile, runs}
 use Rattle.knx_model.specs.DeviceState.{DeviceState, blank, blank_object, loaded_with, value_of}
 use Rattle.knx_model.specs.Meaning.{Installation, meaning}
@@ -19,7 +19,7 @@ use Rattle.line_model.specs.Legal.{AtEveryMoment}
 use Rattle.line_model.specs.Lines.{Script}
 use Rattle.line_model.specs.Log.{Job}
 use Rattle.line_model.specs.OldStoppedOrNew.{Both, IsCase, OldStoppedOr, OldStoppedOrNew, RunsJob}
-use Rattle.line_model.specs.StartOf.{BeginsAs, BusOf, DeviceBegins, is_on_bus}
+use Rattle.line_model.specs.StartOf.{BusOf, DeviceBegins, is_on_bus}
 use Rattle.line_model.specs.Telegrams.{ActsByConfig, ActsByImage, ActsByProject, ActsRight, EventActsRight, TelegramsActRight, responses, value_after}
 use Rattle.line_model.specs.World.{World, Event, replay}
 use Rattle.knx_top.specs.Begun.{IsOldInRange}

@@ -2,10 +2,10 @@
 use Rattle.std.specs.Prelude.{◌≡◌, List, [], length, None}
 use Rattle.bus_sim.specs.RunNow.{RunNow, start}
 use Rattle.knx_model.specs.declared.log.JobWord.{JobWord}
-use Rattle.line_law.specs.Safe.{IsSafe}
 use Rattle.line_model.specs.declared.log.Report.{Report}
 use Rattle.line_model.specs.ActedOnce.{ActedOnce}
 use Rattle.line_model.specs.Faults.{FaultRight}
+use Rattle.line_model.specs.Headline.{IsDisciplined}
 use Rattle.line_model.specs.Log.{Job, AllOver}
 use Rattle.line_model.specs.OldStoppedOrNew.{OldStoppedOrNew, RunsMeaning, MeansWhereDone}
 use Rattle.line_model.specs.Record.{placed, record_of}
@@ -44,7 +44,7 @@ ActsOnce c r report = ActedOnce (start r) r.events
 
 -- no device has two downloaders at once, all that the log tells is told truly, and all that is sent is right, by the record alone
 abbrev pub IsToldRightly : Commission → RunNow → Report → Type 0
-IsToldRightly c r report = OfItsJobs c (λ jobs. IsSafe jobs [] (length r.events) (placed (start r) r.events) (log_in report))
+IsToldRightly c r report = OfItsJobs c (λ jobs. IsDisciplined jobs [] (length r.events) (placed (start r) r.events) (log_in report))
 
 -- a fault comes exactly at its cause
 abbrev pub HasFaultRight : Commission → RunNow → Report → Type 0

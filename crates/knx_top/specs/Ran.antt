@@ -8,7 +8,6 @@ use Rattle.bus_sim.specs.RunNow.{RunNow, start, world}
 use Rattle.knx_model.specs.declared.command.Stop.{Stop}
 use Rattle.knx_model.specs.declared.command.Stop.TheVariants as stop
 use Rattle.knx_model.specs.declared.log.JobWord.{JobWord}
-use Rattle.line_law.specs.Safe.{IsSafe}
 use Rattle.line_model.specs.declared.log.LogEntry.{LogEntry}
 use Rattle.line_model.specs.declared.log.Report.{Report}
 use Rattle.line_model.specs.ActedOnce.{ActedOnce}
@@ -17,6 +16,7 @@ use Rattle.line_model.specs.Dropped.{dropped}
 use Rattle.line_model.specs.Faults.{FaultRight}
 use Rattle.line_model.specs.Follows.{Follows}
 use Rattle.line_model.specs.Fresh.{IsFresh}
+use Rattle.line_model.specs.Headline.{IsDisciplined}
 use Rattle.line_model.specs.Legal.{IsLegal}
 use Rattle.line_model.specs.Lines.{script_of}
 use Rattle.line_model.specs.Log.{Job, AllOver}
@@ -54,8 +54,7 @@ pub record KeepsPromises (c : Commission) (jobs : List Job) (r : RunNow) (log : 
 -- ---- what is told: by record and log alone. The script has no group telegrams.
 
 pub record IsTold (jobs : List Job) (r : RunNow) (report : Report) : Type 0 where
-  -- all that a client keeps to on the line, but that no poll passes over a deadline and each request is acknowledged
-  pub safe : IsSafe jobs [] (length r.events) (placed (start r) r.events) (log_in report)
+  pub disciplined : IsDisciplined jobs [] (length r.events) (placed (start r) r.events) (log_in report)
   pub fault : FaultRight jobs (log_in report) (record_of (start r) r.events) report.fault
   pub ended : report.fault ≡ None → AllOver jobs (log_in report)
   pub heard : report.fault ≡ None → report.heard ≡ reverse (indications (record_of (start r) r.events))

@@ -3,14 +3,14 @@ use Rattle.std.proofs.Common.{◌≡◌, ℕ, zero, suc, ◌-◌, ◌<◌, List,
 use Rattle.std.specs.Prelude.{◌==◌, nat_lt, slice_get}
 use Rattle.std.specs.List.{AllByRecursion}
 use Rattle.knx_model.specs.declared.device.FrameSupport.{FrameSupport}
-use Rattle.knx_model.specs.Device.{NonVolatile, runs, answer_in}
+use Rattle.knx_model.specs.Device.{NonVolatile, HasCapacities, runs, answer_in, effect_in}
 use Rattle.knx_model.specs.DeviceState.{DeviceState}
-use Rattle.knx_model.specs.GoodPlan.{Answering, GoodCheck, IsSendable, Beginning, NotBegun, Then, WholeRun, AtEnd, Goes, kept_by}
+use Rattle.knx_model.specs.GoodPlan.{Answering, IsSendable, Beginning, NotBegun, Then, WholeRun, AtEnd, Goes, kept_by}
 use Rattle.knx_model.specs.Plans.{Plan}
 use Rattle.line_model.specs.declared.log.LogEntry.{LogEntry}
 use Rattle.line_model.specs.declared.log.LogWhat.{LogWhat}
 use Rattle.line_model.specs.declared.log.LogWhat.TheVariants.{Took, Done, Failed, Refused, Sent, Lost}
-use Rattle.line_model.specs.Headline.{IsGoodJob}
+use Rattle.line_model.specs.Headline.{GoodCheck, IsGoodJob}
 use Rattle.line_model.specs.Log.{Job, Untaken, Held, Over, loads, job_of, log_before, takes_it, ends_it, state_after, state_of}
 use Rattle.line_model.specs.OldStoppedOrNew.{RunsJob, OldStoppedOr, loads_device, takes_load, load_taken}
 use Rattle.line_model.specs.World.{World, Event, me}
@@ -19,6 +19,7 @@ use Rattle.session_law.specs.Events.{Event as SessionEvent, replay, IsLegal}
 use Rattle.session_law.proofs.Books.{Books, empty, books}
 use Rattle.session_law.proofs.Steps.{WorldInv, fresh_inv, always}
 use Rattle.load_law.specs.Download.{MayAsk, Follows}
+use Rattle.load_law.proofs.Capacities.{kept_capacities}
 use Rattle.load_law.proofs.Walked.{AllGoodFor}
 use Rattle.load_law.proofs.Follows.{LoadInv, load_always, fresh_load}
 use Rattle.load_law.proofs.Checked.{ChangesNothing, Unchanged, unchanged_step}
@@ -53,9 +54,6 @@ Case jobs a first nv = OldStoppedOr (RunsJob jobs a) first nv
 abbrev pub Ends : List Job → ℕ → Plan → NonVolatile → Type 0
 Ends jobs a plan nv = (p : OfDevice jobs a plan) → runs nv ≡ Some p.job.image
 
-abbrev pub Any : NonVolatile → Type 0
-Any nv = Unit {0}
-
 begins_so : (answers : Answering) (plan : Plan) (start end : NonVolatile) → WholeRun answers plan start end → Beginning answers plan start end
 begins_so answers _ _ _ (AtEnd nv) = NotBegun _ nv
 begins_so answers _ _ _ (Goes apdu expect next nv outcome end whole_ suits rest) = Then apdu expect next nv outcome end whole_ suits (begins_so answers (next (answers nv apdu)) (kept_by nv apdu outcome) end rest)
@@ -70,18 +68,18 @@ module _ (jobs : List Job) (good : AllByRecursion IsGoodJob jobs) (a : ℕ) (fir
       ]
   case_on plan p false l frames start end case b = subst (Case jobs a first) (sym (((good_job jobs p.number p.job good p.there).check l).changes_nothing frames start end b)) case
 
-  ends_on : (job : Job) (k : ℕ) (b : Bool) → job_of jobs k ≡ Some job → loads job ≡ b → (frames : FrameSupport) (start end : NonVolatile) → WholeRun (answer_in frames) job.plan start end → runs end ≡ Some job.image
-  ends_on job k true there l frames start end r = ((good_job jobs k job good there).load l).whole_runs frames start end r
-  ends_on job k false there l frames start end r =
+  ends_on : (job : Job) (k : ℕ) (b : Bool) → job_of jobs k ≡ Some job → loads job ≡ b → (frames : FrameSupport) (start end : NonVolatile) → HasCapacities start → WholeRun (answer_in frames) job.plan start end → runs end ≡ Some job.image
+  ends_on job k true there l frames start end holds r = ((good_job jobs k job good there).load l).whole_runs frames start end r
+  ends_on job k false there l frames start end holds r =
       let check : GoodCheck job.plan job.image = (good_job jobs k job good there).check l in
-      ap runs (check.changes_nothing frames start end (begins_so (answer_in frames) job.plan start end r)) ∙ check.tells frames start end r
+      ap runs (check.changes_nothing frames start end (begins_so (answer_in frames) job.plan start end r)) ∙ check.tells frames start end holds r
 
-  pub plans_good : AllGoodFor (OfDevice jobs a) Any (Case jobs a first) (Ends jobs a)
+  pub plans_good : AllGoodFor (OfDevice jobs a) HasCapacities (Case jobs a first) (Ends jobs a)
   plans_good = record {
-    kept = λ nv apdu outcome holds. tt;
+    kept = λ nv apdu outcome holds. kept_capacities nv (effect_in apdu) outcome holds;
     good = λ plan p. record {
       beginnings = λ frames start end holds case b. case_on plan p (loads p.job) refl frames start end case (subst (λ z. Beginning (answer_in frames) z start end) p.plan_is b);
-      whole_runs = λ frames start end holds case r. λ q. ends_on q.job q.number (loads q.job) q.there refl frames start end (subst (λ z. WholeRun (answer_in frames) z start end) q.plan_is r);
+      whole_runs = λ frames start end holds case r. λ q. ends_on q.job q.number (loads q.job) q.there refl frames start end holds (subst (λ z. WholeRun (answer_in frames) z start end) q.plan_is r);
     };
     sendable = λ plan p. subst IsSendable (sym p.plan_is) (good_job jobs p.number p.job good p.there).sendable;
   }
@@ -91,11 +89,11 @@ module _ (jobs : List Job) (good : AllByRecursion IsGoodJob jobs) (a : ℕ) (fir
 pub held_of : (jobs : List Job) (log : List LogEntry) (a : ℕ) (plan : Plan) → HeldPlan jobs log a plan → OfDevice jobs a plan
 held_of jobs log a plan h = record { number = h.0.number; job = h.0.job; there = h.0.there; of_device = h.0.of_device; plan_is = h.1 }
 
-pub load_now : (jobs : List Job) (good : AllByRecursion IsGoodJob jobs) (log : List LogEntry) (a : ℕ) (start : World) (d : DeviceState) (events : List Event) (past : List SessionEvent) → Trace jobs log a start d events past
-    → LoadInv (OfDevice jobs a) Any (Case jobs a d.kept) (Ends jobs a) d.frames (plans_good jobs good a d.kept) (replay (fresh (me start) d) past) (books (fresh (me start) d) past)
-load_now jobs good log a start d events past t =
-    load_always (OfDevice jobs a) Any (Case jobs a d.kept) (Ends jobs a) d.frames (plans_good jobs good a d.kept) (fresh (me start) d) past (fresh_inv (me start) d)
-    (fresh_load (OfDevice jobs a) Any (Case jobs a d.kept) (Ends jobs a) d.frames (plans_good jobs good a d.kept) (me start) d refl (inl refl) tt) (trace_legal t) (trace_follows (OfDevice jobs a) (λ n lt plan h. held_of jobs (log_before (suc n) log) a plan h) t)
+pub load_now : (jobs : List Job) (good : AllByRecursion IsGoodJob jobs) (log : List LogEntry) (a : ℕ) (start : World) (d : DeviceState) (events : List Event) (past : List SessionEvent) → Trace jobs log a start d events past → HasCapacities d.kept
+    → LoadInv (OfDevice jobs a) HasCapacities (Case jobs a d.kept) (Ends jobs a) d.frames (plans_good jobs good a d.kept) (replay (fresh (me start) d) past) (books (fresh (me start) d) past)
+load_now jobs good log a start d events past t capacities =
+    load_always (OfDevice jobs a) HasCapacities (Case jobs a d.kept) (Ends jobs a) d.frames (plans_good jobs good a d.kept) (fresh (me start) d) past (fresh_inv (me start) d)
+    (fresh_load (OfDevice jobs a) HasCapacities (Case jobs a d.kept) (Ends jobs a) d.frames (plans_good jobs good a d.kept) (me start) d refl (inl refl) capacities) (trace_legal t) (trace_follows (OfDevice jobs a) (λ n lt plan h. held_of jobs (log_before (suc n) log) a plan h) t)
 
 -- ---- from a settled moment on, while only checks are gone through
 

@@ -1,7 +1,7 @@
 -- Where done is told of a job, its device runs the job's image, and nothing is asked that isn't delivered.
 use Rattle.std.proofs.Common.{◌≡◌, ℕ, suc, ◌<◌, ◌≤◌, ◌⊎◌, List, [], ◌∷◌, ◌++◌, length, Some, refl, sym, ◌∙◌, ap, subst, inl, inr, arith}
 use Rattle.std.specs.List.{AllByRecursion}
-use Rattle.knx_model.specs.Device.{NonVolatile, runs}
+use Rattle.knx_model.specs.Device.{NonVolatile, HasCapacities, runs}
 use Rattle.knx_model.specs.DeviceState.{DeviceState}
 use Rattle.knx_model.specs.Plans.{Plan}
 use Rattle.line_model.specs.declared.group.GroupTurn.{GroupTurn}
@@ -21,7 +21,7 @@ use Rattle.session_law.proofs.Steps.{WorldInv, fresh_inv, always}
 use Rattle.load_law.specs.Download.{Follows}
 use Rattle.load_law.proofs.Checked.{settled_done}
 use Rattle.load_law.proofs.Follows.{LoadInv, fresh_load, load_always, right_at}
-use Rattle.line_law.proofs.Cases.{good_job, OfDevice, Case, Ends, Any, plans_good, held_of, IsCheck, Unmoved, unmoved_more}
+use Rattle.line_law.proofs.Cases.{good_job, OfDevice, Case, Ends, plans_good, held_of, IsCheck, Unmoved, unmoved_more}
 use Rattle.line_law.proofs.Courses.{WasDone, went_through}
 use Rattle.line_law.proofs.Logs.{after}
 use Rattle.line_law.proofs.NothingAsked.{silent_follows}
@@ -47,7 +47,7 @@ pub record DoneAt (job : Job) (start : World) (d : DeviceState) (past : List Ses
   pub runs_it : runs kept ≡ Some job.image
   pub unmoved : Unmoved kept d.frames (replay (fresh (me start) d) past) (books (fresh (me start) d) past)
 
-module _ (jobs : List Job) (good : AllByRecursion IsGoodJob jobs) (log : List LogEntry) (a : ℕ) (start : World) (d : DeviceState) (number : ℕ) (job : Job) (there : job_of jobs number ≡ Some job) (of : job.device.raw ≡ a) where
+module _ (jobs : List Job) (good : AllByRecursion IsGoodJob jobs) (log : List LogEntry) (a : ℕ) (start : World) (d : DeviceState) (number : ℕ) (job : Job) (there : job_of jobs number ≡ Some job) (of : job.device.raw ≡ a) (capacities : HasCapacities d.kept) where
   abbrev s0 : SessionWorld
   s0 = fresh (me start) d
 
@@ -58,18 +58,18 @@ module _ (jobs : List Job) (good : AllByRecursion IsGoodJob jobs) (log : List Lo
       let legal_then : IsLegal s h.earlier = legal_earlier s h.more h.earlier whole in
       let follows_then : Follows (OfDevice jobs a) s h.earlier = follows_earlier (OfDevice jobs a) s h.more h.earlier (subst (Follows (OfDevice jobs a) s) h.split follows) in
       let inv : WorldInv (replay s h.earlier) (books s h.earlier) = always s h.earlier (fresh_inv (me start) d) legal_then in
-      let load : LoadInv (OfDevice jobs a) Any (Case jobs a d.kept) (Ends jobs a) d.frames (plans_good jobs good a d.kept) (replay s h.earlier) (books s h.earlier)
-      = load_always (OfDevice jobs a) Any (Case jobs a d.kept) (Ends jobs a) d.frames (plans_good jobs good a d.kept) s h.earlier (fresh_inv (me start) d)
-      (fresh_load (OfDevice jobs a) Any (Case jobs a d.kept) (Ends jobs a) d.frames (plans_good jobs good a d.kept) (me start) d refl (inl refl) tt) legal_then follows_then in
+      let load : LoadInv (OfDevice jobs a) HasCapacities (Case jobs a d.kept) (Ends jobs a) d.frames (plans_good jobs good a d.kept) (replay s h.earlier) (books s h.earlier)
+      = load_always (OfDevice jobs a) HasCapacities (Case jobs a d.kept) (Ends jobs a) d.frames (plans_good jobs good a d.kept) s h.earlier (fresh_inv (me start) d)
+      (fresh_load (OfDevice jobs a) HasCapacities (Case jobs a d.kept) (Ends jobs a) d.frames (plans_good jobs good a d.kept) (me start) d refl (inl refl) capacities) legal_then follows_then in
       let it : OfDevice jobs a job.plan = record { number = number; job = job; there = there; of_device = of; plan_is = refl } in
       let kept : NonVolatile = (replay s h.earlier).device.kept in
-      let right : Ends jobs a job.plan kept = (right_at (OfDevice jobs a) Any (Case jobs a d.kept) (Ends jobs a) d.frames (plans_good jobs good a d.kept) (replay s h.earlier) (books s h.earlier) inv load).done job.plan it h.done in
+      let right : Ends jobs a job.plan kept = (right_at (OfDevice jobs a) HasCapacities (Case jobs a d.kept) (Ends jobs a) d.frames (plans_good jobs good a d.kept) (replay s h.earlier) (books s h.earlier) inv load).done job.plan it h.done in
       record {
         kept = (replay s h.earlier).device.kept;
         runs_it = right it;
         unmoved = subst (λ z. Unmoved kept d.frames (replay s z) (books s z)) (sym h.split)
             (unmoved_more kept d.frames s h.more h.earlier (fresh_inv (me start) d) whole (silent_follows IsCheck (replay s h.earlier) h.more h.silent)
-            (inl (settled_done (OfDevice jobs a) Any (Case jobs a d.kept) (Ends jobs a) d.frames (plans_good jobs good a d.kept) (replay s h.earlier) (books s h.earlier) job.plan it inv load h.done)));
+            (inl (settled_done (OfDevice jobs a) HasCapacities (Case jobs a d.kept) (Ends jobs a) d.frames (plans_good jobs good a d.kept) (replay s h.earlier) (books s h.earlier) job.plan it inv load h.done)));
       }
 
   done_trace : {events : List Event} {past : List SessionEvent} → Trace jobs log a start d events past → DoneBefore job.plan s0 past → DoneAt job start d past
@@ -102,7 +102,7 @@ module _ (jobs : List Job) (turns : List GroupTurn) (log : List LogEntry) (good 
     by_state (Held worker since) q h = record { worker = worker; since = since; held = q; went = h }
     by_state Over q h = absurd h
 
-  module _ (d : DeviceState) where
+  module _ (d : DeviceState) (capacities : HasCapacities d.kept) where
     none_since : (since : ℕ) → e.at ≤ since → WentThrough job.device.raw job.plan (session_since job.device.raw since e.at (placed start events)) → ⊥
     none_since since le went =
         let none : WentThrough job.device.raw job.plan [] = subst (λ l. WentThrough job.device.raw job.plan (session (course job.device.raw (last_stretch (stretches job.device.raw l))))) (nothing_between since e.at (moments (placed start events)) le) went in
@@ -128,7 +128,7 @@ module _ (jobs : List Job) (turns : List GroupTurn) (log : List LogEntry) (good 
         let was : WasDone job.device.raw job.device job.plan (after h.since (moments (placed start (y ∷ first))))
         = went_through job.device.raw job.device job.plan l (not_over job d.frames (good_job jobs number job good there))
         (stretch_at jobs turns (length events) log form alone (λ k j q. (good_job jobs k j good q).sendable) job.device.raw start d t p) went in
-        done_trace jobs good log job.device.raw start d number job there refl t (was_at jobs turns (length events) log form alone (λ k j q. (good_job jobs k j good q).sendable) job.device.raw start d t p was)
+        done_trace jobs good log job.device.raw start d number job there refl capacities t (was_at jobs turns (length events) log form alone (λ k j q. (good_job jobs k j good q).sendable) job.device.raw start d t p was)
 
     pub done_at : (past : List SessionEvent) → Trace jobs log job.device.raw start d (first_events e.at events) past → DoneAt job start d past
     done_at past t =

@@ -59,7 +59,7 @@ module _ (jobs : List Job) (turns : List GroupTurn) (count : ℕ) (log : List Lo
   case_by events h a (Some d) is =
       let t = trace_of a d events is h in
       let s : SessionWorld = replay (fresh (me start) d) t.0 in
-      both_some (OldStoppedOr (RunsJob jobs a)) (start.devices a) ((line.replay start events).devices a) d s.device is (follower_now t.1).coupled.by.side.device (load_now jobs good log a start d events t.0 t.1).case
+      both_some (OldStoppedOr (RunsJob jobs a)) (start.devices a) ((line.replay start events).devices a) d s.device is (follower_now t.1).coupled.by.side.device (load_now jobs good log a start d events t.0 t.1 (h.begins.devices a d is).capacities).case
 
   pub case_always : (events : List Event) → IsRun jobs turns log start events → AtEveryMoment (IsCase (RunsJob jobs) start) events
   case_always [] h = λ a. case_by [] h a (start.devices a) refl

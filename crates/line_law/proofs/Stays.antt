@@ -108,8 +108,8 @@ module _ (jobs : List Job) (log : List LogEntry) (a : ℕ) (start : World) (d : 
 
 module _ (jobs : List Job) (turns : List GroupTurn) (log : List LogEntry) (good : AllByRecursion IsGoodJob jobs) (start : World) (events : List Event) (form : IsLog jobs turns (length events) log) (alone : OneDownloaderPerDevice jobs log) (truly : ToldTruly jobs turns (placed start events) log) (run : IsRun jobs turns log start events) where
   module _ (number : ℕ) (job : Job) (there : job_of jobs number ≡ Some job) (newer older : List LogEntry) (e : LogEntry) (whole : log ≡ newer ++ e ∷ older) (what : e.what ≡ Done number) where
-    done_so : (d : DeviceState) (past : List SessionEvent) → Trace jobs log job.device.raw start d (first_events e.at events) past → DoneAt job start d past
-    done_so d past t = done_at jobs turns log good start events form alone truly number job there newer older e whole what d past t
+    done_so : (d : DeviceState) (past : List SessionEvent) → start.devices job.device.raw ≡ Some d → Trace jobs log job.device.raw start d (first_events e.at events) past → DoneAt job start d past
+    done_so d past is t = done_at jobs turns log good start events form alone truly number job there newer older e whole what d (run.begins.devices job.device.raw d is).capacities past t
 
     run_at : (k : ℕ) → IsRun jobs turns log start (first_events k events)
     run_at k = run_first jobs turns log start k events run
@@ -121,7 +121,7 @@ module _ (jobs : List Job) (turns : List GroupTurn) (log : List LogEntry) (good 
     pub runs_there : (d : DeviceState) → start.devices job.device.raw ≡ Some d → OfDevice (λ (x : DeviceState). runs x.kept ≡ Some job.image) ((world_at start events e.at).devices job.device.raw)
     runs_there d is =
         let t = trace_at d e.at is in
-        let x : DoneAt job start d t.0 = done_so d t.0 t.1 in
+        let x : DoneAt job start d t.0 = done_so d t.0 is t.1 in
         let kept : (replay (fresh (me start) d) t.0).device.kept ≡ x.kept = unchanged_kept IsCheck (λ plan q. q.0) (λ plan q. q.1) x.kept d.frames (replay (fresh (me start) d) t.0) (books (fresh (me start) d) t.0) x.unmoved in
         subst (OfDevice (λ (y : DeviceState). runs y.kept ≡ Some job.image)) (sym (follower_now t.1).coupled.by.side.device) (ap runs kept ∙ x.runs_it)
 
@@ -154,13 +154,13 @@ module _ (jobs : List Job) (turns : List GroupTurn) (log : List LogEntry) (good 
             let there_then : line.Devices = (world_at start events e.at).devices in
             unchanged_kept IsCheck (λ plan q. q.0) (λ plan q. q.1) kept d.frames (replay s past) (books s past)
             (stays_on jobs log job.device.raw start d kept e.at k (first_events e.at events) (λ n from lt. check_then n k from lt none)
-            (λ was v. subst (λ z. Unmoved z d.frames (replay s was) (books s was)) (same_kept d was v t.0 t.1) (done_so d was v).unmoved) u (first_first e.at k events le) (first_length k events))
+            (λ was v. subst (λ z. Unmoved z d.frames (replay s was) (books s was)) (same_kept d is was v t.0 t.1) (done_so d was is v).unmoved) u (first_first e.at k events le) (first_length k events))
           where
-            same_kept : (d : DeviceState) (one : List SessionEvent) → (v : Trace jobs log job.device.raw start d (first_events e.at events) one) → (other : List SessionEvent) → Trace jobs log job.device.raw start d (first_events e.at events) other
-                → (done_so d one v).kept ≡ (replay (fresh (me start) d) other).device.kept
-            same_kept d one v other u =
+            same_kept : (d : DeviceState) (there_first : start.devices job.device.raw ≡ Some d) (one : List SessionEvent) → (v : Trace jobs log job.device.raw start d (first_events e.at events) one) → (other : List SessionEvent) → Trace jobs log job.device.raw start d (first_events e.at events) other
+                → (done_so d one there_first v).kept ≡ (replay (fresh (me start) d) other).device.kept
+            same_kept d there_first one v other u =
                 let s : SessionWorld = fresh (me start) d in
-                let x : DoneAt job start d one = done_so d one v in
+                let x : DoneAt job start d one = done_so d one there_first v in
                 let before : (replay s one).device.kept ≡ x.kept = unchanged_kept IsCheck (λ plan q. q.0) (λ plan q. q.1) x.kept d.frames (replay s one) (books s one) x.unmoved in
                 let equal : Some (replay s one).device ≡ Some (replay s other).device = sym (follower_now v).coupled.by.side.device ∙ (follower_now u).coupled.by.side.device in
                 let same : (replay s one).device ≡ (replay s other).device = cc in

@@ -1,11 +1,14 @@
 -- Where a log tells done: which job was held, and since when; and the moments up to there.
 use Rattle.std.proofs.Common.{◌≡◌, ℕ, suc, ◌<◌, ◌≤◌, List, [], ◌∷◌, ◌++◌, length, Bool, true, false, ◌&&◌, cond, Option, Some, None, refl, sym, ◌∙◌, ap, subst, arith}
-use Rattle.std.specs.Prelude.{nat_lt, nat_le}
+use Rattle.std.specs.Prelude.{nat_lt, nat_le, replicate}
+use Rattle.std.proofs.lemmas.List.{length-replicate}
 use Rattle.knx_model.specs.declared.device.FrameSupport.{FrameSupport}
 use Rattle.knx_model.specs.declared.loading.LoadState.TheVariants.{Unloaded}
-use Rattle.knx_model.specs.Device.{NonVolatile, runs, answer_in}
+use Rattle.knx_model.specs.declared.loading.LoadableObject.{LoadableObject}
+use Rattle.knx_model.specs.declared.loading.LoadableObject.TheVariants.{AddressTable, AssociationTable, GroupObjects, Application}
+use Rattle.knx_model.specs.Device.{NonVolatile, HasCapacities, capacity, runs, answer_in}
 use Rattle.knx_model.specs.GoodPlan.{WholeRun, AtEnd}
-use Rattle.knx_model.specs.Loading.{Loadable}
+use Rattle.knx_model.specs.Loading.{Loadable, capacity_of}
 use Rattle.knx_model.specs.Plans.{Over as Ended}
 use Rattle.line_model.specs.declared.group.GroupTurn.{GroupTurn}
 use Rattle.line_model.specs.declared.log.LogEntry.{LogEntry}
@@ -123,14 +126,22 @@ first_first j k (e ∷ events) le = by_length (nat_le (length (e ∷ events)) k)
 
 -- ---- a plan that is over from the beginning is no good job's
 
-abbrev pub empty_object : Loadable
-empty_object = record { state = Unloaded; len = 0; memory = [] }
+unfoldable pub empty_object : LoadableObject → Loadable
+empty_object o = record { state = Unloaded; len = 0; memory = replicate (capacity o) 0 }
 
 abbrev pub empty_device : NonVolatile
-empty_device = record { address_table = empty_object; association_table = empty_object; group_objects = empty_object; application = empty_object }
+empty_device = record { address_table = empty_object AddressTable; association_table = empty_object AssociationTable; group_objects = empty_object GroupObjects; application = empty_object Application }
 
 pub unloaded : runs empty_device ≡ None
+unfolding empty_object
 unloaded = refl
+
+empty_capacity : (o : LoadableObject) → capacity_of (empty_object o) ≡ capacity o
+unfolding empty_object
+empty_capacity o = length-replicate {A = ℕ} (capacity o) 0
+
+pub has_memories : HasCapacities empty_device
+has_memories = record { addr = empty_capacity AddressTable; assoc = empty_capacity AssociationTable; objs = empty_capacity GroupObjects; params = empty_capacity Application }
 
 pub not_over : (job : Job) (frames : FrameSupport) → IsGoodJob job → job.plan ≡ Ended → ⊥
 not_over job frames good e =
@@ -139,4 +150,4 @@ not_over job frames good e =
   where
     by_load : (b : Bool) → loads job ≡ b → WholeRun (answer_in frames) job.plan empty_device empty_device → ⊥
     by_load true l r = let q : None ≡ Some job.image = sym unloaded ∙ (good.load l).whole_runs frames empty_device empty_device r in cc
-    by_load false l r = let q : None ≡ Some job.image = sym unloaded ∙ (good.check l).tells frames empty_device empty_device r in cc
+    by_load false l r = let q : None ≡ Some job.image = sym unloaded ∙ (good.check l).tells frames empty_device empty_device has_memories r in cc

@@ -1,6 +1,6 @@
 -- The start of the runs is a fresh one, and settled.
 use Rattle.std.proofs.Common.{◌≡◌, ℕ, Bool, true, false, Some, None, refl, sym, subst, ◌==◌, if◌then◌else◌}
-use Rattle.knx_model.specs.Device.{NonVolatile}
+use Rattle.knx_model.specs.Device.{NonVolatile, HasCapacities}
 use Rattle.knx_model.specs.DeviceConnection.{device_expired}
 use Rattle.knx_model.specs.DeviceSending.{next_sending}
 use Rattle.knx_model.specs.DeviceState.{DeviceState, device_with}
@@ -16,11 +16,11 @@ pub of_each : (P : DeviceState → Type 0) (x d : DeviceState) (b : Bool) → (b
 of_each P x d true h e = subst (OfDevice P) e (h refl)
 of_each P x d false h e = cc
 
-rests : (kept : NonVolatile) (a : ℕ) → (a == 0x1105) ≡ true → IsAtRest a (device_with device kept)
-rests kept a e = record { named = sym (equal a 0x1105 e); unconnected = refl; nothing_unsent = refl; nothing_got = refl }
+rests : (kept : NonVolatile) (a : ℕ) → HasCapacities kept → (a == 0x1105) ≡ true → IsAtRest a (device_with device kept)
+rests kept a capacities e = record { capacities = capacities; named = sym (equal a 0x1105 e); unconnected = refl; nothing_unsent = refl; nothing_got = refl }
 
-pub is_fresh : (kept : NonVolatile) → IsFresh (begin kept)
-is_fresh kept = record { tunnel = refl; echo = refl; devices = λ a d e. of_each (IsAtRest a) (device_with device kept) d (a == 0x1105) (rests kept a) e }
+pub is_fresh : (kept : NonVolatile) → HasCapacities kept → IsFresh (begin kept)
+is_fresh kept capacities = record { tunnel = refl; echo = refl; devices = λ a d e. of_each (IsAtRest a) (device_with device kept) d (a == 0x1105) (rests kept a capacities) e }
 
 pub is_settled : (kept : NonVolatile) → Settled Commissions (begin kept)
 unfolding device_expired gateway_expired

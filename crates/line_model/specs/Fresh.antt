@@ -1,6 +1,7 @@
 -- How a world begins: no channel, nothing sent, no frame that waits for the bus or for the client, and no device with a connection, an unsent
 -- frame or a frame got last. And when it is settled, so that nothing but time can go on.
 use Rattle.std.specs.Prelude.{◌≡◌, ℕ, ◌+◌, ◌<◌, ◌≤◌, ◌⊎◌, true, [], Some, None, slice_get}
+use Rattle.knx_model.specs.Device.{HasCapacities}
 use Rattle.knx_model.specs.DeviceConnection.{Closed}
 use Rattle.knx_model.specs.DeviceState.{DeviceState}
 use Rattle.knx_model.specs.DeviceSending.{next_sending}
@@ -13,6 +14,7 @@ use Rattle.line_model.specs.World.{World, me, now}
 -- ---- the beginning
 
 pub record IsAtRest (address : ℕ) (d : DeviceState) : Type 0 where
+  pub capacities : HasCapacities d.kept
   pub named : d.address.raw ≡ address
   pub unconnected : d.connection ≡ Closed
   pub nothing_unsent : d.unsent ≡ []

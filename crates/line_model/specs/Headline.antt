@@ -2,9 +2,13 @@
 -- and at every moment, whatever is lost, repeated or cut, each device has its starting content, or is stopped, or runs what is meant for it;
 -- each group telegram acts on exactly the objects that the running configuration links; `done` is told only where what is meant runs; no
 -- device has two downloaders at once, and no tunnelling request acts twice.
-use Rattle.std.specs.Prelude.{◌≡◌, ℕ, true, false, List, length}
+use Rattle.std.specs.Prelude.{◌≡◌, ℕ, true, false, List, length, Some}
 use Rattle.std.specs.List.{AllByRecursion}
-use Rattle.knx_model.specs.GoodPlan.{GoodPlan, GoodCheck, IsSendable}
+use Rattle.knx_model.specs.declared.config.Image.{Image}
+use Rattle.knx_model.specs.declared.device.FrameSupport.{FrameSupport}
+use Rattle.knx_model.specs.Device.{NonVolatile, HasCapacities, runs, answer_in}
+use Rattle.knx_model.specs.GoodPlan.{GoodPlan, IsSendable, Beginning, WholeRun}
+use Rattle.knx_model.specs.Plans.{Plan}
 use Rattle.line_model.specs.declared.group.GroupTurn.{GroupTurn}
 use Rattle.line_model.specs.declared.log.LogEntry.{LogEntry}
 use Rattle.line_model.specs.Tunnel.{Commissions}
@@ -44,6 +48,12 @@ Keeps jobs turns (Recorded r) log = IsDisciplined jobs turns (length r) (counted
 Keeps jobs turns (Full start events) log = KeepsFull jobs turns start events log
 
 -- ---- the jobs
+
+-- a plan that checks changes nothing, and a device whose memories have their lengths and that answers all of it as wanted runs the image: where an
+-- image fills a memory, no read tells what a longer one has behind it
+pub record GoodCheck (plan : Plan) (image : Image) : Type 0 where
+  pub changes_nothing : (frames : FrameSupport) (start end : NonVolatile) → Beginning (answer_in frames) plan start end → end ≡ start
+  pub tells : (frames : FrameSupport) (start end : NonVolatile) → HasCapacities start → WholeRun (answer_in frames) plan start end → runs start ≡ Some image
 
 pub record IsGoodJob (job : Job) : Type 0 where
   pub sendable : IsSendable job.plan

@@ -1,7 +1,7 @@
 //! Laws that show what the definitions allow: runs of the line, each a function without a body whose contract says what holds of the run.
 
 ghost use Rattle.std.specs.Prelude.{◌≡◌, true, List, [], ◌∷◌, None};
-ghost use Rattle.knx_model.specs.Device.{NonVolatile};
+ghost use Rattle.knx_model.specs.Device.{NonVolatile, HasCapacities};
 ghost use Rattle.knx_model.specs.declared.script.ScriptWhat.TheVariants.{LoseUp, LoseDown, LoseTo, LoseFrom, RepeatUp, RepeatDown, RepeatTo, Cut, Worn, CloseAfter, Refuse, DropChannel};
 ghost use Rattle.knx_model.specs.Cemi.{Written as cemi_octets};
 ghost use Rattle.line_model.specs.ActedOnce.{in_channel};
@@ -23,9 +23,9 @@ ghost use Rattle.line_model.specs.Tunnel.{Commissions};
 ghost use Rattle.line_model.specs.Waiting.{TurnWaits, PollsSo};
 ghost use Rattle.line_model.specs.World.{Up, replay};
 
-/// A line with one device, whatever that keeps, is a fresh start, and settled.
+/// A line with one device, whatever that keeps in its memories, is a fresh start, and settled.
 pub fn a_line_begins()
-    ensures fresh { (kept : NonVolatile) → IsFresh (begin kept) }
+    ensures fresh { (kept : NonVolatile) → HasCapacities kept → IsFresh (begin kept) }
     ensures settled { (kept : NonVolatile) → Settled Commissions (begin kept) }
 {}
 

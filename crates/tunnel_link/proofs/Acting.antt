@@ -1,8 +1,8 @@
 -- What is due, one after another, adds what each adds.
-use Rattle.std.proofs.Common.{◌≡◌, ◌≢◌, ◌⊎◌, inl, inr, ℕ, ◌+◌, ◌<◌, ◌≤◌, List, [], ◌∷◌, ◌++◌, length, Bool, true, false, Option, Some, None, Result, Ok, Err, refl, sym, subst, ap, ◌∙◌, arith}
+use Rattle.std.proofs.Common.{◌≡◌, ◌≢◌, ℕ, ◌≤◌, List, [], ◌∷◌, ◌++◌, Bool, true, false, Some, Result, Ok, Err, refl, sym, subst, ap, ◌∙◌, arith}
 use Rattle.std.proofs.lemmas.List.{append_assoc, length-append}
 use Rattle.std.specs.Prelude.{◌||◌}
-use Rattle.std.specs.List.{AllByRecursion, list_any}
+use Rattle.std.specs.List.{list_any}
 use Rattle.line_model.specs.declared.fault.HubFault.{HubFault}
 use Rattle.line_model.specs.Record.{Placed, entries, is_poll}
 use Rattle.line_model.specs.LinkStory.{Story, Untold, Recorded, Full, places_in, newest_time}
@@ -14,7 +14,7 @@ use Rattle.tunnel_link.specs.declared.came.Loss.{Loss}
 use Rattle.tunnel_link.specs.declared.came.Loss.TheVariants.{Stays}
 use Rattle.tunnel_link.specs.Goes.{GoesOn}
 use Rattle.tunnel_link.specs.Rights.{WhereTold}
-use Rattle.tunnel_link.specs.Adds.{place_of, Added, Grows, Growing, AllNothing, Dues, DuesOne, DuesNone, Acts, ActsSo, is_told}
+use Rattle.tunnel_link.specs.Adds.{place_of, Grows, Growing, AllNothing, Dues, DuesOne, Acts, is_told}
 use Rattle.tunnel_link.proofs.Growth.{IsAbove, IsUpto, upto_more}
 use Rattle.tunnel_link.proofs.Places.{added_of}
 
@@ -102,7 +102,7 @@ dues_two false false old one two x y = rw (y.none, x.none) (record { nothing = t
 
 module _ (lapse : Result Loss HubFault) (s0 s1 : Story) (still : WhereTold (λ places. (lapse ≡ Ok Stays) × (s1 ≡ s0)) s0) where
   -- nothing was done before
-  at_first : (P : List Placed → List Placed → Type 0) (u : Story) → Growing P s1 u → Growing P s0 u
+  pub at_first : (P : List Placed → List Placed → Type 0) (u : Story) → Growing P s1 u → Growing P s0 u
   at_first P u f old p = let h = (still old p).1 in subst (λ (s : Story). Grows P (place_of s) (place_of u) old u) h (f old (ap places_in h ∙ p))
 
   pub act_lost : (P : List Placed → List Placed → Type 0) (fault : HubFault) → lapse ≡ Err fault → Growing P s0 s1

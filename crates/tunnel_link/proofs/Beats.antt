@@ -1,21 +1,20 @@
 -- An awaited answer to a heartbeat is told so.
-use Rattle.std.proofs.Common.{◌≡◌, ◌≢◌, ◌⊎◌, inl, inr, ℕ, List, [], ◌∷◌, Bool, true, false, cond, Option, Some, None, refl, sym, subst, ap, ◌∙◌}
-use Rattle.std.specs.Prelude.{not, ◌&&◌, ◌||◌, ◌==◌}
+use Rattle.std.proofs.Common.{◌≡◌, ℕ, List, Bool, true, false, cond, Some, None, refl, sym, subst, ap, ◌∙◌}
+use Rattle.std.specs.Prelude.{not, ◌&&◌, ◌==◌}
 use Rattle.knx_model.specs.declared.frames.ip.IpFrame.{IpFrame}
 use Rattle.knx_model.specs.declared.frames.ip.IpFrame.TheVariants.{ConnectRequest, ConnectResponse, StateRequest, StateResponse, DisconnectRequest, DisconnectResponse, TunnellingRequest, TunnellingAck}
 use Rattle.knx_model.specs.Connection.{has_passed}
-use Rattle.line_model.specs.declared.client_end.ChannelTook.{ChannelTook}
 use Rattle.line_model.specs.declared.client_end.ChannelTook.TheVariants as took
 use Rattle.line_model.specs.Reading.{datagram_in, state_response_in}
 use Rattle.line_model.specs.Record.{Got, Entry, entry}
 use Rattle.line_model.specs.ClientView as seen
 use Rattle.line_model.specs.ClientView.{ClientChannel, channel}
-use Rattle.line_model.specs.ChannelLost.{answer_wait, answers_beat, beats, has_lapsed}
-use Rattle.line_model.specs.Dropped.{drops, is_dropped}
+use Rattle.line_model.specs.ChannelLost.{answer_wait, has_lapsed}
+use Rattle.line_model.specs.Dropped.{is_dropped}
 use Rattle.line_model.specs.Faults as fault
-use Rattle.line_model.specs.ClientEnd.{ClientEnd, Idle, Seeking, Open, Leaving, JustLost, OpenEnd, is_over}
+use Rattle.line_model.specs.ClientEnd.{ClientEnd, Idle, Seeking, Open, Leaving, JustLost, is_over}
 use Rattle.line_model.specs.ClientFrames.{is_awaited, channel_took}
-use Rattle.tunnel_channel.specs.Fits.{HasNone, KnowsOpen}
+use Rattle.tunnel_channel.specs.Fits.{HasNone}
 use Rattle.tunnel_channel.specs.Follows.{is_told_dropped}
 use Rattle.tunnel_link.specs.Kept.{answers_heartbeat}
 use Rattle.tunnel_link.specs.Rights.{FitsNow}

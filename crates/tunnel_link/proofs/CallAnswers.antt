@@ -1,32 +1,30 @@
 -- The calls over a link, as their code makes them.
-use Rattle.std.proofs.Common.{◌≡◌, ◌≢◌, ◌⊎◌, inl, inr, ℕ, suc, ◌<◌, ◌≤◌, List, [], ◌∷◌, ◌++◌, length, Bool, true, false, Option, Some, None, Result, Ok, Err, refl, sym, subst, ap, ◌∙◌, arith}
-use Rattle.std.specs.Prelude.{◌||◌, is_some}
-use Rattle.std.specs.List.{list_any}
+use Rattle.std.proofs.Common.{◌≡◌, ℕ, List, [], ◌∷◌, Bool, true, false, Option, Some, None, Result, Ok, Err, refl, sym, subst, ap, ◌∙◌}
+use Rattle.std.specs.Prelude.{is_some}
 use Rattle.line_model.specs.declared.fault.HubFault.{HubFault}
 use Rattle.line_model.specs.Reading.{datagram_in, disconnect_request_in}
-use Rattle.line_model.specs.Record.{Put, Entry, entry, is_poll, Placed, entries}
+use Rattle.line_model.specs.Record.{Put, entry, Placed, entries}
 use Rattle.line_model.specs.LinkStory.{Story, places_in, newest_time, IsTime}
-use Rattle.line_model.specs.ClientView.{channel, Puts, Nothing, deed}
-use Rattle.line_model.specs.Closing.{is_open, asks_to_end}
+use Rattle.line_model.specs.ClientView.{channel, Puts, Nothing}
+use Rattle.line_model.specs.Closing.{is_open}
 use Rattle.line_model.specs.ClientEnd.{IsCemi, MayConnect, channel_put, channel_expired, channel_left}
-use Rattle.line_model.specs.Renews.{is_left}
 use Rattle.tunnel_channel.specs.Follows.{sent_by}
 use Rattle.tunnel_link.specs.declared.came.Loss.{Loss}
 use Rattle.tunnel_link.specs.declared.came.Loss.TheVariants.{Stays}
 use Rattle.tunnel_link.specs.declared.came.What.TheVariants as came
 use Rattle.tunnel_link.specs.declared.came.Answer.{Answer}
 use Rattle.tunnel_link.specs.declared.known.Known.{Known}
-use Rattle.tunnel_link.specs.Goes.{GoesOn, Goes, Keeps, KeepsAll}
+use Rattle.tunnel_link.specs.Goes.{Goes, KeepsAll}
 use Rattle.tunnel_link.specs.Kept.{only, with_due, with_put, with_leave, lapsed, lapse_answer}
-use Rattle.tunnel_link.specs.Rights.{IsRight, FitsRecord, IsKept, WhereTold}
+use Rattle.tunnel_link.specs.Rights.{FitsRecord, IsKept, WhereTold}
 use Rattle.tunnel_link.specs.Adds.{place_of, Grows, Growing, PutsOne, AllNothing, Leaves, LeavesSo, Seeks, SeeksSo, Dues, DuesOne, asks_end}
 use Rattle.tunnel_link.specs.Calls.{SendsSo, AnswersSo, Stands, Unsent, ConnectsSo}
 use Rattle.tunnel_link.proofs.MaySend.{Sending, not_over, not_late}
-use Rattle.tunnel_link.proofs.Steps.{AsksEnd, left_asks, asks_read, expires}
+use Rattle.tunnel_link.proofs.Steps.{left_asks, asks_read, expires}
 use Rattle.tunnel_link.proofs.DueLate.{due_late}
 use Rattle.tunnel_link.proofs.Seeks.{unsought}
-use Rattle.tunnel_link.proofs.Places.{After, where_after, unmoved, sent_grows, one_sent}
-use Rattle.tunnel_link.proofs.Stories.{sends_goes, sends_or_goes, stays}
+use Rattle.tunnel_link.proofs.Places.{where_after, unmoved, sent_grows, one_sent}
+use Rattle.tunnel_link.proofs.Stories.{sends_goes, sends_or_goes}
 use Rattle.tunnel_link.proofs.Lapses.{Gives, lapsed_none}
 use Rattle.tunnel_link.proofs.CallsKept.{time_is, due_may, due_keeps, put_may, unput_keeps, leave_may, unleft_keeps, open_is, put_adds, sends_keeps, nothing_adds}
 use Rattle.tunnel_link.proofs.SeekKept.{grows_as, SeekAdds, are_polls, seek_adds}

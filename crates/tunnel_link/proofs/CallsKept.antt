@@ -1,27 +1,24 @@
 -- What is due, a request, the end of the channel and a new endpoint over a link: what each call adds to the places, and that what is kept is kept.
-use Rattle.std.proofs.Common.{◌≡◌, ◌≢◌, ◌⊎◌, inl, inr, ℕ, suc, ◌<◌, ◌≤◌, List, [], ◌∷◌, ◌++◌, length, Bool, true, false, Option, Some, None, Result, Ok, Err, refl, sym, subst, ap, ◌∙◌, arith}
-use Rattle.std.specs.Prelude.{◌||◌, is_some}
-use Rattle.knx_model.specs.declared.frames.ip.IpFrame.TheVariants.{ConnectRequest}
-use Rattle.knx_model.specs.KnxNetIp.{Written}
+use Rattle.std.proofs.Common.{◌≡◌, inl, inr, ℕ, List, [], ◌∷◌, Some, None, Result, Ok, Err, refl, sym, subst, ap, ◌∙◌}
+use Rattle.std.specs.Prelude.{is_some}
 use Rattle.line_model.specs.declared.fault.HubFault.{HubFault}
-use Rattle.line_model.specs.Record.{Put, Renewed, Entry, entry, Placed, placed, counted, entries}
-use Rattle.line_model.specs.LinkStory.{Story, Untold, Recorded, Full, places_in, newest_time, IsTime, Sends, SendsOrNot}
+use Rattle.line_model.specs.Record.{Put, entry, Placed, placed, counted, entries}
+use Rattle.line_model.specs.LinkStory.{Story, Untold, Recorded, Full, places_in, newest_time, IsTime}
 use Rattle.line_model.specs.ClientView.{channel, Deed, Puts, Nothing, deed}
-use Rattle.line_model.specs.Asks.{HasPlace}
 use Rattle.line_model.specs.Closing.{is_open}
-use Rattle.line_model.specs.ClientEnd.{IsCemi, MayConnect, channel_put, channel_expired, channel_left}
+use Rattle.line_model.specs.ClientEnd.{IsCemi, channel_put, channel_expired, channel_left}
 use Rattle.tunnel_channel.specs.Follows.{sent_by}
 use Rattle.tunnel_link.specs.declared.known.Known.{Known}
-use Rattle.tunnel_link.specs.Goes.{GoesOn, Goes, Keeps, KeepsAll}
-use Rattle.tunnel_link.specs.Kept.{with_due, with_put, with_leave, with_connect}
-use Rattle.tunnel_link.specs.Rights.{IsRight, FitsRecord, IsKept, WhereTold, IsntRefusal}
-use Rattle.tunnel_link.specs.Adds.{place_of, Grows, Growing, PutsOne, AllNothing}
-use Rattle.tunnel_link.specs.Calls.{Fails, SendsSo}
+use Rattle.tunnel_link.specs.Goes.{Goes, Keeps, KeepsAll}
+use Rattle.tunnel_link.specs.Kept.{with_due, with_put, with_leave}
+use Rattle.tunnel_link.specs.Rights.{IsRight, FitsRecord, IsKept, WhereTold}
+use Rattle.tunnel_link.specs.Adds.{place_of, Growing, PutsOne}
+use Rattle.tunnel_link.specs.Calls.{SendsSo}
 use Rattle.tunnel_link.proofs.Clock.{newest_is_now, newest_counted}
 use Rattle.tunnel_link.proofs.MaySend.{Sending}
 use Rattle.tunnel_link.proofs.Steps.{due_sends, due_rests, put_sends, put_rests, place_puts, leave_sends, leave_rests, is_left_open}
 use Rattle.tunnel_link.proofs.Places.{some_is, sent_grows, sent_or_grows, unmoved, after_sent, after_failed}
-use Rattle.tunnel_link.proofs.Stories.{sends_goes, sends_or_goes, stays}
+use Rattle.tunnel_link.proofs.Stories.{sends_goes, sends_or_goes}
 
 -- ---- the time of a story that tells places is that of the newest
 

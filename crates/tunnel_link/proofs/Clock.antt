@@ -1,13 +1,12 @@
 -- Time goes on only where it passes, so the newest entry of a run's places has its time.
-use Rattle.std.proofs.Common.{◌≡◌, ℕ, suc, ◌+◌, ◌≤◌, List, [], ◌∷◌, length, Option, Some, None, refl, sym, ap, ◌∙◌, arith}
+use Rattle.std.proofs.Common.{◌≡◌, ℕ, ◌≤◌, List, [], ◌∷◌, length, Option, Some, None, refl, sym, ap, ◌∙◌, arith}
 use Rattle.knx_model.specs.declared.frames.cemi.Ldata.{Ldata}
 use Rattle.knx_model.specs.declared.frames.ip.IpFrame.{IpFrame}
 use Rattle.line_model.specs.Network.{Sent, changed_at, once_more}
 use Rattle.std.specs.Prelude.{slice_get}
 use Rattle.line_model.specs.Gateway.{Channel, Request, next_put, gateway_took}
 use Rattle.line_model.specs.Reading.{datagram_in}
-use Rattle.line_model.specs.Record.{Item, Entry, entry, item_of, item_at, Placed, placed, placed_if, counted, entries}
-use Rattle.line_model.specs.Tunnel as tunnel
+use Rattle.line_model.specs.Record.{Item, Entry, item_of, item_at, placed, placed_if, counted, entries}
 use Rattle.line_model.specs.Tunnel.{Tunnel, TunnelEvent, Send, From, Renew, Up, UpRefused, Down, LoseUp, LoseDown, Carried, Heard, Repeat, Close, Pass, Elsewhere, with_gateway, with_up, sends_down_if, takes_frame, takes_sent, refuses, puts, puts_next, repeats, repeats_request, closes, after}
 use Rattle.line_model.specs.World.{World, Event, tunnel_event, now, step, replay}
 use Rattle.line_model.specs.Fresh.{IsFresh}

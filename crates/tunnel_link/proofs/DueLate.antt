@@ -1,5 +1,5 @@
 -- Where nothing is sent for it, nothing is late.
-use Rattle.std.proofs.Common.{◌≡◌, ℕ, List, Bool, true, false, Option, Some, None, refl, sym, subst, ap, ◌∙◌}
+use Rattle.std.proofs.Common.{◌≡◌, ℕ, List, Bool, true, false, None, refl, subst}
 use Rattle.std.specs.Prelude.{not, ◌&&◌, ◌||◌}
 use Rattle.line_model.specs.declared.client_end.ChannelExpired.{ChannelExpired}
 use Rattle.line_model.specs.declared.client_end.ChannelExpired.TheVariants as due
@@ -10,7 +10,7 @@ use Rattle.line_model.specs.ClientView.{ClientChannel, channel}
 use Rattle.line_model.specs.ChannelLost.{own, beats, is_given_up, is_dead}
 use Rattle.line_model.specs.Renews.{is_repeat_due, is_beat_due, is_late}
 use Rattle.line_model.specs.ClientEnd.{channel_expired}
-use Rattle.tunnel_channel.specs.Follows.{TellsDue, sent_by, is_told_over, is_told_lost, is_told_dead, is_told_repeat, is_told_beat}
+use Rattle.tunnel_channel.specs.Follows.{TellsDue, sent_by, is_told_over}
 use Rattle.tunnel_link.specs.declared.known.Known.{Known}
 use Rattle.tunnel_link.specs.Rights.{FitsRecord}
 use Rattle.tunnel_link.proofs.Steps.{expires, told_over}

@@ -1,5 +1,5 @@
 -- The event that ends a poll comes within its wait.
-use Rattle.std.proofs.Common.{◌≡◌, ℕ, ◌+◌, ◌≤◌, Bool, true, arith}
+use Rattle.std.proofs.Common.{◌≡◌, ℕ, ◌+◌, ◌≤◌, true, arith}
 use Rattle.line_model.specs.World.{Event, Send, From, Renew, Up, UpRefused, Down, LoseUp, LoseDown, Bus, BusTorn, BusWorn, BusAgain, DevSend, DevRepeat, DevClose, GwAgain, GwRepeat, GwClose, Cut, On, Pass}
 use Rattle.line_model.specs.Record.{Item, Put, Renewed, Got, Quiet, is_poll}
 use Rattle.line_model.specs.LinkStory.{EndsSo}

@@ -1,5 +1,5 @@
 -- A fault to which a call comes itself is one of the link, or that three tries failed.
-use Rattle.std.proofs.Common.{◌≡◌, ◌⊎◌, inl, inr, ℕ, List, [], ◌∷◌, Bool, true, false, cond, Option, Some, None, Result, Ok, Err, IfErr, refl, sym, subst, ap, ◌∙◌}
+use Rattle.std.proofs.Common.{◌≡◌, inl, inr, ℕ, List, Bool, true, false, cond, Option, Some, None, Result, Ok, Err, IfErr, refl, subst}
 use Rattle.knx_model.specs.declared.frames.cemi.Ldata.{Ldata}
 use Rattle.knx_model.specs.declared.frames.ip.IpFrame.{IpFrame}
 use Rattle.line_model.specs.declared.client_end.ChannelExpired.{ChannelExpired}
@@ -8,7 +8,7 @@ use Rattle.line_model.specs.declared.client_end.ChannelTook.{ChannelTook}
 use Rattle.line_model.specs.declared.client_end.ChannelTook.TheVariants as took
 use Rattle.line_model.specs.declared.fault.HubFault.{HubFault}
 use Rattle.line_model.specs.declared.fault.HubFault.TheVariants.{NoMemory, LinkFailed, GatewayRefused, Flooded, WrongLine}
-use Rattle.line_model.specs.Reading.{datagram_in, ldata_in, is_con}
+use Rattle.line_model.specs.Reading.{datagram_in, ldata_in}
 use Rattle.line_model.specs.Record.{Item, Put, Renewed, Got, Quiet}
 use Rattle.line_model.specs.LinkStory.{Story}
 use Rattle.line_model.specs.ClientEnd.{lost, is_over, channel_expired}
@@ -18,12 +18,15 @@ use Rattle.tunnel_link.specs.declared.known.Known.{Known}
 use Rattle.tunnel_link.specs.declared.tries.Tries.{Tries}
 use Rattle.tunnel_link.specs.declared.tries.Tries.TheVariants.{Zero, One, Two, Three}
 use Rattle.tunnel_link.specs.Calls.{SendsSo, ConnectsSo, AnswersSo, ListensSo, after_item}
-use Rattle.tunnel_link.specs.Kept.{refused, one_more, tried, left, is_unconfirmed_now, lapsed, after_expiry, with_due, with_heard, after_told, counted, with_channel_of, taken, dropped_as_unread, after_got, read_or_dropped, answers_heartbeat}
-use Rattle.tunnel_link.specs.Rights.{IsOfLink, IsOfTunnel}
+use Rattle.tunnel_link.specs.Kept.{refused, left, is_unconfirmed_now, lapsed, after_expiry, with_due, with_heard, after_told, counted, with_channel_of, taken, dropped_as_unread, read_or_dropped, answers_heartbeat}
+use Rattle.tunnel_link.specs.Rights.{IsOfLink, IsOfTries, IsOfTunnel}
 
-abbrev pub OfTunnel : Option HubFault → Type 0
-OfTunnel None = Unit {0}
-OfTunnel (Some fault) = IsOfTunnel fault
+tries_of_tunnel : (fault : HubFault) → IsOfTries (Some fault) → IsOfTunnel fault
+tries_of_tunnel (NoMemory want) h = tt
+tries_of_tunnel LinkFailed h = tt
+tries_of_tunnel (GatewayRefused three) h = tt
+tries_of_tunnel Flooded h = h
+tries_of_tunnel (WrongLine device tunnel) h = h
 
 link_of : (fault : HubFault) → IsOfLink fault → IsOfTunnel fault
 link_of (NoMemory want) h = tt
@@ -32,20 +35,20 @@ link_of (GatewayRefused three) h = tt
 link_of Flooded h = h
 link_of (WrongLine device tunnel) h = h
 
-refused_of : (t : Tries) → OfTunnel (refused t)
+refused_of : (t : Tries) → IsOfTries (refused t)
 refused_of Zero = tt
 refused_of (One a) = tt
 refused_of (Two a b) = tt
 refused_of (Three a b c) = tt
 
-either_of : (t : Bool) (a b : Known) → OfTunnel a.fault → OfTunnel b.fault → OfTunnel (cond t a b).fault
+either_of : (t : Bool) (a b : Known) → IsOfTries a.fault → IsOfTries b.fault → IsOfTries (cond t a b).fault
 either_of true a b x y = x
 either_of false a b x y = y
 
-calm_of : (k : Known) → k.fault ≡ None → OfTunnel k.fault
+calm_of : (k : Known) → k.fault ≡ None → IsOfTries k.fault
 calm_of k c = rw c tt
 
-expiry_of : (told : ChannelExpired) (k : Known) → k.fault ≡ None → OfTunnel (after_expiry told k).fault
+expiry_of : (told : ChannelExpired) (k : Known) → k.fault ≡ None → IsOfTries (after_expiry told k).fault
 expiry_of due.Nothing k c = calm_of k c
 expiry_of (due.Repeat octets) k c = calm_of k c
 expiry_of due.Lost k c = calm_of k c
@@ -53,17 +56,17 @@ expiry_of due.NoAnswer k c = refused_of _
 expiry_of (due.Beat octets) k c = calm_of k c
 expiry_of due.Dead k c = calm_of k c
 
-pub lapsed_of : (k : Known) (now : ℕ) → k.fault ≡ None → OfTunnel (lapsed k now).fault
+pub lapsed_of : (k : Known) (now : ℕ) → k.fault ≡ None → IsOfTries (lapsed k now).fault
 unfolding lapsed
 lapsed_of k now c =
     either_of (is_unconfirmed_now k now) (left (record k { channel = lost k.channel })) (cond (is_over k.channel now) (after_expiry (channel_expired k.channel now) (with_due k now)) k) (calm_of k c)
     (either_of (is_over k.channel now) (after_expiry (channel_expired k.channel now) (with_due k now)) k (expiry_of (channel_expired k.channel now) (with_due k now) c) (calm_of k c))
 
-heard_of : (o : Option Ldata) (k : Known) → k.fault ≡ None → OfTunnel (with_heard o k).fault
+heard_of : (o : Option Ldata) (k : Known) → k.fault ≡ None → IsOfTries (with_heard o k).fault
 heard_of None k c = calm_of k c
 heard_of (Some frame) k c = either_of _ (record k { flight = record k.flight { confirmed = true } }) k (calm_of k c) (calm_of k c)
 
-told_of : (now : ℕ) (told : ChannelTook) (k : Known) → k.fault ≡ None → OfTunnel (after_told now told k).fault
+told_of : (now : ℕ) (told : ChannelTook) (k : Known) → k.fault ≡ None → IsOfTries (after_told now told k).fault
 told_of now took.Dropped k c = calm_of k c
 told_of now (took.Up tunnel) k c = calm_of k c
 told_of now (took.RefusedBy status) k c = refused_of _
@@ -78,15 +81,15 @@ counted_calm : (b : Bool) (frame : IpFrame) (told : ChannelTook) (k : Known) →
 counted_calm true frame told k q c = rw q c
 counted_calm false frame told k q c = rw q c
 
-taken_of : (k : Known) (frame : IpFrame) (now : ℕ) → k.fault ≡ None → OfTunnel (taken k frame now).fault
+taken_of : (k : Known) (frame : IpFrame) (now : ℕ) → k.fault ≡ None → IsOfTries (taken k frame now).fault
 unfolding taken
 taken_of k frame now c = told_of now (channel_took k.channel frame now) (counted frame (channel_took k.channel frame now) (with_channel_of k frame now)) (counted_calm _ frame (channel_took k.channel frame now) (with_channel_of k frame now) refl c)
 
-read_of : (k : Known) (now : ℕ) (o : Option IpFrame) → k.fault ≡ None → OfTunnel (read_or_dropped k now o).fault
+read_of : (k : Known) (now : ℕ) (o : Option IpFrame) → k.fault ≡ None → IsOfTries (read_or_dropped k now o).fault
 read_of k now None c = calm_of (dropped_as_unread k) c
 read_of k now (Some frame) c = taken_of k frame now c
 
-item_of : (k : Known) (what : Item) (now : ℕ) → k.fault ≡ None → OfTunnel (after_item k what now).fault
+pub item_of : (k : Known) (what : Item) (now : ℕ) → k.fault ≡ None → IsOfTries (after_item k what now).fault
 item_of k (Put octets) now c = calm_of k c
 item_of k Renewed now c = calm_of k c
 item_of k (Got octets) now c = either_of _ (lapsed (dropped_as_unread k) now) (read_or_dropped k now (datagram_in octets)) (lapsed_of (dropped_as_unread k) now c) (read_of k now (datagram_in octets) c)
@@ -105,10 +108,10 @@ pub connects_of : {X : Type 0} (r : Result X HubFault) (k new : Known) (before a
 connects_of r k new before after (inl c) = sends_of r _ _ new c.between after c.sends
 connects_of r k new before after (inr u) = err_of r u.fault u.answer (link_of u.fault u.fails.of_link)
 
-pub answers_of : {X : Type 0} (r : Result X HubFault) (sends : Option (List ℕ)) (k new : Known) (before after : Story) → OfTunnel k.fault → AnswersSo r sends k new before after → IfErr r IsOfTunnel
+pub answers_of : {X : Type 0} (r : Result X HubFault) (sends : Option (List ℕ)) (k new : Known) (before after : Story) → IsOfTries k.fault → AnswersSo r sends k new before after → IfErr r IsOfTunnel
 answers_of (Ok x) sends k new before after h s = tt
-answers_of (Err fault) None k new before after h u = subst OfTunnel u.stands h
-answers_of (Err fault) (Some octets) k new before after h (inl s) = subst OfTunnel s.stands h
+answers_of (Err fault) None k new before after h u = tries_of_tunnel fault (subst IsOfTries u.stands h)
+answers_of (Err fault) (Some octets) k new before after h (inl s) = tries_of_tunnel fault (subst IsOfTries s.stands h)
 answers_of (Err fault) (Some octets) k new before after h (inr f) = err_of (Err fault) f.fault f.answer (link_of f.fault f.fails.of_link)
 
 pub listens_of : (r : Result Came HubFault) (wait : ℕ) (k new : Known) (before after : Story) → k.fault ≡ None → ListensSo r wait k new before after → IfErr r IsOfTunnel

@@ -1,11 +1,9 @@
 -- What happens on its own in a poll is nothing to the record, or a quiet wait.
-use Rattle.std.proofs.Common.{◌≡◌, ◌⊎◌, inl, inr, ℕ, ◌+◌, ◌<◌, List, [], Bool, true, false, Option, Some, None, refl, sym, ◌∙◌, arith}
+use Rattle.std.proofs.Common.{◌≡◌, ◌⊎◌, inl, inr, ℕ, ◌+◌, ◌<◌, List, [], true, Option, Some, None, refl, arith}
 use Rattle.std.specs.Prelude.{nat_lt}
 use Rattle.std.proofs.lemmas.Bool.Decides.{nat_tests}
 use Rattle.knx_model.specs.declared.frames.cemi.Ldata.{Ldata}
-use Rattle.line_model.specs.Record.{Item, Quiet, item_of, item_at}
-use Rattle.line_model.specs.Tunnel as tunnel
-use Rattle.line_model.specs.Tunnel.{Tunnel}
+use Rattle.line_model.specs.Record.{Quiet, item_of, item_at}
 use Rattle.line_model.specs.World.{World, Event, AtGateway, Comes, IsLost, Send, From, Renew, Up, UpRefused, Down, LoseUp, LoseDown, Bus, BusTorn, BusWorn, BusAgain, DevSend, DevRepeat, DevClose, GwAgain, GwRepeat, GwClose, Cut, On, Pass, next_frame, waiting_at, repeat_at, carried, heard, now, step}
 use Rattle.line_model.specs.LinkStory.{IsForeign}
 use Rattle.tunnel_link.proofs.Clock.{next_now}

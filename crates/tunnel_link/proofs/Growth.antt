@@ -1,18 +1,16 @@
 -- What a sending, a new endpoint and a poll add to the places of a link's story.
-use Rattle.std.proofs.Common.{◌≡◌, ◌≢◌, ◌⊎◌, inl, inr, ℕ, suc, ◌+◌, ◌<◌, ◌≤◌, List, [], ◌∷◌, ◌++◌, length, Bool, true, false, Option, Some, None, refl, sym, subst, ap, ◌∙◌, arith}
-use Rattle.std.proofs.lemmas.List.{append_assoc, map-append, length-append}
+use Rattle.std.proofs.Common.{◌≡◌, inl, inr, ℕ, suc, ◌+◌, ◌<◌, ◌≤◌, List, [], ◌∷◌, ◌++◌, length, true, Some, None, refl, sym, subst, ap, ◌∙◌, arith}
+use Rattle.std.proofs.lemmas.List.{map-append, length-append}
 use Rattle.std.specs.List.{AllByRecursion}
-use Rattle.line_model.specs.Tunnel.{Commissions}
-use Rattle.line_model.specs.World.{World, Event, Send, Renew, Down, Pass, now, step, replay}
-use Rattle.line_model.specs.Legal.{MayHappen}
+use Rattle.line_model.specs.World.{World, Event, Send, Renew, now, step, replay}
 use Rattle.line_model.specs.Fresh.{IsFresh}
-use Rattle.line_model.specs.Record.{Item, Put, Renewed, Got, Quiet, Entry, entry, is_poll, item_at, Placed, placed, placed_if, counted, entries}
+use Rattle.line_model.specs.Record.{Item, Put, Renewed, Got, Quiet, Entry, entry, is_poll, item_at, Placed, placed, counted, entries}
 use Rattle.line_model.specs.LinkStory as told
 use Rattle.line_model.specs.LinkStory.{Story, Untold, Recorded, Full, places_in, newest_time, IsTime, IsForeign, Same, More, AreWaits, last_wait, PollsRecord, PollsFull, PollsNothing, Polls}
 use Rattle.tunnel_link.specs.Goes.{Keeps}
 use Rattle.tunnel_link.specs.Adds.{place_of}
 use Rattle.tunnel_link.proofs.Ended.{ends_full}
-use Rattle.tunnel_link.proofs.Clock.{next_now, same_now, never_falls, newest_is_now, newest_counted, entries_counted}
+use Rattle.tunnel_link.proofs.Clock.{next_now, same_now, never_falls, newest_is_now, newest_counted}
 use Rattle.tunnel_link.proofs.Foreign.{Passes, passes}
 
 abbrev pub IsAbove : ℕ → List Placed → Type 0
@@ -196,7 +194,7 @@ full_polls what wait start older events fresh poll p =
       up = let h = f.up in omega arith;
     })
 
-same_places : (s : Story) (places old : List Placed) → places_in s ≡ Some places → places_in s ≡ Some old → places ≡ old
+pub same_places : (s : Story) (places old : List Placed) → places_in s ≡ Some places → places_in s ≡ Some old → places ≡ old
 same_places s places old h p = some_is places old (sym h ∙ p)
 
 pub polls_more : (what : Item) (wait clock : ℕ) (before after : Story) (old : List Placed) → is_poll what ≡ true → Keeps before → Polls what wait clock before after → IsTime clock after → places_in before ≡ Some old

@@ -1,8 +1,7 @@
 -- A request can be put exactly where the place in flight is free by the record.
-use Rattle.std.proofs.Common.{◌≡◌, ℕ, List, [], ◌∷◌, Bool, true, false, Option, Some, None, refl, sym, subst, ap, ◌∙◌, ◌↔◌}
-use Rattle.std.specs.Prelude.{not, ◌&&◌}
-use Rattle.line_model.specs.Record.{Entry, Placed, entries}
-use Rattle.line_model.specs.LinkStory.{Story, places_in, newest_time, IsTime}
+use Rattle.std.proofs.Common.{◌≡◌, ℕ, List, [], ◌∷◌, Bool, true, false, Some, refl, sym, subst, ap, ◌∙◌, ◌↔◌}
+use Rattle.line_model.specs.Record.{entries}
+use Rattle.line_model.specs.LinkStory.{Story, newest_time, IsTime}
 use Rattle.line_model.specs.ClientView as seen
 use Rattle.line_model.specs.ClientView.{ClientChannel, channel}
 use Rattle.line_model.specs.ChannelLost.{own, confirmed}
@@ -10,7 +9,7 @@ use Rattle.line_model.specs.ChannelLost as lapse
 use Rattle.line_model.specs.Sendings.{last_request}
 use Rattle.line_model.specs.Asks.{HasPlace}
 use Rattle.line_model.specs.ClientEnd.{ClientEnd, Idle, Seeking, Open, Leaving, JustLost, OpenEnd, is_over, is_free, put_refused, put_in_channel}
-use Rattle.tunnel_channel.specs.Fits.{HasNone, KnowsOpen, end_of, outstanding_of, confirmed_in}
+use Rattle.tunnel_channel.specs.Fits.{KnowsOpen, confirmed_in}
 use Rattle.tunnel_channel.proofs.Times.{same_free}
 use Rattle.tunnel_link.specs.declared.known.Known.{Known}
 use Rattle.tunnel_link.specs.Goes.{KeepsAll}

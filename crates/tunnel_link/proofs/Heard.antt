@@ -1,28 +1,24 @@
 -- What a datagram that was got in time makes of the channel: what it did, what it opened, how the tries go on, and that it counts.
-use Rattle.std.proofs.Common.{◌≡◌, ◌≢◌, ◌⊎◌, inl, inr, ℕ, ◌≤◌, List, [], ◌∷◌, Bool, true, false, cond, Option, Some, None, refl, sym, subst, ap, ◌∙◌, arith}
-use Rattle.std.specs.Prelude.{not, ◌&&◌, ◌||◌, ◌==◌, min, suc, ◌+◌, ◌-◌, ◌^◌}
+use Rattle.std.proofs.Common.{◌≡◌, ◌≢◌, ◌⊎◌, inl, inr, ℕ, List, [], ◌∷◌, Bool, true, false, Option, Some, None, refl, sym, subst, ap, ◌∙◌, arith}
+use Rattle.std.specs.Prelude.{◌==◌, suc}
 use Rattle.knx_model.specs.declared.address.IndAddr.{IndAddr}
 use Rattle.knx_model.specs.declared.frames.ip.IpFrame.{IpFrame}
 use Rattle.knx_model.specs.declared.frames.ip.IpFrame.TheVariants.{ConnectRequest, ConnectResponse, StateRequest, StateResponse, DisconnectRequest, DisconnectResponse, TunnellingRequest, TunnellingAck}
 use Rattle.knx_model.specs.Connection.{has_passed}
-use Rattle.line_model.specs.declared.client_end.ChannelTook.{ChannelTook}
 use Rattle.line_model.specs.declared.client_end.ChannelTook.TheVariants as took
 use Rattle.line_model.specs.declared.fault.Try.{Try}
 use Rattle.line_model.specs.declared.fault.Try.TheVariants as try
-use Rattle.line_model.specs.Reading.{datagram_in, RequestFrame, request_in, state_response_in}
-use Rattle.line_model.specs.Record.{Got, Entry, entry, got_in}
+use Rattle.line_model.specs.Reading.{datagram_in, RequestFrame, request_in}
+use Rattle.line_model.specs.Record.{Got, Entry, entry}
 use Rattle.line_model.specs.ClientView as seen
 use Rattle.line_model.specs.ClientView.{ClientChannel, channel, after_entry, answered, sought_got, Takes, Loses, Nothing, deed}
-use Rattle.line_model.specs.ChannelLost.{answer_wait, expected, delivers, answers_beat, beats, has_lapsed, is_lost}
+use Rattle.line_model.specs.ChannelLost.{answer_wait, expected, delivers, is_lost}
 use Rattle.line_model.specs.Dropped.{is_dropped, dropped}
 use Rattle.line_model.specs.Faults.{tries_after, tunnel_told, opens, is_counted, datagrams_taken}
-use Rattle.line_model.specs.Faults as fault
-use Rattle.line_model.specs.ClientEnd.{ClientEnd, Idle, Seeking, Open, Leaving, JustLost, OpenEnd, is_over}
-use Rattle.line_model.specs.ClientFrames.{seeking_took, open_took, channel_took}
-use Rattle.tunnel_channel.specs.Fits.{HasNone}
-use Rattle.tunnel_channel.specs.Follows.{Change, Opens, Refuses, Ends, Stays, change, is_told_dropped}
-use Rattle.tunnel_link.specs.declared.known.Known.{Known}
-use Rattle.tunnel_link.specs.Kept.{answers_heartbeat, counted_up}
+use Rattle.line_model.specs.ClientEnd.{ClientEnd, Idle, Seeking, Open, Leaving, JustLost, is_over}
+use Rattle.line_model.specs.ClientFrames.{seeking_took, channel_took}
+use Rattle.tunnel_channel.specs.Follows.{Opens, Refuses, Ends, Stays, change}
+use Rattle.tunnel_link.specs.Kept.{counted_up}
 use Rattle.tunnel_link.specs.Rights.{FitsNow, at_most_64_bits}
 
 -- ---- what it did

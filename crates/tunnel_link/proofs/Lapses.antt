@@ -1,16 +1,14 @@
 -- After a poll what the time has ended is given up: then what this end knows is what the record says, once the gateway is told.
-use Rattle.std.proofs.Common.{◌≡◌, ◌≢◌, ◌⊎◌, inl, inr, ℕ, ◌<◌, ◌≤◌, List, [], ◌∷◌, ◌++◌, length, reverse, Bool, true, false, Option, Some, None, refl, sym, subst, ap, ◌∙◌, arith}
+use Rattle.std.proofs.Common.{◌≡◌, ◌⊎◌, inl, inr, ℕ, ◌<◌, List, ◌∷◌, ◌++◌, length, Bool, true, false, Option, Some, None, refl, sym, subst, ap, ◌∙◌, arith}
 use Rattle.std.specs.Prelude.{◌||◌, is_some}
 use Rattle.knx_model.specs.declared.frames.ip.IpFrame.TheVariants.{DisconnectRequest}
 use Rattle.knx_model.specs.KnxNetIp.{Written}
 use Rattle.knx_model.specs.Connection.{has_passed}
-use Rattle.line_model.specs.declared.client_end.ChannelExpired.{ChannelExpired}
 use Rattle.line_model.specs.declared.client_end.ChannelExpired.TheVariants as due
-use Rattle.line_model.specs.declared.fault.HubFault.{HubFault}
 use Rattle.line_model.specs.declared.fault.Try.{Try}
 use Rattle.line_model.specs.declared.fault.Try.TheVariants as try
 use Rattle.line_model.specs.Reading.{datagram_in, disconnect_request_in}
-use Rattle.line_model.specs.Record.{Put, Entry, entry, Placed, entries}
+use Rattle.line_model.specs.Record.{Entry, Placed, entries}
 use Rattle.line_model.specs.LinkStory.{newest_time}
 use Rattle.line_model.specs.ClientView as seen
 use Rattle.line_model.specs.ClientView.{ClientChannel, channel, Nothing, deed}
@@ -18,25 +16,23 @@ use Rattle.line_model.specs.ChannelLost.{answer_wait}
 use Rattle.line_model.specs.Renews.{owed}
 use Rattle.line_model.specs.Faults.{tries}
 use Rattle.line_model.specs.Moments.{Moment}
-use Rattle.line_model.specs.Signs.{Every}
 use Rattle.line_model.specs.ClientEnd.{ClientEnd, Idle, Seeking, Open, Leaving, JustLost, OpenEnd, open_end, is_over, is_given_up, is_dead, lost, channel_expired, after_expired}
 use Rattle.tunnel_channel.proofs.Frames.{leave_read}
 use Rattle.tunnel_channel.proofs.Puts.{renews_other, put_none}
 use Rattle.tunnel_link.specs.declared.came.Answer.{Answer}
 use Rattle.tunnel_link.specs.declared.came.Loss.{Loss}
-use Rattle.tunnel_link.specs.declared.came.Loss.TheVariants.{Stays, Ended, Told}
+use Rattle.tunnel_link.specs.declared.came.Loss.TheVariants.{Stays, Told}
 use Rattle.tunnel_link.specs.declared.came.What.{What}
 use Rattle.tunnel_link.specs.declared.came.What.TheVariants as came
 use Rattle.tunnel_link.specs.declared.known.Known.{Known}
 use Rattle.tunnel_link.specs.declared.tries.Tries.{Tries}
 use Rattle.tunnel_link.specs.declared.tries.Tries.TheVariants.{Zero, One, Two, Three}
-use Rattle.tunnel_link.specs.Kept.{none_in_flight, is_late, one_more, refused, tried, only, left, lapsed, lapse_answer, after_expiry, expiry_answer}
-use Rattle.tunnel_link.specs.Rights.{IsRight, FitsNow, FitsRecord, IsKept, FitsFault, tries_of}
-use Rattle.tunnel_link.specs.Adds.{IsNothing, DoesSo, OrLoses, is_told, AllNothing, moments_on}
-use Rattle.tunnel_link.proofs.Entries.{put_tries, put_owes}
+use Rattle.tunnel_link.specs.Kept.{none_in_flight, is_late, one_more, refused, tried, only, lapsed, lapse_answer}
+use Rattle.tunnel_link.specs.Rights.{IsRight, IsKept, FitsFault, tries_of}
+use Rattle.tunnel_link.specs.Adds.{DoesSo, OrLoses, is_told, moments_on}
 use Rattle.tunnel_link.proofs.MaySend.{not_over, not_late, Sending, lost_sent}
 use Rattle.tunnel_link.proofs.Steps.{right_with}
-use Rattle.tunnel_link.proofs.Waited.{Waited, InTime, Lapsed, Unheard, HasLapsed, IsUnheard, late_or_over}
+use Rattle.tunnel_link.proofs.Waited.{Waited, InTime, Lapsed, Unheard, late_or_over}
 
 -- ---- what is known after a poll, and what is to be sent
 

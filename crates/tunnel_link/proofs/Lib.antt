@@ -2,7 +2,9 @@ pub mod Acting
 pub mod Beats
 pub mod CallAnswers
 pub mod CallsKept
+pub mod Caused
 pub mod Clock
+pub mod Deadlines
 pub mod DueLate
 pub mod Ended
 pub mod Entries
@@ -12,12 +14,16 @@ pub mod Growth
 pub mod HasPlaces
 pub mod Heard
 pub mod Lapses
+pub mod Late
 pub mod MaySend
 pub mod Places
 pub mod PollCalls
 pub mod PollEnds
 pub mod PollKept
+pub mod PollParts
 pub mod Polls
+pub mod Prompting
+pub mod Prompts
 pub mod Quiet
 pub mod Read
 pub mod Results
@@ -29,4 +35,5 @@ pub mod Takes
 pub mod TakesRows
 pub mod TakesSends
 pub mod Timeless
+pub mod Times
 pub mod Waited

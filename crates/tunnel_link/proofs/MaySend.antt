@@ -1,19 +1,17 @@
 -- A datagram that may be sent, and what is known once it is.
-use Rattle.std.proofs.Common.{◌≡◌, ◌≢◌, ◌⊎◌, inl, inr, ℕ, ◌<◌, ◌≤◌, List, [], ◌∷◌, length, Bool, true, false, Option, Some, None, refl, sym, subst, ap, ◌∙◌, arith}
+use Rattle.std.proofs.Common.{◌≡◌, inl, inr, ℕ, ◌<◌, List, ◌∷◌, length, Bool, true, false, Some, None, refl, sym, subst, ap, ◌∙◌}
 use Rattle.std.specs.Prelude.{◌||◌}
-use Rattle.knx_model.specs.Connection.{has_passed}
 use Rattle.line_model.specs.declared.fault.HubFault.{HubFault}
-use Rattle.line_model.specs.declared.fault.Try.{Try}
 use Rattle.line_model.specs.Record.{Put, Entry, entry}
 use Rattle.line_model.specs.LinkStory.{newest_time}
 use Rattle.line_model.specs.ClientView as seen
 use Rattle.line_model.specs.ClientView.{ClientChannel, channel, Deed, Nothing, deed}
-use Rattle.line_model.specs.ChannelLost.{answer_wait, own, acknowledged, confirmed, beats, is_given_up, is_unconfirmed, is_dead, has_lapsed}
-use Rattle.line_model.specs.Renews.{RenewsSo, IsOwed, owed, has_renewed}
+use Rattle.line_model.specs.ChannelLost.{own, acknowledged, confirmed, beats, is_given_up, is_unconfirmed, is_dead, has_lapsed}
+use Rattle.line_model.specs.Renews.{RenewsSo, IsOwed, owed}
 use Rattle.line_model.specs.Sendings.{IsRightItem}
 use Rattle.line_model.specs.Faults.{tries}
 use Rattle.line_model.specs.ClientEnd.{ClientEnd, Idle, Seeking, Open, Leaving, JustLost, OpenEnd, is_over}
-use Rattle.tunnel_channel.specs.Fits.{FitsChannel, Fits, HasNone, Knows, KnowsOpen, IsBehind, end_of, acknowledged_in, confirmed_in}
+use Rattle.tunnel_channel.specs.Fits.{FitsChannel, Fits, Knows, KnowsOpen, end_of, acknowledged_in, confirmed_in}
 use Rattle.tunnel_channel.specs.Follows.{IsCurrent, is_confirmation_late}
 use Rattle.tunnel_channel.proofs.Current.{sendings_stay_current}
 use Rattle.tunnel_channel.proofs.Puts.{opened_put, lost_put}

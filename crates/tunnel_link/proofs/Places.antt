@@ -1,19 +1,19 @@
 -- What was added to the places of a story, and what is known where these are told.
-use Rattle.std.proofs.Common.{◌≡◌, ◌⊎◌, inl, inr, ℕ, suc, ◌<◌, ◌≤◌, List, [], ◌∷◌, ◌++◌, length, Bool, true, false, Option, Some, None, Result, Ok, Err, refl, sym, subst, ap, ◌∙◌, arith}
+use Rattle.std.proofs.Common.{◌≡◌, inl, inr, ℕ, List, [], ◌∷◌, ◌++◌, Some, None, refl, sym, subst, ap, ◌∙◌, arith}
 use Rattle.line_model.specs.declared.fault.HubFault.{HubFault}
-use Rattle.line_model.specs.Record.{Item, Put, Renewed, Entry, entry, Placed, placed, counted, entries}
+use Rattle.line_model.specs.Record.{Put, entry, Placed, placed, counted, entries}
 use Rattle.line_model.specs.LinkStory.{Story, Untold, Recorded, Full, places_in, newest_time, Sends, SendsOrNot}
-use Rattle.line_model.specs.ClientView.{channel, Deed, deed}
+use Rattle.line_model.specs.ClientView.{Deed}
 use Rattle.line_model.specs.Moments.{Moment, moments}
 use Rattle.line_model.specs.Asks.{moment_of}
 use Rattle.tunnel_link.specs.declared.known.Known.{Known}
-use Rattle.tunnel_link.specs.Goes.{GoesOn, Goes, Keeps, KeepsAll}
-use Rattle.tunnel_link.specs.Rights.{IsRight, IsKept, WhereTold, KeepsRecord, IsntRefusal}
-use Rattle.tunnel_link.specs.Adds.{place_of, Added, Grows, Growing, moments_on}
-use Rattle.tunnel_link.specs.Calls.{Fails, SendsSo}
+use Rattle.tunnel_link.specs.Goes.{GoesOn, Keeps, KeepsAll}
+use Rattle.tunnel_link.specs.Rights.{IsKept, WhereTold}
+use Rattle.tunnel_link.specs.Adds.{place_of, Added, Grows, moments_on}
+use Rattle.tunnel_link.specs.Calls.{Fails}
 use Rattle.tunnel_link.proofs.Growth.{IsAbove, IsUpto, entries_append, OneMore, sends_it, adds_more}
 use Rattle.tunnel_link.proofs.MaySend.{Sending, sent_right, sent_kept, failed_kept}
-use Rattle.tunnel_link.proofs.Stories.{sends_goes, sends_or_goes, stays}
+use Rattle.tunnel_link.proofs.Stories.{sends_goes, stays}
 
 -- ---- moments
 

@@ -1,15 +1,12 @@
 -- A poll over a link: what it adds to the places, and that what is kept of the record is kept.
-use Rattle.std.proofs.Common.{◌≡◌, ◌≢◌, ◌⊎◌, inl, inr, ℕ, suc, ◌<◌, ◌≤◌, List, [], ◌∷◌, ◌++◌, length, Bool, true, false, Option, Some, None, Result, Ok, Err, IfOk, refl, sym, subst, ap, ◌∙◌, arith}
+use Rattle.std.proofs.Common.{◌≡◌, inl, inr, ℕ, ◌+◌, ◌≤◌, List, [], ◌∷◌, ◌++◌, Bool, true, false, Option, Some, None, Result, Ok, Err, IfOk, refl, sym, subst, ap, ◌∙◌, arith}
 use Rattle.std.specs.Prelude.{◌||◌}
-use Rattle.knx_model.specs.declared.frames.ip.IpFrame.{IpFrame}
 use Rattle.line_model.specs.declared.fault.HubFault.{HubFault}
-use Rattle.line_model.specs.Reading.{datagram_in}
-use Rattle.line_model.specs.Record.{Item, Put, Entry, entry, is_poll, Placed, entries}
-use Rattle.line_model.specs.LinkStory.{Story, places_in, newest_time, AreWaits, Sends, SendsOrNot}
+use Rattle.line_model.specs.Record.{Put, entry, is_poll, Placed, entries}
+use Rattle.line_model.specs.LinkStory.{Story, places_in, newest_time, AreWaits, SendsOrNot}
 use Rattle.line_model.specs.ClientView.{channel, Puts, Takes, Loses, Nothing, deed}
 use Rattle.line_model.specs.Moments.{Moment}
 use Rattle.line_model.specs.Signs.{Every}
-use Rattle.line_model.specs.ClientFrames.{HasTunnelIfUp}
 use Rattle.tunnel_link.specs.declared.came.Answer.{Answer}
 use Rattle.tunnel_link.specs.declared.came.Came.{Came}
 use Rattle.tunnel_link.specs.declared.came.Loss.{Loss}
@@ -17,18 +14,17 @@ use Rattle.tunnel_link.specs.declared.came.Loss.TheVariants as loss
 use Rattle.tunnel_link.specs.declared.came.What.{What}
 use Rattle.tunnel_link.specs.declared.came.What.TheVariants as came
 use Rattle.tunnel_link.specs.declared.known.Known.{Known}
-use Rattle.tunnel_link.specs.Goes.{GoesOn, Goes, Keeps, KeepsAll}
-use Rattle.tunnel_link.specs.Rights.{IsRight, FitsRecord, IsKept, KeepsRecord}
-use Rattle.tunnel_link.specs.Adds.{place_of, Added, Grows, Growing, IsNothing, PutsNone, One, AllNothing, DoesSo, OrLoses, Brings, PollAdds, moments_on, asks_end, is_told}
-use Rattle.tunnel_link.specs.Calls.{Fails, Polled, AnswersSo, Listening, Unpolled, ListensSo, is_there, after_item, item_answer}
-use Rattle.tunnel_link.proofs.Growth.{IsAbove, IsUpto, upto_more, quiet_places, Polling, polls_more, Failing, fails_more, OneMore, sends_it, adds_more}
-use Rattle.tunnel_link.proofs.MaySend.{Sending, sent_right, sent_kept, failed_kept}
-use Rattle.tunnel_link.proofs.Places.{added_of, After, where_after, one_sent}
-use Rattle.tunnel_link.proofs.Stories.{goes_then, stays, sends_goes, sends_or_goes, polls_goes, nothing_goes}
+use Rattle.tunnel_link.specs.Goes.{Goes, Keeps, KeepsAll}
+use Rattle.tunnel_link.specs.Rights.{IsRight, IsKept}
+use Rattle.tunnel_link.specs.Adds.{place_of, Grows, Growing, IsNothing, PutsNone, One, DoesSo, OrLoses, PollAdds, moments_on, is_told}
+use Rattle.tunnel_link.specs.Calls.{AnswersSo, is_there}
+use Rattle.tunnel_link.proofs.Growth.{IsAbove, IsUpto, upto_more, quiet_places, sends_it, adds_more}
+use Rattle.tunnel_link.proofs.MaySend.{sent_right, sent_kept, failed_kept}
+use Rattle.tunnel_link.proofs.Places.{added_of, After, one_sent}
 use Rattle.tunnel_link.proofs.Waited.{Waited, InTime, Lapsed, Unheard, IsLoss}
-use Rattle.tunnel_link.proofs.Lapses.{Outcome, asks_to_leave, Answers}
-use Rattle.tunnel_link.proofs.Polls.{newest_last, waits_all, waits_right}
-use Rattle.tunnel_link.proofs.PollEnds.{Comes, comes}
+use Rattle.tunnel_link.proofs.Lapses.{Outcome, asks_to_leave}
+use Rattle.tunnel_link.proofs.PollEnds.{Comes}
+use Rattle.tunnel_link.proofs.PollParts.{Polls, PollsAndSends, IsPolling}
 
 -- ---- nothing is put
 
@@ -129,15 +125,17 @@ pub record PollCall (result : Result Came HubFault) (k new : Known) (before afte
   pub adds : KeepsAll k before → k.fault ≡ None → Growing (PollAdds result) before after
 
 -- of old places
-pub record PollOf (result : Result Came HubFault) (new : Known) (before after : Story) (old : List Placed) : Type 0 where
+pub record PollOf (result : Result Came HubFault) (wait : ℕ) (new : Known) (before after : Story) (old : List Placed) : Type 0 where
   pub is : After (λ places. IsKept new (entries places)) after
   pub grows : Grows (PollAdds result) (place_of before) (place_of after) old after
+  pub polling : IsPolling wait old grows.added
 
-module _ (result : Result Came HubFault) (new : Known) (before between after : Story) (old ws : List Placed) (legal : Keeps between) (next : Known) (a : Answer) (p : Placed) (poll : is_poll p.what.what ≡ true)
-    (times : AreWaits (newest_time (entries old)) (entries ws)) (c : Comes next a old ws p) (told : places_in between ≡ Some (p ∷ (ws ++ old))) (above : IsAbove (place_of before) (p ∷ ws)) (upto : IsUpto (place_of between) (p ∷ ws)) (up : place_of before ≤ place_of between) where
+module _ (result : Result Came HubFault) (wait : ℕ) (new : Known) (before between after : Story) (old ws : List Placed) (legal : Keeps between) (next : Known) (a : Answer) (p : Placed) (poll : is_poll p.what.what ≡ true)
+    (times : AreWaits (newest_time (entries old)) (entries ws)) (in_time : newest_time (entries (ws ++ old)) ≤ newest_time (entries old) + wait) (c : Comes next a old ws p) (told : places_in between ≡ Some (p ∷ (ws ++ old))) (above : IsAbove (place_of before) (p ∷ ws)) (upto : IsUpto (place_of between) (p ∷ ws)) (up : place_of before ≤ place_of between) where
   pub by_answer : (sends : Option (List ℕ)) → Outcome next sends (entries ((p ∷ ws) ++ old)) → asks_to_leave sends ≡ is_told a.loss → IfOk result (λ (x : Came). x ≡ record { what = a.what; loss = a.loss; sent = is_there sends }) → AnswersSo result sends next new between after
-      → PollOf result new before after old
+      → PollOf result wait new before after old
   by_answer None kept tells gives u = record {
+    polling = record { rest = p ∷ []; waits = ws; parts = refl; once = Polls p; times = times; in_time = in_time };
     is = record { new = p ∷ (ws ++ old); told = ap places_in u.story ∙ told; is = rw u.known kept };
     grows = record {
       new = p ∷ (ws ++ old);
@@ -149,6 +147,7 @@ module _ (result : Result Came HubFault) (new : Known) (before between after : S
   }
   by_answer (Some octets) may tells gives (inl s) =
       let m = adds_more (Put octets) _ (sends_it octets) between after (p ∷ (ws ++ old)) legal s.story told in record {
+        polling = record { rest = one_sent octets (place_of after) (p ∷ (ws ++ old)) ∷ p ∷ []; waits = ws; parts = refl; once = PollsAndSends (one_sent octets (place_of after) (p ∷ (ws ++ old))) p refl; times = times; in_time = in_time };
         is = record { new = one_sent octets (place_of after) (p ∷ (ws ++ old)) ∷ p ∷ (ws ++ old); told = m.told; is = rw s.known (sent_kept next octets Nothing (entries ((p ∷ ws) ++ old)) may) };
         grows = record {
           new = one_sent octets (place_of after) (p ∷ (ws ++ old)) ∷ p ∷ (ws ++ old);
@@ -167,9 +166,10 @@ module _ (result : Result Came HubFault) (new : Known) (before between after : S
       err_gives (Ok y) sent h = absurd (cc)
       err_gives (Err e) sent h = tt
 
-      failed : SendsOrNot octets between after → PollOf result new before after old
+      failed : SendsOrNot octets between after → PollOf result wait new before after old
       failed (inl s) =
           let m = adds_more (Put octets) _ (sends_it octets) between after (p ∷ (ws ++ old)) legal s told in record {
+            polling = record { rest = one_sent octets (place_of after) (p ∷ (ws ++ old)) ∷ p ∷ []; waits = ws; parts = refl; once = PollsAndSends (one_sent octets (place_of after) (p ∷ (ws ++ old))) p refl; times = times; in_time = in_time };
             is = record { new = one_sent octets (place_of after) (p ∷ (ws ++ old)) ∷ p ∷ (ws ++ old); told = m.told; is = rw f.fails.known (failed_kept next _ f.fault f.fails.by_link (sent_right next octets Nothing (entries ((p ∷ ws) ++ old)) may)) };
             grows = record {
               new = one_sent octets (place_of after) (p ∷ (ws ++ old)) ∷ p ∷ (ws ++ old);
@@ -180,6 +180,7 @@ module _ (result : Result Came HubFault) (new : Known) (before between after : S
             };
           }
       failed (inr e) = record {
+        polling = record { rest = p ∷ []; waits = ws; parts = refl; once = Polls p; times = times; in_time = in_time };
         is = record { new = p ∷ (ws ++ old); told = ap places_in e ∙ told; is = bad may.right };
         grows = record {
           new = p ∷ (ws ++ old);

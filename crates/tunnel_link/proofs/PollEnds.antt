@@ -1,6 +1,5 @@
 -- What this end knows and answers after a poll, by its last entry.
-use Rattle.std.proofs.Common.{◌≡◌, ◌≢◌, ◌⊎◌, inl, inr, ℕ, ◌<◌, ◌≤◌, List, [], ◌∷◌, ◌++◌, length, Bool, true, false, Option, Some, None, refl, sym, subst, ap, ◌∙◌, arith}
-use Rattle.std.specs.Prelude.{not, ◌&&◌, ◌||◌}
+use Rattle.std.proofs.Common.{◌≡◌, inl, inr, ℕ, ◌≤◌, List, ◌∷◌, ◌++◌, Bool, true, false, Option, Some, None, refl, sym, subst, ap, ◌∙◌}
 use Rattle.knx_model.specs.declared.frames.ip.IpFrame.{IpFrame}
 use Rattle.line_model.specs.declared.client_end.ChannelTook.{ChannelTook}
 use Rattle.line_model.specs.declared.client_end.ChannelTook.TheVariants as took
@@ -20,9 +19,9 @@ use Rattle.tunnel_link.specs.declared.came.Answer.{Answer}
 use Rattle.tunnel_link.specs.declared.came.What.TheVariants as came
 use Rattle.tunnel_link.specs.declared.known.Known.{Known}
 use Rattle.tunnel_link.specs.Calls.{after_item, item_answer}
-use Rattle.tunnel_link.specs.Kept.{only, is_late, is_over_for, lapsed, lapse_answer, dropped_as_unread, after_got, got_answer, read_or_dropped, read_answer, taken, take_answer, counted, counts, with_channel_of, answers_heartbeat, after_told, told_answer}
-use Rattle.tunnel_link.specs.Rights.{IsRight, FitsNow, FitsRecord, at_most_64_bits}
-use Rattle.tunnel_link.specs.Adds.{GotSo, AllNothing, moments_on}
+use Rattle.tunnel_link.specs.Kept.{only, is_late, is_over_for, lapsed, lapse_answer, dropped_as_unread, after_got, got_answer, read_or_dropped, read_answer, taken, take_answer, counted, with_channel_of, answers_heartbeat, after_told, told_answer}
+use Rattle.tunnel_link.specs.Rights.{IsRight, FitsNow, FitsRecord}
+use Rattle.tunnel_link.specs.Adds.{GotSo, moments_on}
 use Rattle.tunnel_link.proofs.Entries.{poll_right}
 use Rattle.tunnel_link.proofs.MaySend.{fits_of}
 use Rattle.tunnel_link.proofs.Waited.{Waited, InTime, Lapsed, Unheard, waited_more, or_neither, late_is, open_timely, over_for_later}

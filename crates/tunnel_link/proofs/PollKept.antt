@@ -1,26 +1,26 @@
 -- A poll over a link keeps what is kept of the record, and adds what it says.
-use Rattle.std.proofs.Common.{◌≡◌, ◌≢◌, ◌⊎◌, inl, inr, ℕ, suc, ◌<◌, ◌≤◌, List, [], ◌∷◌, ◌++◌, length, Bool, true, false, Option, Some, None, Result, Ok, Err, IfOk, refl, sym, subst, ap, ◌∙◌, arith}
+use Rattle.std.proofs.Common.{◌≡◌, inl, inr, ℕ, ◌≤◌, List, [], ◌∷◌, ◌++◌, Option, Some, None, Result, refl, sym, subst, ap, ◌∙◌, arith}
 use Rattle.knx_model.specs.declared.frames.ip.IpFrame.{IpFrame}
 use Rattle.line_model.specs.declared.fault.HubFault.{HubFault}
 use Rattle.line_model.specs.Reading.{datagram_in}
-use Rattle.line_model.specs.Record.{Item, Put, Entry, entry, is_poll, Placed, entries}
-use Rattle.line_model.specs.LinkStory.{Story, places_in, newest_time, AreWaits}
-use Rattle.line_model.specs.ClientView.{Nothing}
+use Rattle.line_model.specs.Record.{entry, Placed, entries}
+use Rattle.line_model.specs.LinkStory.{Story, places_in, newest_time}
 use Rattle.line_model.specs.ClientFrames.{HasTunnelIfUp}
 use Rattle.tunnel_link.specs.declared.came.Answer.{Answer}
 use Rattle.tunnel_link.specs.declared.came.Came.{Came}
 use Rattle.tunnel_link.specs.declared.known.Known.{Known}
-use Rattle.tunnel_link.specs.Goes.{GoesOn, Goes, Keeps, KeepsAll}
-use Rattle.tunnel_link.specs.Rights.{IsRight, FitsRecord, IsKept, KeepsRecord}
-use Rattle.tunnel_link.specs.Adds.{place_of, Grows, Growing, PollAdds}
-use Rattle.tunnel_link.specs.Calls.{Polled, AnswersSo, Listening, Unpolled, ListensSo, is_there, after_item, item_answer}
-use Rattle.tunnel_link.proofs.Growth.{IsAbove, IsUpto, upto_more, Polling, polls_more, Failing, fails_more}
-use Rattle.tunnel_link.proofs.MaySend.{Sending, failed_kept}
-use Rattle.tunnel_link.proofs.Places.{added_of, After, where_after}
+use Rattle.tunnel_link.specs.Goes.{Goes, Keeps, KeepsAll}
+use Rattle.tunnel_link.specs.Rights.{IsRight, IsKept}
+use Rattle.tunnel_link.specs.Adds.{place_of, Growing, PollAdds}
+use Rattle.tunnel_link.specs.Calls.{Polled, AnswersSo, Listening, Unpolled, ListensSo, after_item, item_answer}
+use Rattle.tunnel_link.proofs.Growth.{Polling, polls_more, Failing, fails_more}
+use Rattle.tunnel_link.proofs.MaySend.{failed_kept}
+use Rattle.tunnel_link.proofs.Places.{added_of, where_after}
 use Rattle.tunnel_link.proofs.Stories.{goes_then, stays, sends_goes, sends_or_goes, polls_goes, nothing_goes}
 use Rattle.tunnel_link.proofs.Polls.{newest_last, waits_all, waits_right}
 use Rattle.tunnel_link.proofs.PollEnds.{Comes, comes}
 use Rattle.tunnel_link.proofs.PollCalls.{PollOf, by_answer, waited_puts}
+use Rattle.tunnel_link.proofs.PollParts.{NoPoll}
 
 -- every datagram that is a connect response has a tunnel's address where it is one
 abbrev pub HasTunnels : Type 0
@@ -33,15 +33,15 @@ answers_go result (Some octets) k new before after (inr f) = sends_or_goes octet
 
 pub listens_go : (result : Result Came HubFault) (wait : ℕ) (k new : Known) (before after : Story) → ListensSo result wait k new before after → Goes before after
 listens_go result wait k new before after (inl l) =
-    goes_then before l.between after (polls_goes l.polled.what wait l.polled.now before l.between l.polled.polls) (answers_go result l.answer.sends l.known new l.between after l.answers)
+    goes_then before l.between after (polls_goes l.polled.what wait l.polled.now before l.between l.polled.poll l.polled.polls) (answers_go result l.answer.sends l.known new l.between after l.answers)
 listens_go result wait k new before after (inr u) = nothing_goes wait before after u.nothing
 
 module _ (result : Result Came HubFault) (wait : ℕ) (k new : Known) (before after : Story) (tunnels : HasTunnels) (all : KeepsAll k before) (calm : k.fault ≡ None) where
-  listening : (l : Listening result wait k new before after) (old : List Placed) → places_in before ≡ Some old → PollOf result new before after old
+  listening : (l : Listening result wait k new before after) (old : List Placed) → places_in before ≡ Some old → PollOf result wait new before after old
   listening l old p =
       let q : Polled l.answer wait k l.known before l.between = l.polled in
       let kept : IsKept k (entries old) = all.kept old p in
-      let legal : Keeps l.between = (polls_goes q.what wait q.now before l.between q.polls).keeps all.legal in
+      let legal : Keeps l.between = (polls_goes q.what wait q.now before l.between q.poll q.polls).keeps all.legal in
       let g : Polling q.what wait q.now before l.between old = polls_more q.what wait q.now before l.between old q.poll all.legal q.polls q.time p in
       let ws : List Placed = g.waits.waits in
       let le : (newest_time (entries (g.waits.waits ++ old)) ≤ q.now) = (let h = newest_last old g.waits.waits in let e = g.waits.later in omega arith) in
@@ -51,16 +51,17 @@ module _ (result : Result Came HubFault) (wait : ℕ) (k new : Known) (before af
       = subst (λ (n : Known). Comes n l.answer old g.waits.waits (record { at = place_of l.between; what = entry q.what q.now })) (sym q.known)
       (subst (λ (a : Answer). Comes (after_item k q.what q.now) a old g.waits.waits (record { at = place_of l.between; what = entry q.what q.now })) (sym q.is) c) in
       let told : (places_in l.between ≡ Some (record { at = place_of l.between; what = entry q.what q.now } ∷ (g.waits.waits ++ old))) = subst (λ (m : List Placed). places_in l.between ≡ Some (record { at = place_of l.between; what = entry q.what q.now } ∷ m)) g.waits.all g.told in
-      by_answer result new before l.between after old g.waits.waits legal l.known l.answer (record { at = place_of l.between; what = entry q.what q.now }) q.poll g.waits.times d told (g.up, g.waits.above) (omega arith, g.waits.upto) (let h = g.up in omega arith)
+      by_answer result wait new before l.between after old g.waits.waits legal l.known l.answer (record { at = place_of l.between; what = entry q.what q.now }) q.poll g.waits.times (let e = g.in_time in omega arith) d told (g.up, g.waits.above) (omega arith, g.waits.upto) (let h = g.up in omega arith)
       l.answer.sends d.answers.so d.answers.tells l.gives l.answers
 
-  unpolled : (u : Unpolled result wait k new before after) (old : List Placed) → places_in before ≡ Some old → PollOf result new before after old
+  unpolled : (u : Unpolled result wait k new before after) (old : List Placed) → places_in before ≡ Some old → PollOf result wait new before after old
   unpolled u old p =
       let kept : IsKept k (entries old) = all.kept old p in
       let g : Failing wait before after old = fails_more wait before after old all.legal u.nothing p in
       let right : IsRight k (entries (g.waits.waits ++ old)) = waits_right k old g.waits.waits calm (kept.fits calm) g.waits.times kept.right in
       let told : (places_in after ≡ Some (g.waits.waits ++ old)) = g.told ∙ ap (λ (l : List Placed). Some l) g.waits.all in
       record {
+        polling = record { rest = []; waits = g.waits.waits; parts = refl; once = NoPoll; times = g.waits.times; in_time = let h = newest_last old g.waits.waits in let e = g.waits.later in let i = g.in_time in omega arith };
         is = record { new = g.waits.waits ++ old; told = told; is = rw u.fails.known (failed_kept k (entries (g.waits.waits ++ old)) u.fault u.fails.by_link right) };
         grows = record {
           new = g.waits.waits ++ old;
@@ -71,7 +72,7 @@ module _ (result : Result Came HubFault) (wait : ℕ) (k new : Known) (before af
         };
       }
 
-  of_places : ListensSo result wait k new before after → (old : List Placed) → places_in before ≡ Some old → PollOf result new before after old
+  pub of_places : ListensSo result wait k new before after → (old : List Placed) → places_in before ≡ Some old → PollOf result wait new before after old
   of_places (inl l) old p = listening l old p
   of_places (inr u) old p = unpolled u old p
 

@@ -1,13 +1,11 @@
 -- What this end knows after the waits of a poll and what came in it, and what it answers.
-use Rattle.std.proofs.Common.{◌≡◌, ◌≢◌, ◌⊎◌, inl, inr, ℕ, ◌<◌, ◌≤◌, List, [], ◌∷◌, ◌++◌, length, Bool, true, false, Option, Some, None, refl, sym, subst, ap, ◌∙◌, arith}
-use Rattle.std.specs.Prelude.{not, ◌&&◌, ◌||◌}
+use Rattle.std.proofs.Common.{◌≡◌, ◌⊎◌, inl, inr, ℕ, ◌≤◌, List, [], ◌∷◌, ◌++◌, Bool, true, false, Option, Some, None, refl, sym, ap, ◌∙◌, arith}
+use Rattle.std.specs.Prelude.{◌&&◌}
 use Rattle.knx_model.specs.declared.frames.ip.IpFrame.{IpFrame}
 use Rattle.knx_model.specs.declared.frames.ip.IpFrame.TheVariants.{ConnectRequest, ConnectResponse, StateRequest, StateResponse, DisconnectRequest, DisconnectResponse, TunnellingRequest, TunnellingAck}
 use Rattle.knx_model.specs.Connection.{has_passed}
-use Rattle.line_model.specs.declared.client_end.ChannelTook.{ChannelTook}
-use Rattle.line_model.specs.declared.client_end.ChannelTook.TheVariants as took
 use Rattle.line_model.specs.Reading.{datagram_in}
-use Rattle.line_model.specs.Record.{Item, Put, Renewed, Got, Quiet, Entry, entry, got_in, is_poll, is_got, Placed, entries}
+use Rattle.line_model.specs.Record.{Item, Got, Quiet, Entry, entry, got_in, Placed, entries}
 use Rattle.line_model.specs.LinkStory.{newest_time, AreWaits, last_wait}
 use Rattle.line_model.specs.ClientView as seen
 use Rattle.line_model.specs.ClientView.{ClientChannel, channel, after_entry}
@@ -18,25 +16,13 @@ use Rattle.line_model.specs.Faults.{tries, tunnel_told, opens, is_counted, datag
 use Rattle.line_model.specs.Faults as fault
 use Rattle.line_model.specs.Renews.{owed}
 use Rattle.line_model.specs.ClientEnd.{ClientEnd, Idle, Seeking, Open, Leaving, JustLost, is_over}
-use Rattle.line_model.specs.ClientFrames.{HasTunnelIfUp, channel_took, after_took}
-use Rattle.tunnel_channel.specs.Fits.{HasNone, KnowsOpen}
-use Rattle.tunnel_channel.specs.Follows.{TakesFrame}
-use Rattle.tunnel_channel.proofs.Answered.{take_follows}
-use Rattle.tunnel_link.specs.declared.came.Answer.{Answer}
-use Rattle.tunnel_link.specs.declared.came.What.TheVariants as came
+use Rattle.tunnel_channel.specs.Fits.{HasNone}
 use Rattle.tunnel_link.specs.declared.known.Known.{Known}
-use Rattle.tunnel_link.specs.Kept.{is_late, is_over_for, lapsed, lapse_answer, dropped_as_unread, after_got, got_answer, read_or_dropped, read_answer, taken, take_answer, counted, with_channel_of, answers_heartbeat}
-use Rattle.tunnel_link.specs.Rights.{IsRight, FitsNow, FitsRecord, at_most_64_bits}
-use Rattle.tunnel_link.specs.Adds.{GotSo, AllNothing}
+use Rattle.tunnel_link.specs.Kept.{is_late, is_over_for}
+use Rattle.tunnel_link.specs.Rights.{IsRight, FitsNow, FitsRecord}
 use Rattle.tunnel_link.proofs.Entries.{poll_right}
-use Rattle.tunnel_link.proofs.MaySend.{fits_of}
-use Rattle.tunnel_link.proofs.Steps.{right_with}
-use Rattle.tunnel_link.proofs.Waited.{Waited, InTime, Lapsed, Unheard, waited_more, or_neither, late_or_over, late_is, open_lapsed, open_timely}
-use Rattle.tunnel_link.proofs.Lapses.{Answers, lapse_answers, lapse_what}
-use Rattle.tunnel_link.proofs.Heard.{drops_one, drops_none, takes_one, takes_none}
-use Rattle.tunnel_link.proofs.Beats.{InTimeAt, beat_told}
-use Rattle.tunnel_link.proofs.TakesRows.{TakenSo, IsCounted, row_dropped, row_up, row_refused, row_acked, row_alive}
-use Rattle.tunnel_link.proofs.TakesSends.{row_again, row_cemi, row_ended, row_gone}
+use Rattle.tunnel_link.proofs.Waited.{Waited, InTime, Lapsed, Unheard, waited_more, late_or_over, late_is, open_lapsed}
+use Rattle.tunnel_link.proofs.Heard.{drops_none, takes_none}
 
 -- ---- the waits
 

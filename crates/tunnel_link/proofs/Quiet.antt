@@ -1,18 +1,17 @@
 -- A quiet wait, a datagram that doesn't read, and one that comes when the time has ended what it would act on: what the record says then of
 -- the channel, of what is in flight and of the tries.
-use Rattle.std.proofs.Common.{◌≡◌, ◌≢◌, ◌⊎◌, inl, inr, ℕ, ◌≤◌, List, [], ◌∷◌, Bool, true, false, Option, Some, None, refl, sym, subst, ap, ◌∙◌, arith}
-use Rattle.std.specs.Prelude.{◌&&◌, ◌||◌}
+use Rattle.std.proofs.Common.{◌≡◌, ℕ, List, ◌∷◌, Bool, true, false, None, refl}
+use Rattle.std.specs.Prelude.{◌&&◌}
 use Rattle.knx_model.specs.Connection.{has_passed}
 use Rattle.line_model.specs.declared.fault.Try.{Try}
 use Rattle.line_model.specs.declared.fault.Try.TheVariants as try
-use Rattle.line_model.specs.Reading.{datagram_in}
 use Rattle.line_model.specs.Record.{Item, Put, Renewed, Got, Quiet, Entry, entry, got_in, is_poll}
 use Rattle.line_model.specs.ClientView as seen
 use Rattle.line_model.specs.ClientView.{ClientChannel, channel, after_entry, Nothing, Loses, deed}
 use Rattle.line_model.specs.ChannelLost.{answer_wait, has_left, has_lapsed, is_lost}
-use Rattle.line_model.specs.Renews.{has_renewed, owed, owed_in}
-use Rattle.line_model.specs.Faults.{tries, tries_after}
-use Rattle.tunnel_channel.specs.Fits.{HasNone, acknowledged_in, confirmed_in}
+use Rattle.line_model.specs.Renews.{owed, owed_in}
+use Rattle.line_model.specs.Faults.{tries_after}
+use Rattle.tunnel_channel.specs.Fits.{HasNone}
 use Rattle.tunnel_link.proofs.Entries.{Still}
 
 -- ---- an entry that reads as nothing: nothing is owed after it

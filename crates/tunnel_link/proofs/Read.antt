@@ -1,5 +1,5 @@
 -- What the decoders read is what a datagram and a request's octets are, and a connect response that reads has a tunnel's address where it is one.
-use Rattle.std.proofs.Common.{◌≡◌, ◌≢◌, ℕ, ◌↔◌, Bool, true, false, eqb, arith, List, Option, Some, None, Ok, Err, refl, sym}
+use Rattle.std.proofs.Common.{◌≡◌, ◌≢◌, ℕ, ◌↔◌, true, false, eqb, arith, List, Option, Some, None, Ok, Err, refl, sym}
 use Rattle.knx_model.specs.declared.frames.cemi.Ldata.{Ldata}
 use Rattle.knx_model.specs.declared.frames.cemi.CemiRefused.{CemiRefused}
 use Rattle.knx_model.specs.declared.frames.ip.IpFrame.{IpFrame}

@@ -1,5 +1,5 @@
 -- A fault that is passed on says the same of the call that passes it on.
-use Rattle.std.proofs.Common.{◌≡◌, ◌⊎◌, inl, inr, ℕ, List, Bool, Option, Some, None, Result, Ok, Err, refl, sym, subst, ap, ◌∙◌, take}
+use Rattle.std.proofs.Common.{◌≡◌, inl, inr, ℕ, List, Option, Some, None, Result, Ok, Err, sym, subst, ap, ◌∙◌, take}
 use Rattle.line_model.specs.declared.fault.HubFault.{HubFault}
 use Rattle.line_model.specs.declared.outside.link.Polled.TheVariants as answer
 use Rattle.line_model.specs.LinkStory.{Story, Polls}
@@ -7,7 +7,7 @@ use Rattle.line_model.specs.declared.outside.link.Polled.{Polled}
 use Rattle.line_model.specs.Polled.{PollsAs, PollsSo}
 use Rattle.line_model.specs.Record.{Got}
 use Rattle.tunnel_link.specs.declared.known.Known.{Known}
-use Rattle.tunnel_link.specs.Calls.{Stands, Unsent, Sent, Failed, AnswersSo}
+use Rattle.tunnel_link.specs.Calls.{Stands, AnswersSo}
 
 module _ {X Y : Type 0} (r : Result X HubFault) (s : Result Y HubFault) (fault : HubFault) (p : r ≡ Err fault) (q : s ≡ Err fault) where
   stands_so : (k : Known) → Stands r k → Stands s k

@@ -1,19 +1,19 @@
 -- A new endpoint and its connect request over a link: what they add to the places, and that what is kept is kept.
-use Rattle.std.proofs.Common.{◌≡◌, ◌≢◌, ◌⊎◌, inl, inr, ℕ, suc, ◌<◌, ◌≤◌, List, [], ◌∷◌, ◌++◌, length, Bool, true, false, Option, Some, None, Result, Ok, Err, refl, sym, subst, ap, ◌∙◌, arith}
+use Rattle.std.proofs.Common.{◌≡◌, ◌≢◌, inl, inr, ℕ, List, [], ◌∷◌, Bool, false, Some, None, Result, Ok, Err, refl, sym, subst, ap, ◌∙◌, arith}
 use Rattle.std.specs.List.{list_any}
 use Rattle.knx_model.specs.declared.frames.ip.IpFrame.TheVariants.{ConnectRequest}
 use Rattle.knx_model.specs.KnxNetIp.{Written}
 use Rattle.line_model.specs.declared.fault.HubFault.{HubFault}
-use Rattle.line_model.specs.Record.{Put, Renewed, Entry, entry, is_poll, Placed, entries}
-use Rattle.line_model.specs.LinkStory.{Story, places_in, newest_time, IsTime, Renews, RenewsOrNot, Sends, SendsOrNot}
+use Rattle.line_model.specs.Record.{Put, Renewed, entry, is_poll, Placed, entries}
+use Rattle.line_model.specs.LinkStory.{Story, places_in, newest_time, RenewsOrNot, Sends, SendsOrNot}
 use Rattle.line_model.specs.ClientView as seen
 use Rattle.line_model.specs.ClientView.{ClientChannel, channel, Nothing, deed}
 use Rattle.line_model.specs.ClientEnd.{MayConnect}
 use Rattle.tunnel_link.specs.declared.known.Known.{Known}
-use Rattle.tunnel_link.specs.Goes.{GoesOn, Goes, Keeps, KeepsAll}
+use Rattle.tunnel_link.specs.Goes.{Goes, Keeps, KeepsAll}
 use Rattle.tunnel_link.specs.Kept.{with_connect}
-use Rattle.tunnel_link.specs.Rights.{IsRight, FitsRecord, IsKept, WhereTold}
-use Rattle.tunnel_link.specs.Adds.{place_of, Grows, Growing, AllNothing, moments_on}
+use Rattle.tunnel_link.specs.Rights.{FitsRecord, IsKept, WhereTold}
+use Rattle.tunnel_link.specs.Adds.{place_of, Grows, Growing, AllNothing}
 use Rattle.tunnel_link.specs.Calls.{SendsSo, Connecting, Unrenewed, ConnectsSo}
 use Rattle.tunnel_link.proofs.Growth.{OneMore, renews_it, sends_it, adds_more}
 use Rattle.tunnel_link.proofs.MaySend.{Sending, failed_kept}

@@ -1,5 +1,5 @@
 -- A new endpoint may be taken, and the connect request sent there.
-use Rattle.std.proofs.Common.{◌≡◌, ◌≢◌, ◌⊎◌, inl, inr, ℕ, ◌≤◌, List, [], ◌∷◌, Bool, true, false, Option, Some, None, refl, sym, subst, ap, ◌∙◌, arith}
+use Rattle.std.proofs.Common.{◌≡◌, inl, inr, ℕ, List, ◌∷◌, true, false, None, refl, sym, ◌∙◌, arith}
 use Rattle.std.proofs.lemmas.Bool.Decides.{nat_tests}
 use Rattle.knx_model.specs.declared.frames.ip.IpFrame.TheVariants.{ConnectRequest}
 use Rattle.knx_model.specs.KnxNetIp.{Written}
@@ -9,15 +9,15 @@ use Rattle.line_model.specs.LinkStory.{newest_time}
 use Rattle.line_model.specs.ClientView as seen
 use Rattle.line_model.specs.ClientView.{ClientChannel, channel, Nothing, deed}
 use Rattle.line_model.specs.ChannelLost.{answer_wait}
-use Rattle.line_model.specs.Renews.{RenewsSo, MayLeave, has_renewed, is_left, owed, owed_in}
+use Rattle.line_model.specs.Renews.{RenewsSo, has_renewed, is_left, owed, owed_in}
 use Rattle.line_model.specs.ClientEnd.{ClientEnd, Idle, Seeking, Open, Leaving, JustLost, MayConnect}
 use Rattle.tunnel_channel.specs.Fits.{FitsChannel, HasNone, acknowledged_in, confirmed_in}
-use Rattle.tunnel_channel.specs.Follows.{Connects, IsCurrent}
+use Rattle.tunnel_channel.specs.Follows.{Connects}
 use Rattle.tunnel_channel.proofs.Calls.{connect_follows}
 use Rattle.tunnel_channel.proofs.Current.{sendings_stay_current}
 use Rattle.tunnel_link.specs.declared.known.Known.{Known}
 use Rattle.tunnel_link.specs.Kept.{with_connect}
-use Rattle.tunnel_link.specs.Rights.{IsRight, FitsNow, FitsRecord, tries_of}
+use Rattle.tunnel_link.specs.Rights.{IsRight, FitsNow, FitsRecord}
 use Rattle.tunnel_link.proofs.Entries.{put_tries, put_owes, renewed_is, same_tries, renewed_right}
 use Rattle.tunnel_link.proofs.MaySend.{fits_of, Sending}
 use Rattle.tunnel_link.proofs.Steps.{right_with}

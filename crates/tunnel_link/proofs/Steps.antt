@@ -1,5 +1,5 @@
 -- What is due, a request and the end of the channel: what this end gives to be sent may be sent, and where it gives nothing it stays as it was.
-use Rattle.std.proofs.Common.{◌≡◌, ◌≢◌, ◌⊎◌, inl, inr, ℕ, ◌≤◌, List, [], ◌∷◌, Bool, true, false, Option, Some, None, refl, sym, subst, ap, ◌∙◌, arith}
+use Rattle.std.proofs.Common.{◌≡◌, ℕ, List, Bool, true, false, Some, None, refl, sym, subst, ◌∙◌, arith}
 use Rattle.std.specs.Prelude.{◌&&◌, is_some}
 use Rattle.knx_model.specs.declared.frames.ip.IpFrame.TheVariants.{DisconnectRequest}
 use Rattle.knx_model.specs.KnxNetIp.{Written}
@@ -11,12 +11,12 @@ use Rattle.line_model.specs.Record.{Put, Entry, entry}
 use Rattle.line_model.specs.LinkStory.{newest_time}
 use Rattle.line_model.specs.ClientView as seen
 use Rattle.line_model.specs.ClientView.{ClientChannel, channel, Puts, Nothing, deed}
-use Rattle.line_model.specs.ChannelLost.{answer_wait, own}
-use Rattle.line_model.specs.Renews.{RenewsSo, is_left}
+use Rattle.line_model.specs.ChannelLost.{answer_wait}
+use Rattle.line_model.specs.Renews.{is_left}
 use Rattle.line_model.specs.Asks.{HasPlace}
-use Rattle.line_model.specs.Closing.{is_open, asks_to_end}
+use Rattle.line_model.specs.Closing.{is_open}
 use Rattle.line_model.specs.ClientEnd.{ClientEnd, Idle, Seeking, Open, Leaving, JustLost, OpenEnd, IsCemi, request_of, is_free, put_octets, channel_put, after_put, channel_expired, after_expired, channel_left, after_leave}
-use Rattle.tunnel_channel.specs.Fits.{HasNone, KnowsOpen, end_of, outstanding_of}
+use Rattle.tunnel_channel.specs.Fits.{HasNone, KnowsOpen, end_of}
 use Rattle.tunnel_channel.specs.Follows.{Expires, PutsRequest, Sends, sent_by, is_told_over, is_up_or_sought}
 use Rattle.tunnel_channel.proofs.Frames.{leave_read}
 use Rattle.tunnel_channel.proofs.Puts.{renews_other, put_none}

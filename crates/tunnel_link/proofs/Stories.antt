@@ -1,12 +1,12 @@
--- Each call of a link lets its story go on, legally.
-use Rattle.std.proofs.Common.{◌≡◌, ◌⊎◌, inl, inr, ℕ, List, [], ◌∷◌, ◌++◌, Result, Ok, Err, refl, sym, subst, ap, append_assoc, ◌∙◌, take}
+-- Each call of a link lets its story go on, legally, and lets time move in polls alone.
+use Rattle.std.proofs.Common.{◌≡◌, inl, inr, ℕ, List, [], ◌∷◌, ◌++◌, Bool, true, false, refl, sym, subst, ap, append_assoc, arith}
 use Rattle.line_model.specs.Tunnel.{Commissions}
 use Rattle.line_model.specs.World.{World, Event, Send, Renew, replay}
-use Rattle.line_model.specs.Legal.{MayHappen, IsLegal}
-use Rattle.line_model.specs.Record.{Item, Put, Renewed, Got, Quiet, Entry, entry}
+use Rattle.line_model.specs.Legal.{MayHappen}
+use Rattle.line_model.specs.Record.{Item, Put, Renewed, Entry, entry, is_poll}
 use Rattle.line_model.specs.LinkStory as told
-use Rattle.line_model.specs.LinkStory.{Story, Untold, Recorded, Full, Adds, Sends, Renews, SendsOrNot, RenewsOrNot, Polls, PollsNothing, FailsFull, PollsFull, PollsRecord, Same, More, IsNewLink}
-use Rattle.tunnel_link.specs.Goes.{GoesOn, Goes, Keeps, IsLegalRun}
+use Rattle.line_model.specs.LinkStory.{Story, Untold, Recorded, Full, Adds, Sends, Renews, SendsOrNot, RenewsOrNot, Polls, PollsNothing, FailsFull, PollsFull, PollsRecord, Same, More, IsNewLink, AreWaits, last_wait}
+use Rattle.tunnel_link.specs.Goes.{GoesOn, Goes, MovesSo, TimesMove, Keeps, IsLegalRun}
 
 -- ---- one after another
 
@@ -32,6 +32,20 @@ goes_then a b c g h = record { on = goes_again a b c g.on h.on; keeps = λ k. h.
 pub stays : (a b : Story) → b ≡ a → Goes a b
 stays a b e = let P : Story → Type 0 = λ s. Goes a s in subst P (sym e) (record { on = goes_same a; keeps = λ k. k })
 
+-- ---- times
+
+stays_now : (b : Bool) (now : ℕ) → MovesSo b now now
+stays_now true now = omega arith
+stays_now false now = refl
+
+newest_waits : (ws r : List Entry) → told.newest_time (ws ++ r) ≡ last_wait (told.newest_time r) ws
+newest_waits [] r = refl
+newest_waits (x ∷ ws) r = refl
+
+waits_move : (ws r : List Entry) → AreWaits (told.newest_time r) ws → TimesMove r → TimesMove (ws ++ r)
+waits_move [] r h m = m
+waits_move (x ∷ ws) r h m = (rw (h.0, newest_waits ws r) (let up = h.1 in omega arith), waits_move ws r h.2 m)
+
 -- ---- a sending and a new endpoint
 
 legal_more : (start : World) (events : List Event) (e : Event) → MayHappen Commissions (replay start events) e → IsLegalRun start events → IsLegalRun start (e ∷ events)
@@ -41,7 +55,7 @@ adds : (what : Item) (e : Event) (before after : Story) → ((w : World) → May
 adds what e before Untold may h = let P : Story → Type 0 = λ s. Goes s Untold in subst P (sym h) (record { on = refl; keeps = λ k. tt })
 adds what e before (Recorded r) may h =
     let P : Story → Type 0 = λ s. Goes s (Recorded r) in
-    subst P (sym h.1) (record { on = (entry what (told.newest_time h.0) ∷ [], ap Recorded h.2); keeps = λ k. tt })
+    subst P (sym h.1) (record { on = (entry what (told.newest_time h.0) ∷ [], ap Recorded h.2); keeps = λ k. subst TimesMove (sym h.2) (stays_now (is_poll what) (told.newest_time h.0), k) })
 adds what e before (Full start events) may h =
     let P : Story → Type 0 = λ s. Goes s (Full start events) in
     let Q : List Event → Type 0 = λ es. IsLegalRun start es in
@@ -76,13 +90,16 @@ full_goes what wait start before after p =
     (goes_then (Full start before) (Full start p.events) (Full start (p.last ∷ p.events)) (foreign_goes start before p.events p.foreign)
     (record { on = (p.last ∷ [], refl); keeps = λ k. legal_more start p.events p.last p.legal k }))
 
-pub polls_goes : (what : Item) (wait clock : ℕ) (before after : Story) → Polls what wait clock before after → Goes before after
-polls_goes what wait clock before Untold h = let P : Story → Type 0 = λ s. Goes s Untold in subst P (sym h) (record { on = refl; keeps = λ k. tt })
-polls_goes what wait clock before (Recorded r) h =
+pub polls_goes : (what : Item) (wait clock : ℕ) (before after : Story) → is_poll what ≡ true → Polls what wait clock before after → Goes before after
+polls_goes what wait clock before Untold poll h = let P : Story → Type 0 = λ s. Goes s Untold in subst P (sym h) (record { on = refl; keeps = λ k. tt })
+polls_goes what wait clock before (Recorded r) poll h =
     let P : Story → Type 0 = λ s. Goes s (Recorded r) in
     let all : r ≡ entry what clock ∷ (h.2.waits ++ h.0) = h.2.all in
-    subst P (sym h.1) (record { on = (entry what clock ∷ h.2.waits, ap Recorded all); keeps = λ k. tt })
-polls_goes what wait clock before (Full start events) h =
+    subst P (sym h.1) (record {
+      on = (entry what clock ∷ h.2.waits, ap Recorded all);
+      keeps = λ k. subst TimesMove (sym all) (rw (poll, newest_waits h.2.waits h.0) h.2.later, waits_move h.2.waits h.0 h.2.are k);
+    })
+polls_goes what wait clock before (Full start events) poll h =
     let P : Story → Type 0 = λ s. Goes s (Full start events) in
     subst P (sym h.1) (full_goes what wait start h.0 events h.2)
 
@@ -95,7 +112,7 @@ nothing_goes wait before (Full start events) h =
 
 pub new_keeps : (s : Story) → IsNewLink s → Keeps s
 new_keeps Untold h = tt
-new_keeps (Recorded r) h = tt
+new_keeps (Recorded r) h = subst TimesMove (sym h) tt
 new_keeps (Full start events) h =
     let P : List Event → Type 0 = λ es. IsLegalRun start es in
     subst P (sym h.0) (record { fresh = h.1; legal = tt })

@@ -1,45 +1,19 @@
 -- A frame of the gateway that came in time: what is known then is what the record says, and what is sent may be sent.
-use Rattle.std.proofs.Common.{◌≡◌, ◌≢◌, ◌⊎◌, inl, inr, ℕ, ◌<◌, ◌≤◌, List, [], ◌∷◌, length, Bool, true, false, Option, Some, None, refl, sym, subst, ap, ◌∙◌, arith}
-use Rattle.std.specs.Prelude.{not, ◌||◌, ◌&&◌, is_none, option_map}
-use Rattle.knx_model.specs.declared.address.IndAddr.{IndAddr}
-use Rattle.knx_model.specs.declared.frames.cemi.Ldata.{Ldata}
+use Rattle.std.proofs.Common.{◌≡◌, ℕ, List, Bool, true, false, Option, Some, None, refl}
+use Rattle.std.specs.Prelude.{◌||◌, option_map}
 use Rattle.knx_model.specs.declared.frames.ip.IpFrame.{IpFrame}
 use Rattle.knx_model.specs.declared.frames.ip.IpFrame.TheVariants.{ConnectRequest, ConnectResponse, StateRequest, StateResponse, DisconnectRequest, DisconnectResponse, TunnellingRequest, TunnellingAck}
 use Rattle.knx_model.specs.KnxNetIp.{Written}
-use Rattle.line_model.specs.declared.client_end.ChannelTook.{ChannelTook}
-use Rattle.line_model.specs.declared.client_end.ChannelTook.TheVariants as took
-use Rattle.line_model.specs.declared.fault.Try.{Try}
-use Rattle.line_model.specs.declared.fault.Try.TheVariants as try
-use Rattle.line_model.specs.Reading.{datagram_in, ldata_in, is_con, disconnect_request_in}
-use Rattle.line_model.specs.Record.{Put, Got, Entry, entry}
-use Rattle.line_model.specs.LinkStory.{newest_time}
+use Rattle.line_model.specs.Record.{Entry}
 use Rattle.line_model.specs.ClientView as seen
 use Rattle.line_model.specs.ClientView.{ClientChannel, channel, Takes, Loses, Nothing, deed}
-use Rattle.line_model.specs.ChannelLost.{has_lapsed}
-use Rattle.line_model.specs.Dropped.{is_dropped, dropped}
-use Rattle.line_model.specs.Faults.{tries, datagrams_taken, is_counted}
-use Rattle.line_model.specs.Moments.{Moment}
-use Rattle.line_model.specs.Renews.{owed, owed_in}
-use Rattle.line_model.specs.Signs.{Every}
-use Rattle.line_model.specs.ClientEnd.{ClientEnd, Idle, Seeking, Open, Leaving, JustLost, OpenEnd, with_channel, is_over, is_given_up, is_dead, lost, after_leave, channel_left}
-use Rattle.line_model.specs.ClientFrames.{HasTunnelIfUp, acknowledged, delivered, answered, channel_given, gone, channel_took, after_took}
-use Rattle.tunnel_channel.specs.Fits.{FitsChannel, HasNone, acknowledged_in, confirmed_in}
-use Rattle.tunnel_channel.specs.Follows.{TakesFrame, Change, Opens, Refuses, Ends, Stays, change, change_told, cemi_in, is_told_dropped}
-use Rattle.tunnel_channel.proofs.Current.{polls_are_current}
-use Rattle.tunnel_link.specs.declared.came.Answer.{Answer}
-use Rattle.tunnel_link.specs.declared.came.Loss.TheVariants as loss
-use Rattle.tunnel_link.specs.declared.came.What.TheVariants as came
-use Rattle.tunnel_link.specs.declared.known.Known.{Known}
-use Rattle.tunnel_link.specs.declared.tries.Tries.TheVariants.{Zero}
-use Rattle.tunnel_link.specs.Kept.{none_in_flight, answers_heartbeat, counts, counted, counted_up, with_channel_of, with_heard, what_heard, after_told, told_answer, tried, left}
-use Rattle.tunnel_link.specs.Rights.{IsRight, FitsNow, FitsRecord, IsKept, FitsFault, tries_of, at_most_64_bits}
-use Rattle.tunnel_link.specs.Adds.{IsNothing, GotSo, DoesSo, is_told}
-use Rattle.tunnel_link.proofs.Entries.{poll_right}
-use Rattle.tunnel_link.proofs.MaySend.{Sending, open_sent_by, lost_sent}
+use Rattle.line_model.specs.Renews.{owed_in}
+use Rattle.line_model.specs.ClientEnd.{ClientEnd, Idle, Seeking, Open, Leaving, JustLost, OpenEnd, with_channel, is_over, is_given_up, is_dead, lost}
+use Rattle.line_model.specs.ClientFrames.{acknowledged, delivered, answered, channel_given, gone}
+use Rattle.tunnel_channel.specs.Follows.{Ends, change}
+use Rattle.tunnel_link.specs.Rights.{FitsNow}
 use Rattle.tunnel_link.proofs.Steps.{IsOpenAt}
-use Rattle.tunnel_link.proofs.Waited.{or_neither, over_now}
-use Rattle.tunnel_link.proofs.Lapses.{Outcome, asks_to_leave, refused_fits, more_tries, still_few, leaves_lost}
-use Rattle.tunnel_link.proofs.Heard.{GotDeed, IsLost, IsTaken, IsNone, got_deed, opens_none, opens_so, opened_tries, refused_tries, same_tries, fresh_before, drops_one, drops_none, takes_one, takes_none}
+use Rattle.tunnel_link.proofs.Waited.{or_neither}
 
 -- ---- the end after it: the time has still ended nothing
 

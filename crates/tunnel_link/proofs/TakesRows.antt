@@ -1,47 +1,38 @@
 -- Each answer of the channel to a frame that came in time: what is known then is what the record says, and what is sent may be sent.
-use Rattle.std.proofs.Common.{◌≡◌, ◌≢◌, ◌⊎◌, inl, inr, ℕ, ◌<◌, ◌≤◌, List, [], ◌∷◌, length, Bool, true, false, Option, Some, None, refl, sym, subst, ap, ◌∙◌, arith}
-use Rattle.std.specs.Prelude.{not, ◌||◌, ◌&&◌, is_none, is_some, option_map}
+use Rattle.std.proofs.Common.{◌≡◌, ◌≢◌, ◌⊎◌, inl, inr, ℕ, ◌<◌, List, [], ◌∷◌, length, Bool, true, false, Some, None, refl, sym, ap, ◌∙◌, arith}
 use Rattle.knx_model.specs.declared.address.IndAddr.{IndAddr}
-use Rattle.knx_model.specs.declared.frames.cemi.Ldata.{Ldata}
 use Rattle.knx_model.specs.declared.frames.ip.IpFrame.{IpFrame}
 use Rattle.knx_model.specs.declared.frames.ip.IpFrame.TheVariants.{DisconnectRequest}
 use Rattle.knx_model.specs.KnxNetIp.{Written}
 use Rattle.line_model.specs.declared.client_end.ChannelTook.{ChannelTook}
 use Rattle.line_model.specs.declared.client_end.ChannelTook.TheVariants as took
-use Rattle.line_model.specs.declared.fault.HubFault.{HubFault}
 use Rattle.line_model.specs.declared.fault.Try.{Try}
 use Rattle.line_model.specs.declared.fault.Try.TheVariants as try
-use Rattle.line_model.specs.Reading.{datagram_in, ldata_in, is_con, disconnect_request_in}
+use Rattle.line_model.specs.Reading.{datagram_in, disconnect_request_in}
 use Rattle.line_model.specs.Record.{Put, Got, Entry, entry}
-use Rattle.line_model.specs.LinkStory.{newest_time}
-use Rattle.line_model.specs.ClientView as seen
-use Rattle.line_model.specs.ClientView.{ClientChannel, channel, Deed, Takes, Loses, Nothing, deed}
+use Rattle.line_model.specs.ClientView.{channel, Deed, Takes, Loses, Nothing, deed}
 use Rattle.line_model.specs.Dropped.{is_dropped, dropped}
 use Rattle.line_model.specs.Faults.{tries, datagrams_taken, opens}
 use Rattle.line_model.specs.Moments.{Moment}
-use Rattle.line_model.specs.Renews.{owed, owed_in}
+use Rattle.line_model.specs.Renews.{owed}
 use Rattle.line_model.specs.Signs.{Every}
-use Rattle.line_model.specs.ClientEnd.{ClientEnd, Idle, Seeking, Open, Leaving, JustLost, is_over, after_leave, channel_left}
-use Rattle.line_model.specs.ClientFrames.{gone, channel_took, after_took}
-use Rattle.tunnel_channel.specs.Fits.{FitsChannel, HasNone, acknowledged_in, confirmed_in}
-use Rattle.tunnel_channel.specs.Follows.{TakesFrame, Change, Opens, Refuses, Ends, Stays, change, change_told, cemi_in, taken_in, answer_in, is_told_dropped, acknowledgement_in}
+use Rattle.line_model.specs.ClientEnd.{ClientEnd, Idle, Seeking, Open, Leaving, JustLost, is_over}
+use Rattle.line_model.specs.ClientFrames.{channel_took, after_took}
+use Rattle.tunnel_channel.specs.Fits.{FitsChannel, acknowledged_in, confirmed_in}
+use Rattle.tunnel_channel.specs.Follows.{TakesFrame, Opens, Ends, Stays, change, change_told, cemi_in, taken_in, answer_in, is_told_dropped, acknowledgement_in}
 use Rattle.tunnel_channel.proofs.Current.{polls_are_current}
 use Rattle.tunnel_channel.proofs.Frames.{leave_read}
 use Rattle.tunnel_link.specs.declared.came.Answer.{Answer}
-use Rattle.tunnel_link.specs.declared.came.Loss.TheVariants as loss
-use Rattle.tunnel_link.specs.declared.came.What.TheVariants as came
 use Rattle.tunnel_link.specs.declared.known.Known.{Known}
 use Rattle.tunnel_link.specs.declared.tries.Tries.TheVariants.{Zero}
-use Rattle.tunnel_link.specs.Kept.{none_in_flight, counted_up, drops, with_heard, what_heard, after_told, told_answer, tried, left}
-use Rattle.tunnel_link.specs.Rights.{IsRight, FitsNow, FitsRecord, IsKept, FitsFault, tries_of, at_most_64_bits}
+use Rattle.tunnel_link.specs.Kept.{none_in_flight, counted_up, drops, after_told, told_answer, tried}
+use Rattle.tunnel_link.specs.Rights.{IsRight, FitsNow, FitsRecord, FitsFault, tries_of, at_most_64_bits}
 use Rattle.tunnel_link.specs.Adds.{IsNothing, GotSo, DoesSo, is_told}
 use Rattle.tunnel_link.proofs.Entries.{poll_right}
-use Rattle.tunnel_link.proofs.MaySend.{Sending, Flies, open_sent_by, lost_sent}
-use Rattle.tunnel_link.proofs.Steps.{IsOpenAt, right_with}
-use Rattle.tunnel_link.proofs.Waited.{over_now}
-use Rattle.tunnel_link.proofs.Lapses.{Outcome, asks_to_leave, refused_fits, more_tries, still_few, leaves_lost}
+use Rattle.tunnel_link.proofs.MaySend.{Flies, open_sent_by}
+use Rattle.tunnel_link.proofs.Lapses.{Outcome, asks_to_leave, refused_fits, more_tries, still_few}
 use Rattle.tunnel_link.proofs.Heard.{GotDeed, IsLost, IsTaken, IsNone, got_deed, opens_none, opens_so, opened_tries, refused_tries, same_tries, fresh_before, drops_one, drops_none}
-use Rattle.tunnel_link.proofs.Takes.{NotLost, IsIn, fits_not_lost, given_in, acked_in, taken_in_time, alive_in, IsDown, gone_down, paid_by, owed_open, IsLostAt, lost_by}
+use Rattle.tunnel_link.proofs.Takes.{IsIn, fits_not_lost, given_in, acked_in, alive_in, paid_by, owed_open}
 
 -- what is known and answered, by the record with the frame
 pub record TakenSo (next : Known) (answer : Answer) (r : List Entry) (x : Entry) : Type 0 where

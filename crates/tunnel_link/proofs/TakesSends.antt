@@ -1,50 +1,29 @@
 -- The answers of the channel to a frame that came in time, and to which something is sent.
-use Rattle.std.proofs.Common.{◌≡◌, ◌≢◌, ◌⊎◌, inl, inr, ℕ, ◌<◌, ◌≤◌, List, [], ◌∷◌, length, Bool, true, false, cond, Option, Some, None, refl, sym, subst, ap, ◌∙◌, arith}
-use Rattle.std.specs.Prelude.{not, ◌||◌, ◌&&◌, is_none, is_some, option_map}
-use Rattle.knx_model.specs.declared.address.IndAddr.{IndAddr}
+use Rattle.std.proofs.Common.{◌≡◌, inl, inr, ℕ, List, [], ◌∷◌, Bool, true, false, Option, Some, None, refl, sym, ap, ◌∙◌}
 use Rattle.knx_model.specs.declared.frames.cemi.Ldata.{Ldata}
 use Rattle.knx_model.specs.declared.frames.ip.IpFrame.{IpFrame}
-use Rattle.knx_model.specs.declared.frames.ip.IpFrame.TheVariants.{DisconnectRequest}
-use Rattle.knx_model.specs.KnxNetIp.{Written}
 use Rattle.line_model.specs.declared.client_end.ChannelTook.{ChannelTook}
 use Rattle.line_model.specs.declared.client_end.ChannelTook.TheVariants as took
-use Rattle.line_model.specs.declared.fault.HubFault.{HubFault}
-use Rattle.line_model.specs.declared.fault.Try.{Try}
-use Rattle.line_model.specs.declared.fault.Try.TheVariants as try
-use Rattle.line_model.specs.Reading.{datagram_in, ldata_in, is_con, disconnect_request_in}
-use Rattle.line_model.specs.Record.{Put, Got, Entry, entry}
-use Rattle.line_model.specs.LinkStory.{newest_time}
+use Rattle.line_model.specs.Reading.{datagram_in, ldata_in, is_con}
+use Rattle.line_model.specs.Record.{Entry}
 use Rattle.line_model.specs.ClientView as seen
 use Rattle.line_model.specs.ClientView.{ClientChannel, channel, Deed, Takes, Loses, Nothing, deed}
-use Rattle.line_model.specs.Dropped.{is_dropped, dropped}
-use Rattle.line_model.specs.Faults.{tries, datagrams_taken, opens}
 use Rattle.line_model.specs.Moments.{Moment}
-use Rattle.line_model.specs.Renews.{owed, owed_in}
 use Rattle.line_model.specs.Signs.{Every}
-use Rattle.line_model.specs.ClientEnd.{ClientEnd, Idle, Seeking, Open, Leaving, JustLost, is_over, after_leave, channel_left}
-use Rattle.line_model.specs.ClientFrames.{gone, channel_took, after_took}
-use Rattle.tunnel_channel.specs.Fits.{FitsChannel, HasNone, acknowledged_in, confirmed_in}
-use Rattle.tunnel_channel.specs.Follows.{TakesFrame, Change, Opens, Refuses, Ends, Stays, change, change_told, cemi_in, taken_in, answer_in, is_told_dropped, acknowledgement_in}
-use Rattle.tunnel_channel.proofs.Current.{polls_are_current}
+use Rattle.line_model.specs.ClientEnd.{ClientEnd, Idle, Seeking, Open, Leaving, JustLost, is_over}
+use Rattle.line_model.specs.ClientFrames.{gone, after_took}
+use Rattle.tunnel_channel.specs.Fits.{FitsChannel}
+use Rattle.tunnel_channel.specs.Follows.{Ends, Stays, change_told, answer_in, acknowledgement_in}
 use Rattle.tunnel_channel.proofs.Frames.{leave_read}
-use Rattle.tunnel_link.specs.declared.came.Answer.{Answer}
-use Rattle.tunnel_link.specs.declared.came.Loss.TheVariants as loss
-use Rattle.tunnel_link.specs.declared.came.What.TheVariants as came
 use Rattle.tunnel_link.specs.declared.known.Known.{Known}
-use Rattle.tunnel_link.specs.declared.tries.Tries.TheVariants.{Zero}
-use Rattle.tunnel_link.specs.Kept.{none_in_flight, counted_up, drops, with_heard, what_heard, after_told, told_answer, tried, left}
-use Rattle.tunnel_link.specs.Rights.{IsRight, FitsNow, FitsRecord, IsKept, FitsFault, tries_of, at_most_64_bits}
-use Rattle.tunnel_link.specs.Adds.{IsNothing, GotSo, DoesSo, is_told}
-use Rattle.tunnel_link.proofs.Entries.{poll_right}
-use Rattle.tunnel_link.proofs.MaySend.{Sending, Flies, open_sent_by, lost_sent}
-use Rattle.tunnel_link.proofs.Steps.{IsOpenAt, right_with}
-use Rattle.tunnel_link.proofs.Waited.{over_now}
-use Rattle.tunnel_link.proofs.Lapses.{Outcome, asks_to_leave, refused_fits, more_tries, still_few, leaves_lost}
-use Rattle.tunnel_link.proofs.Heard.{GotDeed, IsLost, IsTaken, IsNone, got_deed, opens_none, opens_so, opened_tries, refused_tries, same_tries, fresh_before, drops_one, drops_none}
-use Rattle.tunnel_link.proofs.Takes.{NotLost, IsIn, fits_not_lost, given_in, acked_in, taken_in_time, alive_in, IsDown, gone_down, paid_by, owed_open, IsLostAt, lost_by}
-use Rattle.tunnel_link.proofs.Entries.{put_still}
+use Rattle.tunnel_link.specs.Kept.{none_in_flight, drops, told_answer, tried, left}
+use Rattle.tunnel_link.specs.Rights.{IsRight, FitsRecord, tries_of}
+use Rattle.tunnel_link.specs.Adds.{IsNothing}
+use Rattle.tunnel_link.proofs.MaySend.{Sending, Flies, lost_sent}
+use Rattle.tunnel_link.proofs.Lapses.{leaves_lost}
+use Rattle.tunnel_link.proofs.Takes.{IsDown, gone_down, IsLostAt, lost_by}
 use Rattle.tunnel_link.specs.Adds.{One}
-use Rattle.tunnel_link.proofs.TakesRows.{TakenSo, IsCounted, x, Frame, Row, changes, calm_then, right_next, calm_right, undropped, dropped_up, tries_stay, failed_stay, few_stay, unowed, end_now, fits_next, fits_acked, flies_same, did_nothing, did_lose, did_take, opens_nothing, all_nothing}
+use Rattle.tunnel_link.proofs.TakesRows.{TakenSo, IsCounted, x, Frame, Row, changes, calm_right, undropped, dropped_up, failed_stay, few_stay, unowed, fits_next, fits_acked, flies_same, did_nothing, did_lose, did_take, opens_nothing, all_nothing}
 
 module _ (k : Known) (r : List Entry) (f : FitsRecord k r) (right : IsRight k r) (calm : k.fault ≡ None) (octets : List ℕ) (frame : IpFrame) (now : ℕ) (is : datagram_in octets ≡ Some frame) (over : is_over k.channel now ≡ false) where
   -- an acknowledgement, of which nothing else is known

@@ -1,5 +1,5 @@
 -- A sending takes no time.
-use Rattle.std.proofs.Common.{◌≡◌, ℕ, List, ◌∷◌, Option, Some, None, Result, Ok, Err, inl, inr, refl, sym, subst, ◌∙◌}
+use Rattle.std.proofs.Common.{◌≡◌, ℕ, List, Option, Some, None, Result, Ok, inl, inr, sym, subst, ◌∙◌}
 use Rattle.line_model.specs.declared.fault.HubFault.{HubFault}
 use Rattle.line_model.specs.LinkStory.{Story, Untold, Recorded, Full, IsTime, Sends}
 use Rattle.line_model.specs.World.{replay, now as time_of}

@@ -1,6 +1,6 @@
 -- In a poll what this end knows stays, while waits go by: the record shows that nothing has lapsed yet, that its channel is lost by the time, or
 -- that its try failed.
-use Rattle.std.proofs.Common.{◌≡◌, ◌≢◌, ◌⊎◌, inl, inr, ℕ, ◌<◌, ◌≤◌, List, [], ◌∷◌, ◌++◌, length, Bool, true, false, Option, Some, None, refl, sym, subst, ap, ◌∙◌, arith}
+use Rattle.std.proofs.Common.{◌≡◌, ◌≢◌, ◌⊎◌, inl, inr, ℕ, ◌<◌, ◌≤◌, List, [], ◌∷◌, ◌++◌, length, Bool, true, false, Option, Some, None, refl, sym, subst, ap, ◌∙◌}
 use Rattle.std.specs.Prelude.{◌||◌}
 use Rattle.knx_model.specs.Connection.{has_passed}
 use Rattle.line_model.specs.declared.fault.Try.{Try}
@@ -10,17 +10,16 @@ use Rattle.line_model.specs.LinkStory.{newest_time}
 use Rattle.line_model.specs.ClientView as seen
 use Rattle.line_model.specs.ClientView.{ClientChannel, channel, after_entry, Nothing, Loses, deed}
 use Rattle.line_model.specs.ChannelLost.{answer_wait, confirmation_wait, own, acknowledged, confirmed, beats, is_given_up, is_unconfirmed, is_dead, has_lapsed}
-use Rattle.line_model.specs.Renews.{has_renewed, owed, owed_in}
-use Rattle.line_model.specs.Faults.{tries, tries_after}
+use Rattle.line_model.specs.Renews.{has_renewed, owed}
+use Rattle.line_model.specs.Faults.{tries}
 use Rattle.line_model.specs.Moments.{Moment}
 use Rattle.line_model.specs.ClientEnd.{ClientEnd, Idle, Seeking, Open, Leaving, JustLost, OpenEnd, open_end, is_over}
-use Rattle.tunnel_channel.specs.Fits.{FitsChannel, Fits, HasNone, Knows, KnowsOpen, end_of, acknowledged_in, confirmed_in}
-use Rattle.tunnel_channel.specs.Follows.{IsCurrent, is_confirmation_late}
+use Rattle.tunnel_channel.specs.Fits.{FitsChannel, Fits, HasNone, Knows, KnowsOpen, end_of}
+use Rattle.tunnel_channel.specs.Follows.{is_confirmation_late}
 use Rattle.tunnel_channel.proofs.Times.{passed_later, over_later}
 use Rattle.tunnel_channel.proofs.Take.{lapsed_alike}
 use Rattle.tunnel_channel.proofs.Quiet.{quiet_follows}
 use Rattle.tunnel_channel.proofs.Current.{polls_are_current}
-use Rattle.tunnel_link.specs.declared.flight.Flight.{Flight}
 use Rattle.tunnel_link.specs.declared.known.Known.{Known}
 use Rattle.tunnel_link.specs.Kept.{is_late, is_over_for}
 use Rattle.tunnel_link.specs.Rights.{FitsNow, FitsRecord, tries_of}
@@ -95,7 +94,7 @@ over_now (Leaving e) t ch before b (inl f) o = f
 over_now (Leaving e) t ch before b (inr f) o = absurd (let h = f.over in cc)
 over_now (JustLost c) t ch before b f o = absurd b
 
-none_stays : (ch : ClientChannel) (what : Item) (now : ℕ) → is_poll what ≡ true → HasNone ch → after_entry ch (entry what now) ≡ ch
+pub none_stays : (ch : ClientChannel) (what : Item) (now : ℕ) → is_poll what ≡ true → HasNone ch → after_entry ch (entry what now) ≡ ch
 unfolding after_entry
 none_stays ch (Put octets) now p n = absurd (cc)
 none_stays ch Renewed now p n = absurd (cc)

@@ -1,19 +1,19 @@
 -- What a call adds to the places of its link's story, where that tells them: which entries, and what each of them put, took or lost. The newest
--- first.
-use Rattle.std.specs.Prelude.{◌≡◌, ◌≢◌, ℕ, ◌<◌, ◌≤◌, ◌⊎◌, Bool, true, false, is_some, List, [], ◌∷◌, ◌++◌, length, Option, Some, None, Result, Ok, Err}
+-- first. And when a poll is prompt.
+use Rattle.std.specs.Prelude.{◌≡◌, ◌≢◌, ℕ, ◌<◌, ◌≤◌, ◌⊎◌, Bool, true, false, List, [], ◌∷◌, ◌++◌, length, Option, Some, None, Result, Ok, Err}
 use Rattle.std.specs.List.{AllByRecursion, list_any}
 use Rattle.knx_model.specs.declared.frames.cemi.Ldata.{Ldata}
 use Rattle.line_model.specs.declared.fault.HubFault.{HubFault}
-use Rattle.line_model.specs.Reading.{ldata_in, disconnect_request_in}
-use Rattle.line_model.specs.Record.{Item, Put, Renewed, Got, Quiet, Entry, Placed, entries, put_in, is_got, is_poll}
+use Rattle.line_model.specs.Reading.{ldata_in}
+use Rattle.line_model.specs.Record.{Quiet, Entry, Placed, entries, is_got, is_poll}
 use Rattle.line_model.specs.LinkStory.{Story, Untold, Recorded, Full, places_in, newest_time}
-use Rattle.line_model.specs.ClientView.{ClientChannel, channel, Deed, Puts, Takes, Loses, Nothing, deed}
+use Rattle.line_model.specs.ClientView.{channel, Puts, Takes, Loses, Nothing, deed}
 use Rattle.line_model.specs.Closing.{asks_to_end, is_open}
 use Rattle.line_model.specs.Dropped.{is_dropped}
 use Rattle.line_model.specs.Faults.{opens}
 use Rattle.line_model.specs.Moments.{Moment, moments}
 use Rattle.line_model.specs.Signs.{Every}
-use Rattle.line_model.specs.Renews.{is_left, is_late, is_due}
+use Rattle.line_model.specs.Renews.{is_left, is_late, PollsPromptly}
 use Rattle.line_model.specs.Asks.{HasPlace, moment_of}
 use Rattle.tunnel_link.specs.declared.acted.Acted.{Acted}
 use Rattle.tunnel_link.specs.declared.came.Came.{Came}
@@ -21,6 +21,8 @@ use Rattle.tunnel_link.specs.declared.came.Loss.{Loss}
 use Rattle.tunnel_link.specs.declared.came.Loss.TheVariants.{Stays, Ended, Told}
 use Rattle.tunnel_link.specs.declared.came.What.{What}
 use Rattle.tunnel_link.specs.declared.came.What.TheVariants as came
+use Rattle.tunnel_link.specs.declared.known.Known.{Known}
+use Rattle.tunnel_link.specs.Rights.{WhileFits}
 
 -- ---- the place of a story that tells it: how many events there were or, where the record alone is told, how many entries
 
@@ -208,3 +210,27 @@ pub record Brings (came : Came) (old added : List Placed) : Type 0 where
 abbrev pub PollAdds : Result Came HubFault → List Placed → List Placed → Type 0
 PollAdds (Ok came) old added = Brings came old added
 PollAdds (Err fault) old added = Every PutsNone (moments_on old added)
+
+-- ---- promptness: each poll that was added was prompt
+
+abbrev pub AllPrompt : List Placed → List Placed → Type 0
+AllPrompt old [] = Unit {0}
+AllPrompt old (p ∷ added) = PollsPromptly (entries (added ++ old)) p.what × AllPrompt old added
+
+-- nothing is late by the newest time
+abbrev pub HasActed : Known → Story → Type 0
+HasActed k story = WhileFits (λ r. is_late (channel r) (newest_time r) ≡ false) k story
+
+-- nor is a new endpoint to be taken
+pub record Ready (k : Known) (story : Story) : Type 0 where
+  pub acted : HasActed k story
+  pub sought : WhileFits (λ r. is_left (channel r) ≡ false) k story
+
+-- ---- a deadline: before it nothing is late
+
+abbrev pub IsBefore : ℕ → Option ℕ → Type 0
+IsBefore t None = Unit {0}
+IsBefore t (Some time) = t < time
+
+abbrev pub TimelyBefore : Option ℕ → List Entry → Type 0
+TimelyBefore deadline r = (t : ℕ) → newest_time r ≤ t → IsBefore t deadline → is_late (channel r) t ≡ false

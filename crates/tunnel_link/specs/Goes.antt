@@ -1,12 +1,12 @@
 -- How a link's story goes on, and what a client's end of a tunnel keeps of it: the start stays, the entries or the events that there were are a
--- tail, and what is added is legal.
-use Rattle.std.specs.Prelude.{◌≡◌, List, ◌++◌, Some, None, Result, Err}
+-- tail, what is added is legal, and time moves in polls alone.
+use Rattle.std.specs.Prelude.{◌≡◌, ℕ, ◌≤◌, Bool, true, false, List, [], ◌∷◌, ◌++◌, Some, None, Result, Err}
 use Rattle.line_model.specs.Tunnel.{Commissions}
 use Rattle.line_model.specs.World.{World, Event}
 use Rattle.line_model.specs.Legal.{IsLegal}
 use Rattle.line_model.specs.Fresh.{IsFresh}
-use Rattle.line_model.specs.Record.{Entry}
-use Rattle.line_model.specs.LinkStory.{Story, Untold, Recorded, Full}
+use Rattle.line_model.specs.Record.{Entry, is_poll}
+use Rattle.line_model.specs.LinkStory.{Story, Untold, Recorded, Full, newest_time}
 use Rattle.line_model.specs.ClientEnd.{Idle}
 use Rattle.line_model.specs.declared.fault.HubFault.{HubFault}
 use Rattle.tunnel_link.specs.declared.known.Known.{Known}
@@ -28,9 +28,18 @@ pub record IsLegalRun (start : World) (events : List Event) : Type 0 where
   pub fresh : IsFresh start
   pub legal : IsLegal Commissions start events
 
+-- time moves in polls alone, and never back
+abbrev pub MovesSo : Bool → ℕ → ℕ → Type 0
+MovesSo true before after = before ≤ after
+MovesSo false before after = after ≡ before
+
+abbrev pub TimesMove : List Entry → Type 0
+TimesMove [] = Unit {0}
+TimesMove (x ∷ r) = MovesSo (is_poll x.what) (newest_time r) x.now × TimesMove r
+
 abbrev pub Keeps : Story → Type 0
 Keeps Untold = Unit {0}
-Keeps (Recorded r) = Unit {0}
+Keeps (Recorded r) = TimesMove r
 Keeps (Full start events) = IsLegalRun start events
 
 -- it goes on so, and legally

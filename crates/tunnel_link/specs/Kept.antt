@@ -15,7 +15,7 @@ use Rattle.line_model.specs.declared.fault.Try.{Try}
 use Rattle.line_model.specs.declared.fault.Try.TheVariants as try
 use Rattle.line_model.specs.Reading.{datagram_in, ldata_in, is_con}
 use Rattle.line_model.specs.ChannelLost.{confirmation_wait, is_unconfirmed}
-use Rattle.line_model.specs.ClientEnd.{ClientEnd, Seeking, open_end, is_over, lost, channel_put, after_put, channel_expired, after_expired, channel_left, after_leave}
+use Rattle.line_model.specs.ClientEnd.{ClientEnd, Seeking, open_end, is_over, channel_deadline, lost, channel_put, after_put, channel_expired, after_expired, channel_left, after_leave}
 use Rattle.line_model.specs.ClientFrames.{channel_took, after_took}
 use Rattle.tunnel_link.specs.declared.came.Answer.{Answer}
 use Rattle.tunnel_link.specs.declared.came.Loss.{Loss}
@@ -134,6 +134,16 @@ expiry_answer what due.Lost end = loss_answer what end
 expiry_answer what due.NoAnswer end = only what
 expiry_answer what (due.Beat octets) end = loss_answer what end
 expiry_answer what due.Dead end = loss_answer what end
+
+-- the nearer of two times
+abbrev pub nearer : Option ℕ → Option ℕ → Option ℕ
+nearer None other = other
+nearer (Some one) None = Some one
+nearer (Some one) (Some other) = Some (min one other)
+
+-- the nearest time at which something becomes due
+abbrev pub next_due : Known → Option ℕ
+next_due k = nearer (channel_deadline k.channel) (confirmation_end k.flight.acknowledged k.flight.confirmed)
 
 -- what is given up: a channel whose request isn't confirmed in time, or what the time has ended otherwise
 abbrev pub is_unconfirmed_now : Known → ℕ → Bool

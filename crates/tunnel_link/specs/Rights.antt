@@ -2,9 +2,12 @@
 -- many datagrams were dropped and how many were got, and that three failed tries are those of the record; and until it has ended that what it
 -- knows is what the record says.
 use Rattle.std.specs.Prelude.{◌≡◌, ℕ, ◌<◌, ◌^◌, ◌-◌, min, Bool, true, false, not, ◌&&◌, is_none, List, [], ◌∷◌, length, reverse, Option, Some, None}
+use Rattle.knx_model.specs.Outside.{Rose}
 use Rattle.line_model.specs.declared.fault.HubFault.{HubFault}
 use Rattle.line_model.specs.declared.fault.HubFault.TheVariants.{NoMemory, LinkFailed, GatewayRefused, Flooded, WrongLine}
 use Rattle.line_model.specs.declared.fault.Try.{Try}
+use Rattle.line_model.specs.declared.outside.link.LinkFault.{LinkFault}
+use Rattle.line_model.specs.declared.outside.link.LinkFault.TheVariants as link
 use Rattle.line_model.specs.Record.{Entry, Placed, entries}
 use Rattle.line_model.specs.LinkStory.{Story, places_in, newest_time}
 use Rattle.line_model.specs.ClientView as seen
@@ -16,7 +19,6 @@ use Rattle.line_model.specs.Faults.{tries, datagrams_taken}
 use Rattle.line_model.specs.ClientEnd.{ClientEnd, Idle, Seeking, Open, Leaving, JustLost, is_over, put_refused}
 use Rattle.tunnel_channel.specs.Fits.{HasNone, KnowsOpen, acknowledged_in, confirmed_in}
 use Rattle.tunnel_channel.specs.Follows.{IsCurrent}
-use Rattle.tunnel_link.specs.declared.flight.Flight.{Flight}
 use Rattle.tunnel_link.specs.declared.known.Known.{Known}
 use Rattle.tunnel_link.specs.declared.tries.Tries.{Tries}
 use Rattle.tunnel_link.specs.declared.tries.Tries.TheVariants.{Zero, One, Two, Three}
@@ -65,6 +67,28 @@ IsOfTunnel LinkFailed = Unit {0}
 IsOfTunnel (GatewayRefused three) = Unit {0}
 IsOfTunnel Flooded = ⊥
 IsOfTunnel (WrongLine device tunnel) = ⊥
+
+-- no fault, or that three tries failed
+abbrev pub IsOfTries : Option HubFault → Type 0
+IsOfTries None = Unit {0}
+IsOfTries (Some (NoMemory want)) = ⊥
+IsOfTries (Some LinkFailed) = ⊥
+IsOfTries (Some (GatewayRefused three)) = Unit {0}
+IsOfTries (Some Flooded) = ⊥
+IsOfTries (Some (WrongLine device tunnel)) = ⊥
+
+-- the fault of a client whose link failed so
+abbrev pub fault_by : LinkFault → HubFault
+fault_by (link.NoMemory want) = NoMemory want
+fault_by link.Failed = LinkFailed
+
+-- that the link failed is told only where its count of faults rose
+abbrev pub FailsWhere : HubFault → ℕ → ℕ → Type 0
+FailsWhere (NoMemory want) old new = Unit {0}
+FailsWhere LinkFailed old new = Rose old new
+FailsWhere (GatewayRefused three) old new = Unit {0}
+FailsWhere Flooded old new = Unit {0}
+FailsWhere (WrongLine device tunnel) old new = Unit {0}
 
 -- the end of the channel is that of the record, which shows no loss and no failed try of which it isn't told
 abbrev pub FitsNow : ClientEnd → ClientChannel → Type 0

@@ -7,7 +7,7 @@ ghost use Rattle.line_model.specs.ClientEnd.{IsCemi, MayConnect, channel_put, ch
 ghost use Rattle.tunnel_channel.specs.Follows.{sent_by};
 ghost use Rattle.tunnel_link.specs.Goes.{new_known};
 ghost use Rattle.tunnel_link.specs.Kept.{with_connect, with_put, with_due, with_leave};
-ghost use Rattle.tunnel_link.specs.Rights.{IsntRefusal, IsOfLink, has_place};
+ghost use Rattle.tunnel_link.specs.Rights.{IsntRefusal, IsOfLink, fault_by, has_place};
 
 use crate::flight::Flight;
 use crate::tries::Tries;
@@ -108,6 +108,7 @@ impl Known {
 
     /// The link failed.
     pub fn failed(&mut self, fault: LinkFault) -> HubFault
+        ensures same { result ≡ fault_by fault }
         ensures next { self.new ≡ record self.old { fault = Some result } }
         ensures by_link { IsntRefusal result }
         ensures of_link { IsOfLink result }
@@ -128,6 +129,7 @@ impl Known {
 
 /// A fault of the link.
 fn fault_of(fault: LinkFault) -> HubFault
+    ensures same { result ≡ fault_by fault }
     ensures by_link { IsntRefusal result }
     ensures of_link { IsOfLink result }
 {

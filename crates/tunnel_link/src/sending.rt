@@ -3,6 +3,7 @@
 ghost use Rattle.std.specs.Prelude.{◌≡◌, ◌≤◌, IfErr, OnOk, Some, None};
 ghost use Rattle.line_model.specs.ClientEnd.{MayConnect};
 ghost use Rattle.tunnel_link.specs.Calls.{SendsSo, ConnectsSo, PollsSo, AnswersSo, ListensSo};
+ghost use Rattle.tunnel_link.specs.Rights.{FailsWhere, IsOfTries};
 
 use crate::came::{Answer, Came, What};
 use crate::known::Known;
@@ -19,6 +20,7 @@ pub fn sent<L: Link>(link: &mut L, known: &mut Known, datagram: &Datagram) -> Re
     ensures count { L.faults link.old ≤ L.faults link.new }
     ensures events { L.place link.old ≤ L.place link.new }
     ensures script { L.script link.new ≡ L.script link.old }
+    ensures cause { IfErr result (λ fault. FailsWhere fault (L.faults link.old) (L.faults link.new)) }
 {
     match link.send(datagram.as_slice()) {
         Ok(()) => Ok(()),
@@ -34,6 +36,7 @@ pub fn connected<L: Link>(link: &mut L, known: &mut Known) -> Result<(), HubFaul
     ensures count { L.faults link.old ≤ L.faults link.new }
     ensures events { L.place link.old ≤ L.place link.new }
     ensures script { L.script link.new ≡ L.script link.old }
+    ensures cause { IfErr result (λ fault. FailsWhere fault (L.faults link.old) (L.faults link.new)) }
 {
     if let Err(fault) = link.renew() {
         return Err(known.failed(fault));
@@ -50,6 +53,7 @@ pub fn polled<L: Link>(link: &mut L, known: &mut Known, wait_ms: u32) -> Result<
     ensures count { L.faults link.old ≤ L.faults link.new }
     ensures events { L.place link.old ≤ L.place link.new }
     ensures script { L.script link.new ≡ L.script link.old }
+    ensures cause { IfErr result (λ fault. FailsWhere fault (L.faults link.old) (L.faults link.new)) }
 {
     let mut into = [0; LONGEST];
     match link.poll(&mut into, wait_ms) {
@@ -76,6 +80,7 @@ pub fn answered<L: Link>(
     ensures count { L.faults link.old ≤ L.faults link.new }
     ensures events { L.place link.old ≤ L.place link.new }
     ensures script { L.script link.new ≡ L.script link.old }
+    ensures cause { IsOfTries known.old.fault → IfErr result (λ fault. FailsWhere fault (L.faults link.old) (L.faults link.new)) }
 {
     match sends {
         Some(datagram) => {
@@ -93,6 +98,7 @@ pub fn listened<L: Link>(link: &mut L, known: &mut Known, wait_ms: u32) -> Resul
     ensures count { L.faults link.old ≤ L.faults link.new }
     ensures events { L.place link.old ≤ L.place link.new }
     ensures script { L.script link.new ≡ L.script link.old }
+    ensures cause { known.old.fault ≡ None → IfErr result (λ fault. FailsWhere fault (L.faults link.old) (L.faults link.new)) }
 {
     let Answer { what, loss, sends } = polled(link, known, wait_ms)?;
     let sent = sends.is_some();

@@ -1,12 +1,24 @@
 //! How long a poll lasts.
 
+ghost use Rattle.std.specs.Prelude.{◌<◌, ◌≤◌, ◌+◌, IfSome};
+ghost use Rattle.knx_model.specs.Connection.{last_time};
+
 /// How long it lasts at most, in milliseconds.
 pub const LONGEST_POLL_MS: u32 = 100;
 
-/// At most so many milliseconds, and not past a deadline that isn't reached yet.
-pub fn until(deadline: Option<u64>, now: u64, longest_ms: u32) -> u32 {
-    match deadline {
-        Some(time) if now < time && time - now < u64::from(longest_ms) => (time - now) as u32,
-        _ => longest_ms,
+/// At most so many milliseconds, not past a deadline that isn't reached yet, and not past the last time that there is.
+pub fn until(deadline: Option<u64>, now: u64, longest_ms: u32) -> u32
+    ensures most { result ≤ longest_ms }
+    ensures in_time { IfSome deadline (λ time. now < time → now + result ≤ time) }
+    ensures in_range { now + result ≤ last_time }
+{
+    let left = match deadline {
+        Some(time) if now < time => time - now,
+        _ => u64::MAX - now,
+    };
+    if left < u64::from(longest_ms) {
+        left as u32
+    } else {
+        longest_ms
     }
 }

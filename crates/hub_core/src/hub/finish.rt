@@ -1,8 +1,12 @@
 //! The closing.
 
-ghost use Rattle.std.specs.Prelude.{◌≡◌, IfErr, IfOk, OnOk, Some, None};
+ghost use Rattle.std.specs.Prelude.{◌≡◌, ◌≢◌, ◌≤◌, List, IfErr, IfOk, OnOk, Some, None};
+ghost use Rattle.line_model.specs.Log.{Job, AllOver, TurnUnfinished};
 ghost use Rattle.tunnel_link.specs.Goes.{GoesOn};
+ghost use Rattle.tunnel_link.specs.Rights.{FailsWhere};
+ghost use Rattle.hub_work.specs.Books.{AreJobsOf};
 ghost use Rattle.hub_core.specs.Hears.{HearsSo, heard_at_end};
+ghost use Rattle.hub_core.specs.Keeps.{IsAllDone};
 ghost use Rattle.hub_core.specs.Seen.{SameRun, StaysEnded};
 
 use super::Hub;
@@ -12,8 +16,13 @@ use line_model::{HubFault, Indication, Link};
 impl<L: Link> Hub<L> {
     /// One step of the closing: it listens, then asks to end the channel, then waits for the answer. No job and no group telegram is unfinished.
     pub fn finish(&mut self) -> Result<Finished, HubFault>
+        requires over { (jobs : List Job) → AreJobsOf self.old.devices jobs → AllOver jobs self.old.log }
+        requires told { ¬ TurnUnfinished self.old.turns self.old.log }
         ensures grows { GoesOn (L.story self.old.link) (L.story self.new.link) }
         ensures script { L.script self.new.link ≡ L.script self.old.link }
+        ensures count { L.faults self.old.link ≤ L.faults self.new.link }
+        ensures cause { self.old.fault ≡ None → IfErr result (λ fault. FailsWhere fault (L.faults self.old.link) (L.faults self.new.link)) }
+        ensures stands { OnOk result (self.new.fault ≡ None) }
         ensures heard { IfOk result (λ done. HearsSo (heard_at_end done) (L.story self.old.link) (L.story self.new.link)) }
         ensures run { SameRun self.old self.new }
         ensures log { self.new.log ≡ self.old.log }
@@ -33,8 +42,11 @@ impl<L: Link> Hub<L> {
     /// Asks to end the channel once the listening is over, and else makes one poll.
     fn goes_on(&mut self) -> Result<Finished, HubFault>
         requires stands { self.old.fault ≡ None }
+        requires over { IsAllDone self.old.devices self.old.turns self.old.log }
         ensures grows { GoesOn (L.story self.old.link) (L.story self.new.link) }
         ensures script { L.script self.new.link ≡ L.script self.old.link }
+        ensures count { L.faults self.old.link ≤ L.faults self.new.link }
+        ensures cause { IfErr result (λ fault. FailsWhere fault (L.faults self.old.link) (L.faults self.new.link)) }
         ensures heard { IfOk result (λ done. HearsSo (heard_at_end done) (L.story self.old.link) (L.story self.new.link)) }
         ensures fault { IfErr result (λ fault. self.new.fault ≡ Some fault) }
         ensures stands { OnOk result (self.new.fault ≡ None) }
@@ -52,8 +64,11 @@ impl<L: Link> Hub<L> {
     /// Asks to end the channel.
     fn leave(&mut self) -> Result<Finished, HubFault>
         requires stands { self.old.fault ≡ None }
+        requires over { IsAllDone self.old.devices self.old.turns self.old.log }
         ensures grows { GoesOn (L.story self.old.link) (L.story self.new.link) }
         ensures script { L.script self.new.link ≡ L.script self.old.link }
+        ensures count { L.faults self.old.link ≤ L.faults self.new.link }
+        ensures cause { IfErr result (λ fault. FailsWhere fault (L.faults self.old.link) (L.faults self.new.link)) }
         ensures heard { IfOk result (λ done. HearsSo (heard_at_end done) (L.story self.old.link) (L.story self.new.link)) }
         ensures fault { IfErr result (λ fault. self.new.fault ≡ Some fault) }
         ensures stands { OnOk result (self.new.fault ≡ None) }
@@ -73,8 +88,12 @@ impl<L: Link> Hub<L> {
     /// Makes one poll.
     fn listen(&mut self) -> Result<Finished, HubFault>
         requires stands { self.old.fault ≡ None }
+        requires begun { self.old.closing ≢ None }
+        requires over { IsAllDone self.old.devices self.old.turns self.old.log }
         ensures grows { GoesOn (L.story self.old.link) (L.story self.new.link) }
         ensures script { L.script self.new.link ≡ L.script self.old.link }
+        ensures count { L.faults self.old.link ≤ L.faults self.new.link }
+        ensures cause { IfErr result (λ fault. FailsWhere fault (L.faults self.old.link) (L.faults self.new.link)) }
         ensures heard { IfOk result (λ done. HearsSo (heard_at_end done) (L.story self.old.link) (L.story self.new.link)) }
         ensures fault { IfErr result (λ fault. self.new.fault ≡ Some fault) }
         ensures stands { OnOk result (self.new.fault ≡ None) }
@@ -92,6 +111,7 @@ impl<L: Link> Hub<L> {
     /// One datagram more was got in the closing.
     fn count(&mut self)
         requires stands { self.old.fault ≡ None }
+        requires over { IsAllDone self.old.devices self.old.turns self.old.log }
         ensures link { self.new.link ≡ self.old.link }
         ensures run { SameRun self.old self.new }
         ensures log { self.new.log ≡ self.old.log }
@@ -104,6 +124,8 @@ impl<L: Link> Hub<L> {
     /// How far the closing is, which begins with the first call.
     fn closing(&mut self) -> Closing
         requires stands { self.old.fault ≡ None }
+        requires over { IsAllDone self.old.devices self.old.turns self.old.log }
+        ensures begun { self.new.closing ≢ None }
         ensures link { self.new.link ≡ self.old.link }
         ensures run { SameRun self.old self.new }
         ensures log { self.new.log ≡ self.old.log }
@@ -122,6 +144,7 @@ impl<L: Link> Hub<L> {
     /// Whether the closing is over.
     fn is_over(&mut self) -> bool
         requires stands { self.old.fault ≡ None }
+        requires over { IsAllDone self.old.devices self.old.turns self.old.log }
         ensures link { self.new.link ≡ self.old.link }
         ensures run { SameRun self.old self.new }
         ensures log { self.new.log ≡ self.old.log }

@@ -1,10 +1,12 @@
 //! The group telegrams.
 
-ghost use Rattle.std.specs.Prelude.{◌≡◌, IfErr, IfOk, IfSome, OnErr, OnOk, Some, None};
+ghost use Rattle.std.specs.Prelude.{◌≡◌, ◌≤◌, IfErr, IfOk, IfSome, OnErr, OnOk, Some, None};
 ghost use Rattle.tunnel_link.specs.Goes.{GoesOn};
+ghost use Rattle.tunnel_link.specs.Rights.{FailsWhere};
 ghost use Rattle.line_model.specs.Log.{IsNextTurn, TurnUnfinished};
 ghost use Rattle.hub_work.specs.Turns.{GroupTells};
 ghost use Rattle.hub_core.specs.Hears.{HearsSo};
+ghost use Rattle.hub_core.specs.Waits.{WaitsExactly};
 ghost use Rattle.hub_core.specs.Seen.{SameRun, StaysEnded};
 
 use super::Hub;
@@ -25,7 +27,11 @@ impl<L: Link> Hub<L> {
         requires next { IsNextTurn self.old.turns self.old.log k }
         ensures grows { GoesOn (L.story self.old.link) (L.story self.new.link) }
         ensures script { L.script self.new.link ≡ L.script self.old.link }
+        ensures count { L.faults self.old.link ≤ L.faults self.new.link }
+        ensures cause { self.old.fault ≡ None → IfErr result (λ fault. FailsWhere fault (L.faults self.old.link) (L.faults self.new.link)) }
+        ensures stands { OnOk result (self.new.fault ≡ None) }
         ensures heard { OnOk result (HearsSo None (L.story self.old.link) (L.story self.new.link)) }
+        ensures waits { IfOk result (λ did. WaitsExactly self.old.jobs self.old.turns self.old.log (L.place self.old.link) k did (L.story self.old.link)) }
         ensures told { IfOk result (λ did. GroupTells (L.place self.old.link) k did self.old.log self.new.log) }
         ensures untold { OnErr result (self.new.log ≡ self.old.log) }
         ensures run { SameRun self.old self.new }

@@ -14,7 +14,7 @@ ghost use Rattle.line_model.specs.Log.{Job, IsLog, OneDownloaderPerDevice};
 ghost use Rattle.hub_work.specs.Books.{AreJobsOf};
 ghost use Rattle.hub_work.specs.Requests.{IsTurnInRange};
 ghost use Rattle.hub_work.specs.declared.job.HubJob.{HubJob as JobOfHub};
-ghost use Rattle.hub_core.specs.Promises.{DropsIn, FaultRightIn, IsRightOver, IsSafeOver, PromptIn, TellsIn};
+ghost use Rattle.hub_core.specs.Promises.{DropsIn, FaultRightIn, IsRightOver, IsSafeOver, TellsIn};
 ghost use Rattle.hub_core.specs.Seen.{AreJobs, tasks_seen};
 
 use crate::end::HubEnd;
@@ -54,7 +54,7 @@ impl<L: Link> Model for Hub<L> {
     ghost use Rattle.std.specs.Prelude.{map};
     ghost use Rattle.hub_core.specs.Seen.{hub_job_of};
 
-    ghost view = { λ h. record { link = h.tunnel.link; jobs = map hub_job_of h.work.downloaders; devices = h.work.reservation.devices; turns = h.work.telegrams.turns; log = h.work.journal.entries; fault = h.tunnel.known.fault; missed = h.missed } };
+    ghost view = { λ h. record { link = h.tunnel.link; known = h.tunnel.known; jobs = map hub_job_of h.work.downloaders; devices = h.work.reservation.devices; turns = h.work.telegrams.turns; log = h.work.journal.entries; fault = h.tunnel.known.fault; closing = h.work.closing; missed = h.missed } };
 
     ghost invariant = { λ h. Keeps (L.place h.tunnel.link) (L.story h.tunnel.link) h.work h.met h.tunnel.known.fault };
 }
@@ -135,12 +135,12 @@ impl<L: Link> Hub<L> {
     }
 
     /// What its type keeps, at every moment and after a fault too, for any jobs with its devices and plans. Where its link tells something: the log is
-    /// one of its jobs and telegrams, what it tells is true, each request was right, and so is all that the line's promises need of the client; it has
-    /// ended exactly where there is a cause; over a link that tells its events and with good jobs, what the law of the line says; and where it polled
-    /// promptly, the whole discipline of the client. Over every link its log is one of its jobs and telegrams, with one downloader for each device.
+    /// one of its jobs and telegrams, what it tells is true, and each request was right; all is kept that the line's promises need of the client, and it
+    /// polled promptly, so that it kept the client's whole discipline; it has ended exactly where there is a cause; and over a link that tells its events
+    /// and with good jobs, what the law of the line says. Over every link its log is one of its jobs and telegrams, with one downloader for each device.
     pub fn keeps(&self)
         ensures tells { (jobs : List Job) → AreJobs self.now.jobs jobs → TellsIn jobs self.now.turns self.now.log (L.story self.now.link) }
-        ensures headline { (jobs : List Job) → AreJobs self.now.jobs jobs → PromptIn jobs self.now.turns self.now.log (L.story self.now.link) → Keeps jobs self.now.turns (L.story self.now.link) self.now.log }
+        ensures headline { (jobs : List Job) → AreJobs self.now.jobs jobs → Keeps jobs self.now.turns (L.story self.now.link) self.now.log }
         ensures safe { (jobs : List Job) → AreJobs self.now.jobs jobs → IsSafeOver jobs self.now.turns (L.story self.now.link) self.now.log }
         ensures right { (jobs : List Job) → AreJobs self.now.jobs jobs → AllByRecursion IsGoodJob jobs → IsRightOver jobs (L.story self.now.link) self.now.log }
         ensures fault { (jobs : List Job) → AreJobs self.now.jobs jobs → FaultRightIn jobs self.now.log self.now.fault (record_in (L.story self.now.link)) }

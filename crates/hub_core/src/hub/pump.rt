@@ -1,22 +1,28 @@
 //! One poll of the link, with what is due before it.
 
-ghost use Rattle.std.specs.Prelude.{◌≡◌, IfErr, IfOk, OnOk, Some, None};
+ghost use Rattle.std.specs.Prelude.{◌≡◌, ◌≤◌, ◌||◌, is_some, IfErr, IfOk, OnOk, Some, None};
+ghost use Rattle.tunnel_link.specs.Adds.{HasActed, Ready};
 ghost use Rattle.tunnel_link.specs.Goes.{GoesOn};
+ghost use Rattle.tunnel_link.specs.Rights.{FailsWhere};
 ghost use Rattle.hub_core.specs.Hears.{HearsSo, heard_of};
+ghost use Rattle.hub_core.specs.Pumps.{AddsSo, AnswersSo, PumpsSo, Does, is_late_now, is_left_now, Moves};
 ghost use Rattle.hub_core.specs.Seen.{SameRun, StaysEnded};
 
 use super::Hub;
 use super::taking::{Polled, ending, lose, take_in};
 use hub_work::{Pumped, moments_go_on};
 use line_model::{HubFault, Link};
-use tunnel_link::Loss;
 
 impl<L: Link> Hub<L> {
     /// Does what is due, asks for a channel where there is none and the closing hasn't begun, and makes one poll.
     pub fn pump(&mut self) -> Result<Pumped, HubFault>
         ensures grows { GoesOn (L.story self.old.link) (L.story self.new.link) }
         ensures script { L.script self.new.link ≡ L.script self.old.link }
+        ensures count { L.faults self.old.link ≤ L.faults self.new.link }
+        ensures cause { self.old.fault ≡ None → IfErr result (λ fault. FailsWhere fault (L.faults self.old.link) (L.faults self.new.link)) }
+        ensures stands { OnOk result (self.new.fault ≡ None) }
         ensures heard { IfOk result (λ pumped. HearsSo (heard_of pumped) (L.story self.old.link) (L.story self.new.link)) }
+        ensures says { IfOk result (λ pumped. PumpsSo (is_some self.old.closing) pumped (L.story self.old.link) (L.story self.new.link)) }
         ensures run { SameRun self.old self.new }
         ensures log { self.new.log ≡ self.old.log }
         ensures ended { StaysEnded self.old.fault result self.new.fault (self.new.link ≡ self.old.link) }
@@ -28,15 +34,20 @@ impl<L: Link> Hub<L> {
         let acted = self.act()?;
         let sought = self.seek()?;
         let polled = self.poll()?;
-        Ok(pumped(acted || sought, polled))
+        Ok(pumped(acted, sought, polled))
     }
 
     /// Does what is due by the time. Tells whether it did something.
     pub(super) fn act(&mut self) -> Result<bool, HubFault>
         requires stands { self.old.fault ≡ None }
+        ensures acted { OnOk result (HasActed self.new.known (L.story self.new.link)) }
         ensures grows { GoesOn (L.story self.old.link) (L.story self.new.link) }
         ensures script { L.script self.new.link ≡ L.script self.old.link }
+        ensures count { L.faults self.old.link ≤ L.faults self.new.link }
+        ensures cause { IfErr result (λ fault. FailsWhere fault (L.faults self.old.link) (L.faults self.new.link)) }
         ensures heard { OnOk result (HearsSo None (L.story self.old.link) (L.story self.new.link)) }
+        ensures does { IfOk result (λ did. AddsSo (Does is_late_now did) (L.story self.old.link) (L.story self.new.link)) }
+        ensures begun { OnOk result (is_some self.new.closing ≡ is_some self.old.closing) }
         ensures fault { IfErr result (λ fault. self.new.fault ≡ Some fault) }
         ensures stands { OnOk result (self.new.fault ≡ None) }
         ensures run { SameRun self.old self.new }
@@ -46,15 +57,20 @@ impl<L: Link> Hub<L> {
         let acted = self.tunnel.act()?;
         let now = self.tunnel.now();
         lose(&mut self.work, acted.loss, now);
-        Ok(acted.sent || acted.loss != Loss::Stays)
+        Ok(acted.sent)
     }
 
     /// Asks for a channel. Tells whether it did.
     fn seek(&mut self) -> Result<bool, HubFault>
         requires stands { self.old.fault ≡ None }
+        requires acted { HasActed self.old.known (L.story self.old.link) }
+        ensures ready { OnOk result (self.new.closing ≡ None → Ready self.new.known (L.story self.new.link)) }
         ensures grows { GoesOn (L.story self.old.link) (L.story self.new.link) }
         ensures script { L.script self.new.link ≡ L.script self.old.link }
+        ensures count { L.faults self.old.link ≤ L.faults self.new.link }
+        ensures cause { IfErr result (λ fault. FailsWhere fault (L.faults self.old.link) (L.faults self.new.link)) }
         ensures heard { OnOk result (HearsSo None (L.story self.old.link) (L.story self.new.link)) }
+        ensures does { IfOk result (λ did. AddsSo (Does (is_left_now (is_some self.old.closing)) did) (L.story self.old.link) (L.story self.new.link)) }
         ensures fault { IfErr result (λ fault. self.new.fault ≡ Some fault) }
         ensures stands { OnOk result (self.new.fault ≡ None) }
         ensures run { SameRun self.old self.new }
@@ -74,9 +90,13 @@ impl<L: Link> Hub<L> {
     /// Makes one poll.
     pub(super) fn poll(&mut self) -> Result<Polled, HubFault>
         requires stands { self.old.fault ≡ None }
+        requires ready { self.old.closing ≡ None → Ready self.old.known (L.story self.old.link) }
         ensures grows { GoesOn (L.story self.old.link) (L.story self.new.link) }
         ensures script { L.script self.new.link ≡ L.script self.old.link }
+        ensures count { L.faults self.old.link ≤ L.faults self.new.link }
+        ensures cause { IfErr result (λ fault. FailsWhere fault (L.faults self.old.link) (L.faults self.new.link)) }
         ensures heard { IfOk result (λ polled. HearsSo polled.heard (L.story self.old.link) (L.story self.new.link)) }
+        ensures moves { IfOk result (λ polled. AddsSo (Moves polled.moved) (L.story self.old.link) (L.story self.new.link)) }
         ensures fault { IfErr result (λ fault. self.new.fault ≡ Some fault) }
         ensures stands { OnOk result (self.new.fault ≡ None) }
         ensures run { SameRun self.old self.new }
@@ -98,12 +118,13 @@ impl<L: Link> Hub<L> {
 }
 
 /// What a call did, by whether it did something before its poll, and by what the poll did.
-fn pumped(did: bool, polled: Polled) -> Pumped
-    ensures { heard_of result ≡ polled.heard }
+fn pumped(acted: bool, sought: bool, polled: Polled) -> Pumped
+    ensures heard { heard_of result ≡ polled.heard }
+    ensures answers { AnswersSo (acted || sought) polled.moved result }
 {
     match polled.heard {
         Some(indication) => Pumped::Heard(indication),
-        None if did || polled.moved => Pumped::Moved,
+        None if acted || sought || polled.moved => Pumped::Moved,
         None => Pumped::Nothing,
     }
 }

@@ -1,6 +1,7 @@
 //! What a poll brought, taken in.
 
-ghost use Rattle.hub_core.specs.Taking.{SameWork, DeliversIn, EndsSo, HeardIn, LosesIn, MeetsSo, TakesIn};
+ghost use Rattle.std.specs.Prelude.{◌≡◌, ◌||◌};
+ghost use Rattle.hub_core.specs.Taking.{SameWork, DeliversIn, EndsSo, HeardIn, LosesIn, MeetsSo, TakesIn, is_got as got_one, is_taken as took_one};
 
 use hub_work::{Closing, Work, moments_go_on};
 use line_model::{HubFault, Indication};
@@ -24,12 +25,14 @@ pub fn take_in(work: &mut Work, came: &Came, now: u64) -> Polled
     ensures books { SameWork work.old work.new }
     ensures fits { TakesIn came.now now work.old work.new }
     ensures heard { HeardIn came.now.what result.heard }
+    ensures got { result.got ≡ got_one came.now.what }
+    ensures moved { result.moved ≡ (came.now.sent || took_one came.now.what) }
 {
     let heard = deliver(work, &came.what, now);
     lose(work, came.loss, now);
     Polled {
         got: is_got(&came.what),
-        moved: came.sent || came.loss != Loss::Stays || is_taken(&came.what),
+        moved: came.sent || is_taken(&came.what),
         heard,
     }
 }
@@ -66,12 +69,16 @@ pub fn lose(work: &mut Work, loss: Loss, now: u64)
 }
 
 /// Whether a datagram was got.
-fn is_got(what: &What) -> bool {
+fn is_got(what: &What) -> bool
+    ensures { result ≡ got_one what.now }
+{
     !matches!(what, What::Quiet)
 }
 
 /// Whether a datagram was got that acts on something.
-fn is_taken(what: &What) -> bool {
+fn is_taken(what: &What) -> bool
+    ensures { result ≡ took_one what.now }
+{
     !matches!(what, What::Quiet | What::Dropped)
 }
 

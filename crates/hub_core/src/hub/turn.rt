@@ -3,6 +3,7 @@
 ghost use Rattle.std.specs.Prelude.{◌≡◌, ◌≤◌, IfErr, IfOk, OnErr, OnOk, Some, None};
 ghost use Rattle.hub_work.specs.Turns.{TurnTells, WhyFreeByLog};
 ghost use Rattle.tunnel_link.specs.Goes.{GoesOn};
+ghost use Rattle.tunnel_link.specs.Rights.{FailsWhere};
 ghost use Rattle.hub_core.specs.Hears.{HearsSo};
 ghost use Rattle.hub_core.specs.Seen.{SameRun, StaysEnded};
 
@@ -16,6 +17,9 @@ impl<L: Link> Hub<L> {
         requires worker { 1 ≤ worker }
         ensures grows { GoesOn (L.story self.old.link) (L.story self.new.link) }
         ensures script { L.script self.new.link ≡ L.script self.old.link }
+        ensures count { L.faults self.old.link ≤ L.faults self.new.link }
+        ensures cause { self.old.fault ≡ None → IfErr result (λ fault. FailsWhere fault (L.faults self.old.link) (L.faults self.new.link)) }
+        ensures stands { OnOk result (self.new.fault ≡ None) }
         ensures heard { OnOk result (HearsSo None (L.story self.old.link) (L.story self.new.link)) }
         ensures told { IfOk result (λ turned. TurnTells (L.place self.old.link) worker turned self.old.log self.new.log) }
         ensures free { IfOk result (WhyFreeByLog self.old.devices self.old.log) }

@@ -1,13 +1,13 @@
 //! What is told of a run.
 
-ghost use Rattle.std.specs.Prelude.{◌≡◌, None, IfSome, List, reverse};
+ghost use Rattle.std.specs.Prelude.{◌≡◌, ℕ, None, IfSome, List, reverse};
 ghost use Rattle.std.specs.List.{AllByRecursion};
 ghost use Rattle.hub_core.specs.Promises.{IsRightOver, IsSafeOver, FaultRightIn, DropsIn};
 ghost use Rattle.hub_core.specs.Seen.{AreJobs};
-ghost use Rattle.hub_driver.specs.Drives.{AllDone, HasEndedSo, TellsFault};
+ghost use Rattle.hub_driver.specs.Drives.{AllDone, CausedSince, HasEndedSo, TellsFault};
 ghost use Rattle.hub_driver.specs.Heard.{HeardAll};
 ghost use Rattle.hub_work.specs.Books.{AreJobsOf};
-ghost use Rattle.line_model.specs.Headline.{IsGoodJob};
+ghost use Rattle.line_model.specs.Headline.{Keeps, IsGoodJob};
 ghost use Rattle.line_model.specs.LinkStory.{record_in};
 ghost use Rattle.line_model.specs.Log.{Job, IsLog, OneDownloaderPerDevice, AllOver, TurnUnfinished};
 
@@ -34,6 +34,7 @@ impl<L: Link> Driver<L> {
         requires heard { broken_off ≡ None → HeardAll self.heard (record_in (L.story self.hub.link)) }
         requires cause { IfSome broken_off (HasEndedSo self.hub.fault) }
         ensures link { result.0 ≡ self.hub.link }
+        ensures headline { (all : List Job) → AreJobs self.hub.jobs all → Keeps all self.hub.turns (L.story result.0) (reverse result.1.log) }
         ensures safe { (all : List Job) → AreJobs self.hub.jobs all → IsSafeOver all self.hub.turns (L.story result.0) (reverse result.1.log) }
         ensures right { (all : List Job) → AreJobs self.hub.jobs all → AllByRecursion IsGoodJob all → IsRightOver all (L.story result.0) (reverse result.1.log) }
         ensures fault { (all : List Job) → AreJobs self.hub.jobs all → FaultRightIn all (reverse result.1.log) result.1.fault (record_in (L.story result.0)) }
@@ -44,6 +45,7 @@ impl<L: Link> Driver<L> {
         ensures told { result.1.fault ≡ None → ¬ TurnUnfinished self.hub.turns (reverse result.1.log) }
         ensures heard { result.1.fault ≡ None → HeardAll result.1.heard (record_in (L.story result.0)) }
         ensures missed { result.1.missed ≡ self.hub.missed }
+        ensures caused { (before : ℕ) → CausedSince before self.hub.fault (L.faults self.hub.link) → CausedSince before result.1.fault (L.faults result.0) }
     {
         let Driver {
             hub,

@@ -2,14 +2,14 @@
 
 mod end;
 
-ghost use Rattle.std.specs.Prelude.{◌≡◌, ◌+◌, None, List, [], ◌∷◌, ◌++◌, IfErr, OnOk, true, length, reverse};
+ghost use Rattle.std.specs.Prelude.{◌≡◌, ◌+◌, ℕ, None, List, [], ◌∷◌, ◌++◌, IfErr, OnOk, true, length, reverse};
 ghost use Rattle.std.specs.List.{AllByRecursion};
 ghost use Rattle.hub_core.specs.Promises.{IsRightOver, IsSafeOver, FaultRightIn, DropsIn};
 ghost use Rattle.hub_core.specs.Seen.{SameRun, AreJobs};
-ghost use Rattle.hub_driver.specs.Drives.{ends, LeavesOpen, AllDone, IsNoMemory, HasEndedSo};
+ghost use Rattle.hub_driver.specs.Drives.{ends, LeavesOpen, AllDone, CausedSince, IsNoMemory, HasEndedSo};
 ghost use Rattle.hub_driver.specs.Heard.{HeardAll};
 ghost use Rattle.hub_work.specs.Books.{AreJobsOf};
-ghost use Rattle.line_model.specs.Headline.{IsGoodJob};
+ghost use Rattle.line_model.specs.Headline.{Keeps, IsGoodJob};
 ghost use Rattle.line_model.specs.LinkStory.{record_in};
 ghost use Rattle.line_model.specs.Log.{Job, IsLog, OneDownloaderPerDevice, AllOver, TurnUnfinished};
 ghost use Rattle.tunnel_link.specs.Goes.{GoesOn};
@@ -57,6 +57,7 @@ impl<L: Link> Driver<L> {
         requires heard { HeardAll self.heard (record_in (L.story self.hub.link)) }
         ensures grows { GoesOn (L.story self.hub.link) (L.story result.0) }
         ensures script { L.script result.0 ≡ L.script self.hub.link }
+        ensures headline { (all : List Job) → AreJobs self.hub.jobs all → Keeps all self.hub.turns (L.story result.0) (reverse result.1.log) }
         ensures safe { (all : List Job) → AreJobs self.hub.jobs all → IsSafeOver all self.hub.turns (L.story result.0) (reverse result.1.log) }
         ensures right { (all : List Job) → AreJobs self.hub.jobs all → AllByRecursion IsGoodJob all → IsRightOver all (L.story result.0) (reverse result.1.log) }
         ensures fault { (all : List Job) → AreJobs self.hub.jobs all → FaultRightIn all (reverse result.1.log) result.1.fault (record_in (L.story result.0)) }
@@ -67,6 +68,7 @@ impl<L: Link> Driver<L> {
         ensures told { result.1.fault ≡ None → ¬ TurnUnfinished self.hub.turns (reverse result.1.log) }
         ensures heard { result.1.fault ≡ None → HeardAll result.1.heard (record_in (L.story result.0)) }
         ensures missed { result.1.missed ≡ self.hub.missed }
+        ensures caused { (before : ℕ) → CausedSince before self.hub.fault (L.faults self.hub.link) → CausedSince before result.1.fault (L.faults result.0) }
     {
         let mut driver = self;
         let ended = driver.runs(rt, gate);
@@ -79,6 +81,7 @@ impl<L: Link> Driver<L> {
         requires heard { HeardAll self.old.heard (record_in (L.story self.old.hub.link)) }
         ensures grows { GoesOn (L.story self.old.hub.link) (L.story self.new.hub.link) }
         ensures script { L.script self.new.hub.link ≡ L.script self.old.hub.link }
+        ensures caused { (before : ℕ) → CausedSince before self.old.hub.fault (L.faults self.old.hub.link) → CausedSince before self.new.hub.fault (L.faults self.new.hub.link) }
         ensures run { SameRun self.old.hub self.new.hub }
         ensures done { OnOk result (AllDone self.new.hub) }
         ensures heard { OnOk result (HeardAll self.new.heard (record_in (L.story self.new.hub.link))) }
@@ -94,6 +97,7 @@ impl<L: Link> Driver<L> {
         requires heard { HeardAll self.old.heard (record_in (L.story self.old.hub.link)) }
         ensures grows { GoesOn (L.story self.old.hub.link) (L.story self.new.hub.link) }
         ensures script { L.script self.new.hub.link ≡ L.script self.old.hub.link }
+        ensures caused { (before : ℕ) → CausedSince before self.old.hub.fault (L.faults self.old.hub.link) → CausedSince before self.new.hub.fault (L.faults self.new.hub.link) }
         ensures run { SameRun self.old.hub self.new.hub }
         ensures done { OnOk result (AllDone self.new.hub) }
         ensures heard { OnOk result (HeardAll self.new.heard (record_in (L.story self.new.hub.link))) }
@@ -124,6 +128,7 @@ impl<L: Link> Driver<L> {
         requires heard { HeardAll self.old.heard (record_in (L.story self.old.hub.link)) }
         ensures grows { GoesOn (L.story self.old.hub.link) (L.story self.new.hub.link) }
         ensures script { L.script self.new.hub.link ≡ L.script self.old.hub.link }
+        ensures caused { (before : ℕ) → CausedSince before self.old.hub.fault (L.faults self.old.hub.link) → CausedSince before self.new.hub.fault (L.faults self.new.hub.link) }
         ensures run { SameRun self.old.hub self.new.hub }
         ensures open { LeavesOpen self.new.hub self.new.unfinished }
         ensures heard { OnOk result (HeardAll self.new.heard (record_in (L.story self.new.hub.link))) }
@@ -156,6 +161,7 @@ impl<L: Link> Driver<L> {
         requires heard { HeardAll self.old.heard (record_in (L.story self.old.hub.link)) }
         ensures grows { GoesOn (L.story self.old.hub.link) (L.story self.new.hub.link) }
         ensures script { L.script self.new.hub.link ≡ L.script self.old.hub.link }
+        ensures caused { (before : ℕ) → CausedSince before self.old.hub.fault (L.faults self.old.hub.link) → CausedSince before self.new.hub.fault (L.faults self.new.hub.link) }
         ensures run { SameRun self.old.hub self.new.hub }
         ensures open { LeavesOpen self.new.hub self.new.unfinished }
         ensures heard { OnOk result (HeardAll self.new.heard (record_in (L.story self.new.hub.link))) }
@@ -175,6 +181,7 @@ impl<L: Link> Driver<L> {
         requires heard { HeardAll self.old.heard (record_in (L.story self.old.hub.link)) }
         ensures grows { GoesOn (L.story self.old.hub.link) (L.story self.new.hub.link) }
         ensures script { L.script self.new.hub.link ≡ L.script self.old.hub.link }
+        ensures caused { (before : ℕ) → CausedSince before self.old.hub.fault (L.faults self.old.hub.link) → CausedSince before self.new.hub.fault (L.faults self.new.hub.link) }
         ensures run { SameRun self.old.hub self.new.hub }
         ensures log { self.new.hub.log ≡ self.old.hub.log }
         ensures unfinished { self.new.unfinished ≡ self.old.unfinished }
@@ -189,11 +196,14 @@ impl<L: Link> Driver<L> {
 
     /// The closing.
     fn closes<R: Wait>(&mut self, rt: &R) -> Result<(), HubFault>
+        requires done { AllDone self.old.hub }
         requires heard { HeardAll self.old.heard (record_in (L.story self.old.hub.link)) }
         ensures grows { GoesOn (L.story self.old.hub.link) (L.story self.new.hub.link) }
         ensures script { L.script self.new.hub.link ≡ L.script self.old.hub.link }
+        ensures caused { (before : ℕ) → CausedSince before self.old.hub.fault (L.faults self.old.hub.link) → CausedSince before self.new.hub.fault (L.faults self.new.hub.link) }
         ensures run { SameRun self.old.hub self.new.hub }
         ensures log { self.new.hub.log ≡ self.old.hub.log }
+        ensures done { OnOk result (AllDone self.new.hub) }
         ensures heard { OnOk result (HeardAll self.new.heard (record_in (L.story self.new.hub.link))) }
         ensures cause { IfErr result (HasEndedSo self.new.hub.fault) }
     {
@@ -207,11 +217,14 @@ impl<L: Link> Driver<L> {
 
     /// One step of the closing. Tells whether it is over.
     fn finishes(&mut self) -> Result<bool, HubFault>
+        requires done { AllDone self.old.hub }
         requires heard { HeardAll self.old.heard (record_in (L.story self.old.hub.link)) }
         ensures grows { GoesOn (L.story self.old.hub.link) (L.story self.new.hub.link) }
         ensures script { L.script self.new.hub.link ≡ L.script self.old.hub.link }
+        ensures caused { (before : ℕ) → CausedSince before self.old.hub.fault (L.faults self.old.hub.link) → CausedSince before self.new.hub.fault (L.faults self.new.hub.link) }
         ensures run { SameRun self.old.hub self.new.hub }
         ensures log { self.new.hub.log ≡ self.old.hub.log }
+        ensures done { OnOk result (AllDone self.new.hub) }
         ensures heard { OnOk result (HeardAll self.new.heard (record_in (L.story self.new.hub.link))) }
         ensures cause { IfErr result (HasEndedSo self.new.hub.fault) }
     {

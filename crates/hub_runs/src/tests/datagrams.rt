@@ -1,7 +1,6 @@
 //! Over fixed datagrams: what is dropped of those that come, and what is sent next.
 
 use super::{OpenGate, group_turns, jobs_of};
-use hub_core::HubFault;
 use hub_driver::commission;
 use knx_model::{JobKind, List, NoMemory, Octets};
 use line_fixed::{FixedLink, Item};
@@ -55,9 +54,6 @@ fn drive<R: Abort + Wait>(rt: &R, alloc: Global, row: &Row) -> Result<(), NoMemo
     gives.push(Octets::from_slice(alloc, row.got)?)?;
     let link = FixedLink::new(alloc, gives, None, List::new(alloc));
     let (link, report) = commission(rt, alloc, jobs, groups, link, &OpenGate);
-    if let Some(HubFault::NoMemory(no_memory)) = report.fault {
-        return Err(no_memory);
-    }
     assert_eq!(rt; report.dropped, row.dropped, "{}", row.name);
     let sent = sent_after(&link, row.got);
     assert!(rt; sent == Some((row.sent, row.at)), "{}", row.name);

@@ -3,7 +3,7 @@
 mod deliver;
 mod turn;
 
-ghost use Rattle.std.specs.Prelude.{◌≡◌, ℕ, ◌<◌, length, map, reverse, ◌/◌, ◌==◌, not, IfOk, IfSome};
+ghost use Rattle.std.specs.Prelude.{◌≡◌, ℕ, ◌<◌, length, map, reverse, ◌/◌, ◌==◌, not, is_none, IfOk, IfSome, None};
 ghost use Rattle.hub_work.specs.declared.job.HubJob.{HubJob as Job};
 ghost use Rattle.std.specs.List.{AllByRecursion, find};
 ghost use Rattle.knx_model.specs.declared.address.IndAddr.{IndAddr as Address};
@@ -14,6 +14,7 @@ ghost use Rattle.hub_work.specs.Follows.{BeginsRightly, TelegramIsRight, Telegra
 ghost use Rattle.hub_work.specs.Requests.{IsTurnInRange};
 ghost use Rattle.hub_work.specs.Telegrams.{IsNextRequest, next_of};
 ghost use Rattle.hub_work.specs.Turns.{Adds, TellsTurn};
+ghost use Rattle.hub_work.specs.Waits.{HoldsBack};
 ghost use Rattle.hub_work.specs.Works.{KeepsBooks, SameRun, SameBooks, BeginsWith, HasUnfinished, FindsElsewhere, tasks};
 
 use crate::closing::Closing;
@@ -66,6 +67,7 @@ impl Work {
         requires sendable { AllByRecursion IsTurnInRange groups }
         ensures begins { IfOk result (λ work. BeginsWith (map (λ (j : Job). j.device) jobs) groups work) }
         ensures books { IfOk result (λ work. (at : ℕ) → KeepsBooks at work) }
+        ensures unbegun { IfOk result (λ work. work.closing ≡ None) }
         ensures tasks { IfOk result (λ work. tasks work ≡ map task_of_hub_job jobs) }
         ensures fits { IfOk result (BeginsRightly jobs) }
     {
@@ -132,6 +134,7 @@ impl Work {
         ensures cemi { IfSome result IsCemi }
         ensures next { IfSome result (IsNextRequest self.now.telegrams) }
         ensures right { IfSome result (TelegramIsRight self.now) }
+        ensures held { HoldsBack self.now (is_none result) }
     {
         self.telegrams.request(self.unfinished > 0)
     }

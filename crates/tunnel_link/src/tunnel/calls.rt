@@ -4,8 +4,9 @@ ghost use Rattle.std.specs.Prelude.{◌≡◌, ◌≤◌, IfErr, OnOk, Ok, Some,
 ghost use Rattle.line_model.specs.ClientEnd.{IsCemi};
 ghost use Rattle.line_model.specs.LinkStory.{IsTime};
 ghost use Rattle.tunnel_link.specs.Goes.{GoesOn, AfterFault};
-ghost use Rattle.tunnel_link.specs.Rights.{IsOfTunnel, WhereTold};
-ghost use Rattle.tunnel_link.specs.Adds.{Growing, place_of, Seeks, PutsOne, Leaves, Dues, Acts, PollAdds};
+ghost use Rattle.tunnel_link.specs.Rights.{FailsWhere, IsOfTunnel, WhereTold};
+ghost use Rattle.tunnel_link.specs.Adds.{Growing, place_of, Seeks, PutsOne, Leaves, Dues, Acts, PollAdds, AllPrompt, HasActed, Ready};
+ghost use Rattle.tunnel_link.specs.Kept.{with_due};
 ghost use Rattle.tunnel_link.specs.declared.came.Loss.TheVariants.{Stays};
 
 use super::Tunnel;
@@ -29,6 +30,9 @@ impl<L: Link> Tunnel<L> {
         ensures count { L.faults self.old.link ≤ L.faults self.new.link }
         ensures events { L.place self.old.link ≤ L.place self.new.link }
         ensures script { L.script self.new.link ≡ L.script self.old.link }
+        ensures cause { self.old.known.fault ≡ None → IfErr result (λ fault. FailsWhere fault (L.faults self.old.link) (L.faults self.new.link)) }
+        ensures prompt { Growing AllPrompt (L.story self.old.link) (L.story self.new.link) }
+        ensures ready { OnOk result (HasActed self.old.known (L.story self.old.link) → Ready self.new.known (L.story self.new.link)) }
     {
         self.known.standing()?;
         if !self.known.channel.may_connect() {
@@ -51,6 +55,8 @@ impl<L: Link> Tunnel<L> {
         ensures count { L.faults self.old.link ≤ L.faults self.new.link }
         ensures events { L.place self.old.link ≤ L.place self.new.link }
         ensures script { L.script self.new.link ≡ L.script self.old.link }
+        ensures cause { self.old.known.fault ≡ None → IfErr result (λ fault. FailsWhere fault (L.faults self.old.link) (L.faults self.new.link)) }
+        ensures prompt { Growing AllPrompt (L.story self.old.link) (L.story self.new.link) }
     {
         self.known.standing()?;
         let now = self.link.now();
@@ -72,6 +78,8 @@ impl<L: Link> Tunnel<L> {
         ensures count { L.faults self.old.link ≤ L.faults self.new.link }
         ensures events { L.place self.old.link ≤ L.place self.new.link }
         ensures script { L.script self.new.link ≡ L.script self.old.link }
+        ensures cause { self.old.known.fault ≡ None → IfErr result (λ fault. FailsWhere fault (L.faults self.old.link) (L.faults self.new.link)) }
+        ensures prompt { Growing AllPrompt (L.story self.old.link) (L.story self.new.link) }
     {
         self.known.standing()?;
         match self.known.leaves() {
@@ -96,12 +104,16 @@ impl<L: Link> Tunnel<L> {
         ensures count { L.faults self.old.link ≤ L.faults self.new.link }
         ensures events { L.place self.old.link ≤ L.place self.new.link }
         ensures script { L.script self.new.link ≡ L.script self.old.link }
+        ensures cause { self.old.known.fault ≡ None → IfErr result (λ fault. FailsWhere fault (L.faults self.old.link) (L.faults self.new.link)) }
+        ensures prompt { Growing AllPrompt (L.story self.old.link) (L.story self.new.link) }
+        ensures acted { OnOk result (HasActed self.new.known (L.story self.new.link)) }
     {
         self.known.standing()?;
         let now = self.link.now();
         let loss = self.lapse(now)?;
         let again = self.send_due(now)?;
         let beat = self.send_due(now)?;
+        let _link = &self.link;
         Ok(Acted::new(loss, again, beat))
     }
 
@@ -119,6 +131,7 @@ impl<L: Link> Tunnel<L> {
         ensures count { L.faults self.old.link ≤ L.faults self.new.link }
         ensures events { L.place self.old.link ≤ L.place self.new.link }
         ensures script { L.script self.new.link ≡ L.script self.old.link }
+        ensures cause { IfErr result (λ fault. FailsWhere fault (L.faults self.old.link) (L.faults self.new.link)) }
     {
         let Answer { loss, sends, .. } = self.known.lapse(What::Quiet, now);
         answered(&mut self.link, &mut self.known, sends)?;
@@ -139,6 +152,9 @@ impl<L: Link> Tunnel<L> {
         ensures count { L.faults self.old.link ≤ L.faults self.new.link }
         ensures events { L.place self.old.link ≤ L.place self.new.link }
         ensures script { L.script self.new.link ≡ L.script self.old.link }
+        ensures cause { IfErr result (λ fault. FailsWhere fault (L.faults self.old.link) (L.faults self.new.link)) }
+        ensures prompt { Growing AllPrompt (L.story self.old.link) (L.story self.new.link) }
+        ensures known { OnOk result (self.new.known ≡ with_due self.old.known now) }
     {
         match self.known.due(now) {
             Some(datagram) => {
@@ -150,7 +166,7 @@ impl<L: Link> Tunnel<L> {
     }
 
     /// One poll of at most so many milliseconds, never more than 100, and not past a deadline. A request that was got is acknowledged at once, and a loss of the
-    /// channel answered.
+    /// channel answered. Where nothing is due when it begins, no deadline is passed over in it.
     pub fn poll(&mut self, longest_ms: u32) -> Result<Came, HubFault>
         ensures grows { GoesOn (L.story self.old.link) (L.story self.new.link) }
         ensures adds { Growing (PollAdds result) (L.story self.old.link) (L.story self.new.link) }
@@ -162,6 +178,8 @@ impl<L: Link> Tunnel<L> {
         ensures count { L.faults self.old.link ≤ L.faults self.new.link }
         ensures events { L.place self.old.link ≤ L.place self.new.link }
         ensures script { L.script self.new.link ≡ L.script self.old.link }
+        ensures cause { self.old.known.fault ≡ None → IfErr result (λ fault. FailsWhere fault (L.faults self.old.link) (L.faults self.new.link)) }
+        ensures prompt { Ready self.old.known (L.story self.old.link) → Growing AllPrompt (L.story self.old.link) (L.story self.new.link) }
     {
         frames_are_read();
         self.known.standing()?;

@@ -8,7 +8,9 @@ ghost use Rattle.line_model.specs.ClientView.{channel};
 ghost use Rattle.line_model.specs.Closing.{is_open};
 ghost use Rattle.line_model.specs.LinkStory.{IsNewLink, IsTime, IsPlace, newest_time};
 ghost use Rattle.line_model.specs.Record.{entries};
+ghost use Rattle.tunnel_link.specs.Adds.{TimelyBefore};
 ghost use Rattle.tunnel_link.specs.Goes.{Keeps, new_known};
+ghost use Rattle.tunnel_link.specs.Kept.{nearer, next_due};
 ghost use Rattle.tunnel_link.specs.Rights.{IsntRefusal, KeepsRecord, WhereTold, WhileFits};
 
 use crate::known::Known;
@@ -111,8 +113,11 @@ impl<L: Link> Tunnel<L> {
         self.known.has_place(self.link.now())
     }
 
-    /// The nearest time at which something becomes due.
-    pub fn deadline(&self) -> Option<u64> {
+    /// The nearest time at which something becomes due. Before it nothing is late.
+    pub fn deadline(&self) -> Option<u64>
+        ensures value { result ≡ next_due self.now.known }
+        ensures told { WhileFits (TimelyBefore result) self.now.known (L.story self.now.link) }
+    {
         earlier(self.known.channel.deadline(), self.known.flight.deadline())
     }
 
@@ -137,7 +142,9 @@ impl<L: Link> Tunnel<L> {
 }
 
 /// The earlier of two times.
-pub fn earlier(one: Option<u64>, other: Option<u64>) -> Option<u64> {
+pub fn earlier(one: Option<u64>, other: Option<u64>) -> Option<u64>
+    ensures { result ≡ nearer one other }
+{
     match (one, other) {
         (Some(one), Some(other)) => Some(one.min(other)),
         (Some(time), None) | (None, Some(time)) => Some(time),

@@ -1,3 +1,4 @@
+use Rattle.knx_top.specs.Names.{sim_words_of}
 use Rattle.knx_top.proofs.Commissions.{decided_run, decided_stop, of_order}
 use Rattle.knx_top.proofs.Present.{devices_there}
 use Rattle.knx_top.proofs.commission.commission.Goals as goal
@@ -15,7 +16,7 @@ pub run-requires-clause-devices : goal.run-requires-clause-devices
 run-requires-clause-devices g c = of_order _ _ _ c.in-Ok.ensures.ok (λ commission is. devices_there commission _ is)
 
 pub returns-in-Ok : goal.returns-in-Ok
-returns-in-Ok g c = decided_run _ _ _ _ _ _ c.in-Ok.ensures.ok c.run.ensures
+returns-in-Ok g c = decided_run (sim_words_of c.args.names) c.args.texts.now _ _ _ _ c.in-Ok.ensures.ok c.run.ensures
 
 pub returns-in-Err : goal.returns-in-Err
 returns-in-Err g c = decided_stop _ _ _ c.in-Err.ensures.err

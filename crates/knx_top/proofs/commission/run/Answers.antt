@@ -1,10 +1,10 @@
 use Rattle.std.proofs.Common.{List, [], All, Option, map, sym, subst}
 use Rattle.std.specs.Prelude.{IsSome}
 use Rattle.bus_sim.specs.RunNow.{story, world}
-use Rattle.hub_core.specs.Promises.{IsSafeOver}
 use Rattle.knx_model.specs.declared.address.IndAddr.{IndAddr}
 use Rattle.knx_model.specs.declared.config.Image.{Image}
 use Rattle.line_model.specs.declared.group.GroupTurn.{GroupTurn}
+use Rattle.line_model.specs.Headline.{Keeps}
 use Rattle.line_model.specs.Log.{Job}
 use Rattle.knx_top.specs.Ended.{ShowsRun, outcome_of}
 use Rattle.knx_top.specs.Jobs.{seen_job}
@@ -25,11 +25,11 @@ returns g c = λ commission is logs.
     let jobs : List Job = map seen_job c.args.order.plans in
     let line = c.commission-line.result.0 in
     let report = c.commission-line.result.1 in
-    let safe : IsSafeOver jobs [] (story line.run) (log_in report) =
-        subst (λ (groups : List GroupTurn). IsSafeOver jobs groups (story line.run) (log_in report)) c.new.ensures (c.commission-line.ensures.safe jobs (jobs_seen c.args.order.plans)) in
+    let keeps : Keeps jobs [] (story line.run) (log_in report) =
+    subst (λ (groups : List GroupTurn). Keeps jobs groups (story line.run) (log_in report)) c.new.ensures (c.commission-line.ensures.headline jobs (jobs_seen c.args.order.plans)) in
     runs_so commission c.args.sim.now line report c.args.order.jobs c.args.order.devices c.args.log (outcome_of c.end_of_run.result)
     (driven commission c.args.order line report is c.commission-line.ensures.grows c.commission-line.ensures.script c.keeps-2.ensures.fresh c.keeps-2.ensures.legal c.keeps-2.ensures.follows
-    safe (c.commission-line.ensures.right jobs (jobs_seen c.args.order.plans) c.requires.good) (c.commission-line.ensures.fault jobs (jobs_seen c.args.order.plans))
+    keeps (c.commission-line.ensures.right jobs (jobs_seen c.args.order.plans) c.requires.good) (c.commission-line.ensures.fault jobs (jobs_seen c.args.order.plans))
     (λ none. c.commission-line.ensures.over none jobs (devices_seen c.args.order.plans)) c.commission-line.ensures.heard c.commission-line.ensures.missed c.commission-line.ensures.dropped)
     is.prepared.devices logs
     (subst (λ (devices : List (IndAddr × Option Image)). ShowsRun line.run report c.args.order.jobs devices c.args.log (outcome_of c.end_of_run.result)) c.as_slice.ensures c.end_of_run.ensures)

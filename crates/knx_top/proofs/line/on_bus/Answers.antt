@@ -1,4 +1,4 @@
-use Rattle.std.proofs.Common.{ap, sym, ◌∙◌, arith}
+use Rattle.std.proofs.Common.{arith}
 use Rattle.knx_top.proofs.OnBus.{bus_step, bus_whole}
 use Rattle.knx_top.proofs.line.on_bus.Goals as goal
 

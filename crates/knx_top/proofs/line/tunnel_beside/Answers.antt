@@ -1,4 +1,4 @@
-use Rattle.std.proofs.Common.{sym, ◌∙◌}
+use Rattle.std.proofs.Common.{◌∙◌}
 use Rattle.knx_top.proofs.Tunnels.{tunnel_some, tunnel_none}
 use Rattle.knx_top.proofs.line.tunnel_beside.Goals as goal
 

@@ -1,4 +1,5 @@
 use Rattle.std.proofs.Common.{rules, inl}
+use Rattle.tunnel_link.proofs.Caused.{cause_on, polled_tries}
 use Rattle.tunnel_link.proofs.Results.{answers_so}
 use Rattle.tunnel_link.proofs.sending.listened.Goals as goal
 
@@ -11,3 +12,8 @@ returns-in_err-answered-clause-so g c = inl (record {
   answers = answers_so c.answered.result c.from_residual-in_err-answered.result c.in_err-answered.field-0.0 (search rules) (search rules) _ c.polled.new.known c.answered.new.known _ _ c.answered.ensures.so;
   gives = search rules;
 })
+
+pub returns-in_err-answered-clause-cause : goal.returns-in_err-answered-clause-cause
+returns-in_err-answered-clause-cause g c =
+    λ calm. (cause_on c.answered.result c.from_residual-in_err-answered.result c.in_err-answered.field-0.0 (g.L.Link.faults c.args.link.now) (g.L.Link.faults c.polled.new.link) (g.L.Link.faults c.answered.new.link) (search rules) (search rules)
+    (c.answered.ensures.cause (polled_tries _ _ _ _ _ _ calm c.in_ok-what.ensures.so)) c.polled.ensures.count)

@@ -1,22 +1,30 @@
 use Rattle.std.proofs.Common.{◌≡◌, None}
 use Rattle.hub_core.proofs.Calls.{acts_failed, acts_done}
 use Rattle.hub_core.proofs.Keeps.{none_inside}
+use Rattle.hub_core.proofs.Prompting.{prompts_told}
 use Rattle.hub_core.proofs.View.{same_run}
 use Rattle.hub_core.proofs.Hears.{hears_none}
+use Rattle.hub_core.proofs.Pumping.{acts_so}
 use Rattle.hub_core.proofs.hub.Hub.act.Goals as goal
 
 pub invariant_of-self : goal.invariant_of-self
 invariant_of-self g c =
     let none : c.self.inside.tunnel.known.fault ≡ None = none_inside _ _ c.self.view_is c.requires.stands in
-    acts_failed _ _ _ _ _ _ _ none c.act.ensures.events c.act.ensures.grows _ _ c.in_err-acted.ensures.adds c.in_err-acted.ensures.fault (c.in_err-acted.ensures.by_tunnel none) c.self.invariant
+    acts_failed _ _ _ _ _ _ _ none c.act.ensures.events c.act.ensures.grows _ _ c.in_err-acted.ensures.adds c.in_err-acted.ensures.fault (c.in_err-acted.ensures.by_tunnel none) (prompts_told _ _ c.self.inside.work c.act.ensures.prompt) c.self.invariant
 
 pub invariant_of-self-2 : goal.invariant_of-self-2
 invariant_of-self-2 g c =
     let none : c.self.inside.tunnel.known.fault ≡ None = none_inside _ _ c.self.view_is c.requires.stands in
-    acts_done _ _ _ _ _ _ _ none c.act.ensures.events c.act.ensures.grows _ _ _ _ c.in_ok-acted.ensures.adds c.in_ok-acted.ensures.stands c.lose.ensures.books c.moments_go_on.ensures.later c.lose.ensures.fits c.now-now.ensures.newest c.self.invariant
+    acts_done _ _ _ _ _ _ _ none c.act.ensures.events c.act.ensures.grows _ _ _ _ c.in_ok-acted.ensures.adds c.in_ok-acted.ensures.stands c.lose.ensures.books c.moments_go_on.ensures.later c.lose.ensures.fits c.now-now.ensures.newest (prompts_told _ _ c.self.inside.work c.act.ensures.prompt) c.self.invariant
 
 pub returns-clause-run : goal.returns-clause-run
-returns-clause-run g c = rw (← c.self.view_is) (same_run _ _ c.self.inside.work c.lose.new.work _ _ _ c.lose.ensures.books)
+returns-clause-run g c = rw (← c.self.view_is) (same_run _ _ _ _ c.self.inside.work c.lose.new.work _ _ _ c.lose.ensures.books)
 
 pub returns-clause-heard : goal.returns-clause-heard
 returns-clause-heard g c = rw (← c.self.view_is) (hears_none _ _ _ c.in_ok-acted.ensures.adds (λ old added h. h.0))
+
+pub returns-clause-does : goal.returns-clause-does
+returns-clause-does g c = rw (← c.self.view_is) (acts_so _ _ c.in_ok-acted.acted c.in_ok-acted.ensures.adds)
+
+pub returns-clause-begun : goal.returns-clause-begun
+returns-clause-begun g c = rw (← c.self.view_is) c.lose.ensures.books.begun

@@ -10,11 +10,11 @@ returns-clause-tells g c =
 
 pub returns-clause-headline : goal.returns-clause-headline
 returns-clause-headline g c =
-    rw (← c.self.view_is) (λ jobs of prompt.
+    rw (← c.self.view_is) (λ jobs of.
     let here : AreJobsWith _ jobs = subst (λ (ts : List Task). AreJobsWith ts jobs) (seen_tasks c.self.inside.work) of in
     headline jobs c.self.inside.work.telegrams.turns c.self.inside.work.journal.entries _ c.self.inside.tunnel.known
     (c.one_downloader_per_device.ensures.alone jobs c.self.inside.work.journal.entries (c.self.invariant.books.written.reserved jobs (c.self.invariant.jobs_are jobs here)))
-    (λ places e. (c.self.invariant.told jobs here places e).tells) c.keeps.ensures.record c.keeps.ensures.legal prompt)
+    (λ places e. (c.self.invariant.told jobs here places e).tells) c.keeps.ensures.record c.keeps.ensures.legal (c.self.invariant.prompt jobs here))
 
 pub returns-clause-safe : goal.returns-clause-safe
 returns-clause-safe g c =

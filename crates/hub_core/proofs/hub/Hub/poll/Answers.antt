@@ -1,18 +1,21 @@
 use Rattle.std.proofs.Common.{◌≡◌, ◌∙◌, sym, Option, Some, None, subst}
 use Rattle.line_model.specs.declared.fault.HubFault.{HubFault}
+use Rattle.tunnel_link.specs.Adds.{Ready}
 use Rattle.hub_core.specs.Keeps.{Keeps}
 use Rattle.hub_core.specs.Taking.{EndsSo}
 use Rattle.hub_core.proofs.Calls.{polls_failed}
 use Rattle.hub_core.proofs.Keeps.{none_inside}
 use Rattle.hub_core.proofs.Polling.{polls_kept}
+use Rattle.hub_core.proofs.Prompting.{prompts_polled}
 use Rattle.hub_core.proofs.View.{same_run}
 use Rattle.hub_core.proofs.Hears.{hears_poll}
+use Rattle.hub_core.proofs.Pumping.{polls_so}
 use Rattle.hub_core.proofs.hub.Hub.poll.Goals as goal
 
 pub invariant_of-self : goal.invariant_of-self
 invariant_of-self g c =
     let none : c.self.inside.tunnel.known.fault ≡ None = none_inside _ _ c.self.view_is c.requires.stands in
-    polls_failed _ _ _ _ _ _ _ none c.poll.ensures.events c.poll.ensures.grows _ _ c.in_err-came.ensures.adds c.in_err-came.ensures.fault (c.in_err-came.ensures.by_tunnel none) c.self.invariant
+    polls_failed _ _ _ _ _ _ _ none c.poll.ensures.events c.poll.ensures.grows _ _ c.in_err-came.ensures.adds c.in_err-came.ensures.fault (c.in_err-came.ensures.by_tunnel none) (prompts_polled _ _ c.self.inside.work _ c.in_err-came.ensures.adds (λ e. c.poll.ensures.prompt (subst (λ v. v.closing ≡ None → Ready v.known (g.L.Link.story v.link)) (sym c.self.view_is) c.requires.ready e)) c.self.invariant.closes) c.self.invariant
 
 pub invariant_of-self-in-Some : goal.invariant_of-self-in-Some
 invariant_of-self-in-Some g c =
@@ -20,20 +23,23 @@ invariant_of-self-in-Some g c =
     subst (λ l. Keeps (g.L.Link.place l) (g.L.Link.story l) c.take_in-polled.new.work c.ending.new.met c.fail.new.self.known.fault) (sym c.fail.ensures.link)
     (polls_kept _ _ _ _ _ _ _ _ _ _ none c.poll.ensures.events c.poll.ensures.grows c.take_in-polled.ensures.books c.in_ok-came.came c.now-now-2.result c.taken.result c.in_ok-came.ensures.adds c.moments_go_on.ensures.later
     c.take_in-polled.ensures.fits c.now-now-2.ensures.newest (λ places e. c.taken.ensures ∙ (c.keeps.ensures.record places e).right.takes) (Some c.in-Some.fault) c.fail.ensures.fault
-    (subst (λ (o : Option HubFault). EndsSo c.take_in-polled.new.work c.self.inside.met c.ending.new.met c.in_ok-came.came.what c.taken.result o) c.in-Some.is c.ending.ensures) c.self.invariant)
+    (subst (λ (o : Option HubFault). EndsSo c.take_in-polled.new.work c.self.inside.met c.ending.new.met c.in_ok-came.came.what c.taken.result o) c.in-Some.is c.ending.ensures) (prompts_polled _ _ c.self.inside.work _ c.in_ok-came.ensures.adds (λ e. c.poll.ensures.prompt (subst (λ v. v.closing ≡ None → Ready v.known (g.L.Link.story v.link)) (sym c.self.view_is) c.requires.ready e)) c.self.invariant.closes) c.self.invariant)
 
 pub invariant_of-self-in-None : goal.invariant_of-self-in-None
 invariant_of-self-in-None g c =
     let none : c.self.inside.tunnel.known.fault ≡ None = none_inside _ _ c.self.view_is c.requires.stands in
     polls_kept _ _ _ _ _ _ _ _ _ _ none c.poll.ensures.events c.poll.ensures.grows c.take_in-polled.ensures.books c.in_ok-came.came c.now-now-2.result c.taken.result c.in_ok-came.ensures.adds c.moments_go_on.ensures.later
     c.take_in-polled.ensures.fits c.now-now-2.ensures.newest (λ places e. c.taken.ensures ∙ (c.keeps.ensures.record places e).right.takes) None c.in_ok-came.ensures.stands
-    (subst (λ (o : Option HubFault). EndsSo c.take_in-polled.new.work c.self.inside.met c.ending.new.met c.in_ok-came.came.what c.taken.result o) c.in-None.is c.ending.ensures) c.self.invariant
+    (subst (λ (o : Option HubFault). EndsSo c.take_in-polled.new.work c.self.inside.met c.ending.new.met c.in_ok-came.came.what c.taken.result o) c.in-None.is c.ending.ensures) (prompts_polled _ _ c.self.inside.work _ c.in_ok-came.ensures.adds (λ e. c.poll.ensures.prompt (subst (λ v. v.closing ≡ None → Ready v.known (g.L.Link.story v.link)) (sym c.self.view_is) c.requires.ready e)) c.self.invariant.closes) c.self.invariant
 
 pub returns-in-Some-clause-run : goal.returns-in-Some-clause-run
-returns-in-Some-clause-run g c = rw (← c.self.view_is) (same_run _ _ c.self.inside.work c.take_in-polled.new.work _ _ _ c.take_in-polled.ensures.books)
+returns-in-Some-clause-run g c = rw (← c.self.view_is) (same_run _ _ _ _ c.self.inside.work c.take_in-polled.new.work _ _ _ c.take_in-polled.ensures.books)
 
 pub returns-in-None-clause-run : goal.returns-in-None-clause-run
-returns-in-None-clause-run g c = rw (← c.self.view_is) (same_run _ _ c.self.inside.work c.take_in-polled.new.work _ _ _ c.take_in-polled.ensures.books)
+returns-in-None-clause-run g c = rw (← c.self.view_is) (same_run _ _ _ _ c.self.inside.work c.take_in-polled.new.work _ _ _ c.take_in-polled.ensures.books)
 
 pub returns-in-None-clause-heard : goal.returns-in-None-clause-heard
 returns-in-None-clause-heard g c = rw (← c.self.view_is) (hears_poll _ _ c.in_ok-came.came _ c.in_ok-came.ensures.adds c.take_in-polled.ensures.heard)
+
+pub returns-in-None-clause-moves : goal.returns-in-None-clause-moves
+returns-in-None-clause-moves g c = rw (← c.self.view_is) (rw c.take_in-polled.ensures.moved (polls_so _ _ c.in_ok-came.came c.in_ok-came.ensures.adds))

@@ -1,14 +1,28 @@
-use Rattle.std.proofs.Common.{◌≡◌, None}
+use Rattle.std.proofs.Common.{◌≡◌, false, Option, None, IfOk, sym, subst}
+use Rattle.std.specs.Prelude.{is_some}
+use Rattle.hub_work.specs.declared.closing.Closing.{Closing}
+use Rattle.hub_core.specs.Pumps.{AddsSo, Does, is_left_now}
 use Rattle.hub_core.proofs.Calls.{seeks_kept}
 use Rattle.hub_core.proofs.Keeps.{none_inside}
+use Rattle.hub_core.proofs.Prompting.{prompts_told}
 use Rattle.hub_core.proofs.Hears.{seeks_heard}
+use Rattle.hub_core.proofs.Pumping.{seeks_answer, seeks_none}
 use Rattle.hub_core.proofs.hub.Hub.seek.Goals as goal
 
 pub invariant_of-self : goal.invariant_of-self
 invariant_of-self g c =
     let none : c.self.inside.tunnel.known.fault ≡ None = none_inside _ _ c.self.view_is c.requires.stands in
     seeks_kept _ _ _ _ _ _ _ none c.seek-sought.ensures.events c.seek-sought.ensures.grows _ c.seek-sought.result _ c.seek-sought.ensures.adds c.seek-sought.ensures.fault c.seek-sought.ensures.stands (c.seek-sought.ensures.by_tunnel none)
-    c.moments_go_on.ensures.later c.moments_go_on.ensures.aside c.now-now.ensures.newest c.self.invariant
+    c.moments_go_on.ensures.later c.moments_go_on.ensures.aside c.now-now.ensures.newest (prompts_told _ _ c.self.inside.work c.seek-sought.ensures.prompt) c.self.invariant
 
 pub returns-in-None-clause-heard : goal.returns-in-None-clause-heard
 returns-in-None-clause-heard g c = rw (← c.self.view_is) (seeks_heard _ _ c.seek-sought.result c.seek-sought.ensures.adds)
+
+pub returns-in-None-clause-does : goal.returns-in-None-clause-does
+returns-in-None-clause-does g c =
+    rw (← c.self.view_is) (subst (λ (o : Option Closing). IfOk c.seek-sought.result (λ did. AddsSo (Does (is_left_now (is_some o)) did) (g.L.Link.story c.self.inside.tunnel.link) (g.L.Link.story c.seek-sought.new.self.link))) (sym c.in-None.is)
+    (seeks_answer _ _ c.seek-sought.result c.seek-sought.ensures.adds))
+
+pub returns-in-Some-clause-does : goal.returns-in-Some-clause-does
+returns-in-Some-clause-does g c =
+    rw (← c.self.view_is) (subst (λ (o : Option Closing). AddsSo (Does (is_left_now (is_some o)) false) (g.L.Link.story c.self.inside.tunnel.link) (g.L.Link.story c.self.inside.tunnel.link)) (sym c.in-Some.is) (seeks_none (g.L.Link.story c.self.inside.tunnel.link)))

@@ -1,15 +1,21 @@
-use Rattle.std.proofs.Common.{◌≡◌, ℕ, None, refl, sym, ap, subst, ◌∙◌}
+use Rattle.std.proofs.Common.{◌≡◌, ℕ, true, false, None, refl, sym, subst, ◌∙◌}
 use Rattle.line_model.specs.Asks.{HasPlace}
 use Rattle.line_model.specs.ClientView.{channel}
 use Rattle.line_model.specs.Moments.{moments, time}
 use Rattle.line_model.specs.Record.{entries}
 use Rattle.hub_work.specs.Follows.{WasSent, WasLost}
 use Rattle.hub_work.specs.Works.{KeepsBooks}
-use Rattle.hub_core.proofs.Keeps.{books_same, of_books, same_log}
+use Rattle.hub_core.proofs.Keeps.{books_same, of_books, stays_same}
+use Rattle.hub_core.proofs.Prompting.{prompts_told}
 use Rattle.hub_core.proofs.Putting.{telegram_so, put_done, put_failed}
 use Rattle.hub_core.proofs.View.{same_run, work_run}
 use Rattle.hub_core.proofs.Written.{written, told_writes}
 use Rattle.hub_core.proofs.Hears.{hears_put}
+use Rattle.hub_core.proofs.Waits.{waits_under_way, waits_unplaced, waits_held, sent_waits_not, lost_waits_not, put_waits_not}
+use Rattle.std.specs.Prelude.{is_none}
+use Rattle.line_model.specs.LinkStory.{IsPlace}
+use Rattle.line_model.specs.Log.{IsNextTurn}
+use Rattle.hub_work.specs.Waits.{HoldsBack}
 use Rattle.hub_core.proofs.hub.Hub.send_group.Goals as goal
 
 pub invariant_of-self : goal.invariant_of-self
@@ -27,9 +33,8 @@ invariant_of-self-in-Lost g c =
 pub invariant_of-self-in_err-put-in-Unput : goal.invariant_of-self-in_err-put-in-Unput
 invariant_of-self-in_err-put-in-Unput g c =
     let none : c.self.inside.tunnel.known.fault ≡ None = sym c.fault.ensures ∙ c.in_default.is in
-    put_failed _ _ _ _ c.self.inside.work c.telegram_put.new.self _ _ _ none c.put.ensures.events c.put.ensures.grows _ c.at-at.result c.at-at.ensures.value c.telegram_put.ensures.books.tasks_are (ap (λ r. r.devices) c.telegram_put.ensures.books.reservation)
-    c.telegram_put.ensures.books.turns (same_log c.self.inside.work c.telegram_put.new.self (of_books c.self.inside.work c.telegram_put.new.self c.telegram_put.ensures.books))
-    (books_same c.self.inside.work c.telegram_put.new.self (of_books c.self.inside.work c.telegram_put.new.self c.telegram_put.ensures.books) c.at-at.result (subst (λ (n : ℕ). KeepsBooks n c.self.inside.work) (sym c.at-at.ensures.value) c.self.invariant.books))
+    put_failed _ _ _ _ c.self.inside.work c.telegram_put.new.self _ _ _ none c.put.ensures.events c.put.ensures.grows _ c.at-at.result c.at-at.ensures.value (stays_same c.self.inside.work c.telegram_put.new.self (of_books c.self.inside.work c.telegram_put.new.self c.telegram_put.ensures.books))
+    (books_same c.self.inside.work c.telegram_put.new.self (of_books c.self.inside.work c.telegram_put.new.self c.telegram_put.ensures.books) c.at-at.result (subst (λ (n : ℕ). KeepsBooks n c.self.inside.work) (sym c.at-at.ensures.value) c.self.invariant.books)) (prompts_told _ _ c.self.inside.work c.put.ensures.prompt)
     (λ jobs old es fits.
     let place : HasPlace (channel (entries old)) = (c.has_place.ensures.told none old es).0 c.if-not-has_place.false in
     telegram_so _ c.self.inside.work c.telegram_put.new.self _ c.at-at.result jobs old es c.at-at.ensures.told place (c.places_are_free.ensures old (c.keeps.ensures.record old es).right.renews place)
@@ -39,9 +44,8 @@ invariant_of-self-in_err-put-in-Unput g c =
 pub invariant_of-self-in-Unput : goal.invariant_of-self-in-Unput
 invariant_of-self-in-Unput g c =
     let none : c.self.inside.tunnel.known.fault ≡ None = sym c.fault.ensures ∙ c.in_default.is in
-    put_done _ _ _ _ c.self.inside.work c.telegram_put.new.self _ _ _ none c.put.ensures.events c.put.ensures.grows _ c.at-at.result c.at-at.ensures.value c.telegram_put.ensures.books.tasks_are (ap (λ r. r.devices) c.telegram_put.ensures.books.reservation)
-    c.telegram_put.ensures.books.turns (same_log c.self.inside.work c.telegram_put.new.self (of_books c.self.inside.work c.telegram_put.new.self c.telegram_put.ensures.books))
-    (books_same c.self.inside.work c.telegram_put.new.self (of_books c.self.inside.work c.telegram_put.new.self c.telegram_put.ensures.books) c.at-at.result (subst (λ (n : ℕ). KeepsBooks n c.self.inside.work) (sym c.at-at.ensures.value) c.self.invariant.books))
+    put_done _ _ _ _ c.self.inside.work c.telegram_put.new.self _ _ _ none c.put.ensures.events c.put.ensures.grows _ c.at-at.result c.at-at.ensures.value (stays_same c.self.inside.work c.telegram_put.new.self (of_books c.self.inside.work c.telegram_put.new.self c.telegram_put.ensures.books))
+    (books_same c.self.inside.work c.telegram_put.new.self (of_books c.self.inside.work c.telegram_put.new.self c.telegram_put.ensures.books) c.at-at.result (subst (λ (n : ℕ). KeepsBooks n c.self.inside.work) (sym c.at-at.ensures.value) c.self.invariant.books)) (prompts_told _ _ c.self.inside.work c.put.ensures.prompt)
     (λ jobs old es fits.
     let place : HasPlace (channel (entries old)) = (c.has_place.ensures.told none old es).0 c.if-not-has_place.false in
     telegram_so _ c.self.inside.work c.telegram_put.new.self _ c.at-at.result jobs old es c.at-at.ensures.told place (c.places_are_free.ensures old (c.keeps.ensures.record old es).right.renews place)
@@ -49,18 +53,56 @@ invariant_of-self-in-Unput g c =
     _ c.in_ok-put-in-Unput.ensures.adds c.in_ok-put-in-Unput.ensures.stands c.self.invariant
 
 pub returns-in_err-put-in-Unput-clause-run : goal.returns-in_err-put-in-Unput-clause-run
-returns-in_err-put-in-Unput-clause-run g c = rw (← c.self.view_is) (same_run _ _ c.self.inside.work c.telegram_put.new.self _ _ _ (of_books c.self.inside.work c.telegram_put.new.self c.telegram_put.ensures.books))
+returns-in_err-put-in-Unput-clause-run g c = rw (← c.self.view_is) (same_run _ _ _ _ c.self.inside.work c.telegram_put.new.self _ _ _ (of_books c.self.inside.work c.telegram_put.new.self c.telegram_put.ensures.books))
 
 pub returns-in-Confirmed-clause-run : goal.returns-in-Confirmed-clause-run
-returns-in-Confirmed-clause-run g c = rw (← c.self.view_is) (work_run _ _ c.self.inside.work c.tell_telegram.new.self _ _ _ c.tell_telegram.ensures.run)
+returns-in-Confirmed-clause-run g c = rw (← c.self.view_is) (work_run _ _ _ _ c.self.inside.work c.tell_telegram.new.self _ _ _ c.tell_telegram.ensures.run)
 
 pub returns-in-Lost-clause-run : goal.returns-in-Lost-clause-run
-returns-in-Lost-clause-run g c = rw (← c.self.view_is) (work_run _ _ c.self.inside.work c.tell_telegram-in-Lost.new.self _ _ _ c.tell_telegram-in-Lost.ensures.run)
+returns-in-Lost-clause-run g c = rw (← c.self.view_is) (work_run _ _ _ _ c.self.inside.work c.tell_telegram-in-Lost.new.self _ _ _ c.tell_telegram-in-Lost.ensures.run)
 
 pub returns-in_ok-put-in-Unput-clause-run : goal.returns-in_ok-put-in-Unput-clause-run
-returns-in_ok-put-in-Unput-clause-run g c = rw (← c.self.view_is) (same_run _ _ c.self.inside.work c.telegram_put.new.self _ _ _ (of_books c.self.inside.work c.telegram_put.new.self c.telegram_put.ensures.books))
+returns-in_ok-put-in-Unput-clause-run g c = rw (← c.self.view_is) (same_run _ _ _ _ c.self.inside.work c.telegram_put.new.self _ _ _ (of_books c.self.inside.work c.telegram_put.new.self c.telegram_put.ensures.books))
 
 pub returns-in_ok-put-in-Unput-clause-heard : goal.returns-in_ok-put-in-Unput-clause-heard
 returns-in_ok-put-in-Unput-clause-heard g c =
     let none : c.self.inside.tunnel.known.fault ≡ None = sym c.fault.ensures ∙ c.in_default.is in
     rw (← c.self.view_is) (hears_put _ _ _ _ _ c.in_ok-put-in-Unput.ensures.adds (λ old es. (c.has_place.ensures.told none old es).0 c.if-not-has_place.false))
+
+pub returns-in-UnderWay-clause-waits : goal.returns-in-UnderWay-clause-waits
+returns-in-UnderWay-clause-waits g c =
+    let none : c.self.inside.tunnel.known.fault ≡ None = sym c.fault.ensures ∙ c.in_default.is in
+    rw (← c.self.view_is) (waits_under_way _ c.args.k _ c.self.inside.work _ _ none (subst (λ (n : ℕ). IsPlace n (g.L.Link.story c.self.inside.tunnel.link)) c.at-at.ensures.value c.at-at.ensures.told) c.self.invariant
+    (subst (λ v. IsNextTurn v.turns v.log c.args.k) (sym c.self.view_is) c.requires.next) (sym c.stage.ensures ∙ c.in-UnderWay.is))
+
+pub returns-then-not-has_place-clause-waits : goal.returns-then-not-has_place-clause-waits
+returns-then-not-has_place-clause-waits g c =
+    let none : c.self.inside.tunnel.known.fault ≡ None = sym c.fault.ensures ∙ c.in_default.is in
+    rw (← c.self.view_is) (waits_unplaced _ c.args.k _ c.self.inside.work _ _ none (subst (λ (n : ℕ). IsPlace n (g.L.Link.story c.self.inside.tunnel.link)) c.at-at.ensures.value c.at-at.ensures.told) c.self.invariant
+    (subst (λ v. IsNextTurn v.turns v.log c.args.k) (sym c.self.view_is) c.requires.next) (sym c.stage.ensures ∙ c.in-Unput.is) (λ places e place. let isnt : true ≡ false = sym ((c.has_place.ensures.told none places e).1 place) ∙ c.if-not-has_place.true in cc))
+
+pub returns-in_default-telegram-clause-waits : goal.returns-in_default-telegram-clause-waits
+returns-in_default-telegram-clause-waits g c =
+    let none : c.self.inside.tunnel.known.fault ≡ None = sym c.fault.ensures ∙ c.in_default.is in
+    rw (← c.self.view_is) (waits_held _ c.args.k _ c.self.inside.work _ _ none (subst (λ (n : ℕ). IsPlace n (g.L.Link.story c.self.inside.tunnel.link)) c.at-at.ensures.value c.at-at.ensures.told) c.self.invariant
+    (subst (λ v. IsNextTurn v.turns v.log c.args.k) (sym c.self.view_is) c.requires.next) (sym c.stage.ensures ∙ c.in-Unput.is)
+    (subst (λ o. HoldsBack c.self.inside.work (is_none o)) c.in_default-telegram.is c.telegram.ensures.held))
+
+pub returns-in-Confirmed-clause-waits : goal.returns-in-Confirmed-clause-waits
+returns-in-Confirmed-clause-waits g c =
+    let none : c.self.inside.tunnel.known.fault ≡ None = sym c.fault.ensures ∙ c.in_default.is in
+    rw (← c.self.view_is) (sent_waits_not _ c.args.k _ c.self.inside.work _ _ none (subst (λ (n : ℕ). IsPlace n (g.L.Link.story c.self.inside.tunnel.link)) c.at-at.ensures.value c.at-at.ensures.told) c.self.invariant
+    (subst (λ v. IsNextTurn v.turns v.log c.args.k) (sym c.self.view_is) c.requires.next) (sym c.stage.ensures ∙ c.in-Confirmed.is))
+
+pub returns-in-Lost-clause-waits : goal.returns-in-Lost-clause-waits
+returns-in-Lost-clause-waits g c =
+    let none : c.self.inside.tunnel.known.fault ≡ None = sym c.fault.ensures ∙ c.in_default.is in
+    rw (← c.self.view_is) (lost_waits_not _ c.args.k _ c.self.inside.work _ _ none (subst (λ (n : ℕ). IsPlace n (g.L.Link.story c.self.inside.tunnel.link)) c.at-at.ensures.value c.at-at.ensures.told) c.self.invariant
+    (subst (λ v. IsNextTurn v.turns v.log c.args.k) (sym c.self.view_is) c.requires.next) (sym c.stage.ensures ∙ c.in-Lost.is))
+
+pub returns-in_ok-put-in-Unput-clause-waits : goal.returns-in_ok-put-in-Unput-clause-waits
+returns-in_ok-put-in-Unput-clause-waits g c =
+    let none : c.self.inside.tunnel.known.fault ≡ None = sym c.fault.ensures ∙ c.in_default.is in
+    rw (← c.self.view_is) (put_waits_not _ c.args.k _ c.self.inside.work _ _ none (subst (λ (n : ℕ). IsPlace n (g.L.Link.story c.self.inside.tunnel.link)) c.at-at.ensures.value c.at-at.ensures.told) c.self.invariant
+    (subst (λ v. IsNextTurn v.turns v.log c.args.k) (sym c.self.view_is) c.requires.next) (sym c.stage.ensures ∙ c.in-Unput.is) (λ places e. (c.has_place.ensures.told none places e).0 c.if-not-has_place.false)
+    (subst (λ o. HoldsBack c.self.inside.work (is_none o)) c.in-Some-telegram.is c.telegram.ensures.held))

@@ -3,6 +3,7 @@ use Rattle.std.proofs.lemmas.List.{reverse-reverse}
 use Rattle.line_model.specs.LinkStory.{record_in}
 use Rattle.line_model.specs.Log.{AllOver, TurnUnfinished}
 use Rattle.hub_driver.proofs.Told.{told_right}
+use Rattle.hub_driver.proofs.Causes.{told_caused}
 use Rattle.hub_driver.proofs.driver.Driver.close.Goals as goal
 
 pub returns-clause-fault : goal.returns-clause-fault
@@ -20,3 +21,7 @@ pub returns-clause-told : goal.returns-clause-told
 returns-clause-told g c = λ fine.
     let log_is : reverse c.close-link.result.log ≡ c.args.self.hub.log = ap reverse c.close-link.ensures.log ∙ reverse-reverse c.args.self.hub.log in
     subst (λ l. TurnUnfinished c.args.self.hub.turns l → ⊥) (sym log_is) (c.requires.done (c.told_fault.ensures.none fine)).telegrams
+
+pub returns-clause-caused : goal.returns-clause-caused
+returns-clause-caused g c = λ before was.
+    told_caused c.close-link.result.fault c.told_fault.result before _ c.told_fault.ensures.fault (rw (c.close-link.ensures.fault, c.close-link.ensures.link) was)

@@ -1,8 +1,8 @@
-use Rattle.std.specs.Prelude.{◌≡◌}
+use Rattle.std.specs.Prelude.{◌≡◌, ℕ}
 use Rattle.line_model.specs.LinkStory.{record_in}
 use Rattle.hub_core.specs.Seen.{SameRun}
 use Rattle.tunnel_link.specs.Goes.{GoesOn}
-use Rattle.hub_driver.specs.Drives.{LeavesOpen}
+use Rattle.hub_driver.specs.Drives.{LeavesOpen, CausedSince}
 use Rattle.hub_driver.specs.Heard.{HeardAll}
 use Rattle.hub_driver.proofs.driver.Driver.commissions.Given as goal
 
@@ -13,6 +13,7 @@ invariant-loop g l = record {
   finite : (goal.iterator-loop g).is_finite l.iterator';
   grows : GoesOn (g.L.Link.story l.fn.self.hub.link) (g.L.Link.story l.self.hub.link);
   script : g.L.Link.script l.self.hub.link ≡ g.L.Link.script l.fn.self.hub.link;
+  caused : (before : ℕ) → CausedSince before l.fn.self.hub.fault (g.L.Link.faults l.fn.self.hub.link) → CausedSince before l.self.hub.fault (g.L.Link.faults l.self.hub.link);
   run : SameRun l.fn.self.hub l.self.hub;
   open_jobs : LeavesOpen l.self.hub l.self.unfinished;
   heard : HeardAll l.self.heard (record_in (g.L.Link.story l.self.hub.link));

@@ -1,7 +1,21 @@
 use Rattle.std.proofs.Common.{ap}
 use Rattle.hub_core.specs.Hears.{heard_at_end}
+use Rattle.hub_driver.proofs.Causes.{call_caused}
 use Rattle.hub_driver.proofs.Hearing.{hears_none, hears_one}
+use Rattle.hub_driver.proofs.Telling.{stays_done}
 use Rattle.hub_driver.proofs.driver.Driver.finishes.Goals as goal
+
+pub finish-requires : goal.finish-requires
+finish-requires g c = record { over = c.requires.done.jobs; told = c.requires.done.telegrams }
+
+pub returns-in_ok-hears-in-Heard-clause-done : goal.returns-in_ok-hears-in-Heard-clause-done
+returns-in_ok-hears-in-Heard-clause-done g c = rw c.hears.ensures.hub (stays_done _ _ c.finish.ensures.run c.finish.ensures.log c.requires.done)
+
+pub returns-in-Going-clause-done : goal.returns-in-Going-clause-done
+returns-in-Going-clause-done g c = stays_done _ _ c.finish.ensures.run c.finish.ensures.log c.requires.done
+
+pub returns-in-Over-clause-done : goal.returns-in-Over-clause-done
+returns-in-Over-clause-done g c = stays_done _ _ c.finish.ensures.run c.finish.ensures.log c.requires.done
 
 pub returns-in_ok-hears-in-Heard-clause-heard : goal.returns-in_ok-hears-in-Heard-clause-heard
 returns-in_ok-hears-in-Heard-clause-heard g c =
@@ -13,3 +27,18 @@ returns-in-Going-clause-heard g c = hears_none _ _ _ _ (ap heard_at_end c.in-Goi
 
 pub returns-in-Over-clause-heard : goal.returns-in-Over-clause-heard
 returns-in-Over-clause-heard g c = hears_none _ _ _ _ (ap heard_at_end c.in-Over.is) c.finish.ensures.grows c.in_ok-indication.ensures.heard c.requires.heard
+
+pub returns-in_err-indication-clause-caused : goal.returns-in_err-indication-clause-caused
+returns-in_err-indication-clause-caused g c = call_caused c.finish.result _ _ _ _ _ (ap g.L.Link.faults) c.finish.ensures.count c.finish.ensures.cause c.finish.ensures.stands c.finish.ensures.ended c.finish.ensures.fault
+
+pub returns-in_err-hears-in-Heard-clause-caused : goal.returns-in_err-hears-in-Heard-clause-caused
+returns-in_err-hears-in-Heard-clause-caused g c = rw c.hears.ensures.hub (call_caused c.finish.result _ _ _ _ _ (ap g.L.Link.faults) c.finish.ensures.count c.finish.ensures.cause c.finish.ensures.stands c.finish.ensures.ended c.finish.ensures.fault)
+
+pub returns-in_ok-hears-in-Heard-clause-caused : goal.returns-in_ok-hears-in-Heard-clause-caused
+returns-in_ok-hears-in-Heard-clause-caused g c = rw c.hears.ensures.hub (call_caused c.finish.result _ _ _ _ _ (ap g.L.Link.faults) c.finish.ensures.count c.finish.ensures.cause c.finish.ensures.stands c.finish.ensures.ended c.finish.ensures.fault)
+
+pub returns-in-Going-clause-caused : goal.returns-in-Going-clause-caused
+returns-in-Going-clause-caused g c = call_caused c.finish.result _ _ _ _ _ (ap g.L.Link.faults) c.finish.ensures.count c.finish.ensures.cause c.finish.ensures.stands c.finish.ensures.ended c.finish.ensures.fault
+
+pub returns-in-Over-clause-caused : goal.returns-in-Over-clause-caused
+returns-in-Over-clause-caused g c = call_caused c.finish.result _ _ _ _ _ (ap g.L.Link.faults) c.finish.ensures.count c.finish.ensures.cause c.finish.ensures.stands c.finish.ensures.ended c.finish.ensures.fault

@@ -5,6 +5,7 @@ use Rattle.hub_work.specs.declared.answers.Pumped.{Pumped}
 use Rattle.hub_work.specs.declared.answers.Pumped.TheVariants.{Nothing, Moved}
 use Rattle.hub_core.specs.Hears.{heard_of}
 use Rattle.hub_driver.specs.Heard.{HeardAll}
+use Rattle.hub_driver.proofs.Causes.{call_caused}
 use Rattle.hub_driver.proofs.Hearing.{hears_none, hears_one}
 use Rattle.hub_driver.proofs.driver.Driver.pumps.Goals as goal
 
@@ -20,3 +21,12 @@ none pumped (inr e) = ap heard_of e
 
 pub returns-in-Nothing-clause-heard : goal.returns-in-Nothing-clause-heard
 returns-in-Nothing-clause-heard g c = hears_none _ _ _ _ (none c.in_ok-indication.field-0 c.in-Nothing.is) c.pump.ensures.grows c.in_ok-indication.ensures.heard c.requires.heard
+
+pub returns-in_err-indication-clause-caused : goal.returns-in_err-indication-clause-caused
+returns-in_err-indication-clause-caused g c = call_caused c.pump.result _ _ _ _ _ (ap g.L.Link.faults) c.pump.ensures.count c.pump.ensures.cause c.pump.ensures.stands c.pump.ensures.ended c.pump.ensures.fault
+
+pub returns-in-Heard-clause-caused : goal.returns-in-Heard-clause-caused
+returns-in-Heard-clause-caused g c = rw c.hears.ensures.hub (call_caused c.pump.result _ _ _ _ _ (ap g.L.Link.faults) c.pump.ensures.count c.pump.ensures.cause c.pump.ensures.stands c.pump.ensures.ended c.pump.ensures.fault)
+
+pub returns-in-Nothing-clause-caused : goal.returns-in-Nothing-clause-caused
+returns-in-Nothing-clause-caused g c = call_caused c.pump.result _ _ _ _ _ (ap g.L.Link.faults) c.pump.ensures.count c.pump.ensures.cause c.pump.ensures.stands c.pump.ensures.ended c.pump.ensures.fault

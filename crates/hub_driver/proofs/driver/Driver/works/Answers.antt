@@ -2,7 +2,9 @@ use Rattle.std.proofs.Common.{None, refl, sym, ap, subst, ◌∙◌}
 use Rattle.line_model.specs.LinkStory.{record_in}
 use Rattle.tunnel_link.specs.Goes.{GoesOn}
 use Rattle.tunnel_link.proofs.Stories.{goes_again}
+use Rattle.hub_driver.specs.Drives.{CausedSince}
 use Rattle.hub_driver.specs.Heard.{HeardAll}
+use Rattle.hub_driver.proofs.Causes.{call_caused}
 use Rattle.hub_driver.proofs.Hearing.{hears_none}
 use Rattle.hub_driver.proofs.driver.Driver.works.Goals.{in-Took, in-Wait+in_ok-pumps-in-Wait, in-Done, in-Moved}
 use Rattle.hub_driver.proofs.driver.Driver.works.Goals as goal
@@ -31,4 +33,20 @@ returns-clause-heard g c =
       | in-Wait+in_ok-pumps-in-Wait w ↦ rw w.self-is w.in_ok-pumps-in-Wait.ensures.heard
       | in-Done w ↦ rw (w.self-is, w.ended.ensures.heard, w.ended.ensures.hub) none
       | in-Moved w ↦ rw w.self-is none
+    ]
+
+pub returns-in_err-job-clause-caused : goal.returns-in_err-job-clause-caused
+returns-in_err-job-clause-caused g c = call_caused c.turn.result _ _ _ _ _ (ap g.L.Link.faults) c.turn.ensures.count c.turn.ensures.cause c.turn.ensures.stands c.turn.ensures.ended c.turn.ensures.fault
+
+pub returns-in_err-pumps-in-Wait-clause-caused : goal.returns-in_err-pumps-in-Wait-clause-caused
+returns-in_err-pumps-in-Wait-clause-caused g c = λ before was. c.pumps.ensures.caused before (call_caused c.turn.result _ _ _ _ _ (ap g.L.Link.faults) c.turn.ensures.count c.turn.ensures.cause c.turn.ensures.stands c.turn.ensures.ended c.turn.ensures.fault before was)
+
+pub returns-clause-caused : goal.returns-clause-caused
+returns-clause-caused g c = λ before was.
+    let caused : CausedSince before c.turn.new.self.fault (g.L.Link.faults c.turn.new.self.link) = call_caused c.turn.result _ _ _ _ _ (ap g.L.Link.faults) c.turn.ensures.count c.turn.ensures.cause c.turn.ensures.stands c.turn.ensures.ended c.turn.ensures.fault before was in
+    elim c.match-branch-2.branch [
+      | in-Took w ↦ rw w.self-is caused
+      | in-Wait+in_ok-pumps-in-Wait w ↦ rw w.self-is (w.pumps.ensures.caused before caused)
+      | in-Done w ↦ rw (w.self-is, w.ended.ensures.hub) caused
+      | in-Moved w ↦ rw w.self-is caused
     ]

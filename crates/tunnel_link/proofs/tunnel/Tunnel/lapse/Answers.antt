@@ -1,6 +1,7 @@
-use Rattle.std.proofs.Common.{rules, sym, subst, ◌∙◌, ap}
+use Rattle.std.proofs.Common.{rules, sym, subst, ◌∙◌, ap, arith}
 use Rattle.line_model.specs.LinkStory.{IsTime}
 use Rattle.tunnel_link.proofs.CallAnswers.{lapse_call_keeps, lapse_call_goes, still_ok, still_err}
+use Rattle.tunnel_link.proofs.Caused.{cause_on}
 use Rattle.tunnel_link.proofs.Faulted.{lapsed_of, answers_of, passed_on}
 use Rattle.tunnel_link.proofs.tunnel.Tunnel.lapse.Goals as goal
 
@@ -24,3 +25,8 @@ returns-clause-still g c = rw (← ap (λ v. v.link) c.self.view_is) (still_ok _
 
 pub returns-in_err-answered-clause-by_tunnel : goal.returns-in_err-answered-clause-by_tunnel
 returns-in_err-answered-clause-by_tunnel g c = passed_on c.answered.result _ c.in_err-answered.field-0.0 (search rules) (search rules) (answers_of _ _ _ _ _ _ (rw c.lapse-loss.ensures.next (lapsed_of _ _ (ap (λ v. v.known.fault) c.self.view_is ∙ c.requires.stands))) c.answered.ensures.so)
+
+pub returns-in_err-answered-clause-cause : goal.returns-in_err-answered-clause-cause
+returns-in_err-answered-clause-cause g c =
+    rw (← ap (λ v. v.link) c.self.view_is) (cause_on c.answered.result _ c.in_err-answered.field-0.0 (g.L.Link.faults c.self.inside.link) (g.L.Link.faults c.self.inside.link) (g.L.Link.faults c.answered.new.link) (search rules) (search rules)
+    (c.answered.ensures.cause (rw c.lapse-loss.ensures.next (lapsed_of _ _ (ap (λ v. v.known.fault) c.self.view_is ∙ c.requires.stands)))) (omega arith))

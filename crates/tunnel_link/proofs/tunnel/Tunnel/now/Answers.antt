@@ -1,4 +1,3 @@
-use Rattle.std.proofs.Common.{rules}
 use Rattle.tunnel_link.proofs.CallsKept.{time_is}
 use Rattle.tunnel_link.proofs.tunnel.Tunnel.now.Goals as goal
 

@@ -1,7 +1,11 @@
-use Rattle.std.proofs.Common.{rules, ap}
+use Rattle.std.proofs.Common.{◌≡◌, ◌<◌, ◌≤◌, ◌+◌, ℕ, Option, sym, subst, ap, ◌∙◌, arith}
+use Rattle.std.specs.Prelude.{IfSome}
+use Rattle.tunnel_link.specs.Kept.{next_due}
+use Rattle.tunnel_link.proofs.Deadlines.{WaitsUntil}
 use Rattle.tunnel_link.proofs.PollKept.{listens_go, poll_keeps, poll_adds}
 use Rattle.tunnel_link.proofs.Read.{has_tunnels}
 use Rattle.tunnel_link.proofs.Faulted.{listens_of}
+use Rattle.tunnel_link.proofs.Prompts.{poll_prompt}
 use Rattle.tunnel_link.proofs.tunnel.Tunnel.poll.Goals as goal
 
 pub invariant_of-self : goal.invariant_of-self
@@ -15,3 +19,12 @@ returns-clause-adds g c = rw (← ap (λ v. v.link) c.self.view_is) (poll_adds _
 
 pub returns-clause-by_tunnel : goal.returns-clause-by_tunnel
 returns-clause-by_tunnel g c = λ u. (listens_of _ _ _ _ _ _ c.in_ok-standing.ensures.stands c.listened.ensures.so)
+
+pub returns-clause-prompt : goal.returns-clause-prompt
+returns-clause-prompt g c =
+    let same : (c.deadline.result ≡ next_due c.self.inside.known) = c.deadline.ensures.value ∙ ap (λ v. next_due v.known) (sym c.self.view_is) in
+    let w : WaitsUntil (next_due c.self.inside.known) c.now-now.result (c.now-now.result + c.until-wait_ms.result) = record {
+      in_time = subst (λ (d : Option ℕ). IfSome d (λ time. c.now-now.result < time → c.now-now.result + c.until-wait_ms.result ≤ time)) same c.until-wait_ms.ensures.in_time;
+      in_range = c.until-wait_ms.ensures.in_range;
+    } in
+    rw (← c.self.view_is) (λ ready. (poll_prompt _ c.until-wait_ms.result c.now-now.result _ _ _ _ (has_tunnels c.frames_are_read.ensures.datagrams) c.self.invariant c.in_ok-standing.ensures.stands c.listened.ensures.so c.now-now.ensures.told (omega arith) w ready))

@@ -1,7 +1,8 @@
-use Rattle.std.proofs.Common.{rules, sym, ◌∙◌, ap}
-use Rattle.tunnel_link.proofs.CallAnswers.{sends_go_on, put_call_keeps, put_call_adds, put_none_keeps}
+use Rattle.std.proofs.Common.{sym, ◌∙◌, ap}
+use Rattle.tunnel_link.proofs.CallAnswers.{sends_go_on, put_call_keeps, put_call_adds}
 use Rattle.tunnel_link.proofs.CallsKept.{unput_adds}
 use Rattle.tunnel_link.proofs.Faulted.{sends_of}
+use Rattle.tunnel_link.proofs.Prompts.{none_prompt, sends_prompt}
 use Rattle.tunnel_link.proofs.tunnel.Tunnel.put.Goals as goal
 
 pub invariant_of-self : goal.invariant_of-self
@@ -18,3 +19,9 @@ returns-in-None-clause-adds g c = rw (← ap (λ v. v.link) c.self.view_is) (unp
 
 pub returns-in-Some-clause-by_tunnel : goal.returns-in-Some-clause-by_tunnel
 returns-in-Some-clause-by_tunnel g c = λ u. (sends_of _ _ _ _ _ _ c.sent.ensures.so)
+
+pub returns-in-Some-clause-prompt : goal.returns-in-Some-clause-prompt
+returns-in-Some-clause-prompt g c = rw (← ap (λ v. v.link) c.self.view_is) (sends_prompt _ _ _ _ _ _ c.self.invariant.legal c.sent.ensures.so)
+
+pub returns-in-None-clause-prompt : goal.returns-in-None-clause-prompt
+returns-in-None-clause-prompt g c = rw (← ap (λ v. v.link) c.self.view_is) (none_prompt _)

@@ -1,0 +1,115 @@
+-- Within one poll no deadline is passed over: no wait goes on past it.
+use Rattle.std.proofs.Common.{◌≡◌, ℕ, ◌+◌, ◌<◌, ◌≤◌, List, [], ◌∷◌, ◌++◌, Bool, true, false, refl, subst, ap, ◌∙◌, arith}
+use Rattle.std.specs.Prelude.{◌&&◌}
+use Rattle.line_model.specs.Record.{Item, Quiet, Entry, entry, Placed, entries}
+use Rattle.line_model.specs.LinkStory.{newest_time, AreWaits}
+use Rattle.line_model.specs.ClientView.{ClientChannel, channel, after_entry}
+use Rattle.line_model.specs.Renews.{is_left, is_late, is_overdue, PollsPromptly, to_last_poll, to_poll_before}
+use Rattle.line_model.specs.ClientEnd.{ClientEnd, Idle, Seeking, Open, Leaving, JustLost, is_over}
+use Rattle.tunnel_link.specs.declared.known.Known.{Known}
+use Rattle.tunnel_link.specs.Goes.{TimesMove}
+use Rattle.tunnel_link.specs.Kept as kept
+use Rattle.tunnel_link.specs.Kept.{next_due, is_over_for}
+use Rattle.tunnel_link.specs.Rights.{FitsNow, FitsRecord}
+use Rattle.tunnel_link.specs.Adds.{AllPrompt}
+use Rattle.tunnel_link.proofs.Deadlines.{WaitsUntil, waits_before, timely}
+use Rattle.tunnel_link.proofs.Late.{late_same, late_before, quiet_late}
+use Rattle.tunnel_link.proofs.PollParts.{PollsOnce, NoPoll, Polls, PollsAndSends, IsPolling}
+use Rattle.tunnel_link.proofs.Polls.{newest_last, waits_all}
+use Rattle.tunnel_link.proofs.Times.{last_poll_time, poll_before_time, waits_rise, waits_move, first_wait}
+use Rattle.tunnel_link.proofs.Waited.{Waited, InTime, Lapsed, Unheard, or_neither, none_stays}
+
+-- ---- while the wait goes on
+
+in_time_of : (k : Known) (old ws : List Placed) → Waited k old ws → is_over_for k (newest_time (entries (ws ++ old))) ≡ false → FitsRecord k (entries (ws ++ old))
+in_time_of k old ws (InTime f a) o = f
+in_time_of k old ws (Lapsed h one) o = absurd (let over : (is_over_for k (newest_time (entries (ws ++ old))) ≡ true) = h.over in cc)
+in_time_of k old ws (Unheard h a) o =
+    let both = or_neither (kept.is_late k.flight (newest_time (entries (ws ++ old)))) (is_over k.channel (newest_time (entries (ws ++ old)))) o in
+    absurd (let over : (is_over k.channel (newest_time (entries (ws ++ old))) ≡ true) = ap (λ (end : ClientEnd). is_over end (newest_time (entries (ws ++ old)))) h.is ∙ h.over in let none : (is_over k.channel (newest_time (entries (ws ++ old))) ≡ false) = both.1 in cc)
+
+stays_here : (end : ClientEnd) (ch : ClientChannel) (at : ℕ) → FitsNow end ch → FitsNow end (after_entry ch (entry Quiet at)) → is_left ch ≡ false → is_left (after_entry ch (entry Quiet at)) ≡ false
+stays_here Idle ch at f g h = rw (none_stays ch Quiet at refl f) h
+stays_here (Seeking since) ch at f g h = rw g refl
+stays_here (Open e) ch at f g h = rw g.is refl
+stays_here (Leaving e) ch at f g h = rw g.is refl
+stays_here (JustLost c) ch at f g h = absurd f
+
+not_overdue : (ch : ClientChannel) (l : List Entry) → (is_left ch && is_left (channel l)) ≡ false → is_late ch (newest_time l) ≡ false → is_overdue ch l ≡ false
+not_overdue ch [] left late = refl
+not_overdue ch (x ∷ l) left late = rw (left, late) refl
+
+and_none : (a b : Bool) → (b ≡ true → a ≡ false) → (a && b) ≡ false
+and_none true true h = h refl
+and_none true false h = refl
+and_none false b h = refl
+
+last_of_waits : (x : Entry) (r : List Entry) → x.what ≡ Quiet → to_last_poll (x ∷ r) ≡ x ∷ r
+last_of_waits x r q = rw q refl
+
+before_waits : (x : Entry) (r : List Entry) → x.what ≡ Quiet → to_poll_before (x ∷ r) ≡ to_last_poll r
+before_waits x r q = rw q refl
+
+quiet_is : (p : Placed) → p.what.what ≡ Quiet → p.what ≡ entry Quiet p.what.now
+quiet_is p q = ap (λ (what : Item). entry what p.what.now) q
+
+module _ (k : Known) (old : List Placed) (f : FitsRecord k (entries old)) (moves : TimesMove (entries old)) (acted : is_late (channel (entries old)) (newest_time (entries old)) ≡ false) (sought : is_left (channel (entries old)) ≡ false)
+    (until : ℕ) (most : until ≤ newest_time (entries old) + 100) (w : WaitsUntil (next_due k) (newest_time (entries old)) until) where
+  record Still (ws : List Placed) : Type 0 where
+    pub fits : FitsRecord k (entries (ws ++ old))
+    pub here : is_left (channel (entries (ws ++ old))) ≡ false
+    pub in_time : is_late (channel (entries (ws ++ old))) (newest_time (entries (ws ++ old))) ≡ false
+
+  still : (ws : List Placed) → AreWaits (newest_time (entries old)) (entries ws) → newest_time (entries (ws ++ old)) < until → Still ws
+  still [] h lt = record { fits = f; here = sought; in_time = acted }
+  still (p ∷ ws) h lt =
+      let rises : newest_time (entries (ws ++ old)) < p.what.now = (let last = newest_last old ws in let up = h.1 in omega arith) in
+      let before : Still ws = still ws h.2 (omega arith) in
+      let on_time = timely k p.what.now (waits_before k (entries old) until f acted w p.what.now (let up = waits_rise old ws h.2 in omega arith) lt) in
+      let fits : FitsRecord k (p.what ∷ entries (ws ++ old)) = in_time_of k old (p ∷ ws) (waits_all k old (p ∷ ws) f h) on_time.0 in
+      let quiet : (p.what ≡ entry Quiet p.what.now) = quiet_is p h.0 in
+      record {
+        fits = fits;
+        here = rw quiet (stays_here k.channel (channel (entries (ws ++ old))) p.what.now before.fits.end (subst (λ (x : Entry). FitsNow k.channel (after_entry (channel (entries (ws ++ old))) x)) quiet fits.end) before.here);
+        in_time = late_same k.channel (channel (p.what ∷ entries (ws ++ old))) p.what.now fits.end ∙ on_time.1;
+      }
+
+  -- what was left at the poll before isn't left after one more wait
+  left_once : (p : Placed) (ws : List Placed) → AreWaits (newest_time (entries old)) (entries (p ∷ ws)) → p.what.now ≤ until → is_left (channel (to_last_poll (entries (ws ++ old)))) ≡ true → is_left (channel (p.what ∷ entries (ws ++ old))) ≡ false
+  left_once p [] h le left = rw (quiet_is p h.0) (first_wait (entries old) p.what.now moves sought (omega arith) left)
+  left_once p (q ∷ ws) h le left =
+      let s : Still (q ∷ ws) = still (q ∷ ws) h.2 (let up = h.1 in omega arith) in
+      let same : (to_last_poll (q.what ∷ entries (ws ++ old)) ≡ q.what ∷ entries (ws ++ old)) = last_of_waits q.what (entries (ws ++ old)) h.2.0 in
+      absurd (let none : (is_left (channel (q.what ∷ entries (ws ++ old))) ≡ false) = s.here in let some : (is_left (channel (q.what ∷ entries (ws ++ old))) ≡ true) = rw same at left in cc)
+
+  next : (ws : List Placed) → AreWaits (newest_time (entries old)) (entries ws) → newest_time (entries (ws ++ old)) ≤ until → is_overdue (channel (entries (ws ++ old))) (to_poll_before (entries (ws ++ old))) ≡ false
+  next [] h le =
+      not_overdue (channel (entries old)) (to_poll_before (entries old)) (rw sought refl)
+      (late_before (channel (entries old)) (newest_time (to_poll_before (entries old))) (newest_time (entries old)) (poll_before_time (entries old) moves) acted)
+  next (p ∷ ws) h le =
+      let r : List Entry = entries (ws ++ old) in
+      let rises : newest_time (entries (ws ++ old)) < p.what.now = (let last = newest_last old ws in let up = h.1 in omega arith) in
+      let s : Still ws = still ws h.2 (omega arith) in
+      let last : newest_time (to_last_poll (entries (ws ++ old))) ≤ newest_time (entries (ws ++ old)) = last_poll_time (entries (ws ++ old)) (waits_move old ws moves h.2) in
+      rw (before_waits p.what (entries (ws ++ old)) h.0)
+      (not_overdue (channel (p.what ∷ entries (ws ++ old))) (to_last_poll (entries (ws ++ old)))
+      (and_none (is_left (channel (p.what ∷ entries (ws ++ old)))) (is_left (channel (to_last_poll (entries (ws ++ old))))) (left_once p ws h le))
+      (rw (quiet_is p h.0) (quiet_late (channel (entries (ws ++ old))) p.what.now (newest_time (to_last_poll (entries (ws ++ old)))) (omega arith)
+      (late_before (channel (entries (ws ++ old))) (newest_time (to_last_poll (entries (ws ++ old)))) (newest_time (entries (ws ++ old))) last s.in_time))))
+
+  next_prompt : (ws : List Placed) → AreWaits (newest_time (entries old)) (entries ws) → newest_time (entries (ws ++ old)) ≤ until → (x : Entry) → PollsPromptly (entries (ws ++ old)) x
+  next_prompt ws h le x = λ poll. next ws h le
+
+  waits_prompt : (ws : List Placed) → AreWaits (newest_time (entries old)) (entries ws) → newest_time (entries (ws ++ old)) ≤ until → AllPrompt old ws
+  waits_prompt [] h le = tt
+  waits_prompt (p ∷ ws) h le =
+      let rises : newest_time (entries (ws ++ old)) ≤ until = (let last = newest_last old ws in let up = h.1 in omega arith) in
+      (next_prompt ws h.2 rises p.what, waits_prompt ws h.2 rises)
+
+  once_prompt : (rest ws : List Placed) → PollsOnce rest → AreWaits (newest_time (entries old)) (entries ws) → newest_time (entries (ws ++ old)) ≤ until → AllPrompt old (rest ++ ws)
+  once_prompt rest ws NoPoll h le = waits_prompt ws h le
+  once_prompt rest ws (Polls p) h le = (next_prompt ws h le p.what, waits_prompt ws h le)
+  once_prompt rest ws (PollsAndSends s p n) h le = ((λ poll. absurd (cc)), (next_prompt ws h le p.what, waits_prompt ws h le))
+
+  pub polling_prompt : (wait : ℕ) (added : List Placed) → until ≡ newest_time (entries old) + wait → IsPolling wait old added → AllPrompt old added
+  polling_prompt wait added same p = rw p.parts (once_prompt p.rest p.waits p.once p.times (let le = p.in_time in omega arith))
