@@ -1,8 +1,8 @@
 -- A run over a dialled link, once it was handed back; and what is written of a download.
 use Rattle.std.proofs.Common.{◌≡◌, ℕ, zero, suc, ◌+◌, ◌-◌, ◌^◌, ◌<◌, ◌≤◌, Bool, List, [], map, min, Option, Some, None, Result, Ok, Err, refl, sym, ◌∙◌, subst, arith, inl, inr, ◌⊎◌}
-use Rattle.std.specs.Prelude.{IfErr, IfOk}
+use Rattle.std.specs.Prelude.{IfErr, IfOk, IfSome}
 use Rattle.std.proofs.lemmas.Bool.{cases_lt}
-use Rattle.hub_core.specs.Promises.{IsRightOver, IsSafeOver, FaultRightIn, DropsIn}
+use Rattle.hub_core.specs.Promises.{IsRightOver, FaultRightIn, DropsIn}
 use Rattle.hub_driver.specs.Heard.{HeardAll}
 use Rattle.knx_model.specs.declared.command.Stop.{Stop}
 use Rattle.knx_model.specs.declared.command.Stop.TheVariants as stop
@@ -15,14 +15,17 @@ use Rattle.knx_model.specs.Meaning.{Installation}
 use Rattle.knx_model.specs.ReportText.{stop_text}
 use Rattle.line_model.specs.declared.log.LogEntry.{LogEntry}
 use Rattle.line_model.specs.declared.log.Report.{Report}
+use Rattle.line_model.specs.declared.fault.HubFault.{HubFault}
 use Rattle.line_model.specs.declared.fault.HubFault.TheVariants.{LinkFailed}
 use Rattle.line_model.specs.declared.group.GroupTurn.{GroupTurn}
 use Rattle.line_model.specs.Dialled.{Address, TakesBack, Tells}
+use Rattle.line_model.specs.Headline.{Keeps}
 use Rattle.line_model.specs.LinkStory.{Story, Untold, Recorded, Full, IsNewLink, record_in}
 use Rattle.line_model.specs.Log.{Job, IsLog, OneDownloaderPerDevice, AllOver}
 use Rattle.tunnel_link.specs.Goes.{GoesOn}
-use Rattle.knx_top.specs.Call.{Writes}
-use Rattle.knx_top.specs.Command.{DownloadWords}
+use Rattle.tunnel_link.specs.Rights.{FailsWhere}
+use Rattle.knx_top.specs.Call.{AtMostOneRose, Writes}
+use Rattle.knx_top.specs.Command.{Command, Download as AskedDownload, DownloadWords, ProjectWords}
 use Rattle.knx_top.specs.Dialled.{DialEnd, DialerNow, DialledRun, Dials, DialsOr, Download, IsToldOver, MeansOver, NotReached, RepliesEnd, RunsDialled, Shown, Stopped, StopsFor, Unshown, download_tests, download_told, end_status, end_text, judged_download, project_named, report_of}
 use Rattle.knx_top.specs.Input.{ProjectIsRead, OnlyRose, failed_of_project}
 use Rattle.knx_top.specs.Jobs.{ArePlanned, seen_job}
@@ -47,6 +50,11 @@ taken_in (suc n) before after rose takes =
     let is : after ≡ min (before + 1) (2 ^ 64 - 1) = takes in
     elim (cases_lt before (2 ^ 64 - 1)) [ inl lt ↦ inl (omega (arith, is)) | inr top ↦ inr (omega (arith, is)) ]
 
+-- a link that began without a fault failed only where it has one now
+pub link_failed : (fault : Option HubFault) (old new : ℕ) → IfSome fault (λ why. FailsWhere why old new) → old ≡ 0 → fault ≡ Some LinkFailed → Rose 0 new
+link_failed fault old new where_it_failed none failed =
+    subst (λ (began : ℕ). Rose began new) none (subst (λ (told : Option HubFault). IfSome told (λ why. FailsWhere why old new)) failed where_it_failed)
+
 rose_from : (before since after : ℕ) → before ≤ since → Rose since after → Rose before after
 rose_from before since after le (inl lt) = inl (omega arith)
 rose_from before since after le (inr top) = inr top
@@ -60,14 +68,14 @@ means_over project jobs words (Full start events) log planned right = (devices_m
 
 -- ---- the run
 
-pub told_over : (jobs : List Job) (groups : List GroupTurn) (began after : Story) (place : ℕ) (report : Report) → groups ≡ [] → IsNewLink began → GoesOn began after → IsSafeOver jobs groups after (log_in report) → IsRightOver jobs after (log_in report)
+pub told_over : (jobs : List Job) (groups : List GroupTurn) (began after : Story) (place : ℕ) (report : Report) → groups ≡ [] → IsNewLink began → GoesOn began after → Keeps jobs groups after (log_in report) → IsRightOver jobs after (log_in report)
     → FaultRightIn jobs (log_in report) report.fault (record_in after) → (report.fault ≡ None → AllOver jobs (log_in report)) → IsLog jobs groups place (log_in report) → OneDownloaderPerDevice jobs (log_in report)
     → (report.fault ≡ None → HeardAll report.heard (record_in after)) → report.missed ≡ 0 → DropsIn report.dropped (record_in after) → IsToldOver jobs after report
-told_over jobs groups began after place report none new goes safe right fault ended form alone heard missed dropped = record {
+told_over jobs groups began after place report none new goes keeps right fault ended form alone heard missed dropped = record {
   began = began;
   new = new;
   goes = goes;
-  safe = subst (λ (turns : List GroupTurn). IsSafeOver jobs turns after (log_in report)) none safe;
+  keeps = subst (λ (turns : List GroupTurn). Keeps jobs turns after (log_in report)) none keeps;
   right = right;
   fault = fault;
   ended = ended;
@@ -79,7 +87,7 @@ told_over jobs groups began after place report none new goes safe right fault en
   dropped = dropped;
 }
 
-to_address : (one other : Address) (given : Option Address) → one ≡ other → Tells other.host other.port given → Tells one.host one.port given
+pub to_address : (one other : Address) (given : Option Address) → one ≡ other → Tells other.host other.port given → Tells one.host one.port given
 to_address one other given same tells = subst (λ (at : Address). Tells at.host at.port given) (sym same) tells
 
 dialled : (d : Download) (ready : Ready) (before after : DialerNow) (report : Report) → IsReady d.project d.options.jobs ready → Tells d.at.host d.at.port after.given → IsToldOver (map seen_job ready.plans) after.link_back report
@@ -101,9 +109,6 @@ pub reached : (d : Download) (ready : Ready) (at : Address) (faults : ℕ) (give
 reached d ready at faults given before after report log is same logs count tells stays told cause =
     (dialled d ready before after report is (subst (λ (told : Option Address). Tells d.at.host d.at.port told) (sym stays) (to_address d.at at given same tells)) told
     (λ failed. rose_from before.faults faults after.faults count (cause failed)), logs)
-
-pub not_reached : (d : Download) (at : Address) (before after : DialerNow) → d.at ≡ at → Tells at.host at.port after.given → Rose before.faults after.faults → Dials d before after NotReached
-not_reached d at before after same tells rose = (to_address d.at at after.given same tells, rose)
 
 -- ---- memory may be wanting after all
 
@@ -131,8 +136,8 @@ report_wants (Shown report words log) = refl
 
 -- ---- what is written
 
-replied_text : (ending : DialEnd) (text : List ℕ) (wrote : Status) (faults faults' : ℕ) (taken taken' : Option (List ℕ)) (told : Status) → IsTextOfEnd ending text wrote → Writes text wrote faults faults' taken taken' told → RepliesEnd faults faults' taken taken' told ending
-replied_text ending text wrote faults faults' taken taken' told is h =
+replied_text : (ending : DialEnd) (text : List ℕ) (now : Status) (faults faults' : ℕ) (taken taken' : Option (List ℕ)) (told : Status) → IsTextOfEnd ending text now → Writes text now faults faults' taken taken' told → RepliesEnd faults faults' taken taken' told ending
+replied_text ending text now faults faults' taken taken' told is h =
     subst (λ (t : List ℕ). Writes t (end_status ending) faults faults' taken taken' told) is.0 (subst (λ (s : Status). Writes text s faults faults' taken taken' told) is.1 h)
 
 -- a text is written, or that there was no memory for it
@@ -161,9 +166,34 @@ from_end words file faults faults' before after report Replied texts ending is c
       replied = replied;
     }
 
-pub runs_dialled : (words : DownloadWords) (file : List ℕ → FileContent) (faults faults' : List ℕ → ℕ) (before after : DialerNow) (report : Option Report) (Replied : DialEnd → Type 0) (texts : ProjectTexts) (ending : DialEnd)
+end_or_wanting : (words : DownloadWords) (file : List ℕ → FileContent) (faults faults' : List ℕ → ℕ) (before after : DialerNow) (report : Option Report) (Replied : DialEnd → Type 0) (texts : ProjectTexts) (ending : DialEnd)
     → ProjectIsRead file (project_named words) texts → OnlyRose (failed_of_project (project_named words) texts) faults faults' → DialsOr (judged_download words texts) before after ending → report ≡ report_of ending
     → Replied ending ⊎ Replied (wanting_end ending) → RunsDialled words file faults faults' before after report Replied
-runs_dialled words file faults faults' before after report Replied texts ending is counts comes report_is (inl replied) = from_end words file faults faults' before after report Replied texts ending is counts comes report_is replied
-runs_dialled words file faults faults' before after report Replied texts ending is counts comes report_is (inr replied) =
+end_or_wanting words file faults faults' before after report Replied texts ending is counts comes report_is (inl replied) = from_end words file faults faults' before after report Replied texts ending is counts comes report_is replied
+end_or_wanting words file faults faults' before after report Replied texts ending is counts comes report_is (inr replied) =
     from_end words file faults faults' before after report Replied texts (wanting_end ending) is counts (comes_wanting _ before after ending comes) (report_is ∙ sym (report_wants ending)) replied
+
+-- where these files were read
+pub runs_dialled : (words : DownloadWords) (named : ProjectWords) (file : List ℕ → FileContent) (faults faults' : List ℕ → ℕ) (before after : DialerNow) (report : Option Report) (Replied : DialEnd → Type 0) (texts : ProjectTexts) (ending : DialEnd)
+    → named ≡ project_named words → ProjectIsRead file named texts → OnlyRose (failed_of_project named texts) faults faults' → DialsOr (judged_download words texts) before after ending → report ≡ report_of ending
+    → Replied ending ⊎ Replied (wanting_end ending) → RunsDialled words file faults faults' before after report Replied
+runs_dialled words named file faults faults' before after report Replied texts ending same is counts comes report_is replied =
+    end_or_wanting words file faults faults' before after report Replied texts ending (subst (λ (these : ProjectWords). ProjectIsRead file these texts) same is)
+    (subst (λ (these : ProjectWords). OnlyRose (failed_of_project these texts) faults faults') same counts) comes report_is replied
+
+-- ---- which command it is
+
+pub rose_at_most : (words : DownloadWords) (file : List ℕ → FileContent) (faults faults' : List ℕ → ℕ) (before after : DialerNow) (report : Option Report) (Replied : DialEnd → Type 0) → RunsDialled words file faults faults' before after report Replied → AtMostOneRose faults faults'
+rose_at_most words file faults faults' before after report Replied run = (failed_of_project (project_named words) run.texts, run.counts)
+
+same_words : (one other : DownloadWords) → AskedDownload one ≡ AskedDownload other → one ≡ other
+same_words one other e = cc
+
+pub of_words : (P : DownloadWords → Type 0) (command : Command) (told names : DownloadWords) → command ≡ AskedDownload told → command ≡ AskedDownload names → P told → P names
+of_words P command told names is e h = subst P (same_words told names (sym is ∙ e)) h
+
+pub same_command : (one other : Command) → Some one ≡ Some other → one ≡ other
+same_command one other e = cc
+
+pub no_command : (other : Command) → None ≡ Some other → ⊥
+no_command other e = cc

@@ -3,7 +3,7 @@
 -- that is told is told of what that link told last. The dialer's count of faults takes in those of the link.
 use Rattle.std.specs.Prelude.{ℕ, ◌≡◌, ◌⊎◌, Bool, List, [], ◌∷◌, ◌++◌, Option, Some, None, Result, Ok, Err}
 use Rattle.std.specs.List.{list_all}
-use Rattle.hub_core.specs.Promises.{IsRightOver, IsSafeOver, FaultRightIn, DropsIn}
+use Rattle.hub_core.specs.Promises.{IsRightOver, FaultRightIn, DropsIn}
 use Rattle.hub_driver.specs.Heard.{HeardAll}
 use Rattle.knx_model.specs.declared.command.Stop.{Stop}
 use Rattle.knx_model.specs.declared.command.Stop.TheVariants as stop
@@ -18,6 +18,7 @@ use Rattle.line_model.specs.declared.fault.HubFault.TheVariants.{LinkFailed}
 use Rattle.line_model.specs.declared.log.LogEntry.{LogEntry}
 use Rattle.line_model.specs.declared.log.Report.{Report}
 use Rattle.line_model.specs.Dialled.{Address, Tells}
+use Rattle.line_model.specs.Headline.{Keeps}
 use Rattle.line_model.specs.LinkStory.{Story, Untold, Recorded, Full, IsNewLink, record_in}
 use Rattle.line_model.specs.Log.{Job, IsLog, OneDownloaderPerDevice, AllOver}
 use Rattle.line_model.specs.OldStoppedOrNew.{OldStoppedOrNew, RunsMeaning, MeansWhereDone}
@@ -91,8 +92,8 @@ pub record IsToldOver (jobs : List Job) (story : Story) (report : Report) : Type
   pub began : Story
   pub new : IsNewLink began
   pub goes : GoesOn began story
-  -- the client keeps the discipline, and the line the headline
-  pub safe : IsSafeOver jobs [] story (log_in report)
+  -- the client keeps the discipline of the line, and so the headline holds
+  pub keeps : Keeps jobs [] story (log_in report)
   pub right : IsRightOver jobs story (log_in report)
   -- a fault comes exactly at its cause, and without one every job has its end
   pub fault : FaultRightIn jobs (log_in report) report.fault (record_in story)

@@ -93,13 +93,15 @@ fn faults_of_the_outside_are_told(rt: HostRuntime) -> Result<(), Fail> {
     Ok(())
 }
 
-/// A dialer whose link gives this datagram for ever; one without a link for no octets.
+/// A dialer whose link gives this datagram for ever and fails in its hundredth call; one without a link for no octets.
 fn dialer(alloc: Global, gives: &[u8]) -> Result<FixedDialer, NoMemory> {
     if gives.is_empty() {
         return Ok(FixedDialer::new(None, None));
     }
     let last = Octets::from_slice(alloc, gives)?;
-    let link = FixedLink::new(alloc, List::new(alloc), Some(last), List::new(alloc));
+    let mut fails = List::new(alloc);
+    fails.push(100)?;
+    let link = FixedLink::new(alloc, List::new(alloc), Some(last), fails);
     Ok(FixedDialer::new(Some(link), None))
 }
 
@@ -122,11 +124,11 @@ fn a_dialled_link_is_handed_back(rt: HostRuntime) -> Result<(), Fail> {
             "link fault\n",
         ),
         (
-            "download 127.0.0.1 hall.txt",
+            "download 127.0.0.1 hall.txt log",
             &[0],
             true,
-            Status::Flooded,
-            "job 1 load 1.1.5 open\nmissed 0\nflooded\n",
+            Status::Link,
+            "job 1 load 1.1.5 open\nmissed 0\nlog 0 1 took 1\ndropped 97\nlink fault\n",
         ),
         (
             "download 127.0.0.1:3671 hall.txt check:1.1.5 log",
@@ -184,6 +186,7 @@ fn a_dialled_link_is_handed_back(rt: HostRuntime) -> Result<(), Fail> {
         assert_eq!(rt; told, status, "{line}");
         assert_eq!(rt; out.taken.as_slice(), text.as_bytes(), "{line}");
         assert_eq!(rt; dial.link_back().is_some(), ran, "{line}");
+        assert_eq!(rt; dial.faults(), u64::from(status == Status::Link), "{line}");
         assert_eq!(rt; last.is_some(), ran, "{line}");
     }
     Ok(())

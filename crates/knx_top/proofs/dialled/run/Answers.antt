@@ -1,12 +1,15 @@
 use Rattle.std.proofs.Common.{map}
 use Rattle.knx_top.specs.Jobs.{seen_job}
-use Rattle.knx_top.proofs.DialledRuns.{taken_in, told_over}
+use Rattle.knx_top.proofs.DialledRuns.{link_failed, taken_in, told_over}
 use Rattle.knx_top.proofs.Driven.{devices_seen, jobs_seen}
 use Rattle.knx_top.proofs.dialled.run.Goals as goal
 
 pub returns-clause-told : goal.returns-clause-told
 returns-clause-told g c = rw c.hang.ensures.told
     (told_over (map seen_job c.args.plans) _ _ _ _ c.commission-line.result.1 c.new.ensures c.requires.new c.commission-line.ensures.grows
-    (c.commission-line.ensures.safe _ (jobs_seen c.args.plans)) (c.commission-line.ensures.right _ (jobs_seen c.args.plans) c.requires.good) (c.commission-line.ensures.fault _ (jobs_seen c.args.plans))
+    (c.commission-line.ensures.headline _ (jobs_seen c.args.plans)) (c.commission-line.ensures.right _ (jobs_seen c.args.plans) c.requires.good) (c.commission-line.ensures.fault _ (jobs_seen c.args.plans))
     (λ none. c.commission-line.ensures.over none _ (devices_seen c.args.plans)) (c.commission-line.ensures.form _ (devices_seen c.args.plans)) (c.commission-line.ensures.alone _ (devices_seen c.args.plans))
     c.commission-line.ensures.heard c.commission-line.ensures.missed c.commission-line.ensures.dropped)
+
+pub returns-clause-cause : goal.returns-clause-cause
+returns-clause-cause g c = λ failed. taken_in _ _ _ (link_failed _ _ _ c.commission-line.ensures.cause c.requires.sound failed) c.hang.ensures.count
