@@ -106,9 +106,11 @@ dialled d ready before after report is given told cause = record {
 pub reached : (d : Download) (ready : Ready) (at : Address) (faults : ℕ) (given : Option Address) (before after : DialerNow) (report : Report) (log : Bool) → IsReady d.project d.options.jobs ready → d.at ≡ at → log ≡ d.options.log
     → before.faults ≤ faults → Tells at.host at.port given → after.given ≡ given → IsToldOver (map seen_job ready.plans) after.link_back report → (report.fault ≡ Some LinkFailed → Rose faults after.faults)
     → Dials d before after (Shown report ready.jobs log)
-reached d ready at faults given before after report log is same logs count tells stays told cause =
-    (dialled d ready before after report is (subst (λ (told : Option Address). Tells d.at.host d.at.port told) (sym stays) (to_address d.at at given same tells)) told
-    (λ failed. rose_from before.faults faults after.faults count (cause failed)), logs)
+reached d ready at faults given before after report log is same logs count tells stays told cause = (
+  dialled d ready before after report is (subst (λ (told : Option Address). Tells d.at.host d.at.port told) (sym stays) (to_address d.at at given same tells)) told
+      (λ failed. rose_from before.faults faults after.faults count (cause failed)),
+  logs,
+)
 
 -- ---- memory may be wanting after all
 

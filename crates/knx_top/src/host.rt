@@ -1,6 +1,6 @@
 //! The address of a gateway, as a word spells it.
 
-ghost use Rattle.std.specs.Prelude.{◌≡◌, ◌≤◌};
+ghost use Rattle.std.specs.Prelude.{◌≡◌, ◌≤◌, ◌==◌, position};
 ghost use Rattle.std.specs.List.{list_all};
 ghost use Rattle.std.specs.Option.{option_map};
 ghost use Rattle.knx_model.specs.Numbers.{is_digit, numeral, part_value};
@@ -19,12 +19,18 @@ pub struct GatewayAddress {
     pub port: u16,
 }
 
+fn place_of(word: &[u8], mark: u8) -> Option<usize>
+    ensures { result ≡ position (λ octet. octet == mark) word.now }
+{
+    word.iter().position(|octet| *octet == mark)
+}
+
 /// What stands before the first mark, and behind it.
-#[tactic(auto, unfolding(crate::specs::Host::cut))]
+#[tactic(auto, using(knx_model::proofs::Cutting::cut_found), unfolding(crate::specs::Host::cut))]
 fn cut(word: &[u8], mark: u8) -> Option<(&[u8], &[u8])>
     ensures { option_map both_sides result ≡ cut mark word.now }
 {
-    let place = word.iter().position(|octet| *octet == mark)?;
+    let place = place_of(word, mark)?;
     let (front, rest) = word.split_at(place);
     let (_, behind) = rest.split_at(1);
     Some((front, behind))
@@ -43,6 +49,7 @@ fn are_digits(word: &[u8]) -> bool
 }
 
 /// The number that 1 to `most` decimal digits write.
+#[tactic(auto, using(crate::proofs::Hosts::digits_read, crate::proofs::Hosts::no_digits))]
 fn digits(word: &[u8], most: usize) -> Option<u32>
     requires { most ≤ 5 }
     ensures { result ≡ numeral 10 most word.now }
