@@ -191,8 +191,10 @@ rose_at_most words file faults faults' before after report Replied run = (failed
 same_words : (one other : DownloadWords) → AskedDownload one ≡ AskedDownload other → one ≡ other
 same_words one other e = cc
 
-pub of_words : (P : DownloadWords → Type 0) (command : Command) (told names : DownloadWords) → command ≡ AskedDownload told → command ≡ AskedDownload names → P told → P names
-of_words P command told names is e h = subst P (same_words told names (sym is ∙ e)) h
+-- the run is of the words that were asked
+pub of_words : (command : Command) (told names : DownloadWords) (file : List ℕ → FileContent) (faults faults' : List ℕ → ℕ) (before after : DialerNow) (report : Option Report) (Replied : DialEnd → Type 0) → command ≡ AskedDownload told → command ≡ AskedDownload names
+    → RunsDialled told file faults faults' before after report Replied → RunsDialled names file faults faults' before after report Replied
+of_words command told names file faults faults' before after report Replied is e run = subst (λ (words : DownloadWords). RunsDialled words file faults faults' before after report Replied) (same_words told names (sym is ∙ e)) run
 
 pub same_command : (one other : Command) → Some one ≡ Some other → one ≡ other
 same_command one other e = cc

@@ -19,7 +19,7 @@ pub returns-in-Download-clause-does : goal.returns-in-Download-clause-does
 returns-in-Download-clause-does g c = rw c.in-Download.is (refl, rose_at_most _ _ _ _ _ _ _ _ c.tell_download.ensures.told)
 
 pub returns-in-Download-clause-download : goal.returns-in-Download-clause-download
-returns-in-Download-clause-download g c = λ names e. of_words _ (command_of c.args.command) (download_words_of c.in-Download.names) names (ap command_of c.in-Download.is) e c.tell_download.ensures.told
+returns-in-Download-clause-download g c = λ names e. of_words (command_of c.args.command) (download_words_of c.in-Download.names) names _ _ _ _ _ _ _ (ap command_of c.in-Download.is) e c.tell_download.ensures.told
 
 pub returns-in-Download-clause-undialled : goal.returns-in-Download-clause-undialled
 returns-in-Download-clause-undialled g c = λ other. absurd (other (download_words_of c.in-Download.names) (ap command_of c.in-Download.is))
