@@ -1,7 +1,7 @@
 -- The simulated line begins as it is stated.
-use Rattle.std.proofs.Common.{ℕ, ◌≡◌, ◌≢◌, Bool, true, false, List, [], ◌∷◌, map, filter, Option, Some, None, Result, Ok, Err, refl, sym, ap, ◌∙◌, subst, inl, inr, ◌⊎◌}
-use Rattle.std.specs.Prelude.{◌&&◌, ◌||◌, ◌==◌, IfSome, if◌then◌else◌}
-use Rattle.std.specs.List.{AllByRecursion, AllZip, list_any}
+use Rattle.std.proofs.Common.{ℕ, ◌≡◌, ◌≢◌, Bool, true, false, List, [], ◌∷◌, filter, Option, Some, None, Err, refl, sym, ap, ◌∙◌, subst, inl, inr}
+use Rattle.std.specs.Prelude.{◌&&◌, ◌||◌, ◌==◌}
+use Rattle.std.specs.List.{AllByRecursion, list_any}
 use Rattle.std.proofs.lemmas.Bool.Decides.{nat_tests}
 use Rattle.std.proofs.Common.{arith}
 use Rattle.bus_sim.specs.Begun.{CanBegin, CanLoad, addresses, begins, device_begun, loaded_or_blank}
@@ -24,9 +24,8 @@ use Rattle.knx_model.specs.ScriptText.{first_stranger}
 use Rattle.line_model.specs.Lines.{Script, script_of}
 use Rattle.line_model.specs.StartOf.{BeginsAs, DeviceBegins, line_of, tunnel_address, is_on_bus}
 use Rattle.knx_top.specs.Begun.{BeginsLine, IsOldInRange}
-use Rattle.knx_top.specs.Judged.{unless_failed, unless_strange}
+use Rattle.knx_top.specs.Judged.{unless_strange}
 use Rattle.knx_top.specs.OnLine.{AreCompiled, IsCompiled, IsImageWhere, addresses_of_line, on_bus}
-use Rattle.knx_top.specs.Stops.{stranger_named}
 use Rattle.knx_top.proofs.OnBus.{any_on_bus}
 
 -- ---- one device

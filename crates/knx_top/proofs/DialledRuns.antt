@@ -1,5 +1,5 @@
 -- A run over a dialled link, once it was handed back; and what is written of a download.
-use Rattle.std.proofs.Common.{◌≡◌, ℕ, zero, suc, ◌+◌, ◌-◌, ◌^◌, ◌<◌, ◌≤◌, Bool, List, [], map, min, Option, Some, None, Result, Ok, Err, refl, sym, ◌∙◌, subst, arith, inl, inr, ◌⊎◌}
+use Rattle.std.proofs.Common.{◌≡◌, ℕ, zero, suc, ◌+◌, ◌-◌, ◌^◌, ◌≤◌, Bool, List, [], map, min, Option, Some, None, Result, Ok, Err, refl, sym, ◌∙◌, subst, arith, inl, inr, ◌⊎◌}
 use Rattle.std.specs.Prelude.{IfErr, IfOk, IfSome}
 use Rattle.std.proofs.lemmas.Bool.{cases_lt}
 use Rattle.hub_core.specs.Promises.{IsRightOver, FaultRightIn, DropsIn}
@@ -26,7 +26,7 @@ use Rattle.tunnel_link.specs.Goes.{GoesOn}
 use Rattle.tunnel_link.specs.Rights.{FailsWhere}
 use Rattle.knx_top.specs.Call.{AtMostOneRose, Writes}
 use Rattle.knx_top.specs.Command.{Command, Download as AskedDownload, DownloadWords, ProjectWords}
-use Rattle.knx_top.specs.Dialled.{DialEnd, DialerNow, DialledRun, Dials, DialsOr, Download, IsToldOver, MeansOver, NotReached, RepliesEnd, RunsDialled, Shown, Stopped, StopsFor, Unshown, download_tests, download_told, end_status, end_text, judged_download, project_named, report_of}
+use Rattle.knx_top.specs.Dialled.{DialEnd, DialerNow, DialledRun, Dials, DialsOr, Download, IsToldOver, MeansOver, NotReached, RepliesEnd, RunsDialled, Shown, Stopped, StopsFor, Unshown, download_tests, download_told, end_status, judged_download, project_named, report_of}
 use Rattle.knx_top.specs.Input.{ProjectIsRead, OnlyRose, failed_of_project}
 use Rattle.knx_top.specs.Jobs.{ArePlanned, seen_job}
 use Rattle.knx_top.specs.Ran.{log_in}

@@ -1,5 +1,5 @@
 -- A run that one caller of the hub drives over the simulated line: what is promised of it, in the words of its commission.
-use Rattle.std.proofs.Common.{◌≡◌, List, [], ◌∷◌, ◌++◌, map, Some, None, refl, sym, ap, ◌∙◌, subst}
+use Rattle.std.proofs.Common.{◌≡◌, List, [], ◌∷◌, ◌++◌, map, None, refl, sym, ap, ◌∙◌, subst}
 use Rattle.bus_sim.specs.Loaded.{BusNow}
 use Rattle.bus_sim.specs.RunNow.{RunNow, script, start, story}
 use Rattle.hub_core.specs.Promises.{IsRightOver, FaultRightIn, DropsIn}
@@ -24,7 +24,7 @@ use Rattle.line_model.specs.World.{World, Event}
 use Rattle.tunnel_link.specs.Goes.{GoesOn}
 use Rattle.knx_top.specs.Begun.{IsOrder}
 use Rattle.knx_top.specs.Jobs.{seen_job}
-use Rattle.knx_top.specs.Ran.{IsRunOf, IsTold, KeepsPromises, Ran, log_in}
+use Rattle.knx_top.specs.Ran.{IsRunOf, KeepsPromises, Ran, log_in}
 use Rattle.knx_top.specs.Stops.{Commission}
 use Rattle.knx_top.specs.declared.judge.Order.{Order}
 use Rattle.knx_top.proofs.Meanings.{devices_mean, done_means}

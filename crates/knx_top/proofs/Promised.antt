@@ -1,5 +1,5 @@
 -- Each sentence of the headline, of a run as a commission describes it.
-use Rattle.std.proofs.Common.{List, refl}
+use Rattle.std.proofs.Common.{List}
 use Rattle.bus_sim.specs.RunNow.{RunNow}
 use Rattle.knx_model.specs.declared.log.JobWord.{JobWord}
 use Rattle.line_model.specs.declared.log.Report.{Report}

@@ -21,7 +21,7 @@ use Rattle.tunnel_link.specs.Goes.{GoesOn}
 use Rattle.knx_top.specs.Ended.{ShowsRun}
 use Rattle.knx_top.specs.OnLine.{AreCompiled, IsCompiled, IsImageWhere, on_bus}
 use Rattle.knx_top.specs.Ran.{Outcome, Stops, Tells, BreaksOff, Reports, Ran, Runs}
-use Rattle.knx_top.specs.Shown.{AreShown, AreShownOf, IsCase, IsShown, IsShownIn}
+use Rattle.knx_top.specs.Shown.{AreShown, AreShownOf, IsShown, IsShownIn}
 use Rattle.knx_top.specs.Stops.{Commission}
 use Rattle.knx_top.proofs.Driven.{same_start}
 use Rattle.knx_top.proofs.Meanings.{now_case}

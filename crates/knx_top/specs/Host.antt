@@ -1,7 +1,7 @@
 -- Words that are a gateway's address: a host as four numbers of 1 to 3 decimal digits, up to 255 each, joined by dots; and behind a colon, where there is
 -- one, a port number of 1 to 5 decimal digits from 1 to 65,535. Where there is none it is 3671, which is registered for KNXnet/IP
 -- (ISO 22510, KNXnet/IP).
-use Rattle.std.specs.Prelude.{ℕ, ◌+◌, ◌==◌, List, [], ◌∷◌, drop, take, position, Option, Some, None, if◌then◌else◌}
+use Rattle.std.specs.Prelude.{ℕ, ◌==◌, List, [], ◌∷◌, drop, take, position, Option, Some, None, if◌then◌else◌}
 use Rattle.std.specs.Option.{option_map}
 use Rattle.knx_model.specs.Addresses.{◌>>=◌}
 use Rattle.knx_model.specs.Numbers.{numeral, part_value, up_to}
