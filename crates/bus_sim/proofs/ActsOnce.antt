@@ -8,7 +8,7 @@ use Rattle.line_model.specs.Gateway.{Gateway, GatewayTook, gateway_took}
 use Rattle.line_model.specs.Network.{Sent, OfSent, MayArrive, changed_at, once_more}
 use Rattle.line_model.specs.Reading.{datagram_in}
 use Rattle.line_model.specs.Tunnel.{Tunnel, IsConnectRequest, made, puts_next, sends_down_if, sends_up, takes_sent, takes_frame, with_gateway, with_up}
-use Rattle.line_model.specs.World.{World, Send, Renew, Up, step}
+use Rattle.line_model.specs.World.{World, Send, From, Renew, Up, step}
 use Rattle.line_sim.proofs.Taking.{gateway_leaves}
 use Rattle.line_sim.specs.Gateways.{and_one}
 use Rattle.bus_sim.proofs.Grows.{puts_acted, same_length}
@@ -132,6 +132,9 @@ up_repeats w age h =
 
 -- ---- the client sends, or takes the next endpoint
 
+pub open_come : (w : World) (endpoint : ℕ) (octets : List ℕ) → HasChannel w → HasChannel (step w (From endpoint octets))
+open_come w endpoint octets h = still_open (sends_up w.tunnel endpoint octets) h
+
 pub open_sent : (w : World) (octets : List ℕ) → HasChannel w → HasChannel (step w (Send octets))
 open_sent w octets h = still_open (sends_up w.tunnel w.tunnel.present octets) h
 
@@ -144,9 +147,9 @@ younger length number h = omega (arith, h)
 more : (number length : ℕ) → number ≤ length → number ≤ suc length
 more number length h = omega (arith, h)
 
-pub acted_sent : (w : World) (octets : List ℕ) (number : ℕ) → WasActedOn w number → WasActedOn (step w (Send octets)) number
-acted_sent w octets number h =
-    let u : Tunnel = sends_up w.tunnel w.tunnel.present octets in
+pub acted_come : (w : World) (endpoint : ℕ) (octets : List ℕ) (number : ℕ) → WasActedOn w number → WasActedOn (step w (From endpoint octets)) number
+acted_come w endpoint octets number h =
+    let u : Tunnel = sends_up w.tunnel endpoint octets in
     let up : (puts_next u).network.up ≡ u.network.up = still_up u in
     let acted : IsRepeated (puts_next u) (slice_get w.tunnel.network.up (age_of w.tunnel.network.up number)) = still_repeated u (slice_get w.tunnel.network.up (age_of w.tunnel.network.up number)) h.octets in
     record {
@@ -154,6 +157,10 @@ acted_sent w octets number h =
       octets = subst (λ l. IsRepeated (puts_next u) (slice_get l (age_of l number))) (sym up)
           (subst (λ k. IsRepeated (puts_next u) (slice_get u.network.up k)) (sym (younger (length w.tunnel.network.up) number h.sent)) acted);
     }
+
+-- a sending is one from the present endpoint
+pub acted_sent : (w : World) (octets : List ℕ) (number : ℕ) → WasActedOn w number → WasActedOn (step w (Send octets)) number
+acted_sent w octets number h = acted_come w w.tunnel.present octets number h
 
 pub acted_renewed : (w : World) (number : ℕ) → WasActedOn w number → WasActedOn (step w Renew) number
 acted_renewed w number h =

@@ -6,10 +6,9 @@ use Rattle.knx_model.specs.DeviceState.{DeviceState}
 use Rattle.line_model.specs.Follows.{IsNext, IsInPlace}
 use Rattle.line_model.specs.Legal.{MayHappen, OfDevice}
 use Rattle.line_model.specs.Owed.{Owed, owed, met, is_possible}
-use Rattle.line_model.specs.Tunnel.{Commissions}
 use Rattle.line_model.specs.World.{Event, frame_by, replay}
 use Rattle.bus_sim.specs.Owing.{first_of}
-use Rattle.bus_sim.specs.RunNow.{RunNow, Calls, NothingCalled, IsRight, owed_in, script, start, world as world_of}
+use Rattle.bus_sim.specs.RunNow.{RunNow, Calls, NothingCalled, IsRight, mode, owed_in, script, start, world as world_of}
 
 -- ---- what is called for
 
@@ -25,17 +24,17 @@ untrue e = cc
 first_is : (x what : Owed) → Some x ≡ Some what → x ≡ what
 first_is x what e = cc
 
-pub called_next : (r : RunNow) (what : Owed) → Calls r what → IsNext (script r) Commissions (start r) r.events (owed_in r) (met (script r) (start r) r.events what)
+pub called_next : (r : RunNow) (what : Owed) → Calls r what → IsNext (script r) (mode r) (start r) r.events (owed_in r) (met (script r) (start r) r.events what)
 called_next r what f = by_list (owed_in r) f
   where
-    by_list : (l : List Owed) → first_of l ≡ Some what → IsNext (script r) Commissions (start r) r.events l (met (script r) (start r) r.events what)
+    by_list : (l : List Owed) → first_of l ≡ Some what → IsNext (script r) (mode r) (start r) r.events l (met (script r) (start r) r.events what)
     by_list [] f = absurd (no_some f)
     by_list (x ∷ l) f = inr (ap (met (script r) (start r) r.events) (sym (first_is x what f)))
 
-pub free_next : (r : RunNow) (e : Event) → NothingCalled r → IsInPlace (script r) Commissions (start r) r.events e → IsNext (script r) Commissions (start r) r.events (owed_in r) e
+pub free_next : (r : RunNow) (e : Event) → NothingCalled r → IsInPlace (script r) (mode r) (start r) r.events e → IsNext (script r) (mode r) (start r) r.events (owed_in r) e
 free_next r e f place = by_list (owed_in r) f
   where
-    by_list : (l : List Owed) → first_of l ≡ None → IsNext (script r) Commissions (start r) r.events l e
+    by_list : (l : List Owed) → first_of l ≡ None → IsNext (script r) (mode r) (start r) r.events l e
     by_list [] f = place
     by_list (x ∷ l) f = absurd (some_no f)
 
@@ -47,17 +46,17 @@ first_passes test (x ∷ l) what f = by_test (test x) refl f (first_passes test 
     by_test true e f rest = ap test (sym (first_is x what f)) ∙ e
     by_test false e f rest = rest f
 
-pub called_possible : (r : RunNow) (what : Owed) → Calls r what → is_possible Commissions (world_of r) what ≡ true
+pub called_possible : (r : RunNow) (what : Owed) → Calls r what → is_possible (mode r) (world_of r) what ≡ true
 called_possible r what f = by_events r.events f
   where
-    by_events : (es : List Event) → first_of (owed (script r) Commissions (start r) es) ≡ Some what → is_possible Commissions (replay (start r) es) what ≡ true
+    by_events : (es : List Event) → first_of (owed (script r) (mode r) (start r) es) ≡ Some what → is_possible (mode r) (replay (start r) es) what ≡ true
     by_events [] f = absurd (no_some f)
-    by_events (e ∷ es) f = first_passes (is_possible Commissions (replay (start r) (e ∷ es))) _ what f
+    by_events (e ∷ es) f = first_passes (is_possible (mode r) (replay (start r) (e ∷ es))) _ what f
 
-pub called_right : (r : RunNow) (what : Owed) (e : Event) → Calls r what → e ≡ met (script r) (start r) r.events what → MayHappen Commissions (world_of r) e → IsRight r e
-called_right r what e f same may = record { may = may; next = subst (λ x. IsNext (script r) Commissions (start r) r.events (owed_in r) x) (sym same) (called_next r what f) }
+pub called_right : (r : RunNow) (what : Owed) (e : Event) → Calls r what → e ≡ met (script r) (start r) r.events what → MayHappen (mode r) (world_of r) e → IsRight r e
+called_right r what e f same may = record { may = may; next = subst (λ x. IsNext (script r) (mode r) (start r) r.events (owed_in r) x) (sym same) (called_next r what f) }
 
-pub free_right : (r : RunNow) (e : Event) → NothingCalled r → IsInPlace (script r) Commissions (start r) r.events e → MayHappen Commissions (world_of r) e → IsRight r e
+pub free_right : (r : RunNow) (e : Event) → NothingCalled r → IsInPlace (script r) (mode r) (start r) r.events e → MayHappen (mode r) (world_of r) e → IsRight r e
 free_right r e f place may = record { may = may; next = free_next r e f place }
 
 -- a device that got a frame

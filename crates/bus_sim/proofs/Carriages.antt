@@ -10,9 +10,8 @@ use Rattle.line_model.specs.Deliveries.{carriage, carriage_of, carried_to, writt
 use Rattle.line_model.specs.Follows.{IsInPlace}
 use Rattle.line_model.specs.Legal.{MayHappen}
 use Rattle.line_model.specs.Lines.{Script, loses_to, cuts, wears}
-use Rattle.line_model.specs.Tunnel.{Commissions}
 use Rattle.line_model.specs.World.{World, Event, Bus, BusTorn, BusWorn, next_frame, replay}
-use Rattle.bus_sim.specs.RunNow.{RunNow, NothingCalled, IsRight, script, start, world as world_of}
+use Rattle.bus_sim.specs.RunNow.{RunNow, NothingCalled, IsRight, mode, script, start, world as world_of}
 use Rattle.bus_sim.proofs.CalledFor.{free_right}
 
 -- ---- how a frame goes over the bus
@@ -41,9 +40,9 @@ of_carriage P s start past frame bus torn worn = by_group frame.group
     by_group true = bus []
     by_group false = by_loss (loses_to s frame.destination (suc (frames_to frame.destination start past)))
 
-pub carried_right : (r : RunNow) (frame : Ldata) (e : Event) → NothingCalled r → Some frame ≡ next_frame (world_of r) → e ≡ carriage_of (script r) (start r) r.events frame → MayHappen Commissions (world_of r) e → IsRight r e
-carried_right r frame e free due so may = free_right r e free (subst (λ x. IsInPlace (script r) Commissions (start r) r.events x) (sym so) place) may
+pub carried_right : (r : RunNow) (frame : Ldata) (e : Event) → NothingCalled r → Some frame ≡ next_frame (world_of r) → e ≡ carriage_of (script r) (start r) r.events frame → MayHappen (mode r) (world_of r) e → IsRight r e
+carried_right r frame e free due so may = free_right r e free (subst (λ x. IsInPlace (script r) (mode r) (start r) r.events x) (sym so) place) may
   where
-    place : IsInPlace (script r) Commissions (start r) r.events (carriage_of (script r) (start r) r.events frame)
-    place = of_carriage (λ x. carriage (script r) (start r) r.events ≡ Some x → IsInPlace (script r) Commissions (start r) r.events x) (script r) (start r) r.events frame
+    place : IsInPlace (script r) (mode r) (start r) r.events (carriage_of (script r) (start r) r.events frame)
+    place = of_carriage (λ x. carriage (script r) (start r) r.events ≡ Some x → IsInPlace (script r) (mode r) (start r) r.events x) (script r) (start r) r.events frame
         (λ l so. so) (λ fresh o so. so) (λ o so. so) (ap (mapped (carriage_of (script r) (start r) r.events)) (sym due))

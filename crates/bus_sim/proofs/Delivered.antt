@@ -15,10 +15,11 @@ use Rattle.line_model.specs.Legal.{MayHappen}
 use Rattle.line_model.specs.Lines.{Script, script_of, first_said, or_later, status_at, refuses}
 use Rattle.line_model.specs.Network.{Sent, OfSent}
 use Rattle.line_model.specs.Reading.{datagram_in, is_connect_request}
-use Rattle.line_model.specs.Tunnel.{Commissions, IsConnectRequest}
+use Rattle.line_model.specs.Tunnel.{IsConnectRequest}
 use Rattle.line_model.specs.World.{World, Event, Up, UpRefused, replay}
-use Rattle.bus_sim.specs.RunNow.{RunNow, script, start, world as world_of}
+use Rattle.bus_sim.specs.RunNow.{RunNow, mode, script, start, world as world_of}
 use Rattle.bus_sim.proofs.CalledFor.{no_some, untrue}
+use Rattle.bus_sim.proofs.Modes.{up_refused}
 
 -- ---- how a datagram is delivered
 
@@ -91,17 +92,17 @@ refused_status (l ∷ ls) n status lines e = by_line (status_at n l.what) refl e
     by_line (Some s) f e rest = let same : s ≡ status = cc in
         subst (λ x. x ≢ 0) same (line_status l.what n s (both_left (is_script_what l.what) (nat_le l.line 65536) (both_left (is_script_line l) (list_all is_script_line ls) lines)) f)
 
-pub delivered_may : (r : RunNow) (age : ℕ) → are_script_lines r.begun.script ≡ true → MayHappen Commissions (world_of r) (Up age) → MayHappen Commissions (world_of r) (delivery (script r) (start r) r.events age)
+pub delivered_may : (r : RunNow) (age : ℕ) → are_script_lines r.begun.script ≡ true → MayHappen (mode r) (world_of r) (Up age) → MayHappen (mode r) (world_of r) (delivery (script r) (start r) r.events age)
 delivered_may r age lines may = by_test (is_connect_at (world_of r).tunnel.network.up age) refl
   where
-    by_status : is_connect_at (world_of r).tunnel.network.up age ≡ true → (o : Option ℕ) → refuses (script r) (suc (connects_reached (start r) r.events)) ≡ o → MayHappen Commissions (world_of r) (refused_if age o)
+    by_status : is_connect_at (world_of r).tunnel.network.up age ≡ true → (o : Option ℕ) → refuses (script r) (suc (connects_reached (start r) r.events)) ≡ o → MayHappen (mode r) (world_of r) (refused_if age o)
     by_status e None f = may
-    by_status e (Some status) f = record { tunnel = (may.tunnel, asked (slice_get (world_of r).tunnel.network.up age) e, refused_status r.begun.script (suc (connects_reached (start r) r.events)) status lines f); devices = tt }
+    by_status e (Some status) f = record { tunnel = up_refused (mode r) (world_of r).tunnel age status may.tunnel (asked (slice_get (world_of r).tunnel.network.up age) e) (refused_status r.begun.script (suc (connects_reached (start r) r.events)) status lines f); devices = tt }
 
-    by_test : (t : Bool) → is_connect_at (world_of r).tunnel.network.up age ≡ t → MayHappen Commissions (world_of r) (if t then refused_if age (refuses (script r) (suc (connects_reached (start r) r.events))) else Up age)
+    by_test : (t : Bool) → is_connect_at (world_of r).tunnel.network.up age ≡ t → MayHappen (mode r) (world_of r) (if t then refused_if age (refuses (script r) (suc (connects_reached (start r) r.events))) else Up age)
     by_test true e = by_status e (refuses (script r) (suc (connects_reached (start r) r.events))) refl
     by_test false e = may
 
-pub delivered_place : (r : RunNow) (age : ℕ) → IsNextUp (script r) (world_of r) age false → IsInPlace (script r) Commissions (start r) r.events (delivery (script r) (start r) r.events age)
+pub delivered_place : (r : RunNow) (age : ℕ) → IsNextUp (script r) (world_of r) age false → IsInPlace (script r) (mode r) (start r) r.events (delivery (script r) (start r) r.events age)
 delivered_place r age next =
-    of_delivery (λ e. delivery (script r) (start r) r.events age ≡ e → IsInPlace (script r) Commissions (start r) r.events e) (script r) (start r) r.events age (λ so. record { next = next; so = so }) (λ status so. record { next = next; so = so }) refl
+    of_delivery (λ e. delivery (script r) (start r) r.events age ≡ e → IsInPlace (script r) (mode r) (start r) r.events e) (script r) (start r) r.events age (λ so. record { next = next; so = so }) (λ status so. record { next = next; so = so }) refl

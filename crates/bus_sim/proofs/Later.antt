@@ -2,7 +2,7 @@
 use Rattle.std.proofs.Common.{◌≡◌, ℕ, suc, ◌+◌, ◌≤◌, List, ◌∷◌, length, take, refl, sym, subst, arith}
 use Rattle.line_model.specs.declared.outside.link.Polled.{Polled}
 use Rattle.line_model.specs.declared.outside.link.Polled.TheVariants as answer
-use Rattle.line_model.specs.LinkStory.{Story, Untold, Recorded, Full, GoesOn, Same, More, Polls, PollsFull, PollsNothing}
+use Rattle.line_model.specs.LinkStory.{Story, Untold, Recorded, Full, GoesOn, Same, More, Polls, PollsFull}
 use Rattle.line_model.specs.Polled.{PollsAs}
 use Rattle.line_model.specs.Record.{Item, Got, Quiet}
 use Rattle.line_model.specs.World.{World, Event, Pass, now, replay, step}
@@ -51,7 +51,7 @@ adds_later before start e events h = record {
   events = one_more (place_of before) (length events) h.events;
 }
 
-goes_later : (start : World) (before events : List Event) → GoesOn start before events → IsLater (Full start before) (Full start events)
+pub goes_later : (start : World) (before events : List Event) → GoesOn start before events → IsLater (Full start before) (Full start events)
 goes_later start before events Same = same_later (Full start before)
 goes_later start before events (More {events = rest} e foreign may g) = adds_later (Full start before) start e rest (goes_later start before rest g)
 
@@ -70,8 +70,3 @@ polls_later what wait clock before start events h =
 pub polled_later : (what : Polled) (into : List ℕ) (wait clock : ℕ) (before : Story) (start : World) (events : List Event) → PollsAs what into wait clock before (Full start events) → IsLater before (Full start events)
 polled_later (answer.Got n) into wait clock before start events h = polls_later (Got (take n into)) wait clock before start events h.1
 polled_later answer.Quiet into wait clock before start events h = polls_later Quiet wait clock before start events h
-
-pub nothing_later : (wait : ℕ) (before : Story) (start : World) (events : List Event) → PollsNothing wait before (Full start events) → IsLater before (Full start events)
-nothing_later wait before start events h =
-    let P : Story → Type 0 = λ s. IsLater s (Full start events) in
-    subst P (sym h.1) (goes_later start h.0 events h.2.foreign)

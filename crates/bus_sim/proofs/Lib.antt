@@ -1,4 +1,6 @@
 pub mod Kept
+pub mod Modes
+pub mod Numbered
 pub mod Begins
 pub mod Owings
 pub mod Grows
@@ -27,4 +29,9 @@ pub mod ActsOnce
 pub mod Owes
 pub mod OwesAlways
 pub mod Linked
+pub mod Playing
+pub mod Quiets
+pub mod Turned
+pub mod Serves
+pub mod Faults
 pub mod Meets

@@ -1,6 +1,5 @@
 -- What goes next is right to happen.
 use Rattle.std.proofs.Common.{◌≡◌, ◌≢◌, ℕ, ◌+◌, ◌^◌, ◌<◌, ◌≤◌, ◌⊎◌, inl, inr, Bool, true, false, is_some, List, [], length, Option, Some, None, IfSome, refl, ap, sym, subst, ◌∙◌, arith}
-use Rattle.std.specs.Prelude.{slice_get}
 use Rattle.knx_model.specs.declared.frames.cemi.Ldata.{Ldata}
 use Rattle.knx_model.specs.DeviceState.{DeviceState}
 use Rattle.knx_model.specs.ScriptText.{are_script_lines}
@@ -12,9 +11,8 @@ use Rattle.line_model.specs.Gateway as gateway
 use Rattle.line_model.specs.Gateway.{GatewayExpired}
 use Rattle.line_model.specs.Legal.{MayHappen, OfDevice}
 use Rattle.line_model.specs.Lines.{loses_up, loses_down}
-use Rattle.line_model.specs.Network.{Sent, OfSent, IsUnderWay}
 use Rattle.line_model.specs.Owed.{Owed, DeliverAgain, ReachAgain, passes_again}
-use Rattle.line_model.specs.Tunnel.{Mode, Commissions, made}
+use Rattle.line_model.specs.Tunnel.{Mode}
 use Rattle.line_model.specs.World.{World, Event, Up, Down, LoseUp, LoseDown, DevSend, DevRepeat, DevClose, GwRepeat, GwClose, Pass, next_frame, now, replay}
 use Rattle.knx_model.specs.declared.device.Sending.{Sending}
 use Rattle.knx_model.specs.declared.device.Sending.TheVariants.{Repeat, Closing}
@@ -27,12 +25,13 @@ use Rattle.line_sim.specs.Line.{LineNow, IsNow, AreCounted, frame_due}
 use Rattle.network_sim.specs.Window.{CanTell}
 use Rattle.script_index.specs.declared.index.ScriptIndex.{ScriptIndex}
 use Rattle.bus_sim.specs.declared.beginning.Beginning.{Beginning}
-use Rattle.bus_sim.specs.Begun.{said, start_of}
+use Rattle.bus_sim.specs.Begun.{mode_in, said, start_of}
 use Rattle.bus_sim.specs.Choices.{delivered, carried, heard_so}
 use Rattle.bus_sim.specs.Counted.{CountsNow}
 use Rattle.bus_sim.specs.Held.{IsHeld}
-use Rattle.bus_sim.specs.RunNow.{RunNow, RunState, Calls, NothingCalled, IsRight, script, seen, start, world as world_of}
+use Rattle.bus_sim.specs.RunNow.{RunNow, RunState, Calls, NothingCalled, IsRight, mode, script, seen, start, world as world_of}
 use Rattle.bus_sim.specs.Went.{world}
+use Rattle.bus_sim.proofs.Modes.{down_lost, passes_any, up_lost}
 use Rattle.bus_sim.proofs.Laws.{allowed, counted as few_counted, fewer}
 use Rattle.bus_sim.proofs.Owings.{can_tell}
 use Rattle.bus_sim.proofs.Wants.{frame_alike}
@@ -60,16 +59,16 @@ module _ (b : Beginning) (es : List Event) (index : ScriptIndex) (n : LineNow) (
   again_up_right number (Some age) v view calls aged allows = subst (λ (v : RunState). IsRight (seen v) (delivered v age)) view
       (called_right r (DeliverAgain number) (delivered state age) (subst (λ (v : RunState). Calls (seen v) (DeliverAgain number)) (sym view) calls)
       (ap (delivery (said b) (start_of b) es) (aged (replay (start_of b) es) h.pictured (can_tell number (replay (start_of b) es).tunnel.network.up exact.up)))
-      (delivered_may r age h.loaded.lines (allowed Commissions n (replay (start_of b) es) (Up age) h.pictured (allows Commissions))))
+      (delivered_may r age h.loaded.lines (allowed (mode_in b) n (replay (start_of b) es) (Up age) h.pictured (allows (mode_in b)))))
 
   pub again_down_right : (number : ℕ) (result : Option ℕ) (v : RunState) → state ≡ v → Calls (seen v) (ReachAgain number)
-      → IfSome result (λ age. (w : World) → IsNow n w → CanTell number w.tunnel.network.down → age ≡ age_of w.tunnel.network.down number) → IfSome result (λ age. Allows Commissions n (Down age))
+      → IfSome result (λ age. (w : World) → IsNow n w → CanTell number w.tunnel.network.down → age ≡ age_of w.tunnel.network.down number) → IfSome result (λ age. Allows (mode_in b) n (Down age))
       → IfSome result (λ age. IsRight (seen v) (Down age))
   again_down_right number None v view calls aged allows = tt
   again_down_right number (Some age) v view calls aged allows = subst (λ (v : RunState). IsRight (seen v) (Down age)) view
       (called_right r (ReachAgain number) (Down age) (subst (λ (v : RunState). Calls (seen v) (ReachAgain number)) (sym view) calls)
       (ap Down (aged (replay (start_of b) es) h.pictured (can_tell number (replay (start_of b) es).tunnel.network.down exact.down)))
-      (allowed Commissions n (replay (start_of b) es) (Down age) h.pictured allows))
+      (allowed (mode_in b) n (replay (start_of b) es) (Down age) h.pictured allows))
 
   -- what is called for is still possible
   pub again_up_there : (number : ℕ) (result : Option ℕ) (v : RunState) → state ≡ v → Calls (seen v) (DeliverAgain number)
@@ -78,19 +77,19 @@ module _ (b : Beginning) (es : List Event) (index : ScriptIndex) (n : LineNow) (
       possible (replay (start_of b) es) h.pictured (can_tell number (replay (start_of b) es).tunnel.network.up exact.up) ∙ called_possible r (DeliverAgain number) (subst (λ (v : RunState). Calls (seen v) (DeliverAgain number)) (sym view) calls)
 
   pub again_down_there : (number : ℕ) (result : Option ℕ) (v : RunState) → state ≡ v → Calls (seen v) (ReachAgain number)
-      → ((w : World) → IsNow n w → CanTell number w.tunnel.network.down → is_some result ≡ passes_again (goes_down Commissions w) w.tunnel.network.down number) → is_some result ≡ true
+      → ((w : World) → IsNow n w → CanTell number w.tunnel.network.down → is_some result ≡ passes_again (goes_down (mode_in b) w) w.tunnel.network.down number) → is_some result ≡ true
   again_down_there number result v view calls possible =
       possible (replay (start_of b) es) h.pictured (can_tell number (replay (start_of b) es).tunnel.network.down exact.down) ∙ called_possible r (ReachAgain number) (subst (λ (v : RunState). Calls (seen v) (ReachAgain number)) (sym view) calls)
 
   -- ---- what goes next
 
-  pub may_down : (result : Option ℕ) (v : RunState) → state ≡ v → IfSome result (λ age. Allows Commissions n (Down age)) → IfSome result (λ age. MayHappen Commissions (world v) (Down age))
+  pub may_down : (result : Option ℕ) (v : RunState) → state ≡ v → IfSome result (λ age. Allows (mode_in b) n (Down age)) → IfSome result (λ age. MayHappen (mode (seen v)) (world v) (Down age))
   may_down None v view allows = tt
-  may_down (Some age) v view allows = subst (λ (v : RunState). MayHappen Commissions (world v) (Down age)) view (allowed Commissions n (replay (start_of b) es) (Down age) h.pictured allows)
+  may_down (Some age) v view allows = subst (λ (v : RunState). MayHappen (mode (seen v)) (world v) (Down age)) view (allowed (mode_in b) n (replay (start_of b) es) (Down age) h.pictured allows)
 
-  pub may_up : (result : Option ℕ) (v : RunState) → state ≡ v → IfSome result (λ age. (mode : Mode) → Allows mode n (Up age)) → IfSome result (λ age. MayHappen Commissions (world v) (Up age))
+  pub may_up : (result : Option ℕ) (v : RunState) → state ≡ v → IfSome result (λ age. (mode : Mode) → Allows mode n (Up age)) → IfSome result (λ age. MayHappen (mode (seen v)) (world v) (Up age))
   may_up None v view allows = tt
-  may_up (Some age) v view allows = subst (λ (v : RunState). MayHappen Commissions (world v) (Up age)) view (allowed Commissions n (replay (start_of b) es) (Up age) h.pictured (allows Commissions))
+  may_up (Some age) v view allows = subst (λ (v : RunState). MayHappen (mode (seen v)) (world v) (Up age)) view (allowed (mode_in b) n (replay (start_of b) es) (Up age) h.pictured (allows (mode_in b)))
 
   pub loses_up_is : (age number : ℕ) (lost : Bool) → lost ≡ loses_up (said b) number → ((w : World) → IsNow n w → length w.tunnel.network.up < 2 ^ 64 → number ≡ number_at w.tunnel.network.up age)
       → loses_up (said b) (number_at (replay (start_of b) es).tunnel.network.up age) ≡ lost
@@ -112,13 +111,13 @@ module _ (b : Beginning) (es : List Event) (index : ScriptIndex) (n : LineNow) (
   lines_of v view = subst (λ (v : RunState). are_script_lines v.begun.script ≡ true) view h.loaded.lines
 
   -- the client's frame goes over the bus so
-  pub carried_so_right : (frame : Ldata) (e : RunState → Event) (v : RunState) → state ≡ v → NothingCalled (seen v) → Some frame ≡ next_frame (world v) → e v ≡ carried v frame → Allows Commissions n (e state) → IsRight (seen v) (e v)
+  pub carried_so_right : (frame : Ldata) (e : RunState → Event) (v : RunState) → state ≡ v → NothingCalled (seen v) → Some frame ≡ next_frame (world v) → e v ≡ carried v frame → Allows (mode_in b) n (e state) → IsRight (seen v) (e v)
   carried_so_right frame e v view free due so allows = subst (λ (v : RunState). IsRight (seen v) (e v)) view
       (carried_right r frame (e state) (subst (λ (v : RunState). NothingCalled (seen v)) (sym view) free) (subst (λ (v : RunState). Some frame ≡ next_frame (world v)) (sym view) due)
-      (subst (λ (v : RunState). e v ≡ carried v frame) (sym view) so) (allowed Commissions n (replay (start_of b) es) (e state) h.pictured allows))
+      (subst (λ (v : RunState). e v ≡ carried v frame) (sym view) so) (allowed (mode_in b) n (replay (start_of b) es) (e state) h.pictured allows))
 
-  pub next_down_is : (result : Option ℕ) (v : RunState) → state ≡ v → ((w : World) → IsNow n w → result ≡ next_down Commissions w) → result ≡ next_down Commissions (world v)
-  next_down_is result v view is = subst (λ (v : RunState). result ≡ next_down Commissions (world v)) view (is (replay (start_of b) es) h.pictured)
+  pub next_down_is : (result : Option ℕ) (v : RunState) → state ≡ v → ((w : World) → IsNow n w → result ≡ next_down (mode_in b) w) → result ≡ next_down (mode (seen v)) (world v)
+  next_down_is result v view is = subst (λ (v : RunState). result ≡ next_down (mode (seen v)) (world v)) view (is (replay (start_of b) es) h.pictured)
 
   pub next_up_is : (result : Option ℕ) (v : RunState) → state ≡ v → ((w : World) → IsNow n w → result ≡ next_up w) → result ≡ next_up (world v)
   next_up_is result v view is = subst (λ (v : RunState). result ≡ next_up (world v)) view (is (replay (start_of b) es) h.pictured)
@@ -129,42 +128,35 @@ module _ (b : Beginning) (es : List Event) (index : ScriptIndex) (n : LineNow) (
   sender_is (Some sender) v view is = subst (λ (v : RunState). sending_at ((world v).devices sender.0) (now (world v)) ≡ Some sender.1) view (is (replay (start_of b) es) h.pictured)
 
   -- time passes
-  pub pass_right : (ms : ℕ) (v : RunState) → state ≡ v → NothingCalled (seen v) → SettledFor Commissions (replay (start_of b) es) ms → IsRight (seen v) (Pass ms)
+  pub pass_right : (ms : ℕ) (v : RunState) → state ≡ v → NothingCalled (seen v) → SettledFor (mode_in b) (replay (start_of b) es) ms → IsRight (seen v) (Pass ms)
   pass_right ms v view free settled = subst (λ (v : RunState). IsRight (seen v) (Pass ms)) view
-      (free_right r (Pass ms) (subst (λ (v : RunState). NothingCalled (seen v)) (sym view) free) settled (record { tunnel = tt; devices = tt }))
+      (free_right r (Pass ms) (subst (λ (v : RunState). NothingCalled (seen v)) (sym view) free) settled (record { tunnel = passes_any (mode_in b) (replay (start_of b) es).tunnel ms; devices = tt }))
 
-  pub settled_of : (v : RunState) → state ≡ v → Settled Commissions (world v) → Settled Commissions (replay (start_of b) es)
-  settled_of v view settled = subst (λ (v : RunState). Settled Commissions (world v)) (sym view) settled
+  pub settled_of : (v : RunState) → state ≡ v → Settled (mode (seen v)) (world v) → Settled (mode_in b) (replay (start_of b) es)
+  settled_of v view settled = subst (λ (v : RunState). Settled (mode (seen v)) (world v)) (sym view) settled
 
-  pub still_until : (ms at end : ℕ) (v : RunState) → state ≡ v → Settled Commissions (world v) → at ≡ now (replay (start_of b) es)
-      → ((mode : Mode) (w : World) → IsNow n w → Settled mode w → (ms : ℕ) → now w + ms ≤ end → SettledFor mode w ms) → (ms ≤ 1) ⊎ (at + ms ≤ end) → SettledFor Commissions (replay (start_of b) es) ms
+  pub still_until : (ms at end : ℕ) (v : RunState) → state ≡ v → Settled (mode (seen v)) (world v) → at ≡ now (replay (start_of b) es)
+      → ((mode : Mode) (w : World) → IsNow n w → Settled mode w → (ms : ℕ) → now w + ms ≤ end → SettledFor mode w ms) → (ms ≤ 1) ⊎ (at + ms ≤ end) → SettledFor (mode_in b) (replay (start_of b) es) ms
   still_until ms at end v view settled is law (inl one) =
       let w : World = replay (start_of b) es in
-      let now_settled : Settled Commissions w = settled_of v view settled in
+      let now_settled : Settled (mode_in b) w = settled_of v view settled in
       record { settled = now_settled; still = λ t early. subst (HasNothingToSend w) (at_first (now w) t ms one early) now_settled.nothing_to_send }
-  still_until ms at end v view settled is law (inr until) = law Commissions (replay (start_of b) es) h.pictured (settled_of v view settled) ms (subst (λ k. k + ms ≤ end) is until)
+  still_until ms at end v view settled is law (inr until) = law (mode_in b) (replay (start_of b) es) h.pictured (settled_of v view settled) ms (subst (λ k. k + ms ≤ end) is until)
 
 -- the sender's datagram is lost
-was_up : (made age : ℕ) (o : Option Sent) → OfSent (IsUnderWay made age) o → OfSent (λ s. Unit {0}) o
-was_up made age None h = h
-was_up made age (Some s) h = tt
 
-was_down : (made present age : ℕ) (o : Option Sent) → OfSent (λ s. IsUnderWay made age s × (s.endpoint ≡ present)) o → OfSent (λ s. Unit {0}) o
-was_down made present age None h = h
-was_down made present age (Some s) h = tt
-
-pub lost_down_right : (r : RunNow) (age : ℕ) → NothingCalled r → IsNextDown (script r) Commissions (world_of r) age true → MayHappen Commissions (world_of r) (Down age) → IsRight r (LoseDown age)
+pub lost_down_right : (r : RunNow) (age : ℕ) → NothingCalled r → IsNextDown (script r) (mode r) (world_of r) age true → MayHappen (mode r) (world_of r) (Down age) → IsRight r (LoseDown age)
 lost_down_right r age free next may = free_right r (LoseDown age) free next
-    (record { tunnel = was_down (made (world_of r).tunnel) (world_of r).tunnel.present age (slice_get (world_of r).tunnel.network.down age) may.tunnel; devices = tt })
+    (record { tunnel = down_lost (mode r) (world_of r).tunnel age may.tunnel; devices = tt })
 
-pub got_right : (r : RunNow) (age : ℕ) → NothingCalled r → IsNextDown (script r) Commissions (world_of r) age false → MayHappen Commissions (world_of r) (Down age) → IsRight r (Down age)
+pub got_right : (r : RunNow) (age : ℕ) → NothingCalled r → IsNextDown (script r) (mode r) (world_of r) age false → MayHappen (mode r) (world_of r) (Down age) → IsRight r (Down age)
 got_right r age free next may = free_right r (Down age) free next may
 
-pub lost_up_right : (r : RunNow) (age : ℕ) → NothingCalled r → IsNextUp (script r) (world_of r) age true → MayHappen Commissions (world_of r) (Up age) → IsRight r (LoseUp age)
+pub lost_up_right : (r : RunNow) (age : ℕ) → NothingCalled r → IsNextUp (script r) (world_of r) age true → MayHappen (mode r) (world_of r) (Up age) → IsRight r (LoseUp age)
 lost_up_right r age free next may = free_right r (LoseUp age) free next
-    (record { tunnel = was_up (made (world_of r).tunnel) age (slice_get (world_of r).tunnel.network.up age) may.tunnel; devices = tt })
+    (record { tunnel = up_lost (mode r) (world_of r).tunnel age may.tunnel; devices = tt })
 
-pub comes_right : (r : RunNow) (age : ℕ) → are_script_lines r.begun.script ≡ true → NothingCalled r → IsNextUp (script r) (world_of r) age false → MayHappen Commissions (world_of r) (Up age)
+pub comes_right : (r : RunNow) (age : ℕ) → are_script_lines r.begun.script ≡ true → NothingCalled r → IsNextUp (script r) (world_of r) age false → MayHappen (mode r) (world_of r) (Up age)
     → IsRight r (delivery (script r) (start r) r.events age)
 comes_right r age lines free next may = free_right r (delivery (script r) (start r) r.events age) free (delivered_place r age next) (delivered_may r age lines may)
 
@@ -178,13 +170,13 @@ is_due : (o : Option DeviceState) (at : ℕ) (which : Sending) → sending_at o 
 is_due None at which e = absurd (no_some e)
 is_due (Some d) at which e = e
 
-pub sends_right : (v : RunState) (device : ℕ) → NothingCalled (seen v) → MayHappen Commissions (world v) (DevSend device (heard_so v device) []) → IsRight (seen v) (DevSend device (heard_so v device) [])
+pub sends_right : (v : RunState) (device : ℕ) → NothingCalled (seen v) → MayHappen (mode (seen v)) (world v) (DevSend device (heard_so v device) []) → IsRight (seen v) (DevSend device (heard_so v device) [])
 sends_right v device free may = free_right (seen v) (DevSend device (heard_so v device) []) free (refl, refl) may
 
-pub repeats_right : (v : RunState) (device : ℕ) → NothingCalled (seen v) → sending_at ((world v).devices device) (now (world v)) ≡ Some Repeat → MayHappen Commissions (world v) (DevRepeat device (heard_so v device)) → IsRight (seen v) (DevRepeat device (heard_so v device))
+pub repeats_right : (v : RunState) (device : ℕ) → NothingCalled (seen v) → sending_at ((world v).devices device) (now (world v)) ≡ Some Repeat → MayHappen (mode (seen v)) (world v) (DevRepeat device (heard_so v device)) → IsRight (seen v) (DevRepeat device (heard_so v device))
 repeats_right v device free due may = free_right (seen v) (DevRepeat device (heard_so v device)) free (refl, is_due ((world v).devices device) (now (world v)) Repeat due) may
 
-pub closing_right : (v : RunState) (device : ℕ) → NothingCalled (seen v) → sending_at ((world v).devices device) (now (world v)) ≡ Some Closing → MayHappen Commissions (world v) (DevClose device) → IsRight (seen v) (DevClose device)
+pub closing_right : (v : RunState) (device : ℕ) → NothingCalled (seen v) → sending_at ((world v).devices device) (now (world v)) ≡ Some Closing → MayHappen (mode (seen v)) (world v) (DevClose device) → IsRight (seen v) (DevClose device)
 closing_right v device free due may = free_right (seen v) (DevClose device) free (is_due ((world v).devices device) (now (world v)) Closing due) may
 
 is_repeat : (d : GatewayExpired) → due_of d ≡ due.Repeat → IsGatewayRepeat d
@@ -209,8 +201,8 @@ is_closing (gateway.Repeat frame) e = absurd (other e)
     other e = cc
 is_closing (gateway.Closing frame) e = tt
 
-pub gateway_repeats_right : (v : RunState) → NothingCalled (seen v) → due_of (gateway_due (world v)) ≡ due.Repeat → MayHappen Commissions (world v) GwRepeat → IsRight (seen v) GwRepeat
+pub gateway_repeats_right : (v : RunState) → NothingCalled (seen v) → due_of (gateway_due (world v)) ≡ due.Repeat → MayHappen (mode (seen v)) (world v) GwRepeat → IsRight (seen v) GwRepeat
 gateway_repeats_right v free e may = free_right (seen v) GwRepeat free (is_repeat (gateway_due (world v)) e) may
 
-pub gateway_closes_right : (v : RunState) → NothingCalled (seen v) → due_of (gateway_due (world v)) ≡ due.Closed → MayHappen Commissions (world v) GwClose → IsRight (seen v) GwClose
+pub gateway_closes_right : (v : RunState) → NothingCalled (seen v) → due_of (gateway_due (world v)) ≡ due.Closed → MayHappen (mode (seen v)) (world v) GwClose → IsRight (seen v) GwClose
 gateway_closes_right v free e may = free_right (seen v) GwClose free (is_closing (gateway_due (world v)) e) may

@@ -9,9 +9,10 @@ use Rattle.line_model.specs.Counts.{number_at, brings, takes_alone, takes_one, f
 use Rattle.line_model.specs.Legal.{MayHappen, OfDevice, GoesSo}
 use Rattle.line_model.specs.Lines.{Script, closes, drops, repeats_up}
 use Rattle.line_model.specs.Owed.{Owed, DeliverAgain, ReachAgain, BringAgain, PowerReturns, ConnectionCloses, ChannelCloses, owed_if, owed_of_carried, owed_of_frame, power_returns, frame_again, connection_closes, caused}
-use Rattle.line_model.specs.Tunnel.{Commissions}
+use Rattle.line_model.specs.Tunnel.{Mode}
 use Rattle.line_model.specs.World.{World, Event, Up, UpRefused, Down, Bus, BusTorn, BusWorn, BusAgain, next_frame, replay, step}
 use Rattle.bus_sim.proofs.Presence.{presence}
+use Rattle.bus_sim.proofs.Modes.{up_arrives}
 use Rattle.bus_sim.proofs.ActsOnce.{WasActedOn, HasChannel, up_acts}
 
 -- ---- what is called for at devices, and what at the tunnel
@@ -137,7 +138,7 @@ is_up (Up age) = true
 is_up (UpRefused age status) = true
 is_up _ = false
 
-module _ (script : Script) (start : World) (past : List Event) where
+module _ (mode : Mode) (script : Script) (start : World) (past : List Event) where
   closes_there : (e : Event) (device : ℕ) → AllByRecursion (AtDevice (step (replay start past) e)) (connection_closes script start past e device)
   closes_there e device = if_owed _ (takes_one device (replay start past) e && closes script device (frames_taken device start (e ∷ past))) (ConnectionCloses device)
       (λ so. presence (replay start past) e device ∙ takes_there ((replay start past).devices device) (brings device (replay start past) e) (first_true _ _ so))
@@ -154,7 +155,7 @@ module _ (script : Script) (start : World) (past : List Event) where
   carried_there e None power = tt
   carried_there e (Some frame) power = frame_there e frame (power frame refl)
 
-  pub at_devices : (e : Event) → MayHappen Commissions (replay start past) e → is_up e ≡ false → AllByRecursion (AtDevice (step (replay start past) e)) (caused script start past e)
+  pub at_devices : (e : Event) → MayHappen mode (replay start past) e → is_up e ≡ false → AllByRecursion (AtDevice (step (replay start past) e)) (caused script start past e)
   at_devices (Up age) may up = cc
   at_devices (UpRefused age status) may up = cc
   at_devices (Down age) may up = if_owed _ _ _ (λ so. tt)
@@ -167,9 +168,9 @@ module _ (script : Script) (start : World) (past : List Event) where
 
   -- ---- and at the tunnel
 
-  pub up_calls : (age : ℕ) → MayHappen Commissions (replay start past) (Up age) → AtTunnel (step (replay start past) (Up age)) (caused script start past (Up age))
+  pub up_calls : (age : ℕ) → MayHappen mode (replay start past) (Up age) → AtTunnel (step (replay start past) (Up age)) (caused script start past (Up age))
   up_calls age may = by_tests (repeats_up script number) (nat_lt (requests_acted start past) (requests_acted start (Up age ∷ past)) && drops script (requests_acted start (Up age ∷ past)))
-      (λ so. up_acts (replay start past) age may.tunnel (first_true _ _ so))
+      (λ so. up_acts (replay start past) age (up_arrives mode (replay start past).tunnel age may.tunnel) (first_true _ _ so))
     where
       number : ℕ
       number = number_at (replay start past).tunnel.network.up age
@@ -188,7 +189,7 @@ module _ (script : Script) (start : World) (past : List Event) where
       by_test true = Again _
       by_test false = Nothing
 
-  pub calls : (e : Event) → MayHappen Commissions (replay start past) e → Owes (step (replay start past) e) (caused script start past e)
+  pub calls : (e : Event) → MayHappen mode (replay start past) e → Owes (step (replay start past) e) (caused script start past e)
   calls (Up age) may = inr (up_calls age may)
   calls (UpRefused age status) may = inr (refused_calls age status)
   calls e may = inl (at_devices e may refl)

@@ -19,6 +19,7 @@ use Rattle.bus_sim.specs.declared.beginning.Beginning.{Beginning}
 use Rattle.bus_sim.specs.Begun.{CanLoad, begins, device_begun, said, start_of}
 use Rattle.bus_sim.specs.Counted.{CountsNow, AreCounts, counts_at, counts_in, none_counted, nothing_counted}
 use Rattle.bus_sim.specs.Held.{IsHeld, IsLoaded}
+use Rattle.bus_sim.proofs.Numbered.{begin_numbered}
 
 none_some : {A : Type 0} {x : A} → None ≡ Some x → ⊥
 none_some e = cc
@@ -87,4 +88,5 @@ held_start b es index n counts owed loaded none stands is zero free = subst (λ 
   placed = λ a off. none_elsewhere (said b) b.tunnel b.devices a loaded.can (λ same. off (same ∙ sym (ap (λ (c : CountsNow). c.line) zero)));
   few = omega arith;
   keeps = record { fresh = fresh_start b loaded.can; legal = tt; follows = tt };
+  numbered = begin_numbered b.clients b.tunnel;
 })

@@ -4,13 +4,13 @@ use Rattle.std.specs.Prelude.{nat_lt}
 use Rattle.knx_model.specs.declared.frames.cemi.Ldata.{Ldata}
 use Rattle.line_model.specs.Deliveries.{delivery, carriage_of}
 use Rattle.line_model.specs.Legal.{MayHappen}
-use Rattle.line_model.specs.LinkStory.{IsForeign, GoesOn, Same, More}
-use Rattle.line_model.specs.Tunnel.{Commissions}
+use Rattle.line_model.specs.LinkStory.{is_foreign, GoesOn, Same, More}
 use Rattle.line_model.specs.World.{Event, Pass, now, replay}
-use Rattle.bus_sim.specs.Begun.{start_of}
+use Rattle.bus_sim.specs.declared.clients.Clients.TheVariants.{One}
+use Rattle.bus_sim.specs.Begun.{mode_of, start_of}
 use Rattle.bus_sim.specs.Choices.{delivered, carried}
 use Rattle.bus_sim.specs.Polls.{GoesOnFrom}
-use Rattle.bus_sim.specs.RunNow.{RunNow, RunState, IsRight, script, seen, start, world as world_of}
+use Rattle.bus_sim.specs.RunNow.{RunNow, RunState, IsRight, mode, script, seen, start, world as world_of}
 use Rattle.bus_sim.specs.Turns.{Happens, Passes}
 use Rattle.bus_sim.specs.Went.{Went, world}
 use Rattle.bus_sim.proofs.Grows.{is_still, timeless}
@@ -19,7 +19,7 @@ use Rattle.bus_sim.proofs.Carriages.{of_carriage}
 
 -- ---- what happened
 
-pub happens : (old new : RunState) (e : Event) → Went old e new → IsRight (seen old) e → IsForeign e ≡ true → is_still e ≡ true → Happens old new
+pub happens : (old new : RunState) (e : Event) → Went old e new → IsRight (seen old) e → is_foreign e ≡ true → is_still e ≡ true → Happens old new
 happens old new e went right foreign still = record {
   event = e;
   went = went;
@@ -30,38 +30,39 @@ happens old new e went right foreign still = record {
 
 pub delivery_happens : (old new : RunState) (age : ℕ) → Went old (delivery (script (seen old)) (start (seen old)) (seen old).events age) new → IsRight (seen old) (delivery (script (seen old)) (start (seen old)) (seen old).events age) → Happens old new
 delivery_happens old new age went right = happens old new _ went right
-    (of_delivery (λ e. IsForeign e ≡ true) (script (seen old)) (start (seen old)) (seen old).events age refl (λ s. refl))
+    (of_delivery (λ e. is_foreign e ≡ true) (script (seen old)) (start (seen old)) (seen old).events age refl (λ s. refl))
     (of_delivery (λ e. is_still e ≡ true) (script (seen old)) (start (seen old)) (seen old).events age refl (λ s. refl))
 
 pub carriage_happens : (old new : RunState) (frame : Ldata) → Went old (carriage_of (script (seen old)) (start (seen old)) (seen old).events frame) new → IsRight (seen old) (carriage_of (script (seen old)) (start (seen old)) (seen old).events frame) → Happens old new
 carriage_happens old new frame went right = happens old new _ went right
-    (of_carriage (λ e. IsForeign e ≡ true) (script (seen old)) (start (seen old)) (seen old).events frame (λ l. refl) (λ t o. refl) (λ o. refl))
+    (of_carriage (λ e. is_foreign e ≡ true) (script (seen old)) (start (seen old)) (seen old).events frame (λ l. refl) (λ t o. refl) (λ o. refl))
     (of_carriage (λ e. is_still e ≡ true) (script (seen old)) (start (seen old)) (seen old).events frame (λ l. refl) (λ t o. refl) (λ o. refl))
 
 -- ---- a poll goes on
 
-goes_to : (old mid new : RunState) (e : Event) → GoesOnFrom old mid → Went mid e new → MayHappen Commissions (world mid) e → IsForeign e ≡ true → GoesOnFrom old new
-goes_to old mid new e before went may foreign = record {
+goes_to : (old mid new : RunState) (e : Event) → old.begun.clients ≡ One → GoesOnFrom old mid → Went mid e new → MayHappen (mode (seen mid)) (world mid) e → is_foreign e ≡ true → GoesOnFrom old new
+goes_to old mid new e one before went may foreign = record {
   same = ap (λ (r : RunNow). r.begun) went ∙ before.same;
   goes = subst (λ l. GoesOn (start (seen old)) (seen old).events l) (sym (ap (λ (r : RunNow). r.events) went))
-      (More e foreign (subst (λ b. MayHappen Commissions (replay (start_of b) mid.events) e) before.same may) before.goes);
+      (More e foreign (subst (λ c. MayHappen (mode_of c) (replay (start_of old.begun) mid.events) e) one
+      (subst (λ b. MayHappen (mode_of b.clients) (replay (start_of b) mid.events) e) before.same may)) before.goes);
 }
 
-pub goes_more : (old mid new : RunState) → GoesOnFrom old mid → Happens mid new → GoesOnFrom old new
-goes_more old mid new before h = goes_to old mid new h.event before h.went h.may h.foreign
+pub goes_more : (old mid new : RunState) → old.begun.clients ≡ One → GoesOnFrom old mid → Happens mid new → GoesOnFrom old new
+goes_more old mid new one before h = goes_to old mid new h.event one before h.went h.may h.foreign
 
 some_time : (ms : ℕ) → 0 < ms → nat_lt 0 ms ≡ true
 some_time ms some = grind arith
 
-pub goes_past : (old mid new : RunState) (ms : ℕ) → GoesOnFrom old mid → 0 < ms → Passes ms mid new → GoesOnFrom old new
-goes_past old mid new ms before some h = goes_to old mid new (Pass ms) before h.went h.may (some_time ms some)
+pub goes_past : (old mid new : RunState) (ms : ℕ) → old.begun.clients ≡ One → GoesOnFrom old mid → 0 < ms → Passes ms mid new → GoesOnFrom old new
+goes_past old mid new ms one before some h = goes_to old mid new (Pass ms) one before h.went h.may (some_time ms some)
 
 pub goes_same : (old new : RunState) → seen new ≡ seen old → GoesOnFrom old new
 goes_same old new same = record { same = ap (λ (r : RunNow). r.begun) same; goes = subst (λ l. GoesOn (start (seen old)) old.events l) (sym (ap (λ (r : RunNow). r.events) same)) Same }
 
 -- ---- where a call went well
 
-pub ok_happens : {E : Type 0} (result : Result (Unit {0}) E) (old new : RunState) (e : Event) → OnOk result (Went old e new) → IsRight (seen old) e → IsForeign e ≡ true → is_still e ≡ true → OnOk result (Happens old new)
+pub ok_happens : {E : Type 0} (result : Result (Unit {0}) E) (old new : RunState) (e : Event) → OnOk result (Went old e new) → IsRight (seen old) e → is_foreign e ≡ true → is_still e ≡ true → OnOk result (Happens old new)
 ok_happens (Ok x) old new e went right foreign still = happens old new e went right foreign still
 ok_happens (Err x) old new e went right foreign still = tt
 

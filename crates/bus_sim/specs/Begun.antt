@@ -1,5 +1,5 @@
--- What a run of the simulated line begins with: the tunnel's address, the devices with the images that they are loaded with, and the lines of a
--- script; and the world that this is: no channel, nothing sent, no frame that waits, and each listed device as the script says, with power or
+-- What a run of the simulated line begins with: whose it is, the tunnel's address, the devices with the images that they are loaded with, and the
+-- lines of a script; and the world that this is: no channel, nothing sent, no frame that waits, and each listed device as the script says, with power or
 -- without, a standard one or not.
 use Rattle.std.specs.Prelude.{◌≡◌, ℕ, ◌==◌, not, List, [], ◌∷◌, map, Option, Some, None, IfSome, if◌then◌else◌}
 use Rattle.std.specs.List.{AllByRecursion}
@@ -9,13 +9,24 @@ use Rattle.knx_model.specs.Device.{Fits}
 use Rattle.knx_model.specs.DeviceState.{DeviceState, blank, loaded_with, framed}
 use Rattle.line_model.specs.Lines.{Script, script_of, is_off, is_standard}
 use Rattle.line_model.specs.StartOf.{powered, frames_for, default_tunnel, line_of}
-use Rattle.line_model.specs.Tunnel.{fresh}
+use Rattle.line_model.specs.Tunnel.{Mode, Commissions, Serves, fresh}
 use Rattle.line_model.specs.World.{World}
 use Rattle.bus_sim.specs.declared.beginning.Beginning.{Beginning}
+use Rattle.bus_sim.specs.declared.clients.Clients.{Clients}
+use Rattle.bus_sim.specs.declared.clients.Clients.TheVariants.{One, Any}
 
 -- nothing was loaded: no device, and the address of a tunnel without a project
 abbrev pub nothing_loaded : Beginning
-nothing_loaded = record { tunnel = default_tunnel; devices = []; script = [] }
+nothing_loaded = record { clients = One; tunnel = default_tunnel; devices = []; script = [] }
+
+-- ---- whose it is
+
+abbrev pub mode_of : Clients → Mode
+mode_of One = Commissions
+mode_of Any = Serves
+
+abbrev pub mode_in : Beginning → Mode
+mode_in b = mode_of b.clients
 
 -- ---- the devices
 

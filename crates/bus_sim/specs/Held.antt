@@ -10,6 +10,7 @@ use Rattle.script_index.specs.Stands.{StandsFor}
 use Rattle.bus_sim.specs.declared.beginning.Beginning.{Beginning}
 use Rattle.bus_sim.specs.Begun.{CanLoad, addresses}
 use Rattle.bus_sim.specs.Counted.{CountsNow, AreCounts}
+use Rattle.bus_sim.specs.Numbers.{AreNumbered}
 use Rattle.bus_sim.specs.RunNow.{RunNow, world, start, script, owed_in, Keeps}
 
 -- what may be loaded: devices of the tunnel's line, and lines of a script that name none but them
@@ -28,3 +29,4 @@ pub record IsHeld (r : RunNow) (index : ScriptIndex) (line : LineNow) (counts : 
   pub placed : (address : ℕ) → line_of address ≢ counts.line → (world r).devices address ≡ None
   pub few : length r.events < 2 ^ 62
   pub keeps : Keeps r
+  pub numbered : AreNumbered r.begun.clients (world r).tunnel

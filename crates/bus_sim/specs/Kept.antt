@@ -10,6 +10,7 @@ use Rattle.bus_sim.specs.declared.happened.Happened.TheVariants as kept
 -- how many octets are its own
 abbrev pub octets_of : Happened → ℕ
 octets_of (kept.Send n) = n
+octets_of (kept.From endpoint n) = n
 octets_of (kept.UpRefused age) = 1
 octets_of (kept.BusTornOld n) = n
 octets_of (kept.BusTornNew n) = n
@@ -18,6 +19,7 @@ octets_of _ = 0
 
 abbrev pub event_of : Happened → List ℕ → Event
 event_of (kept.Send n) octets = world.Send octets
+event_of (kept.From endpoint n) octets = world.From endpoint octets
 event_of kept.Renew octets = world.Renew
 event_of (kept.Up age) octets = world.Up age
 event_of (kept.UpRefused age) octets = world.UpRefused age (slice_index octets 0)

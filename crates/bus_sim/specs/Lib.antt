@@ -1,5 +1,6 @@
 pub mod Kept
 pub mod Begun
+pub mod Numbers
 pub mod Counted
 pub mod Owing
 pub mod RunNow
@@ -9,3 +10,5 @@ pub mod Choices
 pub mod Turns
 pub mod Polls
 pub mod Loaded
+pub mod Serving
+pub mod Turned

@@ -4,7 +4,7 @@ use Rattle.line_model.specs.declared.outside.link.Polled.{Polled}
 use Rattle.line_model.specs.LinkStory.{GoesOn, Polls}
 use Rattle.line_model.specs.Record.{Got, Quiet}
 use Rattle.line_model.specs.Polled.{PollsAs}
-use Rattle.bus_sim.specs.RunNow.{RunState, seen, start, story, time}
+use Rattle.bus_sim.specs.RunNow.{RunNow, RunState, seen, start, story, time}
 
 -- the same run, with more events that are not the client's
 pub record GoesOnFrom (old new : RunState) : Type 0 where
@@ -15,6 +15,12 @@ pub record GoesOnFrom (old new : RunState) : Type 0 where
 pub record StopsWithin (wait : ℕ) (old new : RunState) : Type 0 where
   pub goes : GoesOnFrom old new
   pub in_time : time (seen new) ≤ time (seen old) + wait
+
+-- the same of runs as they are told
+pub record StopsRun (wait : ℕ) (old new : RunNow) : Type 0 where
+  pub same : new.begun ≡ old.begun
+  pub goes : GoesOn (start old) old.events new.events
+  pub in_time : time new ≤ time old + wait
 
 abbrev pub PolledSo : Polled → List ℕ → ℕ → RunState → RunState → Type 0
 PolledSo polled into wait old new = PollsAs polled into wait (time (seen new)) (story (seen old)) (story (seen new))

@@ -12,9 +12,10 @@ ghost use Rattle.bus_sim.specs.Turns.{Gets, Happens};
 ghost use Rattle.bus_sim.specs.Went.{IsRight, Stays};
 
 use crate::owed::Owed;
+use crate::reaching::again_down;
 use crate::run::Run;
 use crate::stopped::Stopped;
-use knx_model::Datagram;
+use crate::turn::Letter;
 
 impl Run {
     /// What the script calls for first.
@@ -44,9 +45,9 @@ impl Run {
     }
 
     /// The gateway's datagram of a number comes to the client again.
-    pub fn reach_again(&mut self, number: u64) -> Result<Datagram, Stopped>
+    pub fn reach_again(&mut self, number: u64) -> Result<Letter, Stopped>
         requires { Calls (seen self.old) (model.ReachAgain number) }
-        ensures gets { IfOk result (λ octets. Gets octets self.old self.new) }
+        ensures gets { IfOk result (λ letter. Gets letter self.old self.new) }
         ensures err { OnErr result (Stays self.old self.new) }
     {
         let age = self.again_down(number);
@@ -59,7 +60,7 @@ impl Run {
         ensures deliverable { OfSent IsDeliverable (slice_get self.now.line.tunnel.down.kept result) }
         ensures right { IsRight self.now (Down result) }
     {
-        self.line.again_down(number).unwrap()
+        again_down(&self.line, self.begun.clients, number).unwrap()
     }
 
     /// A device takes its last frame again.

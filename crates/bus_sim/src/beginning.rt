@@ -8,7 +8,9 @@ ghost use Rattle.line_sim.specs.Places.{AreDevices};
 ghost use Rattle.script_index.specs.Stands.{StandsFor};
 ghost use Rattle.knx_model.specs.ScriptText.{first_stranger};
 ghost use Rattle.bus_sim.specs.Begun.{CanLoad, addresses, begins, device_begun};
+ghost use Rattle.bus_sim.specs.declared.clients.Clients.TheVariants.{One};
 
+use crate::clients::Clients;
 use knx_model::{
     GroupService, Image, IndAddr, List, NoMemory, Octets, Refused, ScriptLine, ScriptWhat,
 };
@@ -17,26 +19,28 @@ use script_index::ScriptIndex;
 use script_text::first_stranger;
 use std::alloc::Global;
 
-/// The tunnel's address, the devices on its line, each with the image that it is loaded with or none where it is blank, and the lines of the
-/// script.
+/// Whose it is, the tunnel's address, the devices on its line, each with the image that it is loaded with or none where it is blank, and the
+/// lines of the script.
 #[derive(Drop)]
 pub struct Beginning {
+    pub clients: Clients,
     pub tunnel: IndAddr,
     pub devices: List<(IndAddr, Option<Image>)>,
     pub script: List<ScriptLine>,
 }
 
 impl Beginning {
-    /// The same, to be kept.
+    /// The same, to be kept, of a run of one client.
     pub fn of(
         alloc: Global,
         tunnel: IndAddr,
         devices: &[(IndAddr, Option<Image>)],
         script: &[ScriptLine],
     ) -> Result<Beginning, NoMemory>
-        ensures { IfOk result (λ made. made ≡ record { tunnel = tunnel; devices = devices.now; script = script.now }) }
+        ensures { IfOk result (λ made. made ≡ record { clients = One; tunnel = tunnel; devices = devices.now; script = script.now }) }
     {
         Ok(Beginning {
+            clients: Clients::One,
             tunnel,
             devices: devices_of(alloc, devices)?,
             script: lines_of(alloc, script)?,

@@ -1,23 +1,25 @@
 //! The simulated line.
 
-ghost use Rattle.std.specs.Prelude.{◌≡◌, ◌≤◌, true, [], IfErr, IfOk, OnErr, OnOk, length, option_copied};
+ghost use Rattle.std.specs.Prelude.{◌≡◌, ◌≤◌, ℕ, true, [], IfErr, IfOk, OnErr, OnOk, length, option_copied};
 ghost use Rattle.knx_model.specs.ScriptText.{are_script_lines, first_stranger};
 ghost use Rattle.line_model.specs.Fresh.{IsFresh};
 ghost use Rattle.line_model.specs.Follows.{Follows};
 ghost use Rattle.line_model.specs.Legal.{IsLegal};
-ghost use Rattle.line_model.specs.LinkStory.{PollsNothing};
 ghost use Rattle.line_model.specs.Polled.{PollsAs};
-ghost use Rattle.line_model.specs.Tunnel.{Commissions};
 ghost use Rattle.line_model.specs.World.{Send, Renew};
 ghost use Rattle.bus_sim.specs.Begun.{CanLoad, addresses};
 ghost use Rattle.bus_sim.specs.Loaded.{FailsFor, IsWant, PreparedSo, nothing_run};
-ghost use Rattle.bus_sim.specs.RunNow.{happened, script, seen, start, story, time, world};
+ghost use Rattle.bus_sim.specs.Polls.{StopsRun};
+ghost use Rattle.bus_sim.specs.Serving.{FailsAt, IsCausedBy};
+ghost use Rattle.bus_sim.specs.declared.clients.Clients.TheVariants.{One};
+ghost use Rattle.bus_sim.specs.RunNow.{happened, mode, script, seen, start, story, time, world};
 
 use crate::beginning::Beginning;
+use crate::clients::Clients;
 use crate::run::Run;
-use crate::stopped::Stopped;
+use crate::stopped::{Broken, Stopped};
 use knx_model::{Image, IndAddr, List, NoMemory, Refused, ScriptLine, Why};
-use line_model::{LinkFault, Polled};
+use line_model::{LinkFault, Polled, PortFault};
 use line_sim::Device;
 use script_text::Script;
 use std::alloc::Global;
@@ -28,7 +30,7 @@ use std::marker::Model;
 #[derive(Drop)]
 pub struct SimBus {
     alloc: Global,
-    run: Option<Run>,
+    pub(crate) run: Option<Run>,
     faults: u64,
 }
 
@@ -54,7 +56,7 @@ impl SimBus {
         }
     }
 
-    /// Begins a new run: the tunnel's address, the devices on the bus, each loaded with an image or blank, and the script, by whose first words some
+    /// Begins a new run, of one client: the tunnel's address, the devices on the bus, each loaded with an image or blank, and the script, by whose first words some
     /// have no power or take standard frames alone. Refused is, as NoDevice, the first line of the script that names a device which isn't
     /// listed. At `Err` nothing has changed.
     pub fn load(
@@ -65,7 +67,7 @@ impl SimBus {
         script: &Script,
     ) -> Result<(), Refused>
         requires { CanLoad tunnel devices.now }
-        ensures loaded { OnOk result (self.new.run ≡ record { begun = record { tunnel = tunnel; devices = devices.now; script = script.now.lines }; events = [] }) }
+        ensures loaded { OnOk result (self.new.run ≡ record { begun = record { clients = One; tunnel = tunnel; devices = devices.now; script = script.now.lines }; events = [] }) }
         ensures known { OnOk result (first_stranger (addresses devices.now) script.now.lines ≡ None) }
         ensures refused { IfErr result (IsRefusedFor (first_stranger (addresses devices.now) script.now.lines)) }
         ensures err { OnErr result (self.new ≡ self.old) }
@@ -91,8 +93,8 @@ impl SimBus {
     /// What holds of each run, for a caller to know: its start is fresh, and its events are legal and follow the script. It does nothing.
     pub fn keeps(&self)
         ensures fresh { IsFresh (start self.now.run) }
-        ensures legal { IsLegal Commissions (start self.now.run) self.now.run.events }
-        ensures follows { Follows (script self.now.run) Commissions (start self.now.run) self.now.run.events }
+        ensures legal { IsLegal (mode self.now.run) (start self.now.run) self.now.run.events }
+        ensures follows { Follows (script self.now.run) (mode self.now.run) (start self.now.run) self.now.run.events }
     {
         if let Some(run) = &self.run {
             run.keeps();
@@ -100,7 +102,7 @@ impl SimBus {
     }
 
     /// The run to be driven, which begins where none was loaded. Until it is put back there is none.
-    fn take_run(&mut self) -> Result<Run, NoMemory>
+    pub(crate) fn take_run(&mut self) -> Result<Run, NoMemory>
         ensures run { IfOk result (λ run. seen run ≡ self.old.run) }
         ensures err { OnErr result (self.new.run ≡ self.old.run) }
         ensures faults { self.new.faults ≡ self.old.faults }
@@ -113,6 +115,7 @@ impl SimBus {
 
     /// The client sends a datagram. At `Err` nothing has happened.
     pub(crate) fn send_to_run(&mut self, octets: &[u8]) -> Result<(), Stopped>
+        ensures one { OnOk result (self.old.run.begun.clients ≡ One) }
         ensures went { OnOk result (self.new.run ≡ happened self.old.run (Send octets.now)) }
         ensures err { OnErr result (self.new.run ≡ self.old.run) }
         ensures faults { self.new.faults ≡ self.old.faults }
@@ -125,6 +128,7 @@ impl SimBus {
 
     /// The client takes the next endpoint. At `Err` nothing has happened.
     pub(crate) fn renew_run(&mut self) -> Result<(), Stopped>
+        ensures one { OnOk result (self.old.run.begun.clients ≡ One) }
         ensures went { OnOk result (self.new.run ≡ happened self.old.run Renew) }
         ensures err { OnErr result (self.new.run ≡ self.old.run) }
         ensures faults { self.new.faults ≡ self.old.faults }
@@ -138,7 +142,8 @@ impl SimBus {
     /// The line goes on, until the client gets a datagram or the wait is over.
     pub(crate) fn poll_run(&mut self, into: &mut [u8; 512], wait_ms: u32) -> Result<Polled, Stopped>
         ensures polled { IfOk result (λ polled. PollsAs polled into.new wait_ms (time self.new.run) (story self.old.run) (story self.new.run)) }
-        ensures err { OnErr result (PollsNothing wait_ms (story self.old.run) (story self.new.run)) }
+        ensures one { OnOk result (self.old.run.begun.clients ≡ One) }
+        ensures err { OnErr result (StopsRun wait_ms self.old.run self.new.run) }
         ensures begun { self.new.run.begun ≡ self.old.run.begun }
         ensures faults { self.new.faults ≡ self.old.faults }
     {
@@ -156,9 +161,36 @@ impl SimBus {
     {
         match stopped {
             Stopped::NoMemory(want) => LinkFault::NoMemory(want),
-            Stopped::AtEnd => {
+            Stopped::AtEnd | Stopped::Serves => {
                 self.faults = self.faults.saturating_add(1);
                 LinkFault::Failed
+            }
+        }
+    }
+
+    /// What a serving answers that broke off so.
+    pub(crate) fn port_fault_of(&mut self, broken: Broken) -> PortFault
+        ensures run { self.new.run ≡ self.old.run }
+        ensures cause { (before after : ℕ) → IsCausedBy broken before after → FailsAt result before after self.old.faults self.new.faults }
+        ensures faults { self.old.faults ≤ self.new.faults }
+    {
+        match broken {
+            Broken::Port(fault) => fault,
+            Broken::Run(stopped) => self.port_fault_of_run(stopped),
+        }
+    }
+
+    /// What a serving answers whose run stopped so: it failed, and that is counted, where it wasn't for want of memory.
+    fn port_fault_of_run(&mut self, stopped: Stopped) -> PortFault
+        ensures run { self.new.run ≡ self.old.run }
+        ensures cause { (before after : ℕ) → FailsAt result before after self.old.faults self.new.faults }
+        ensures faults { self.old.faults ≤ self.new.faults }
+    {
+        match stopped {
+            Stopped::NoMemory(want) => PortFault::NoMemory(want),
+            Stopped::AtEnd | Stopped::Serves => {
+                self.faults = self.faults.saturating_add(1);
+                PortFault::Failed
             }
         }
     }
@@ -194,6 +226,7 @@ fn begun_empty(alloc: Global) -> Result<Run, NoMemory>
     Run::begin(
         alloc,
         Beginning {
+            clients: Clients::One,
             tunnel: DEFAULT_TUNNEL,
             devices: List::new(alloc),
             script: List::new(alloc),
@@ -216,7 +249,7 @@ fn prepare(
 ) -> Result<Prepared, NoMemory>
     requires can { CanLoad tunnel devices.now }
     requires lines { are_script_lines script.now ≡ true }
-    ensures { IfOk result (λ prepared. PreparedSo prepared (record { tunnel = tunnel; devices = devices.now; script = script.now })) }
+    ensures { IfOk result (λ prepared. PreparedSo prepared (record { clients = One; tunnel = tunnel; devices = devices.now; script = script.now })) }
 {
     let begun = Beginning::of(alloc, tunnel, devices, script)?;
     match begun.stranger(alloc)? {

@@ -123,7 +123,7 @@ impl Run {
             second,
             ..NOTHING
         };
-        self.owed.meet(caused, &self.line);
+        self.owed.meet(caused, &self.line, self.begun.clients);
         self.events.push(Happened::Bus(lost), &[]);
         Ok(())
     }
@@ -155,7 +155,7 @@ impl Run {
             second,
             third,
         };
-        self.owed.meet(caused, &self.line);
+        self.owed.meet(caused, &self.line, self.begun.clients);
         self.events
             .push(torn(k, octets.len() as u64), octets.as_slice());
         Ok(())
@@ -187,7 +187,7 @@ impl Run {
             second,
             ..NOTHING
         };
-        self.owed.meet(caused, &self.line);
+        self.owed.meet(caused, &self.line, self.begun.clients);
         self.events
             .push(Happened::BusWorn(octets.len() as u64), octets.as_slice());
         Ok(())

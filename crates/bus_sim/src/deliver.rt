@@ -6,6 +6,7 @@ ghost use Rattle.line_model.specs.World.{Up, UpRefused, Down, LoseUp, LoseDown};
 ghost use Rattle.network_sim.specs.Window.{IsDeliverable};
 ghost use Rattle.bus_sim.specs.Went.{Stays, Went, IsRight, world};
 ghost use Rattle.bus_sim.specs.Choices.{delivered, event_so};
+ghost use Rattle.bus_sim.specs.Numbers.{IsNumber};
 
 use crate::called::{channel_closes, comes_again, reaches_again};
 use crate::happened::Happened;
@@ -13,7 +14,7 @@ use crate::owed::{Caused, NOTHING};
 use crate::room::make_room;
 use crate::run::Run;
 use crate::stopped::Stopped;
-use knx_model::Datagram;
+use crate::turn::Letter;
 
 /// How the client's datagram is delivered.
 #[derive(Clone, Copy, Debug, Drop, PartialEq, Eq)]
@@ -25,21 +26,23 @@ pub enum Delivery {
 }
 
 impl Run {
-    /// The client gets the gateway's datagram of an age. At `Err` nothing has happened.
-    pub fn down(&mut self, age: usize) -> Result<Datagram, Stopped>
+    /// A client gets the gateway's datagram of an age. At `Err` nothing has happened.
+    pub fn down(&mut self, age: usize) -> Result<Letter, Stopped>
         requires deliverable { OfSent IsDeliverable (slice_get self.old.line.tunnel.down.kept age) }
         requires right { IsRight self.old (Down age) }
         ensures went { OnOk result (Went self.old (Down age) self.new) }
-        ensures got { IfOk result (λ octets. OfSent (λ s. s.octets ≡ octets) (slice_get (world self.old).tunnel.network.down age)) }
+        ensures got { IfOk result (λ letter. OfSent (λ s. (s.endpoint ≡ letter.to) × (s.octets ≡ letter.octets)) (slice_get (world self.old).tunnel.network.down age)) }
+        ensures number { IfOk result (λ letter. IsNumber self.old.begun.clients letter.to) }
         ensures err { OnErr result (Stays self.old self.new) }
     {
         make_room(&mut self.events, &mut self.owed, &self.line, 0)?;
         let first = reaches_again(&self.index, self.line.number_down(age));
+        let to = self.line.endpoint_down(age);
         let octets = self.line.down(age);
         let caused = Caused { first, ..NOTHING };
-        self.owed.meet(caused, &self.line);
+        self.owed.meet(caused, &self.line, self.begun.clients);
         self.events.push(Happened::Down(age as u64), &[]);
-        Ok(octets)
+        Ok(Letter { to, octets })
     }
 
     /// It is lost. At `Err` nothing has happened.
@@ -50,7 +53,7 @@ impl Run {
     {
         make_room(&mut self.events, &mut self.owed, &self.line, 0)?;
         self.line.lose_down(age);
-        self.owed.meet(NOTHING, &self.line);
+        self.owed.meet(NOTHING, &self.line, self.begun.clients);
         self.events.push(Happened::LoseDown(age as u64), &[]);
         Ok(())
     }
@@ -102,7 +105,7 @@ impl Run {
             second,
             ..NOTHING
         };
-        self.owed.meet(caused, &self.line);
+        self.owed.meet(caused, &self.line, self.begun.clients);
         self.events.push(Happened::Up(age as u64), &[]);
         Ok(())
     }
@@ -119,7 +122,7 @@ impl Run {
         self.line.up_refused(age, status);
         self.counts.connect_if(true);
         let caused = Caused { first, ..NOTHING };
-        self.owed.meet(caused, &self.line);
+        self.owed.meet(caused, &self.line, self.begun.clients);
         self.events.push(Happened::UpRefused(age as u64), &[status]);
         Ok(())
     }
@@ -132,7 +135,7 @@ impl Run {
     {
         make_room(&mut self.events, &mut self.owed, &self.line, 0)?;
         self.line.lose_up(age);
-        self.owed.meet(NOTHING, &self.line);
+        self.owed.meet(NOTHING, &self.line, self.begun.clients);
         self.events.push(Happened::LoseUp(age as u64), &[]);
         Ok(())
     }

@@ -5,11 +5,10 @@ ghost use Rattle.knx_model.specs.Connection.{last_time};
 ghost use Rattle.line_model.specs.Deliveries.{next_up, next_down};
 ghost use Rattle.line_model.specs.Fresh.{Settled};
 ghost use Rattle.line_model.specs.Gateway.{gateway_expired};
-ghost use Rattle.line_model.specs.Tunnel.{Commissions};
 ghost use Rattle.line_model.specs.World.{now, next_frame};
 ghost use Rattle.line_sim.specs.declared.gateway.Due.TheVariants as due;
 ghost use Rattle.line_sim.specs.Gateways.{due_of};
-ghost use Rattle.bus_sim.specs.RunNow.{NothingCalled, seen};
+ghost use Rattle.bus_sim.specs.RunNow.{NothingCalled, mode, seen};
 ghost use Rattle.bus_sim.specs.Turns.{Turns};
 ghost use Rattle.bus_sim.specs.Went.{Stays, world};
 
@@ -36,7 +35,7 @@ impl Run {
     fn go_on_up(&mut self, left: u32) -> Result<Turn, Stopped>
         requires time { now (world self.old) + left ≤ last_time }
         requires free { NothingCalled (seen self.old) }
-        requires down { next_down Commissions (world self.old) ≡ None }
+        requires down { next_down (mode (seen self.old)) (world self.old) ≡ None }
         ensures turns { IfOk result (λ turn. Turns turn left self.old self.new) }
         ensures err { OnErr result (Stays self.old self.new) }
     {
@@ -53,7 +52,7 @@ impl Run {
     fn go_on_bus(&mut self, left: u32) -> Result<Turn, Stopped>
         requires time { now (world self.old) + left ≤ last_time }
         requires free { NothingCalled (seen self.old) }
-        requires down { next_down Commissions (world self.old) ≡ None }
+        requires down { next_down (mode (seen self.old)) (world self.old) ≡ None }
         requires up { next_up (world self.old) ≡ None }
         ensures turns { IfOk result (λ turn. Turns turn left self.old self.new) }
         ensures err { OnErr result (Stays self.old self.new) }
@@ -71,7 +70,7 @@ impl Run {
     fn go_on_gateway(&mut self, left: u32) -> Result<Turn, Stopped>
         requires time { now (world self.old) + left ≤ last_time }
         requires free { NothingCalled (seen self.old) }
-        requires down { next_down Commissions (world self.old) ≡ None }
+        requires down { next_down (mode (seen self.old)) (world self.old) ≡ None }
         requires up { next_up (world self.old) ≡ None }
         requires bus { next_frame (world self.old) ≡ None }
         ensures turns { IfOk result (λ turn. Turns turn left self.old self.new) }
@@ -94,7 +93,7 @@ impl Run {
     fn at_devices(&mut self, left: u32) -> Result<Turn, Stopped>
         requires time { now (world self.old) + left ≤ last_time }
         requires free { NothingCalled (seen self.old) }
-        requires down { next_down Commissions (world self.old) ≡ None }
+        requires down { next_down (mode (seen self.old)) (world self.old) ≡ None }
         requires up { next_up (world self.old) ≡ None }
         requires bus { next_frame (world self.old) ≡ None }
         requires gateway { due_of (gateway_expired (world self.old).tunnel.gateway (now (world self.old))) ≡ due.Nothing }
@@ -117,7 +116,7 @@ impl Run {
     fn let_pass(&mut self, left: u32) -> Result<Turn, Stopped>
         requires time { now (world self.old) + left ≤ last_time }
         requires free { NothingCalled (seen self.old) }
-        requires settled { Settled Commissions (world self.old) }
+        requires settled { Settled (mode (seen self.old)) (world self.old) }
         ensures turns { IfOk result (λ turn. Turns turn left self.old self.new) }
         ensures err { OnErr result (Stays self.old self.new) }
     {

@@ -7,6 +7,8 @@ use line_sim::AtGateway;
 pub enum Happened {
     /// The client sent a datagram of so many octets.
     Send(u64),
+    /// The client at this endpoint sent a datagram of so many octets.
+    From(u32, u64),
     /// The client took the next endpoint.
     Renew,
     /// The gateway took the client's datagram of this age: how many younger ones there were.

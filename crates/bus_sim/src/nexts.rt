@@ -8,17 +8,17 @@ ghost use Rattle.line_model.specs.Fresh.{Settled};
 ghost use Rattle.line_model.specs.Gateway.{gateway_expired};
 ghost use Rattle.line_model.specs.Legal.{MayHappen};
 ghost use Rattle.line_model.specs.Network.{OfSent};
-ghost use Rattle.line_model.specs.Tunnel.{Commissions};
 ghost use Rattle.line_model.specs.World.{Down, LoseDown, LoseUp, Pass, Up, now, next_frame};
 ghost use Rattle.line_sim.specs.declared.gateway.Due.TheVariants as due;
 ghost use Rattle.line_sim.specs.Gateways.{due_of};
 ghost use Rattle.line_sim.specs.Places.{IsDue, sending_at};
 ghost use Rattle.network_sim.specs.Window.{IsDeliverable};
 ghost use Rattle.bus_sim.specs.Choices.{delivered};
-ghost use Rattle.bus_sim.specs.RunNow.{NothingCalled, seen};
+ghost use Rattle.bus_sim.specs.RunNow.{NothingCalled, mode, seen};
 ghost use Rattle.bus_sim.specs.Turns.{Happens, Turns};
 ghost use Rattle.bus_sim.specs.Went.{IsRight, Stays, world};
 
+use crate::reaching::next_down;
 use crate::run::Run;
 use crate::stopped::Stopped;
 use crate::turn::Turn;
@@ -28,19 +28,19 @@ use line_sim::{Due, what_is_due_is_allowed};
 impl Run {
     /// The age of the gateway's datagram that goes next.
     pub fn age_down(&self) -> Option<usize>
-        ensures value { result ≡ next_down Commissions (world self.now) }
+        ensures value { result ≡ next_down (mode (seen self.now)) (world self.now) }
         ensures deliverable { IfSome result (λ age. OfSent IsDeliverable (slice_get self.now.line.tunnel.down.kept age)) }
-        ensures may { IfSome result (λ age. MayHappen Commissions (world self.now) (Down age)) }
+        ensures may { IfSome result (λ age. MayHappen (mode (seen self.now)) (world self.now) (Down age)) }
     {
-        self.line.next_down()
+        next_down(&self.line, self.begun.clients)
     }
 
     /// The gateway's datagram that goes next is lost, or the client gets it.
     pub fn next_down(&mut self, age: usize) -> Result<Turn, Stopped>
         requires free { NothingCalled (seen self.old) }
-        requires next { next_down Commissions (world self.old) ≡ Some age }
+        requires next { next_down (mode (seen self.old)) (world self.old) ≡ Some age }
         requires deliverable { OfSent IsDeliverable (slice_get self.old.line.tunnel.down.kept age) }
-        requires may { MayHappen Commissions (world self.old) (Down age) }
+        requires may { MayHappen (mode (seen self.old)) (world self.old) (Down age) }
         ensures turns { IfOk result (λ turn. (left : ℕ) → Turns turn left self.old self.new) }
         ensures err { OnErr result (Stays self.old self.new) }
     {
@@ -54,8 +54,8 @@ impl Run {
 
     fn loses_down(&self, age: usize) -> bool
         requires free { NothingCalled (seen self.now) }
-        requires next { next_down Commissions (world self.now) ≡ Some age }
-        requires may { MayHappen Commissions (world self.now) (Down age) }
+        requires next { next_down (mode (seen self.now)) (world self.now) ≡ Some age }
+        requires may { MayHappen (mode (seen self.now)) (world self.now) (Down age) }
         ensures lost { IsTrue result → IsRight self.now (LoseDown age) }
         ensures got { IsFalse result → IsRight self.now (Down age) }
     {
@@ -66,7 +66,7 @@ impl Run {
     pub fn age_up(&self) -> Option<usize>
         ensures value { result ≡ next_up (world self.now) }
         ensures deliverable { IfSome result (λ age. OfSent IsDeliverable (slice_get self.now.line.tunnel.up.kept age)) }
-        ensures may { IfSome result (λ age. MayHappen Commissions (world self.now) (Up age)) }
+        ensures may { IfSome result (λ age. MayHappen (mode (seen self.now)) (world self.now) (Up age)) }
     {
         self.line.next_up()
     }
@@ -76,7 +76,7 @@ impl Run {
         requires free { NothingCalled (seen self.old) }
         requires next { next_up (world self.old) ≡ Some age }
         requires deliverable { OfSent IsDeliverable (slice_get self.old.line.tunnel.up.kept age) }
-        requires may { MayHappen Commissions (world self.old) (Up age) }
+        requires may { MayHappen (mode (seen self.old)) (world self.old) (Up age) }
         ensures happens { OnOk result (Happens self.old self.new) }
         ensures err { OnErr result (Stays self.old self.new) }
     {
@@ -90,7 +90,7 @@ impl Run {
     fn loses_up(&self, age: usize) -> bool
         requires free { NothingCalled (seen self.now) }
         requires next { next_up (world self.now) ≡ Some age }
-        requires may { MayHappen Commissions (world self.now) (Up age) }
+        requires may { MayHappen (mode (seen self.now)) (world self.now) (Up age) }
         ensures lost { IsTrue result → IsRight self.now (LoseUp age) }
         ensures comes { IsFalse result → IsRight self.now (delivered self.now age) }
     {
@@ -171,7 +171,7 @@ impl Run {
     /// How long it stays so where nothing but time can go on, so many milliseconds at most.
     pub fn still_for(&self, left: u32) -> u32
         requires free { NothingCalled (seen self.now) }
-        requires settled { Settled Commissions (world self.now) }
+        requires settled { Settled (mode (seen self.now)) (world self.now) }
         ensures few { result ≤ left }
         ensures some { 1 ≤ left → 1 ≤ result }
         ensures right { IsRight self.now (Pass result) }

@@ -3,11 +3,13 @@
 ghost use Rattle.std.specs.Prelude.{◌≡◌, ◌+◌, ◌≤◌, [], ◌++◌, drop, map, option_map, option_to_list, OnOk, vec_len, vec_capacity};
 ghost use Rattle.std.specs.List.{filter};
 ghost use Rattle.line_model.specs.Owed.{is_possible};
-ghost use Rattle.line_model.specs.Tunnel.{Commissions};
 ghost use Rattle.line_model.specs.World.{World};
 ghost use Rattle.line_sim.specs.Line.{AreCounted, IsNow};
+ghost use Rattle.bus_sim.specs.Begun.{mode_of};
 ghost use Rattle.bus_sim.specs.Owing.{all_caused, first_of, meant};
 
+use crate::clients::Clients;
+use crate::reaching::again_down;
 use knx_model::NoMemory;
 use line_sim::Line;
 use std::alloc::Global;
@@ -90,22 +92,22 @@ impl Owing {
     }
 
     /// An event of the line met what came first, where there was anything, and calls for more. Of all that what isn't possible any more is dropped.
-    pub fn meet(&mut self, caused: Caused, line: &Line)
+    pub fn meet(&mut self, caused: Caused, line: &Line, clients: Clients)
         requires { 3 ≤ self.old.room }
-        ensures { (w : World) → IsNow line.now w → AreCounted w → self.new.list ≡ filter (is_possible Commissions w) (drop 1 self.old.list ++ all_caused caused) }
+        ensures { (w : World) → IsNow line.now w → AreCounted w → self.new.list ≡ filter (is_possible (mode_of clients) w) (drop 1 self.old.list ++ all_caused caused) }
     {
         if !self.items.is_empty() {
             self.items.remove(0);
         }
         join(&mut self.items, caused);
-        drop_impossible(&mut self.items, line);
+        drop_impossible(&mut self.items, line, clients);
     }
 
     /// The client did something: what isn't possible any more is dropped.
-    pub fn wait(&mut self, line: &Line)
-        ensures { (w : World) → IsNow line.now w → AreCounted w → self.new.list ≡ filter (is_possible Commissions w) self.old.list }
+    pub fn wait(&mut self, line: &Line, clients: Clients)
+        ensures { (w : World) → IsNow line.now w → AreCounted w → self.new.list ≡ filter (is_possible (mode_of clients) w) self.old.list }
     {
-        drop_impossible(&mut self.items, line);
+        drop_impossible(&mut self.items, line, clients);
     }
 }
 
@@ -131,19 +133,19 @@ fn join_one(items: &mut Vec<Owed>, owed: Option<Owed>)
 }
 
 /// What isn't possible any more is dropped.
-fn drop_impossible(items: &mut Vec<Owed>, line: &Line)
-    ensures { (w : World) → IsNow line.now w → AreCounted w → map meant items.new.items ≡ filter (is_possible Commissions w) (map meant items.old.items) }
+fn drop_impossible(items: &mut Vec<Owed>, line: &Line, clients: Clients)
+    ensures { (w : World) → IsNow line.now w → AreCounted w → map meant items.new.items ≡ filter (is_possible (mode_of clients) w) (map meant items.old.items) }
 {
-    items.retain(|owed| is_possible(line, *owed));
+    items.retain(|owed| is_possible(line, clients, *owed));
 }
 
 /// Whether it can still happen.
-fn is_possible(line: &Line, owed: Owed) -> bool
-    ensures { (w : World) → IsNow line.now w → AreCounted w → result ≡ is_possible Commissions w (meant owed) }
+fn is_possible(line: &Line, clients: Clients, owed: Owed) -> bool
+    ensures { (w : World) → IsNow line.now w → AreCounted w → result ≡ is_possible (mode_of clients) w (meant owed) }
 {
     match owed {
         Owed::DeliverAgain(number) => line.again_up(number).is_some(),
-        Owed::ReachAgain(number) => line.again_down(number).is_some(),
+        Owed::ReachAgain(number) => again_down(line, clients, number).is_some(),
         Owed::BringAgain(device) => line.last(device).is_some(),
         Owed::PowerReturns(_) | Owed::ConnectionCloses(_) | Owed::ChannelCloses => true,
     }

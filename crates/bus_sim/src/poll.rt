@@ -1,10 +1,11 @@
 //! A poll: the line goes on until the client gets a datagram or the wait is over.
 
-ghost use Rattle.std.specs.Prelude.{◌≡◌, ◌+◌, ◌≤◌, ◌<◌, ◌^◌, ◌-◌, IfOk, OnErr, length, take};
+ghost use Rattle.std.specs.Prelude.{◌≡◌, ◌+◌, ◌≤◌, ◌<◌, ◌^◌, ◌-◌, IfOk, OnOk, OnErr, length, take};
 ghost use Rattle.knx_model.specs.Connection.{last_time};
 ghost use Rattle.line_model.specs.World.{now};
 ghost use Rattle.bus_sim.specs.Polls.{PolledSo, EndedSo, StopsWithin};
 ghost use Rattle.bus_sim.specs.Went.{world};
+ghost use Rattle.bus_sim.specs.declared.clients.Clients.TheVariants.{One};
 
 use crate::run::Run;
 use crate::stopped::Stopped;
@@ -16,9 +17,11 @@ impl Run {
     /// The line goes on until the client gets a datagram, which stands in the buffer then, or so many milliseconds have passed.
     pub fn poll(&mut self, into: &mut [u8; 512], wait_ms: u32) -> Result<Polled, Stopped>
         ensures polled { IfOk result (λ polled. PolledSo polled into.new wait_ms self.old self.new) }
+        ensures one { OnOk result (self.old.begun.clients ≡ One) }
         ensures err { OnErr result (StopsWithin wait_ms self.old self.new) }
         ensures begun { self.new.begun ≡ self.old.begun }
     {
+        self.drives()?;
         if self.now() > u64::MAX - u64::from(wait_ms) {
             return Err(Stopped::AtEnd);
         }
@@ -38,7 +41,8 @@ impl Run {
 
     /// What the client gets within so many milliseconds; None where it gets nothing, and they have passed.
     fn run_for(&mut self, wait: u32) -> Result<Option<Datagram>, Stopped>
-        requires { now (world self.old) + wait ≤ last_time }
+        requires one { self.old.begun.clients ≡ One }
+        requires time { now (world self.old) + wait ≤ last_time }
         ensures ended { IfOk result (λ got. EndedSo got wait self.old self.new) }
         ensures err { OnErr result (StopsWithin wait self.old self.new) }
         ensures begun { self.new.begun ≡ self.old.begun }
@@ -47,7 +51,7 @@ impl Run {
         loop {
             self.few();
             match self.turn(left)? {
-                Turn::Got(octets) => return Ok(Some(octets)),
+                Turn::Got(letter) => return Ok(Some(letter.octets)),
                 Turn::Went => {}
                 Turn::Passed(ms) => left -= ms,
                 Turn::Quiet => return Ok(None),
@@ -56,7 +60,7 @@ impl Run {
     }
 
     /// How many events there can be. It does nothing.
-    fn few(&self)
+    pub fn few(&self)
         ensures { length self.now.events < 2 ^ 62 }
     {
         let _ = &self.events;

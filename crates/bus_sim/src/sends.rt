@@ -52,7 +52,7 @@ impl Run {
         make_room(&mut self.events, &mut self.owed, &self.line, 0)?;
         self.line.dev_send(self.alloc, device, at)?;
         self.counts.add(device, SENT);
-        self.owed.meet(NOTHING, &self.line);
+        self.owed.meet(NOTHING, &self.line, self.begun.clients);
         self.events.push(Happened::DevSend(device, at), &[]);
         Ok(())
     }
@@ -68,7 +68,7 @@ impl Run {
         make_room(&mut self.events, &mut self.owed, &self.line, 0)?;
         self.line.dev_repeat(device, at)?;
         self.counts.add(device, SENT);
-        self.owed.meet(NOTHING, &self.line);
+        self.owed.meet(NOTHING, &self.line, self.begun.clients);
         self.events.push(Happened::DevRepeat(device, at), &[]);
         Ok(())
     }
@@ -81,7 +81,7 @@ impl Run {
     {
         make_room(&mut self.events, &mut self.owed, &self.line, 0)?;
         self.line.dev_close(self.alloc, device)?;
-        self.owed.meet(NOTHING, &self.line);
+        self.owed.meet(NOTHING, &self.line, self.begun.clients);
         self.events.push(Happened::DevClose(device), &[]);
         Ok(())
     }
@@ -94,7 +94,7 @@ impl Run {
     {
         make_room(&mut self.events, &mut self.owed, &self.line, 0)?;
         self.line.on(device);
-        self.owed.meet(NOTHING, &self.line);
+        self.owed.meet(NOTHING, &self.line, self.begun.clients);
         self.events.push(Happened::On(device), &[]);
         Ok(())
     }
@@ -119,7 +119,7 @@ impl Run {
         };
         self.counts.add(device, met);
         let caused = Caused { first, ..NOTHING };
-        self.owed.meet(caused, &self.line);
+        self.owed.meet(caused, &self.line, self.begun.clients);
         self.events.push(Happened::BusAgain(device), &[]);
         Ok(())
     }
@@ -133,7 +133,7 @@ impl Run {
     {
         make_room(&mut self.events, &mut self.owed, &self.line, 0)?;
         let _ = self.line.gateway_expire();
-        self.owed.meet(NOTHING, &self.line);
+        self.owed.meet(NOTHING, &self.line, self.begun.clients);
         self.events.push(Happened::GwRepeat, &[]);
         Ok(())
     }
@@ -146,7 +146,7 @@ impl Run {
     {
         make_room(&mut self.events, &mut self.owed, &self.line, 0)?;
         self.line.gateway_close();
-        self.owed.meet(NOTHING, &self.line);
+        self.owed.meet(NOTHING, &self.line, self.begun.clients);
         self.events.push(Happened::GwClose, &[]);
         Ok(())
     }
@@ -160,7 +160,7 @@ impl Run {
     {
         make_room(&mut self.events, &mut self.owed, &self.line, 0)?;
         let _ = self.line.pass(u64::from(ms));
-        self.owed.meet(NOTHING, &self.line);
+        self.owed.meet(NOTHING, &self.line, self.begun.clients);
         self.events.push(Happened::Pass(ms), &[]);
         Ok(())
     }

@@ -13,11 +13,18 @@ use crate::run::Run;
 use crate::stopped::Stopped;
 use knx_model::Datagram;
 
+/// A datagram of the gateway, and the endpoint that it comes to.
+#[derive(Drop)]
+pub struct Letter {
+    pub to: u64,
+    pub octets: Datagram,
+}
+
 /// What a turn of the line was.
 #[derive(Drop)]
 pub enum Turn {
-    /// The client got this datagram.
-    Got(Datagram),
+    /// A client got this datagram.
+    Got(Letter),
     /// Something else happened, at once.
     Went,
     /// So many milliseconds passed, at least one, until something was due.

@@ -11,8 +11,8 @@ ghost use Rattle.device_sim.specs.Effects.{meant};
 
 use crate::device::Device;
 use crate::effect::{Effect, front_of, worn_octets, writes_octets};
-use crate::given::serve;
 use crate::sending::{frame_to, queue, queue_if};
+use crate::served::serve;
 use crate::service::effect_in;
 use crate::worn::Memory;
 use knx_model::{ApduOctets, FrameSupport, IndAddr, Ldata, NoMemory, Octets, Took, WriteKind};

@@ -1,6 +1,6 @@
 //! The simulated device of a line (ISO/IEC 14543-3-2, 3-1 and 3-4, transport and application layer, management, after System B): four loadable
 //! objects with their memory, which outlive a power cut, its end of a numbered connection, its objects' values, and what each
-//! frame does and is answered. On a bench a service is given to it by itself.
+//! frame does and is answered.
 #![tactic(auto)]
 
 mod answer;
@@ -8,13 +8,13 @@ mod brought;
 mod device;
 mod effect;
 mod frames;
-mod given;
 mod kept;
 mod laws;
 mod loadable;
 mod places;
 mod running;
 mod sending;
+mod served;
 mod service;
 mod telegram;
 mod turns;

@@ -6,6 +6,7 @@ use Rattle.line_model.specs.Record.{Placed, placed, counted}
 use Rattle.line_model.specs.LinkStory.{Story, Untold, Recorded, Full, places_in, IsNewLink}
 use Rattle.line_model.specs.Log.{Job, IsLog}
 use Rattle.line_model.specs.Told.{ToldTruly}
+use Rattle.line_model.specs.Ends.{EndsAtRest}
 use Rattle.tunnel_link.specs.Adds.{place_of}
 use Rattle.hub_work.specs.declared.job.HubJob.{HubJob}
 use Rattle.hub_work.specs.declared.work.Work.{Work}
@@ -27,6 +28,7 @@ nothing_told : (jobs : List Job) (w : Work) (n : ℕ) (log : List LogEntry) → 
 nothing_told jobs w n log none = record {
   form = subst (λ (l : List LogEntry). IsLog jobs w.telegrams.turns n l) (sym none) tt;
   truly = subst (λ (l : List LogEntry). ToldTruly jobs w.telegrams.turns [] l) (sym none) tt;
+  rests = subst (λ (l : List LogEntry). EndsAtRest jobs [] l) (sym none) tt;
   asks = tt;
 }
 

@@ -42,7 +42,7 @@ headline jobs turns log (Full start events) k alone tells kept legal prompt =
 
 each_asked : (jobs : List Job) (turns : List GroupTurn) (log : List LogEntry) (places : List Placed) → EachSo (Asks jobs turns) log places → EachAsked jobs turns log places
 each_asked jobs turns log [] h = tt
-each_asked jobs turns log (p ∷ older) h = (h.0, each_asked jobs turns log older h.1)
+each_asked jobs turns log (p ∷ older) h = (h.0.right, each_asked jobs turns log older h.1)
 
 safe_of : (jobs : List Job) (turns : List GroupTurn) (log : List LogEntry) (k : Known) (n : ℕ) (places : List Placed) → OneDownloaderPerDevice jobs log → TellsAndAsks jobs turns log n places → IsKept k (entries places) → IsSafe jobs turns n places log
 safe_of jobs turns log k n places alone told kept = record {

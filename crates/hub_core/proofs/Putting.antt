@@ -13,6 +13,7 @@ use Rattle.line_model.specs.ClientView.{ClientChannel, Fresh, Sought, RefusedBy,
 use Rattle.line_model.specs.ChannelLost.{is_lost, delivers, expected}
 use Rattle.line_model.specs.Reading.{RequestFrame, request_in}
 use Rattle.line_model.specs.Asks.{HasPlace, IsRightRequest, moment_of}
+use Rattle.line_model.specs.Ends.{BeginsSo}
 use Rattle.tunnel_link.specs.Adds.{place_of, moments_on, Added, Growing, PutsNone, PutsIt, PutsOne}
 use Rattle.tunnel_link.specs.Goes.{GoesOn}
 use Rattle.tunnel_link.specs.Rights.{IsOfTunnel}
@@ -24,6 +25,7 @@ use Rattle.hub_work.specs.Fits.{Fits, in_flight}
 use Rattle.hub_work.specs.Follows.{IsNew, PutFollows, TurnFollows, TellsTruly, TelegramIsRight, TelegramFollows}
 use Rattle.hub_work.specs.Telegrams.{IsNextRequest}
 use Rattle.hub_work.specs.Works.{KeepsBooks}
+use Rattle.hub_work.proofs.Undecided.{telegram_begins}
 use Rattle.hub_core.specs.Discipline.{Asks, TellsAndAsks}
 use Rattle.hub_core.specs.Keeps.{HasOwnCause, KeepsTold, Keeps}
 use Rattle.hub_core.proofs.Calls.{added_to, not_none, same_refl, same_some, own_of_tunnel}
@@ -66,6 +68,7 @@ puts_got ch Quiet now cemi e = refl
 module _ (s t : Story) (goes : GoesOn s t) (w v : Work) (met : Bool) (jobs : List Job) (old added new : List Placed) (cemi : List ℕ) (now at : ℕ) (then : now ≡ time (moments old)) (there : at ≡ place_of s)
     (turns : v.telegrams.turns ≡ w.telegrams.turns) (logs : v.journal.entries ≡ w.journal.entries) (books : KeepsBooks at v)
     (asks : (m : Moment) → m.now ≡ now → at ≤ m.at → m.what ≡ Puts cemi → IsRightRequest jobs v.telegrams.turns v.journal.entries old m cemi)
+    (begins : (m : Moment) → at ≤ m.at → m.what ≡ Puts cemi → BeginsSo jobs v.journal.entries old m)
     (fits : (m : Moment) (later : ℕ) → m.what ≡ Puts cemi → IsNew m now at later → Fits jobs v now later (m ∷ moments old))
     (a : Added (place_of s) (place_of t) old added new) (k : KeepsTold jobs w met None (place_of s) old) where
   abbrev it : Moment
@@ -93,6 +96,7 @@ module _ (s t : Story) (goes : GoesOn s t) (w v : Work) (met : Bool) (jobs : Lis
     right : Asks jobs v.telegrams.turns v.journal.entries old one.p
     right = request_right jobs v.telegrams.turns v.journal.entries old one.p cemi what_is
         (asks (moment_of old one.p) (ap (λ (m : Moment). m.now) one.is ∙ (newest old ∙ sym then)) (let f = above in omega (arith, f, there)) what_is)
+        (begins (moment_of old one.p) (let f = above in omega (arith, f, there)) what_is)
 
     tells : TellsAndAsks jobs v.telegrams.turns v.journal.entries (place_of t) new
     tells =
@@ -130,6 +134,7 @@ pub record PutsSo (s : Story) (w v : Work) (cemi : List ℕ) (at : ℕ) (jobs : 
   pub there : at ≡ place_of s
   pub place : HasPlace (channel (entries old))
   pub asks : (m : Moment) → m.now ≡ time (moments old) → at ≤ m.at → m.what ≡ Puts cemi → IsRightRequest jobs v.telegrams.turns v.journal.entries old m cemi
+  pub begins : (m : Moment) → at ≤ m.at → m.what ≡ Puts cemi → BeginsSo jobs v.journal.entries old m
   pub fits : (m : Moment) (later : ℕ) → m.what ≡ Puts cemi → IsNew m (time (moments old)) at later → Fits jobs v (time (moments old)) later (m ∷ moments old)
 
 module _ (p q : ℕ) (s t : Story) (w v : Work) (met : Bool) (f g : Option HubFault) (none : f ≡ None) (le : p ≤ q) (goes : GoesOn s t) (cemi : List ℕ) (at : ℕ) (at_place : at ≡ p)
@@ -146,7 +151,7 @@ module _ (p q : ℕ) (s t : Story) (w v : Work) (met : Bool) (f g : Option HubFa
     told : Tolds s t w v met met g
     told jobs old new are es et k =
         let how : PutsSo s w v cemi at jobs old = so jobs old es (k.runs refl).fits in
-        put_told s t goes w v met jobs old (adds old es).added new cemi (time (moments old)) at refl how.there stays.turns stays.logs books how.asks how.fits
+        put_told s t goes w v met jobs old (adds old es).added new cemi (time (moments old)) at refl how.there stays.turns stays.logs books how.asks how.begins how.fits
         (added_to s t w w met (PutsOne {X = Unit {0}} (Ok x) cemi (place_of t)) goes (same_refl w) adds old new es et) k ((adds old es).is how.place) g (λ why e. absurd (not_none g why e stands))
 
   pub put_failed : (fault : HubFault) → Adding (Err fault) → g ≡ Some fault → IsOfTunnel fault → Keeps p s w met f → Keeps q t v met g
@@ -163,8 +168,8 @@ module _ (p q : ℕ) (s t : Story) (w v : Work) (met : Bool) (f g : Option HubFa
       cause why e = subst (HasOwnCause jobs v.journal.entries (entries new)) (same_some g fault why is e) (own_of_tunnel jobs v.journal.entries (entries new) fault tunnel)
 
       by_put : ((adds old es).added ≡ []) ⊎ PutsIt cemi (place_of t) old (adds old es).added → KeepsTold jobs v met g (place_of t) new
-      by_put (inl nothing) = unput_told s t goes w v met jobs old (adds old es).added new cemi (time (moments old)) at refl how.there stays.turns stays.logs books how.asks how.fits a k g fault is cause nothing
-      by_put (inr puts) = put_told s t goes w v met jobs old (adds old es).added new cemi (time (moments old)) at refl how.there stays.turns stays.logs books how.asks how.fits a k puts g cause
+      by_put (inl nothing) = unput_told s t goes w v met jobs old (adds old es).added new cemi (time (moments old)) at refl how.there stays.turns stays.logs books how.asks how.begins how.fits a k g fault is cause nothing
+      by_put (inr puts) = put_told s t goes w v met jobs old (adds old es).added new cemi (time (moments old)) at refl how.there stays.turns stays.logs books how.asks how.begins how.fits a k puts g cause
 
 -- ---- of a worker's turn, and of a group telegram
 
@@ -179,6 +184,7 @@ turn_so s w v cemi now at jobs old es is then place free follows fits =
       there = there;
       place = place;
       asks = λ m e le what. puts.asks m (e ∙ sym when) le place;
+      begins = puts.begins;
       fits = λ m later what new. subst (λ (n : ℕ). Fits jobs v n later (m ∷ moments old)) when (puts.fits m later what (record { time = new.time ∙ sym when; after = new.after; within = new.within }));
     }
 
@@ -200,5 +206,6 @@ telegram_so s w v cemi at jobs old es is place free books unput right follows ne
       asks = λ m e le what.
           subst (λ (ts : List GroupTurn). IsRightRequest jobs ts v.journal.entries old m cemi) (sym same.turns)
           (subst (λ (l : List LogEntry). IsRightRequest jobs w.telegrams.turns l old m cemi) (sym (same_log w v same)) (right jobs old (time (moments old)) at m books f unput what le place));
+      begins = λ m le what. telegram_begins jobs v.journal.entries old w.telegrams cemi m next what;
       fits = λ m later what new. follows jobs (time (moments old)) at later cemi m (moments old) books f free unput next what new;
     }

@@ -8,6 +8,8 @@ use Rattle.line_model.specs.Moments.{Moment}
 use Rattle.line_model.specs.Log.{Job}
 use Rattle.line_model.specs.Signs.{Every}
 use Rattle.line_model.specs.Asks.{IsRightDeed, IsRightRequest, moment_of}
+use Rattle.line_model.specs.Ends.{BeginsSo}
+use Rattle.hub_core.proofs.AtRest.{begins_none}
 use Rattle.hub_core.specs.Discipline.{Asks}
 use Rattle.tunnel_link.specs.Adds.{moments_on, IsNothing, One, PutsNone}
 
@@ -49,10 +51,17 @@ module _ (jobs : List Job) (turns : List GroupTurn) (log : List LogEntry) where
 
   pub quiet_right : (added old : List Placed) → Every PutsNone (moments_on old added) → Each (Asks jobs turns log) added old
   quiet_right [] old none = tt
-  quiet_right (p ∷ added) old none = (puts_none (added ++ old) (moment_of (added ++ old) p) (moment_of (added ++ old) p).what none.0, quiet_right added old none.1)
+  quiet_right (p ∷ added) old none = (
+    record {
+      right = puts_none (added ++ old) (moment_of (added ++ old) p) (moment_of (added ++ old) p).what none.0;
+      begins = begins_none jobs log (added ++ old) (moment_of (added ++ old) p) none.0;
+    },
+    quiet_right added old none.1,
+  )
 
-  pub request_right : (older : List Placed) (p : Placed) (octets : List ℕ) → (moment_of older p).what ≡ Puts octets → IsRightRequest jobs turns log older (moment_of older p) octets → Asks jobs turns log older p
-  request_right older p octets puts right = subst (IsRightDeed jobs turns log older (moment_of older p)) (sym puts) right
+  pub request_right : (older : List Placed) (p : Placed) (octets : List ℕ) → (moment_of older p).what ≡ Puts octets → IsRightRequest jobs turns log older (moment_of older p) octets → BeginsSo jobs log older (moment_of older p)
+      → Asks jobs turns log older p
+  request_right older p octets puts right begins = record { right = subst (IsRightDeed jobs turns log older (moment_of older p)) (sym puts) right; begins = begins }
 
 -- the only one
 pub record Single (old added : List Placed) (m : Moment) : Type 0 where

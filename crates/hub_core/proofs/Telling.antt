@@ -1,13 +1,14 @@
--- What a hub keeps of what its link tells is kept where the link goes on by right entries, and where the log tells one thing more.
+-- What a hub keeps of what its link tells is kept where the link goes on by right entries; and each entry of the record stays right where the log
+-- tells one thing more.
 use Rattle.std.proofs.Common.{◌≡◌, ℕ, ◌≤◌, List, [], ◌∷◌, ◌++◌, false, refl, sym, subst, arith}
 use Rattle.std.specs.Prelude.{nat_lt}
 use Rattle.line_model.specs.declared.group.GroupTurn.{GroupTurn}
 use Rattle.line_model.specs.declared.log.LogEntry.{LogEntry}
 use Rattle.line_model.specs.Record.{Placed}
 use Rattle.line_model.specs.Log.{Job, IsLog, log_before}
-use Rattle.line_model.specs.Told.{ToldTruly}
 use Rattle.line_model.specs.Asks.{EachRight}
 use Rattle.hub_work.proofs.Growing.{AreAbove, AreUpto, told_grown, before_new}
+use Rattle.hub_core.proofs.AtRest.{rests_grown}
 use Rattle.hub_core.proofs.Requests.{Each}
 use Rattle.hub_core.specs.Discipline.{EachSo, Asks, IsPrompt, TellsAndAsks}
 
@@ -33,7 +34,7 @@ each_added P jobs turns n log (p ∷ added) old is above right h =
 -- what is asked rightly, and promptly
 pub each_right : (jobs : List Job) (turns : List GroupTurn) (log : List LogEntry) (places : List Placed) → EachSo (Asks jobs turns) log places → EachSo (IsPrompt jobs turns) log places → EachRight jobs turns log places
 each_right jobs turns log [] asks prompt = tt
-each_right jobs turns log (p ∷ older) asks prompt = (record { asks = asks.0; prompt = prompt.0 }, each_right jobs turns log older asks.1 prompt.1)
+each_right jobs turns log (p ∷ older) asks prompt = (record { asks = asks.0.right; prompt = prompt.0 }, each_right jobs turns log older asks.1 prompt.1)
 
 -- ---- all of it
 
@@ -47,14 +48,6 @@ pub goes_on : (jobs : List Job) (turns : List GroupTurn) (log : List LogEntry) (
 goes_on jobs turns log n m added old le above right h = record {
   form = more jobs turns n m log le h.form;
   truly = told_grown jobs turns added old n log h.form above h.truly;
+  rests = rests_grown jobs added old turns n log h.form above h.rests;
   asks = each_added (Asks jobs turns) jobs turns n log added old h.form above right h.asks;
-}
-
--- the log tells one thing more, at this place
-pub tells : (jobs : List Job) (turns : List GroupTurn) (log : List LogEntry) (n : ℕ) (e : LogEntry) (places : List Placed) → AreUpto n places → e.at ≡ n → IsLog jobs turns n (e ∷ log) → ToldTruly jobs turns places (e ∷ log) → TellsAndAsks jobs turns log n places
-    → TellsAndAsks jobs turns (e ∷ log) n places
-tells jobs turns log n e places upto at is truly h = record {
-  form = is;
-  truly = truly;
-  asks = each_logged (Asks jobs turns) n e log places upto (omega (arith, at)) h.asks;
 }

@@ -79,7 +79,8 @@ module _ (jobs : List Job) (w v : Work) (n : ℕ) (places : List Placed) (run : 
   pub tells_written : Writes n w.journal.entries v.journal.entries → TellsTruly jobs places w v → TellsAndAsks jobs w.telegrams.turns w.journal.entries n places → TellsAndAsks jobs v.telegrams.turns v.journal.entries n places
   tells_written writes truly h = record {
     form = form;
-    truly = truly h.truly;
+    truly = truly.truly h.truly;
+    rests = truly.rests h.rests;
     asks = subst (λ (ts : List GroupTurn). EachSo (Asks jobs ts) v.journal.entries places) (sym run.turns) (each_on (Asks jobs w.telegrams.turns) n places upto w.journal.entries v.journal.entries writes h.asks);
   }
 

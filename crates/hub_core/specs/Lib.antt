@@ -2,8 +2,12 @@ pub mod Seen
 pub mod Discipline
 pub mod Keeps
 pub mod Promises
+pub mod Thorough
 pub mod Taking
 pub mod Hears
 pub mod Pumps
 pub mod Waits
 pub mod Closes
+pub mod Leaving
+pub mod Polls
+pub mod Came

@@ -1,5 +1,5 @@
 -- How many jobs a log ends: each that it ends is one of the run and wasn't over, so as many ends as jobs are the end of all.
-use Rattle.std.proofs.Common.{◌≡◌, ◌≢◌, ◌⊎◌, inl, inr, ℕ, zero, suc, ◌-◌, ◌<◌, ◌≤◌, Bool, true, false, List, [], ◌∷◌, length, map, set, Some, None, refl, sym, ◌∙◌, ap, subst, arith}
+use Rattle.std.proofs.Common.{◌≡◌, ◌≢◌, ◌⊎◌, inl, inr, ℕ, zero, suc, ◌+◌, ◌-◌, ◌<◌, ◌≤◌, Bool, true, false, List, [], ◌∷◌, length, map, set, Some, None, refl, sym, ◌∙◌, ap, subst, arith}
 use Rattle.std.specs.Prelude.{◌==◌, slice_get, if◌then◌else◌}
 use Rattle.std.proofs.lemmas.Bool.Decides.{eqb_tells}
 use Rattle.knx_model.specs.declared.address.IndAddr.{IndAddr}
@@ -54,6 +54,23 @@ marked (b ∷ bs) (suc i) (suc k) e = next (marked bs i k e)
     next (inl h) = inl (ap suc h)
     next (inr h) = inr h
 
+marked_there : (bs : List Bool) (i : ℕ) → i < length bs → slice_get (set bs i true) i ≡ Some true
+marked_there [] i lt = absurd (omega (arith, lt))
+marked_there (b ∷ bs) zero lt = refl
+marked_there (b ∷ bs) (suc i) lt = marked_there bs i (omega (arith, lt))
+
+stays_marked : (bs : List Bool) (i k : ℕ) → slice_get bs k ≡ Some true → slice_get (set bs i true) k ≡ Some true
+stays_marked [] i k e = absurd (cc)
+stays_marked (b ∷ bs) zero zero e = refl
+stays_marked (b ∷ bs) zero (suc k) e = e
+stays_marked (b ∷ bs) (suc i) zero e = e
+stays_marked (b ∷ bs) (suc i) (suc k) e = stays_marked bs i k e
+
+all_true : (bs : List Bool) → ((k : ℕ) → k < length bs → slice_get bs k ≡ Some true) → trues bs ≡ length bs
+all_true [] h = refl
+all_true (true ∷ bs) h = ap suc (all_true bs (λ k lt. h (suc k) (omega (arith, lt))))
+all_true (false ∷ bs) h = absurd (let z : Some false ≡ Some true = h 0 (omega arith) in cc)
+
 all_marked : (bs : List Bool) (k : ℕ) → trues bs ≡ length bs → k < length bs → slice_get bs k ≡ Some true
 all_marked [] k e lt = absurd (omega (arith, lt))
 all_marked (true ∷ bs) zero e lt = refl
@@ -102,6 +119,7 @@ record Marked (jobs : List Job) (log : List LogEntry) : Type 0 where
   long : length marks ≡ length jobs
   count : trues marks ≡ ends log
   over : (k : ℕ) → slice_get marks k ≡ Some true → state_of (suc k) log ≡ Over
+  marked_over : (k : ℕ) → state_of (suc k) log ≡ Over → slice_get marks k ≡ Some true
   there : (k worker since : ℕ) → state_of k log ≡ Held worker since → job_of jobs k ≢ None
 
 abbrev entry_of : ℕ → ℕ → LogWhat → LogEntry
@@ -114,12 +132,17 @@ taken jobs at worker j log m is_job untaken = record {
   long = m.long;
   count = m.count;
   over = λ k marked. stays k (m.over k marked) (j == suc k) refl;
+  marked_over = λ k over. m.marked_over k (was_over k over (j == suc k) refl);
   there = λ k by since held. before k by since held (j == k) refl;
 }
   where
     stays : (k : ℕ) → state_of (suc k) log ≡ Over → (b : Bool) → (j == suc k) ≡ b → state_after (suc k) (entry_of at worker (Took j)) (state_of (suc k) log) ≡ Over
     stays k over true e = absurd (let z : Untaken ≡ Over = sym untaken ∙ (ap (λ (n : ℕ). state_of n log) (number j (suc k) e) ∙ over) in cc)
     stays k over false e = rw e over
+
+    was_over : (k : ℕ) → state_after (suc k) (entry_of at worker (Took j)) (state_of (suc k) log) ≡ Over → (b : Bool) → (j == suc k) ≡ b → state_of (suc k) log ≡ Over
+    was_over k over true e = absurd (let z : state_after (suc k) (entry_of at worker (Took j)) (state_of (suc k) log) ≡ Held worker at = rw e refl in let y : Held worker at ≡ Over = sym z ∙ over in cc)
+    was_over k over false e = sym (let y : state_after (suc k) (entry_of at worker (Took j)) (state_of (suc k) log) ≡ state_of (suc k) log = rw e refl in y) ∙ over
 
     before : (k by since : ℕ) → state_after k (entry_of at worker (Took j)) (state_of k log) ≡ Held by since → (b : Bool) → (j == k) ≡ b → job_of jobs k ≢ None
     before k by since held true e = subst (λ n. job_of jobs n ≢ None) (number j k e) is_job
@@ -138,6 +161,7 @@ ended jobs e j worker log m ends_held is after = by_state (state_of j log) refl 
       long = as_long m.marks p.place ∙ m.long;
       count = more;
       over = λ k marks. over_after k (marked m.marks p.place k marks);
+      marked_over = λ k over. marked_after k (sym (after (suc k) (state_of (suc k) log)) ∙ over) (j == suc k) refl;
       there = λ k by since held_after. before k by since held_after (j == k) refl;
     }
       where
@@ -162,6 +186,12 @@ ended jobs e j worker log m ends_held is after = by_state (state_of j log) refl 
             by_number true f = rw f refl
             by_number false f = rw f (m.over k h)
 
+        marked_after : (k : ℕ) → after_end j (suc k) (state_of (suc k) log) ≡ Over → (b : Bool) → (j == suc k) ≡ b → slice_get (set m.marks p.place true) k ≡ Some true
+        marked_after k over true f =
+            let same : k ≡ p.place = (let n : j ≡ suc k = number j (suc k) f in let i : j ≡ suc p.place = p.is in omega (arith, n, i)) in
+            subst (λ (n : ℕ). slice_get (set m.marks p.place true) n ≡ Some true) (sym same) (marked_there m.marks p.place (omega (arith, p.within, m.long)))
+        marked_after k over false f = stays_marked m.marks p.place k (m.marked_over k (sym (let y : after_end j (suc k) (state_of (suc k) log) ≡ state_of (suc k) log = rw f refl in y) ∙ over))
+
         before : (k by since : ℕ) → state_of k (e ∷ log) ≡ Held by since → (b : Bool) → (j == k) ≡ b → job_of jobs k ≢ None
         before k by since h true f = absurd (let z : Over ≡ Held by since = sym (after k (state_of k log) ∙ (let y : after_end j k (state_of k log) ≡ Over = rw f refl in y)) ∙ h in cc)
         before k by since h false f = m.there k by since (sym (after k (state_of k log) ∙ (let y : after_end j k (state_of k log) ≡ state_of k log = rw f refl in y)) ∙ h)
@@ -176,8 +206,8 @@ entered jobs turns at worker (Took j) log h m = taken jobs at worker j log m h.0
 entered jobs turns at worker (Done j) log h m = ended jobs (entry_of at worker (Done j)) j worker log m h refl (λ k s. refl)
 entered jobs turns at worker (Failed j signs) log h m = ended jobs (entry_of at worker (Failed j signs)) j worker log m h refl (λ k s. refl)
 entered jobs turns at worker (Refused j op got expected) log h m = ended jobs (entry_of at worker (Refused j op got expected)) j worker log m h refl (λ k s. refl)
-entered jobs turns at worker (Sent turn) log h m = record { marks = m.marks; long = m.long; count = m.count; over = m.over; there = m.there }
-entered jobs turns at worker (Lost turn) log h m = record { marks = m.marks; long = m.long; count = m.count; over = m.over; there = m.there }
+entered jobs turns at worker (Sent turn) log h m = record { marks = m.marks; long = m.long; count = m.count; over = m.over; marked_over = m.marked_over; there = m.there }
+entered jobs turns at worker (Lost turn) log h m = record { marks = m.marks; long = m.long; count = m.count; over = m.over; marked_over = m.marked_over; there = m.there }
 
 none_marked : (n k : ℕ) → slice_get (none n) k ≡ Some true → ⊥
 none_marked zero k e = absurd (cc)
@@ -198,6 +228,7 @@ marks_of jobs turns count [] h = record {
   long = none_long (length jobs);
   count = none_true (length jobs);
   over = λ k marked. absurd (none_marked (length jobs) k marked);
+  marked_over = λ k over. absurd (let z : Untaken ≡ Over = over in cc);
   there = λ k worker since e. absurd (let z : Untaken ≡ Held worker since = e in cc);
 }
 marks_of jobs turns count (e ∷ log) h = entered jobs turns e.at e.worker e.what log h.0.follows (marks_of jobs turns count log h.1)
@@ -216,6 +247,18 @@ over_in jobs log m all k is_job = at_place (has_place jobs k is_job)
     at_place : HasPlace jobs k → state_of k log ≡ Over
     at_place p = ap (λ (n : ℕ). state_of n log) p.is ∙ m.over p.place (all_marked m.marks p.place full (omega (arith, p.within, m.long)))
 
+-- as many ends as jobs where all are over
+all_in : (jobs : List Job) (log : List LogEntry) → Marked jobs log → AllOver jobs log → ends log ≡ length jobs
+all_in jobs log m over = sym m.count ∙ (all_true m.marks (λ k lt. m.marked_over k (over (suc k) (is_job k (omega (arith, lt, m.long))))) ∙ m.long)
+  where
+    there : (xs : List Job) (k : ℕ) → k < length xs → slice_get xs k ≢ None
+    there [] k lt e = omega (arith, lt)
+    there (x ∷ xs) zero lt e = let z : Some x ≡ None = e in cc
+    there (x ∷ xs) (suc k) lt e = there xs k (omega (arith, lt)) e
+
+    is_job : (k : ℕ) → k < length jobs → job_of jobs (suc k) ≢ None
+    is_job k lt e = there jobs k lt (sym (let isnt : (suc k == 0) ≡ false = grind (arith, eqb_tells (suc k) 0) in let same : suc k - 1 ≡ k = omega arith in (let y : job_of jobs (suc k) ≡ slice_get jobs k = rw isnt (rw same refl) in y)) ∙ e)
+
 length_map : (jobs : List Job) → length (map device_of_job jobs) ≡ length jobs
 length_map [] = refl
 length_map (j ∷ jobs) = ap suc (length_map jobs)
@@ -224,11 +267,18 @@ pub all_over : (devices : List IndAddr) (turns : List GroupTurn) (count : ℕ) (
     → (jobs : List Job) → AreJobsOf devices jobs → AllOver jobs log
 all_over devices turns count log form all jobs are = over_in jobs log (marks_of jobs turns count log (form jobs are)) (all ∙ (ap length (sym are) ∙ length_map jobs))
 
+pub not_all_over : (devices : List IndAddr) (turns : List GroupTurn) (count left : ℕ) (log : List LogEntry) → ((jobs : List Job) → AreJobsOf devices jobs → IsLog jobs turns count log) → left + ends log ≡ length devices → left ≢ 0
+    → (jobs : List Job) → AreJobsOf devices jobs → AllOver jobs log → ⊥
+not_all_over devices turns count left log form rest some jobs are over =
+    let all : ends log ≡ length jobs = all_in jobs log (marks_of jobs turns count log (form jobs are)) over in
+    let long : length devices ≡ length jobs = ap length (sym are) ∙ length_map jobs in
+    some (let none : left ≡ 0 = omega (arith, all, long, rest) in none)
+
 -- some jobs of these devices
-some_job : IndAddr → Job
+pub some_job : IndAddr → Job
 some_job device = record { device = device; image = record { addr = []; assoc = []; objs = []; params = [] }; plan = plans.Over; kind = Check }
 
-some_jobs : (devices : List IndAddr) → AreJobsOf devices (map some_job devices)
+pub some_jobs : (devices : List IndAddr) → AreJobsOf devices (map some_job devices)
 unfolding some_job
 some_jobs [] = refl
 some_jobs (d ∷ devices) = ap (λ (ds : List IndAddr). d ∷ ds) (some_jobs devices)

@@ -1,6 +1,7 @@
 pub mod Causes
 pub mod Ends
 pub mod Hearing
+pub mod Leaving
 pub mod New
 pub mod Telling
 pub mod Told

@@ -1,14 +1,19 @@
 -- What is told of a run that never began, over a link on which nothing was done.
-use Rattle.std.proofs.Common.{List, [], length, Some, refl, sym, subst}
+use Rattle.std.proofs.Common.{◌≡◌, ℕ, ◌≤◌, List, [], length, Some, None, refl, sym, ap, subst, ◌∙◌, arith}
 use Rattle.std.specs.List.{AllByRecursion}
 use Rattle.line_model.specs.declared.group.GroupTurn.{GroupTurn}
 use Rattle.line_model.specs.Headline.{IsDisciplined, KeepsFull, Keeps, IsGoodJob}
-use Rattle.line_model.specs.LinkStory.{Story, Untold, Recorded, Full, IsNewLink, record_in}
-use Rattle.line_model.specs.Log.{Job}
-use Rattle.line_model.specs.Record.{counted}
+use Rattle.line_model.specs.Leaves.{StaysOpen, since_last, LeavesRightly}
+use Rattle.line_model.specs.LinkStory.{Story, Untold, Recorded, Full, IsNewLink, record_in, places_in}
+use Rattle.line_model.specs.Log.{Job, latest}
+use Rattle.line_model.specs.Record.{Placed, entries, placed, counted}
 use Rattle.line_law.specs.Safe.{IsSafe, KeepsSafe, EverySafeInterleaving}
 use Rattle.hub_core.specs.Promises.{IsRightOver, IsSafeOver, DropsIn}
+use Rattle.hub_core.specs.Thorough.{IsThorough, IsThoroughOver}
+use Rattle.hub_core.specs.Seen.{Seen}
+use Rattle.hub_core.proofs.Counting.{some_is}
 use Rattle.hub_driver.specs.Heard.{HeardAll}
+use Rattle.hub_driver.specs.Leaving.{LeavesOver, GoesThrough}
 
 abbrev disciplined : (jobs : List Job) (turns : List GroupTurn) → IsDisciplined jobs turns 0 [] []
 disciplined jobs turns = record { form = tt; alone = tt; truly = tt; renews = tt; sends = tt; asks = record { each = tt; acknowledges = tt } }
@@ -25,6 +30,36 @@ pub new_safe : (jobs : List Job) (turns : List GroupTurn) (s : Story) → IsNewL
 new_safe jobs turns Untold new = tt
 new_safe jobs turns (Recorded r) new = subst (λ r. IsSafe jobs turns (length r) (counted r) []) (sym new) (nothing jobs turns)
 new_safe jobs turns (Full start events) new = subst (λ es. KeepsSafe jobs turns start es []) (sym new.0) (record { fresh = new.1; legal = tt; safe = nothing jobs turns })
+
+abbrev ends_nothing : (jobs : List Job) → IsThorough jobs [] []
+ends_nothing jobs = record { ends = tt; begins = tt; parts = tt }
+
+pub new_thorough : (jobs : List Job) (s : Story) → IsNewLink s → IsThoroughOver jobs s []
+new_thorough jobs Untold new = tt
+new_thorough jobs (Recorded r) new = subst (λ r. IsThorough jobs (counted r) []) (sym new) (ends_nothing jobs)
+new_thorough jobs (Full start events) new = subst (λ es. IsThorough jobs (placed start es) []) (sym new.0) (ends_nothing jobs)
+
+-- nothing was sent that asks anything to end
+leaves_nothing : (jobs : List Job) (turns : List GroupTurn) → LeavesRightly jobs turns [] []
+leaves_nothing jobs turns = record { unfinished = λ n. tt; finished = λ f. record { stays = tt; closes = tt } }
+
+pub new_leaves : (jobs : List Job) (turns : List GroupTurn) (s : Story) → IsNewLink s → LeavesOver jobs turns s []
+new_leaves jobs turns Untold new = tt
+new_leaves jobs turns (Recorded r) new = subst (λ r. LeavesRightly jobs turns [] (counted r)) (sym new) (leaves_nothing jobs turns)
+new_leaves jobs turns (Full start events) new = subst (λ es. LeavesRightly jobs turns [] (placed start es)) (sym new.0) (leaves_nothing jobs turns)
+
+no_places : (s : Story) (places : List Placed) → IsNewLink s → places_in s ≡ Some places → places ≡ []
+no_places Untold places new e = absurd (let z : None ≡ Some places = e in cc)
+no_places (Recorded r) places new e = sym (some_is (counted r) places e) ∙ ap counted new
+no_places (Full start events) places new e = sym (some_is (placed start events) places e) ∙ ap (placed start) new.0
+
+pub new_goes_through : {L : Type 0} (hub : Seen L) (s : Story) → IsNewLink s → hub.closing ≡ None → hub.log ≡ [] → GoesThrough hub s
+new_goes_through hub s new unbegun empty = record {
+  unbegun = unbegun;
+  stays = λ places e. subst (λ (l : List Placed). StaysOpen (entries l)) (sym (no_places s places new e)) tt;
+  placed = λ places e. (let none : latest hub.log ≡ 0 = ap latest empty in omega (arith, none));
+  punctual = λ all are f places e. subst (λ (l : List Placed). since_last hub.log l ≡ []) (sym (no_places s places new e)) refl;
+}
 
 pub new_right : EverySafeInterleaving → (jobs : List Job) (s : Story) → AllByRecursion IsGoodJob jobs → IsNewLink s → IsRightOver jobs s []
 new_right law jobs Untold good new = tt

@@ -7,7 +7,9 @@ ghost use Rattle.hub_work.specs.Books.{AreJobsOf};
 ghost use Rattle.hub_work.specs.Requests.{IsTurnInRange};
 ghost use Rattle.hub_core.specs.Promises.{IsRightOver, IsSafeOver, FaultRightIn, DropsIn};
 ghost use Rattle.hub_core.specs.Seen.{AreJobs};
+ghost use Rattle.hub_core.specs.Thorough.{IsThoroughOver};
 ghost use Rattle.hub_driver.specs.Heard.{HeardAll};
+ghost use Rattle.hub_driver.specs.Leaving.{LeavesOver};
 ghost use Rattle.line_model.specs.Headline.{Keeps, IsGoodJob};
 ghost use Rattle.line_model.specs.LinkStory.{IsNewLink, record_in};
 ghost use Rattle.line_model.specs.Log.{Job, IsLog, OneDownloaderPerDevice, AllOver, TurnUnfinished};
@@ -41,7 +43,7 @@ fn nothing_done(alloc: Global, no_memory: NoMemory) -> Report
 
 /// Commissions a line: goes through all jobs, sends all group telegrams, and closes, over a link on which nothing was done. The gate is passed between
 /// taking a job and starting it. It gives the link back, and what is told of the run; want of memory is the report's fault.
-#[tactic(auto, using(crate::proofs::New::new_keeps, crate::proofs::New::new_safe, crate::proofs::New::new_right, crate::proofs::New::new_drops_none, crate::proofs::New::new_hears_none))]
+#[tactic(auto, using(crate::proofs::New::new_keeps, crate::proofs::New::new_safe, crate::proofs::New::new_thorough, crate::proofs::New::new_leaves, crate::proofs::New::new_goes_through, crate::proofs::New::new_right, crate::proofs::New::new_drops_none, crate::proofs::New::new_hears_none))]
 pub fn commission<R: Wait, L: Link, G: Gate>(
     rt: &R,
     alloc: Global,
@@ -58,11 +60,13 @@ pub fn commission<R: Wait, L: Link, G: Gate>(
     ensures script { L.script result.0 ≡ L.script link }
     ensures headline { (all : List Job) → AreJobs jobs all → Keeps all groups (L.story result.0) (reverse result.1.log) }
     ensures safe { (all : List Job) → AreJobs jobs all → IsSafeOver all groups (L.story result.0) (reverse result.1.log) }
+    ensures thorough { (all : List Job) → AreJobs jobs all → IsThoroughOver all (L.story result.0) (reverse result.1.log) }
     ensures right { (all : List Job) → AreJobs jobs all → AllByRecursion IsGoodJob all → IsRightOver all (L.story result.0) (reverse result.1.log) }
     ensures fault { (all : List Job) → AreJobs jobs all → FaultRightIn all (reverse result.1.log) result.1.fault (record_in (L.story result.0)) }
     ensures dropped { DropsIn result.1.dropped (record_in (L.story result.0)) }
     ensures form { (all : List Job) → AreJobsOf (map (λ (j : JobOfHub). j.device) jobs) all → IsLog all groups (L.place result.0) (reverse result.1.log) }
     ensures alone { (all : List Job) → AreJobsOf (map (λ (j : JobOfHub). j.device) jobs) all → OneDownloaderPerDevice all (reverse result.1.log) }
+    ensures leaves { (all : List Job) → AreJobsOf (map (λ (j : JobOfHub). j.device) jobs) all → LeavesOver all groups (L.story result.0) (reverse result.1.log) }
     ensures over { result.1.fault ≡ None → (all : List Job) → AreJobsOf (map (λ (j : JobOfHub). j.device) jobs) all → AllOver all (reverse result.1.log) }
     ensures told { result.1.fault ≡ None → ¬ TurnUnfinished groups (reverse result.1.log) }
     ensures heard { result.1.fault ≡ None → HeardAll result.1.heard (record_in (L.story result.0)) }

@@ -13,6 +13,7 @@ use std::alloc::Global;
 mod begin;
 mod datagrams;
 mod line;
+mod polls;
 
 const DEVICE: IndAddr = IndAddr { raw: 0x1105 };
 

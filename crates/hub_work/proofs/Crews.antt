@@ -30,7 +30,7 @@ within_crew [] place h e = absurd (cc)
 within_crew (x ∷ crew) zero h e = omega arith
 within_crew (x ∷ crew) (suc place) h e = let lt : place < length (holdings crew) = within_crew crew place h e in omega arith
 
-job_at : (crew : List (Option Holds)) (place : ℕ) (h : Holds) → Some h ≡ held_at crew place → slice_get (jobs_held crew) place ≡ Some (Some h.job)
+pub job_at : (crew : List (Option Holds)) (place : ℕ) (h : Holds) → Some h ≡ held_at crew place → slice_get (jobs_held crew) place ≡ Some (Some h.job)
 job_at [] place h e = absurd (cc)
 job_at (x ∷ crew) zero h e = ap (λ (o : Option Holds). Some (job_in o)) (sym e)
 job_at (x ∷ crew) (suc place) h e = job_at crew place h e

@@ -72,7 +72,7 @@ between_grown since upto (p ∷ added) old h = not_yet since upto _ (moments (ad
 
 -- ---- what was told stays true
 
-of_job : (P Q : Job → ℕ → Type 0) (o : Option Job) (s : JobState) → ((j : Job) (since : ℕ) → P j since → Q j since) → OfJob P o s → OfJob Q o s
+pub of_job : (P Q : Job → ℕ → Type 0) (o : Option Job) (s : JobState) → ((j : Job) (since : ℕ) → P j since → Q j since) → OfJob P o s → OfJob Q o s
 of_job P Q None s f h = absurd h
 of_job P Q (Some j) Untaken f h = absurd h
 of_job P Q (Some j) (Held worker since) f h = f j since h

@@ -17,6 +17,7 @@ mod Confirmed
 mod Heard
 mod Lost
 mod Stepped
+pub mod Undecided
 mod Put
 mod Devices
 mod Logs
@@ -29,3 +30,6 @@ mod Places
 mod Waits
 pub mod GroupWaits
 pub mod Growing
+pub mod Lasting
+pub mod PollsRight
+pub mod Came

@@ -11,6 +11,7 @@ use Rattle.line_model.specs.Record.{Placed}
 use Rattle.line_model.specs.Moments.{Moment, moments, between}
 use Rattle.line_model.specs.Log.{Job, JobState, numbered_from_one, Untaken, Held, Over, job_of, turn_of, state_of, turn_place, takes_it, ends_it, is_turn}
 use Rattle.line_model.specs.Told.{ToldTruly}
+use Rattle.line_model.specs.Ends.{EndsAtRest}
 use Rattle.line_model.specs.Attempts.{begun, attempts}
 use Rattle.download_core.specs.Attempt.{DownloaderState}
 use Rattle.download_core.specs.Follows.{flies}
@@ -143,7 +144,13 @@ module _ (laws : Laws) (old : Work) (jn : Written) (cr : List (Option Holds)) (a
             by_test false e = e
 
   pub took_follows : TookFollows at old new
-  took_follows jobs places now f = (took_fits jobs places now f, λ told. subst (λ (l : List LogEntry). ToldTruly jobs old.telegrams.turns places l) (sym log) (tt, told))
+  took_follows jobs places now f = (
+    took_fits jobs places now f,
+    record {
+      truly = λ told. subst (λ (l : List LogEntry). ToldTruly jobs old.telegrams.turns places l) (sym log) (tt, told);
+      rests = λ rests. subst (λ (l : List LogEntry). EndsAtRest jobs places l) (sym log) (tt, rests);
+    },
+  )
 
 -- ---- a job has ended
 
@@ -227,6 +234,8 @@ module _ (old new : Work) (at worker : ℕ) (h : Holds) (what : LogWhat) (device
   pub end_follows : EndFollows at what old new
   end_follows jobs places now f = (
     end_fits jobs places now f,
-    λ is_true told.
-        subst (λ (t : Telling). ToldTruly jobs t.turns places new.journal.entries) (sym telling) (subst (λ (l : List LogEntry). ToldTruly jobs old.telegrams.turns places l) (sym journal) (is_true, told)),
+    λ is_true at_rest. record {
+      truly = λ told. subst (λ (t : Telling). ToldTruly jobs t.turns places new.journal.entries) (sym telling) (subst (λ (l : List LogEntry). ToldTruly jobs old.telegrams.turns places l) (sym journal) (is_true, told));
+      rests = λ rests. subst (λ (l : List LogEntry). EndsAtRest jobs places l) (sym journal) (at_rest, rests);
+    },
   )

@@ -11,6 +11,7 @@ use Rattle.line_model.specs.Moments.{Moment, moments, between}
 use Rattle.line_model.specs.Signs.{Every}
 use Rattle.line_model.specs.Log.{Job, AllOver, turn_of, state_of, turn_place}
 use Rattle.line_model.specs.Told.{IsTrue, ToldTruly, OfTurn, PutOnce, PutsNoGroup, IsConfirmed, IsLoss}
+use Rattle.line_model.specs.Ends.{EndsAtRest}
 use Rattle.device_reservation.specs.Reserved.{device_of_job}
 use Rattle.device_reservation.proofs.Numbered.{within}
 use Rattle.hub_work.specs.declared.telegrams.Stage.{Stage}
@@ -28,6 +29,7 @@ use Rattle.hub_work.proofs.Between.{same_up_to, none_since}
 use Rattle.hub_work.proofs.Deeds.{puts_group, puts_turn, put_flies}
 use Rattle.hub_work.proofs.Events.{fits_on}
 use Rattle.hub_work.proofs.JobEvents.{job_on, aside_becomes}
+use Rattle.hub_work.proofs.Undecided.{telegram_rests}
 use Rattle.hub_work.proofs.Stages.{put_telegram}
 use Rattle.hub_work.proofs.Works.{is_next}
 
@@ -163,6 +165,9 @@ module _ (old : Work) (jn : Written) (t : Telling) (at k : ℕ) (what : LogWhat)
   pub telling_follows : TellingFollows at k what old new
   telling_follows jobs places now f is_told = (
     told_fits jobs places now f (settled_so old.telegrams.stage is_told),
-    λ told.
-        subst (λ (ts : List GroupTurn). ToldTruly jobs ts places jn.entries) (sym turns_are) (subst (λ (l : List LogEntry). ToldTruly jobs old.telegrams.turns places l) (sym journal) (told_true jobs places now f is_told, told)),
+    record {
+      truly = λ told.
+          subst (λ (ts : List GroupTurn). ToldTruly jobs ts places jn.entries) (sym turns_are) (subst (λ (l : List LogEntry). ToldTruly jobs old.telegrams.turns places l) (sym journal) (told_true jobs places now f is_told, told));
+      rests = λ rests. subst (λ (l : List LogEntry). EndsAtRest jobs places l) (sym journal) (telegram_rests jobs places old.journal.entries at k what tells, rests);
+    },
   )

@@ -8,6 +8,7 @@ use Rattle.line_model.specs.Moments.{Moment, moments, between}
 use Rattle.line_model.specs.Log.{Job, turn_of, state_of, turn_place}
 use Rattle.line_model.specs.Told.{IsTrue, ToldTruly}
 use Rattle.line_model.specs.Reading.{ldata_in}
+use Rattle.line_model.specs.Ends.{EndsAtRest, EndsSo}
 use Rattle.device_reservation.specs.Reservation.{Reservation}
 use Rattle.download_core.specs.declared.did.Did.{Did}
 use Rattle.download_core.specs.declared.did.Did.TheVariants as did
@@ -33,11 +34,12 @@ use Rattle.hub_work.specs.Telegrams.{Telling}
 use Rattle.hub_work.specs.Works.{KeepsBooks, SameBooks}
 use Rattle.hub_work.proofs.Crews.{IsHeldSo, held_so, some_is}
 use Rattle.hub_work.proofs.Put.{put_follows}
+use Rattle.hub_work.proofs.Undecided.{ends_at_rest}
 
 -- ---- nothing of the record or of the log
 
 pub still : (now at : ℕ) (w : Work) (turned : Turned) → TurnFollows now at w w (turn.Did turned)
-still now at w turned jobs places f = (f, λ told. told)
+still now at w turned jobs places f = (f, record { truly = λ told. told; rests = λ rests. rests })
 
 -- the same, but for what came for the workers and for how far the jobs are in the reservation
 module _ (v w : Work) (devices : v.reservation.devices ≡ w.reservation.devices) (ds : v.downloaders ≡ w.downloaders) (same : holdings v.crew ≡ holdings w.crew) (telling : v.telegrams ≡ w.telegrams) (sender : v.sender ≡ w.sender) (journal : v.journal ≡ w.journal) where
@@ -70,12 +72,15 @@ module _ (v w : Work) (devices : v.reservation.devices ≡ w.reservation.devices
   }
 
 pub counted_follows : (now at : ℕ) (old : Work) (crew : List (Option Holds)) (turned : Turned) → holdings crew ≡ holdings old.crew → TurnFollows now at old (record old { crew = crew }) (turn.Did turned)
-counted_follows now at old crew turned same jobs places f = (same_fits (record old { crew = crew }) old refl refl same refl refl refl jobs now at (moments places) f, λ told. told)
+counted_follows now at old crew turned same jobs places f = (same_fits (record old { crew = crew }) old refl refl same refl refl refl jobs now at (moments places) f, record { truly = λ told. told; rests = λ rests. rests })
 
 -- ---- it took a job
 
 pub taken_follows : (now at : ℕ) (old new : Work) (r : Reservation) (turned : Turned) (did : Turn) → did ≡ turn.Did turned → r.devices ≡ old.reservation.devices → TookFollows at (record old { reservation = r }) new → TurnFollows now at old new did
-taken_follows now at old new r turned did is devices follows = subst (λ (t : Turn). TurnFollows now at old new t) (sym is) (λ jobs places f. follows jobs places now (same_fits (record old { reservation = r }) old devices refl refl refl refl refl jobs now at (moments places) f))
+taken_follows now at old new r turned did is devices follows = subst (λ (t : Turn). TurnFollows now at old new t) (sym is)
+    (λ jobs places f.
+    let told : Fits jobs new now at (moments places) × TellsTruly jobs places (record old { reservation = r }) new = follows jobs places now (same_fits (record old { reservation = r }) old devices refl refl refl refl refl jobs now at (moments places) f) in
+    (told.0, record { truly = told.1.truly; rests = told.1.rests }))
 
 -- ---- it puts
 
@@ -84,14 +89,17 @@ pub puts_follows : (laws : Laws) (old new : Work) (worker now at : ℕ) (h : Hol
     → new.sender ≡ Worker worker → new.telegrams ≡ old.telegrams → TurnFollows now at old new (turn.Puts cemi)
 puts_follows laws old new worker now at h tpdu cemi books from holds next reads same ds held sender telling jobs places f = (
   λ free. put_follows laws jobs places old new worker now at h tpdu cemi books f from holds next reads same ds held sender telling free,
-  λ told. subst (λ (ts : List GroupTurn). ToldTruly jobs ts places new.journal.entries) (sym same.turns) (subst (λ (w : Written). ToldTruly jobs old.telegrams.turns places w.entries) (sym same.journal) told),
+  record {
+    truly = λ told. subst (λ (ts : List GroupTurn). ToldTruly jobs ts places new.journal.entries) (sym same.turns) (subst (λ (w : Written). ToldTruly jobs old.telegrams.turns places w.entries) (sym same.journal) told);
+    rests = λ rests. subst (λ (w : Written). EndsAtRest jobs places w.entries) (sym same.journal) rests;
+  },
 )
 
 -- ---- it tells the job's end
 
 end_of : (laws : Laws) (old new : Work) (worker now at : ℕ) (h : Holds) (d : Did) (what : LogWhat) → KeepsBooks at old → 1 ≤ worker → Some h ≡ held_at old.crew (worker - 1) → Some d ≡ option_map (λ (x : DownloaderState). next_did x now) (downloader_of (states old.downloaders) h.job)
     → entry_of h.job d ≡ Some what → EndFollows at what old new → (jobs : List Job) (places : List Placed) → Fits jobs old now at (moments places) → Fits jobs new now at (moments places) × TellsTruly jobs places old new
-end_of laws old new worker now at h d what books from holds next entry follows jobs places f = (e.0, e.1 is_true)
+end_of laws old new worker now at h d what books from holds next entry follows jobs places f = (e.0, e.1 is_true rests)
   where
     its : IsHeldSo jobs old at (worker - 1) h
     its = held_so jobs old now at (moments places) (worker - 1) h books f holds
@@ -115,7 +123,10 @@ end_of laws old new worker now at h d what books from holds next entry follows j
     is_true : IsTrue jobs old.telegrams.turns places old.journal.entries at what
     is_true = laws.logs j.state now jobs old.telegrams.turns old.journal.entries places at h.job what is_downloader (ap (entry_of h.job) next_is ∙ entry)
 
-    e : Fits jobs new now at (moments places) × (IsTrue jobs old.telegrams.turns places old.journal.entries at what → TellsTruly jobs places old new)
+    rests : EndsSo jobs places old.journal.entries at what
+    rests = ends_at_rest laws.ends jobs places old.journal.entries j.state now at h.job (suc (worker - 1)) its.since its.job d what its.there its.held j.device j.plan j.fits next_is entry
+
+    e : Fits jobs new now at (moments places) × (IsTrue jobs old.telegrams.turns places old.journal.entries at what → EndsSo jobs places old.journal.entries at what → TellsTruly jobs places old new)
     e = follows jobs places now f
 
 pub ends_follow : (laws : Laws) (old new : Work) (worker now at : ℕ) (h : Holds) (d : Did) (what : LogWhat) (turned : Turned) (result : Turn) → result ≡ turn.Did turned → KeepsBooks at old → 1 ≤ worker → Some h ≡ held_at old.crew (worker - 1) → Some d ≡ option_map (λ (x : DownloaderState). next_did x now) (downloader_of (states old.downloaders) h.job)

@@ -1,8 +1,9 @@
 -- What a worker puts for its job is a right request, and the work fits the record once it is put.
-use Rattle.std.proofs.Common.{◌≡◌, ◌≢◌, inl, inr, ℕ, suc, ◌-◌, ◌<◌, ◌≤◌, true, false, List, ◌∷◌, length, Option, Some, refl, sym, ap, subst, ◌∙◌, arith}
+use Rattle.std.proofs.Common.{◌≡◌, ◌≢◌, inl, inr, ℕ, suc, ◌-◌, ◌<◌, ◌≤◌, true, false, List, ◌∷◌, length, Option, Some, None, refl, sym, ap, subst, ◌∙◌, arith}
 use Rattle.std.specs.Prelude.{slice_get, nat_le, option_map}
 use Rattle.std.proofs.lemmas.Bool.{cases_eq}
 use Rattle.knx_model.specs.declared.address.IndAddr.{IndAddr}
+use Rattle.knx_model.specs.declared.connection.TransportFrame.TheVariants.{Connect}
 use Rattle.knx_model.specs.Connection.{frame_in}
 use Rattle.knx_model.specs.Plans.{Plan}
 use Rattle.line_model.specs.declared.group.GroupTurn.{GroupTurn}
@@ -11,8 +12,9 @@ use Rattle.line_model.specs.Record.{Placed, entries}
 use Rattle.line_model.specs.ClientView.{Puts, channel}
 use Rattle.line_model.specs.Moments.{Moment, moments, between}
 use Rattle.line_model.specs.Log.{Job, Untaken, Held, job_of, state_of}
-use Rattle.line_model.specs.Attempts.{begun, attempts, MayPut}
+use Rattle.line_model.specs.Attempts.{begun, attempts, MayBegin, MayPut}
 use Rattle.line_model.specs.Asks.{HasPlace, IsRightRequest}
+use Rattle.line_model.specs.Ends.{IsUndecided, BeginsSo}
 use Rattle.download_core.specs.declared.did.Did.{Did}
 use Rattle.download_core.specs.declared.did.Did.TheVariants as did
 use Rattle.download_core.specs.Attempt.{DownloaderState}
@@ -45,6 +47,7 @@ use Rattle.hub_work.proofs.Heard.{one_job}
 use Rattle.hub_work.proofs.JobEvents.{Becomes, aside_becomes}
 use Rattle.hub_work.proofs.Stages.{settled_telegram}
 use Rattle.hub_work.proofs.Stepped.{stepped_device, stepped_plan}
+use Rattle.hub_work.proofs.Undecided.{LeavesUndecided, undecided}
 
 -- what comes next of a downloader that is there
 its_next : (o : Option DownloaderState) (s : DownloaderState) (now : ℕ) (d : Did) → o ≡ Some s → Some d ≡ option_map (λ (x : DownloaderState). next_did x now) o → next_did s now ≡ d
@@ -94,6 +97,32 @@ module _ (laws : Laws) (jobs : List Job) (places : List Placed) (old new : Work)
     place = place;
     why = inr (record { k = h.job; job = its.job; there = its.there; worker = worker; since = its.since; held = its_log; alone = refl; to = ap (λ (d : IndAddr). d.raw) (sym its.device); may = may m time le });
   }
+
+  -- it begins an attempt only where the last session is undecided
+  its_last : (m : Moment) → at ≤ m.at → frame_in tpdu ≡ Connect → IsUndecided its.job its.since m.at places
+  its_last m le connects =
+      let may_begin : MayBegin (attempts j.state.device j.state.plan l) = subst (MayPut (attempts j.state.device j.state.plan l) now tpdu) connects (laws.sends j.state now tpdu l j.fits next_is) in
+      let u : LeavesUndecided its.job.device its.job.plan (between its.since m.at (moments places)) =
+      subst (LeavesUndecided its.job.device its.job.plan) (sym (same_up_to its.since at m.at (moments places) le f.so_far))
+      (subst (λ (p : Plan). LeavesUndecided its.job.device p l) j.plan (subst (λ (d : IndAddr). LeavesUndecided d j.state.plan l) j.device (undecided laws.ends j.state now tpdu l j.fits next_is may_begin))) in
+      record { not_through = u.not_through; not_refused = u.not_refused }
+
+  begins : (m : Moment) → at ≤ m.at → m.what ≡ Puts cemi → BeginsSo jobs old.journal.entries places m
+  begins m le what k since job held connects = elim (cases_eq job.device.raw h.device.raw) [
+    | inl is ↦ of_its is
+    | inr apart ↦ absurd (let z : None ≡ Some Connect = sym (to.others job.device apart).put_is ∙ connects in cc)
+  ]
+    where
+      to : PutsTo h.device.raw tpdu m
+      to = puts_to m cemi h.device.raw tpdu what reads
+
+      of_its : job.device.raw ≡ h.device.raw → IsUndecided job since m.at places
+      of_its is =
+          let same : k ≡ h.job = one_job jobs old now at (moments places) k h.job held.worker since worker its.since job its.job books f held.there its.there (is ∙ ap (λ (d : IndAddr). d.raw) (sym its.device)) held.held its_log in
+          let one : its.job ≡ job = some_is its.job job (sym its.there ∙ (ap (job_of jobs) (sym same) ∙ held.there)) in
+          let holds_so : Held worker its.since ≡ Held held.worker since = sym its_log ∙ (ap (λ i. state_of i old.journal.entries) (sym same) ∙ held.held) in
+          let frame : frame_in tpdu ≡ Connect = some_is (frame_in tpdu) Connect (sym (to.to job.device is).put_is ∙ connects) in
+          subst (λ (b : Job). IsUndecided b since m.at places) one (subst (λ s. IsUndecided its.job s m.at places) (same_since worker held.worker its.since since holds_so) (its_last m le frame))
 
   -- ---- once it is put
 
@@ -207,5 +236,6 @@ module _ (laws : Laws) (jobs : List Job) (places : List Placed) (old new : Work)
     asks = λ m time le place.
         subst (λ (ts : List GroupTurn). IsRightRequest jobs ts new.journal.entries places m cemi) (sym same.turns)
         (subst (λ (w : Written). IsRightRequest jobs old.telegrams.turns w.entries places m cemi) (sym same.journal) (asks m time le place));
+    begins = λ m le what. subst (λ (w : Written). BeginsSo jobs w.entries places m) (sym same.journal) (begins m le what);
     fits = λ m later e n. fits m later e n;
   }

@@ -9,6 +9,7 @@ use Rattle.line_model.specs.Record.{Placed}
 use Rattle.line_model.specs.Moments.{Moment, moments}
 use Rattle.line_model.specs.Log.{Job}
 use Rattle.line_model.specs.Told.{IsTrue, PutsNoGroup}
+use Rattle.line_model.specs.Ends.{EndsSo}
 use Rattle.download_core.specs.Attempt.{DownloaderState}
 use Rattle.download_core.specs.Calls.{lost}
 use Rattle.download_core.specs.Follows.{IsMoment}
@@ -81,4 +82,4 @@ after_end worker GroupThread = GroupThread
 abbrev pub EndFollows : ℕ → LogWhat → Work → Work → Type 0
 EndFollows at what old new =
     (jobs : List Job) (places : List Placed) (now : ℕ) → Fits jobs old now at (moments places)
-    → Fits jobs new now at (moments places) × (IsTrue jobs old.telegrams.turns places old.journal.entries at what → TellsTruly jobs places old new)
+    → Fits jobs new now at (moments places) × (IsTrue jobs old.telegrams.turns places old.journal.entries at what → EndsSo jobs places old.journal.entries at what → TellsTruly jobs places old new)

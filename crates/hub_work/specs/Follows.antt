@@ -13,6 +13,7 @@ use Rattle.line_model.specs.Log.{Job}
 use Rattle.line_model.specs.Told.{ToldTruly}
 use Rattle.line_model.specs.Asks.{HasPlace, IsRightRequest}
 use Rattle.line_model.specs.Renews.{RenewsRightly}
+use Rattle.line_model.specs.Ends.{EndsAtRest, BeginsSo}
 use Rattle.hub_work.specs.declared.job.HubJob.{HubJob}
 use Rattle.hub_work.specs.declared.telegrams.Stage.{Stage}
 use Rattle.hub_work.specs.declared.telegrams.Stage.TheVariants as stage
@@ -62,9 +63,10 @@ StaysFitting = (jobs : List Job) (w : Work) (now at later : ℕ) (l : List Momen
 
 -- ---- what it gives to be put
 
--- it may be put where there is a place, and the work fits once it is put
+-- it may be put where there is a place, it begins an attempt only where the last one is undecided, and the work fits once it is put
 pub record PutFollows (jobs : List Job) (places : List Placed) (now at : ℕ) (w : Work) (cemi : List ℕ) : Type 0 where
   pub asks : (m : Moment) → m.now ≡ now → at ≤ m.at → HasPlace (channel (entries places)) → IsRightRequest jobs w.telegrams.turns w.journal.entries places m cemi
+  pub begins : (m : Moment) → at ≤ m.at → m.what ≡ Puts cemi → BeginsSo jobs w.journal.entries places m
   pub fits : (m : Moment) (later : ℕ) → m.what ≡ Puts cemi → IsNew m now at later → Fits jobs w now later (m ∷ moments places)
 
 -- where nothing is unconfirmed
@@ -72,9 +74,10 @@ abbrev pub TurnFits : List Job → List Placed → ℕ → ℕ → Work → Turn
 TurnFits jobs places now at w (turn.Did turned) = Fits jobs w now at (moments places)
 TurnFits jobs places now at w (turn.Puts cemi) = in_flight (moments places) ≡ false → PutFollows jobs places now at w cemi
 
--- what is told stays true
-abbrev pub TellsTruly : List Job → List Placed → Work → Work → Type 0
-TellsTruly jobs places old new = ToldTruly jobs old.telegrams.turns places old.journal.entries → ToldTruly jobs new.telegrams.turns places new.journal.entries
+-- what is told stays true, and each end is told where no attempt of its job runs
+pub record TellsTruly (jobs : List Job) (places : List Placed) (old new : Work) : Type 0 where
+  pub truly : ToldTruly jobs old.telegrams.turns places old.journal.entries → ToldTruly jobs new.telegrams.turns places new.journal.entries
+  pub rests : EndsAtRest jobs places old.journal.entries → EndsAtRest jobs places new.journal.entries
 
 -- a worker's turn at this time, when there were so many events
 abbrev pub TurnFollows : ℕ → ℕ → Work → Work → Turn → Type 0

@@ -1,5 +1,7 @@
--- The laws of a downloader, all together: it fits the record of a link, whatever that is, and something of it is in flight only from a sending on.
+-- The laws of a downloader, all together: it fits the record of a link, whatever that is, something of it is in flight only from a sending
+-- on, and it tells an end exactly where the record shows one.
 use Rattle.download_core.specs.Follows.{BeginsRightly, AsideFollows, ConfirmedFollows, OthersFollow, HeardFollows, LostFollows, SendsRightly, SentFollows, FlightsAreKnown}
+use Rattle.download_core.specs.Tells.{EndsExactly}
 use Rattle.download_core.specs.Turns.{LogsTruly, TurnWaitsExactly}
 
 pub record Laws : Type 0 where
@@ -14,3 +16,4 @@ pub record Laws : Type 0 where
   pub flights : FlightsAreKnown
   pub logs : LogsTruly
   pub waits : TurnWaitsExactly
+  pub ends : EndsExactly

@@ -13,3 +13,5 @@ pub mod Comes
 pub mod Laws
 pub mod Waits
 pub mod Closes
+pub mod Polls
+pub mod Came

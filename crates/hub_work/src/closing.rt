@@ -4,6 +4,7 @@ ghost use Rattle.std.specs.Prelude.{◌≡◌, ◌&&◌};
 ghost use Rattle.line_model.specs.ClientView.{ClientChannel};
 ghost use Rattle.line_model.specs.Closing.{Leaving, Listening, has_waited, is_open as has_channel, is_over, is_listening};
 ghost use Rattle.hub_work.specs.Closes.{closing_of, after_datagram};
+ghost use Rattle.hub_work.specs.Polls.{closing_end};
 
 /// How long it listens after the last datagram, in milliseconds.
 const LISTENING_MS: u64 = 1_000;
@@ -93,7 +94,9 @@ impl Closing {
     }
 
     /// When its wait has passed.
-    pub fn deadline(self) -> u64 {
+    pub fn deadline(self) -> u64
+        ensures { result ≡ closing_end (closing_of self) }
+    {
         match self {
             Closing::Listening { since, .. } => since.saturating_add(LISTENING_MS),
             Closing::Leaving { since, .. } => since.saturating_add(LEAVING_MS),

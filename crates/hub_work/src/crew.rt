@@ -2,6 +2,7 @@
 
 ghost use Rattle.std.specs.Prelude.{◌≡◌, ℕ, ◌-◌, ◌≤◌, Some, None, false, true, IfOk, IfSome, length, replicate, slice_set};
 ghost use Rattle.hub_work.specs.Books.{held_at, is_of_device};
+ghost use Rattle.hub_work.specs.Came.{waiting_at, RisesAt, RisesBy, TakesOneIn};
 ghost use Rattle.hub_work.specs.Crew.{holdings, after_begun};
 
 use knx_model::{IndAddr, NoMemory};
@@ -113,7 +114,8 @@ impl Crew {
     /// An attempt of its job has sent its T_Connect.
     pub fn begins(&mut self, worker: u8)
         requires { 1 ≤ worker }
-        ensures { holdings self.new ≡ after_begun (worker - 1) (holdings self.old) }
+        ensures held { holdings self.new ≡ after_begun (worker - 1) (holdings self.old) }
+        ensures came { (place : ℕ) → waiting_at self.new place ≡ waiting_at self.old place }
     {
         let place = place_of(worker);
         if let Some(held) = self.at(place) {
@@ -129,14 +131,16 @@ impl Crew {
 
     /// Something came for it.
     pub fn came(&mut self, worker: u8)
-        ensures { holdings self.new ≡ holdings self.old }
+        ensures held { holdings self.new ≡ holdings self.old }
+        ensures came { RisesBy 1 self.old self.new }
     {
         self.came_at(place_of(worker));
     }
 
     /// Something came for the worker at a place, from 0.
     pub fn came_at(&mut self, place: usize)
-        ensures { holdings self.new ≡ holdings self.old }
+        ensures held { holdings self.new ≡ holdings self.old }
+        ensures came { RisesAt place self.old self.new }
     {
         if let Some(held) = self.at(place) {
             let came = held.came.saturating_add(1);
@@ -144,18 +148,16 @@ impl Crew {
         }
     }
 
-    /// Its turn takes one thing in that came. Tells whether there was one.
-    pub fn takes_in(&mut self, worker: u8) -> bool
-        ensures { holdings self.new ≡ holdings self.old }
+    /// Its turn takes one thing in that came.
+    pub fn takes_in(&mut self, worker: u8)
+        requires { 1 ≤ worker }
+        ensures held { holdings self.new ≡ holdings self.old }
+        ensures came { TakesOneIn worker self.old self.new }
     {
         let place = place_of(worker);
-        match self.at(place) {
-            Some(held) if held.came > 0 => {
-                let came = held.came - 1;
-                self.set(place, Some(Held { came, ..held }));
-                true
-            }
-            _ => false,
+        if let Some(held) = self.at(place) {
+            let came = held.came.saturating_sub(1);
+            self.set(place, Some(Held { came, ..held }));
         }
     }
 

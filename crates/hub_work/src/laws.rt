@@ -3,7 +3,7 @@
 ghost use Rattle.hub_work.specs.Laws.{Laws};
 ghost use Rattle.hub_work.specs.Follows.{AsideFollows, StaysFitting, PlaceIsFree};
 
-use download_core::{flights_are_known, follows_the_record, steps_are_turns};
+use download_core::{flights_are_known, follows_the_record, steps_are_turns, steps_exactly};
 
 /// What is nothing to any job changes nothing but the time, and there may be more events that the record doesn't tell.
 pub fn moments_go_on()
@@ -25,4 +25,5 @@ pub(crate) fn of_a_downloader()
     follows_the_record();
     flights_are_known();
     steps_are_turns();
+    steps_exactly();
 }

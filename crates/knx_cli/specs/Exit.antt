@@ -7,7 +7,7 @@ use Rattle.knx_model.specs.declared.status.Status.TheVariants as status
 abbrev pub statuses : List Status
 statuses =
     status.Done ∷ status.SomeFailed ∷ status.Usage ∷ status.Project ∷ status.Catalogue ∷ status.Script ∷ status.Read ∷ status.Write
-    ∷ status.NoMemory ∷ status.Link ∷ status.GatewayRefused ∷ status.Flooded ∷ status.WrongLine ∷ status.OpenTurns ∷ []
+    ∷ status.NoMemory tt ∷ status.Link ∷ status.GatewayRefused ∷ status.Flooded ∷ status.WrongLine ∷ status.OpenTurns ∷ []
 
 -- the status of a number
 abbrev pub status_of : ℕ → Status

@@ -4,25 +4,28 @@ ghost use Rattle.std.specs.Prelude.{◌≡◌, ◌≢◌, ℕ, IfErr, IfOk, List
 ghost use Rattle.knx_model.specs.declared.command.Stop.TheVariants.{Usage, NoMemory as Wanting};
 ghost use Rattle.knx_model.specs.Outside.{one_more};
 ghost use Rattle.knx_model.specs.Refusal.{status_number};
-ghost use Rattle.knx_top.specs.Call.{AtMostOneRose, HasNoRun, HasRunOf, IsCountsText, IsTablesText, Replies, RunsScript, TellsOfFrame, TellsOfProject};
-ghost use Rattle.knx_top.specs.Command.{ProjectWords, SimWords, asked, Check as AskedCheck, Decode as AskedDecode, Sim as AskedSim, Tables as AskedTables};
-ghost use Rattle.knx_top.specs.Headline.{ActsOnce, BeganRightly, EndsEveryJob, HasFaultRight, HasOldStoppedOrNew, HasTelegramsRight, IsToldRightly, RunsWhereDone};
-ghost use Rattle.knx_top.specs.Ran.{Stops};
+ghost use Rattle.knx_top.specs.Call.{AtMostOneRose, HasRunOf, IsCountsText, IsTablesText, Replies, RunsScript, TellsOfFrame, TellsOfProject};
+ghost use Rattle.knx_top.specs.Command.{DownloadWords, ProjectWords, SimWords, asked, Check as AskedCheck, Decode as AskedDecode, Download as AskedDownload, Sim as AskedSim, Tables as AskedTables};
+ghost use Rattle.knx_top.specs.Dialled.{RepliesEnd, RunsDialled};
+ghost use Rattle.knx_top.specs.Headline.{ActsOnce, BeganRightly, EndsEveryJob, EndsThoroughly, HasFaultRight, HasOldStoppedOrNew, HasTelegramsRight, IsToldRightly, LeavesItsChannel, RunsWhereDone};
+ghost use Rattle.knx_top.specs.Ran.{FaultsOfLine, Stops};
 ghost use Rattle.knx_cli.specs.Exit.{status_of};
 
 use knx_model::{Files, NoMemory, Sink, Status};
 use knx_top::{NO_MEMORY, Report, SimBus, knx};
+use line_model::Dialer;
 use std::alloc::Global;
 use std::sync::Wait;
 
 /// The exit status of a call: its status by its number.
-fn ended<R: Wait, F: Files, K: Sink>(
+fn ended<R: Wait, F: Files, K: Sink, D: Dialer>(
     rt: &R,
     alloc: Global,
     words: &[String],
     files: &mut F,
     out: &mut K,
     sim: &mut SimBus,
+    dial: &mut D,
     last: &mut Option<Report>,
 ) -> u8
     ensures numbered { result ≡ status_number (status_of result) }
@@ -32,42 +35,49 @@ fn ended<R: Wait, F: Files, K: Sink>(
     ensures tables { (names : ProjectWords) → asked (map string_bytes words.now) ≡ Some (AskedTables names) → TellsOfProject IsTablesText names (F.file files.old) (F.faults files.old) (F.faults files.new) (Replies (K.faults out.old) (K.faults out.new) (K.taken out.old) (K.taken out.new) (status_of result)) }
     ensures decode { (word : List ℕ) → asked (map string_bytes words.now) ≡ Some (AskedDecode word) → TellsOfFrame word (Replies (K.faults out.old) (K.faults out.new) (K.taken out.old) (K.taken out.new) (status_of result)) }
     ensures sim { (names : SimWords) → asked (map string_bytes words.now) ≡ Some (AskedSim names) → RunsScript names (F.file files.old) (F.faults files.old) (F.faults files.new) sim.old (record { line = sim.new; report = last.new }) (Replies (K.faults out.old) (K.faults out.new) (K.taken out.old) (K.taken out.new) (status_of result)) }
+    ensures download { (names : DownloadWords) → asked (map string_bytes words.now) ≡ Some (AskedDownload names) → RunsDialled names (F.file files.old) (F.faults files.old) (F.faults files.new) (record { faults = D.faults dial.old; given = D.given dial.old; link_back = D.link_back dial.old; port_back = D.port_back dial.old }) (record { faults = D.faults dial.new; given = D.given dial.new; link_back = D.link_back dial.new; port_back = D.port_back dial.new }) last.new (RepliesEnd (K.faults out.old) (K.faults out.new) (K.taken out.old) (K.taken out.new) (status_of result)) }
     ensures begins { HasRunOf BeganRightly (map string_bytes words.now) (F.file files.old) sim.old (record { line = sim.new; report = last.new }) }
     ensures old_stopped_or_new { HasRunOf HasOldStoppedOrNew (map string_bytes words.now) (F.file files.old) sim.old (record { line = sim.new; report = last.new }) }
     ensures telegrams { HasRunOf HasTelegramsRight (map string_bytes words.now) (F.file files.old) sim.old (record { line = sim.new; report = last.new }) }
     ensures done { HasRunOf RunsWhereDone (map string_bytes words.now) (F.file files.old) sim.old (record { line = sim.new; report = last.new }) }
     ensures once { HasRunOf ActsOnce (map string_bytes words.now) (F.file files.old) sim.old (record { line = sim.new; report = last.new }) }
     ensures told { HasRunOf IsToldRightly (map string_bytes words.now) (F.file files.old) sim.old (record { line = sim.new; report = last.new }) }
+    ensures thorough { HasRunOf EndsThoroughly (map string_bytes words.now) (F.file files.old) sim.old (record { line = sim.new; report = last.new }) }
+    ensures leaves { HasRunOf LeavesItsChannel (map string_bytes words.now) (F.file files.old) sim.old (record { line = sim.new; report = last.new }) }
     ensures fault { HasRunOf HasFaultRight (map string_bytes words.now) (F.file files.old) sim.old (record { line = sim.new; report = last.new }) }
     ensures over { HasRunOf EndsEveryJob (map string_bytes words.now) (F.file files.old) sim.old (record { line = sim.new; report = last.new }) }
-    ensures line { ((names : SimWords) → asked (map string_bytes words.now) ≢ Some (AskedSim names)) → HasNoRun sim.old (record { line = sim.new; report = last.new }) }
+    ensures link { (names : SimWords) → asked (map string_bytes words.now) ≡ Some (AskedSim names) → FaultsOfLine last.new sim.new }
+    ensures line { ((names : SimWords) → asked (map string_bytes words.now) ≢ Some (AskedSim names)) → sim.new ≡ sim.old }
+    ensures undialled { ((names : DownloadWords) → asked (map string_bytes words.now) ≢ Some (AskedDownload names)) → dial.new ≡ dial.old }
+    ensures no_run { ((names : SimWords) → asked (map string_bytes words.now) ≢ Some (AskedSim names)) → ((names : DownloadWords) → asked (map string_bytes words.now) ≢ Some (AskedDownload names)) → last.new ≡ None }
     ensures files { (name : List ℕ) → F.file files.new name ≡ F.file files.old name }
     ensures faults { AtMostOneRose (F.faults files.old) (F.faults files.new) }
     ensures written { K.writes out.new ≡ one_more (K.writes out.old) }
 {
-    knx(rt, alloc, words, files, out, sim, last).number()
+    knx(rt, alloc, words, files, out, sim, dial, last).number()
 }
 
 /// The exit status where memory is wanting for the words.
-fn ended_without_words<K: Sink>(out: &mut K) -> u8
+fn ended_without_words<K: Sink>(want: NoMemory, out: &mut K) -> u8
     ensures numbered { result ≡ status_number (status_of result) }
     ensures told { Replies (K.faults out.old) (K.faults out.new) (K.taken out.old) (K.taken out.new) (status_of result) (Stops (Wanting tt)) }
     ensures written { K.writes out.new ≡ one_more (K.writes out.old) }
 {
     match out.write(NO_MEMORY) {
-        Ok(()) => Status::NoMemory.number(),
+        Ok(()) => Status::NoMemory(want).number(),
         Err(_) => Status::Write.number(),
     }
 }
 
 /// The exit status of the program: that of the call with its words, or where memory is wanting for them, that.
-pub fn status_of<R: Wait, F: Files, K: Sink>(
+pub fn status_of<R: Wait, F: Files, K: Sink, D: Dialer>(
     rt: &R,
     alloc: Global,
     words: &Result<Vec<String>, NoMemory>,
     files: &mut F,
     out: &mut K,
     sim: &mut SimBus,
+    dial: &mut D,
     last: &mut Option<Report>,
 ) -> u8
     ensures numbered { result ≡ status_number (status_of result) }
@@ -76,20 +86,24 @@ pub fn status_of<R: Wait, F: Files, K: Sink>(
     ensures tables { IfOk words.now (λ words. (names : ProjectWords) → asked (map string_bytes words.items) ≡ Some (AskedTables names) → TellsOfProject IsTablesText names (F.file files.old) (F.faults files.old) (F.faults files.new) (Replies (K.faults out.old) (K.faults out.new) (K.taken out.old) (K.taken out.new) (status_of result))) }
     ensures decode { IfOk words.now (λ words. (word : List ℕ) → asked (map string_bytes words.items) ≡ Some (AskedDecode word) → TellsOfFrame word (Replies (K.faults out.old) (K.faults out.new) (K.taken out.old) (K.taken out.new) (status_of result))) }
     ensures sim { IfOk words.now (λ words. (names : SimWords) → asked (map string_bytes words.items) ≡ Some (AskedSim names) → RunsScript names (F.file files.old) (F.faults files.old) (F.faults files.new) sim.old (record { line = sim.new; report = last.new }) (Replies (K.faults out.old) (K.faults out.new) (K.taken out.old) (K.taken out.new) (status_of result))) }
+    ensures download { IfOk words.now (λ words. (names : DownloadWords) → asked (map string_bytes words.items) ≡ Some (AskedDownload names) → RunsDialled names (F.file files.old) (F.faults files.old) (F.faults files.new) (record { faults = D.faults dial.old; given = D.given dial.old; link_back = D.link_back dial.old; port_back = D.port_back dial.old }) (record { faults = D.faults dial.new; given = D.given dial.new; link_back = D.link_back dial.new; port_back = D.port_back dial.new }) last.new (RepliesEnd (K.faults out.old) (K.faults out.new) (K.taken out.old) (K.taken out.new) (status_of result))) }
     ensures begins { IfOk words.now (λ words. HasRunOf BeganRightly (map string_bytes words.items) (F.file files.old) sim.old (record { line = sim.new; report = last.new })) }
     ensures old_stopped_or_new { IfOk words.now (λ words. HasRunOf HasOldStoppedOrNew (map string_bytes words.items) (F.file files.old) sim.old (record { line = sim.new; report = last.new })) }
     ensures telegrams { IfOk words.now (λ words. HasRunOf HasTelegramsRight (map string_bytes words.items) (F.file files.old) sim.old (record { line = sim.new; report = last.new })) }
     ensures done { IfOk words.now (λ words. HasRunOf RunsWhereDone (map string_bytes words.items) (F.file files.old) sim.old (record { line = sim.new; report = last.new })) }
     ensures once { IfOk words.now (λ words. HasRunOf ActsOnce (map string_bytes words.items) (F.file files.old) sim.old (record { line = sim.new; report = last.new })) }
     ensures told { IfOk words.now (λ words. HasRunOf IsToldRightly (map string_bytes words.items) (F.file files.old) sim.old (record { line = sim.new; report = last.new })) }
+    ensures thorough { IfOk words.now (λ words. HasRunOf EndsThoroughly (map string_bytes words.items) (F.file files.old) sim.old (record { line = sim.new; report = last.new })) }
+    ensures leaves { IfOk words.now (λ words. HasRunOf LeavesItsChannel (map string_bytes words.items) (F.file files.old) sim.old (record { line = sim.new; report = last.new })) }
     ensures fault { IfOk words.now (λ words. HasRunOf HasFaultRight (map string_bytes words.items) (F.file files.old) sim.old (record { line = sim.new; report = last.new })) }
     ensures over { IfOk words.now (λ words. HasRunOf EndsEveryJob (map string_bytes words.items) (F.file files.old) sim.old (record { line = sim.new; report = last.new })) }
+    ensures link { IfOk words.now (λ words. (names : SimWords) → asked (map string_bytes words.items) ≡ Some (AskedSim names) → FaultsOfLine last.new sim.new) }
     // where memory is wanting for the words, that is told
     ensures wanting { IfErr words.now (λ _. Replies (K.faults out.old) (K.faults out.new) (K.taken out.old) (K.taken out.new) (status_of result) (Stops (Wanting tt))) }
     ensures written { K.writes out.new ≡ one_more (K.writes out.old) }
 {
     match words {
-        Ok(words) => ended(rt, alloc, words.as_slice(), files, out, sim, last),
-        Err(_) => ended_without_words(out),
+        Ok(words) => ended(rt, alloc, words.as_slice(), files, out, sim, dial, last),
+        Err(want) => ended_without_words(*want, out),
     }
 }

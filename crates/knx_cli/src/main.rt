@@ -1,5 +1,5 @@
-//! The program `knx`: its arguments are the words of the top call, its standard output takes what that writes, and its exit
-//! status is that call's. Nothing is written to standard error.
+//! The program `knx`: its arguments are the words of the top call, its standard output takes what that writes, its links are UDP
+//! sockets, and its exit status is that call's. Nothing is written to standard error.
 #![tactic(auto)]
 
 mod clients;
@@ -14,6 +14,7 @@ mod socket;
 mod stops;
 mod words;
 
+use crate::dial::UdpDialer;
 use crate::disk::Disk;
 use crate::ended::status_of;
 use crate::output::Output;
@@ -27,9 +28,10 @@ fn main(rt: HostRuntime) -> ExitCode {
     let mut files = Disk::new(alloc, &rt);
     let mut out = Output::new(io::writer(&rt));
     let mut sim = SimBus::empty(alloc);
+    let mut dial = UdpDialer::new(&rt, alloc);
     let mut last = None;
     let words = words_of(alloc, env::args(&rt));
     ExitCode::from(status_of(
-        &rt, alloc, &words, &mut files, &mut out, &mut sim, &mut last,
+        &rt, alloc, &words, &mut files, &mut out, &mut sim, &mut dial, &mut last,
     ))
 }

@@ -221,16 +221,3 @@ complements octets = map (λ octet. 255 - octet) octets
 
 abbrev pub worn_octets : Effect → List ℕ
 worn_octets effect = complements (octets_sent effect)
-
--- ---- on a bench, where services are given to the device by themselves
-
--- a service is given to it, and what it answers
-abbrev pub given : DeviceState → List ℕ → DeviceState
-given d apdu = if d.power then moved d (whole d.kept (effect_in apdu)) else d
-
-abbrev pub answer_given : DeviceState → List ℕ → Option (List ℕ)
-answer_given d apdu = if d.power then answer_in d.frames d.kept apdu else None
-
--- power is cut while it writes
-abbrev pub given_torn : DeviceState → List ℕ → Bool → List ℕ → DeviceState
-given_torn d apdu fresh octets = if d.power then cut (record d { kept = torn d.kept (effect_in apdu) fresh octets }) else d

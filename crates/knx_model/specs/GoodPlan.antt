@@ -46,11 +46,6 @@ pub record GoodPlan (plan : Plan) (image : Image) : Type 0 where
   pub beginnings : (frames : FrameSupport) (start end : NonVolatile) → Beginning (answer_in frames) plan start end → OldStoppedOrImage start image end
   pub whole_runs : (frames : FrameSupport) (start end : NonVolatile) → WholeRun (answer_in frames) plan start end → runs end ≡ Some image
 
--- a plan that checks changes nothing, and a device that answers all of it as wanted runs the image
-pub record GoodCheck (plan : Plan) (image : Image) : Type 0 where
-  pub changes_nothing : (frames : FrameSupport) (start end : NonVolatile) → Beginning (answer_in frames) plan start end → end ≡ start
-  pub tells : (frames : FrameSupport) (start end : NonVolatile) → WholeRun (answer_in frames) plan start end → runs start ≡ Some image
-
 -- ---- a plan that is given to a device that nothing disturbs: each operation is taken whole
 
 -- from nv on each operation is answered as wanted

@@ -1,7 +1,7 @@
--- The texts that the program prints: the report of a run, and the line of a call that stops before it. Each line ends with a line
--- feed; numbers are decimal.
-use Rattle.std.specs.Prelude.{ℕ, ◌+◌, ◌/◌, ◌%◌, ◌==◌, nat_lt, codes, List, [], ◌∷◌, ◌++◌, map, Option, Some, None, if◌then◌else◌}
-use Rattle.std.specs.List.{join_with_byte, flat_map, filter_map, enumerate_from}
+-- The texts that the program prints: the words of a report, a checked project, and the line of a call that stops before its report. Each
+-- line ends with a line feed; numbers are decimal.
+use Rattle.std.specs.Prelude.{ℕ, ◌+◌, ◌/◌, ◌%◌, nat_lt, codes, List, [], ◌∷◌, ◌++◌, Option, Some, None, if◌then◌else◌}
+use Rattle.std.specs.List.{join_with_byte, flat_map}
 use Rattle.std.specs.Fmt.{decimal}
 use Rattle.knx_model.specs.Addresses.{device_text}
 use Rattle.knx_model.specs.declared.address.IndAddr.{IndAddr}
@@ -15,14 +15,8 @@ use Rattle.knx_model.specs.declared.command.Stop.TheVariants as stop
 use Rattle.knx_model.specs.declared.config.Image.{Image}
 use Rattle.knx_model.specs.declared.log.Case.{Case}
 use Rattle.knx_model.specs.declared.log.Case.TheVariants as case
-use Rattle.knx_model.specs.declared.log.DeviceCase.{DeviceCase}
 use Rattle.knx_model.specs.declared.log.JobKind.{JobKind}
 use Rattle.knx_model.specs.declared.log.JobKind.TheVariants as job
-use Rattle.knx_model.specs.declared.log.JobWord.{JobWord}
-use Rattle.knx_model.specs.declared.log.LogEntry.{LogEntry}
-use Rattle.knx_model.specs.declared.log.LogWhat.{LogWhat}
-use Rattle.knx_model.specs.declared.log.LogWhat.TheVariants as told
-use Rattle.knx_model.specs.declared.log.Report.{Report}
 use Rattle.knx_model.specs.declared.log.Sign.{Sign}
 use Rattle.knx_model.specs.declared.log.Sign.TheVariants as sign
 use Rattle.knx_model.specs.declared.refusal.Refused.{Refused}
@@ -50,7 +44,7 @@ abbrev pub octets_text : List ℕ → List ℕ
 octets_text [] = codes "-"
 octets_text (first ∷ others) = hex_text (first ∷ others)
 
--- ---- the report
+-- ---- the words of a report
 
 abbrev pub sign_word : Sign → List ℕ
 sign_word (sign.Silent ms) = codes "silent"
@@ -58,42 +52,18 @@ sign_word sign.Closed = codes "closed"
 sign_word sign.NoCon = codes "nocon"
 sign_word sign.TunnelLost = codes "tunnel"
 
--- how an entry of the log ends job k
-abbrev pub end_of : ℕ → LogWhat → Option (List (List ℕ))
-end_of k (told.Took job) = None
-end_of k (told.Done job) = if job == k then Some (codes "done" ∷ []) else None
-end_of k (told.Failed job signs) = if job == k then Some (codes "failed" ∷ map sign_word signs) else None
-
 abbrev pub first_or_open : List (List (List ℕ)) → List (List ℕ)
 first_or_open [] = codes "open" ∷ []
 first_or_open (ends ∷ others) = ends
-
--- the end of job k by the log, its words apart by spaces; without one it is open
-abbrev pub end_words : List LogEntry → ℕ → List (List ℕ)
-end_words log k = first_or_open (filter_map (λ entry. end_of k entry.what) log)
-
-unfoldable pub end_text : List LogEntry → ℕ → List ℕ
-end_text log k = join_with_byte 32 (end_words log k)
 
 abbrev pub job_word : JobKind → List ℕ
 job_word job.Load = codes "load"
 job_word job.Check = codes "check"
 
-abbrev pub job_line : List LogEntry → ℕ → JobWord → List ℕ
-job_line log k word = line (codes "job" ∷ decimal k ∷ job_word word.kind ∷ device_text word.device ∷ end_text log k ∷ [])
-
 abbrev pub case_word : Case → List ℕ
 case_word case.New = codes "new"
 case_word case.Old = codes "old"
 case_word case.Stopped = codes "stopped"
-
-abbrev pub device_line : DeviceCase → List ℕ
-device_line d = line (codes "device" ∷ device_text d.device ∷ case_word d.case ∷ [])
-
--- a line for each job, a line for each device, and the count of missed indications
-unfoldable pub report_text : Report → List JobWord → List DeviceCase → List ℕ
-report_text report jobs devices =
-    flat_map (λ p. job_line report.log p.0 p.1) (enumerate_from 1 jobs) ++ (flat_map device_line devices ++ line (codes "missed" ∷ decimal report.missed ∷ []))
 
 -- ---- a checked project
 
@@ -183,4 +153,4 @@ stop_status (stop.NotThere name) = status.Read
 stop_status (stop.ReadFailed name) = status.Read
 stop_status (stop.CatalogueRefused refused) = status.Catalogue
 stop_status (stop.Refused place refused) = refusal_status place
-stop_status (stop.NoMemory want) = status.NoMemory
+stop_status (stop.NoMemory want) = status.NoMemory want

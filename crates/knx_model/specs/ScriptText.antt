@@ -1,18 +1,17 @@
 -- The script of a run: the line that each disturbance and each group telegram is written as, what a whole script reads as, and the
 -- devices that its lines name. The language is this project's own.
-use Rattle.std.specs.Prelude.{◌≡◌, ℕ, ◌+◌, ◌*◌, ◌<◌, slice_get, Bool, true, false, ◌&&◌, ◌==◌, nat_lt, nat_le, bytes_eq, codes, List, [], ◌∷◌, length, is_some, Option, Some, None, Result, Ok, Err, if◌then◌else◌}
+use Rattle.std.specs.Prelude.{◌≡◌, ℕ, ◌+◌, ◌*◌, ◌<◌, slice_get, Bool, true, false, ◌&&◌, ◌==◌, nat_lt, nat_le, bytes_eq, codes, List, [], ◌∷◌, length, Option, Some, None, Result, Ok, Err, if◌then◌else◌}
 use Rattle.std.specs.Char.{digit_value}
 use Rattle.std.specs.List.{list_all, list_any, filter_map}
 use Rattle.knx_model.specs.declared.address.GroupAddr.{GroupAddr}
 use Rattle.knx_model.specs.declared.address.IndAddr.{IndAddr}
 use Rattle.knx_model.specs.declared.frames.value.Value.{Value}
 use Rattle.knx_model.specs.declared.frames.value.Value.TheVariants.{Short, Long}
-use Rattle.knx_model.specs.declared.script.Cut.{Cut}
 use Rattle.knx_model.specs.declared.script.GroupService.{GroupService}
 use Rattle.knx_model.specs.declared.script.GroupService.TheVariants.{Read, Write, Response}
 use Rattle.knx_model.specs.declared.script.ScriptLine.{ScriptLine}
 use Rattle.knx_model.specs.declared.script.ScriptWhat.{ScriptWhat}
-use Rattle.knx_model.specs.declared.script.ScriptWhat.TheVariants.{LoseUp, LoseDown, RepeatUp, RepeatDown, LoseTo, LoseFrom, RepeatTo, Cut as CutLine, Worn, CloseAfter, Refuse, DropChannel, Off, Standard, Group}
+use Rattle.knx_model.specs.declared.script.ScriptWhat.TheVariants.{LoseUp, LoseDown, RepeatUp, RepeatDown, LoseTo, LoseFrom, RepeatTo, Cut, Worn, CloseAfter, Refuse, DropChannel, Off, Standard, Group}
 use Rattle.knx_model.specs.declared.refusal.Refused.{Refused}
 use Rattle.knx_model.specs.declared.refusal.Why.{Why}
 use Rattle.knx_model.specs.declared.refusal.Why.TheVariants.{UnknownWord, BadAddress, BadNumber, MissingWord, TooMany, NoDevice}
@@ -105,7 +104,7 @@ cut_says ws = do
   device ← field ind_value BadAddress ws
   n ← field count_value BadNumber device.1
   k ← field number_value BadNumber n.1
-  ended (CutLine device.0 n.0 k.0) k.1
+  ended (Cut device.0 n.0 k.0) k.1
 
 -- worn D N
 abbrev pub worn_says : List (List ℕ) → Result ScriptWhat Why
@@ -230,7 +229,7 @@ is_script_what (RepeatDown n) = is_count n
 is_script_what (LoseTo device n) = is_device device && is_count n
 is_script_what (LoseFrom device n) = is_device device && is_count n
 is_script_what (RepeatTo device n) = is_device device && is_count n
-is_script_what (CutLine device n k) = is_device device && is_count n && nat_lt k 4294967296
+is_script_what (Cut device n k) = is_device device && is_count n && nat_lt k 4294967296
 is_script_what (Worn device n) = is_device device && is_count n
 is_script_what (CloseAfter device n) = is_device device && is_count n
 is_script_what (Refuse n status) = is_count n && nat_lt 0 status && nat_lt status 256
@@ -249,23 +248,6 @@ are_script_lines ls = list_all is_script_line ls
 abbrev pub script_lines_ascend : List ScriptLine → Bool
 script_lines_ascend ls = lines_ascend (λ l. l.line) 0 ls
 
--- ---- the cuts among the lines
-
-abbrev pub cut_in : ScriptWhat → Option Cut
-cut_in (CutLine device n k) = Some (record { device = device; n = n; k = k })
-cut_in _ = None
-
--- the cut that a line says
-abbrev pub cut_of : ScriptLine → Option Cut
-cut_of l = cut_in l.what
-
--- the cuts that lines say, in order
-abbrev pub cuts_of : List ScriptLine → List Cut
-cuts_of ls = filter_map cut_of ls
-
-abbrev pub is_cut : ScriptLine → Bool
-is_cut l = is_some (cut_of l)
-
 -- ---- the devices that lines name
 
 -- the device that a line names
@@ -273,7 +255,7 @@ abbrev pub device_named : ScriptWhat → Option IndAddr
 device_named (LoseTo device n) = Some device
 device_named (LoseFrom device n) = Some device
 device_named (RepeatTo device n) = Some device
-device_named (CutLine device n k) = Some device
+device_named (Cut device n k) = Some device
 device_named (Worn device n) = Some device
 device_named (CloseAfter device n) = Some device
 device_named (Off device) = Some device
@@ -306,7 +288,7 @@ pub data SpellsLine : List (List ℕ) → ScriptWhat → Type 0 where
   SpellsRepeatUp : (number : List ℕ) (n : ℕ) → count_value number ≡ Some n → SpellsLine (codes "repeat" ∷ codes "up" ∷ number ∷ []) (RepeatUp n)
   SpellsRepeatDown : (number : List ℕ) (n : ℕ) → count_value number ≡ Some n → SpellsLine (codes "repeat" ∷ codes "down" ∷ number ∷ []) (RepeatDown n)
   SpellsRepeatTo : (address number : List ℕ) (d : IndAddr) (n : ℕ) → ind_value address ≡ Some d → count_value number ≡ Some n → SpellsLine (codes "repeat" ∷ codes "to" ∷ address ∷ number ∷ []) (RepeatTo d n)
-  SpellsCut : (address number kept : List ℕ) (d : IndAddr) (n k : ℕ) → ind_value address ≡ Some d → count_value number ≡ Some n → number_value kept ≡ Some k → SpellsLine (codes "cut" ∷ address ∷ number ∷ kept ∷ []) (CutLine d n k)
+  SpellsCut : (address number kept : List ℕ) (d : IndAddr) (n k : ℕ) → ind_value address ≡ Some d → count_value number ≡ Some n → number_value kept ≡ Some k → SpellsLine (codes "cut" ∷ address ∷ number ∷ kept ∷ []) (Cut d n k)
   SpellsWorn : (address number : List ℕ) (d : IndAddr) (n : ℕ) → ind_value address ≡ Some d → count_value number ≡ Some n → SpellsLine (codes "worn" ∷ address ∷ number ∷ []) (Worn d n)
   SpellsClose : (address number : List ℕ) (d : IndAddr) (n : ℕ) → ind_value address ≡ Some d → count_value number ≡ Some n → SpellsLine (codes "close" ∷ address ∷ number ∷ []) (CloseAfter d n)
   SpellsRefuse : (number digits : List ℕ) (n status : ℕ) → count_value number ≡ Some n → status_value digits ≡ Some status → SpellsLine (codes "refuse" ∷ number ∷ digits ∷ []) (Refuse n status)

@@ -1,7 +1,6 @@
-//! What a run told of its jobs, and what it left.
+//! The words of a run: its jobs, why an attempt ended, and what a device is in the end.
 
 use crate::address::IndAddr;
-use crate::lists::List;
 
 /// Why an attempt ended before its plan's end.
 #[derive(Clone, Copy, Drop)]
@@ -14,32 +13,6 @@ pub enum Sign {
     NoCon,
     /// The tunnel's channel was lost.
     TunnelLost,
-}
-
-/// What is told; jobs are numbered from 1.
-#[derive(Clone, Copy, Drop)]
-pub enum LogWhat {
-    /// A worker took the job.
-    Took(u32),
-    /// The job ended, and the project's configuration runs.
-    Done(u32),
-    /// The job ended after three attempts, each with its sign.
-    Failed(u32, [Sign; 3]),
-}
-
-/// An entry of the log: after how many events, by which worker, what.
-#[derive(Clone, Copy, Drop)]
-pub struct LogEntry {
-    pub at: u64,
-    pub worker: u8,
-    pub what: LogWhat,
-}
-
-/// What a run tells.
-#[derive(Drop)]
-pub struct Report {
-    pub log: List<LogEntry>,
-    pub missed: u64,
 }
 
 /// What a job does to its device.
@@ -67,11 +40,4 @@ pub enum Case {
     Old,
     /// The device doesn't run.
     Stopped,
-}
-
-/// A device of the simulated line at the end of a run.
-#[derive(Clone, Copy, Drop)]
-pub struct DeviceCase {
-    pub device: IndAddr,
-    pub case: Case,
 }

@@ -3,15 +3,6 @@
 use crate::address::{GroupAddr, IndAddr};
 use crate::frames::Value;
 
-/// `cut D N K`: power goes in the device's N-th write and returns before the next event; the first K octets of the written
-/// range are new, and from 1 octet on load state and segment length too.
-#[derive(Clone, Copy, Debug, Drop, PartialEq, Eq)]
-pub struct Cut {
-    pub device: IndAddr,
-    pub n: u32,
-    pub k: u32,
-}
-
 /// What is asked of a group by a telegram: its value, or to take one that was written or answered.
 #[derive(Debug, Drop, PartialEq, Eq)]
 pub enum GroupService {

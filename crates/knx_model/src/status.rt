@@ -3,6 +3,8 @@
 ghost use Rattle.std.specs.Prelude.{◌≡◌};
 ghost use Rattle.knx_model.specs.Refusal.{status_number};
 
+use crate::no_memory::NoMemory;
+
 /// The status of a call, each with the number that is the program's exit status.
 #[derive(Clone, Copy, Debug, Drop, PartialEq, Eq)]
 pub enum Status {
@@ -23,7 +25,7 @@ pub enum Status {
     /// 7: the output couldn't be written.
     Write,
     /// 8: there was no memory.
-    NoMemory,
+    NoMemory(NoMemory),
     /// 9: a link failed.
     Link,
     /// 10: the gateway refused three connects in turn.
@@ -50,7 +52,7 @@ impl Status {
             Status::Script => 5,
             Status::Read => 6,
             Status::Write => 7,
-            Status::NoMemory => 8,
+            Status::NoMemory(_) => 8,
             Status::Link => 9,
             Status::GatewayRefused => 10,
             Status::Flooded => 11,

@@ -1,9 +1,10 @@
 -- The simulated line begins as it is stated.
-use Rattle.std.proofs.Common.{ℕ, ◌≡◌, ◌≢◌, Bool, true, false, List, [], ◌∷◌, map, filter, Option, Some, None, Result, Ok, Err, refl, sym, ap, ◌∙◌, subst, inl, inr, ◌⊎◌}
-use Rattle.std.specs.Prelude.{◌&&◌, ◌||◌, ◌==◌, IfSome, if◌then◌else◌}
-use Rattle.std.specs.List.{AllByRecursion, AllZip, list_any}
+use Rattle.std.proofs.Common.{ℕ, ◌≡◌, ◌≢◌, Bool, true, false, List, [], ◌∷◌, filter, Option, Some, None, Err, refl, sym, ap, ◌∙◌, subst, inl, inr}
+use Rattle.std.specs.Prelude.{◌&&◌, ◌||◌, ◌==◌}
+use Rattle.std.specs.List.{AllByRecursion, list_any}
 use Rattle.std.proofs.lemmas.Bool.Decides.{nat_tests}
 use Rattle.std.proofs.Common.{arith}
+use Rattle.bus_sim.specs.declared.clients.Clients.TheVariants.{One}
 use Rattle.bus_sim.specs.Begun.{CanBegin, CanLoad, addresses, begins, device_begun, loaded_or_blank}
 use Rattle.bus_sim.specs.Loaded.{IsRefusedFor, IsWant}
 use Rattle.bus_sim.specs.RunNow.{RunNow}
@@ -24,9 +25,8 @@ use Rattle.knx_model.specs.ScriptText.{first_stranger}
 use Rattle.line_model.specs.Lines.{Script, script_of}
 use Rattle.line_model.specs.StartOf.{BeginsAs, DeviceBegins, line_of, tunnel_address, is_on_bus}
 use Rattle.knx_top.specs.Begun.{BeginsLine, IsOldInRange}
-use Rattle.knx_top.specs.Judged.{unless_failed, unless_strange}
+use Rattle.knx_top.specs.Judged.{unless_strange}
 use Rattle.knx_top.specs.OnLine.{AreCompiled, IsCompiled, IsImageWhere, addresses_of_line, on_bus}
-use Rattle.knx_top.specs.Stops.{stranger_named}
 use Rattle.knx_top.proofs.OnBus.{any_on_bus}
 
 -- ---- one device
@@ -99,7 +99,7 @@ old_in_range new old devices are device on has = listed_in_range old devices (on
 -- ---- the line
 
 abbrev begun : IndAddr → List (IndAddr × Option Image) → List ScriptLine → RunNow
-begun tunnel devices lines = record { begun = record { tunnel = tunnel; devices = devices; script = lines }; events = [] }
+begun tunnel devices lines = record { begun = record { clients = One; tunnel = tunnel; devices = devices; script = lines }; events = [] }
 
 pub begins_line : (new old : Installation) (lines : List ScriptLine) (tunnel : IndAddr) (devices : List (IndAddr × Option Image)) (r : RunNow) → r ≡ begun tunnel devices lines → tunnel ≡ tunnel_address new → AreCompiled old devices (on_bus new old)
     → first_stranger (addresses devices) lines ≡ None → BeginsLine new old lines r
@@ -110,6 +110,7 @@ begins_line new old lines tunnel devices r e at are known = subst (BeginsLine ne
     devices = λ device. subst (λ (b : Bool). DeviceBegins old (script_of lines) device b (device_begun (script_of lines) devices device)) (any_on_bus new old device) (begun_at old (script_of lines) devices (on_bus new old) device are);
   };
   says = refl;
+  one = refl;
   nothing = refl;
   known = subst (λ (listed : List IndAddr). first_stranger listed lines ≡ None) (addresses_are old devices (on_bus new old) are) known;
   in_range = old_in_range new old devices are;

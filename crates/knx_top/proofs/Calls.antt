@@ -12,8 +12,8 @@ use Rattle.bus_sim.specs.RunNow.{RunNow}
 use Rattle.knx_model.specs.Meaning.{Installation}
 use Rattle.knx_model.specs.Outside.{FileContent}
 use Rattle.line_model.specs.declared.log.Report.{Report}
-use Rattle.knx_top.specs.Command.{Command, Check, Tables, Sim, Decode, ProjectWords, SimWords, asked}
-use Rattle.knx_top.specs.Call.{Does, TellsText, TellsOf, TellsOfProject, TellsOfFrame, Left, HasNoRun, RunsScript, HasRunOf, NoRun, HasRun, IsCountsText, IsTablesText, AtMostOneRose, Replies, Writes, octets_or_usage, outcome_status}
+use Rattle.knx_top.specs.Command.{Command, Check, Tables, Sim, Decode, Download, DownloadWords, ProjectWords, SimWords, asked}
+use Rattle.knx_top.specs.Call.{Does, TellsText, TellsOf, TellsOfProject, TellsOfFrame, Left, RunsScript, HasRunOf, NoRun, Elsewhere, HasRun, IsCountsText, IsTablesText, AtMostOneRose, Replies, Writes, octets_or_usage, outcome_status}
 use Rattle.knx_top.specs.Ended.{IsTextOf, wanting}
 use Rattle.knx_top.specs.Input.{ProjectIsRead, SimIsRead, OnlyRose, failed_of_project, failed_of_sim, first_some}
 use Rattle.knx_top.specs.Judged.{judged, judged_project}
@@ -59,7 +59,7 @@ report_wants (BreaksOff report) = refl
 report_wants (Reports report jobs devices log) = refl
 
 -- what is written where memory is wanting for a text is the text of the outcome that wants it
-pub replied_wanting : (outcome : Outcome) (faults faults' : ℕ) (taken taken' : Option (List ℕ)) (told : Status) → Writes (stop_text (stop.NoMemory tt)) status.NoMemory faults faults' taken taken' told → Replies faults faults' taken taken' told (wanting outcome)
+pub replied_wanting : (outcome : Outcome) (faults faults' : ℕ) (taken taken' : Option (List ℕ)) (told : Status) → Writes (stop_text (stop.NoMemory tt)) (status.NoMemory tt) faults faults' taken taken' told → Replies faults faults' taken taken' told (wanting outcome)
 replied_wanting (Stops why) faults faults' taken taken' told h = h
 replied_wanting (Tells text) faults faults' taken taken' told h = h
 replied_wanting (BreaksOff report) faults faults' taken taken' told h = h
@@ -132,12 +132,21 @@ decode_of command file faults faults' before after Replied word does e = (subst 
 pub sim_of : (command : Option Command) (file : List ℕ → FileContent) (faults faults' : List ℕ → ℕ) (before : BusNow) (after : Left) (Replied : Outcome → Type 0) (words : SimWords) → Does command file faults faults' before after Replied → command ≡ Some (Sim words) → RunsScript words file faults faults' before after Replied
 sim_of command file faults faults' before after Replied words does e = subst (λ (o : Option Command). Does o file faults faults' before after Replied) e does
 
-pub line_of : (command : Option Command) (file : List ℕ → FileContent) (faults faults' : List ℕ → ℕ) (before : BusNow) (after : Left) (Replied : Outcome → Type 0) → Does command file faults faults' before after Replied → ((words : SimWords) → command ≢ Some (Sim words)) → HasNoRun before after
-line_of None file faults faults' before after Replied does other = does.2
-line_of (Some (Check words)) file faults faults' before after Replied does other = does.1
-line_of (Some (Tables words)) file faults faults' before after Replied does other = does.1
+pub line_of : (command : Option Command) (file : List ℕ → FileContent) (faults faults' : List ℕ → ℕ) (before : BusNow) (after : Left) (Replied : Outcome → Type 0) → Does command file faults faults' before after Replied → ((words : SimWords) → command ≢ Some (Sim words)) → after.line ≡ before
+line_of None file faults faults' before after Replied does other = does.2.line
+line_of (Some (Check words)) file faults faults' before after Replied does other = does.1.line
+line_of (Some (Tables words)) file faults faults' before after Replied does other = does.1.line
 line_of (Some (Sim words)) file faults faults' before after Replied does other = absurd (other words refl)
-line_of (Some (Decode word)) file faults faults' before after Replied does other = does.2
+line_of (Some (Decode word)) file faults faults' before after Replied does other = does.2.line
+line_of (Some (Download words)) file faults faults' before after Replied does other = does.0
+
+pub no_run_of : (command : Option Command) (file : List ℕ → FileContent) (faults faults' : List ℕ → ℕ) (before : BusNow) (after : Left) (Replied : Outcome → Type 0) → Does command file faults faults' before after Replied → ((words : SimWords) → command ≢ Some (Sim words)) → ((words : DownloadWords) → command ≢ Some (Download words)) → after.report ≡ None
+no_run_of None file faults faults' before after Replied does sim download = does.2.report
+no_run_of (Some (Check words)) file faults faults' before after Replied does sim download = does.1.report
+no_run_of (Some (Tables words)) file faults faults' before after Replied does sim download = does.1.report
+no_run_of (Some (Sim words)) file faults faults' before after Replied does sim download = absurd (sim words refl)
+no_run_of (Some (Decode word)) file faults faults' before after Replied does sim download = does.2.report
+no_run_of (Some (Download words)) file faults faults' before after Replied does sim download = absurd (download words refl)
 
 pub faults_in : (command : Option Command) (file : List ℕ → FileContent) (faults faults' : List ℕ → ℕ) (before : BusNow) (after : Left) (Replied : Outcome → Type 0) → Does command file faults faults' before after Replied → AtMostOneRose faults faults'
 faults_in None file faults faults' before after Replied does = (None, does.1)
@@ -145,6 +154,7 @@ faults_in (Some (Check words)) file faults faults' before after Replied does = (
 faults_in (Some (Tables words)) file faults faults' before after Replied does = (failed_of_project words does.0.texts, does.0.counts)
 faults_in (Some (Sim words)) file faults faults' before after Replied does = (failed_of_sim words does.texts, does.counts)
 faults_in (Some (Decode word)) file faults faults' before after Replied does = (None, does.1)
+faults_in (Some (Download words)) file faults faults' before after Replied does = does.1
 
 -- ---- what is so of each run
 
@@ -176,6 +186,7 @@ ran_in P get (Some (Check names)) words file faults faults' before after Replied
 ran_in P get (Some (Tables names)) words file faults faults' before after Replied e does = NoRun does.1
 ran_in P get (Some (Sim names)) words file faults faults' before after Replied e does = tested P get _ words names file faults faults' before after Replied does refl e
 ran_in P get (Some (Decode word)) words file faults faults' before after Replied e does = NoRun does.2
+ran_in P get (Some (Download names)) words file faults faults' before after Replied e does = Elsewhere names e does.0
 
 -- what is so of each run that a commission describes is so of the call's
 pub ran_of : (P : Commission → RunNow → Report → Type 0) → ((c : Commission) (r : RunNow) (report : Report) (jobs : List JobWord) → Ran c r report jobs → P c r report)

@@ -85,7 +85,7 @@ second_wants words catalogue project on e =
 
 -- ---- what is told
 
-memory_told : (outcome : Outcome) → StopsFor (stop.NoMemory tt) outcome → outcome_status outcome ≡ status.NoMemory
+memory_told : (outcome : Outcome) → StopsFor (stop.NoMemory tt) outcome → outcome_status outcome ≡ status.NoMemory tt
 memory_told (Stops told) (inl e) = ap stop_status e
 memory_told (Stops told) (inr e) = ap stop_status e
 memory_told (Tells text) h = absurd h

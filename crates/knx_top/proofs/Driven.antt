@@ -1,10 +1,15 @@
 -- A run that one caller of the hub drives over the simulated line: what is promised of it, in the words of its commission.
-use Rattle.std.proofs.Common.{◌≡◌, List, [], ◌∷◌, ◌++◌, map, Some, None, refl, sym, ap, ◌∙◌, subst}
+use Rattle.std.proofs.Common.{◌≡◌, List, [], ◌∷◌, ◌++◌, map, None, refl, sym, ap, ◌∙◌, subst}
 use Rattle.bus_sim.specs.Loaded.{BusNow}
-use Rattle.bus_sim.specs.RunNow.{RunNow, script, start, story}
+use Rattle.bus_sim.specs.declared.clients.Clients.{Clients}
+use Rattle.bus_sim.specs.declared.clients.Clients.TheVariants.{One, Any}
+use Rattle.bus_sim.specs.Begun.{mode_of}
+use Rattle.bus_sim.specs.RunNow.{RunNow, mode, script, start, story, story_of}
 use Rattle.hub_core.specs.Promises.{IsRightOver, FaultRightIn, DropsIn}
 use Rattle.hub_core.specs.Seen.{AreJobs}
+use Rattle.hub_core.specs.Thorough.{IsThoroughOver}
 use Rattle.hub_driver.specs.Heard.{HeardAll}
+use Rattle.hub_driver.specs.Leaving.{LeavesOver}
 use Rattle.hub_work.specs.declared.job.HubJob.{HubJob}
 use Rattle.hub_work.specs.Books.{AreJobsOf}
 use Rattle.hub_work.specs.Downloaders.{Task, task_of_hub_job}
@@ -24,7 +29,7 @@ use Rattle.line_model.specs.World.{World, Event}
 use Rattle.tunnel_link.specs.Goes.{GoesOn}
 use Rattle.knx_top.specs.Begun.{IsOrder}
 use Rattle.knx_top.specs.Jobs.{seen_job}
-use Rattle.knx_top.specs.Ran.{IsRunOf, IsTold, KeepsPromises, Ran, log_in}
+use Rattle.knx_top.specs.Ran.{IsRunOf, KeepsPromises, Ran, log_in}
 use Rattle.knx_top.specs.Stops.{Commission}
 use Rattle.knx_top.specs.declared.judge.Order.{Order}
 use Rattle.knx_top.proofs.Meanings.{devices_mean, done_means}
@@ -42,11 +47,37 @@ devices_seen (job ∷ plans) = ap (λ (devices : List IndAddr). job.device ∷ d
 
 -- ---- the line is new, and its start stays
 
-pub new_line : (line : BusNow) → line.run.events ≡ [] → IsFresh (start line.run) → IsNewLink (story line.run)
-new_line line nothing fresh = (nothing, fresh)
+-- whosever the run is
+new_story : (clients : Clients) (start : World) (events : List Event) → events ≡ [] → IsFresh start → IsNewLink (story_of clients start events)
+new_story One start events nothing fresh = (nothing, fresh)
+new_story Any start events nothing fresh = tt
 
-pub same_start : (before after : RunNow) → GoesOn (story before) (story after) → start after ≡ start before
-same_start before after goes = one_start (start after) (start before) after.events (goes.0 ++ before.events) goes.1
+pub new_line : (line : BusNow) → line.run.events ≡ [] → IsFresh (start line.run) → IsNewLink (story line.run)
+new_line line nothing fresh = new_story line.run.begun.clients (start line.run) line.run.events nothing fresh
+
+-- the run of one client tells its events, and goes on as that
+one_story : (r : RunNow) → r.begun.clients ≡ One → story r ≡ Full (start r) r.events
+one_story r one = ap (λ c. story_of c (start r) r.events) one
+
+is_one : (clients : Clients) (one other : World) (events more : List Event) → story_of clients one events ≡ Full other more → clients ≡ One
+is_one One one other events more e = refl
+is_one Any one other events more e = cc
+
+goes_full : (before after : RunNow) → before.begun.clients ≡ One → GoesOn (story before) (story after) → GoesOn (Full (start before) before.events) (story after)
+goes_full before after one goes = subst (λ s. GoesOn s (story after)) (one_story before one) goes
+
+pub still_one : (before after : RunNow) → before.begun.clients ≡ One → GoesOn (story before) (story after) → after.begun.clients ≡ One
+still_one before after one goes =
+    let h : GoesOn (Full (start before) before.events) (story after) = goes_full before after one goes in
+    is_one after.begun.clients (start after) (start before) after.events (h.0 ++ before.events) h.1
+
+pub told_whole : (before after : RunNow) → before.begun.clients ≡ One → GoesOn (story before) (story after) → story after ≡ Full (start after) after.events
+told_whole before after one goes = one_story after (still_one before after one goes)
+
+pub same_start : (before after : RunNow) → before.begun.clients ≡ One → GoesOn (story before) (story after) → start after ≡ start before
+same_start before after one goes =
+    let h : GoesOn (Full (start before) before.events) (story after) = goes_full before after one goes in
+    one_start (start after) (start before) after.events (h.0 ++ before.events) (sym (told_whole before after one goes) ∙ h.1)
   where
     one_start : (one other : World) (events more : List Event) → Full one events ≡ Full other more → one ≡ other
     one_start one other events more e = cc
@@ -74,9 +105,11 @@ keeps_promises c order r log is run right =
 
 -- ---- all of it
 
-pub driven : (c : Commission) (order : Order) (line : BusNow) (report : Report) → IsOrder c order → GoesOn (story order.line.run) (story line.run) → script line.run ≡ script order.line.run
-    → IsFresh (start line.run) → IsLegal Commissions (start line.run) line.run.events → Follows (script line.run) Commissions (start line.run) line.run.events
+pub driven : (c : Commission) (order : Order) (line : BusNow) (report : Report) → IsOrder c order → order.line.run.begun.clients ≡ One → GoesOn (story order.line.run) (story line.run) → script line.run ≡ script order.line.run
+    → IsFresh (start line.run) → IsLegal (mode line.run) (start line.run) line.run.events → Follows (script line.run) (mode line.run) (start line.run) line.run.events
     → Keeps (map seen_job order.plans) [] (story line.run) (log_in report)
+    → IsThoroughOver (map seen_job order.plans) (story line.run) (log_in report)
+    → LeavesOver (map seen_job order.plans) [] (story line.run) (log_in report)
     → IsRightOver (map seen_job order.plans) (story line.run) (log_in report)
     → FaultRightIn (map seen_job order.plans) (log_in report) report.fault (record_in (story line.run))
     → (report.fault ≡ None → AllOver (map seen_job order.plans) (log_in report))
@@ -84,13 +117,28 @@ pub driven : (c : Commission) (order : Order) (line : BusNow) (report : Report) 
     → report.missed ≡ 0
     → DropsIn report.dropped (record_in (story line.run))
     → Ran c line.run report order.jobs
-driven c order line report is goes says fresh legal follows keeps right fault over heard missed dropped =
-    let run : IsRunOf c line.run = is_run c order line.run is (same_start order.line.run line.run goes) says fresh legal follows in
+driven c order line report is one goes says fresh legal follows keeps thorough leaves right fault over heard missed dropped =
+    let jobs : List Job = map seen_job order.plans in
+    let whole : story line.run ≡ Full (start line.run) line.run.events = told_whole order.line.run line.run one goes in
+    let in_run : mode line.run ≡ Commissions = ap mode_of (still_one order.line.run line.run one goes) in
+    let now_right : IsRight jobs (start line.run) line.run.events (log_in report) = subst (λ s. IsRightOver jobs s (log_in report)) whole right in
+    let kept : Keeps jobs [] (Full (start line.run) line.run.events) (log_in report) = subst (λ s. Keeps jobs [] s (log_in report)) whole keeps in
+    let run : IsRunOf c line.run = is_run c order line.run is (same_start order.line.run line.run one goes) says fresh
+    (subst (λ m. IsLegal m (start line.run) line.run.events) in_run legal) (subst (λ m. Follows (script line.run) m (start line.run) line.run.events) in_run follows) in
     record {
       run = run;
       words_are = is.prepared.jobs;
-      jobs = map seen_job order.plans;
+      jobs = jobs;
       planned = is.prepared.plans;
-      promises = keeps_promises c order line.run (log_in report) is run right;
-      told = record { disciplined = keeps.disciplined; fault = fault; ended = over; heard = heard; missed = missed; dropped = dropped };
+      promises = keeps_promises c order line.run (log_in report) is run now_right;
+      told = record {
+        disciplined = kept.disciplined;
+        thorough = subst (λ s. IsThoroughOver jobs s (log_in report)) whole thorough;
+        leaves = subst (λ s. LeavesOver jobs [] s (log_in report)) whole leaves;
+        fault = subst (λ s. FaultRightIn jobs (log_in report) report.fault (record_in s)) whole fault;
+        ended = over;
+        heard = λ none. subst (λ s. HeardAll report.heard (record_in s)) whole (heard none);
+        missed = missed;
+        dropped = subst (λ s. DropsIn report.dropped (record_in s)) whole dropped;
+      };
     }

@@ -1,5 +1,5 @@
 -- The last tests of `sim`, and what a run is begun with.
-use Rattle.std.proofs.Common.{◌≡◌, ◌≢◌, Bool, true, false, List, map, None, Result, Ok, Err, refl, ap, ◌∙◌, subst, sym}
+use Rattle.std.proofs.Common.{◌≡◌, ◌≢◌, true, false, List, Err, refl, ap, ◌∙◌, subst, sym}
 use Rattle.std.specs.List.{list_all, list_any}
 use Rattle.bus_sim.specs.Loaded.{BusNow}
 use Rattle.knx_model.specs.declared.command.InputFile.TheVariants as file

@@ -1,10 +1,10 @@
 -- Each sentence of the headline, of a run as a commission describes it.
-use Rattle.std.proofs.Common.{List, refl}
+use Rattle.std.proofs.Common.{List}
 use Rattle.bus_sim.specs.RunNow.{RunNow}
 use Rattle.knx_model.specs.declared.log.JobWord.{JobWord}
 use Rattle.line_model.specs.declared.log.Report.{Report}
 use Rattle.line_model.specs.Log.{Job}
-use Rattle.knx_top.specs.Headline.{OfItsJobs, BeganRightly, HasOldStoppedOrNew, HasTelegramsRight, RunsWhereDone, ActsOnce, IsToldRightly, HasFaultRight, EndsEveryJob}
+use Rattle.knx_top.specs.Headline.{OfItsJobs, BeganRightly, HasOldStoppedOrNew, HasTelegramsRight, RunsWhereDone, ActsOnce, IsToldRightly, EndsThoroughly, LeavesItsChannel, HasFaultRight, EndsEveryJob}
 use Rattle.knx_top.specs.Ran.{Ran}
 use Rattle.knx_top.specs.Stops.{Commission}
 
@@ -28,6 +28,12 @@ acts_once c r report words ran = ran.promises.once
 
 pub told_rightly : (c : Commission) (r : RunNow) (report : Report) (words : List JobWord) → Ran c r report words → IsToldRightly c r report
 told_rightly c r report words ran = of_its_jobs c r report words _ ran ran.told.disciplined
+
+pub ends_thoroughly : (c : Commission) (r : RunNow) (report : Report) (words : List JobWord) → Ran c r report words → EndsThoroughly c r report
+ends_thoroughly c r report words ran = of_its_jobs c r report words _ ran ran.told.thorough
+
+pub leaves_its_channel : (c : Commission) (r : RunNow) (report : Report) (words : List JobWord) → Ran c r report words → LeavesItsChannel c r report
+leaves_its_channel c r report words ran = of_its_jobs c r report words _ ran ran.told.leaves
 
 pub fault_right : (c : Commission) (r : RunNow) (report : Report) (words : List JobWord) → Ran c r report words → HasFaultRight c r report
 fault_right c r report words ran = of_its_jobs c r report words _ ran ran.told.fault

@@ -2,6 +2,7 @@
 use Rattle.std.proofs.Common.{◌≡◌, List, [], ◌∷◌, Option, Some, None, All, refl, sym, ap, ◌∙◌, subst}
 use Rattle.std.specs.Prelude.{Bool, IsSome}
 use Rattle.std.proofs.lemmas.List.Elements.{All-weaker}
+use Rattle.bus_sim.specs.declared.clients.Clients.TheVariants.{One}
 use Rattle.bus_sim.specs.Loaded.{BusNow}
 use Rattle.bus_sim.specs.RunNow.{RunNow, start, story, world}
 use Rattle.hub_core.specs.Promises.{IsRightOver}
@@ -12,6 +13,7 @@ use Rattle.knx_model.specs.DeviceState.{DeviceState}
 use Rattle.knx_model.specs.Meaning.{Installation}
 use Rattle.line_model.specs.declared.log.LogEntry.{LogEntry}
 use Rattle.line_model.specs.declared.log.Report.{Report}
+use Rattle.line_model.specs.Headline.{IsRight}
 use Rattle.line_model.specs.Log.{Job}
 use Rattle.line_model.specs.OldStoppedOrNew.{Both, IsCase as IsCaseAt, Meant, OldStoppedOr, OldStoppedOrNew, RunsJob}
 use Rattle.line_model.specs.Printed.{DeviceShown}
@@ -21,9 +23,9 @@ use Rattle.tunnel_link.specs.Goes.{GoesOn}
 use Rattle.knx_top.specs.Ended.{ShowsRun}
 use Rattle.knx_top.specs.OnLine.{AreCompiled, IsCompiled, IsImageWhere, on_bus}
 use Rattle.knx_top.specs.Ran.{FaultsOfLine, Outcome, Stops, Tells, BreaksOff, Reports, Ran, Runs, report_in}
-use Rattle.knx_top.specs.Shown.{AreShown, AreShownOf, IsCase, IsShown, IsShownIn}
+use Rattle.knx_top.specs.Shown.{AreShown, AreShownOf, IsShown, IsShownIn}
 use Rattle.knx_top.specs.Stops.{Commission}
-use Rattle.knx_top.proofs.Driven.{same_start}
+use Rattle.knx_top.proofs.Driven.{same_start, told_whole}
 use Rattle.knx_top.proofs.Meanings.{now_case}
 
 -- ---- the devices of the line stay on it
@@ -40,12 +42,13 @@ all_still IsNew jobs start events log devices o there =
     (λ d some. there_still (OldStoppedOr (IsNew d.0.raw)) (start.devices d.0.raw) ((replay start events).devices d.0.raw) (now_case (IsCaseAt IsNew start) events o.case d.0.raw) some)
     devices there
 
-pub still_there : (jobs : List Job) (before after : RunNow) (log : List LogEntry) (devices : List (IndAddr × Option Image)) → before.events ≡ [] → GoesOn (story before) (story after) → IsRightOver jobs (story after) log
+pub still_there : (jobs : List Job) (before after : RunNow) (log : List LogEntry) (devices : List (IndAddr × Option Image)) → before.begun.clients ≡ One → before.events ≡ [] → GoesOn (story before) (story after) → IsRightOver jobs (story after) log
     → All (λ (d : IndAddr × Option Image). IsSome ((world before).devices d.0.raw)) devices → All (λ (d : IndAddr × Option Image). IsSome ((world after).devices d.0.raw)) devices
-still_there jobs before after log devices nothing goes right there =
+still_there jobs before after log devices one nothing goes right there =
     let begun : world before ≡ start before = ap (λ (events : List Event). replay (start before) events) nothing in
-    let same : world before ≡ start after = begun ∙ sym (same_start before after goes) in
-    all_still (RunsJob jobs) jobs (start after) after.events log devices right.devices (subst (λ (w : World). All (λ (d : IndAddr × Option Image). IsSome (w.devices d.0.raw)) devices) same there)
+    let same : world before ≡ start after = begun ∙ sym (same_start before after one goes) in
+    let now_right : IsRight jobs (start after) after.events log = subst (λ s. IsRightOver jobs s log) (told_whole before after one goes) right in
+    all_still (RunsJob jobs) jobs (start after) after.events log devices now_right.devices (subst (λ (w : World). All (λ (d : IndAddr × Option Image). IsSome (w.devices d.0.raw)) devices) same there)
 
 -- ---- by what the project says of each
 

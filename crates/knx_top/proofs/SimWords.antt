@@ -1,5 +1,5 @@
 -- What the words behind a script ask for, over the words as texts.
-use Rattle.std.proofs.Common.{ℕ, ◌≡◌, ◌+◌, Bool, true, false, cond, List, [], ◌∷◌, map, fold, Option, Some, refl, sym}
+use Rattle.std.proofs.Common.{ℕ, ◌≡◌, ◌+◌, Bool, true, cond, List, [], ◌∷◌, map, fold, Option, Some, refl, sym}
 use Rattle.std.specs.Prelude.{count_by}
 use Rattle.std.specs.List.{filter_map, list_all, list_any}
 use Rattle.knx_top.specs.Command.{SimOptions, are_options, catalogue_said, first_of_some, is_log, job_said, sim_options, sim_word}

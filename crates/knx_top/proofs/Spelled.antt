@@ -4,7 +4,10 @@ use Rattle.std.specs.Prelude.{bytes_eq, if◌then◌else◌}
 use Rattle.std.specs.Option.{option_map}
 use Rattle.std.proofs.lemmas.List.{take-append-drop}
 use Rattle.std.proofs.lemmas.Slice.Eq.{bytes_eq-Decides}
-use Rattle.knx_top.specs.Command.{Command, Check, Tables, Sim, Decode, ProjectWords, SimOptions, SimWords, SpellsOption, NoOption, CatalogueOption, SpellsCommand, SpellsCheck, SpellsTables, SpellsSim, SpellsDecode, options, project_words, sim_options, sim_words, decode_word, asked}
+use Rattle.knx_top.specs.Command.{Command, Check, Tables, Sim, Decode, ProjectWords, SimOptions, SimWords, SpellsOption, NoOption, CatalogueOption, SpellsCommand, SpellsCheck, SpellsTables, SpellsSim, SpellsDecode, SpellsDownload, Download, DownloadWords, options, project_words, sim_options, sim_words, decode_word, download_words, asked}
+use Rattle.knx_model.specs.Addresses.{◌>>=◌}
+use Rattle.line_model.specs.Dialled.{Address}
+use Rattle.knx_top.specs.Host.{address_value}
 use Rattle.knx_top.proofs.SpelledOptions.{options_to, sim_options_from}
 
 -- ---- from the words that spell it
@@ -18,6 +21,7 @@ asked_from words command (SpellsCheck project others catalogue o) = rw (options_
 asked_from words command (SpellsTables project others catalogue o) = rw (options_from others catalogue o) refl
 asked_from words command (SpellsSim new old script others options o) = rw (sim_options_from others options o) refl
 asked_from words command (SpellsDecode word) = refl
+asked_from words command (SpellsDownload address new others at options is o) = rw (is, sim_options_from others options o) refl
 
 -- ---- from the command that is asked
 
@@ -78,22 +82,38 @@ decode_words [] command e = absurd cc
 decode_words (word ∷ []) command e = subst (λ (c : Command). SpellsCommand (codes "decode" ∷ word ∷ []) c) (some_command (Decode word) command e) (SpellsDecode word)
 decode_words (word ∷ more ∷ others) command e = absurd cc
 
+abbrev with_options : Address → List ℕ → Option SimOptions → Option DownloadWords
+with_options at new o = option_map (λ (options : SimOptions). let w : DownloadWords = record { at = at; new = new; options = options } in w) o
+
+download_to : (at : Option Address) (o : Option SimOptions) (address new : List ℕ) (others : List (List ℕ)) (command : Command) → address_value address ≡ at → sim_options others ≡ o
+    → option_map Download (at >>= λ to. with_options to new o) ≡ Some command → SpellsCommand (codes "download" ∷ address ∷ new ∷ others) command
+download_to None o address new others command is_at is e = absurd cc
+download_to (Some at) None address new others command is_at is e = absurd cc
+download_to (Some at) (Some options) address new others command is_at is e =
+    subst (λ (c : Command). SpellsCommand (codes "download" ∷ address ∷ new ∷ others) c) (some_command (Download (record { at = at; new = new; options = options })) command e) (SpellsDownload address new others at options is_at (options_to others options is))
+
+download_of_words : (words : List (List ℕ)) (command : Command) → option_map Download (download_words words) ≡ Some command → SpellsCommand (codes "download" ∷ words) command
+download_of_words [] command e = absurd cc
+download_of_words (address ∷ []) command e = absurd cc
+download_of_words (address ∷ new ∷ others) command e = download_to (address_value address) (sim_options others) address new others command refl refl e
+
 headed : (first text : List ℕ) (words : List (List ℕ)) (command : Command) → bytes_eq first text ≡ true → SpellsCommand (text ∷ words) command → SpellsCommand (first ∷ words) command
 headed first text words command is s = subst (λ (w : List ℕ). SpellsCommand (w ∷ words) command) (sym ((bytes_eq-Decides first text).0 is)) s
 
-asked_to : (a b c d : Bool) (first : List ℕ) (words : List (List ℕ)) (command : Command) → bytes_eq first (codes "check") ≡ a → bytes_eq first (codes "tables") ≡ b → bytes_eq first (codes "sim") ≡ c → bytes_eq first (codes "decode") ≡ d
-    → (if a then option_map Check (project_words words) else (if b then option_map Tables (project_words words) else (if c then option_map Sim (sim_words words) else (if d then option_map Decode (decode_word words) else None)))) ≡ Some command
+asked_to : (a b c d f : Bool) (first : List ℕ) (words : List (List ℕ)) (command : Command) → bytes_eq first (codes "check") ≡ a → bytes_eq first (codes "tables") ≡ b → bytes_eq first (codes "sim") ≡ c → bytes_eq first (codes "decode") ≡ d → bytes_eq first (codes "download") ≡ f
+    → (if a then option_map Check (project_words words) else (if b then option_map Tables (project_words words) else (if c then option_map Sim (sim_words words) else (if d then option_map Decode (decode_word words) else (if f then option_map Download (download_words words) else None))))) ≡ Some command
     → SpellsCommand (first ∷ words) command
-asked_to true b c d first words command is _ _ _ e = headed first (codes "check") words command is (check_words words command e)
-asked_to false true c d first words command _ is _ _ e = headed first (codes "tables") words command is (tables_words words command e)
-asked_to false false true d first words command _ _ is _ e = headed first (codes "sim") words command is (sim_of_words words command e)
-asked_to false false false true first words command _ _ _ is e = headed first (codes "decode") words command is (decode_words words command e)
-asked_to false false false false first words command _ _ _ _ e = absurd cc
+asked_to true b c d f first words command is _ _ _ _ e = headed first (codes "check") words command is (check_words words command e)
+asked_to false true c d f first words command _ is _ _ _ e = headed first (codes "tables") words command is (tables_words words command e)
+asked_to false false true d f first words command _ _ is _ _ e = headed first (codes "sim") words command is (sim_of_words words command e)
+asked_to false false false true f first words command _ _ _ is _ e = headed first (codes "decode") words command is (decode_words words command e)
+asked_to false false false false true first words command _ _ _ _ is e = headed first (codes "download") words command is (download_of_words words command e)
+asked_to false false false false false first words command _ _ _ _ _ e = absurd cc
 
 spelled_to : (words : List (List ℕ)) (command : Command) → asked words ≡ Some command → SpellsCommand words command
 spelled_to [] command e = absurd cc
 spelled_to (first ∷ words) command e =
-    asked_to (bytes_eq first (codes "check")) (bytes_eq first (codes "tables")) (bytes_eq first (codes "sim")) (bytes_eq first (codes "decode")) first words command refl refl refl refl e
+    asked_to (bytes_eq first (codes "check")) (bytes_eq first (codes "tables")) (bytes_eq first (codes "sim")) (bytes_eq first (codes "decode")) (bytes_eq first (codes "download")) first words command refl refl refl refl refl e
 
 pub commands : (words : List (List ℕ)) (command : Command) → (asked words ≡ Some command) ↔ SpellsCommand words command
 commands words command = (spelled_to words command, asked_from words command)

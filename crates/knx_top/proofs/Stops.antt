@@ -61,7 +61,7 @@ bind_tests [] rest x next v e = e
 bind_tests (None ∷ tests) rest x next v e = bind_tests tests rest x next v e
 bind_tests (Some why ∷ tests) rest x next v e = refl
 
-step : {A B : Type 0} (tests rest : List (Option Stop)) (r : Result A Stop) (x : A) (next : A → Result B Stop) (v : B) → r ≡ unless_stopped tests x → next x ≡ unless_stopped rest v → (r >>= next) ≡ unless_stopped (tests ++ rest) v
+pub step : {A B : Type 0} (tests rest : List (Option Stop)) (r : Result A Stop) (x : A) (next : A → Result B Stop) (v : B) → r ≡ unless_stopped tests x → next x ≡ unless_stopped rest v → (r >>= next) ≡ unless_stopped (tests ++ rest) v
 step tests rest r x next v is e = ap (λ (q : Result _ Stop). q >>= next) is ∙ bind_tests tests rest x next v e
 
 -- ---- each step
@@ -90,7 +90,7 @@ broken_step : {A : Type 0} (place : InputFile) (broken : Option Refused) (x : A)
 broken_step place None x = refl
 broken_step place (Some why) x = refl
 
-failed_step : {A : Type 0} (failed : Option Stop) (x : A) → unless_failed failed x ≡ unless_stopped (failed ∷ []) x
+pub failed_step : {A : Type 0} (failed : Option Stop) (x : A) → unless_failed failed x ≡ unless_stopped (failed ∷ []) x
 failed_step None x = refl
 failed_step (Some why) x = refl
 

@@ -1,5 +1,5 @@
 -- Each group telegram acts by the projects: what a device runs stands for what the old or the new project says of it.
-use Rattle.std.proofs.Common.{ℕ, ◌≡◌, ◌-◌, Bool, true, false, List, [], ◌∷◌, ◌++◌, length, take, Option, Some, None, refl, sym, ap, ◌∙◌, subst, inl, inr, ◌⊎◌}
+use Rattle.std.proofs.Common.{ℕ, ◌≡◌, Bool, true, false, List, [], ◌∷◌, ◌++◌, length, take, Option, Some, None, refl, sym, ap, ◌∙◌, subst, inl, inr, ◌⊎◌}
 use Rattle.std.proofs.Math.Seq.{take-append_seam}
 use Rattle.device_tables.proofs.Agreement.{acts_alike, same_lowest}
 use Rattle.knx_model.specs.declared.address.IndAddr.{IndAddr}

@@ -1,6 +1,7 @@
 -- What a run is begun with in the code, and the commission of the definitions that it stands for.
 use Rattle.std.specs.Prelude.{◌≡◌, ℕ, ◌<◌, ◌^◌, true, List, [], length, map, None, Result, Ok, Err}
 use Rattle.std.specs.List.{AllByRecursion}
+use Rattle.bus_sim.specs.declared.clients.Clients.TheVariants.{One}
 use Rattle.bus_sim.specs.RunNow.{RunNow, script, start}
 use Rattle.knx_model.specs.declared.command.Stop.{Stop}
 use Rattle.knx_model.specs.declared.log.JobWord.{JobWord}
@@ -21,10 +22,11 @@ use Rattle.knx_top.specs.declared.judge.Order.{Order}
 abbrev pub IsOldInRange : Installation → Installation → Type 0
 IsOldInRange new old = (device : ℕ) → is_on_bus new old device ≡ true → has_device old.statements device ≡ true → IsInRange (meaning old (record { raw = device }))
 
--- a line as a run of these projects and this script begins, to which nothing was done
+-- a line as a run of these projects and this script begins, of one client, to which nothing was done
 pub record BeginsLine (new old : Installation) (lines : List ScriptLine) (r : RunNow) : Type 0 where
   pub begins : BusOf new old (script_of lines) (start r)
   pub says : script r ≡ script_of lines
+  pub one : r.begun.clients ≡ One
   pub nothing : r.events ≡ []
   pub known : first_stranger (on_bus new old) lines ≡ None
   pub in_range : IsOldInRange new old

@@ -6,7 +6,9 @@ use Rattle.knx_model.specs.declared.address.IndAddr.{IndAddr}
 use Rattle.knx_model.specs.declared.log.JobKind.{JobKind}
 use Rattle.knx_model.specs.declared.log.JobKind.TheVariants as kind
 use Rattle.knx_model.specs.declared.log.JobWord.{JobWord}
-use Rattle.knx_model.specs.Addresses.{ind_value}
+use Rattle.knx_model.specs.Addresses.{◌>>=◌, ind_value}
+use Rattle.line_model.specs.Dialled.{Address}
+use Rattle.knx_top.specs.Host.{address_value}
 
 -- P [catalogue=F]
 pub record ProjectWords : Type 0 where
@@ -26,11 +28,18 @@ pub record SimWords : Type 0 where
   pub script : List ℕ
   pub options : SimOptions
 
+-- ADDR NEW, with options and jobs
+pub record DownloadWords : Type 0 where
+  pub at : Address
+  pub new : List ℕ
+  pub options : SimOptions
+
 pub data Command : Type 0 where
   Check : ProjectWords → Command
   Tables : ProjectWords → Command
   Sim : SimWords → Command
   Decode : List ℕ → Command
+  Download : DownloadWords → Command
 
 -- the words name at most 1,024 jobs
 abbrev pub most_jobs : ℕ
@@ -41,6 +50,7 @@ HasFewJobs options = length options.jobs ≤ most_jobs
 
 abbrev pub NamesFewJobs : Command → Type 0
 NamesFewJobs (Sim words) = HasFewJobs words.options
+NamesFewJobs (Download words) = HasFewJobs words.options
 NamesFewJobs _ = Unit {0}
 
 -- ---- the words that spell a command
@@ -50,7 +60,7 @@ pub data SpellsOption : List (List ℕ) → Option (List ℕ) → Type 0 where
   NoOption : SpellsOption [] None
   CatalogueOption : (name : List ℕ) → SpellsOption ((codes "catalogue=" ++ name) ∷ []) (Some name)
 
--- one of the words behind a script
+-- one of the words behind a script, or behind the new project of a download
 pub data SimWord : Type 0 where
   CatalogueWord : List ℕ → SimWord
   LogWord : SimWord
@@ -95,7 +105,7 @@ pub record SpellsOptions (words : List (List ℕ)) (options : SimOptions) : Type
   pub jobs : filter_map job_in named ≡ options.jobs
   pub few : HasFewJobs options
 
--- `check P`, `tables P`, each with its option behind, `sim NEW OLD SCRIPT` with options and jobs, and `decode HEX`
+-- `check P`, `tables P`, each with its option behind, `sim NEW OLD SCRIPT` with options and jobs, `decode HEX`, and `download ADDR NEW` with options and jobs
 pub data SpellsCommand : List (List ℕ) → Command → Type 0 where
   SpellsCheck : (project : List ℕ) (others : List (List ℕ)) (catalogue : Option (List ℕ)) → SpellsOption others catalogue
       → SpellsCommand (codes "check" ∷ project ∷ others) (Check (record { project = project; catalogue = catalogue }))
@@ -104,6 +114,8 @@ pub data SpellsCommand : List (List ℕ) → Command → Type 0 where
   SpellsSim : (new old script : List ℕ) (others : List (List ℕ)) (options : SimOptions) → SpellsOptions others options
       → SpellsCommand (codes "sim" ∷ new ∷ old ∷ script ∷ others) (Sim (record { new = new; old = old; script = script; options = options }))
   SpellsDecode : (word : List ℕ) → SpellsCommand (codes "decode" ∷ word ∷ []) (Decode word)
+  SpellsDownload : (address new : List ℕ) (others : List (List ℕ)) (at : Address) (options : SimOptions) → address_value address ≡ Some at → SpellsOptions others options
+      → SpellsCommand (codes "download" ∷ address ∷ new ∷ others) (Download (record { at = at; new = new; options = options }))
 
 -- ---- the command that words spell, and none for other words
 
@@ -191,6 +203,10 @@ abbrev pub decode_word : List (List ℕ) → Option (List ℕ)
 decode_word (word ∷ []) = Some word
 decode_word _ = None
 
+abbrev pub download_words : List (List ℕ) → Option DownloadWords
+download_words (address ∷ new ∷ others) = address_value address >>= λ at. option_map (λ (options : SimOptions). let w : DownloadWords = record { at = at; new = new; options = options } in w) (sim_options others)
+download_words _ = None
+
 -- the command of the words; other words are no command
 abbrev pub asked : List (List ℕ) → Option Command
 asked [] = None
@@ -199,4 +215,5 @@ asked (command ∷ words) =
     else (if bytes_eq command (codes "tables") then option_map Tables (project_words words)
     else (if bytes_eq command (codes "sim") then option_map Sim (sim_words words)
     else (if bytes_eq command (codes "decode") then option_map Decode (decode_word words)
-    else None)))
+    else (if bytes_eq command (codes "download") then option_map Download (download_words words)
+    else None))))

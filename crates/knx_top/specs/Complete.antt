@@ -36,4 +36,4 @@ pub record NoneRose (faults faults' : List ℕ → ℕ) (sink sink' : ℕ) : Typ
 
 -- a whole text of the kind was written and the status is 0, or there was no memory
 abbrev pub IsToldWhole : (List ℕ → Type 0) → Option (List ℕ) → Option (List ℕ) → Status → Type 0
-IsToldWhole IsText taken taken' ending = (ending ≡ status.NoMemory) ⊎ ((ending ≡ status.Done) × ((text : List ℕ) × (IsText text × Wrote text taken taken')))
+IsToldWhole IsText taken taken' ending = (ending ≡ status.NoMemory tt) ⊎ ((ending ≡ status.Done) × ((text : List ℕ) × (IsText text × Wrote text taken taken')))

@@ -6,10 +6,12 @@ use Rattle.line_model.specs.declared.log.Report.{Report}
 use Rattle.line_model.specs.ActedOnce.{ActedOnce}
 use Rattle.line_model.specs.Faults.{FaultRight}
 use Rattle.line_model.specs.Headline.{IsDisciplined}
+use Rattle.line_model.specs.Leaves.{LeavesRightly}
 use Rattle.line_model.specs.Log.{Job, AllOver}
 use Rattle.line_model.specs.OldStoppedOrNew.{OldStoppedOrNew, RunsMeaning, MeansWhereDone}
 use Rattle.line_model.specs.Record.{placed, record_of}
 use Rattle.line_model.specs.Telegrams.{TelegramsActRight, ActsByProject}
+use Rattle.hub_core.specs.Thorough.{IsThorough}
 use Rattle.knx_top.specs.Jobs.{AreJobs, ArePlanned}
 use Rattle.knx_top.specs.Ran.{IsRunOf, log_in}
 use Rattle.knx_top.specs.Stops.{Commission}
@@ -45,6 +47,15 @@ ActsOnce c r report = ActedOnce (start r) r.events
 -- no device has two downloaders at once, all that the log tells is told truly, and all that is sent is right, by the record alone
 abbrev pub IsToldRightly : Commission → RunNow → Report → Type 0
 IsToldRightly c r report = OfItsJobs c (λ jobs. IsDisciplined jobs [] (length r.events) (placed (start r) r.events) (log_in report))
+
+-- an end is told only where no attempt of its job runs, no attempt begins once the last one has decided the job, and each loss of the channel is
+-- followed by what is due to the gateway then, and by nothing more
+abbrev pub EndsThoroughly : Commission → RunNow → Report → Type 0
+EndsThoroughly c r report = OfItsJobs c (λ jobs. IsThorough jobs (placed (start r) r.events) (log_in report))
+
+-- the open channel isn't asked to end before all jobs are over, and then once, after the listening
+abbrev pub LeavesItsChannel : Commission → RunNow → Report → Type 0
+LeavesItsChannel c r report = OfItsJobs c (λ jobs. LeavesRightly jobs [] (log_in report) (placed (start r) r.events))
 
 -- a fault comes exactly at its cause
 abbrev pub HasFaultRight : Commission → RunNow → Report → Type 0

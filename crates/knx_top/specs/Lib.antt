@@ -1,3 +1,4 @@
+pub mod Host
 pub mod Command
 pub mod Input
 pub mod OnLine
@@ -12,3 +13,5 @@ pub mod Names
 pub mod Begun
 pub mod Ended
 pub mod Complete
+pub mod Dialled
+pub mod Ready

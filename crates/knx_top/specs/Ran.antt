@@ -17,6 +17,7 @@ use Rattle.line_model.specs.Faults.{FaultRight}
 use Rattle.line_model.specs.Follows.{Follows}
 use Rattle.line_model.specs.Fresh.{IsFresh}
 use Rattle.line_model.specs.Headline.{IsDisciplined}
+use Rattle.line_model.specs.Leaves.{LeavesRightly}
 use Rattle.line_model.specs.Legal.{IsLegal}
 use Rattle.line_model.specs.Lines.{script_of}
 use Rattle.line_model.specs.Log.{Job, AllOver}
@@ -27,6 +28,7 @@ use Rattle.line_model.specs.StartOf.{BusOf}
 use Rattle.line_model.specs.Telegrams.{TelegramsActRight, ActsByProject}
 use Rattle.line_model.specs.Tunnel.{Commissions}
 use Rattle.tunnel_link.specs.Rights.{FailsWhere}
+use Rattle.hub_core.specs.Thorough.{IsThorough}
 use Rattle.knx_top.specs.Jobs.{AreJobs, ArePlanned}
 use Rattle.knx_top.specs.OnLine.{on_bus}
 use Rattle.knx_top.specs.Shown.{AreShown}
@@ -56,6 +58,8 @@ pub record KeepsPromises (c : Commission) (jobs : List Job) (r : RunNow) (log : 
 
 pub record IsTold (jobs : List Job) (r : RunNow) (report : Report) : Type 0 where
   pub disciplined : IsDisciplined jobs [] (length r.events) (placed (start r) r.events) (log_in report)
+  pub thorough : IsThorough jobs (placed (start r) r.events) (log_in report)
+  pub leaves : LeavesRightly jobs [] (log_in report) (placed (start r) r.events)
   pub fault : FaultRight jobs (log_in report) (record_of (start r) r.events) report.fault
   pub ended : report.fault ≡ None → AllOver jobs (log_in report)
   pub heard : report.fault ≡ None → report.heard ≡ reverse (indications (record_of (start r) r.events))

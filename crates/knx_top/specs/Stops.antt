@@ -1,5 +1,5 @@
 -- Where a call stops: a list of tests, in the order in which they are made. The first that fails is told.
-use Rattle.std.specs.Prelude.{Bool, true, false, not, List, [], ◌∷◌, Option, Some, None, Result, Ok, Err, if◌then◌else◌}
+use Rattle.std.specs.Prelude.{Bool, true, false, not, List, [], ◌∷◌, Option, Some, None, Result, Ok, Err}
 use Rattle.std.specs.List.{list_all, list_any}
 use Rattle.std.specs.Option.{option_map}
 use Rattle.catalogue.specs.Catalogue.{catalogue_of}

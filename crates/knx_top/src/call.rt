@@ -3,30 +3,26 @@
 ghost use Rattle.std.specs.Prelude.{◌≡◌, ◌≢◌, ℕ, List, None, Some, map, string_bytes, IfOk};
 ghost use Rattle.knx_model.specs.declared.command.Stop.TheVariants.{Usage};
 ghost use Rattle.knx_model.specs.Outside.{one_more};
-ghost use Rattle.knx_top.specs.Call.{AtMostOneRose, Does, HasNoRun, HasRunOf, IsCountsText, IsTablesText, Replies, RunsScript, TellsOfFrame, TellsOfProject, Writes};
-ghost use Rattle.knx_top.specs.Command.{HasFewJobs, NamesFewJobs, ProjectWords, SimWords, asked, Check as AskedCheck, Decode as AskedDecode, Sim as AskedSim, Tables as AskedTables};
+ghost use Rattle.knx_top.specs.Call.{AtMostOneRose, Does, HasRunOf, IsCountsText, IsTablesText, Replies, RunsScript, TellsOfFrame, TellsOfProject};
+ghost use Rattle.knx_top.specs.Command.{HasFewJobs, NamesFewJobs, ProjectWords, SimWords, asked, Check as AskedCheck, Decode as AskedDecode, Download as AskedDownload, DownloadWords, Sim as AskedSim, Tables as AskedTables};
+ghost use Rattle.knx_top.specs.Dialled.{RepliesEnd, RunsDialled};
 ghost use Rattle.knx_top.specs.Ended.{IsTextOf, RepliesOf, outcome_of, told_outcome};
-ghost use Rattle.knx_top.specs.Headline.{ActsOnce, BeganRightly, EndsEveryJob, HasFaultRight, HasOldStoppedOrNew, HasTelegramsRight, IsToldRightly, RunsWhereDone};
+ghost use Rattle.knx_top.specs.Headline.{ActsOnce, BeganRightly, EndsEveryJob, EndsThoroughly, HasFaultRight, HasOldStoppedOrNew, HasTelegramsRight, IsToldRightly, LeavesItsChannel, RunsWhereDone};
 ghost use Rattle.knx_top.specs.Names.{command_of, options_of, project_words_of, sim_words_of};
 ghost use Rattle.knx_top.specs.Ran.{FaultsOfLine, Outcome, Stops};
 
 use crate::command::{Command, ProjectNames, SimNames, asked};
 use crate::commission::{Reported, SimEnd, commission};
+use crate::dialled::tell_download;
 use crate::input::{read_project_texts, read_sim_texts};
+use crate::tell::{Text, tell};
 use crate::told::{check_told, decode_told, tables_told};
 use bus_sim::SimBus;
 use knx_model::{Files, NoMemory, Octets, Sink, Status, Stop};
-use line_model::Report;
+use line_model::{Dialer, Report};
 use report_text::{NO_MEMORY, USAGE, line_report_of, line_status, stop_status, stop_text};
 use std::alloc::Global;
 use std::sync::Wait;
-
-/// A text to write, and the status that goes with it.
-#[derive(Drop)]
-struct Text {
-    status: Status,
-    octets: Octets,
-}
 
 /// What is printed where a call stops.
 fn text_of_stop(alloc: Global, stop: &Stop) -> Result<Text, NoMemory>
@@ -79,17 +75,6 @@ fn text_of_sim(alloc: Global, end: &SimEnd) -> Result<Text, NoMemory>
     }
 }
 
-/// Writes a text, and answers its status unless the write fails.
-fn tell<K: Sink>(out: &mut K, text: &[u8], status: Status) -> Status
-    ensures told { Writes text.now status (K.faults out.old) (K.faults out.new) (K.taken out.old) (K.taken out.new) result }
-    ensures written { K.writes out.new ≡ one_more (K.writes out.old) }
-{
-    match out.write(text) {
-        Ok(()) => status,
-        Err(_) => Status::Write,
-    }
-}
-
 /// Writes what is printed, or that there was no memory for it.
 fn tell_text<K: Sink>(out: &mut K, text: Result<Text, NoMemory>) -> Status
     ensures told { (outcome : Outcome) → IfOk text (λ p. IsTextOf outcome p.octets p.status) → RepliesOf (K.faults out.old) (K.faults out.new) (K.taken out.old) (K.taken out.new) result outcome }
@@ -97,7 +82,7 @@ fn tell_text<K: Sink>(out: &mut K, text: Result<Text, NoMemory>) -> Status
 {
     match text {
         Ok(text) => tell(out, text.octets.as_slice(), text.status),
-        Err(_) => tell(out, NO_MEMORY, Status::NoMemory),
+        Err(want) => tell(out, NO_MEMORY, Status::NoMemory(want)),
     }
 }
 
@@ -166,19 +151,22 @@ fn tell_sim<R: Wait, F: Files, K: Sink>(
 }
 
 /// A command of words, where no run was begun yet.
-fn run<R: Wait, F: Files, K: Sink>(
+fn run<R: Wait, F: Files, K: Sink, D: Dialer>(
     rt: &R,
     alloc: Global,
     command: Command<'_>,
     files: &mut F,
     out: &mut K,
     sim: &mut SimBus,
+    dial: &mut D,
     last: &mut Option<Report>,
 ) -> Status
     requires none { last.old ≡ None }
     requires few { NamesFewJobs (command_of command) }
     ensures does { Does (Some (command_of command.entry)) (F.file files.old) (F.faults files.old) (F.faults files.new) sim.old (record { line = sim.new; report = last.new }) (Replies (K.faults out.old) (K.faults out.new) (K.taken out.old) (K.taken out.new) result) }
-    ensures link { FaultsOfLine last.new sim.new }
+    ensures link { (names : SimWords) → command_of command.entry ≡ AskedSim names → FaultsOfLine last.new sim.new }
+    ensures download { (names : DownloadWords) → command_of command.entry ≡ AskedDownload names → RunsDialled names (F.file files.old) (F.faults files.old) (F.faults files.new) (record { faults = D.faults dial.old; given = D.given dial.old; link_back = D.link_back dial.old; port_back = D.port_back dial.old }) (record { faults = D.faults dial.new; given = D.given dial.new; link_back = D.link_back dial.new; port_back = D.port_back dial.new }) last.new (RepliesEnd (K.faults out.old) (K.faults out.new) (K.taken out.old) (K.taken out.new) result) }
+    ensures undialled { ((names : DownloadWords) → command_of command.entry ≢ AskedDownload names) → dial.new ≡ dial.old }
     ensures stays { (other : List ℕ) → F.file files.new other ≡ F.file files.old other }
     ensures written { K.writes out.new ≡ one_more (K.writes out.old) }
 {
@@ -187,40 +175,45 @@ fn run<R: Wait, F: Files, K: Sink>(
         Command::Tables(names) => tell_tables(alloc, names, files, out),
         Command::Sim(names) => tell_sim(rt, alloc, names, files, out, sim, last),
         Command::Decode(word) => tell_decode(alloc, word, out),
+        Command::Download(names) => tell_download(rt, alloc, names, files, out, dial, last),
     }
 }
 
 /// What the words ask for is done, where no run was begun yet.
-fn answer<R: Wait, F: Files, K: Sink>(
+fn answer<R: Wait, F: Files, K: Sink, D: Dialer>(
     rt: &R,
     alloc: Global,
     words: &[String],
     files: &mut F,
     out: &mut K,
     sim: &mut SimBus,
+    dial: &mut D,
     last: &mut Option<Report>,
 ) -> Status
     requires { last.old ≡ None }
     ensures does { Does (asked (map string_bytes words.now)) (F.file files.old) (F.faults files.old) (F.faults files.new) sim.old (record { line = sim.new; report = last.new }) (Replies (K.faults out.old) (K.faults out.new) (K.taken out.old) (K.taken out.new) result) }
-    ensures link { FaultsOfLine last.new sim.new }
+    ensures link { (names : SimWords) → asked (map string_bytes words.now) ≡ Some (AskedSim names) → FaultsOfLine last.new sim.new }
+    ensures download { (names : DownloadWords) → asked (map string_bytes words.now) ≡ Some (AskedDownload names) → RunsDialled names (F.file files.old) (F.faults files.old) (F.faults files.new) (record { faults = D.faults dial.old; given = D.given dial.old; link_back = D.link_back dial.old; port_back = D.port_back dial.old }) (record { faults = D.faults dial.new; given = D.given dial.new; link_back = D.link_back dial.new; port_back = D.port_back dial.new }) last.new (RepliesEnd (K.faults out.old) (K.faults out.new) (K.taken out.old) (K.taken out.new) result) }
+    ensures undialled { ((names : DownloadWords) → asked (map string_bytes words.now) ≢ Some (AskedDownload names)) → dial.new ≡ dial.old }
     ensures stays { (other : List ℕ) → F.file files.new other ≡ F.file files.old other }
     ensures written { K.writes out.new ≡ one_more (K.writes out.old) }
 {
     match asked(words) {
-        Some(command) => run(rt, alloc, command, files, out, sim, last),
+        Some(command) => run(rt, alloc, command, files, out, sim, dial, last),
         None => tell(out, USAGE, Status::Usage),
     }
 }
 
 /// All that the program does: it reads the words, reads the files, begins and ends the run, and writes the text. The status is
-/// the program's exit status. `last` becomes the report of the run, and None where no run began.
-pub fn knx<R: Wait, F: Files, K: Sink>(
+/// the program's exit status. `last` becomes the report of the run, and None where no run began. A link that it dialled is handed back to the dialer.
+pub fn knx<R: Wait, F: Files, K: Sink, D: Dialer>(
     rt: &R,
     alloc: Global,
     words: &[String],
     files: &mut F,
     out: &mut K,
     sim: &mut SimBus,
+    dial: &mut D,
     last: &mut Option<Report>,
 ) -> Status
     // other words than a command's are told so
@@ -230,6 +223,7 @@ pub fn knx<R: Wait, F: Files, K: Sink>(
     ensures tables { (names : ProjectWords) → asked (map string_bytes words.now) ≡ Some (AskedTables names) → TellsOfProject IsTablesText names (F.file files.old) (F.faults files.old) (F.faults files.new) (Replies (K.faults out.old) (K.faults out.new) (K.taken out.old) (K.taken out.new) result) }
     ensures decode { (word : List ℕ) → asked (map string_bytes words.now) ≡ Some (AskedDecode word) → TellsOfFrame word (Replies (K.faults out.old) (K.faults out.new) (K.taken out.old) (K.taken out.new) result) }
     ensures sim { (names : SimWords) → asked (map string_bytes words.now) ≡ Some (AskedSim names) → RunsScript names (F.file files.old) (F.faults files.old) (F.faults files.new) sim.old (record { line = sim.new; report = last.new }) (Replies (K.faults out.old) (K.faults out.new) (K.taken out.old) (K.taken out.new) result) }
+    ensures download { (names : DownloadWords) → asked (map string_bytes words.now) ≡ Some (AskedDownload names) → RunsDialled names (F.file files.old) (F.faults files.old) (F.faults files.new) (record { faults = D.faults dial.old; given = D.given dial.old; link_back = D.link_back dial.old; port_back = D.port_back dial.old }) (record { faults = D.faults dial.new; given = D.given dial.new; link_back = D.link_back dial.new; port_back = D.port_back dial.new }) last.new (RepliesEnd (K.faults out.old) (K.faults out.new) (K.taken out.old) (K.taken out.new) result) }
     // a run begins as it is stated, and what happens on the line is legal and follows the script
     ensures begins { HasRunOf BeganRightly (map string_bytes words.now) (F.file files.old) sim.old (record { line = sim.new; report = last.new }) }
     // whatever is lost, repeated or cut, at every moment of a run each device keeps its starting content, or is stopped, or runs what the project says
@@ -242,18 +236,24 @@ pub fn knx<R: Wait, F: Files, K: Sink>(
     ensures once { HasRunOf ActsOnce (map string_bytes words.now) (F.file files.old) sim.old (record { line = sim.new; report = last.new }) }
     // no device has two downloaders at once, the log tells nothing that the record doesn't show, and all that is sent is right
     ensures told { HasRunOf IsToldRightly (map string_bytes words.now) (F.file files.old) sim.old (record { line = sim.new; report = last.new }) }
+    // an end is told at rest, no attempt begins once its job is decided, and the gateway is told of each loss that it doesn't know of, once
+    ensures thorough { HasRunOf EndsThoroughly (map string_bytes words.now) (F.file files.old) sim.old (record { line = sim.new; report = last.new }) }
+    // it asks the gateway to end the open channel only when all jobs are over: then once, after the listening
+    ensures leaves { HasRunOf LeavesItsChannel (map string_bytes words.now) (F.file files.old) sim.old (record { line = sim.new; report = last.new }) }
     // a run ends without its end exactly at a cause, and else every job has its end
     ensures fault { HasRunOf HasFaultRight (map string_bytes words.now) (F.file files.old) sim.old (record { line = sim.new; report = last.new }) }
     ensures over { HasRunOf EndsEveryJob (map string_bytes words.now) (F.file files.old) sim.old (record { line = sim.new; report = last.new }) }
-    // that the link failed is told only where a call of the simulated line failed
-    ensures link { FaultsOfLine last.new sim.new }
-    // only `sim` begins a run
-    ensures line { ((names : SimWords) → asked (map string_bytes words.now) ≢ Some (AskedSim names)) → HasNoRun sim.old (record { line = sim.new; report = last.new }) }
+    // that the link failed is told of `sim` only where a call of the simulated line failed
+    ensures link { (names : SimWords) → asked (map string_bytes words.now) ≡ Some (AskedSim names) → FaultsOfLine last.new sim.new }
+    // only `sim` runs over the simulated line, and only `download` dials; other words begin no run
+    ensures line { ((names : SimWords) → asked (map string_bytes words.now) ≢ Some (AskedSim names)) → sim.new ≡ sim.old }
+    ensures undialled { ((names : DownloadWords) → asked (map string_bytes words.now) ≢ Some (AskedDownload names)) → dial.new ≡ dial.old }
+    ensures no_run { ((names : SimWords) → asked (map string_bytes words.now) ≢ Some (AskedSim names)) → ((names : DownloadWords) → asked (map string_bytes words.now) ≢ Some (AskedDownload names)) → last.new ≡ None }
     // what the files tell stays, the count of one file rose at most, and there is just one write
     ensures files { (name : List ℕ) → F.file files.new name ≡ F.file files.old name }
     ensures faults { AtMostOneRose (F.faults files.old) (F.faults files.new) }
     ensures written { K.writes out.new ≡ one_more (K.writes out.old) }
 {
     *last = None;
-    answer(rt, alloc, words, files, out, sim, last)
+    answer(rt, alloc, words, files, out, sim, dial, last)
 }

@@ -2,9 +2,11 @@
 
 ghost use Rattle.std.specs.Prelude.{◌≡◌, ◌↔◌, ℕ, IfSome, List, Some, map, string_bytes};
 ghost use Rattle.std.specs.Option.{option_map};
-ghost use Rattle.knx_top.specs.Command.{Command as Commanded, HasFewJobs, NamesFewJobs, SpellsCommand, asked, catalogue_name, decode_word, options, project_words, sim_words};
-ghost use Rattle.knx_top.specs.Names.{command_of, named, options_of, project_words_of, sim_words_of, the_word};
+ghost use Rattle.knx_top.specs.Command.{Command as Commanded, HasFewJobs, NamesFewJobs, SpellsCommand, asked, catalogue_name, decode_word, download_words, options, project_words, sim_words};
+ghost use Rattle.knx_top.specs.Dialled.{project_named};
+ghost use Rattle.knx_top.specs.Names.{command_of, download_words_of, named, options_of, project_words_of, sim_words_of, the_word};
 
+use crate::host::{GatewayAddress, address_in};
 use crate::options::{SimOptions, behind, sim_options};
 
 /// The names in `P [catalogue=F]`.
@@ -23,6 +25,26 @@ pub struct SimNames<'a> {
     pub options: SimOptions<'a>,
 }
 
+/// The gateway and the name in `ADDR NEW`, with options and jobs.
+#[derive(Clone, Copy)]
+pub struct DownloadNames<'a> {
+    pub at: GatewayAddress,
+    pub new: &'a str,
+    pub options: SimOptions<'a>,
+}
+
+impl<'a> DownloadNames<'a> {
+    /// The names of the files.
+    pub fn project(self) -> ProjectNames<'a>
+        ensures { project_words_of result ≡ project_named (download_words_of self.entry) }
+    {
+        ProjectNames {
+            project: self.new,
+            catalogue: self.options.catalogue,
+        }
+    }
+}
+
 /// A command with its words.
 #[derive(Clone, Copy)]
 pub enum Command<'a> {
@@ -34,6 +56,8 @@ pub enum Command<'a> {
     Sim(SimNames<'a>),
     /// `decode HEX`
     Decode(&'a str),
+    /// `download ADDR NEW [catalogue=F] [log]`, and jobs
+    Download(DownloadNames<'a>),
 }
 
 /// The name in `catalogue=F`.
@@ -92,6 +116,22 @@ fn decode_word(words: &[String]) -> Option<&str>
     }
 }
 
+fn download_names(words: &[String]) -> Option<DownloadNames<'_>>
+    ensures is { option_map download_words_of result ≡ download_words (map string_bytes words.now) }
+    ensures few { IfSome result (λ names. HasFewJobs (options_of names.options)) }
+{
+    let [address, new, others @ ..] = words else {
+        return None;
+    };
+    let at = address_in(address.as_str())?;
+    let options = sim_options(others)?;
+    Some(DownloadNames {
+        at,
+        new: new.as_str(),
+        options,
+    })
+}
+
 /// The command of the words; none for words that are no command.
 pub fn asked(words: &[String]) -> Option<Command<'_>>
     ensures is { option_map command_of result ≡ asked (map string_bytes words.now) }
@@ -105,6 +145,7 @@ pub fn asked(words: &[String]) -> Option<Command<'_>>
         "tables" => Some(Command::Tables(project_names(others)?)),
         "sim" => Some(Command::Sim(sim_names(others)?)),
         "decode" => Some(Command::Decode(decode_word(others)?)),
+        "download" => Some(Command::Download(download_names(others)?)),
         _ => None,
     }
 }

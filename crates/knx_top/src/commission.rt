@@ -2,6 +2,7 @@
 
 ghost use Rattle.std.specs.Prelude.{◌≡◌, ◌<◌, [], All, IsSome, Option, length, map};
 ghost use Rattle.std.specs.List.{AllByRecursion};
+ghost use Rattle.bus_sim.specs.declared.clients.Clients.TheVariants.{One};
 ghost use Rattle.bus_sim.specs.RunNow.{world};
 ghost use Rattle.knx_model.specs.declared.address.IndAddr.{IndAddr as Address};
 ghost use Rattle.knx_model.specs.declared.config.Image.{Image as Compiled};
@@ -60,7 +61,7 @@ impl SimEnd {
 }
 
 /// Lets each job start at once.
-struct Open;
+pub struct Open;
 
 impl Gate for Open {
     fn pass(&self, _job: u32) {}
@@ -91,6 +92,7 @@ fn end_of_run(
 
 /// Goes through the jobs over the line, which is then the one that was run, whether the run ended or memory was wanting on the way.
 fn run<R: Wait>(rt: &R, alloc: Global, order: Order, log: bool, sim: &mut SimBus) -> SimEnd
+    requires one { order.line.run.begun.clients ≡ One }
     requires new { order.line.run.events ≡ [] }
     requires sound { order.line.faults ≡ 0 }
     requires few { length order.plans < 4294967296 }

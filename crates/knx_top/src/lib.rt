@@ -5,6 +5,8 @@ mod call;
 mod command;
 mod commission;
 mod complete;
+mod dialled;
+mod host;
 mod input;
 mod jobs;
 mod judge;
@@ -12,6 +14,7 @@ mod line;
 mod options;
 mod project;
 mod shown;
+mod tell;
 mod told;
 
 pub use bus_sim::SimBus;

@@ -1,5 +1,6 @@
 use crate::{SimBus, Status, knx};
-use knx_model::{MemoryFile, MemoryFiles, MemorySink, NoMemory};
+use knx_model::{List, MemoryFile, MemoryFiles, MemorySink, NoMemory, Octets};
+use line_fixed::{FixedDialer, FixedLink};
 use std::alloc::Global;
 use std::test::Fail;
 
@@ -74,6 +75,7 @@ fn faults_of_the_outside_are_told(rt: HostRuntime) -> Result<(), Fail> {
         let mut out = MemorySink::new(alloc);
         out.failing = Vec::from_slice(alloc, writes)?;
         let mut sim = SimBus::empty(alloc);
+        let mut dial = FixedDialer::new(None, None);
         let mut last = None;
         let told = knx(
             &rt,
@@ -82,10 +84,110 @@ fn faults_of_the_outside_are_told(rt: HostRuntime) -> Result<(), Fail> {
             &mut files,
             &mut out,
             &mut sim,
+            &mut dial,
             &mut last,
         );
         assert_eq!(rt; told, status, "{line}");
         assert_eq!(rt; out.taken.as_slice(), text.as_bytes(), "{line}");
+    }
+    Ok(())
+}
+
+/// A dialer whose link gives this datagram for ever and fails in its hundredth call; one without a link for no octets.
+fn dialer(alloc: Global, gives: &[u8]) -> Result<FixedDialer, NoMemory> {
+    if gives.is_empty() {
+        return Ok(FixedDialer::new(None, None));
+    }
+    let last = Octets::from_slice(alloc, gives)?;
+    let mut fails = List::new(alloc);
+    fails.push(100)?;
+    let link = FixedLink::new(alloc, List::new(alloc), Some(last), fails);
+    Ok(FixedDialer::new(Some(link), None))
+}
+
+/// What is told where the words are no command's.
+const USAGE: &str =
+    "usage: knx check, tables, sim, download, gateway, decode or big, with their words\n";
+
+#[test]
+fn a_dialled_link_is_handed_back(rt: HostRuntime) -> Result<(), Fail> {
+    let alloc = rt.alloc();
+    // a connect response that refuses with the status 24
+    let refused: &[u8] = &[0x06, 0x10, 0x02, 0x06, 0x00, 0x08, 0x00, 0x24];
+    // the words, the datagram that the link gives, whether there was a run, the status, and what is written
+    let rows: [(&str, &[u8], bool, Status, &str); 7] = [
+        (
+            "download 127.0.0.1 hall.txt",
+            &[],
+            false,
+            Status::Link,
+            "link fault\n",
+        ),
+        (
+            "download 127.0.0.1 hall.txt log",
+            &[0],
+            true,
+            Status::Link,
+            "job 1 load 1.1.5 open\nmissed 0\nlog 0 1 took 1\ndropped 97\nlink fault\n",
+        ),
+        (
+            "download 127.0.0.1:3671 hall.txt check:1.1.5 log",
+            refused,
+            true,
+            Status::GatewayRefused,
+            "job 1 check 1.1.5 open\nmissed 0\nlog 0 1 took 1\ndropped 0\ngateway refused 24 24 24\n",
+        ),
+        (
+            "download 127.0.0.1 hall.txt load:1.1.6",
+            refused,
+            false,
+            Status::Project,
+            "new line 0: 20 NoDevice\n",
+        ),
+        (
+            "download 127.0.0.1 none.txt catalogue=models.toml",
+            refused,
+            false,
+            Status::Read,
+            "read fault none.txt NotThere\n",
+        ),
+        (
+            "download 127.0.0.1 hall.txt workers=4",
+            refused,
+            false,
+            Status::Usage,
+            USAGE,
+        ),
+        (
+            "download 127.0.0.256 hall.txt",
+            refused,
+            false,
+            Status::Usage,
+            USAGE,
+        ),
+    ];
+    for (line, gives, ran, status, text) in rows {
+        let words = words(alloc, line).ok().ok_or("memory")?;
+        let mut files = files(alloc, &[]).ok().ok_or("memory")?;
+        let mut out = MemorySink::new(alloc);
+        let mut sim = SimBus::empty(alloc);
+        let mut dial = dialer(alloc, gives).ok().ok_or("memory")?;
+        let mut last = None;
+        let told = knx(
+            &rt,
+            alloc,
+            words.as_slice(),
+            &mut files,
+            &mut out,
+            &mut sim,
+            &mut dial,
+            &mut last,
+        );
+        assert_eq!(rt; told, status, "{line}");
+        assert_eq!(rt; out.taken.as_slice(), text.as_bytes(), "{line}");
+        assert_eq!(rt; dial.link_back().is_some(), ran, "{line}");
+        assert_eq!(rt; dial.faults(), u64::from(status == Status::Link), "{line}");
+        assert_eq!(rt; last.is_some(), ran, "{line}");
     }
     Ok(())
 }

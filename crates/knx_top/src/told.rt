@@ -29,13 +29,13 @@ fn tables_text(alloc: Global, checked: &Checked<'_, '_>) -> Result<Octets, NoMem
 
 /// A project that was read, with the models of its catalogue.
 #[derive(Drop)]
-struct ReadProject<'a> {
-    project: Project<'a>,
-    models: Catalogue,
+pub struct ReadProject<'a> {
+    pub project: Project<'a>,
+    pub models: Catalogue,
 }
 
-/// The catalogue and the project of `check` and `tables` are read.
-fn read_in<'a>(
+/// The catalogue and the project of `check`, `tables` and `download` are read.
+pub fn read_in<'a>(
     alloc: Global,
     names: ProjectNames<'_>,
     texts: &'a ProjectTexts,

@@ -14,7 +14,7 @@ use Rattle.line_model.specs.Reading.{datagram_in, ldata_in}
 use Rattle.line_model.specs.Record.{placed, entries}
 use Rattle.line_model.specs.Runs.{begin, connecting, connected, job, told_taken}
 use Rattle.line_model.proofs.Tests.{is_unequal}
-use Rattle.line_model.specs.Waiting.{attempts_of, attempt_deadline, NextIsSending, TurnWaits, HasWork, IsDeadline, OfChannel, OfJob, OfClosing, ToAsk, PollsSo}
+use Rattle.line_model.specs.Waiting.{attempts_of, attempt_deadline, NextIsSending, TurnWaits, HasWork, IsDeadline, OfChannel, OfJob, OfClosing, ToAsk, AsLongAsItMay, PollsSo}
 
 pub waits : (kept : NonVolatile) → TurnWaits (job ∷ []) [] told_taken (placed (begin kept) connecting) 5 0 1 0
 unfolding datagram_in ldata_in gateway_took frame_in device_took device_after device_answered after_answer apdu_in tpdu_in service_in after_entry deed after_confirmed client_sent after_send client_took client_after client_expired after_overdue
@@ -76,7 +76,7 @@ later kept deadline (OfClosing is) = absurd (let none : None ≡ Some deadline =
 pub polls : (kept : NonVolatile) → PollsSo (job ∷ []) [] told_taken (placed (begin kept) connecting) 5 0 None (λ k. 0) 100
 polls kept = record {
   looks = λ k w. absurd (idle kept k w);
-  waits = λ none. record { at_most = omega arith; no_longer = λ deadline is more. omega (arith, later kept deadline is); as_long = inl refl };
+  waits = λ none. record { at_most = omega arith; in_range = omega arith; no_longer = λ deadline is more. omega (arith, later kept deadline is); as_long = AsLongAsItMay refl };
 }
 
 -- ---- and goes on

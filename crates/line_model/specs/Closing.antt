@@ -57,7 +57,7 @@ abbrev pub is_listening : Closing → Bool
 is_listening (Listening since n) = true
 is_listening (Leaving since n) = false
 
--- no connect request on no new endpoint, and the open channel is asked to end once, after the listening
+-- no connect request is sent, no new endpoint is taken, and the open channel is asked to end once, after the listening
 pub record ClosesSo (ch : ClientChannel) (s : Closing) (x : Entry) : Type 0 where
   pub connects_not : is_connect_request (put_in x.what) ≡ false
   pub renews_not : is_renewal x.what ≡ false

@@ -1,5 +1,6 @@
--- How a world begins: no channel, nothing sent, no frame that waits for the bus or for the client, and no device with a connection, an unsent
--- frame or a frame got last. And when it is settled, so that nothing but time can go on.
+-- How a world begins: at time 0 with no channel, nothing sent, no frame that waits for the bus or for the client, and none that was on the bus
+-- last; each device has its address and memories of their lengths, and no connection, no unsent frame and none got last. And when it is settled,
+-- so that nothing but time can go on.
 use Rattle.std.specs.Prelude.{◌≡◌, ℕ, ◌+◌, ◌<◌, ◌≤◌, ◌⊎◌, true, [], Some, None, slice_get}
 use Rattle.knx_model.specs.Device.{HasCapacities}
 use Rattle.knx_model.specs.DeviceConnection.{Closed}

@@ -33,6 +33,8 @@ pub mod Attempts
 pub mod Asks
 pub mod Closing
 pub mod Waiting
+pub mod Ends
+pub mod Leaves
 -- 6. The outside: what a link, a port and a dialer tell
 pub mod LinkStory
 pub mod Polled

@@ -1,12 +1,11 @@
 -- What the lines of a script say of each place (this project's own): which datagram and which frame is lost or repeated, which write is cut or
 -- worn, which connect request is refused, when a connection or the channel closes, and which devices have no power or are standard ones. Where
 -- two lines name one place, losing goes before repeating and a cut before worn memory; of two equal ones the earlier line holds.
-use Rattle.std.specs.Prelude.{ℕ, Bool, false, ◌&&◌, ◌==◌, List, [], ◌∷◌, ◌++◌, map, if◌then◌else◌, Option, Some, None}
-use Rattle.std.specs.List.{list_any, filter_map}
+use Rattle.std.specs.Prelude.{ℕ, Bool, false, ◌&&◌, ◌==◌, List, [], ◌∷◌, map, if◌then◌else◌, Option, Some, None}
+use Rattle.std.specs.List.{list_any}
 use Rattle.knx_model.specs.declared.script.ScriptLine.{ScriptLine}
 use Rattle.knx_model.specs.declared.script.ScriptWhat.{ScriptWhat}
-use Rattle.knx_model.specs.declared.script.ScriptWhat.TheVariants.{LoseUp, LoseDown, RepeatUp, RepeatDown, LoseTo, LoseFrom, RepeatTo, Cut, Worn, CloseAfter, Refuse, DropChannel, Off, Standard, Group}
-use Rattle.line_model.specs.declared.group.GroupTurn.{GroupTurn}
+use Rattle.knx_model.specs.declared.script.ScriptWhat.TheVariants.{LoseUp, LoseDown, RepeatUp, RepeatDown, LoseTo, LoseFrom, RepeatTo, Cut, Worn, CloseAfter, Refuse, DropChannel, Off, Standard}
 
 -- ---- what one line says of a place
 
@@ -66,10 +65,6 @@ cut_at device n _ = None
 abbrev pub status_at : ℕ → ScriptWhat → Option ℕ
 status_at n (Refuse k status) = if k == n then Some status else None
 status_at n _ = None
-
-abbrev pub turn_in : ScriptWhat → Option GroupTurn
-turn_in (Group after group service) = Some (record { after = after; group = group; service = service })
-turn_in _ = None
 
 -- ---- what the script says
 
@@ -131,13 +126,3 @@ cuts script device n = first_said (cut_at device n) script
 
 abbrev pub refuses : Script → ℕ → Option ℕ
 refuses script n = first_said (status_at n) script
-
--- the group telegrams: first those that are sent while the jobs run, then those after them, in the order of the lines
-abbrev pub is_while : GroupTurn → Option GroupTurn
-is_while t = if t.after then None else Some t
-
-abbrev pub is_then : GroupTurn → Option GroupTurn
-is_then t = if t.after then Some t else None
-
-abbrev pub group_turns : Script → List GroupTurn
-group_turns script = filter_map is_while (filter_map turn_in script) ++ filter_map is_then (filter_map turn_in script)

@@ -72,17 +72,17 @@ RenewsOrNot before after = Renews before after ⊎ (after ≡ before)
 
 -- what may happen on its own: all but what the client does and gets. Where time passes it is some time, so that of the waits in one poll each
 -- ends later than the one before
-abbrev pub IsForeign : Event → Bool
-IsForeign (Send octets) = false
-IsForeign (From endpoint octets) = false
-IsForeign Renew = false
-IsForeign (Down age) = false
-IsForeign (Pass ms) = nat_lt 0 ms
-IsForeign _ = true
+abbrev pub is_foreign : Event → Bool
+is_foreign (Send octets) = false
+is_foreign (From endpoint octets) = false
+is_foreign Renew = false
+is_foreign (Down age) = false
+is_foreign (Pass ms) = nat_lt 0 ms
+is_foreign _ = true
 
 pub data GoesOn (start : World) (before : List Event) : List Event → Type 0 where
   Same : GoesOn start before before
-  More : {events : List Event} (e : Event) → IsForeign e ≡ true → MayHappen Commissions (replay start events) e → GoesOn start before events → GoesOn start before (e ∷ events)
+  More : {events : List Event} (e : Event) → is_foreign e ≡ true → MayHappen Commissions (replay start events) e → GoesOn start before events → GoesOn start before (e ∷ events)
 
 -- the last event brings the datagram, within the wait; or time passes, until the wait is over
 abbrev pub EndsSo : Item → ℕ → ℕ → ℕ → Event → Type 0

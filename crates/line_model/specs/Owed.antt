@@ -1,6 +1,6 @@
--- What the lines of a script call for directly after an event, and which comes before anything else but what the client itself sends: a second
--- delivery, power that returns, a connection or the channel that closes. What isn't possible any more isn't called for: a second delivery to an
--- endpoint that was left, or of a frame that the device hasn't as the last one that it got.
+-- What the lines of a script call for directly after an event: a second delivery, power that returns, a connection or the channel that closes. It
+-- comes before anything else but what the client itself does. What isn't possible any more isn't called for: a second delivery of a datagram to an
+-- endpoint that was left, or of a frame to a device that no longer keeps one as the last that it got.
 use Rattle.std.specs.Prelude.{ℕ, Bool, true, false, ◌&&◌, ◌==◌, nat_lt, is_some, List, [], ◌∷◌, ◌++◌, drop, if◌then◌else◌, Option, Some, None, slice_get}
 use Rattle.std.specs.List.{filter}
 use Rattle.knx_model.specs.declared.frames.cemi.Ldata.{Ldata}

@@ -1,5 +1,5 @@
--- What the answers of a link and of a port say of them: the datagram that was got is the first octets of the buffer, at most 512; a quiet wait
--- brings none. A call answers that the link failed only where its count of faults rose.
+-- What the answer of a poll says of its link: the datagram that was got is the first octets of the buffer, at most 512; a quiet wait brings none.
+-- And any call answers that the link failed only where the link's count of faults rose.
 use Rattle.std.specs.Prelude.{ℕ, ◌≤◌, List, take, Result, Ok, Err}
 use Rattle.knx_model.specs.Outside.{Rose}
 use Rattle.line_model.specs.declared.outside.link.LinkFault.{LinkFault}

@@ -93,9 +93,6 @@ abbrev pub is_late : ClientChannel → ℕ → Bool
 is_late (Open c l) now = is_repeat_due (own c l).sent now || is_beat_due c l now
 is_late _ now = false
 
-abbrev pub is_due : ClientChannel → ℕ → Bool
-is_due ch now = is_left ch || is_late ch now
-
 -- ---- promptly: at a poll nothing is due that was due already at the end of the poll before the last
 
 -- the record up to the last poll, and up to the poll before that

@@ -87,7 +87,8 @@ pub record IsStill (device n : ℕ) (m : Moment) : Type 0 where
   pub unput : put_to device m.what ≡ None
   pub ignored : is_ignored n (heard_from device m.what) ≡ true
 
--- The answer to a service is awaited, and from then on 6,000 ms passed in which nothing was put to the device and nothing of it taken
+-- The answer to a service is awaited at a moment, and since then 6,000 ms passed in which nothing was put to the device, and nothing of it was
+-- taken but what is ignored
 pub record Unanswered (device : ℕ) (l : List Moment) : Type 0 where
   pub quiet : List Moment
   pub last : Moment

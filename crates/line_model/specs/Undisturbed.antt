@@ -32,7 +32,7 @@ IsUndisturbed script = list_all is_undisturbing script ≡ true
 abbrev pub HasDevices : List Job → World → Type 0
 HasDevices jobs start = AllByRecursion (λ (job : Job). OfDevice (λ d. d.power ≡ true) (start.devices job.device.raw)) jobs
 
--- ---- nothing is under way
+-- ---- nothing is under way, and no wait has ended a channel or the search for one
 
 -- every request is acknowledged and confirmed, one of a group telegram too, and every heartbeat is answered
 pub record LacksNoAnswer (c : ℕ) (l : List Entry) : Type 0 where
@@ -44,9 +44,9 @@ abbrev pub AwaitsNothing : ClientChannel → Type 0
 AwaitsNothing Fresh = Unit {0}
 AwaitsNothing (Sought since) = ⊥
 AwaitsNothing (RefusedBy status) = Unit {0}
-AwaitsNothing Unanswered = Unit {0}
+AwaitsNothing Unanswered = ⊥
 AwaitsNothing (Open c l) = LacksNoAnswer c l
-AwaitsNothing (Lost c) = Unit {0}
+AwaitsNothing (Lost c) = ⊥
 
 -- a job that is held hasn't put its first T_Connect
 abbrev pub HasntBegun : List Job → List LogEntry → List Placed → Type 0

@@ -2,6 +2,7 @@
 -- worker, a frame of its device, a confirmation of one of its frames or the loss of its channel, waits for it until one of its turns takes it in;
 -- a turn that takes something in sends nothing.
 use Rattle.std.specs.Prelude.{◌≡◌, ◌≢◌, ℕ, ◌+◌, ◌-◌, ◌<◌, ◌≤◌, ◌⊎◌, Bool, true, false, List, [], ◌∷◌, ◌++◌, Contains, Option, Some, None}
+use Rattle.knx_model.specs.Connection.{last_time}
 use Rattle.knx_model.specs.ClientConnection.{client_deadline}
 use Rattle.line_model.specs.declared.group.GroupTurn.{GroupTurn}
 use Rattle.line_model.specs.declared.log.LogEntry.{LogEntry}
@@ -19,7 +20,7 @@ use Rattle.line_model.specs.Attempts.{Attempt, Attempts, Resting, Running, begun
 use Rattle.line_model.specs.Asks.{HasPlace}
 use Rattle.line_model.specs.Closing.{Closing, Listening, Leaving, listening_wait}
 
--- ---- a job that a worker holds, up to a place
+-- ---- a job that a worker holds, and its attempts from its taking up to a place
 
 pub record IsHeldJob (jobs : List Job) (log : List LogEntry) (k : ℕ) (job : Job) (since : ℕ) : Type 0 where
   pub there : job_of jobs k ≡ Some job
@@ -136,11 +137,18 @@ pub data IsDeadline (jobs : List Job) (log : List LogEntry) (places : List Place
 abbrev pub longest_poll : ℕ
 longest_poll = 100
 
--- until the nearest deadline that isn't reached yet
-pub record LastsUntil (IsDue : ℕ → Type 0) (now wait : ℕ) : Type 0 where
-  pub at_most : wait ≤ longest_poll
+-- what ends it: it has lasted as long as it may, the nearest deadline is reached, or there is no later time
+pub data PollEnds (longest : ℕ) (IsDue : ℕ → Type 0) (now wait : ℕ) : Type 0 where
+  AsLongAsItMay : wait ≡ longest → PollEnds longest IsDue now wait
+  AtDeadline : (deadline : ℕ) → IsDue deadline → now < deadline → now + wait ≡ deadline → PollEnds longest IsDue now wait
+  AtLastTime : now + wait ≡ last_time → PollEnds longest IsDue now wait
+
+-- at most so long, until the nearest deadline that isn't reached yet; one that is reached and can't be acted on counts as none
+pub record LastsUntil (longest : ℕ) (IsDue : ℕ → Type 0) (now wait : ℕ) : Type 0 where
+  pub at_most : wait ≤ longest
+  pub in_range : now + wait ≤ last_time
   pub no_longer : (deadline : ℕ) → IsDue deadline → now < deadline → now + wait ≤ deadline
-  pub as_long : (wait ≡ longest_poll) ⊎ ((deadline : ℕ) × IsDue deadline × (now < deadline) × (now + wait ≡ deadline))
+  pub as_long : PollEnds longest IsDue now wait
 
 -- for job k, of which so much came and waits: something came that waits for its worker, or an attempt of it has sent its T_Connect and the
 -- worker's turn wouldn't wait
@@ -150,7 +158,8 @@ pub record HasWork (jobs : List Job) (turns : List GroupTurn) (log : List LogEnt
   pub holds : IsHeldJob jobs log k job since
   pub why : (came ≢ 0) ⊎ ((1 ≤ begun (attempts_of job since at places)) × ¬ TurnWaits jobs turns log places at now k came)
 
--- `came k` of what came for job k waits for its worker. Where a worker has work the poll only looks; else it lasts until the nearest deadline.
+-- At this time, where `came k` of what came for job k waits for its worker: where a worker has work the poll only looks; else it lasts until the
+-- nearest deadline, and not past the last time that there is.
 pub record PollsSo (jobs : List Job) (turns : List GroupTurn) (log : List LogEntry) (places : List Placed) (at now : ℕ) (closing : Option Closing) (came : ℕ → ℕ) (wait : ℕ) : Type 0 where
   pub looks : (k : ℕ) → HasWork jobs turns log places at now k (came k) → wait ≡ 0
-  pub waits : ((k : ℕ) → ¬ HasWork jobs turns log places at now k (came k)) → LastsUntil (IsDeadline jobs log places at closing) now wait
+  pub waits : ((k : ℕ) → ¬ HasWork jobs turns log places at now k (came k)) → LastsUntil longest_poll (IsDeadline jobs log places at closing) now wait

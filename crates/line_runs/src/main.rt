@@ -5,15 +5,20 @@
 //!   where it is with error, `closed`, and an indication by its TPDU. A script that is refused is told by its line, number and word.
 //! - `load DEVICES REQUESTS`: so many requests, T_Connect and T_Disconnect, are put to one device after another, of 1 to 254 blank ones. Told is how many
 //!   events there were.
+//! - `serve TURNS FAIL LETTERS`: the line is served at a port for so many turns at most. A client sends what the letters say, `c` a connect request, `s` and
+//!   `d` a state and a disconnect request of the first channel, and nothing with `-`; the port's call of the number FAIL fails, none where it is 0. Told
+//!   is what the port had, each datagram that it was given with the client and the low octet of its service, and how the serving ended.
 #![tactic(auto)]
 
 mod client;
 mod fault;
 mod load;
+mod serve;
 mod talk;
 
 use crate::fault::Fault;
 use crate::load::events_of;
+use crate::serve::served_of;
 use crate::talk::talk_of;
 use std::alloc::Global;
 use std::io;
@@ -38,11 +43,21 @@ fn told_of_talk(alloc: Global, words: &str) -> Result<String, Fault> {
     talk_of(alloc, count, text)
 }
 
+/// What is told of a `serve` line with these words.
+fn told_of_serve(alloc: Global, words: &str) -> Result<String, Fault> {
+    let (turns, rest) = words.split_once(' ').ok_or(Fault::Words)?;
+    let (fail, letters) = rest.split_once(' ').ok_or(Fault::Words)?;
+    let turns = turns.parse::<u32>().ok().ok_or(Fault::Words)?;
+    let fail = fail.parse::<u64>().ok().ok_or(Fault::Words)?;
+    served_of(alloc, turns, fail, letters)
+}
+
 /// What is told of a run.
 fn told_of(alloc: Global, line: &str) -> Result<String, Fault> {
     let (kind, words) = line.split_once(' ').ok_or(Fault::Words)?;
     match kind {
         "load" => told_of_load(alloc, words),
+        "serve" => told_of_serve(alloc, words),
         "talk" => told_of_talk(alloc, words),
         _ => Err(Fault::Words),
     }

@@ -1,5 +1,5 @@
 -- What a log tells of a job that is over and of one that isn't yet; and that no done is told of a job that failed or was refused.
-use Rattle.std.proofs.Common.{◌≡◌, ◌≢◌, ℕ, Bool, true, false, ◌||◌, eqb, List, [], ◌∷◌, Option, None, refl, sym, ◌∙◌, ap, subst}
+use Rattle.std.proofs.Common.{◌≡◌, ◌≢◌, ℕ, Bool, true, false, ◌||◌, List, [], ◌∷◌, None, refl, sym, ◌∙◌, ap, subst}
 use Rattle.std.specs.Prelude.{◌==◌}
 use native.Mathlib.Omega.{arith}
 use Rattle.std.proofs.lemmas.Bool.Decides.{eqb_tells}
@@ -18,7 +18,7 @@ same j k e = grind (arith, e, eqb_tells j k)
 itself : (k : ℕ) → (k == k) ≡ true
 itself k = grind (arith, eqb_tells k k)
 
-neither : (a b : Bool) → (a || b) ≡ false → (a ≡ false) × (b ≡ false)
+pub neither : (a b : Bool) → (a || b) ≡ false → (a ≡ false) × (b ≡ false)
 neither true b e = absurd (let z : true ≡ false = e in cc)
 neither false b e = (refl, e)
 
@@ -39,24 +39,24 @@ is_over Untaken = false
 is_over (Held worker since) = false
 is_over Over = true
 
-abbrev is_taken : JobState → Bool
+abbrev pub is_taken : JobState → Bool
 is_taken Untaken = false
 is_taken (Held worker since) = true
 is_taken Over = true
 
-held : (worker : ℕ) (s : JobState) → EndsHeld worker s → (is_taken s ≡ true) × (is_over s ≡ false)
+pub held : (worker : ℕ) (s : JobState) → EndsHeld worker s → (is_taken s ≡ true) × (is_over s ≡ false)
 held worker Untaken h = absurd h
 held worker (Held by since) h = (refl, refl)
 held worker Over h = absurd h
 
 -- ---- what an entry is to a job
 
-data IsTo (k : ℕ) (e : LogEntry) : Type 0 where
+pub data IsTo (k : ℕ) (e : LogEntry) : Type 0 where
   TakesIt : takes_it k e.what ≡ true → IsTo k e
   EndsIt : takes_it k e.what ≡ false → ends_it k e.what ≡ true → IsTo k e
   Else : takes_it k e.what ≡ false → ends_it k e.what ≡ false → IsTo k e
 
-is_to : (k : ℕ) (e : LogEntry) → IsTo k e
+pub is_to : (k : ℕ) (e : LogEntry) → IsTo k e
 is_to k e = by_both (takes_it k e.what) (ends_it k e.what) refl refl
   where
     by_both : (t d : Bool) → takes_it k e.what ≡ t → ends_it k e.what ≡ d → IsTo k e
@@ -67,10 +67,10 @@ is_to k e = by_both (takes_it k e.what) (ends_it k e.what) refl refl
 after_taking : (k : ℕ) (e : LogEntry) (s : JobState) → takes_it k e.what ≡ true → state_after k e s ≡ Held e.worker e.at
 after_taking k e s t = rw t refl
 
-after_end : (k : ℕ) (e : LogEntry) (s : JobState) → takes_it k e.what ≡ false → ends_it k e.what ≡ true → state_after k e s ≡ Over
+pub after_end : (k : ℕ) (e : LogEntry) (s : JobState) → takes_it k e.what ≡ false → ends_it k e.what ≡ true → state_after k e s ≡ Over
 after_end k e s t d = rw t (rw d refl)
 
-after_other : (k : ℕ) (e : LogEntry) (s : JobState) → takes_it k e.what ≡ false → ends_it k e.what ≡ false → state_after k e s ≡ s
+pub after_other : (k : ℕ) (e : LogEntry) (s : JobState) → takes_it k e.what ≡ false → ends_it k e.what ≡ false → state_after k e s ≡ s
 after_other k e s t d = rw t (rw d refl)
 
 taking_isnt_done : (k : ℕ) (what : LogWhat) → takes_it k what ≡ true → is_done k what ≡ false
@@ -127,7 +127,7 @@ done_where_over k (e ∷ l) fine o =
 -- ---- in a log of these jobs
 
 module _ (jobs : List Job) (turns : List GroupTurn) (count : ℕ) where
-  taking : (k worker : ℕ) (l : List LogEntry) (what : LogWhat) → takes_it k what ≡ true → MayFollow jobs turns worker l what → (job_of jobs k ≢ None) × (state_of k l ≡ Untaken)
+  pub taking : (k worker : ℕ) (l : List LogEntry) (what : LogWhat) → takes_it k what ≡ true → MayFollow jobs turns worker l what → (job_of jobs k ≢ None) × (state_of k l ≡ Untaken)
   taking k worker l (Took j) t h = (subst (λ n. job_of jobs n ≢ None) (same j k t) h.0, subst (λ n. state_of n l ≡ Untaken) (same j k t) h.1)
   taking k worker l (Done j) t h = absurd (let z : false ≡ true = t in cc)
   taking k worker l (Failed j signs) t h = absurd (let z : false ≡ true = t in cc)
@@ -135,7 +135,7 @@ module _ (jobs : List Job) (turns : List GroupTurn) (count : ℕ) where
   taking k worker l (Sent turn) t h = absurd (let z : false ≡ true = t in cc)
   taking k worker l (Lost turn) t h = absurd (let z : false ≡ true = t in cc)
 
-  ending : (k worker : ℕ) (l : List LogEntry) (what : LogWhat) → ends_it k what ≡ true → MayFollow jobs turns worker l what → EndsHeld worker (state_of k l)
+  pub ending : (k worker : ℕ) (l : List LogEntry) (what : LogWhat) → ends_it k what ≡ true → MayFollow jobs turns worker l what → EndsHeld worker (state_of k l)
   ending k worker l (Took j) d h = absurd (let z : false ≡ true = d in cc)
   ending k worker l (Done j) d h = subst (λ n. EndsHeld worker (state_of n l)) (same j k d) h
   ending k worker l (Failed j signs) d h = subst (λ n. EndsHeld worker (state_of n l)) (same j k d) h
@@ -159,7 +159,7 @@ module _ (jobs : List Job) (turns : List GroupTurn) (count : ℕ) where
   there_entry k e l h (EndsIt t d) older taken = older (held e.worker (state_of k l) (ending k e.worker l e.what d h)).0
   there_entry k e l h (Else t d) older taken = older (sym (ap is_taken (after_other k e (state_of k l) t d)) ∙ taken)
 
-  there : (k : ℕ) (l : List LogEntry) → IsLog jobs turns count l → is_taken (state_of k l) ≡ true → job_of jobs k ≢ None
+  pub there : (k : ℕ) (l : List LogEntry) → IsLog jobs turns count l → is_taken (state_of k l) ≡ true → job_of jobs k ≢ None
   there k [] h t = absurd (let z : false ≡ true = t in cc)
   there k (e ∷ l) h taken = there_entry k e l h.0.follows (is_to k e) (there k l h.1) taken
 

@@ -4,3 +4,11 @@ pub mod Behind
 pub mod Lines
 pub mod Ends
 pub mod Statuses
+pub mod Cuts
+pub mod Plain
+pub mod Sections
+pub mod ReadWords
+pub mod OneEnd
+pub mod ReadLines
+pub mod ReadEnds
+pub mod ReadBack

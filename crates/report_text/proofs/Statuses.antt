@@ -1,15 +1,12 @@
 -- A run is done exactly where it ended without a fault and its log tells done of each job.
-use Rattle.std.proofs.Common.{◌≡◌, ◌≢◌, ℕ, Bool, true, false, ◌||◌, List, [], ◌∷◌, ◌++◌, reverse, Option, Some, None, if◌then◌else◌, refl, sym, ◌∙◌, ap, subst}
+use Rattle.std.proofs.Common.{◌≡◌, Bool, true, false, ◌||◌, List, [], ◌∷◌, reverse, Option, Some, None, if◌then◌else◌, refl, sym, ◌∙◌, ap}
 use Rattle.std.specs.List.{list_any}
 use Rattle.std.proofs.lemmas.List.Folds.{list_any-append}
-use Rattle.knx_model.specs.declared.status.Status.{Status}
 use Rattle.knx_model.specs.declared.status.Status.TheVariants as status
 use Rattle.line_model.specs.declared.fault.HubFault.{HubFault}
 use Rattle.line_model.specs.declared.fault.HubFault.TheVariants as fault
-use Rattle.line_model.specs.declared.group.GroupTurn.{GroupTurn}
 use Rattle.line_model.specs.declared.log.LogEntry.{LogEntry}
-use Rattle.line_model.specs.Log.{Job, job_of, IsLog, AllOver}
-use Rattle.report_text.specs.LineStatus.{has_failure, is_failure, tells_done, is_done, fault_status, status_of, EachDone, DoneExactly}
+use Rattle.report_text.specs.LineStatus.{has_failure, is_failure, is_done, fault_status, status_of, EachDone, DoneExactly}
 use Rattle.report_text.proofs.Ends.{done_where_over, failure}
 use mathlib.Core.List.{reverse-cons}
 
@@ -27,7 +24,7 @@ any_reversed p (x ∷ xs) =
 
 -- a fault's status is another
 faulty : (why : HubFault) → fault_status why ≡ status.Done → ⊥
-faulty (fault.NoMemory want) e = let z : status.NoMemory ≡ status.Done = e in cc
+faulty (fault.NoMemory want) e = let z : status.NoMemory want ≡ status.Done = e in cc
 faulty fault.LinkFailed e = let z : status.Link ≡ status.Done = e in cc
 faulty (fault.GatewayRefused tries) e = let z : status.GatewayRefused ≡ status.Done = e in cc
 faulty fault.Flooded e = let z : status.Flooded ≡ status.Done = e in cc

@@ -23,7 +23,7 @@ abbrev pub has_failure : List LogEntry → Bool
 has_failure log = list_any (λ (e : LogEntry). is_failure e.what) log
 
 abbrev pub fault_status : HubFault → Status
-fault_status (fault.NoMemory want) = status.NoMemory
+fault_status (fault.NoMemory want) = status.NoMemory want
 fault_status fault.LinkFailed = status.Link
 fault_status (fault.GatewayRefused tries) = status.GatewayRefused
 fault_status fault.Flooded = status.Flooded

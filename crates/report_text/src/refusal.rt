@@ -49,7 +49,7 @@ pub fn stop_status(stop: &Stop) -> Status
         Stop::NotThere(_) | Stop::ReadFailed(_) => Status::Read,
         Stop::CatalogueRefused(_) => Status::Catalogue,
         Stop::Refused(place, _) => refusal_status(*place),
-        Stop::NoMemory(_) => Status::NoMemory,
+        Stop::NoMemory(want) => Status::NoMemory(*want),
     }
 }
 

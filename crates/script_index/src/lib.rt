@@ -8,4 +8,4 @@ mod place;
 mod tests;
 
 pub use index::ScriptIndex;
-pub use knx_model::{Cut, IndAddr, NoMemory, ScriptLine, ScriptWhat};
+pub use knx_model::{IndAddr, NoMemory, ScriptLine, ScriptWhat};

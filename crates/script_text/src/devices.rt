@@ -1,40 +1,9 @@
-//! The devices that lines name, and the cuts among the lines.
+//! The devices that lines name.
 
-ghost use Rattle.std.specs.Prelude.{◌≡◌, IfOk};
-ghost use Rattle.knx_model.specs.ScriptText.{cut_of, cuts_of, is_cut, device_named, refused_unless_listed, first_stranger, strangers};
+ghost use Rattle.std.specs.Prelude.{◌≡◌};
+ghost use Rattle.knx_model.specs.ScriptText.{device_named, refused_unless_listed, first_stranger, strangers};
 
-use knx_model::{Cut, IndAddr, List, NoMemory, Refused, ScriptLine, ScriptWhat, Why};
-use std::alloc::Global;
-
-/// The cut that a line says; none for another line.
-pub fn cut_of(line: &ScriptLine) -> Option<Cut>
-    ensures { result ≡ cut_of line.now }
-{
-    match line.what {
-        ScriptWhat::Cut { device, n, k } => Some(Cut { device, n, k }),
-        _ => None,
-    }
-}
-
-/// The cuts that lines say, in order.
-pub fn cuts_of(alloc: Global, lines: &[ScriptLine]) -> Result<List<Cut>, NoMemory>
-    ensures { IfOk result (λ cuts. cuts ≡ cuts_of lines.now) }
-{
-    let mut cuts = List::new(alloc);
-    for line in lines {
-        if let Some(cut) = cut_of(line) {
-            cuts.push(cut)?;
-        }
-    }
-    Ok(cuts)
-}
-
-/// Whether a line is `cut D N K`.
-pub fn is_cut(line: &ScriptLine) -> bool
-    ensures { result ≡ is_cut line.now }
-{
-    cut_of(line).is_some()
-}
+use knx_model::{IndAddr, Refused, ScriptLine, ScriptWhat, Why};
 
 /// The device that a line names; none for a line that names none.
 pub fn device_named(what: &ScriptWhat) -> Option<IndAddr>

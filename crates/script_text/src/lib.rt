@@ -8,8 +8,8 @@ mod line;
 mod read;
 mod script;
 
-pub use devices::{cut_of, cuts_of, device_named, first_stranger, is_cut};
-pub use knx_model::{Cut, GroupService, Refused, ScriptLine, ScriptWhat, Why};
+pub use devices::{device_named, first_stranger};
+pub use knx_model::{GroupService, Refused, ScriptLine, ScriptWhat, Why};
 pub use laws::{first_misfit, least_line, least_stranger, line_spelled, words_too_many_or_few};
 pub use read::read_script;
 pub use script::Script;

@@ -1,9 +1,10 @@
-//! One call of `knx` over files in memory.
+//! One call of `knx` over files in memory, and with a dialer that reaches no gateway.
 
 use crate::fault::Fault;
 use crate::text::TextFile;
 use knx_model::{MemoryFile, MemoryFiles, MemorySink, NoMemory};
 use knx_top::{SimBus, knx};
+use line_fixed::FixedDialer;
 use std::alloc::Global;
 use std::sync::Wait;
 
@@ -44,6 +45,23 @@ fn put_output(alloc: Global, out: &mut String, written: &[u8]) -> Result<(), Fau
     Ok(())
 }
 
+/// The exit status of a call with these words.
+fn status_of<R: Wait>(
+    rt: &R,
+    alloc: Global,
+    words: &[String],
+    files: &mut MemoryFiles,
+    sink: &mut MemorySink,
+) -> u8 {
+    let mut sim = SimBus::empty(alloc);
+    let mut dial = FixedDialer::new(None, None);
+    let mut last = None;
+    knx(
+        rt, alloc, words, files, sink, &mut sim, &mut dial, &mut last,
+    )
+    .number()
+}
+
 /// Adds what a call with these words writes, and its status.
 pub fn put_call<R: Wait>(
     rt: &R,
@@ -58,19 +76,8 @@ pub fn put_call<R: Wait>(
     }
     let mut files = files_of(alloc, texts)?;
     let mut sink = MemorySink::new(alloc);
-    let mut sim = SimBus::empty(alloc);
-    let mut last = None;
-    let status = knx(
-        rt,
-        alloc,
-        words.as_slice(),
-        &mut files,
-        &mut sink,
-        &mut sim,
-        &mut last,
-    );
+    let status = status_of(rt, alloc, words.as_slice(), &mut files, &mut sink);
     put_output(alloc, out, sink.taken.as_slice())?;
-    let status = status.number();
     out.push_str(format!(in alloc; "status {status}\n")?.as_str())?;
     Ok(())
 }

@@ -152,7 +152,7 @@ timely_before k r f t le b = late_same k.channel (channel r) t f.end ∙ (timely
 
 -- ---- a wait that isn't longer ends no later
 
-before_now : (k : Known) (r : List Entry) → FitsRecord k r → newest_time r < last_time → is_late (channel r) (newest_time r) ≡ false → IsBefore (newest_time r) (next_due k)
+pub before_now : (k : Known) (r : List Entry) → FitsRecord k r → newest_time r < last_time → is_late (channel r) (newest_time r) ≡ false → IsBefore (newest_time r) (next_due k)
 before_now k r f lt late =
     before_nearer (channel_deadline k.channel) (confirmation_end k.flight.acknowledged k.flight.confirmed) (newest_time r)
     (end_before k.channel (newest_time r) lt (not_over k r f) (sym (late_same k.channel (channel r) (newest_time r) f.end) ∙ late))

@@ -10,11 +10,13 @@ use Rattle.line_model.specs.ClientView as seen
 use Rattle.line_model.specs.ClientView.{ClientChannel, channel, after_entry, Puts, Nothing, deed}
 use Rattle.line_model.specs.Renews.{RenewsSo, IsOwed, owed, owed_in}
 use Rattle.line_model.specs.Sendings.{IsRightItem}
+use Rattle.line_model.specs.Leaves.{PartsSo, parting_of}
 use Rattle.line_model.specs.Dropped as drop
 use Rattle.line_model.specs.Faults.{tries, tries_after, datagrams_taken}
 use Rattle.tunnel_channel.specs.Fits.{acknowledged_in, confirmed_in}
 use Rattle.tunnel_link.specs.declared.known.Known.{Known}
 use Rattle.tunnel_link.specs.Rights.{IsRight, FitsFault, IsntRefusal, at_most_64_bits}
+use Rattle.tunnel_link.proofs.Partings.{renewed_parts, poll_parts}
 
 -- ---- a sending: the tries, and nothing is owed after it
 
@@ -75,11 +77,12 @@ put_still r octets now h = put_still_by (channel r) octets now h
 -- ---- always right
 
 pub put_right : (k : Known) (r : List Entry) (octets : List ℕ) (now : ℕ) → IsRight k r → IsOwed (owed r) (entry (Put octets) now) → IsRightItem r (entry (Put octets) now) (Put octets) → RenewsSo r (entry (Put octets) now)
-    → IsRight k (entry (Put octets) now ∷ r)
-put_right k r octets now right owes may renews = record {
+    → PartsSo r (entry (Put octets) now) → IsRight k (entry (Put octets) now ∷ r)
+put_right k r octets now right owes may renews parts = record {
   renews = (renews, right.renews);
   sends = (may, right.sends);
   acknowledges = (owes, right.acknowledges);
+  parts = (parts, right.parts);
   drops = right.drops;
   takes = right.takes;
   fault = subst (λ (t : List Try). FitsFault k.fault t) (sym (put_tries r octets now)) right.fault;
@@ -101,11 +104,12 @@ pub same_tries : (r : List Entry) (now : ℕ) → tries (entry Renewed now ∷ r
 unfolding after_entry
 same_tries r now = renewed_tries (channel r) (tries r)
 
-pub renewed_right : (k : Known) (r : List Entry) (now : ℕ) → IsRight k r → owed r ≡ None → RenewsSo r (entry Renewed now) → IsRight k (entry Renewed now ∷ r)
-renewed_right k r now right paid renews = record {
+pub renewed_right : (k : Known) (r : List Entry) (now : ℕ) → IsRight k r → owed r ≡ None → parting_of r ≡ None → RenewsSo r (entry Renewed now) → IsRight k (entry Renewed now ∷ r)
+renewed_right k r now right paid parted renews = record {
   renews = (renews, right.renews);
   sends = (tt, right.sends);
   acknowledges = (rw paid tt, right.acknowledges);
+  parts = (renewed_parts r now parted, right.parts);
   drops = right.drops;
   takes = right.takes;
   fault = subst (λ (t : List Try). FitsFault k.fault t) (sym (same_tries r now)) right.fault;
@@ -129,6 +133,7 @@ poll_right k next r what now p paid right d t f = record {
   renews = (poll_renews r what now p, right.renews);
   sends = (poll_may r what now p, right.sends);
   acknowledges = (rw paid tt, right.acknowledges);
+  parts = (poll_parts r what now p, right.parts);
   drops = d;
   takes = t;
   fault = f;
@@ -148,6 +153,7 @@ failed_right k r fault n right = record {
   renews = right.renews;
   sends = right.sends;
   acknowledges = right.acknowledges;
+  parts = right.parts;
   drops = right.drops;
   takes = right.takes;
   fault = isnt_by_tries fault (tries r) n;

@@ -5,7 +5,7 @@ use Rattle.std.proofs.lemmas.Bool.Decides.{nat_tests}
 use Rattle.knx_model.specs.declared.frames.cemi.Ldata.{Ldata}
 use Rattle.line_model.specs.Record.{Quiet, item_of, item_at}
 use Rattle.line_model.specs.World.{World, Event, AtGateway, Comes, IsLost, Send, From, Renew, Up, UpRefused, Down, LoseUp, LoseDown, Bus, BusTorn, BusWorn, BusAgain, DevSend, DevRepeat, DevClose, GwAgain, GwRepeat, GwClose, Cut, On, Pass, next_frame, waiting_at, repeat_at, carried, heard, now, step}
-use Rattle.line_model.specs.LinkStory.{IsForeign}
+use Rattle.line_model.specs.LinkStory.{is_foreign}
 use Rattle.tunnel_link.proofs.Clock.{next_now}
 
 -- time may go on, by more than 0 ms, and then that is a quiet wait
@@ -24,7 +24,7 @@ heard_item w IsLost o = refl
 later : (a b ms : ℕ) → b ≡ a + ms → nat_lt 0 ms ≡ true → a < b
 later a b ms h q = grind (arith, nat_tests)
 
-pub passes : (w : World) (e : Event) → IsForeign e ≡ true → Passes w e
+pub passes : (w : World) (e : Event) → is_foreign e ≡ true → Passes w e
 passes w (Send octets) h = absurd (cc)
 passes w (From endpoint octets) h = absurd (cc)
 passes w Renew h = absurd (cc)

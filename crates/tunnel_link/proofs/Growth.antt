@@ -6,7 +6,7 @@ use Rattle.line_model.specs.World.{World, Event, Send, Renew, now, step, replay}
 use Rattle.line_model.specs.Fresh.{IsFresh}
 use Rattle.line_model.specs.Record.{Item, Put, Renewed, Got, Quiet, Entry, entry, is_poll, item_at, Placed, placed, counted, entries}
 use Rattle.line_model.specs.LinkStory as told
-use Rattle.line_model.specs.LinkStory.{Story, Untold, Recorded, Full, places_in, newest_time, IsTime, IsForeign, Same, More, AreWaits, last_wait, PollsRecord, PollsFull, PollsNothing, Polls}
+use Rattle.line_model.specs.LinkStory.{Story, Untold, Recorded, Full, places_in, newest_time, IsTime, is_foreign, Same, More, AreWaits, last_wait, EndsAt, PollsRecord, PollsFull, PollsNothing, Polls}
 use Rattle.tunnel_link.specs.Goes.{Keeps}
 use Rattle.tunnel_link.specs.Adds.{place_of}
 use Rattle.tunnel_link.proofs.Ended.{ends_full}
@@ -147,10 +147,10 @@ pub record Polling (what : Item) (wait clock : ℕ) (before after : Story) (old 
   pub waited : List Placed
   pub waits : Waits (newest_time (entries old)) clock (place_of before) (place_of after) old waited
   pub told : places_in after ≡ Some (record { at = place_of after; what = entry what clock } ∷ waited)
-  pub in_time : clock ≤ newest_time (entries old) + wait
+  pub ends : EndsAt what wait (newest_time (entries old)) clock
   pub up : place_of before < place_of after
 
-ends_in_time : (what : Item) (wait since until : ℕ) → told.EndsAt what wait since until → until ≤ since + wait
+pub ends_in_time : (what : Item) (wait since until : ℕ) → EndsAt what wait since until → until ≤ since + wait
 ends_in_time (Put octets) wait since until h = h
 ends_in_time Renewed wait since until h = h
 ends_in_time (Got octets) wait since until h = h
@@ -169,7 +169,7 @@ record_polls what wait clock older r p = record {
     up = rw p.all (let h = length-append p.waits older in omega arith);
   });
   told = rw p.all refl;
-  in_time = rw (newest_counted older) (ends_in_time what wait (newest_time older) clock p.ends);
+  ends = rw (newest_counted older) p.ends;
   up = rw p.all (let h = length-append p.waits older in omega arith);
 }
 
@@ -190,7 +190,7 @@ full_polls what wait start older events fresh poll p =
         up = let h = f.up in omega arith;
       });
       told = rw p.brings refl;
-      in_time = rw (newest_is_now start older fresh) (subst (λ (es : List Event). now (replay start es) ≤ now (replay start older) + wait) p.all (ends_full what wait (now (replay start older)) (now (replay start events)) p.last poll p.ends));
+      ends = rw (newest_is_now start older fresh) (subst (λ (es : List Event). EndsAt what wait (now (replay start older)) (now (replay start es))) p.all (ends_full what wait (now (replay start older)) (now (replay start events)) p.last poll p.ends));
       up = let h = f.up in omega arith;
     })
 

@@ -14,6 +14,7 @@ use Rattle.line_model.specs.ClientView as seen
 use Rattle.line_model.specs.ClientView.{ClientChannel, channel, Nothing, deed}
 use Rattle.line_model.specs.ChannelLost.{answer_wait}
 use Rattle.line_model.specs.Renews.{owed}
+use Rattle.line_model.specs.Leaves.{parting_of}
 use Rattle.line_model.specs.Faults.{tries}
 use Rattle.line_model.specs.Moments.{Moment}
 use Rattle.line_model.specs.ClientEnd.{ClientEnd, Idle, Seeking, Open, Leaving, JustLost, OpenEnd, open_end, is_over, is_given_up, is_dead, lost, channel_expired, after_expired}
@@ -32,6 +33,7 @@ use Rattle.tunnel_link.specs.Rights.{IsRight, IsKept, FitsFault, tries_of}
 use Rattle.tunnel_link.specs.Adds.{DoesSo, OrLoses, is_told, moments_on}
 use Rattle.tunnel_link.proofs.MaySend.{not_over, not_late, Sending, lost_sent}
 use Rattle.tunnel_link.proofs.Steps.{right_with}
+use Rattle.tunnel_link.proofs.Partings.{parting_sent}
 use Rattle.tunnel_link.proofs.Waited.{Waited, InTime, Lapsed, Unheard, late_or_over}
 
 -- ---- what is known after a poll, and what is to be sent
@@ -89,6 +91,7 @@ right_tried k r failed few is right = record {
   renews = right.renews;
   sends = right.sends;
   acknowledges = right.acknowledges;
+  parts = right.parts;
   drops = right.drops;
   takes = right.takes;
   fault = rw is (refused_fits k.tries failed few);
@@ -99,9 +102,9 @@ right_tried k r failed few is right = record {
 abbrev pub gone : Known → Known
 gone k = record k { channel = Idle; flight = none_in_flight }
 
-pub leaves_lost : (k : Known) (r : List Entry) (c : ℕ) → channel r ≡ seen.Lost c → tries r ≡ tries_of k.tries → length (tries_of k.tries) < 3 → owed r ≡ None → IsRight k r
+pub leaves_lost : (k : Known) (r : List Entry) (c : ℕ) → channel r ≡ seen.Lost c → tries r ≡ tries_of k.tries → length (tries_of k.tries) < 3 → owed r ≡ None → parting_of r ≡ Some (DisconnectRequest c) → IsRight k r
     → Sending (gone k) (Written (DisconnectRequest c)) Nothing r
-leaves_lost k r c at failed few paid right =
+leaves_lost k r c at failed few paid parting right =
     let now : ℕ = newest_time r in
     let octets : List ℕ = Written (DisconnectRequest c) in
     record {
@@ -109,6 +112,7 @@ leaves_lost k r c at failed few paid right =
       owes = rw paid tt;
       may = rw (leave_read c, at) refl;
       renews = renews_other r octets (DisconnectRequest c) now (leave_read c) refl;
+      parts = parting_sent r octets now (DisconnectRequest c) parting (leave_read c);
       fits = λ u. lost_sent (gone k) r octets c at refl refl (sym failed) (rw failed few);
       did = put_none (channel r) octets (DisconnectRequest c) now (leave_read c) refl;
     }
@@ -179,7 +183,7 @@ lapse_answers what k old added aside right (InTime f a) =
 lapse_answers what k old added aside right (Lapsed h one) =
     let r : List Entry = entries (added ++ old) in
     answers_by what k (gone k) (newest_time r) (gone_answer what h.e.channel) old added (lapsed_gone what k (newest_time r) h.e h.is (is_late k.flight (newest_time r)) refl h.over) (record {
-      so = leaves_lost k r h.e.channel h.lost h.failed h.few h.paid right;
+      so = leaves_lost k r h.e.channel h.lost h.failed h.few h.paid h.parting right;
       tells = rw (leave_read h.e.channel) refl;
       does = does_aside what Told (newest_time r) (moments_on old added) aside one;
     })
@@ -197,6 +201,7 @@ lapse_answers what k old added aside right (Unheard h a) =
           failed = more_tries k.tries try.NoAnswer h.few ∙ sym h.failed;
           few = rw h.failed (still_few k.tries try.NoAnswer u);
           paid = h.paid;
+          parted = h.parted;
           first = λ e. absurd (let g : (seen.Unanswered ≡ seen.Fresh) = sym h.unanswered ∙ e in cc);
         };
       };

@@ -1,4 +1,6 @@
 pub mod Acting
+pub mod Alone
+pub mod AloneCalls
 pub mod Beats
 pub mod CallAnswers
 pub mod CallsKept
@@ -16,6 +18,7 @@ pub mod Heard
 pub mod Lapses
 pub mod Late
 pub mod MaySend
+pub mod Partings
 pub mod Places
 pub mod PollCalls
 pub mod PollEnds
@@ -37,3 +40,5 @@ pub mod TakesSends
 pub mod Timeless
 pub mod Times
 pub mod Waited
+pub mod Nearest
+pub mod Lasting

@@ -9,6 +9,7 @@ use Rattle.line_model.specs.ClientView.{ClientChannel, channel, Deed, Nothing, d
 use Rattle.line_model.specs.ChannelLost.{own, acknowledged, confirmed, beats, is_given_up, is_unconfirmed, is_dead, has_lapsed}
 use Rattle.line_model.specs.Renews.{RenewsSo, IsOwed, owed}
 use Rattle.line_model.specs.Sendings.{IsRightItem}
+use Rattle.line_model.specs.Leaves.{PartsSo}
 use Rattle.line_model.specs.Faults.{tries}
 use Rattle.line_model.specs.ClientEnd.{ClientEnd, Idle, Seeking, Open, Leaving, JustLost, OpenEnd, is_over}
 use Rattle.tunnel_channel.specs.Fits.{FitsChannel, Fits, Knows, KnowsOpen, end_of, acknowledged_in, confirmed_in}
@@ -20,6 +21,7 @@ use Rattle.tunnel_link.specs.declared.known.Known.{Known}
 use Rattle.tunnel_link.specs.Kept.{none_in_flight, is_late, is_over_for}
 use Rattle.tunnel_link.specs.Rights.{IsRight, FitsNow, FitsRecord, IsKept, IsntRefusal, tries_of}
 use Rattle.tunnel_link.proofs.Entries.{put_tries, put_owes, put_right, failed_right}
+use Rattle.tunnel_link.proofs.Partings.{put_parted}
 
 -- ---- between calls this end isn't behind the record, and the time has ended nothing
 
@@ -98,11 +100,12 @@ pub record Sending (k : Known) (octets : List ℕ) (does : Deed) (r : List Entry
   pub owes : IsOwed (owed r) (entry (Put octets) (newest_time r))
   pub may : IsRightItem r (entry (Put octets) (newest_time r)) (Put octets)
   pub renews : RenewsSo r (entry (Put octets) (newest_time r))
+  pub parts : PartsSo r (entry (Put octets) (newest_time r))
   pub fits : k.fault ≡ None → FitsRecord k (entry (Put octets) (newest_time r) ∷ r)
   pub did : deed (channel r) (entry (Put octets) (newest_time r)) ≡ does
 
 pub sent_right : (k : Known) (octets : List ℕ) (does : Deed) (r : List Entry) → Sending k octets does r → IsRight k (entry (Put octets) (newest_time r) ∷ r)
-sent_right k octets does r s = put_right k r octets (newest_time r) s.right s.owes s.may s.renews
+sent_right k octets does r s = put_right k r octets (newest_time r) s.right s.owes s.may s.renews s.parts
 
 pub sent_kept : (k : Known) (octets : List ℕ) (does : Deed) (r : List Entry) → Sending k octets does r → IsKept k (entry (Put octets) (newest_time r) ∷ r)
 sent_kept k octets does r s = record { right = sent_right k octets does r s; fits = s.fits }
@@ -129,6 +132,7 @@ open_sent_by next r octets c l at current failed few fits flies =
       failed = failed ∙ sym (put_tries r octets now);
       few = rw (put_tries r octets now) few;
       paid = put_owes r octets now;
+      parted = put_parted r octets now;
       first = λ h. absurd (let e : (seen.Open c (entry (Put octets) now ∷ l) ≡ seen.Fresh) = sym stays ∙ h in cc);
     }
 
@@ -151,5 +155,6 @@ lost_sent next r octets c at idle none failed few =
       failed = failed ∙ sym (put_tries r octets now);
       few = rw (put_tries r octets now) few;
       paid = put_owes r octets now;
+      parted = put_parted r octets now;
       first = λ h. absurd (let e : (seen.Lost c ≡ seen.Fresh) = sym stays ∙ h in cc);
     }

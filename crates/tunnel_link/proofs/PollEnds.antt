@@ -79,8 +79,8 @@ module _ (k : Known) (r : List Entry) (f : FitsRecord k r) (right : IsRight k r)
   by_told took.Acked q next t cs = row_acked k r f right calm octets frame now is in_time next q t cs
   by_told (took.Cemi cemi ack) q next t cs = row_cemi k r f right calm octets frame now is in_time cemi ack next q t cs
   by_told (took.Again ack) q next t cs = row_again k r f right calm octets frame now is in_time ack next q t cs
-  by_told (took.Gone None) q next t cs = row_gone k r f right calm octets frame now is in_time next q t cs
-  by_told (took.Gone (Some answer)) q next t cs = row_ended k r f right calm octets frame now is in_time answer next q t cs
+  by_told (took.Gone None) q next t cs = row_gone k r f right calm octets frame now is in_time (timely k.channel refl f.end) next q t cs
+  by_told (took.Gone (Some answer)) q next t cs = row_ended k r f right calm octets frame now is in_time (timely k.channel refl f.end) answer next q t cs
   by_told took.Alive q next t cs = row_alive k r f right calm octets frame now is in_time next q t cs
 
   same_channel : (b : Bool) → answers_heartbeat frame (channel_took k.channel frame now) ≡ b → (counted frame (channel_took k.channel frame now) (with_channel_of k frame now)).channel ≡ (with_channel_of k frame now).channel

@@ -57,6 +57,7 @@ fits_with k next r c p t f = record {
   failed = rw t f.failed;
   few = f.few;
   paid = f.paid;
+  parted = f.parted;
   first = f.first;
 }
 

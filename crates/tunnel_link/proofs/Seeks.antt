@@ -1,9 +1,11 @@
 -- A new endpoint may be taken, and the connect request sent there.
 use Rattle.std.proofs.Common.{◌≡◌, inl, inr, ℕ, List, ◌∷◌, true, false, None, refl, sym, ◌∙◌, arith}
+use Rattle.std.specs.Prelude.{is_some}
 use Rattle.std.proofs.lemmas.Bool.Decides.{nat_tests}
 use Rattle.knx_model.specs.declared.frames.ip.IpFrame.TheVariants.{ConnectRequest}
 use Rattle.knx_model.specs.KnxNetIp.{Written}
 use Rattle.knx_model.specs.Connection.{has_passed}
+use Rattle.line_model.specs.Reading.{datagram_in, disconnect_request_in}
 use Rattle.line_model.specs.Record.{Put, Renewed, Entry, entry}
 use Rattle.line_model.specs.LinkStory.{newest_time}
 use Rattle.line_model.specs.ClientView as seen
@@ -14,6 +16,7 @@ use Rattle.line_model.specs.ClientEnd.{ClientEnd, Idle, Seeking, Open, Leaving, 
 use Rattle.tunnel_channel.specs.Fits.{FitsChannel, HasNone, acknowledged_in, confirmed_in}
 use Rattle.tunnel_channel.specs.Follows.{Connects}
 use Rattle.tunnel_channel.proofs.Calls.{connect_follows}
+use Rattle.tunnel_channel.proofs.Frames.{connect_read}
 use Rattle.tunnel_channel.proofs.Current.{sendings_stay_current}
 use Rattle.tunnel_link.specs.declared.known.Known.{Known}
 use Rattle.tunnel_link.specs.Kept.{with_connect}
@@ -21,6 +24,7 @@ use Rattle.tunnel_link.specs.Rights.{IsRight, FitsNow, FitsRecord}
 use Rattle.tunnel_link.proofs.Entries.{put_tries, put_owes, renewed_is, same_tries, renewed_right}
 use Rattle.tunnel_link.proofs.MaySend.{fits_of, Sending}
 use Rattle.tunnel_link.proofs.Steps.{right_with}
+use Rattle.tunnel_link.proofs.Partings.{put_parts, put_parted, renewed_parted}
 
 pub none_flies : (ch : ClientChannel) → HasNone ch → (acknowledged_in ch ≡ None) × (confirmed_in ch ≡ true)
 none_flies seen.Fresh n = (refl, refl)
@@ -73,7 +77,7 @@ module _ (k : Known) (r : List Entry) (f : FitsRecord k r) (right : IsRight k r)
       }
 
   pub renewed_so : IsRight k (entry Renewed (newest_time r) ∷ r)
-  renewed_so = renewed_right k r (newest_time r) right f.paid may_renew
+  renewed_so = renewed_right k r (newest_time r) right f.paid f.parted may_renew
 
   pub connects_so : Sending (with_connect k (newest_time r)) (Written ConnectRequest) Nothing (entry Renewed (newest_time r) ∷ r)
   unfolding deed
@@ -91,6 +95,7 @@ module _ (k : Known) (r : List Entry) (f : FitsRecord k r) (right : IsRight k r)
         owes = rw (renewed_paid r now) tt;
         may = (c.sends refl).may;
         renews = c.right refl;
+        parts = put_parts more (Written ConnectRequest) now (renewed_parted r now) (λ asks. absurd (let none : (is_some (disconnect_request_in (datagram_in (Written ConnectRequest))) ≡ false) = rw connect_read refl in let z : true ≡ false = sym asks ∙ none in cc));
         fits = λ u. record {
           end = sought;
           current = sendings_stay_current more (Written ConnectRequest) now (rw (renewed_is r now) tt);
@@ -99,6 +104,7 @@ module _ (k : Known) (r : List Entry) (f : FitsRecord k r) (right : IsRight k r)
           failed = f.failed ∙ sym failed;
           few = rw failed f.few;
           paid = put_owes more (Written ConnectRequest) now;
+          parted = put_parted more (Written ConnectRequest) now;
           first = λ h. absurd (let e : (seen.Sought now ≡ seen.Fresh) = sym sought ∙ h in cc);
         };
         did = rw (renewed_is r now) refl;

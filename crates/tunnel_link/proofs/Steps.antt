@@ -27,12 +27,14 @@ use Rattle.tunnel_link.specs.Kept.{with_due, with_put, with_leave}
 use Rattle.tunnel_link.specs.Rights.{IsRight, FitsNow, FitsRecord}
 use Rattle.tunnel_link.proofs.Entries.{put_still}
 use Rattle.tunnel_link.proofs.MaySend.{fits_of, not_over, Sending, open_sent}
+use Rattle.tunnel_link.proofs.Partings.{put_parts}
 
 pub right_with : (k next : Known) (r : List Entry) → next.dropped ≡ k.dropped → next.taken ≡ k.taken → next.fault ≡ k.fault → IsRight k r → IsRight next r
 right_with k next r d t f right = record {
   renews = right.renews;
   sends = right.sends;
   acknowledges = right.acknowledges;
+  parts = right.parts;
   drops = d ∙ right.drops;
   takes = t ∙ right.takes;
   fault = rw f right.fault;
@@ -98,6 +100,7 @@ module _ (k : Known) (r : List Entry) (f : FitsRecord k r) where
         owes = rw f.paid tt;
         may = s.may;
         renews = expires.right octets h;
+        parts = put_parts r octets (newest_time r) f.parted (λ asks. rw o.is refl);
         fits = λ u. open_sent k (with_due k (newest_time r)) r octets o.c o.l o.is f refl s.fits (record { acknowledged = f.acknowledged ∙ sym still.acked; confirmed = f.confirmed ∙ sym still.confirms });
         did = none;
       }
@@ -135,6 +138,7 @@ put_sends k r cemi octets f right i h =
       owes = rw f.paid tt;
       may = p.sends.may;
       renews = p.right;
+      parts = put_parts r octets now f.parted (λ asks. rw o.is refl);
       fits = λ u. open_sent k (with_put k cemi now) r octets o.c o.l o.is f refl p.sends.fits (record { acknowledged = rw h (sym p.unacknowledged); confirmed = rw h (sym p.unconfirmed) });
       did = p.deed;
     }
@@ -225,6 +229,7 @@ leave_sends k r octets f right h =
       owes = rw f.paid tt;
       may = s.may;
       renews = renews_other r octets (DisconnectRequest a.c) now (asks_read octets a) refl;
+      parts = put_parts r octets now f.parted (λ asks. rw o.is refl);
       fits = λ u. open_sent k (with_leave k) r octets o.c o.l o.is f refl s.fits (record { acknowledged = f.acknowledged ∙ sym still.acked; confirmed = f.confirmed ∙ sym still.confirms });
       did = none;
     }

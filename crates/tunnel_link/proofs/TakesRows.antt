@@ -15,6 +15,7 @@ use Rattle.line_model.specs.Dropped.{is_dropped, dropped}
 use Rattle.line_model.specs.Faults.{tries, datagrams_taken, opens}
 use Rattle.line_model.specs.Moments.{Moment}
 use Rattle.line_model.specs.Renews.{owed}
+use Rattle.line_model.specs.Leaves.{parting_of}
 use Rattle.line_model.specs.Signs.{Every}
 use Rattle.line_model.specs.ClientEnd.{ClientEnd, Idle, Seeking, Open, Leaving, JustLost, is_over}
 use Rattle.line_model.specs.ClientFrames.{channel_took, after_took}
@@ -30,6 +31,7 @@ use Rattle.tunnel_link.specs.Rights.{IsRight, FitsNow, FitsRecord, FitsFault, tr
 use Rattle.tunnel_link.specs.Adds.{IsNothing, GotSo, DoesSo, is_told}
 use Rattle.tunnel_link.proofs.Entries.{poll_right}
 use Rattle.tunnel_link.proofs.MaySend.{Flies, open_sent_by}
+use Rattle.tunnel_link.proofs.Partings.{unended_parted}
 use Rattle.tunnel_link.proofs.Lapses.{Outcome, asks_to_leave, refused_fits, more_tries, still_few}
 use Rattle.tunnel_link.proofs.Heard.{GotDeed, IsLost, IsTaken, IsNone, got_deed, opens_none, opens_so, opened_tries, refused_tries, same_tries, fresh_before, drops_one, drops_none}
 use Rattle.tunnel_link.proofs.Takes.{IsIn, fits_not_lost, given_in, acked_in, alive_in, paid_by, owed_open}
@@ -110,9 +112,13 @@ module _ (k : Known) (r : List Entry) (f : FitsRecord k r) (right : IsRight k r)
         in_now (Leaving e) i (inr g) = absurd (let o = i.over in let h = g.over in cc)
         in_now (JustLost c) i g = absurd i.up
 
+    -- where the channel hasn't ended, the gateway isn't told of it
+    pub unparted : change_told told ≢ Ends → parting_of (x ∷ r) ≡ None
+    unparted n = unended_parted r x (λ e. n (sym changes ∙ e)) f.parted
+
     -- nothing is to be sent
-    pub fits_next : (next : Known) → FitsNow next.channel (channel (x ∷ r)) → Flies next (channel (x ∷ r)) → tries_of next.tries ≡ tries (x ∷ r) → length (tries (x ∷ r)) < 3 → acknowledgement_in told ≡ None → FitsRecord next (x ∷ r)
-    fits_next next end flies failed few n = record {
+    pub fits_next : (next : Known) → FitsNow next.channel (channel (x ∷ r)) → Flies next (channel (x ∷ r)) → tries_of next.tries ≡ tries (x ∷ r) → length (tries (x ∷ r)) < 3 → acknowledgement_in told ≡ None → parting_of (x ∷ r) ≡ None → FitsRecord next (x ∷ r)
+    fits_next next end flies failed few n parted = record {
       end = end;
       current = polls_are_current r (Got octets) now refl;
       acknowledged = flies.acknowledged;
@@ -120,6 +126,7 @@ module _ (k : Known) (r : List Entry) (f : FitsRecord k r) (right : IsRight k r)
       failed = failed;
       few = few;
       paid = unowed n;
+      parted = parted;
       first = λ h. f.first (fresh_before k.channel (channel r) octets now f.end over h);
     }
 
@@ -178,7 +185,7 @@ module _ (k : Known) (r : List Entry) (f : FitsRecord k r) (right : IsRight k r)
     so = record {
       right = calm_right took.Dropped counted t cs (drops counted) (dropped_up took.Dropped counted t cs refl) refl refl;
       fits = λ u. fits_next took.Dropped counted t cs (drops counted) (end_now took.Dropped counted t cs (record { over = over; up = fits_not_lost k.channel (channel r) f.end })) (flies_same took.Dropped counted t cs (drops counted) refl (t.acked over) (t.confirms over))
-          (failed_stay took.Dropped counted t cs (inl refl)) (few_stay took.Dropped counted t cs (inl refl)) refl;
+          (failed_stay took.Dropped counted t cs (inl refl)) (few_stay took.Dropped counted t cs (inl refl)) refl (unparted took.Dropped counted t cs (λ h. absurd (cc)));
     };
     tells = refl;
     got = (record { got = refl; drops = t.drops }, opens_nothing took.Dropped counted t cs (λ h. absurd (cc)));
@@ -193,7 +200,7 @@ module _ (k : Known) (r : List Entry) (f : FitsRecord k r) (right : IsRight k r)
         so = record {
           right = calm_right (took.Up tunnel) counted t cs (record counted { tries = Zero; flight = none_in_flight }) (undropped (took.Up tunnel) counted t cs refl) refl refl;
           fits = λ u. fits_next (took.Up tunnel) counted t cs (record counted { tries = Zero; flight = none_in_flight }) (end_now (took.Up tunnel) counted t cs (given_in frame now)) (record { acknowledged = sym (t.acked over); confirmed = sym (t.confirms over) })
-              (sym none) (rw none (omega arith)) refl;
+              (sym none) (rw none (omega arith)) refl (unparted (took.Up tunnel) counted t cs (λ h. absurd (cc)));
         };
         tells = refl;
         got = (record { got = refl; drops = t.drops }, opens_so k.channel frame octets now tunnel (channel r) (channel (x ∷ r)) f.end over is q (changes (took.Up tunnel) counted t cs));
@@ -209,7 +216,7 @@ module _ (k : Known) (r : List Entry) (f : FitsRecord k r) (right : IsRight k r)
           right = right_next (took.RefusedBy status) counted t cs (tried (try.Status status) counted) (undropped (took.RefusedBy status) counted t cs refl) refl (rw more (refused_fits counted.tries (try.Status status) few));
           fits = λ u. fits_next (took.RefusedBy status) counted t cs (tried (try.Status status) counted) (end_now (took.RefusedBy status) counted t cs (record { over = refl; up = tt }))
               (flies_same (took.RefusedBy status) counted t cs (tried (try.Status status) counted) refl (t.acked over) (t.confirms over))
-              (more_tries counted.tries (try.Status status) few ∙ sym more) (rw more (still_few counted.tries (try.Status status) u)) refl;
+              (more_tries counted.tries (try.Status status) few ∙ sym more) (rw more (still_few counted.tries (try.Status status) u)) refl (unparted (took.RefusedBy status) counted t cs (λ h. absurd (cc)));
         };
         tells = refl;
         got = (record { got = refl; drops = t.drops }, opens_nothing (took.RefusedBy status) counted t cs (λ h. absurd (cc)));
@@ -222,7 +229,7 @@ module _ (k : Known) (r : List Entry) (f : FitsRecord k r) (right : IsRight k r)
     so = record {
       right = calm_right took.Acked counted t cs (after_told now took.Acked counted) (undropped took.Acked counted t cs refl) refl refl;
       fits = λ u. fits_next took.Acked counted t cs (after_told now took.Acked counted) (end_now took.Acked counted t cs (acked_in now k.channel (record { over = over; up = fits_not_lost k.channel (channel r) f.end })))
-          (record { acknowledged = sym (t.acked over); confirmed = rw cs.flight_is (f.confirmed ∙ sym (t.confirms over)) }) (failed_stay took.Acked counted t cs (inl refl)) (few_stay took.Acked counted t cs (inl refl)) refl;
+          (record { acknowledged = sym (t.acked over); confirmed = rw cs.flight_is (f.confirmed ∙ sym (t.confirms over)) }) (failed_stay took.Acked counted t cs (inl refl)) (few_stay took.Acked counted t cs (inl refl)) refl (unparted took.Acked counted t cs (λ h. absurd (cc)));
     };
     tells = refl;
     got = (record { got = refl; drops = t.drops }, opens_nothing took.Acked counted t cs (λ h. absurd (cc)));
@@ -235,7 +242,7 @@ module _ (k : Known) (r : List Entry) (f : FitsRecord k r) (right : IsRight k r)
     so = record {
       right = calm_right took.Alive counted t cs counted (undropped took.Alive counted t cs refl) refl refl;
       fits = λ u. fits_next took.Alive counted t cs counted (end_now took.Alive counted t cs (alive_in now k.channel (record { over = over; up = fits_not_lost k.channel (channel r) f.end })))
-          (flies_same took.Alive counted t cs counted refl (t.acked over) (t.confirms over)) (failed_stay took.Alive counted t cs (inl refl)) (few_stay took.Alive counted t cs (inl refl)) refl;
+          (flies_same took.Alive counted t cs counted refl (t.acked over) (t.confirms over)) (failed_stay took.Alive counted t cs (inl refl)) (few_stay took.Alive counted t cs (inl refl)) refl (unparted took.Alive counted t cs (λ h. absurd (cc)));
     };
     tells = refl;
     got = (record { got = refl; drops = t.drops }, opens_nothing took.Alive counted t cs (λ h. absurd (cc)));

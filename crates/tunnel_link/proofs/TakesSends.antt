@@ -1,17 +1,20 @@
 -- The answers of the channel to a frame that came in time, and to which something is sent.
-use Rattle.std.proofs.Common.{◌≡◌, inl, inr, ℕ, List, [], ◌∷◌, Bool, true, false, Option, Some, None, refl, sym, ap, ◌∙◌}
+use Rattle.std.proofs.Common.{◌≡◌, inl, inr, ℕ, List, [], ◌∷◌, Bool, true, false, Option, Some, None, refl, sym, subst, ap, ◌∙◌}
+use Rattle.std.specs.Prelude.{is_some}
 use Rattle.knx_model.specs.declared.frames.cemi.Ldata.{Ldata}
 use Rattle.knx_model.specs.declared.frames.ip.IpFrame.{IpFrame}
+use Rattle.knx_model.specs.declared.frames.ip.IpFrame.TheVariants.{StateResponse, DisconnectRequest, DisconnectResponse}
 use Rattle.line_model.specs.declared.client_end.ChannelTook.{ChannelTook}
 use Rattle.line_model.specs.declared.client_end.ChannelTook.TheVariants as took
-use Rattle.line_model.specs.Reading.{datagram_in, ldata_in, is_con}
-use Rattle.line_model.specs.Record.{Entry}
+use Rattle.line_model.specs.Reading.{datagram_in, ldata_in, is_con, is_connect_request, disconnect_request_in}
+use Rattle.line_model.specs.Record.{Put, Entry, entry}
 use Rattle.line_model.specs.ClientView as seen
 use Rattle.line_model.specs.ClientView.{ClientChannel, channel, Deed, Takes, Loses, Nothing, deed}
 use Rattle.line_model.specs.Moments.{Moment}
 use Rattle.line_model.specs.Signs.{Every}
 use Rattle.line_model.specs.ClientEnd.{ClientEnd, Idle, Seeking, Open, Leaving, JustLost, is_over}
-use Rattle.line_model.specs.ClientFrames.{gone, after_took}
+use Rattle.line_model.specs.ClientFrames.{gone, channel_took, after_took}
+use Rattle.line_model.specs.Leaves.{parting_of, PartsSo}
 use Rattle.tunnel_channel.specs.Fits.{FitsChannel}
 use Rattle.tunnel_channel.specs.Follows.{Ends, Stays, change_told, answer_in, acknowledgement_in}
 use Rattle.tunnel_channel.proofs.Frames.{leave_read}
@@ -22,8 +25,10 @@ use Rattle.tunnel_link.specs.Adds.{IsNothing}
 use Rattle.tunnel_link.proofs.MaySend.{Sending, Flies, lost_sent}
 use Rattle.tunnel_link.proofs.Lapses.{leaves_lost}
 use Rattle.tunnel_link.proofs.Takes.{IsDown, gone_down, IsLostAt, lost_by}
+use Rattle.tunnel_link.proofs.Beats.{InTimeAt}
+use Rattle.tunnel_link.proofs.Partings.{put_parts, parting_sent, IsEnding, ending, PartsBy, Requested, Responded, Told, parts_by, loses_it, parting_is, is_answered, idle_loses, lost_idle, AnswersIt, answers_it}
 use Rattle.tunnel_link.specs.Adds.{One}
-use Rattle.tunnel_link.proofs.TakesRows.{TakenSo, IsCounted, x, Frame, Row, changes, calm_right, undropped, dropped_up, failed_stay, few_stay, unowed, fits_next, fits_acked, flies_same, did_nothing, did_lose, did_take, opens_nothing, all_nothing}
+use Rattle.tunnel_link.proofs.TakesRows.{TakenSo, IsCounted, x, Frame, Row, changes, calm_right, undropped, dropped_up, failed_stay, few_stay, unowed, fits_next, fits_acked, flies_same, did_nothing, did_lose, did_take, opens_nothing, all_nothing, unparted}
 
 module _ (k : Known) (r : List Entry) (f : FitsRecord k r) (right : IsRight k r) (calm : k.fault ≡ None) (octets : List ℕ) (frame : IpFrame) (now : ℕ) (is : datagram_in octets ≡ Some frame) (over : is_over k.channel now ≡ false) where
   -- an acknowledgement, of which nothing else is known
@@ -35,6 +40,8 @@ module _ (k : Known) (r : List Entry) (f : FitsRecord k r) (right : IsRight k r)
     owes = t.owes ack a;
     may = (t.answers ack a).may;
     renews = t.right ack a;
+    parts = put_parts (x k r f right calm octets frame now is over ∷ r) ack now (unparted k r f right calm octets frame now is over told counted t cs (λ e. absurd (let z : Stays ≡ Ends = sym stays ∙ e in cc)))
+        (λ asks. absurd (let none : (is_some (disconnect_request_in (datagram_in ack)) ≡ false) = rw (t.asks_not ack a) refl in let z : true ≡ false = sym asks ∙ none in cc));
     fits = λ u. fits_acked k r f right calm octets frame now is over told counted t cs next ack a h same flies (ap tries_of tried ∙ failed_stay k r f right calm octets frame now is over told counted t cs (inl stays)) (few_stay k r f right calm octets frame now is over told counted t cs (inl stays));
     did = t.no_deed ack a;
   }
@@ -98,10 +105,41 @@ module _ (k : Known) (r : List Entry) (f : FitsRecord k r) (right : IsRight k r)
       → m.what ≡ deed (channel r) (x k r f right calm octets frame now is over) → Every IsNothing l → One (λ (m : Moment). m.what ≡ Loses) (m ∷ l)
   one_loss told counted t cs e m l w a = record { newer = []; m = m; older = l; all = refl; is = w ∙ did_lose k r f right calm octets frame now is over told counted t cs e; newer_nothing = tt; older_nothing = a }
 
+  -- what is to be sent then
+  its_parts : InTimeAt (channel r) now → (e : IsEnding (channel r) (channel (x k r f right calm octets frame now is over ∷ r))) → PartsBy e.c frame (parting_of (x k r f right calm octets frame now is over ∷ r))
+  its_parts timely e =
+      subst (λ (o : Option IpFrame). PartsBy e.c frame o) (sym (parting_is r (x k r f right calm octets frame now is over) e.c e.l e.d e.was e.lost))
+      (parts_by e.c e.l octets now (subst (λ (ch : ClientChannel). InTimeAt ch now) e.was timely) (loses_it r octets now e.c e.l e.d e.was e.lost).loses frame is)
+
+  its_number : (e : IsEnding (channel r) (channel (x k r f right calm octets frame now is over ∷ r))) → e.d ≡ e.c
+  its_number e = (loses_it r octets now e.c e.l e.d e.was e.lost).same
+
+  -- the answer to the gateway's disconnect request
+  answer_parts : InTimeAt (channel r) now → (answer : List ℕ) (counted : Known) (t : Frame k r f right calm octets frame now is over (took.Gone (Some answer)))
+      → (cs : IsCounted k counted (after_took k.channel frame now (took.Gone (Some answer))) (x k r f right calm octets frame now is over ∷ r)) → PartsSo (x k r f right calm octets frame now is over ∷ r) (entry (Put answer) now)
+  answer_parts timely answer counted t cs = by_frame (its_parts timely e)
+    where
+      e : IsEnding (channel r) (channel (x k r f right calm octets frame now is over ∷ r))
+      e = ending (channel r) (channel (x k r f right calm octets frame now is over ∷ r)) (changes k r f right calm octets frame now is over (took.Gone (Some answer)) counted t cs)
+
+      not_connect : is_connect_request (datagram_in answer) ≡ true → ⊥
+      not_connect h = let z : false ≡ true = (t.right answer refl).connects h in cc
+
+      a : AnswersIt (x k r f right calm octets frame now is over ∷ r) (datagram_in answer) e.d
+      a = answers_it (x k r f right calm octets frame now is over ∷ r) (entry (Put answer) now) (datagram_in answer) e.d e.lost (unowed k r f right calm octets frame now is over (took.Gone (Some answer)) counted t cs refl) (t.asks_not answer refl) not_connect (t.answers answer refl).may
+
+      not_of : (other : IpFrame) → frame ≡ other → disconnect_request_in (Some other) ≡ None → ⊥
+      not_of other same none = let z : None ≡ Some e.d = sym (ap disconnect_request_in (is ∙ ap Some same) ∙ none) ∙ a.got in cc
+
+      by_frame : PartsBy e.c frame (parting_of (x k r f right calm octets frame now is over ∷ r)) → PartsSo (x k r f right calm octets frame now is over ∷ r) (entry (Put answer) now)
+      by_frame (Requested ch same o) = parting_sent (x k r f right calm octets frame now is over ∷ r) answer now (DisconnectResponse e.c 0) o (a.is ∙ ap (λ (n : ℕ). Some (DisconnectResponse n 0)) (its_number e))
+      by_frame (Responded ch status same o) = absurd (not_of (DisconnectResponse ch status) same refl)
+      by_frame (Told ch status same o) = absurd (not_of (StateResponse ch status) same refl)
+
   -- the gateway ended it, and is answered
-  pub row_ended : (answer : List ℕ) → Row k r f right calm octets frame now is over (took.Gone (Some answer))
+  pub row_ended : InTimeAt (channel r) now → (answer : List ℕ) → Row k r f right calm octets frame now is over (took.Gone (Some answer))
   unfolding after_took
-  row_ended answer counted q t cs =
+  row_ended timely answer counted q t cs =
       let told : ChannelTook = took.Gone (Some answer) in
       let at = lost_by (channel r) (channel (x k r f right calm octets frame now is over ∷ r)) (changes k r f right calm octets frame now is over (took.Gone (Some answer)) counted t cs) in
       let s = t.answers answer refl in record {
@@ -110,6 +148,7 @@ module _ (k : Known) (r : List Entry) (f : FitsRecord k r) (right : IsRight k r)
           owes = t.owes answer refl;
           may = s.may;
           renews = t.right answer refl;
+          parts = answer_parts timely answer counted t cs;
           fits = λ u. lost_sent (record counted { flight = none_in_flight }) (x k r f right calm octets frame now is over ∷ r) answer at.c at.is cs.channel_is refl (failed_stay k r f right calm octets frame now is over (took.Gone (Some answer)) counted t cs (inr refl)) (few_stay k r f right calm octets frame now is over (took.Gone (Some answer)) counted t cs (inr refl));
           did = t.no_deed answer refl;
         };
@@ -118,20 +157,44 @@ module _ (k : Known) (r : List Entry) (f : FitsRecord k r) (right : IsRight k r)
         does = λ m l w n a. one_loss (took.Gone (Some answer)) counted t cs refl m l w a;
       }
 
-  -- it ended otherwise
-  gone_so : (counted : Known) (t : Frame k r f right calm octets frame now is over (took.Gone None)) (cs : IsCounted k counted (after_took k.channel frame now (took.Gone None)) (x k r f right calm octets frame now is over ∷ r)) (end : ClientEnd) → counted.channel ≡ end → IsDown end
+  -- it ended otherwise: the gateway didn't ask for it
+  not_asked : (ch : ℕ) → frame ≡ DisconnectRequest ch → channel_took k.channel frame now ≡ took.Gone None → ⊥
+  not_asked ch same q = is_answered k.channel ch now (is_over k.channel now) refl (subst (λ (o : IpFrame). channel_took k.channel o now ≡ took.Gone None) same q)
+
+  -- nothing is to be sent after the response to the client's own disconnect request
+  left_parted : (e : IsEnding (channel r) (channel (x k r f right calm octets frame now is over ∷ r))) → channel_took k.channel frame now ≡ took.Gone None → gone k.channel frame ≡ Idle
+      → PartsBy e.c frame (parting_of (x k r f right calm octets frame now is over ∷ r)) → parting_of (x k r f right calm octets frame now is over ∷ r) ≡ None
+  left_parted e q at (Requested ch same o) = absurd (not_asked ch same q)
+  left_parted e q at (Responded ch status same o) = o
+  left_parted e q at (Told ch status same o) =
+      let idle : k.channel ≡ Idle = lost_idle k.channel (sym (ap (gone k.channel) same) ∙ at) in
+      absurd (idle_loses frame now (subst (λ (end : ClientEnd). channel_took end frame now ≡ took.Gone None) idle q))
+
+  -- and a disconnect request after a state response with another status than 0
+  told_parting : (e : IsEnding (channel r) (channel (x k r f right calm octets frame now is over ∷ r))) (c : ℕ) → channel_took k.channel frame now ≡ took.Gone None → gone k.channel frame ≡ JustLost c → channel (x k r f right calm octets frame now is over ∷ r) ≡ seen.Lost c
+      → PartsBy e.c frame (parting_of (x k r f right calm octets frame now is over ∷ r)) → parting_of (x k r f right calm octets frame now is over ∷ r) ≡ Some (DisconnectRequest c)
+  told_parting e c q at lost (Requested ch same o) = absurd (not_asked ch same q)
+  told_parting e c q at lost (Responded ch status same o) = absurd (let z : (Idle ≡ JustLost c) = sym (ap (gone k.channel) same) ∙ at in cc)
+  told_parting e c q at lost (Told ch status same o) = o ∙ ap (λ (n : ℕ). Some (DisconnectRequest n)) (sym (its_number e) ∙ sym (same_lost c e.d (sym lost ∙ e.lost)))
+    where
+      same_lost : (a b : ℕ) → seen.Lost a ≡ seen.Lost b → a ≡ b
+      same_lost a b h = cc
+
+  gone_so : (counted : Known) (t : Frame k r f right calm octets frame now is over (took.Gone None)) (cs : IsCounted k counted (after_took k.channel frame now (took.Gone None)) (x k r f right calm octets frame now is over ∷ r)) → channel_took k.channel frame now ≡ took.Gone None → InTimeAt (channel r) now → (end : ClientEnd) → gone k.channel frame ≡ end → counted.channel ≡ end → IsDown end
       → FitsChannel end now (channel (x k r f right calm octets frame now is over ∷ r)) → TakenSo (left counted) (told_answer (took.Gone None) counted.channel) r (x k r f right calm octets frame now is over)
-  gone_so counted t cs Idle at d g = rw at (record {
+  gone_so counted t cs q timely Idle goes at d g = rw at (record {
     so = record {
       right = calm_right k r f right calm octets frame now is over (took.Gone None) counted t cs (record counted { channel = Idle; flight = none_in_flight }) (undropped k r f right calm octets frame now is over (took.Gone None) counted t cs refl) refl refl;
       fits = λ u. fits_next k r f right calm octets frame now is over (took.Gone None) counted t cs (record counted { channel = Idle; flight = none_in_flight }) g (record { acknowledged = sym (t.acked over); confirmed = sym (t.confirms over) })
-          (failed_stay k r f right calm octets frame now is over (took.Gone None) counted t cs (inr refl)) (few_stay k r f right calm octets frame now is over (took.Gone None) counted t cs (inr refl)) refl;
+          (failed_stay k r f right calm octets frame now is over (took.Gone None) counted t cs (inr refl)) (few_stay k r f right calm octets frame now is over (took.Gone None) counted t cs (inr refl)) refl
+          (left_parted (ending (channel r) (channel (x k r f right calm octets frame now is over ∷ r)) (changes k r f right calm octets frame now is over (took.Gone None) counted t cs)) q goes
+          (its_parts timely (ending (channel r) (channel (x k r f right calm octets frame now is over ∷ r)) (changes k r f right calm octets frame now is over (took.Gone None) counted t cs))));
     };
     tells = refl;
     got = (record { got = refl; drops = t.drops }, opens_nothing k r f right calm octets frame now is over (took.Gone None) counted t cs (λ h. absurd (cc)));
     does = λ m l w n a. one_loss (took.Gone None) counted t cs refl m l w a;
   })
-  gone_so counted t cs (Seeking since) at d g = absurd (not_sought g)
+  gone_so counted t cs q timely (Seeking since) goes at d g = absurd (not_sought g)
     where
       lost_at : IsLostAt (channel (x k r f right calm octets frame now is over ∷ r))
       lost_at = lost_by (channel r) (channel (x k r f right calm octets frame now is over ∷ r)) (changes k r f right calm octets frame now is over (took.Gone None) counted t cs)
@@ -139,16 +202,18 @@ module _ (k : Known) (r : List Entry) (f : FitsRecord k r) (right : IsRight k r)
       not_sought : FitsChannel (Seeking since) now (channel (x k r f right calm octets frame now is over ∷ r)) → ⊥
       not_sought (inl h) = absurd (let e : (seen.Lost lost_at.c ≡ seen.Sought since) = sym lost_at.is ∙ h in cc)
       not_sought (inr h) = absurd (let e : (seen.Lost lost_at.c ≡ seen.Unanswered) = sym lost_at.is ∙ h.unanswered in cc)
-  gone_so counted t cs (Open e) at d g = absurd d
-  gone_so counted t cs (Leaving e) at d g = absurd d
-  gone_so counted t cs (JustLost c) at d g = rw at (record {
+  gone_so counted t cs q timely (Open e) goes at d g = absurd d
+  gone_so counted t cs q timely (Leaving e) goes at d g = absurd d
+  gone_so counted t cs q timely (JustLost c) goes at d g = rw at (record {
     so = leaves_lost counted (x k r f right calm octets frame now is over ∷ r) c g (sym (failed_stay k r f right calm octets frame now is over (took.Gone None) counted t cs (inr refl))) (rw (failed_stay k r f right calm octets frame now is over (took.Gone None) counted t cs (inr refl)) (few_stay k r f right calm octets frame now is over (took.Gone None) counted t cs (inr refl)))
-        (unowed k r f right calm octets frame now is over (took.Gone None) counted t cs refl) (calm_right k r f right calm octets frame now is over (took.Gone None) counted t cs counted (undropped k r f right calm octets frame now is over (took.Gone None) counted t cs refl) refl refl);
+        (unowed k r f right calm octets frame now is over (took.Gone None) counted t cs refl)
+        (told_parting (ending (channel r) (channel (x k r f right calm octets frame now is over ∷ r)) (changes k r f right calm octets frame now is over (took.Gone None) counted t cs)) c q goes g
+        (its_parts timely (ending (channel r) (channel (x k r f right calm octets frame now is over ∷ r)) (changes k r f right calm octets frame now is over (took.Gone None) counted t cs)))) (calm_right k r f right calm octets frame now is over (took.Gone None) counted t cs counted (undropped k r f right calm octets frame now is over (took.Gone None) counted t cs refl) refl refl);
     tells = rw (leave_read c) refl;
     got = (record { got = refl; drops = t.drops }, opens_nothing k r f right calm octets frame now is over (took.Gone None) counted t cs (λ h. absurd (cc)));
     does = λ m l w n a. one_loss (took.Gone None) counted t cs refl m l w a;
   })
 
-  pub row_gone : Row k r f right calm octets frame now is over (took.Gone None)
+  pub row_gone : InTimeAt (channel r) now → Row k r f right calm octets frame now is over (took.Gone None)
   unfolding after_took
-  row_gone counted q t cs = gone_so counted t cs (gone k.channel frame) cs.channel_is (gone_down k.channel frame) t.fits
+  row_gone timely counted q t cs = gone_so counted t cs q timely (gone k.channel frame) refl cs.channel_is (gone_down k.channel frame) t.fits

@@ -2,6 +2,7 @@
 -- that its try failed.
 use Rattle.std.proofs.Common.{◌≡◌, ◌≢◌, ◌⊎◌, inl, inr, ℕ, ◌<◌, ◌≤◌, List, [], ◌∷◌, ◌++◌, length, Bool, true, false, Option, Some, None, refl, sym, subst, ap, ◌∙◌}
 use Rattle.std.specs.Prelude.{◌||◌}
+use Rattle.knx_model.specs.declared.frames.ip.IpFrame.TheVariants.{DisconnectRequest}
 use Rattle.knx_model.specs.Connection.{has_passed}
 use Rattle.line_model.specs.declared.fault.Try.{Try}
 use Rattle.line_model.specs.declared.fault.Try.TheVariants as try
@@ -12,6 +13,7 @@ use Rattle.line_model.specs.ClientView.{ClientChannel, channel, after_entry, Not
 use Rattle.line_model.specs.ChannelLost.{answer_wait, confirmation_wait, own, acknowledged, confirmed, beats, is_given_up, is_unconfirmed, is_dead, has_lapsed}
 use Rattle.line_model.specs.Renews.{has_renewed, owed}
 use Rattle.line_model.specs.Faults.{tries}
+use Rattle.line_model.specs.Leaves.{parting_of}
 use Rattle.line_model.specs.Moments.{Moment}
 use Rattle.line_model.specs.ClientEnd.{ClientEnd, Idle, Seeking, Open, Leaving, JustLost, OpenEnd, open_end, is_over}
 use Rattle.tunnel_channel.specs.Fits.{FitsChannel, Fits, HasNone, Knows, KnowsOpen, end_of}
@@ -25,6 +27,7 @@ use Rattle.tunnel_link.specs.Kept.{is_late, is_over_for}
 use Rattle.tunnel_link.specs.Rights.{FitsNow, FitsRecord, tries_of}
 use Rattle.tunnel_link.specs.Adds.{IsNothing, One, AllNothing, moments_on}
 use Rattle.tunnel_link.proofs.MaySend.{fits_of, same_late}
+use Rattle.tunnel_link.proofs.Partings.{undone_parted, lapsed_parting, still_parting, unheard_parted}
 use Rattle.tunnel_link.proofs.Seeks.{none_flies}
 use Rattle.tunnel_link.proofs.Quiet.{unread_owes, Rests, open_rests, sought_rests, none_rests, Ends, open_ends, sought_ends, lost_ends, unanswered_ends}
 
@@ -38,6 +41,7 @@ pub record HasLapsed (k : Known) (r : List Entry) : Type 0 where
   pub failed : tries r ≡ tries_of k.tries
   pub few : length (tries_of k.tries) < 3
   pub paid : owed r ≡ None
+  pub parting : parting_of r ≡ Some (DisconnectRequest e.channel)
 
 pub record IsUnheard (k : Known) (r : List Entry) : Type 0 where
   pub since : ℕ
@@ -49,6 +53,7 @@ pub record IsUnheard (k : Known) (r : List Entry) : Type 0 where
   pub failed : tries r ≡ try.NoAnswer ∷ tries_of k.tries
   pub few : length (tries_of k.tries) < 3
   pub paid : owed r ≡ None
+  pub parted : parting_of r ≡ None
 
 abbrev pub IsLoss : Moment → Type 0
 IsLoss m = m.what ≡ Loses
@@ -189,6 +194,7 @@ module _ (k : Known) (r : List Entry) (f : FitsRecord k r) (what : Item) (now : 
           failed = f.failed ∙ sym (rests.failed (tries r));
           few = rw (rests.failed (tries r)) f.few;
           paid = unread_owes r (entry what now) n;
+          parted = undone_parted r what now poll rests.did f.parted;
           first = still_first k.channel k.channel r what now poll f.end end f.first (idle_or k.channel (channel (entry what now ∷ r)) end);
         },
         rests.did,
@@ -204,7 +210,20 @@ module _ (k : Known) (r : List Entry) (f : FitsRecord k r) (what : Item) (now : 
   lapses_so e left is o over why =
       let ends : Ends (channel r) (entry what now) (seen.Lost o.c) Loses (λ t. t) = subst (λ (ch : ClientChannel). Ends ch (entry what now) (seen.Lost o.c) Loses (λ t. t)) (sym o.is) (open_ends o.c o.l what now poll (open_lapsed e left o (is_late k.flight now) refl why)) in
       let same : (e.channel ≡ o.c) = ap (λ (d : OpenEnd). d.channel) o.knows.is in
-      inl (record { e = e; is = is; lost = ends.after_is ∙ ap (λ (n : ℕ). seen.Lost n) (sym same); over = over; failed = ends.failed (tries r) ∙ sym f.failed; few = few_of; paid = ends.owes }, ends.did_is)
+      let parting : (parting_of (entry what now ∷ r) ≡ Some (DisconnectRequest o.c)) = lapsed_parting r (entry what now) o.c o.l o.c o.is ends.after_is (open_lapsed e left o (is_late k.flight now) refl why) in
+      inl (
+        record {
+          e = e;
+          is = is;
+          lost = ends.after_is ∙ ap (λ (n : ℕ). seen.Lost n) (sym same);
+          over = over;
+          failed = ends.failed (tries r) ∙ sym f.failed;
+          few = few_of;
+          paid = ends.owes;
+          parting = parting ∙ ap (λ (n : ℕ). Some (DisconnectRequest n)) (sym same);
+        },
+        ends.did_is,
+      )
 
   ended_so : (end : ClientEnd) → k.channel ≡ end → FitsNow end (channel r) → is_over_for k now ≡ true → Ending
   ended_so Idle is g over =
@@ -226,6 +245,7 @@ module _ (k : Known) (r : List Entry) (f : FitsRecord k r) (what : Item) (now : 
           failed = ends.failed (tries r) ∙ ap (λ (t : List Try). try.NoAnswer ∷ t) (sym f.failed);
           few = few_of;
           paid = ends.owes;
+          parted = unheard_parted r (entry what now) ends.after_is;
         },
         ends.did_is,
       )
@@ -263,7 +283,7 @@ module _ (k : Known) (old added : List Placed) (p : Placed) (poll : is_poll p.wh
   waited_more n (InTime f a) = by_over (is_over_for k p.what.now) refl n f a
   waited_more n (Lapsed h one) =
       let ends : Ends (channel so_far) p.what (seen.Lost h.e.channel) Nothing (λ t. t) = subst (λ (ch : ClientChannel). Ends ch p.what (seen.Lost h.e.channel) Nothing (λ t. t)) (sym h.lost) (lost_ends h.e.channel p.what.what p.what.now poll) in
-      Lapsed (record { e = h.e; is = h.is; lost = ends.after_is; over = over_for_later k h.e (newest_time so_far) p.what.now h.is le h.over; failed = ends.failed (tries so_far) ∙ h.failed; few = h.few; paid = ends.owes })
+      Lapsed (record { e = h.e; is = h.is; lost = ends.after_is; over = over_for_later k h.e (newest_time so_far) p.what.now h.is le h.over; failed = ends.failed (tries so_far) ∙ h.failed; few = h.few; paid = ends.owes; parting = still_parting so_far p.what h.e.channel h.e.channel h.lost ends.after_is poll ∙ h.parting })
       (nothing_more _ (moments_on old added) ends.did_is one)
   waited_more n (Unheard h a) =
       let ends : Ends (channel so_far) p.what seen.Unanswered Nothing (λ t. t) = subst (λ (ch : ClientChannel). Ends ch p.what seen.Unanswered Nothing (λ t. t)) (sym h.unanswered) (unanswered_ends p.what.what p.what.now poll) in
@@ -277,4 +297,5 @@ module _ (k : Known) (old added : List Placed) (p : Placed) (poll : is_poll p.wh
         failed = ends.failed (tries so_far) ∙ h.failed;
         few = h.few;
         paid = ends.owes;
+        parted = unheard_parted so_far p.what ends.after_is;
       }) (ends.did_is, a)

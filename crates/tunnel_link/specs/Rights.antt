@@ -1,5 +1,5 @@
--- What the client's end of a tunnel keeps of its link's record, by the record alone: always that it renewed, sent and acknowledged rightly, how
--- many datagrams were dropped and how many were got, and that three failed tries are those of the record; and until it has ended that what it
+-- What the client's end of a tunnel keeps of its link's record, by the record alone: always that it renewed, sent and acknowledged rightly, and told
+-- the gateway of each loss of the channel, how many datagrams were dropped and how many were got, and that three failed tries are those of the record; and until it has ended that what it
 -- knows is what the record says.
 use Rattle.std.specs.Prelude.{◌≡◌, ℕ, ◌<◌, ◌^◌, ◌-◌, min, Bool, true, false, not, ◌&&◌, is_none, List, [], ◌∷◌, length, reverse, Option, Some, None}
 use Rattle.knx_model.specs.Outside.{Rose}
@@ -14,6 +14,7 @@ use Rattle.line_model.specs.ClientView as seen
 use Rattle.line_model.specs.ClientView.{ClientChannel, channel}
 use Rattle.line_model.specs.Renews.{RenewsRightly, AcknowledgesRightly, has_renewed, owed}
 use Rattle.line_model.specs.Sendings.{SendsRightly}
+use Rattle.line_model.specs.Leaves.{PartsRightly, parting_of}
 use Rattle.line_model.specs.Dropped as drop
 use Rattle.line_model.specs.Faults.{tries, datagrams_taken}
 use Rattle.line_model.specs.ClientEnd.{ClientEnd, Idle, Seeking, Open, Leaving, JustLost, is_over, put_refused}
@@ -104,12 +105,13 @@ pub record IsRight (k : Known) (r : List Entry) : Type 0 where
   pub renews : RenewsRightly r
   pub sends : SendsRightly r
   pub acknowledges : AcknowledgesRightly r
+  pub parts : PartsRightly r
   pub drops : k.dropped ≡ at_most_64_bits (drop.dropped r)
   pub takes : k.taken ≡ at_most_64_bits (datagrams_taken r)
   pub fault : FitsFault k.fault (tries r)
 
 -- ---- until it has ended: the end of the channel, what came of the request put last, and the tries are those of the record, which has come to
--- its time; no acknowledgement is owed, and an endpoint without connect request is the first one
+-- its time; no acknowledgement is owed, the gateway was told of each loss, and an endpoint without connect request is the first one
 
 pub record FitsRecord (k : Known) (r : List Entry) : Type 0 where
   pub end : FitsNow k.channel (channel r)
@@ -119,6 +121,7 @@ pub record FitsRecord (k : Known) (r : List Entry) : Type 0 where
   pub failed : tries_of k.tries ≡ tries r
   pub few : length (tries r) < 3
   pub paid : owed r ≡ None
+  pub parted : parting_of r ≡ None
   pub first : channel r ≡ seen.Fresh → has_renewed r ≡ false
 
 pub record IsKept (k : Known) (r : List Entry) : Type 0 where

@@ -1,7 +1,8 @@
 //! How long a poll lasts.
 
-ghost use Rattle.std.specs.Prelude.{◌<◌, ◌≤◌, ◌+◌, IfSome};
+ghost use Rattle.std.specs.Prelude.{◌≡◌, ◌<◌, ◌≤◌, ◌+◌, IfSome, Some};
 ghost use Rattle.knx_model.specs.Connection.{last_time};
+ghost use Rattle.line_model.specs.Waiting.{PollEnds};
 
 /// How long it lasts at most, in milliseconds.
 pub const LONGEST_POLL_MS: u32 = 100;
@@ -11,6 +12,7 @@ pub fn until(deadline: Option<u64>, now: u64, longest_ms: u32) -> u32
     ensures most { result ≤ longest_ms }
     ensures in_time { IfSome deadline (λ time. now < time → now + result ≤ time) }
     ensures in_range { now + result ≤ last_time }
+    ensures as_long { PollEnds longest_ms (λ time. deadline ≡ Some time) now result }
 {
     let left = match deadline {
         Some(time) if now < time => time - now,

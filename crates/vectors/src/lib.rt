@@ -23,8 +23,6 @@ mod plans;
 #[cfg(test)]
 mod projects;
 #[cfg(test)]
-mod reports;
-#[cfg(test)]
 mod requests;
 #[cfg(test)]
 mod services;

@@ -2,14 +2,18 @@
 
 ghost use Rattle.std.specs.Prelude.{◌≡◌, ◌≢◌, ◌≤◌, List, IfErr, IfOk, OnOk, Some, None};
 ghost use Rattle.line_model.specs.Log.{Job, AllOver, TurnUnfinished};
+ghost use Rattle.tunnel_link.specs.Adds.{Growing, HasActed};
 ghost use Rattle.tunnel_link.specs.Goes.{GoesOn};
 ghost use Rattle.tunnel_link.specs.Rights.{FailsWhere, WhereTold};
 ghost use Rattle.hub_work.specs.Books.{AreJobsOf};
 ghost use Rattle.line_model.specs.LinkStory.{newest_time};
 ghost use Rattle.line_model.specs.Record.{entries};
+ghost use Rattle.hub_core.specs.Came.{Comes};
 ghost use Rattle.hub_core.specs.Closes.{AsksNow, Begins, Closes, EndsAs, FinishesSo, GoesSo, OverExactly, Resumes};
+ghost use Rattle.hub_core.specs.Leaving.{ClosesOn};
 ghost use Rattle.hub_core.specs.Hears.{HearsSo, heard_at_end};
 ghost use Rattle.hub_core.specs.Keeps.{IsAllDone};
+ghost use Rattle.hub_core.specs.Polls.{Polls, PollsInClosing, SendsOnly};
 ghost use Rattle.hub_core.specs.Pumps.{AddsSo};
 ghost use Rattle.hub_core.specs.Seen.{SameRun, StaysEnded};
 
@@ -31,6 +35,9 @@ impl<L: Link> Hub<L> {
         ensures closes { OnOk result (AddsSo (Closes self.old.closing self.new.closing) (L.story self.old.link) (L.story self.new.link)) }
         ensures ends { IfOk result (λ done. EndsAs done self.new.closing (L.story self.new.link)) }
         ensures goes { IfOk result (λ done. GoesSo done (L.story self.old.link) (L.story self.new.link)) }
+        ensures rightly { Growing (ClosesOn self.old.closing) (L.story self.old.link) (L.story self.new.link) }
+        ensures polls { OnOk result (PollsInClosing self.old.jobs self.old.turns self.old.log self.old.crew self.old.closing (L.story self.old.link) (L.story self.new.link)) }
+        ensures came { OnOk result (Comes self.old.crew self.new.crew (L.story self.old.link) (L.story self.new.link)) }
         ensures run { SameRun self.old self.new }
         ensures log { self.new.log ≡ self.old.log }
         ensures ended { StaysEnded self.old.fault result self.new.fault (self.new.link ≡ self.old.link) }
@@ -49,6 +56,7 @@ impl<L: Link> Hub<L> {
     /// Asks to end the channel once the listening is over, and else makes one poll.
     fn goes_on(&mut self) -> Result<Finished, HubFault>
         requires stands { self.old.fault ≡ None }
+        requires acted { HasActed self.old.known (L.story self.old.link) }
         requires over { IsAllDone self.old.devices self.old.turns self.old.log }
         ensures grows { GoesOn (L.story self.old.link) (L.story self.new.link) }
         ensures script { L.script self.new.link ≡ L.script self.old.link }
@@ -58,8 +66,11 @@ impl<L: Link> Hub<L> {
         ensures closes { OnOk result (AddsSo (Closes self.old.closing self.new.closing) (L.story self.old.link) (L.story self.new.link)) }
         ensures ends { IfOk result (λ done. EndsAs done self.new.closing (L.story self.new.link)) }
         ensures goes { IfOk result (λ done. GoesSo done (L.story self.old.link) (L.story self.new.link)) }
+        ensures polls { OnOk result (PollsInClosing self.old.jobs self.old.turns self.old.log self.old.crew self.old.closing (L.story self.old.link) (L.story self.new.link)) }
+        ensures came { OnOk result (Comes self.old.crew self.new.crew (L.story self.old.link) (L.story self.new.link)) }
         ensures fault { IfErr result (λ fault. self.new.fault ≡ Some fault) }
         ensures stands { OnOk result (self.new.fault ≡ None) }
+        ensures rightly { Growing (ClosesOn self.old.closing) (L.story self.old.link) (L.story self.new.link) }
         ensures run { SameRun self.old self.new }
         ensures log { self.new.log ≡ self.old.log }
     {
@@ -84,8 +95,11 @@ impl<L: Link> Hub<L> {
         ensures resumes { OnOk result (AddsSo (Resumes self.old.closing self.new.closing) (L.story self.old.link) (L.story self.new.link)) }
         ensures ends { IfOk result (λ done. EndsAs done self.new.closing (L.story self.new.link)) }
         ensures goes { IfOk result (λ done. GoesSo done (L.story self.old.link) (L.story self.new.link)) }
+        ensures sends { OnOk result (Growing SendsOnly (L.story self.old.link) (L.story self.new.link)) }
+        ensures crew { self.new.crew ≡ self.old.crew }
         ensures fault { IfErr result (λ fault. self.new.fault ≡ Some fault) }
         ensures stands { OnOk result (self.new.fault ≡ None) }
+        ensures rightly { Growing (ClosesOn self.old.closing) (L.story self.old.link) (L.story self.new.link) }
         ensures run { SameRun self.old self.new }
         ensures log { self.new.log ≡ self.old.log }
     {
@@ -105,6 +119,7 @@ impl<L: Link> Hub<L> {
     fn listen(&mut self) -> Result<Finished, HubFault>
         requires stands { self.old.fault ≡ None }
         requires begun { self.old.closing ≢ None }
+        requires acted { HasActed self.old.known (L.story self.old.link) }
         requires over { IsAllDone self.old.devices self.old.turns self.old.log }
         ensures grows { GoesOn (L.story self.old.link) (L.story self.new.link) }
         ensures script { L.script self.new.link ≡ L.script self.old.link }
@@ -114,8 +129,11 @@ impl<L: Link> Hub<L> {
         ensures resumes { OnOk result (AddsSo (Resumes self.old.closing self.new.closing) (L.story self.old.link) (L.story self.new.link)) }
         ensures ends { IfOk result (λ done. EndsAs done self.new.closing (L.story self.new.link)) }
         ensures goes { IfOk result (λ done. GoesSo done (L.story self.old.link) (L.story self.new.link)) }
+        ensures polls { OnOk result (Polls self.old.jobs self.old.turns self.old.log self.old.crew self.old.closing (L.story self.old.link) (L.story self.new.link)) }
+        ensures came { OnOk result (Comes self.old.crew self.new.crew (L.story self.old.link) (L.story self.new.link)) }
         ensures fault { IfErr result (λ fault. self.new.fault ≡ Some fault) }
         ensures stands { OnOk result (self.new.fault ≡ None) }
+        ensures rightly { Growing (ClosesOn self.old.closing) (L.story self.old.link) (L.story self.new.link) }
         ensures run { SameRun self.old self.new }
         ensures log { self.new.log ≡ self.old.log }
     {
@@ -133,6 +151,8 @@ impl<L: Link> Hub<L> {
         ensures stays { self.old.closing ≢ None → self.new.closing ≡ self.old.closing }
         ensures begun { self.new.closing ≢ None }
         ensures link { self.new.link ≡ self.old.link }
+        ensures known { self.new.known ≡ self.old.known }
+        ensures crew { self.new.crew ≡ self.old.crew }
         ensures run { SameRun self.old self.new }
         ensures log { self.new.log ≡ self.old.log }
         ensures stands { self.new.fault ≡ None }
@@ -155,6 +175,8 @@ impl<L: Link> Hub<L> {
         ensures begins { WhereTold (λ places. Begins (newest_time (entries places)) self.old.closing self.new.closing) (L.story self.old.link) }
         ensures stays { self.old.closing ≢ None → self.new.closing ≡ self.old.closing }
         ensures link { self.new.link ≡ self.old.link }
+        ensures known { self.new.known ≡ self.old.known }
+        ensures crew { self.new.crew ≡ self.old.crew }
         ensures run { SameRun self.old self.new }
         ensures log { self.new.log ≡ self.old.log }
         ensures stands { self.new.fault ≡ None }

@@ -1,10 +1,13 @@
 //! The group telegrams.
 
-ghost use Rattle.std.specs.Prelude.{◌≡◌, ◌≤◌, IfErr, IfOk, IfSome, OnErr, OnOk, Some, None};
+ghost use Rattle.std.specs.Prelude.{◌≡◌, ◌≢◌, ◌≤◌, IfErr, IfOk, IfSome, OnErr, OnOk, Some, None};
+ghost use Rattle.tunnel_link.specs.Adds.{Growing};
+ghost use Rattle.tunnel_link.specs.Alone.{Each, LeavesAlone};
 ghost use Rattle.tunnel_link.specs.Goes.{GoesOn};
 ghost use Rattle.tunnel_link.specs.Rights.{FailsWhere};
 ghost use Rattle.line_model.specs.Log.{IsNextTurn, TurnUnfinished};
 ghost use Rattle.hub_work.specs.Turns.{GroupTells};
+ghost use Rattle.hub_work.specs.declared.answers.GroupDid.TheVariants as step;
 ghost use Rattle.hub_core.specs.Hears.{HearsSo};
 ghost use Rattle.hub_core.specs.Waits.{WaitsExactly};
 ghost use Rattle.hub_core.specs.Seen.{SameRun, StaysEnded};
@@ -34,6 +37,9 @@ impl<L: Link> Hub<L> {
         ensures waits { IfOk result (λ did. WaitsExactly self.old.jobs self.old.turns self.old.log (L.place self.old.link) k did (L.story self.old.link)) }
         ensures told { IfOk result (λ did. GroupTells (L.place self.old.link) k did self.old.log self.new.log) }
         ensures untold { OnErr result (self.new.log ≡ self.old.log) }
+        ensures alone { Growing (Each LeavesAlone) (L.story self.old.link) (L.story self.new.link) }
+        ensures still { IfOk result (λ did. did ≢ step.Put → self.new.link ≡ self.old.link) }
+        ensures crew { self.new.crew ≡ self.old.crew }
         ensures run { SameRun self.old self.new }
         ensures closing { self.new.closing ≡ self.old.closing }
         ensures ended { StaysEnded self.old.fault result self.new.fault (self.new.link ≡ self.old.link) }

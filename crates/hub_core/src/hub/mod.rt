@@ -9,13 +9,14 @@ mod turn;
 ghost use Rattle.std.specs.Prelude.{◌≡◌, ◌≤◌, ◌<◌, ◌+◌, ◌^◌, ◌-◌, min, length, map, reverse, List, [], IfOk, IfErr, Some, None};
 ghost use Rattle.std.specs.List.{AllByRecursion};
 ghost use Rattle.line_model.specs.Headline.{Keeps, IsGoodJob};
-ghost use Rattle.line_model.specs.LinkStory.{IsNewLink, record_in};
+ghost use Rattle.line_model.specs.LinkStory.{IsNewLink, IsPlace, record_in};
 ghost use Rattle.line_model.specs.Log.{Job, IsLog, OneDownloaderPerDevice};
 ghost use Rattle.hub_work.specs.Books.{AreJobsOf};
 ghost use Rattle.hub_work.specs.Requests.{IsTurnInRange};
 ghost use Rattle.hub_work.specs.declared.job.HubJob.{HubJob as JobOfHub};
 ghost use Rattle.hub_core.specs.Promises.{DropsIn, FaultRightIn, IsRightOver, IsSafeOver, TellsIn};
 ghost use Rattle.hub_core.specs.Seen.{AreJobs, tasks_seen};
+ghost use Rattle.hub_core.specs.Thorough.{IsThoroughOver};
 
 use crate::end::HubEnd;
 use device_reservation::one_downloader_per_device;
@@ -105,6 +106,7 @@ impl<L: Link> Hub<L> {
         ensures turns { self.new.turns ≡ self.old.turns }
         ensures log { self.new.log ≡ self.old.log }
         ensures closing { self.new.closing ≡ self.old.closing }
+        ensures crew { self.new.crew ≡ self.old.crew }
         ensures missed { self.new.missed ≡ min (self.old.missed + 1) (2 ^ 64 - 1) }
     {
         self.missed = self.missed.saturating_add(1);
@@ -138,20 +140,23 @@ impl<L: Link> Hub<L> {
 
     /// What its type keeps, at every moment and after a fault too, for any jobs with its devices and plans. Where its link tells something: the log is
     /// one of its jobs and telegrams, what it tells is true, and each request was right; all is kept that the line's promises need of the client, and it
-    /// polled promptly, so that it kept the client's whole discipline; it has ended exactly where there is a cause; and over a link that tells its events
-    /// and with good jobs, what the law of the line says. Over every link its log is one of its jobs and telegrams, with one downloader for each device.
+    /// polled promptly, so that it kept the client's whole discipline; it is thorough in what it ends; it has ended exactly where there is a cause; and over
+    /// a link that tells its events and with good jobs, what the law of the line says. Over every link its log is one of its jobs and telegrams, with one downloader for each device.
     pub fn keeps(&self)
         ensures tells { (jobs : List Job) → AreJobs self.now.jobs jobs → TellsIn jobs self.now.turns self.now.log (L.story self.now.link) }
         ensures headline { (jobs : List Job) → AreJobs self.now.jobs jobs → Keeps jobs self.now.turns (L.story self.now.link) self.now.log }
         ensures safe { (jobs : List Job) → AreJobs self.now.jobs jobs → IsSafeOver jobs self.now.turns (L.story self.now.link) self.now.log }
+        ensures thorough { (jobs : List Job) → AreJobs self.now.jobs jobs → IsThoroughOver jobs (L.story self.now.link) self.now.log }
         ensures right { (jobs : List Job) → AreJobs self.now.jobs jobs → AllByRecursion IsGoodJob jobs → IsRightOver jobs (L.story self.now.link) self.now.log }
         ensures fault { (jobs : List Job) → AreJobs self.now.jobs jobs → FaultRightIn jobs self.now.log self.now.fault (record_in (L.story self.now.link)) }
         ensures form { (jobs : List Job) → AreJobsOf self.now.devices jobs → IsLog jobs self.now.turns (L.place self.now.link) self.now.log }
         ensures alone { (jobs : List Job) → AreJobsOf self.now.devices jobs → OneDownloaderPerDevice jobs self.now.log }
+        ensures place { IsPlace (L.place self.now.link) (L.story self.now.link) }
     {
         one_downloader_per_device();
         every_safe_interleaving();
         let _work = &self.work;
+        let _at = self.tunnel.at();
         self.tunnel.keeps();
     }
 }

@@ -1,11 +1,14 @@
 //! One poll of the link, with what is due before it.
 
 ghost use Rattle.std.specs.Prelude.{◌≡◌, ◌≤◌, ◌||◌, is_some, IfErr, IfOk, OnOk, Some, None};
-ghost use Rattle.tunnel_link.specs.Adds.{HasActed, Ready};
+ghost use Rattle.tunnel_link.specs.Adds.{Growing, HasActed, Ready};
+ghost use Rattle.tunnel_link.specs.Alone.{Each, EndsNone, LeavesAlone};
 ghost use Rattle.tunnel_link.specs.Goes.{GoesOn};
-ghost use Rattle.tunnel_link.specs.Rights.{FailsWhere};
+ghost use Rattle.tunnel_link.specs.Rights.{FailsWhere, WhereTold};
+ghost use Rattle.hub_core.specs.Came.{Comes};
 ghost use Rattle.hub_core.specs.Closes.{HasDone, Resumes};
 ghost use Rattle.hub_core.specs.Hears.{HearsSo, heard_of};
+ghost use Rattle.hub_core.specs.Polls.{Polls, SendsOnly};
 ghost use Rattle.hub_core.specs.Pumps.{AddsSo, AnswersSo, PumpsSo, Does, is_late_now, is_left_now, Moves};
 ghost use Rattle.hub_core.specs.Seen.{SameRun, StaysEnded};
 
@@ -24,6 +27,9 @@ impl<L: Link> Hub<L> {
         ensures stands { OnOk result (self.new.fault ≡ None) }
         ensures heard { IfOk result (λ pumped. HearsSo (heard_of pumped) (L.story self.old.link) (L.story self.new.link)) }
         ensures says { IfOk result (λ pumped. PumpsSo (is_some self.old.closing) pumped (L.story self.old.link) (L.story self.new.link)) }
+        ensures ends_none { Growing (Each EndsNone) (L.story self.old.link) (L.story self.new.link) }
+        ensures polls { OnOk result (Polls self.old.jobs self.old.turns self.old.log self.old.crew self.old.closing (L.story self.old.link) (L.story self.new.link)) }
+        ensures came { OnOk result (Comes self.old.crew self.new.crew (L.story self.old.link) (L.story self.new.link)) }
         ensures run { SameRun self.old self.new }
         ensures begun { is_some self.new.closing ≡ is_some self.old.closing }
         ensures log { self.new.log ≡ self.old.log }
@@ -49,10 +55,13 @@ impl<L: Link> Hub<L> {
         ensures cause { IfErr result (λ fault. FailsWhere fault (L.faults self.old.link) (L.faults self.new.link)) }
         ensures heard { OnOk result (HearsSo None (L.story self.old.link) (L.story self.new.link)) }
         ensures does { IfOk result (λ did. AddsSo (Does is_late_now did) (L.story self.old.link) (L.story self.new.link)) }
+        ensures sends { OnOk result (Growing SendsOnly (L.story self.old.link) (L.story self.new.link)) }
+        ensures still { OnOk result (WhereTold (λ places. (self.new.crew ≡ self.old.crew) × (self.new.closing ≡ self.old.closing)) (L.story self.old.link)) }
         ensures resumes { OnOk result (AddsSo (Resumes self.old.closing self.new.closing) (L.story self.old.link) (L.story self.new.link)) }
         ensures begun { is_some self.new.closing ≡ is_some self.old.closing }
         ensures fault { IfErr result (λ fault. self.new.fault ≡ Some fault) }
         ensures stands { OnOk result (self.new.fault ≡ None) }
+        ensures alone { Growing (Each LeavesAlone) (L.story self.old.link) (L.story self.new.link) }
         ensures run { SameRun self.old self.new }
         ensures log { self.new.log ≡ self.old.log }
     {
@@ -75,8 +84,13 @@ impl<L: Link> Hub<L> {
         ensures cause { IfErr result (λ fault. FailsWhere fault (L.faults self.old.link) (L.faults self.new.link)) }
         ensures heard { OnOk result (HearsSo None (L.story self.old.link) (L.story self.new.link)) }
         ensures does { IfOk result (λ did. AddsSo (Does (is_left_now (is_some self.old.closing)) did) (L.story self.old.link) (L.story self.new.link)) }
+        ensures acted { OnOk result (HasActed self.new.known (L.story self.new.link)) }
+        ensures sends { OnOk result (Growing SendsOnly (L.story self.old.link) (L.story self.new.link)) }
+        ensures crew { self.new.crew ≡ self.old.crew }
+        ensures closing { self.new.closing ≡ self.old.closing }
         ensures fault { IfErr result (λ fault. self.new.fault ≡ Some fault) }
         ensures stands { OnOk result (self.new.fault ≡ None) }
+        ensures ends_none { Growing (Each EndsNone) (L.story self.old.link) (L.story self.new.link) }
         ensures run { SameRun self.old self.new }
         ensures begun { is_some self.new.closing ≡ is_some self.old.closing }
         ensures log { self.new.log ≡ self.old.log }
@@ -95,6 +109,7 @@ impl<L: Link> Hub<L> {
     /// Makes one poll.
     pub(super) fn poll(&mut self) -> Result<Polled, HubFault>
         requires stands { self.old.fault ≡ None }
+        requires acted { HasActed self.old.known (L.story self.old.link) }
         requires ready { self.old.closing ≡ None → Ready self.old.known (L.story self.old.link) }
         ensures grows { GoesOn (L.story self.old.link) (L.story self.new.link) }
         ensures script { L.script self.new.link ≡ L.script self.old.link }
@@ -102,10 +117,13 @@ impl<L: Link> Hub<L> {
         ensures cause { IfErr result (λ fault. FailsWhere fault (L.faults self.old.link) (L.faults self.new.link)) }
         ensures heard { IfOk result (λ polled. HearsSo polled.heard (L.story self.old.link) (L.story self.new.link)) }
         ensures moves { IfOk result (λ polled. AddsSo (Moves polled.moved) (L.story self.old.link) (L.story self.new.link)) }
+        ensures polls { OnOk result (Polls self.old.jobs self.old.turns self.old.log self.old.crew self.old.closing (L.story self.old.link) (L.story self.new.link)) }
+        ensures came { OnOk result (Comes self.old.crew self.new.crew (L.story self.old.link) (L.story self.new.link)) }
         ensures resumes { OnOk result (AddsSo (Resumes self.old.closing self.new.closing) (L.story self.old.link) (L.story self.new.link)) }
         ensures done { OnOk result (AddsSo HasDone (L.story self.old.link) (L.story self.new.link)) }
         ensures fault { IfErr result (λ fault. self.new.fault ≡ Some fault) }
         ensures stands { OnOk result (self.new.fault ≡ None) }
+        ensures alone { Growing (Each LeavesAlone) (L.story self.old.link) (L.story self.new.link) }
         ensures run { SameRun self.old self.new }
         ensures begun { is_some self.new.closing ≡ is_some self.old.closing }
         ensures log { self.new.log ≡ self.old.log }
@@ -113,7 +131,7 @@ impl<L: Link> Hub<L> {
         moments_go_on();
         let now = self.tunnel.now();
         let has_place = self.tunnel.has_place();
-        let longest_ms = self.work.wait_ms(now, has_place, self.tunnel.deadline());
+        let longest_ms = self.work.wait_ms(now, has_place);
         let came = self.tunnel.poll(longest_ms)?;
         let now = self.tunnel.now();
         self.tunnel.keeps();

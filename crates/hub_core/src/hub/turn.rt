@@ -1,9 +1,13 @@
 //! A worker's turn.
 
-ghost use Rattle.std.specs.Prelude.{◌≡◌, ◌≤◌, IfErr, IfOk, OnErr, OnOk, Some, None};
+ghost use Rattle.std.specs.Prelude.{◌≡◌, ◌≢◌, ◌≤◌, IfErr, IfOk, OnErr, OnOk, Some, None};
+ghost use Rattle.hub_work.specs.Came.{TakesOneIn};
 ghost use Rattle.hub_work.specs.Turns.{TurnTells, WhyFreeByLog};
+ghost use Rattle.tunnel_link.specs.Adds.{Growing};
+ghost use Rattle.tunnel_link.specs.Alone.{Each, LeavesAlone};
 ghost use Rattle.tunnel_link.specs.Goes.{GoesOn};
 ghost use Rattle.tunnel_link.specs.Rights.{FailsWhere};
+ghost use Rattle.hub_work.specs.declared.answers.Turned.TheVariants as answer;
 ghost use Rattle.hub_core.specs.Hears.{HearsSo};
 ghost use Rattle.hub_core.specs.Waits.{TurnWaitsExactly};
 ghost use Rattle.hub_core.specs.Seen.{SameRun, StaysEnded};
@@ -25,7 +29,10 @@ impl<L: Link> Hub<L> {
         ensures told { IfOk result (λ turned. TurnTells (L.place self.old.link) worker turned self.old.log self.new.log) }
         ensures waits { IfOk result (λ turned. TurnWaitsExactly self.old.jobs self.old.turns self.old.log self.old.crew (L.place self.old.link) worker turned (L.story self.old.link)) }
         ensures free { IfOk result (WhyFreeByLog self.old.devices self.old.log) }
+        ensures came { OnOk result (TakesOneIn worker self.old.crew self.new.crew) }
         ensures untold { OnErr result (self.new.log ≡ self.old.log) }
+        ensures alone { Growing (Each LeavesAlone) (L.story self.old.link) (L.story self.new.link) }
+        ensures still { IfOk result (λ turned. turned ≢ answer.Moved → self.new.link ≡ self.old.link) }
         ensures run { SameRun self.old self.new }
         ensures closing { self.new.closing ≡ self.old.closing }
         ensures ended { StaysEnded self.old.fault result self.new.fault (self.new.link ≡ self.old.link) }

@@ -4,8 +4,10 @@ ghost use Rattle.std.specs.Prelude.{◌≡◌, ℕ, None, IfSome, List, reverse}
 ghost use Rattle.std.specs.List.{AllByRecursion};
 ghost use Rattle.hub_core.specs.Promises.{IsRightOver, IsSafeOver, FaultRightIn, DropsIn};
 ghost use Rattle.hub_core.specs.Seen.{AreJobs};
+ghost use Rattle.hub_core.specs.Thorough.{IsThoroughOver};
 ghost use Rattle.hub_driver.specs.Drives.{AllDone, CausedSince, HasEndedSo, TellsFault};
 ghost use Rattle.hub_driver.specs.Heard.{HeardAll};
+ghost use Rattle.hub_driver.specs.Leaving.{LeavesOver};
 ghost use Rattle.hub_work.specs.Books.{AreJobsOf};
 ghost use Rattle.line_model.specs.Headline.{Keeps, IsGoodJob};
 ghost use Rattle.line_model.specs.LinkStory.{record_in};
@@ -33,14 +35,17 @@ impl<L: Link> Driver<L> {
         requires done { broken_off ≡ None → AllDone self.hub }
         requires heard { broken_off ≡ None → HeardAll self.heard (record_in (L.story self.hub.link)) }
         requires cause { IfSome broken_off (HasEndedSo self.hub.fault) }
+        requires leaves { (all : List Job) → AreJobsOf self.hub.devices all → LeavesOver all self.hub.turns (L.story self.hub.link) self.hub.log }
         ensures link { result.0 ≡ self.hub.link }
         ensures headline { (all : List Job) → AreJobs self.hub.jobs all → Keeps all self.hub.turns (L.story result.0) (reverse result.1.log) }
         ensures safe { (all : List Job) → AreJobs self.hub.jobs all → IsSafeOver all self.hub.turns (L.story result.0) (reverse result.1.log) }
+        ensures thorough { (all : List Job) → AreJobs self.hub.jobs all → IsThoroughOver all (L.story result.0) (reverse result.1.log) }
         ensures right { (all : List Job) → AreJobs self.hub.jobs all → AllByRecursion IsGoodJob all → IsRightOver all (L.story result.0) (reverse result.1.log) }
         ensures fault { (all : List Job) → AreJobs self.hub.jobs all → FaultRightIn all (reverse result.1.log) result.1.fault (record_in (L.story result.0)) }
         ensures dropped { DropsIn result.1.dropped (record_in (L.story result.0)) }
         ensures form { (all : List Job) → AreJobsOf self.hub.devices all → IsLog all self.hub.turns (L.place result.0) (reverse result.1.log) }
         ensures alone { (all : List Job) → AreJobsOf self.hub.devices all → OneDownloaderPerDevice all (reverse result.1.log) }
+        ensures leaves { (all : List Job) → AreJobsOf self.hub.devices all → LeavesOver all self.hub.turns (L.story result.0) (reverse result.1.log) }
         ensures over { result.1.fault ≡ None → (all : List Job) → AreJobsOf self.hub.devices all → AllOver all (reverse result.1.log) }
         ensures told { result.1.fault ≡ None → ¬ TurnUnfinished self.hub.turns (reverse result.1.log) }
         ensures heard { result.1.fault ≡ None → HeardAll result.1.heard (record_in (L.story result.0)) }

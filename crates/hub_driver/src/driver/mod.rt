@@ -2,12 +2,14 @@
 
 mod end;
 
-ghost use Rattle.std.specs.Prelude.{◌≡◌, ◌+◌, ℕ, None, List, [], ◌∷◌, ◌++◌, IfErr, OnOk, true, length, reverse};
+ghost use Rattle.std.specs.Prelude.{◌≡◌, ◌+◌, ℕ, None, List, [], ◌∷◌, ◌++◌, IfErr, OnOk, true, false, length, reverse};
 ghost use Rattle.std.specs.List.{AllByRecursion};
 ghost use Rattle.hub_core.specs.Promises.{IsRightOver, IsSafeOver, FaultRightIn, DropsIn};
 ghost use Rattle.hub_core.specs.Seen.{SameRun, AreJobs};
+ghost use Rattle.hub_core.specs.Thorough.{IsThoroughOver};
 ghost use Rattle.hub_driver.specs.Drives.{ends, LeavesOpen, AllDone, CausedSince, IsNoMemory, HasEndedSo};
 ghost use Rattle.hub_driver.specs.Heard.{HeardAll};
+ghost use Rattle.hub_driver.specs.Leaving.{ClosesSo, GoesThrough, IsLeft, KnowsHowFar, LeavesOver};
 ghost use Rattle.hub_work.specs.Books.{AreJobsOf};
 ghost use Rattle.line_model.specs.Headline.{Keeps, IsGoodJob};
 ghost use Rattle.line_model.specs.LinkStory.{record_in};
@@ -54,16 +56,19 @@ impl<L: Link> Driver<L> {
     /// Goes through all jobs and group telegrams, and then through the closing. It gives the link back, and what is told.
     pub fn drives<R: Wait, G: Gate>(self, rt: &R, gate: &G) -> (L, Report)
         requires open { LeavesOpen self.hub self.unfinished }
+        requires through { GoesThrough self.hub (L.story self.hub.link) }
         requires heard { HeardAll self.heard (record_in (L.story self.hub.link)) }
         ensures grows { GoesOn (L.story self.hub.link) (L.story result.0) }
         ensures script { L.script result.0 ≡ L.script self.hub.link }
         ensures headline { (all : List Job) → AreJobs self.hub.jobs all → Keeps all self.hub.turns (L.story result.0) (reverse result.1.log) }
         ensures safe { (all : List Job) → AreJobs self.hub.jobs all → IsSafeOver all self.hub.turns (L.story result.0) (reverse result.1.log) }
+        ensures thorough { (all : List Job) → AreJobs self.hub.jobs all → IsThoroughOver all (L.story result.0) (reverse result.1.log) }
         ensures right { (all : List Job) → AreJobs self.hub.jobs all → AllByRecursion IsGoodJob all → IsRightOver all (L.story result.0) (reverse result.1.log) }
         ensures fault { (all : List Job) → AreJobs self.hub.jobs all → FaultRightIn all (reverse result.1.log) result.1.fault (record_in (L.story result.0)) }
         ensures dropped { DropsIn result.1.dropped (record_in (L.story result.0)) }
         ensures form { (all : List Job) → AreJobsOf self.hub.devices all → IsLog all self.hub.turns (L.place result.0) (reverse result.1.log) }
         ensures alone { (all : List Job) → AreJobsOf self.hub.devices all → OneDownloaderPerDevice all (reverse result.1.log) }
+        ensures leaves { (all : List Job) → AreJobsOf self.hub.devices all → LeavesOver all self.hub.turns (L.story result.0) (reverse result.1.log) }
         ensures over { result.1.fault ≡ None → (all : List Job) → AreJobsOf self.hub.devices all → AllOver all (reverse result.1.log) }
         ensures told { result.1.fault ≡ None → ¬ TurnUnfinished self.hub.turns (reverse result.1.log) }
         ensures heard { result.1.fault ≡ None → HeardAll result.1.heard (record_in (L.story result.0)) }
@@ -78,10 +83,12 @@ impl<L: Link> Driver<L> {
     /// Goes through all jobs and group telegrams, and then through the closing.
     fn runs<R: Wait, G: Gate>(&mut self, rt: &R, gate: &G) -> Result<(), HubFault>
         requires open { LeavesOpen self.old.hub self.old.unfinished }
+        requires through { GoesThrough self.old.hub (L.story self.old.hub.link) }
         requires heard { HeardAll self.old.heard (record_in (L.story self.old.hub.link)) }
         ensures grows { GoesOn (L.story self.old.hub.link) (L.story self.new.hub.link) }
         ensures script { L.script self.new.hub.link ≡ L.script self.old.hub.link }
         ensures caused { (before : ℕ) → CausedSince before self.old.hub.fault (L.faults self.old.hub.link) → CausedSince before self.new.hub.fault (L.faults self.new.hub.link) }
+        ensures leaves { (all : List Job) → AreJobsOf self.new.hub.devices all → LeavesOver all self.new.hub.turns (L.story self.new.hub.link) self.new.hub.log }
         ensures run { SameRun self.old.hub self.new.hub }
         ensures done { OnOk result (AllDone self.new.hub) }
         ensures heard { OnOk result (HeardAll self.new.heard (record_in (L.story self.new.hub.link))) }
@@ -94,10 +101,12 @@ impl<L: Link> Driver<L> {
     /// Goes through all jobs and group telegrams.
     fn commissions<R: Wait, G: Gate>(&mut self, rt: &R, gate: &G) -> Result<(), HubFault>
         requires open { LeavesOpen self.old.hub self.old.unfinished }
+        requires through { GoesThrough self.old.hub (L.story self.old.hub.link) }
         requires heard { HeardAll self.old.heard (record_in (L.story self.old.hub.link)) }
         ensures grows { GoesOn (L.story self.old.hub.link) (L.story self.new.hub.link) }
         ensures script { L.script self.new.hub.link ≡ L.script self.old.hub.link }
         ensures caused { (before : ℕ) → CausedSince before self.old.hub.fault (L.faults self.old.hub.link) → CausedSince before self.new.hub.fault (L.faults self.new.hub.link) }
+        ensures through { GoesThrough self.new.hub (L.story self.new.hub.link) }
         ensures run { SameRun self.old.hub self.new.hub }
         ensures done { OnOk result (AllDone self.new.hub) }
         ensures heard { OnOk result (HeardAll self.new.heard (record_in (L.story self.new.hub.link))) }
@@ -116,7 +125,8 @@ impl<L: Link> Driver<L> {
     /// Whether each job has its end, and each group telegram is told.
     fn has_done_all(&self) -> bool
         requires open { LeavesOpen self.now.hub self.now.unfinished }
-        ensures { result ≡ true → AllDone self.now.hub }
+        ensures done { result ≡ true → AllDone self.now.hub }
+        ensures left { result ≡ false → IsLeft self.now.hub }
     {
         self.hub.keeps();
         self.unfinished == 0 && self.hub.next_group().is_none()
@@ -125,15 +135,19 @@ impl<L: Link> Driver<L> {
     /// One turn of the worker, and a poll where it waits.
     fn works<G: Gate>(&mut self, gate: &G) -> Result<(), HubFault>
         requires open { LeavesOpen self.old.hub self.old.unfinished }
+        requires through { GoesThrough self.old.hub (L.story self.old.hub.link) }
+        requires left { IsLeft self.old.hub }
         requires heard { HeardAll self.old.heard (record_in (L.story self.old.hub.link)) }
         ensures grows { GoesOn (L.story self.old.hub.link) (L.story self.new.hub.link) }
         ensures script { L.script self.new.hub.link ≡ L.script self.old.hub.link }
         ensures caused { (before : ℕ) → CausedSince before self.old.hub.fault (L.faults self.old.hub.link) → CausedSince before self.new.hub.fault (L.faults self.new.hub.link) }
+        ensures through { GoesThrough self.new.hub (L.story self.new.hub.link) }
         ensures run { SameRun self.old.hub self.new.hub }
         ensures open { LeavesOpen self.new.hub self.new.unfinished }
         ensures heard { OnOk result (HeardAll self.new.heard (record_in (L.story self.new.hub.link))) }
         ensures cause { IfErr result (HasEndedSo self.new.hub.fault) }
     {
+        self.hub.keeps();
         match self.hub.turn(WORKER)? {
             Turned::Took(job) => gate.pass(job),
             Turned::Wait | Turned::Later => self.pumps()?,
@@ -158,10 +172,12 @@ impl<L: Link> Driver<L> {
     #[tactic(auto, using(crate::proofs::Telling::no_end_told))]
     fn tells(&mut self) -> Result<(), HubFault>
         requires open { LeavesOpen self.old.hub self.old.unfinished }
+        requires through { GoesThrough self.old.hub (L.story self.old.hub.link) }
         requires heard { HeardAll self.old.heard (record_in (L.story self.old.hub.link)) }
         ensures grows { GoesOn (L.story self.old.hub.link) (L.story self.new.hub.link) }
         ensures script { L.script self.new.hub.link ≡ L.script self.old.hub.link }
         ensures caused { (before : ℕ) → CausedSince before self.old.hub.fault (L.faults self.old.hub.link) → CausedSince before self.new.hub.fault (L.faults self.new.hub.link) }
+        ensures through { GoesThrough self.new.hub (L.story self.new.hub.link) }
         ensures run { SameRun self.old.hub self.new.hub }
         ensures open { LeavesOpen self.new.hub self.new.unfinished }
         ensures heard { OnOk result (HeardAll self.new.heard (record_in (L.story self.new.hub.link))) }
@@ -170,6 +186,7 @@ impl<L: Link> Driver<L> {
         let Some(k) = self.hub.next_group() else {
             return Ok(());
         };
+        self.hub.keeps();
         match self.hub.send_group(k)? {
             GroupDid::Wait => self.pumps(),
             GroupDid::Put | GroupDid::Sent | GroupDid::Lost => Ok(()),
@@ -178,10 +195,13 @@ impl<L: Link> Driver<L> {
 
     /// One poll.
     fn pumps(&mut self) -> Result<(), HubFault>
+        requires through { GoesThrough self.old.hub (L.story self.old.hub.link) }
+        requires left { IsLeft self.old.hub }
         requires heard { HeardAll self.old.heard (record_in (L.story self.old.hub.link)) }
         ensures grows { GoesOn (L.story self.old.hub.link) (L.story self.new.hub.link) }
         ensures script { L.script self.new.hub.link ≡ L.script self.old.hub.link }
         ensures caused { (before : ℕ) → CausedSince before self.old.hub.fault (L.faults self.old.hub.link) → CausedSince before self.new.hub.fault (L.faults self.new.hub.link) }
+        ensures through { GoesThrough self.new.hub (L.story self.new.hub.link) }
         ensures run { SameRun self.old.hub self.new.hub }
         ensures log { self.new.hub.log ≡ self.old.hub.log }
         ensures unfinished { self.new.unfinished ≡ self.old.unfinished }
@@ -197,10 +217,12 @@ impl<L: Link> Driver<L> {
     /// The closing.
     fn closes<R: Wait>(&mut self, rt: &R) -> Result<(), HubFault>
         requires done { AllDone self.old.hub }
+        requires through { GoesThrough self.old.hub (L.story self.old.hub.link) }
         requires heard { HeardAll self.old.heard (record_in (L.story self.old.hub.link)) }
         ensures grows { GoesOn (L.story self.old.hub.link) (L.story self.new.hub.link) }
         ensures script { L.script self.new.hub.link ≡ L.script self.old.hub.link }
         ensures caused { (before : ℕ) → CausedSince before self.old.hub.fault (L.faults self.old.hub.link) → CausedSince before self.new.hub.fault (L.faults self.new.hub.link) }
+        ensures leaves { (all : List Job) → AreJobsOf self.new.hub.devices all → LeavesOver all self.new.hub.turns (L.story self.new.hub.link) self.new.hub.log }
         ensures run { SameRun self.old.hub self.new.hub }
         ensures log { self.new.hub.log ≡ self.old.hub.log }
         ensures done { OnOk result (AllDone self.new.hub) }
@@ -218,10 +240,14 @@ impl<L: Link> Driver<L> {
     /// One step of the closing. Tells whether it is over.
     fn finishes(&mut self) -> Result<bool, HubFault>
         requires done { AllDone self.old.hub }
+        requires closes { ClosesSo self.old.hub (L.story self.old.hub.link) }
+        requires far { KnowsHowFar self.old.hub (L.story self.old.hub.link) }
         requires heard { HeardAll self.old.heard (record_in (L.story self.old.hub.link)) }
         ensures grows { GoesOn (L.story self.old.hub.link) (L.story self.new.hub.link) }
         ensures script { L.script self.new.hub.link ≡ L.script self.old.hub.link }
         ensures caused { (before : ℕ) → CausedSince before self.old.hub.fault (L.faults self.old.hub.link) → CausedSince before self.new.hub.fault (L.faults self.new.hub.link) }
+        ensures closes { ClosesSo self.new.hub (L.story self.new.hub.link) }
+        ensures far { OnOk result (KnowsHowFar self.new.hub (L.story self.new.hub.link)) }
         ensures run { SameRun self.old.hub self.new.hub }
         ensures log { self.new.hub.log ≡ self.old.hub.log }
         ensures done { OnOk result (AllDone self.new.hub) }

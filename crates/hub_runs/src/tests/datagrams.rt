@@ -15,14 +15,14 @@ const CONNECTED: [u8; 20] = [
     0x04, 0x04, 0x11, 0xFF,
 ];
 
-/// A T_Connect to the device in the request with the number 0.
+/// The client's first request: a T_Connect to the device.
 const REQUEST: [u8; 20] = [
     0x06, 0x10, 0x04, 0x20, 0x00, 0x14, 0x04, 0x01, 0x00, 0x00, 0x11, 0x00, 0xBC, 0x60, 0x00, 0x00,
     0x11, 0x05, 0x00, 0x80,
 ];
 
-/// A datagram that comes in the channel 1 where the gateway's number 0 is expected and the client's request 0 isn't acknowledged; and what is sent
-/// next, at how many milliseconds.
+/// A datagram that comes in the channel 1 where the gateway's first request is expected and the client's first one isn't acknowledged; and what is
+/// sent next, at how many milliseconds.
 #[derive(Drop)]
 struct Row {
     name: &'static str,
@@ -30,6 +30,17 @@ struct Row {
     dropped: u64,
     sent: &'static [u8],
     at: u64,
+}
+
+/// A datagram that is dropped, so that the request is repeated when its wait has passed.
+fn dropped(name: &'static str, got: &'static [u8]) -> Row {
+    Row {
+        name,
+        got,
+        dropped: 1,
+        sent: &REQUEST,
+        at: 1_000,
+    }
 }
 
 /// What is sent first after this datagram was got, and when.
@@ -64,113 +75,74 @@ fn drive<R: Abort + Wait>(rt: &R, alloc: Global, row: &Row) -> Result<(), NoMemo
 #[test]
 fn some_are_dropped(rt: HostRuntime) -> Result<(), Fail> {
     let rows = [
-        Row {
-            name: "no header",
-            got: &[0x00],
-            dropped: 1,
-            sent: &REQUEST,
-            at: 1_000,
-        },
-        Row {
-            name: "a service that isn't read",
-            got: &[
+        dropped("no header", &[0x00]),
+        dropped(
+            "a service that isn't read",
+            &[
                 0x06, 0x10, 0x02, 0x01, 0x00, 0x0E, 0x08, 0x01, 0x00, 0x00, 0x00, 0x00, 0x00, 0x00,
             ],
-            dropped: 1,
-            sent: &REQUEST,
-            at: 1_000,
-        },
-        Row {
-            name: "another length",
-            got: &[
+        ),
+        dropped(
+            "another length",
+            &[
                 0x06, 0x10, 0x04, 0x20, 0x00, 0x16, 0x04, 0x01, 0x00, 0x00, 0x29, 0x00, 0xBC, 0xE0,
                 0x00, 0x00, 0x0A, 0x03, 0x01, 0x00, 0x81,
             ],
-            dropped: 1,
-            sent: &REQUEST,
-            at: 1_000,
-        },
-        Row {
-            name: "no whole body",
-            got: &[0x06, 0x10, 0x04, 0x20, 0x00, 0x09, 0x04, 0x01, 0x00],
-            dropped: 1,
-            sent: &REQUEST,
-            at: 1_000,
-        },
-        Row {
-            name: "a connect request",
-            got: &[
+        ),
+        dropped(
+            "no whole body",
+            &[0x06, 0x10, 0x04, 0x20, 0x00, 0x09, 0x04, 0x01, 0x00],
+        ),
+        dropped(
+            "a connect request",
+            &[
                 0x06, 0x10, 0x02, 0x05, 0x00, 0x1A, 0x08, 0x01, 0x00, 0x00, 0x00, 0x00, 0x00, 0x00,
                 0x08, 0x01, 0x00, 0x00, 0x00, 0x00, 0x00, 0x00, 0x04, 0x04, 0x02, 0x00,
             ],
-            dropped: 1,
-            sent: &REQUEST,
-            at: 1_000,
-        },
-        Row {
-            name: "a connection state request",
-            got: &[
+        ),
+        dropped(
+            "a connection state request",
+            &[
                 0x06, 0x10, 0x02, 0x07, 0x00, 0x10, 0x01, 0x00, 0x08, 0x01, 0x00, 0x00, 0x00, 0x00,
                 0x00, 0x00,
             ],
-            dropped: 1,
-            sent: &REQUEST,
-            at: 1_000,
-        },
-        Row {
-            name: "a second connect response",
-            got: &[
+        ),
+        dropped(
+            "a second connect response",
+            &[
                 0x06, 0x10, 0x02, 0x06, 0x00, 0x14, 0x02, 0x00, 0x08, 0x01, 0x00, 0x00, 0x00, 0x00,
                 0x00, 0x00, 0x04, 0x04, 0x11, 0xFF,
             ],
-            dropped: 1,
-            sent: &REQUEST,
-            at: 1_000,
-        },
-        Row {
-            name: "a connection state response that isn't awaited",
-            got: &[0x06, 0x10, 0x02, 0x08, 0x00, 0x08, 0x01, 0x00],
-            dropped: 1,
-            sent: &REQUEST,
-            at: 1_000,
-        },
-        Row {
-            name: "a disconnect request of another channel",
-            got: &[
+        ),
+        dropped(
+            "a connection state response that isn't awaited",
+            &[0x06, 0x10, 0x02, 0x08, 0x00, 0x08, 0x01, 0x00],
+        ),
+        dropped(
+            "a disconnect request of another channel",
+            &[
                 0x06, 0x10, 0x02, 0x09, 0x00, 0x10, 0x02, 0x00, 0x08, 0x01, 0x00, 0x00, 0x00, 0x00,
                 0x00, 0x00,
             ],
-            dropped: 1,
-            sent: &REQUEST,
-            at: 1_000,
-        },
-        Row {
-            name: "a disconnect response that isn't awaited",
-            got: &[0x06, 0x10, 0x02, 0x0A, 0x00, 0x08, 0x01, 0x00],
-            dropped: 1,
-            sent: &REQUEST,
-            at: 1_000,
-        },
-        Row {
-            name: "a request of another channel",
-            got: &[
+        ),
+        dropped(
+            "a disconnect response that isn't awaited",
+            &[0x06, 0x10, 0x02, 0x0A, 0x00, 0x08, 0x01, 0x00],
+        ),
+        dropped(
+            "a request of another channel",
+            &[
                 0x06, 0x10, 0x04, 0x20, 0x00, 0x15, 0x04, 0x02, 0x00, 0x00, 0x29, 0x00, 0xBC, 0xE0,
                 0x00, 0x00, 0x0A, 0x03, 0x01, 0x00, 0x81,
             ],
-            dropped: 1,
-            sent: &REQUEST,
-            at: 1_000,
-        },
-        Row {
-            name: "a request with another number",
-            got: &[
+        ),
+        dropped(
+            "a request with another number",
+            &[
                 0x06, 0x10, 0x04, 0x20, 0x00, 0x15, 0x04, 0x01, 0x05, 0x00, 0x29, 0x00, 0xBC, 0xE0,
                 0x00, 0x00, 0x0A, 0x03, 0x01, 0x00, 0x81,
             ],
-            dropped: 1,
-            sent: &REQUEST,
-            at: 1_000,
-        },
+        ),
         Row {
             name: "a request with a frame that doesn't read",
             got: &[
@@ -180,20 +152,14 @@ fn some_are_dropped(rt: HostRuntime) -> Result<(), Fail> {
             sent: &[0x06, 0x10, 0x04, 0x21, 0x00, 0x0A, 0x04, 0x01, 0x00, 0x00],
             at: 0,
         },
-        Row {
-            name: "an acknowledgement of another number",
-            got: &[0x06, 0x10, 0x04, 0x21, 0x00, 0x0A, 0x04, 0x01, 0x07, 0x00],
-            dropped: 1,
-            sent: &REQUEST,
-            at: 1_000,
-        },
-        Row {
-            name: "an acknowledgement with a status",
-            got: &[0x06, 0x10, 0x04, 0x21, 0x00, 0x0A, 0x04, 0x01, 0x00, 0x24],
-            dropped: 1,
-            sent: &REQUEST,
-            at: 1_000,
-        },
+        dropped(
+            "an acknowledgement of another number",
+            &[0x06, 0x10, 0x04, 0x21, 0x00, 0x0A, 0x04, 0x01, 0x07, 0x00],
+        ),
+        dropped(
+            "an acknowledgement with a status",
+            &[0x06, 0x10, 0x04, 0x21, 0x00, 0x0A, 0x04, 0x01, 0x00, 0x24],
+        ),
         Row {
             name: "a request with the number before isn't dropped",
             got: &[

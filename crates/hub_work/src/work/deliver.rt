@@ -4,6 +4,7 @@ ghost use Rattle.std.specs.Prelude.{◌≡◌, Some, ℕ};
 ghost use Rattle.line_model.specs.ClientView.{indication_of};
 ghost use Rattle.hub_work.specs.Follows.{FrameFollows, LossFollows};
 ghost use Rattle.hub_work.specs.Books.{held_at};
+ghost use Rattle.hub_work.specs.Came.{RisesAt, RisesBy};
 ghost use Rattle.hub_work.specs.Comes.{ConfirmationFollows, HearingFollows, lost_for};
 ghost use Rattle.hub_work.specs.Crew.{holdings};
 ghost use Rattle.hub_work.specs.Downloaders.{states};
@@ -26,6 +27,7 @@ impl Work {
         ensures heard { result ≡ indication_of (Some frame.now) }
         ensures books { SameBooks self.old self.new }
         ensures follows { FrameFollows self.old self.new frame.now now }
+        ensures came { RisesBy 1 self.old.crew self.new.crew }
     {
         of_a_downloader();
         match frame.code {
@@ -41,6 +43,7 @@ impl Work {
     fn confirmed(&mut self, error: bool, now: u64)
         ensures books { SameBooks self.old self.new }
         ensures follows { ConfirmationFollows self.old self.new error now }
+        ensures came { RisesBy 1 self.old.crew self.new.crew }
     {
         of_a_downloader();
         match mem::replace(&mut self.sender, Sender::Nobody) {
@@ -59,6 +62,7 @@ impl Work {
     fn heard(&mut self, frame: &Ldata, now: u64)
         ensures books { SameBooks self.old self.new }
         ensures follows { HearingFollows self.old self.new frame.now now }
+        ensures came { RisesBy 1 self.old.crew self.new.crew }
     {
         of_a_downloader();
         let device = IndAddr { raw: frame.source };
@@ -74,6 +78,7 @@ impl Work {
     pub fn lost(&mut self, now: u64)
         ensures books { SameBooks self.old self.new }
         ensures follows { (then : ℕ) → LossFollows self.old self.new then }
+        ensures came { RisesBy 1 self.old.crew self.new.crew }
     {
         of_a_downloader();
         self.sender = Sender::Nobody;
@@ -88,6 +93,7 @@ impl Work {
         ensures books { SameBooks self.old self.new }
         ensures lost { states self.new.downloaders ≡ lost_for (held_at self.old.crew place) (states self.old.downloaders) }
         ensures held { holdings self.new.crew ≡ holdings self.old.crew }
+        ensures came { RisesAt place self.old.crew self.new.crew }
         ensures telegrams { self.new.telegrams ≡ self.old.telegrams }
         ensures sender { self.new.sender ≡ self.old.sender }
     {

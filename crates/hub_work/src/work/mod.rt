@@ -3,14 +3,16 @@
 mod deliver;
 mod turn;
 
-ghost use Rattle.std.specs.Prelude.{◌≡◌, ℕ, ◌<◌, length, map, reverse, ◌/◌, ◌==◌, not, is_none, IfOk, IfSome, None};
+ghost use Rattle.std.specs.Prelude.{◌≡◌, ℕ, ◌<◌, length, map, reverse, ◌/◌, ◌==◌, not, is_none, true, false, IfOk, IfSome, None};
 ghost use Rattle.hub_work.specs.declared.job.HubJob.{HubJob as Job};
 ghost use Rattle.std.specs.List.{AllByRecursion, find};
 ghost use Rattle.knx_model.specs.declared.address.IndAddr.{IndAddr as Address};
 ghost use Rattle.line_model.specs.ClientEnd.{IsCemi};
 ghost use Rattle.line_model.specs.Log.{IsNextTurn};
+ghost use Rattle.line_model.specs.Waiting.{longest_poll, LastsUntil};
 ghost use Rattle.hub_work.specs.Downloaders.{task_of_hub_job};
 ghost use Rattle.hub_work.specs.Follows.{BeginsRightly, TelegramIsRight, TelegramFollows, TellingFollows};
+ghost use Rattle.hub_work.specs.Polls.{does_something, deadline_at, end_of_closing, is_busy_at, IsDue, LooksOrLasts, PollsRightly};
 ghost use Rattle.hub_work.specs.Requests.{IsTurnInRange};
 ghost use Rattle.hub_work.specs.Telegrams.{IsNextRequest, next_of};
 ghost use Rattle.hub_work.specs.Turns.{Adds, TellsTurn};
@@ -150,6 +152,7 @@ impl Work {
     pub fn telegram_put(&mut self)
         ensures books { SameBooks self.old self.new }
         ensures follows { TelegramFollows self.old self.new }
+        ensures crew { self.new.crew ≡ self.old.crew }
     {
         of_a_downloader();
         self.telegrams.put();
@@ -165,44 +168,61 @@ impl Work {
         ensures run { SameRun self.old self.new }
         ensures books { KeepsBooks at self.new }
         ensures follows { TellingFollows at k what self.old self.new }
+        ensures crew { self.new.crew ≡ self.old.crew }
     {
         self.journal.add(at, 0, what);
         self.telegrams.told();
     }
 
-    /// How long a poll lasts, in milliseconds, where the place in flight is free or not and the channel has this deadline.
-    pub fn wait_ms(&self, now: u64, has_place: bool, channel: Option<u64>) -> u32 {
-        let mut wait = until(channel, now, LONGEST_POLL_MS);
-        if let Some(closing) = self.closing {
-            wait = until(Some(closing.deadline()), now, wait);
-        }
+    /// How long a poll lasts at most, in milliseconds, where the place in flight is free or not: not at all where a worker has something to do, and else
+    /// until the nearest deadline of a job that is held, or of the closing. The channel has deadlines of its own.
+    pub fn wait_ms(&self, now: u64, has_place: bool) -> u32
+        ensures looks { (place : ℕ) → is_busy_at self.now now has_place place ≡ true → result ≡ 0 }
+        ensures waits { ((place : ℕ) → is_busy_at self.now now has_place place ≡ false) → LastsUntil longest_poll (IsDue self.now) now result }
+        ensures rightly { PollsRightly now has_place self.now result }
+    {
+        of_a_downloader();
+        let mut wait = until(self.closing_deadline(), now, LONGEST_POLL_MS);
         for place in 0..self.crew.len() {
             wait = wait.min(self.wait_of(place, now, has_place));
         }
         wait
     }
 
-    /// How long a poll lasts for the worker at a place, from 0: not at all where its turn would do something for an attempt that has begun.
-    fn wait_of(&self, place: usize, now: u64, has_place: bool) -> u32 {
+    /// When the closing's wait has passed, where it has begun.
+    fn closing_deadline(&self) -> Option<u64>
+        ensures { result ≡ end_of_closing self.now.closing }
+    {
+        let closing = self.closing?;
+        Some(closing.deadline())
+    }
+
+    /// How long a poll lasts at most for the worker at a place, from 0.
+    fn wait_of(&self, place: usize, now: u64, has_place: bool) -> u32
+        ensures { LooksOrLasts (is_busy_at self.now now has_place place) (deadline_at self.now place) now result }
+    {
         let Some(held) = self.crew.at(place) else {
-            return LONGEST_POLL_MS;
+            return until(None, now, LONGEST_POLL_MS);
         };
         if held.came > 0 {
             return 0;
         }
-        match self.downloaders.next(held.job, now) {
-            Some(did) if held.begun && does_something(&did, has_place) => 0,
-            _ => until(self.downloaders.deadline(held.job), now, LONGEST_POLL_MS),
+        let next = self.downloaders.next(held.job, now);
+        if held.begun && does_something(&next, has_place) {
+            return 0;
         }
+        until(self.downloaders.deadline(held.job), now, LONGEST_POLL_MS)
     }
 }
 
 /// Whether a turn in which this is next does something.
-fn does_something(did: &Did, has_place: bool) -> bool {
-    match did {
-        Did::Wait => false,
-        Did::Send(_) => has_place,
-        Did::Done | Did::Failed { .. } | Did::Refused { .. } => true,
+fn does_something(next: &Option<Did>, has_place: bool) -> bool
+    ensures { result ≡ does_something next.now has_place }
+{
+    match next {
+        None | Some(Did::Wait) => false,
+        Some(Did::Send(_)) => has_place,
+        Some(Did::Done | Did::Failed { .. } | Did::Refused { .. }) => true,
     }
 }
 

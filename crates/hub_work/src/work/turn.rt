@@ -5,6 +5,7 @@ ghost use Rattle.download_core.specs.Attempt.{DownloaderState};
 ghost use Rattle.download_core.specs.Steps.{stepped};
 ghost use Rattle.line_model.specs.Reading.{ldata_in};
 ghost use Rattle.hub_work.specs.Books.{held_at};
+ghost use Rattle.hub_work.specs.Came.{waiting_at, TakesOneIn};
 ghost use Rattle.hub_work.specs.Crew.{holdings, after_begun};
 ghost use Rattle.hub_work.specs.Comes.{TookFollows, EndFollows, after_end};
 ghost use Rattle.hub_work.specs.Downloaders.{changed, states};
@@ -47,6 +48,7 @@ impl Work {
         ensures books { KeepsBooks at self.new }
         ensures waits { WaitsExactly now at has_place worker self.old result }
         ensures follows { TurnFollows now at self.old self.new result }
+        ensures came { TakesOneIn worker self.old.crew self.new.crew }
     {
         match self.crew.held(worker) {
             None => self.takes_job(worker, at),
@@ -70,6 +72,7 @@ impl Work {
         ensures run { SameRun self.old self.new }
         ensures books { KeepsBooks at self.new }
         ensures follows { (now : ℕ) → TurnFollows now at self.old self.new result }
+        ensures came { TakesOneIn worker self.old.crew self.new.crew }
     {
         match self.reservation.take(worker) {
             Taken::Job(job) => self.took(worker, job, at),
@@ -89,6 +92,7 @@ impl Work {
         ensures run { SameRun self.old self.new }
         ensures books { KeepsBooks at self.new }
         ensures follows { TookFollows at self.old self.new }
+        ensures came { TakesOneIn worker self.old.crew self.new.crew }
     {
         of_a_downloader();
         self.journal.add(at, worker, LogWhat::Took(job));
@@ -101,6 +105,7 @@ impl Work {
     fn works(&mut self, worker: u8, held: Held, now: u64, at: u64, has_place: bool) -> Turn
         requires worker { 1 ≤ worker }
         requires holder { IsHolder self.old worker held }
+        requires taken_in { held.came ≡ 0 }
         requires books { KeepsBooks at self.old }
         ensures free { WaitsFree self.old.reservation result }
         ensures placed { PutsWhere has_place result }
@@ -110,6 +115,7 @@ impl Work {
         ensures books { KeepsBooks at self.new }
         ensures waits { WaitsFor now at has_place self.old held 0 result }
         ensures follows { TurnFollows now at self.old self.new result }
+        ensures came { TakesOneIn worker self.old.crew self.new.crew }
     {
         of_a_downloader();
         let Some(did) = self.downloaders.next(held.job, now) else {
@@ -155,6 +161,7 @@ impl Work {
         ensures reads { ldata_in result ≡ Some (request_with false held.device.raw tpdu) }
         ensures downloaders { states self.new.downloaders ≡ changed (λ (s : DownloaderState). stepped s now) held.job (states self.old.downloaders) }
         ensures held { holdings self.new.crew ≡ after_begun (worker - 1) (holdings self.old.crew) }
+        ensures came { (place : ℕ) → waiting_at self.new.crew place ≡ waiting_at self.old.crew place }
         ensures sender { self.new.sender ≡ Sender.Worker worker }
         ensures telegrams { self.new.telegrams ≡ self.old.telegrams }
         ensures books { SameBooks self.old self.new }
@@ -171,12 +178,14 @@ impl Work {
         requires holder { IsHolder self.old worker held }
         requires turned { IsEnd turned }
         requires what { EndsJob held.job what }
+        requires taken_in { held.came ≡ 0 }
         requires books { KeepsBooks at self.old }
         ensures answer { result ≡ Turn.Did turned }
         ensures told { Adds at worker what self.old.journal.entries self.new.journal.entries }
         ensures run { SameRun self.old self.new }
         ensures books { KeepsBooks at self.new }
         ensures follows { EndFollows at what self.old self.new }
+        ensures came { TakesOneIn worker self.old.crew self.new.crew }
     {
         self.journal.add(at, worker, what);
         self.reservation.finish(held.job);

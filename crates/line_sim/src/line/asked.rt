@@ -59,6 +59,14 @@ impl Line {
             .next(Reach::Every, self.tunnel.gateway.made)
     }
 
+    /// The endpoint that the gateway's datagram of an age, which may arrive, goes to.
+    pub fn endpoint_down(&self, age: usize) -> u64
+        requires { OfSent IsDeliverable (slice_get self.now.tunnel.down.kept age) }
+        ensures { (w : World) → IsNow self.now w → OfSent (λ s. s.endpoint ≡ result) (slice_get w.tunnel.network.down age) }
+    {
+        self.tunnel.addressee(age)
+    }
+
     /// Whether the client's datagram of an age, which may arrive, is a connect request.
     pub fn is_connect(&self, age: usize) -> bool
         requires { OfSent IsDeliverable (slice_get self.now.tunnel.up.kept age) }

@@ -90,6 +90,17 @@ impl Tunnel {
         }
     }
 
+    /// The endpoint that the gateway's datagram of an age goes to.
+    pub fn addressee(&self, age: usize) -> u64
+        requires { OfSent IsDeliverable (slice_get self.now.down.kept age) }
+        ensures { (t : Known) → IsTunnel (tunnel_now self.now) t → OfSent (λ s. s.endpoint ≡ result) (slice_get t.network.down age) }
+    {
+        match self.down.get(age) {
+            Some(sending) => sending.endpoint(),
+            None => 0,
+        }
+    }
+
     /// The client's datagram of an age is lost.
     pub fn lose_up(&mut self, age: usize)
         ensures { (t : Known) → IsTunnel (tunnel_now self.old) t → IsTunnel (tunnel_now self.new) (step t (LoseUp age)) }

@@ -94,7 +94,7 @@ fn fault_status(fault: &HubFault) -> Status
     ensures { result ≡ fault_status fault.now }
 {
     match fault {
-        HubFault::NoMemory(_) => Status::NoMemory,
+        HubFault::NoMemory(want) => Status::NoMemory(*want),
         HubFault::LinkFailed => Status::Link,
         HubFault::GatewayRefused(_) => Status::GatewayRefused,
         HubFault::Flooded => Status::Flooded,

@@ -3,10 +3,12 @@
 ghost use Rattle.std.specs.Prelude.{◌≡◌, ◌≤◌, IfErr, OnOk, Ok, Some, None};
 ghost use Rattle.line_model.specs.ClientEnd.{IsCemi};
 ghost use Rattle.line_model.specs.LinkStory.{IsTime};
+ghost use Rattle.tunnel_link.specs.Alone.{Each, EndsNone, LeavesAlone, SendsOnce};
 ghost use Rattle.tunnel_link.specs.Goes.{GoesOn, AfterFault};
 ghost use Rattle.tunnel_link.specs.Rights.{FailsWhere, IsOfTunnel, WhereTold};
 ghost use Rattle.tunnel_link.specs.Adds.{Growing, place_of, Seeks, PutsOne, Leaves, Dues, Acts, PollAdds, AllPrompt, HasActed, Ready};
 ghost use Rattle.tunnel_link.specs.Kept.{with_due};
+ghost use Rattle.tunnel_link.specs.Lasts.{LastsRightly};
 ghost use Rattle.tunnel_link.specs.declared.came.Loss.TheVariants.{Stays};
 
 use super::Tunnel;
@@ -31,6 +33,7 @@ impl<L: Link> Tunnel<L> {
         ensures events { L.place self.old.link ≤ L.place self.new.link }
         ensures script { L.script self.new.link ≡ L.script self.old.link }
         ensures cause { self.old.known.fault ≡ None → IfErr result (λ fault. FailsWhere fault (L.faults self.old.link) (L.faults self.new.link)) }
+        ensures alone { Growing (Each EndsNone) (L.story self.old.link) (L.story self.new.link) }
         ensures prompt { Growing AllPrompt (L.story self.old.link) (L.story self.new.link) }
         ensures ready { OnOk result (HasActed self.old.known (L.story self.old.link) → Ready self.new.known (L.story self.new.link)) }
     {
@@ -56,6 +59,7 @@ impl<L: Link> Tunnel<L> {
         ensures events { L.place self.old.link ≤ L.place self.new.link }
         ensures script { L.script self.new.link ≡ L.script self.old.link }
         ensures cause { self.old.known.fault ≡ None → IfErr result (λ fault. FailsWhere fault (L.faults self.old.link) (L.faults self.new.link)) }
+        ensures alone { Growing (Each LeavesAlone) (L.story self.old.link) (L.story self.new.link) }
         ensures prompt { Growing AllPrompt (L.story self.old.link) (L.story self.new.link) }
     {
         self.known.standing()?;
@@ -79,6 +83,7 @@ impl<L: Link> Tunnel<L> {
         ensures events { L.place self.old.link ≤ L.place self.new.link }
         ensures script { L.script self.new.link ≡ L.script self.old.link }
         ensures cause { self.old.known.fault ≡ None → IfErr result (λ fault. FailsWhere fault (L.faults self.old.link) (L.faults self.new.link)) }
+        ensures alone { Growing SendsOnce (L.story self.old.link) (L.story self.new.link) }
         ensures prompt { Growing AllPrompt (L.story self.old.link) (L.story self.new.link) }
     {
         self.known.standing()?;
@@ -105,6 +110,7 @@ impl<L: Link> Tunnel<L> {
         ensures events { L.place self.old.link ≤ L.place self.new.link }
         ensures script { L.script self.new.link ≡ L.script self.old.link }
         ensures cause { self.old.known.fault ≡ None → IfErr result (λ fault. FailsWhere fault (L.faults self.old.link) (L.faults self.new.link)) }
+        ensures alone { Growing (Each LeavesAlone) (L.story self.old.link) (L.story self.new.link) }
         ensures prompt { Growing AllPrompt (L.story self.old.link) (L.story self.new.link) }
         ensures acted { OnOk result (HasActed self.new.known (L.story self.new.link)) }
     {
@@ -153,6 +159,7 @@ impl<L: Link> Tunnel<L> {
         ensures events { L.place self.old.link ≤ L.place self.new.link }
         ensures script { L.script self.new.link ≡ L.script self.old.link }
         ensures cause { IfErr result (λ fault. FailsWhere fault (L.faults self.old.link) (L.faults self.new.link)) }
+        ensures alone { Growing (Each LeavesAlone) (L.story self.old.link) (L.story self.new.link) }
         ensures prompt { Growing AllPrompt (L.story self.old.link) (L.story self.new.link) }
         ensures known { OnOk result (self.new.known ≡ with_due self.old.known now) }
     {
@@ -179,7 +186,9 @@ impl<L: Link> Tunnel<L> {
         ensures events { L.place self.old.link ≤ L.place self.new.link }
         ensures script { L.script self.new.link ≡ L.script self.old.link }
         ensures cause { self.old.known.fault ≡ None → IfErr result (λ fault. FailsWhere fault (L.faults self.old.link) (L.faults self.new.link)) }
+        ensures alone { Growing (Each LeavesAlone) (L.story self.old.link) (L.story self.new.link) }
         ensures prompt { Ready self.old.known (L.story self.old.link) → Growing AllPrompt (L.story self.old.link) (L.story self.new.link) }
+        ensures lasts { HasActed self.old.known (L.story self.old.link) → OnOk result (Growing (LastsRightly longest_ms) (L.story self.old.link) (L.story self.new.link)) }
     {
         frames_are_read();
         self.known.standing()?;

@@ -17,8 +17,8 @@ pub const GROUP: u16 = 0x0A03;
 /// What is done to a device.
 #[derive(Drop)]
 pub enum Deed<'a> {
-    /// A service is given to it.
-    Give(&'a [u8]),
+    /// The client connects, asks for a service, and disconnects.
+    Serve(&'a [u8]),
     /// A frame of the client comes to it.
     Take(&'a [u8]),
     /// A frame of the client comes to it, and worn memory keeps the complements.
@@ -27,7 +27,7 @@ pub enum Deed<'a> {
     Telegram(&'a [u8]),
 }
 
-/// What is done, and what the device answers to a service that is given, or sends then.
+/// What is done, and what the device answers to a service, or sends then.
 pub type Row<'a> = (Deed<'a>, &'a [&'a [u8]]);
 
 /// No answer, and no frame that is sent.
@@ -60,14 +60,6 @@ pub fn to_device(tpdu: &[u8]) -> Ldata {
     frame(false, ADDRESS.raw, tpdu)
 }
 
-pub fn answers(answer: Option<ApduOctets>, wanted: &[&[u8]]) -> bool {
-    match (answer, wanted) {
-        (Some(answer), [wanted]) => answer.as_slice() == *wanted,
-        (None, []) => true,
-        _ => false,
-    }
-}
-
 pub fn sends_next(device: &mut Device, wanted: &[u8]) -> bool {
     match device.sends(0) {
         Some(frame) => frame.source == ADDRESS.raw && frame.tpdu.as_slice() == wanted,
@@ -95,12 +87,52 @@ pub fn takes(
     Ok(took == Took::Taken && sends(device, wanted))
 }
 
-pub fn gives_torn(device: &mut Device, apdu: &[u8], k: u32) -> bool {
-    let writes = device.gives_write(apdu);
-    if writes {
-        device.give_torn(apdu, k);
+/// The service as numbered data with number 0.
+fn numbered(service: &[u8]) -> ApduOctets {
+    let mut tpdu = ApduOctets::new();
+    if let [first, rest @ ..] = service {
+        tpdu.push(*first | 0x40);
+        if rest.len() < ApduOctets::CAPACITY {
+            tpdu.extend(rest);
+        }
     }
-    writes
+    tpdu
+}
+
+fn comes(alloc: Global, device: &mut Device, tpdu: &[u8]) -> Result<bool, NoMemory> {
+    let took = device.take(alloc, &to_device(tpdu), 0)?;
+    Ok(took == Took::Taken)
+}
+
+/// Whether the device acknowledges a service over a new connection.
+fn asks(alloc: Global, device: &mut Device, service: &[u8]) -> Result<bool, NoMemory> {
+    let connected = comes(alloc, device, b"\x80")?;
+    let taken = comes(alloc, device, numbered(service).as_slice())?;
+    Ok(connected && taken && sends_next(device, b"\xC2"))
+}
+
+/// Whether the device answers so, and takes the acknowledgement of that.
+fn answers(alloc: Global, device: &mut Device, answer: &[u8]) -> Result<bool, NoMemory> {
+    let sent = sends_next(device, numbered(answer).as_slice());
+    let taken = comes(alloc, device, b"\xC2")?;
+    Ok(sent && taken)
+}
+
+/// Whether the device acknowledges a service over a connection of its own, and this, if anything, is its answer.
+pub fn serves(
+    alloc: Global,
+    device: &mut Device,
+    service: &[u8],
+    wanted: &[&[u8]],
+) -> Result<bool, NoMemory> {
+    let asked = asks(alloc, device, service)?;
+    let answered = match wanted {
+        [answer] => answers(alloc, device, answer)?,
+        _ => wanted.is_empty(),
+    };
+    let silent = device.next_sending(0).is_none();
+    let closed = comes(alloc, device, b"\x81")?;
+    Ok(asked && answered && silent && closed)
 }
 
 pub fn takes_torn(device: &mut Device, frame: &Ldata, k: u32) -> bool {
@@ -123,7 +155,7 @@ pub fn takes_worn(alloc: Global, device: &mut Device, frame: &Ldata) -> Result<b
 pub fn goes(alloc: Global, device: &mut Device, row: &Row<'_>) -> Result<bool, NoMemory> {
     let (deed, wanted) = row;
     match deed {
-        Deed::Give(apdu) => Ok(answers(device.give(apdu), wanted)),
+        Deed::Serve(service) => serves(alloc, device, service, wanted),
         Deed::Take(tpdu) => takes(alloc, device, tpdu, wanted),
         Deed::TakeWorn(tpdu) => {
             Ok(takes_worn(alloc, device, &to_device(tpdu))? && sends(device, wanted))

@@ -16,11 +16,11 @@ const SHORT: &[u8] = b"\x02\x8C\x40\x00\x01\x02\x03\x04\x05\x06\x07\x08\x09\x0A\
 fn a_device_of_extended_frames(rt: HostRuntime) -> Result<(), Fail> {
     let device = &mut Device::blank(rt.alloc(), ADDRESS)?;
     let rows: [Row<'_>; 4] = [
-        (Deed::Give(START), &[b"\x03\xD6\x01\x05\x10\x01\x02"]),
-        (Deed::Give(SIXTEEN), &[b"\x03\xD6\x01\x05\x10\x01\x02"]),
-        (Deed::Give(LONG), NOTHING),
+        (Deed::Serve(START), &[b"\x03\xD6\x01\x05\x10\x01\x02"]),
+        (Deed::Serve(SIXTEEN), &[b"\x03\xD6\x01\x05\x10\x01\x02"]),
+        (Deed::Serve(LONG), NOTHING),
         (
-            Deed::Give(b"\x02\x0D\x40\x00"),
+            Deed::Serve(b"\x02\x0D\x40\x00"),
             &[b"\x02\x4D\x40\x00\x01\x02\x03\x04\x05\x06\x07\x08\x09\x0A\x0B\x0C\x0D"],
         ),
     ];
@@ -35,17 +35,17 @@ fn a_device_of_standard_frames(rt: HostRuntime) -> Result<(), Fail> {
     device.set_standard();
     let rows: [Row<'_>; 6] = [
         (
-            Deed::Give(b"\x03\xD5\x00\x38\x10\x01"),
+            Deed::Serve(b"\x03\xD5\x00\x38\x10\x01"),
             &[b"\x03\xD6\x00\x38\x10\x01\x00\x0F"],
         ),
-        (Deed::Give(START), &[b"\x03\xD6\x01\x05\x10\x01\x02"]),
-        (Deed::Give(SIXTEEN), &[b"\x03\xD6\x01\x05\x10\x01\x02"]),
-        (Deed::Give(SHORT), NOTHING),
+        (Deed::Serve(START), &[b"\x03\xD6\x01\x05\x10\x01\x02"]),
+        (Deed::Serve(SIXTEEN), &[b"\x03\xD6\x01\x05\x10\x01\x02"]),
+        (Deed::Serve(SHORT), NOTHING),
         (
-            Deed::Give(b"\x02\x0C\x40\x00"),
+            Deed::Serve(b"\x02\x0C\x40\x00"),
             &[b"\x02\x4C\x40\x00\x01\x02\x03\x04\x05\x06\x07\x08\x09\x0A\x0B\x0C"],
         ),
-        (Deed::Give(b"\x02\x0D\x40\x00"), &[b"\x02\x40\x40\x00"]),
+        (Deed::Serve(b"\x02\x0D\x40\x00"), &[b"\x02\x40\x40\x00"]),
     ];
     let wrong = first_wrong(rt.alloc(), device, &rows)?;
     assert!(rt; wrong.is_none(), "row {wrong:?}");

@@ -1,6 +1,6 @@
 //! What group telegrams do to a device.
 
-use crate::devices::deeds::{COMPLETED, Deed, START, goes, loaded};
+use crate::devices::deeds::{COMPLETED, Deed, START, goes, loaded, serves};
 use device_sim::{Device, Value};
 use knx_model::NoMemory;
 use std::alloc::Global;
@@ -58,9 +58,17 @@ fn group_telegrams_by_flag_and_size(rt: HostRuntime) -> Result<(), Fail> {
         );
     }
     assert!(rt; device.value(5).is_none());
-    // a change of a load state makes all values zero
-    assert!(rt; device.give(COMPLETED).is_some() && is_short(device.value(1), 1));
-    assert!(rt; device.give(START).is_some() && device.give(COMPLETED).is_some());
-    assert!(rt; is_short(device.value(1), 0));
+    // a change of a load state makes all values zero, and a service that changes none doesn't
+    let completed: &[&[u8]] = &[b"\x03\xD6\x01\x05\x10\x01\x01"];
+    assert!(rt; serves(rt.alloc(), device, COMPLETED, completed)? && is_short(device.value(1), 1));
+    assert!(rt;
+        serves(
+            rt.alloc(),
+            device,
+            START,
+            &[b"\x03\xD6\x01\x05\x10\x01\x02"]
+        )?
+    );
+    assert!(rt; serves(rt.alloc(), device, COMPLETED, completed)? && is_short(device.value(1), 0));
     Ok(())
 }

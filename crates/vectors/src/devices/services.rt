@@ -1,4 +1,4 @@
-//! Services that are given to a device, and services that come to it by numbered data.
+//! Services of a device, and what comes of numbered data.
 
 use crate::devices::deeds::{
     ADDRESS, COMPLETED, Deed, NOTHING, Row, SIXTEEN, START, UNLOAD_APPLICATION, first_wrong, sends,
@@ -12,32 +12,32 @@ fn services_and_their_answers(rt: HostRuntime) -> Result<(), Fail> {
     let device = &mut Device::blank(rt.alloc(), ADDRESS)?;
     let rows: [Row<'_>; 8] = [
         // the descriptor of type 0, and of another type
-        (Deed::Give(b"\x03\x00"), &[b"\x03\x40\x07\xB0"]),
-        (Deed::Give(b"\x03\x01"), &[b"\x03\x7F"]),
+        (Deed::Serve(b"\x03\x00"), &[b"\x03\x40\x07\xB0"]),
+        (Deed::Serve(b"\x03\x01"), &[b"\x03\x7F"]),
         // the object type of the device, and the greatest length of an APDU
         (
-            Deed::Give(b"\x03\xD5\x00\x01\x10\x01"),
+            Deed::Serve(b"\x03\xD5\x00\x01\x10\x01"),
             &[b"\x03\xD6\x00\x01\x10\x01\x00\x00"],
         ),
         (
-            Deed::Give(b"\x03\xD5\x00\x38\x10\x01"),
+            Deed::Serve(b"\x03\xD5\x00\x38\x10\x01"),
             &[b"\x03\xD6\x00\x38\x10\x01\x00\x3F"],
         ),
         // the table reference of the association table, two elements of it, and an element other than 1
         (
-            Deed::Give(b"\x03\xD5\x02\x07\x10\x01"),
+            Deed::Serve(b"\x03\xD5\x02\x07\x10\x01"),
             &[b"\x03\xD6\x02\x07\x10\x01\x00\x00\x50\x00"],
         ),
         (
-            Deed::Give(b"\x03\xD5\x02\x07\x20\x01"),
+            Deed::Serve(b"\x03\xD5\x02\x07\x20\x01"),
             &[b"\x03\xD6\x02\x07\x00\x01"],
         ),
         (
-            Deed::Give(b"\x03\xD5\x02\x07\x10\x00"),
+            Deed::Serve(b"\x03\xD5\x02\x07\x10\x00"),
             &[b"\x03\xD6\x02\x07\x00\x00"],
         ),
         // memory that isn't allocated
-        (Deed::Give(b"\x02\x04\x40\x00"), &[b"\x02\x40\x40\x00"]),
+        (Deed::Serve(b"\x02\x04\x40\x00"), &[b"\x02\x40\x40\x00"]),
     ];
     let wrong = first_wrong(rt.alloc(), device, &rows)?;
     assert!(rt; wrong.is_none(), "row {wrong:?}");
@@ -48,21 +48,21 @@ fn services_and_their_answers(rt: HostRuntime) -> Result<(), Fail> {
 fn writes_while_a_part_is_loaded(rt: HostRuntime) -> Result<(), Fail> {
     let device = &mut Device::blank(rt.alloc(), ADDRESS)?;
     let rows: [Row<'_>; 7] = [
-        (Deed::Give(START), &[b"\x03\xD6\x01\x05\x10\x01\x02"]),
-        (Deed::Give(SIXTEEN), &[b"\x03\xD6\x01\x05\x10\x01\x02"]),
+        (Deed::Serve(START), &[b"\x03\xD6\x01\x05\x10\x01\x02"]),
+        (Deed::Serve(SIXTEEN), &[b"\x03\xD6\x01\x05\x10\x01\x02"]),
         // two octets are written and read
-        (Deed::Give(b"\x02\x82\x40\x00\xAB\xCD"), NOTHING),
+        (Deed::Serve(b"\x02\x82\x40\x00\xAB\xCD"), NOTHING),
         (
-            Deed::Give(b"\x02\x02\x40\x00"),
+            Deed::Serve(b"\x02\x02\x40\x00"),
             &[b"\x02\x42\x40\x00\xAB\xCD"],
         ),
-        (Deed::Give(COMPLETED), &[b"\x03\xD6\x01\x05\x10\x01\x01"]),
+        (Deed::Serve(COMPLETED), &[b"\x03\xD6\x01\x05\x10\x01\x01"]),
         (
-            Deed::Give(UNLOAD_APPLICATION),
+            Deed::Serve(UNLOAD_APPLICATION),
             &[b"\x03\xD6\x04\x05\x10\x01\x00"],
         ),
         // a group service has no answer
-        (Deed::Give(b"\x00\x80"), NOTHING),
+        (Deed::Serve(b"\x00\x80"), NOTHING),
     ];
     let wrong = first_wrong(rt.alloc(), device, &rows)?;
     assert!(rt; wrong.is_none(), "row {wrong:?}");

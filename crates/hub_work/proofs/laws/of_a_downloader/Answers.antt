@@ -13,4 +13,5 @@ returns c = record {
   flights = c.flights_are_known.ensures;
   logs = c.steps_are_turns.ensures.logs;
   waits = c.steps_are_turns.ensures.waits;
+  ends = c.steps_exactly.ensures.ends;
 }

@@ -18,3 +18,6 @@ returns-clause-decode g c = rw (told c.knx.result c.number.result c.number.ensur
 
 pub returns-clause-sim : goal.returns-clause-sim
 returns-clause-sim g c = rw (told c.knx.result c.number.result c.number.ensures) c.knx.ensures.sim
+
+pub returns-clause-download : goal.returns-clause-download
+returns-clause-download g c = rw (told c.knx.result c.number.result c.number.ensures) c.knx.ensures.download

@@ -26,3 +26,15 @@ returns-in-Ok-clause-fault g c = rw (c.in-Ok.is, ← c.as_slice.ensures.value) c
 
 pub returns-in-Ok-clause-over : goal.returns-in-Ok-clause-over
 returns-in-Ok-clause-over g c = rw (c.in-Ok.is, ← c.as_slice.ensures.value) c.ended.ensures.over
+
+pub returns-in-Ok-clause-link : goal.returns-in-Ok-clause-link
+returns-in-Ok-clause-link g c = rw (c.in-Ok.is, ← c.as_slice.ensures.value) c.ended.ensures.link
+
+pub returns-in-Ok-clause-download : goal.returns-in-Ok-clause-download
+returns-in-Ok-clause-download g c = rw (c.in-Ok.is, ← c.as_slice.ensures.value) c.ended.ensures.download
+
+pub returns-in-Ok-clause-thorough : goal.returns-in-Ok-clause-thorough
+returns-in-Ok-clause-thorough g c = rw (c.in-Ok.is, ← c.as_slice.ensures.value) c.ended.ensures.thorough
+
+pub returns-in-Ok-clause-leaves : goal.returns-in-Ok-clause-leaves
+returns-in-Ok-clause-leaves g c = rw (c.in-Ok.is, ← c.as_slice.ensures.value) c.ended.ensures.leaves

@@ -1,4 +1,6 @@
-use Rattle.std.proofs.Common.{refl, sym}
+use Rattle.std.proofs.Common.{Some, refl, sym, ap, ◌∙◌}
+use Rattle.knx_top.specs.Command.{Command}
+use Rattle.knx_top.proofs.DialledRuns.{no_command, same_command}
 use Rattle.knx_top.proofs.call.answer.Goals as goal
 
 pub returns-in-Some-clause-does : goal.returns-in-Some-clause-does
@@ -6,3 +8,18 @@ returns-in-Some-clause-does g c = rw (sym c.in-Some.ensures.is) c.run.ensures.do
 
 pub returns-in-None-clause-does : goal.returns-in-None-clause-does
 returns-in-None-clause-does g c = rw (sym c.in-None.ensures.is) (c.tell.ensures.told, (λ _. refl), record { line = refl; report = c.requires })
+
+pub returns-in-Some-clause-download : goal.returns-in-Some-clause-download
+returns-in-Some-clause-download g c = λ names e. c.run.ensures.download names (same_command _ _ (c.in-Some.ensures.is ∙ e))
+
+pub returns-in-Some-clause-undialled : goal.returns-in-Some-clause-undialled
+returns-in-Some-clause-undialled g c = λ other. c.run.ensures.undialled (λ names e. other names (sym c.in-Some.ensures.is ∙ ap (λ (command : Command). Some command) e))
+
+pub returns-in-None-clause-download : goal.returns-in-None-clause-download
+returns-in-None-clause-download g c = λ names e. absurd (no_command _ (c.in-None.ensures.is ∙ e))
+
+pub returns-in-Some-clause-link : goal.returns-in-Some-clause-link
+returns-in-Some-clause-link g c = λ names e. c.run.ensures.link names (same_command _ _ (c.in-Some.ensures.is ∙ e))
+
+pub returns-in-None-clause-link : goal.returns-in-None-clause-link
+returns-in-None-clause-link g c = λ names e. absurd (no_command _ (c.in-None.ensures.is ∙ e))

@@ -1,5 +1,5 @@
-use Rattle.knx_top.specs.Headline.{BeganRightly, HasOldStoppedOrNew, HasTelegramsRight, RunsWhereDone, ActsOnce, IsToldRightly, HasFaultRight, EndsEveryJob}
-use Rattle.knx_top.proofs.Calls.{usage_of, check_of, tables_of, decode_of, sim_of, line_of, faults_in, ran_of}
+use Rattle.knx_top.specs.Headline.{BeganRightly, HasOldStoppedOrNew, HasTelegramsRight, RunsWhereDone, ActsOnce, IsToldRightly, EndsThoroughly, LeavesItsChannel, HasFaultRight, EndsEveryJob}
+use Rattle.knx_top.proofs.Calls.{usage_of, check_of, tables_of, decode_of, sim_of, line_of, no_run_of, faults_in, ran_of}
 use Rattle.knx_top.proofs.Promised as promised
 use Rattle.knx_top.proofs.call.knx.Goals as goal
 
@@ -21,6 +21,9 @@ returns-clause-sim g c = λ names. sim_of _ _ _ _ _ _ _ names c.answer.ensures.d
 pub returns-clause-line : goal.returns-clause-line
 returns-clause-line g c = line_of _ _ _ _ _ _ _ c.answer.ensures.does
 
+pub returns-clause-no_run : goal.returns-clause-no_run
+returns-clause-no_run g c = no_run_of _ _ _ _ _ _ _ c.answer.ensures.does
+
 pub returns-clause-faults : goal.returns-clause-faults
 returns-clause-faults g c = faults_in _ _ _ _ _ _ _ c.answer.ensures.does
 
@@ -41,6 +44,12 @@ returns-clause-once g c = ran_of ActsOnce promised.acts_once _ _ _ _ _ _ _ c.ans
 
 pub returns-clause-told : goal.returns-clause-told
 returns-clause-told g c = ran_of IsToldRightly promised.told_rightly _ _ _ _ _ _ _ c.answer.ensures.does
+
+pub returns-clause-thorough : goal.returns-clause-thorough
+returns-clause-thorough g c = ran_of EndsThoroughly promised.ends_thoroughly _ _ _ _ _ _ _ c.answer.ensures.does
+
+pub returns-clause-leaves : goal.returns-clause-leaves
+returns-clause-leaves g c = ran_of LeavesItsChannel promised.leaves_its_channel _ _ _ _ _ _ _ c.answer.ensures.does
 
 pub returns-clause-fault : goal.returns-clause-fault
 returns-clause-fault g c = ran_of HasFaultRight promised.fault_right _ _ _ _ _ _ _ c.answer.ensures.does

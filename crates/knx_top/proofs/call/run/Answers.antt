@@ -1,4 +1,6 @@
-use Rattle.std.proofs.Common.{refl}
+use Rattle.std.proofs.Common.{refl, ap}
+use Rattle.knx_top.specs.Names.{command_of, download_words_of}
+use Rattle.knx_top.proofs.DialledRuns.{of_words, rose_at_most}
 use Rattle.knx_top.proofs.call.run.Goals as goal
 
 pub returns-in-Check-clause-does : goal.returns-in-Check-clause-does
@@ -12,3 +14,12 @@ returns-in-Sim-clause-does g c = rw c.in-Sim.is c.tell_sim.ensures.told
 
 pub returns-in-Decode-clause-does : goal.returns-in-Decode-clause-does
 returns-in-Decode-clause-does g c = rw c.in-Decode.is (c.tell_decode.ensures.told, (λ _. refl), record { line = refl; report = c.requires.none })
+
+pub returns-in-Download-clause-does : goal.returns-in-Download-clause-does
+returns-in-Download-clause-does g c = rw c.in-Download.is (refl, rose_at_most _ _ _ _ _ _ _ _ c.tell_download.ensures.told)
+
+pub returns-in-Download-clause-download : goal.returns-in-Download-clause-download
+returns-in-Download-clause-download g c = λ names e. of_words (command_of c.args.command) (download_words_of c.in-Download.names) names _ _ _ _ _ _ _ (ap command_of c.in-Download.is) e c.tell_download.ensures.told
+
+pub returns-in-Download-clause-undialled : goal.returns-in-Download-clause-undialled
+returns-in-Download-clause-undialled g c = λ other. absurd (other (download_words_of c.in-Download.names) (ap command_of c.in-Download.is))

@@ -6,6 +6,9 @@ use Rattle.knx_top.proofs.commission.commission.Goals as goal
 pub run-requires-clause-new : goal.run-requires-clause-new
 run-requires-clause-new g c = of_order _ _ _ c.in-Ok.ensures.ok (λ commission is. is.line.nothing)
 
+pub run-requires-clause-one : goal.run-requires-clause-one
+run-requires-clause-one g c = of_order _ _ _ c.in-Ok.ensures.ok (λ commission is. is.line.one)
+
 pub run-requires-clause-sound : goal.run-requires-clause-sound
 run-requires-clause-sound g c = of_order _ _ _ c.in-Ok.ensures.ok (λ commission is. is.sound)
 

@@ -5,20 +5,24 @@ use Rattle.knx_model.specs.declared.address.IndAddr.{IndAddr}
 use Rattle.knx_model.specs.declared.config.Image.{Image}
 use Rattle.line_model.specs.declared.group.GroupTurn.{GroupTurn}
 use Rattle.tunnel_link.specs.Rights.{FailsWhere}
+use Rattle.hub_driver.specs.Leaving.{LeavesOver}
 use Rattle.line_model.specs.Headline.{Keeps}
 use Rattle.line_model.specs.Log.{Job}
 use Rattle.knx_top.specs.Ended.{ShowsRun, outcome_of}
 use Rattle.knx_top.specs.Jobs.{seen_job}
 use Rattle.knx_top.specs.Ran.{FaultsOfLine, log_in}
-use Rattle.knx_top.proofs.Driven.{devices_seen, driven, jobs_seen}
+use Rattle.knx_top.proofs.Driven.{devices_seen, driven, jobs_seen, new_line}
 use Rattle.knx_top.proofs.Shows.{fault_so, runs_so, still_there}
 use Rattle.knx_top.proofs.commission.run.Goals as goal
+
+pub commission-line-requires-clause-new : goal.commission-line-requires-clause-new
+commission-line-requires-clause-new g c = new_line c.args.order.line c.requires.new c.keeps.ensures.fresh
 
 pub end_of_run-requires : goal.end_of_run-requires
 end_of_run-requires g c =
     let jobs : List Job = map seen_job c.args.order.plans in
     subst (λ (devices : List (IndAddr × Option Image)). All (λ (d : IndAddr × Option Image). IsSome ((world c.commission-line.result.0.run).devices d.0.raw)) devices) (sym c.as_slice.ensures)
-    (still_there jobs c.args.order.line.run c.commission-line.result.0.run (log_in c.commission-line.result.1) c.args.order.devices c.requires.new c.commission-line.ensures.grows
+    (still_there jobs c.args.order.line.run c.commission-line.result.0.run (log_in c.commission-line.result.1) c.args.order.devices c.requires.one c.requires.new c.commission-line.ensures.grows
     (c.commission-line.ensures.right jobs (jobs_seen c.args.order.plans) c.requires.good) c.requires.devices)
 
 pub returns-clause-runs : goal.returns-clause-runs
@@ -28,9 +32,11 @@ returns-clause-runs g c = λ commission is logs.
     let report = c.commission-line.result.1 in
     let keeps : Keeps jobs [] (story line.run) (log_in report) =
     subst (λ (groups : List GroupTurn). Keeps jobs groups (story line.run) (log_in report)) c.new.ensures (c.commission-line.ensures.headline jobs (jobs_seen c.args.order.plans)) in
+    let leaves : LeavesOver jobs [] (story line.run) (log_in report) =
+    subst (λ (groups : List GroupTurn). LeavesOver jobs groups (story line.run) (log_in report)) c.new.ensures (c.commission-line.ensures.leaves jobs (devices_seen c.args.order.plans)) in
     runs_so commission c.args.sim.now line report c.args.order.jobs c.args.order.devices c.args.log (outcome_of c.end_of_run.result)
-    (driven commission c.args.order line report is c.commission-line.ensures.grows c.commission-line.ensures.script c.keeps-2.ensures.fresh c.keeps-2.ensures.legal c.keeps-2.ensures.follows
-    keeps (c.commission-line.ensures.right jobs (jobs_seen c.args.order.plans) c.requires.good) (c.commission-line.ensures.fault jobs (jobs_seen c.args.order.plans))
+    (driven commission c.args.order line report is c.requires.one c.commission-line.ensures.grows c.commission-line.ensures.script c.keeps-2.ensures.fresh c.keeps-2.ensures.legal c.keeps-2.ensures.follows
+    keeps (c.commission-line.ensures.thorough jobs (jobs_seen c.args.order.plans)) leaves (c.commission-line.ensures.right jobs (jobs_seen c.args.order.plans) c.requires.good) (c.commission-line.ensures.fault jobs (jobs_seen c.args.order.plans))
     (λ none. c.commission-line.ensures.over none jobs (devices_seen c.args.order.plans)) c.commission-line.ensures.heard c.commission-line.ensures.missed c.commission-line.ensures.dropped)
     is.prepared.devices logs
     (subst (λ (devices : List (IndAddr × Option Image)). ShowsRun line.run report c.args.order.jobs devices c.args.log (outcome_of c.end_of_run.result)) c.as_slice.ensures c.end_of_run.ensures)

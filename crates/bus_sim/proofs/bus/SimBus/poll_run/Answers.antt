@@ -1,11 +1,11 @@
-use Rattle.line_model.specs.LinkStory.{PollsNothing}
-use Rattle.bus_sim.specs.RunNow.{seen, story}
+use Rattle.bus_sim.specs.Polls.{StopsRun}
+use Rattle.bus_sim.specs.RunNow.{seen}
 use Rattle.bus_sim.proofs.Linked.{nothing_polled, polled_from, stopped_from}
 use Rattle.bus_sim.proofs.Polling.{OnErrAny}
 use Rattle.bus_sim.proofs.bus.SimBus.poll_run.Goals as goal
 
 pub returns-in_err-run-clause-err : goal.returns-in_err-run-clause-err
-returns-in_err-run-clause-err c = OnErrAny c.from_residual.result (PollsNothing c.args.wait_ms (story c.args.self.now.run) (story c.take_run.new.self.run))
+returns-in_err-run-clause-err c = OnErrAny c.from_residual.result (StopsRun c.args.wait_ms c.args.self.now.run c.take_run.new.self.run)
     (nothing_polled c.args.wait_ms c.args.self.now.run c.take_run.new.self.run c.in_err-run.ensures.err)
 
 pub returns-clause-polled : goal.returns-clause-polled

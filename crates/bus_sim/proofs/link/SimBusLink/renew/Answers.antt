@@ -6,7 +6,7 @@ use Rattle.bus_sim.proofs.Linked.{added, added_later, stayed_later}
 use Rattle.bus_sim.proofs.link.SimBusLink.renew.Goals as goal
 
 pub returns-in-Ok-clause-renewed : goal.returns-in-Ok-clause-renewed
-returns-in-Ok-clause-renewed c = added Renewed Renew c.args.self.now.run c.renew_run.new.self.run c.in-Ok.ensures.went
+returns-in-Ok-clause-renewed c = added Renewed Renew c.args.self.now.run c.renew_run.new.self.run c.in-Ok.ensures.one c.in-Ok.ensures.went
 
 pub returns-in-Ok-clause-time : goal.returns-in-Ok-clause-time
 returns-in-Ok-clause-time c = (added_later Renew c.args.self.now.run c.renew_run.new.self.run c.in-Ok.ensures.went).time

@@ -6,7 +6,7 @@ use Rattle.bus_sim.proofs.Linked.{added, added_later, stayed_later}
 use Rattle.bus_sim.proofs.link.SimBusLink.send.Goals as goal
 
 pub returns-in-Ok-clause-sent : goal.returns-in-Ok-clause-sent
-returns-in-Ok-clause-sent c = added (Put c.args.octets.now) (Send c.args.octets.now) c.args.self.now.run c.send_to_run.new.self.run c.in-Ok.ensures.went
+returns-in-Ok-clause-sent c = added (Put c.args.octets.now) (Send c.args.octets.now) c.args.self.now.run c.send_to_run.new.self.run c.in-Ok.ensures.one c.in-Ok.ensures.went
 
 pub returns-in-Ok-clause-time : goal.returns-in-Ok-clause-time
 returns-in-Ok-clause-time c = (added_later (Send c.args.octets.now) c.args.self.now.run c.send_to_run.new.self.run c.in-Ok.ensures.went).time

@@ -4,7 +4,7 @@ use Rattle.line_model.specs.Counts.{write_of}
 use Rattle.line_model.specs.Owed.{PowerReturns}
 use Rattle.line_model.specs.World.{World, BusTorn, next_frame, replay}
 use Rattle.line_sim.specs.Line.{effect_due, write_due}
-use Rattle.bus_sim.specs.Begun.{said, start_of}
+use Rattle.bus_sim.specs.Begun.{mode_in, said, start_of}
 use Rattle.bus_sim.specs.Counted.{CountsNow, AreCounts}
 use Rattle.bus_sim.specs.Went.{world}
 use Rattle.bus_sim.proofs.Calls.{three_called}
@@ -15,7 +15,6 @@ use Rattle.bus_sim.proofs.Holds.{after_own, run}
 use Rattle.bus_sim.proofs.Wants.{write_alike}
 use Rattle.bus_sim.proofs.Carriages.{carried_right}
 use Rattle.bus_sim.proofs.NextEvents.{carried_so_right}
-use Rattle.line_model.specs.Tunnel.{Commissions}
 use Rattle.line_sim.specs.Allowed.{Allows}
 use Rattle.bus_sim.proofs.Laws.{allowed}
 use Rattle.bus_sim.specs.Choices.{carried}
@@ -33,7 +32,7 @@ invariant_of-self-2 c =
     = ap is_some (sym (write_alike c.self.inside.line w c.args.frame.now c.self.invariant.pictured due)) ∙ ap (λ (v : RunState). is_some (write_due v.line)) c.self.view_is ∙ c.requires.write in
     let is : IsWritten w c.args.frame.now = is_written w c.args.frame.now some in
     after_own c.self.inside.begun c.self.inside.events.list c.make_room.new.events.list c.push.new.self.list c.self.inside.index c.self.inside.line c.bus_torn.new.self c.self.inside.counts c.add.new.self c.self.inside.owed.list c.make_room.new.owed.list c.meet.new.self.list _ (BusTorn (nat_lt 0 c.args.k) (written_front (effect_due c.self.inside.line) c.args.k)) refl c.self.invariant c.in_ok-bus_torn.ensures.next
-    (carried_right (run b es) c.args.frame.now (BusTorn (nat_lt 0 c.args.k) (written_front (effect_due c.self.inside.line) c.args.k)) (subst (λ (v : RunState). NothingCalled (seen v)) (sym c.self.view_is) c.requires.free) due (subst (λ (v : RunState). BusTorn (nat_lt 0 c.args.k) (written_front (effect_due v.line) c.args.k) ≡ carried v c.args.frame.now) (sym c.self.view_is) c.requires.so) (allowed Commissions c.self.inside.line w (BusTorn (nat_lt 0 c.args.k) (written_front (effect_due c.self.inside.line) c.args.k)) c.self.invariant.pictured (subst (λ l. Allows Commissions c.self.inside.line (BusTorn (nat_lt 0 c.args.k) l)) c.in_ok-octets.ensures.value (c.in_ok-octets.ensures.allowed Commissions (subst (λ (v : RunState). is_some (write_due v.line) ≡ true) (sym c.self.view_is) c.requires.write))))) c.make_room.ensures.events (c.push.ensures ∙ ap (λ x. x ∷ c.make_room.new.events.list) (c.torn.ensures.event c.as_slice.result.now ∙ ap (BusTorn (nat_lt 0 c.args.k)) (c.as_slice.ensures ∙ c.in_ok-octets.ensures.value))) c.in_ok-make_room.ensures.few c.make_room.ensures.owed c.meet.ensures
+    (carried_right (run b es) c.args.frame.now (BusTorn (nat_lt 0 c.args.k) (written_front (effect_due c.self.inside.line) c.args.k)) (subst (λ (v : RunState). NothingCalled (seen v)) (sym c.self.view_is) c.requires.free) due (subst (λ (v : RunState). BusTorn (nat_lt 0 c.args.k) (written_front (effect_due v.line) c.args.k) ≡ carried v c.args.frame.now) (sym c.self.view_is) c.requires.so) (allowed (mode_in c.self.inside.begun) c.self.inside.line w (BusTorn (nat_lt 0 c.args.k) (written_front (effect_due c.self.inside.line) c.args.k)) c.self.invariant.pictured (subst (λ l. Allows (mode_in c.self.inside.begun) c.self.inside.line (BusTorn (nat_lt 0 c.args.k) l)) c.in_ok-octets.ensures.value (c.in_ok-octets.ensures.allowed (mode_in c.self.inside.begun) (subst (λ (v : RunState). is_some (write_due v.line) ≡ true) (sym c.self.view_is) c.requires.write))))) c.make_room.ensures.events (c.push.ensures ∙ ap (λ x. x ∷ c.make_room.new.events.list) (c.torn.ensures.event c.as_slice.result.now ∙ ap (BusTorn (nat_lt 0 c.args.k)) (c.as_slice.ensures ∙ c.in_ok-octets.ensures.value))) c.in_ok-make_room.ensures.few c.make_room.ensures.owed c.meet.ensures
     (three_called (PowerReturns c.args.frame.now.destination ∷ []) _ _ _ _ (c.frame_again-second.ensures (said b) c.self.invariant.indexed) (c.connection_closes-third.ensures (said b) c.self.invariant.indexed)
     ∙ write_calls c.self.inside.begun c.self.inside.events.list c.self.inside.index c.self.inside.line c.self.inside.counts c.self.inside.owed.list c.self.invariant c.args.frame.now due (BusTorn (nat_lt 0 c.args.k) (written_front (effect_due c.self.inside.line) c.args.k)) (PowerReturns c.args.frame.now.destination ∷ []) c.saturating_add-n.result c.saturating_add-m.result c.of-counts.result (sym due) refl refl is c.saturating_add-n.ensures c.saturating_add-m.ensures c.of-counts.ensures)
     (subst (λ (x : CountsNow). AreCounts x (start_of b) (BusTorn (nat_lt 0 c.args.k) (written_front (effect_due c.self.inside.line) c.args.k) ∷ es)) (sym c.add.ensures.value)
@@ -42,4 +41,4 @@ invariant_of-self-2 c =
     c.add.ensures.line
 
 pub returns-clause-right : goal.returns-clause-right
-returns-clause-right c = carried_so_right c.self.inside.begun c.self.inside.events.list c.self.inside.index c.self.inside.line c.self.inside.counts c.self.inside.owed.list c.self.invariant c.args.frame.now (λ (v : RunState). BusTorn (nat_lt 0 c.args.k) (written_front (effect_due v.line) c.args.k)) c.args.self.now c.self.view_is c.requires.free c.requires.due c.requires.so (subst (λ l. Allows Commissions c.self.inside.line (BusTorn (nat_lt 0 c.args.k) l)) c.in_ok-octets.ensures.value (c.in_ok-octets.ensures.allowed Commissions (subst (λ (v : RunState). is_some (write_due v.line) ≡ true) (sym c.self.view_is) c.requires.write)))
+returns-clause-right c = carried_so_right c.self.inside.begun c.self.inside.events.list c.self.inside.index c.self.inside.line c.self.inside.counts c.self.inside.owed.list c.self.invariant c.args.frame.now (λ (v : RunState). BusTorn (nat_lt 0 c.args.k) (written_front (effect_due v.line) c.args.k)) c.args.self.now c.self.view_is c.requires.free c.requires.due c.requires.so (subst (λ l. Allows (mode_in c.self.inside.begun) c.self.inside.line (BusTorn (nat_lt 0 c.args.k) l)) c.in_ok-octets.ensures.value (c.in_ok-octets.ensures.allowed (mode_in c.self.inside.begun) (subst (λ (v : RunState). is_some (write_due v.line) ≡ true) (sym c.self.view_is) c.requires.write)))

@@ -4,8 +4,8 @@ use Rattle.bus_sim.specs.Polls.{GoesOnFrom}
 use Rattle.bus_sim.specs.Went.{world}
 use Rattle.bus_sim.proofs.run.Run.run_for.Given as goal
 
-abbrev pub invariant-loop-octets : goal.invariant-loop-octets
-invariant-loop-octets l = GoesOnFrom l.fn.self l.self × (now (world l.self) + l.left ≡ now (world l.fn.self) + l.wait)
+abbrev pub invariant-loop-letter : goal.invariant-loop-letter
+invariant-loop-letter l = GoesOnFrom l.fn.self l.self × (now (world l.self) + l.left ≡ now (world l.fn.self) + l.wait)
 
-abbrev pub decreases-loop-octets : goal.decreases-loop-octets
-decreases-loop-octets l = 2 ^ 62 - length l.self.events
+abbrev pub decreases-loop-letter : goal.decreases-loop-letter
+decreases-loop-letter l = 2 ^ 62 - length l.self.events

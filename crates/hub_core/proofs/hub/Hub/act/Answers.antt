@@ -1,4 +1,4 @@
-use Rattle.std.proofs.Common.{◌≡◌, None}
+use Rattle.std.proofs.Common.{◌≡◌, None, refl}
 use Rattle.hub_core.proofs.Calls.{acts_failed, acts_done}
 use Rattle.hub_core.proofs.Keeps.{none_inside}
 use Rattle.hub_core.proofs.Prompting.{prompts_told}
@@ -6,6 +6,7 @@ use Rattle.hub_core.proofs.View.{same_run}
 use Rattle.hub_core.proofs.Hears.{hears_none}
 use Rattle.hub_core.proofs.Pumping.{acts_so}
 use Rattle.hub_core.proofs.Endings.{acts_resume}
+use Rattle.hub_core.proofs.Polls.{acts_send, acts_stay}
 use Rattle.hub_core.proofs.hub.Hub.act.Goals as goal
 
 pub invariant_of-self : goal.invariant_of-self
@@ -32,3 +33,18 @@ returns-clause-begun g c = rw (← c.self.view_is) c.lose.ensures.books.begun
 
 pub returns-clause-resumes : goal.returns-clause-resumes
 returns-clause-resumes g c = rw (← c.self.view_is) (acts_resume _ _ c.in_ok-acted.acted c.now-now.result _ _ c.keeps.ensures.legal c.now-now.ensures.newest c.in_ok-acted.ensures.adds c.lose.ensures.closes)
+
+pub returns-in_err-acted-clause-alone : goal.returns-in_err-acted-clause-alone
+returns-in_err-acted-clause-alone g c = rw (← c.self.view_is) c.act.ensures.alone
+
+pub returns-clause-alone : goal.returns-clause-alone
+returns-clause-alone g c = rw (← c.self.view_is) c.act.ensures.alone
+
+pub returns-clause-sends : goal.returns-clause-sends
+returns-clause-sends g c = rw (← c.self.view_is) (acts_send _ _ c.in_ok-acted.acted c.in_ok-acted.ensures.adds)
+
+pub returns-clause-still : goal.returns-clause-still
+returns-clause-still g c =
+    rw (← c.self.view_is) (λ old e.
+    let stays = acts_stay _ _ c.in_ok-acted.acted c.in_ok-acted.ensures.adds old e in
+    (c.lose.ensures.crew stays, c.lose.ensures.closing stays refl))

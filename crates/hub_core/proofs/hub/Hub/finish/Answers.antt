@@ -1,9 +1,19 @@
 use Rattle.tunnel_link.proofs.Stories.{goes_again}
 use Rattle.hub_core.proofs.Hears.{hears_after}
 use Rattle.std.proofs.Common.{sym, subst}
-use Rattle.hub_core.specs.Closes.{Closes, Resumes}
+use Rattle.hub_core.specs.Closes.{Begins, Closes, Resumes}
 use Rattle.hub_core.specs.Pumps.{AddsSo}
 use Rattle.hub_core.proofs.Endings.{closes_now, closes_all, goes_after}
+use Rattle.line_model.specs.LinkStory.{newest_time}
+use Rattle.line_model.specs.Record.{entries}
+use Rattle.tunnel_link.specs.Adds.{Growing}
+use Rattle.tunnel_link.specs.Rights.{WhereTold}
+use Rattle.hub_core.specs.Leaving.{ClosesOn}
+use Rattle.hub_core.proofs.Leaving.{closes_none, closes_alone, closes_with}
+use Rattle.std.proofs.Common.{◌∙◌, ap}
+use Rattle.hub_core.proofs.Polls.{goes_once, closes_unpolled, none_sent, runs_on, ok_as}
+use Rattle.hub_core.specs.Polls.{SendsOnly}
+use Rattle.hub_core.proofs.Came.{comes_after, none_comes}
 use Rattle.hub_core.proofs.hub.Hub.finish.Goals as goal
 
 pub returns-clause-grows : goal.returns-clause-grows
@@ -25,3 +35,40 @@ pub returns-clause-goes : goal.returns-clause-goes
 returns-clause-goes g c =
     goes_after c.goes_on.result (Resumes c.is_over.new.self.closing c.act.new.self.closing) (g.L.Link.story c.args.self.now.link) (g.L.Link.story c.act.new.self.link) (g.L.Link.story c.goes_on.new.self.link) c.goes_on.ensures.grows
     (subst (λ l. AddsSo (Resumes c.is_over.new.self.closing c.act.new.self.closing) (g.L.Link.story l) (g.L.Link.story c.act.new.self.link)) c.is_over.ensures.link c.in_ok-act.ensures.resumes) c.goes_on.ensures.goes
+
+pub returns-then-is_over-clause-rightly : goal.returns-then-is_over-clause-rightly
+returns-then-is_over-clause-rightly g c =
+    subst (λ l. Growing (ClosesOn c.args.self.now.closing) (g.L.Link.story c.args.self.now.link) (g.L.Link.story l)) (sym c.is_over.ensures.link) (closes_none c.args.self.now.closing (g.L.Link.story c.args.self.now.link))
+
+pub returns-in_err-act-clause-rightly : goal.returns-in_err-act-clause-rightly
+returns-in_err-act-clause-rightly g c =
+    subst (λ l. Growing (ClosesOn c.args.self.now.closing) (g.L.Link.story l) (g.L.Link.story c.act.new.self.link)) c.is_over.ensures.link (closes_alone c.args.self.now.closing _ _ c.act.ensures.alone)
+
+pub returns-clause-rightly : goal.returns-clause-rightly
+returns-clause-rightly g c =
+    subst (λ l. Growing (ClosesOn c.args.self.now.closing) (g.L.Link.story l) (g.L.Link.story c.goes_on.new.self.link)) c.is_over.ensures.link
+    (closes_with c.args.self.now.closing c.is_over.new.self.closing c.act.new.self.closing (g.L.Link.story c.is_over.new.self.link) (g.L.Link.story c.act.new.self.link) (g.L.Link.story c.goes_on.new.self.link) c.act.ensures.grows c.goes_on.ensures.grows
+    (subst (λ l. WhereTold (λ places. Begins (newest_time (entries places)) c.args.self.now.closing c.is_over.new.self.closing) (g.L.Link.story l)) (sym c.is_over.ensures.link) c.is_over.ensures.begins)
+    c.act.ensures.alone c.in_ok-act.ensures.resumes c.goes_on.ensures.rightly)
+
+pub returns-then-is_over-clause-polls : goal.returns-then-is_over-clause-polls
+returns-then-is_over-clause-polls g c = closes_unpolled c.args.self.now.jobs c.args.self.now.turns c.args.self.now.log c.args.self.now.crew c.args.self.now.closing (g.L.Link.story c.args.self.now.link) (g.L.Link.story c.is_over.new.self.link) (none_sent (g.L.Link.story c.args.self.now.link) (g.L.Link.story c.is_over.new.self.link) (ap (λ l. g.L.Link.story l) c.is_over.ensures.link))
+
+pub returns-clause-polls : goal.returns-clause-polls
+returns-clause-polls g c =
+    ok_as c.goes_on.result (goes_once c.args.self.now c.act.new.self (runs_on c.args.self.now c.is_over.new.self c.act.new.self c.is_over.ensures.run c.act.ensures.run) (c.act.ensures.log ∙ c.is_over.ensures.log)
+    (g.L.Link.story c.args.self.now.link) (g.L.Link.story c.act.new.self.link) (g.L.Link.story c.goes_on.new.self.link) (rw (← c.is_over.ensures.link) c.act.ensures.grows) c.goes_on.ensures.grows
+    (subst (λ l. Growing SendsOnly (g.L.Link.story l) (g.L.Link.story c.act.new.self.link)) c.is_over.ensures.link c.in_ok-act.ensures.sends)
+    (λ old e. (c.in_ok-act.ensures.still old (rw c.is_over.ensures.link e)).0 ∙ c.is_over.ensures.crew)
+    (λ old e. rw (c.in_ok-act.ensures.still old (rw c.is_over.ensures.link e)).1 (c.is_over.ensures.begins old e))) c.goes_on.ensures.polls
+
+pub returns-then-is_over-clause-came : goal.returns-then-is_over-clause-came
+returns-then-is_over-clause-came g c =
+    none_comes (g.L.Link.story c.args.self.now.link) (g.L.Link.story c.is_over.new.self.link) c.args.self.now.crew c.is_over.new.self.crew
+    (none_sent (g.L.Link.story c.args.self.now.link) (g.L.Link.story c.is_over.new.self.link) (ap (λ l. g.L.Link.story l) c.is_over.ensures.link)) c.is_over.ensures.crew
+
+pub returns-clause-came : goal.returns-clause-came
+returns-clause-came g c =
+    ok_as c.goes_on.result (comes_after (g.L.Link.story c.args.self.now.link) (g.L.Link.story c.act.new.self.link) (g.L.Link.story c.goes_on.new.self.link) c.args.self.now.crew c.act.new.self.crew c.goes_on.new.self.crew
+    (rw (← c.is_over.ensures.link) c.act.ensures.grows) c.goes_on.ensures.grows (subst (λ l. Growing SendsOnly (g.L.Link.story l) (g.L.Link.story c.act.new.self.link)) c.is_over.ensures.link c.in_ok-act.ensures.sends)
+    (λ old e. (c.in_ok-act.ensures.still old (rw c.is_over.ensures.link e)).0 ∙ c.is_over.ensures.crew)) c.goes_on.ensures.came

@@ -1,6 +1,8 @@
-use Rattle.std.proofs.Common.{List, subst}
+use Rattle.std.proofs.Common.{ℕ, List, subst}
+use Rattle.line_model.specs.LinkStory.{IsPlace}
 use Rattle.hub_work.specs.Downloaders.{Task, AreJobsWith}
 use Rattle.hub_core.proofs.Headlines.{headline, safe_over, right_over, fault_in}
+use Rattle.hub_core.proofs.Thorough.{thorough_over}
 use Rattle.hub_core.proofs.View.{seen_tasks}
 use Rattle.hub_core.proofs.hub.Hub.keeps.Goals as goal
 
@@ -24,6 +26,12 @@ returns-clause-safe g c =
     (c.one_downloader_per_device.ensures.alone jobs c.self.inside.work.journal.entries (c.self.invariant.books.written.reserved jobs (c.self.invariant.jobs_are jobs here)))
     (λ places e. (c.self.invariant.told jobs here places e).tells) c.keeps.ensures.record c.keeps.ensures.legal)
 
+pub returns-clause-thorough : goal.returns-clause-thorough
+returns-clause-thorough g c =
+    rw (← c.self.view_is) (λ jobs of.
+    let here : AreJobsWith _ jobs = subst (λ (ts : List Task). AreJobsWith ts jobs) (seen_tasks c.self.inside.work) of in
+    thorough_over jobs c.self.inside.work.telegrams.turns c.self.inside.work.journal.entries _ c.self.inside.tunnel.known (λ places e. (c.self.invariant.told jobs here places e).tells) c.keeps.ensures.record)
+
 pub returns-clause-right : goal.returns-clause-right
 returns-clause-right g c =
     rw (← c.self.view_is) (λ jobs of good.
@@ -37,3 +45,6 @@ pub returns-clause-fault : goal.returns-clause-fault
 returns-clause-fault g c =
     rw (← c.self.view_is) (λ jobs of.
     fault_in jobs c.self.inside.work c.self.inside.met c.self.inside.tunnel.known _ (c.self.invariant.told jobs (subst (λ (ts : List Task). AreJobsWith ts jobs) (seen_tasks c.self.inside.work) of)) c.keeps.ensures.record)
+
+pub returns-clause-place : goal.returns-clause-place
+returns-clause-place g c = rw (← c.self.view_is) (subst (λ (n : ℕ). IsPlace n (g.L.Link.story c.self.inside.tunnel.link)) c.at-at.ensures.value c.at-at.ensures.told)

@@ -10,6 +10,11 @@ use Rattle.hub_core.specs.Closes.{Resumes, AsksNow, HasDone}
 use Rattle.hub_core.specs.Hears.{HearsSo}
 use Rattle.hub_core.specs.Pumps.{AddsSo}
 use Rattle.hub_core.proofs.Endings.{some_begun, asked_resumes, unasked_resumes, unasked_over, asked_did, goes_by}
+use Rattle.tunnel_link.specs.Adds.{Growing}
+use Rattle.hub_core.specs.Leaving.{ClosesOn}
+use Rattle.hub_core.proofs.Leaving.{leave_closes}
+use Rattle.hub_core.specs.Polls.{SendsOnly}
+use Rattle.hub_core.proofs.Polls.{leaves_send}
 use Rattle.hub_core.proofs.hub.Hub.leave.Goals as goal
 
 pub invariant_of-self : goal.invariant_of-self
@@ -55,3 +60,21 @@ returns-clause-resumes g c =
 pub returns-clause-goes : goal.returns-clause-goes
 returns-clause-goes g c =
     rw (← c.self.view_is) (goes_by c.finished.result (g.L.Link.story c.self.inside.tunnel.link) (g.L.Link.story c.is_over-is_over.new.self.link) (subst (λ l. AddsSo HasDone (g.L.Link.story c.self.inside.tunnel.link) (g.L.Link.story l)) (sym c.is_over-is_over.ensures.link) (asked_did _ _ c.in_ok-asked.asked c.in_ok-asked.ensures.adds c.if-not-asked.false)))
+
+pub returns-in_err-asked-clause-rightly : goal.returns-in_err-asked-clause-rightly
+returns-in_err-asked-clause-rightly g c = rw (← c.self.view_is) (leave_closes c.self.inside.work.closing _ _ (subst (λ v. AsksNow v.closing (g.L.Link.story v.link)) (sym c.self.view_is) c.requires.waited) c.leave.ensures.alone)
+
+pub returns-then-not-asked-clause-rightly : goal.returns-then-not-asked-clause-rightly
+returns-then-not-asked-clause-rightly g c = rw (← c.self.view_is) (leave_closes c.self.inside.work.closing _ _ (subst (λ v. AsksNow v.closing (g.L.Link.story v.link)) (sym c.self.view_is) c.requires.waited) c.leave.ensures.alone)
+
+pub returns-clause-rightly : goal.returns-clause-rightly
+returns-clause-rightly g c =
+    rw (← c.self.view_is) (subst (λ l. Growing (ClosesOn c.self.inside.work.closing) (g.L.Link.story c.self.inside.tunnel.link) (g.L.Link.story l)) (sym c.is_over-is_over.ensures.link)
+    (leave_closes c.self.inside.work.closing _ _ (subst (λ v. AsksNow v.closing (g.L.Link.story v.link)) (sym c.self.view_is) c.requires.waited) c.leave.ensures.alone))
+
+pub returns-then-not-asked-clause-sends : goal.returns-then-not-asked-clause-sends
+returns-then-not-asked-clause-sends g c = rw (← c.self.view_is) (leaves_send _ _ c.in_ok-asked.asked c.in_ok-asked.ensures.adds)
+
+pub returns-clause-sends : goal.returns-clause-sends
+returns-clause-sends g c =
+    rw (← c.self.view_is) (subst (λ l. Growing SendsOnly (g.L.Link.story c.self.inside.tunnel.link) (g.L.Link.story l)) (sym c.is_over-is_over.ensures.link) (leaves_send _ _ c.in_ok-asked.asked c.in_ok-asked.ensures.adds))

@@ -11,6 +11,9 @@ use Rattle.hub_core.proofs.View.{same_run}
 use Rattle.hub_core.proofs.Hears.{hears_poll}
 use Rattle.hub_core.proofs.Pumping.{polls_so}
 use Rattle.hub_core.proofs.Endings.{polls_resume, polls_done}
+use Rattle.tunnel_link.specs.Adds.{HasActed}
+use Rattle.hub_core.proofs.Polls.{polls_once}
+use Rattle.hub_core.proofs.Came.{polls_come}
 use Rattle.hub_core.proofs.hub.Hub.poll.Goals as goal
 
 pub invariant_of-self : goal.invariant_of-self
@@ -50,3 +53,12 @@ returns-in-None-clause-resumes g c = rw (← c.self.view_is) (polls_resume _ _ c
 
 pub returns-in-None-clause-done : goal.returns-in-None-clause-done
 returns-in-None-clause-done g c = rw (← c.self.view_is) (polls_done _ _ c.in_ok-came.came c.in_ok-came.ensures.adds)
+
+pub returns-in-None-clause-polls : goal.returns-in-None-clause-polls
+returns-in-None-clause-polls g c =
+    let none : c.self.inside.tunnel.known.fault ≡ None = none_inside _ _ c.self.view_is c.requires.stands in
+    rw (← c.self.view_is) (polls_once _ _ _ c.self.inside.work _ _ none c.self.invariant c.poll.ensures.grows c.moments_go_on.ensures.later c.now-now.result c.now-now.ensures.newest c.has_place-has_place.result (c.has_place-has_place.ensures.told none)
+    c.wait_ms-longest_ms.result c.wait_ms-longest_ms.ensures.rightly (c.in_ok-came.ensures.lasts (subst (λ v. HasActed v.known (g.L.Link.story v.link)) (sym c.self.view_is) c.requires.acted)))
+
+pub returns-in-None-clause-came : goal.returns-in-None-clause-came
+returns-in-None-clause-came g c = rw (← c.self.view_is) (polls_come _ _ c.in_ok-came.came _ _ c.in_ok-came.ensures.adds c.take_in-polled.ensures.came)

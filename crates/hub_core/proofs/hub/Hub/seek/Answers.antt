@@ -1,4 +1,4 @@
-use Rattle.std.proofs.Common.{◌≡◌, false, Option, None, IfOk, sym, subst}
+use Rattle.std.proofs.Common.{◌≡◌, false, Option, None, IfOk, refl, sym, subst}
 use Rattle.std.specs.Prelude.{is_some}
 use Rattle.hub_work.specs.declared.closing.Closing.{Closing}
 use Rattle.hub_core.specs.Pumps.{AddsSo, Does, is_left_now}
@@ -7,6 +7,8 @@ use Rattle.hub_core.proofs.Keeps.{none_inside}
 use Rattle.hub_core.proofs.Prompting.{prompts_told}
 use Rattle.hub_core.proofs.Hears.{seeks_heard}
 use Rattle.hub_core.proofs.Pumping.{seeks_answer, seeks_none}
+use Rattle.hub_core.proofs.Polls.{seeks_send, seeks_acted, none_sent}
+use Rattle.tunnel_link.specs.Adds.{HasActed}
 use Rattle.hub_core.proofs.hub.Hub.seek.Goals as goal
 
 pub invariant_of-self : goal.invariant_of-self
@@ -26,3 +28,16 @@ returns-in-None-clause-does g c =
 pub returns-in-Some-clause-does : goal.returns-in-Some-clause-does
 returns-in-Some-clause-does g c =
     rw (← c.self.view_is) (subst (λ (o : Option Closing). AddsSo (Does (is_left_now (is_some o)) false) (g.L.Link.story c.self.inside.tunnel.link) (g.L.Link.story c.self.inside.tunnel.link)) (sym c.in-Some.is) (seeks_none (g.L.Link.story c.self.inside.tunnel.link)))
+
+pub returns-in-None-clause-ends_none : goal.returns-in-None-clause-ends_none
+returns-in-None-clause-ends_none g c = rw (← c.self.view_is) c.seek-sought.ensures.alone
+
+pub returns-in-None-clause-sends : goal.returns-in-None-clause-sends
+returns-in-None-clause-sends g c = rw (← c.self.view_is) (seeks_send _ _ c.seek-sought.result c.seek-sought.ensures.adds)
+
+pub returns-in-Some-clause-sends : goal.returns-in-Some-clause-sends
+returns-in-Some-clause-sends g c = rw (← c.self.view_is) (none_sent _ _ refl)
+
+pub returns-in-None-clause-acted : goal.returns-in-None-clause-acted
+returns-in-None-clause-acted g c =
+    seeks_acted c.self.inside.tunnel.known c.seek-sought.new.self.known (g.L.Link.story c.self.inside.tunnel.link) (g.L.Link.story c.seek-sought.new.self.link) c.seek-sought.result c.seek-sought.ensures.ready (subst (λ v. HasActed v.known (g.L.Link.story v.link)) (sym c.self.view_is) c.requires.acted)

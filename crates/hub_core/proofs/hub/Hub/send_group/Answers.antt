@@ -16,6 +16,8 @@ use Rattle.std.specs.Prelude.{is_none}
 use Rattle.line_model.specs.LinkStory.{IsPlace}
 use Rattle.line_model.specs.Log.{IsNextTurn}
 use Rattle.hub_work.specs.Waits.{HoldsBack}
+use Rattle.tunnel_link.specs.Alone.{LeavesAlone}
+use Rattle.tunnel_link.proofs.Alone.{none_each}
 use Rattle.hub_core.proofs.hub.Hub.send_group.Goals as goal
 
 pub invariant_of-self : goal.invariant_of-self
@@ -106,3 +108,15 @@ returns-in_ok-put-in-Unput-clause-waits g c =
     rw (← c.self.view_is) (put_waits_not _ c.args.k _ c.self.inside.work _ _ none (subst (λ (n : ℕ). IsPlace n (g.L.Link.story c.self.inside.tunnel.link)) c.at-at.ensures.value c.at-at.ensures.told) c.self.invariant
     (subst (λ v. IsNextTurn v.turns v.log c.args.k) (sym c.self.view_is) c.requires.next) (sym c.stage.ensures ∙ c.in-Unput.is) (λ places e. (c.has_place.ensures.told none places e).0 c.if-not-has_place.false)
     (subst (λ o. HoldsBack c.self.inside.work (is_none o)) c.in-Some-telegram.is c.telegram.ensures.held))
+
+pub returns-in_err-put-in-Unput-clause-alone : goal.returns-in_err-put-in-Unput-clause-alone
+returns-in_err-put-in-Unput-clause-alone g c = rw (← c.self.view_is) c.put.ensures.alone
+
+pub returns-in_ok-put-in-Unput-clause-alone : goal.returns-in_ok-put-in-Unput-clause-alone
+returns-in_ok-put-in-Unput-clause-alone g c = rw (← c.self.view_is) c.put.ensures.alone
+
+pub returns-in-Confirmed-clause-alone : goal.returns-in-Confirmed-clause-alone
+returns-in-Confirmed-clause-alone g c = rw (← c.self.view_is) (none_each LeavesAlone (g.L.Link.story c.self.inside.tunnel.link))
+
+pub returns-in-Lost-clause-alone : goal.returns-in-Lost-clause-alone
+returns-in-Lost-clause-alone g c = rw (← c.self.view_is) (none_each LeavesAlone (g.L.Link.story c.self.inside.tunnel.link))

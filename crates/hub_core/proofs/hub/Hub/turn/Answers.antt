@@ -12,6 +12,8 @@ use Rattle.line_model.specs.LinkStory.{IsPlace}
 use Rattle.hub_work.specs.declared.answers.Turned.TheVariants as answer
 use Rattle.hub_work.specs.Waits.{WaitsExactly}
 use Rattle.hub_core.proofs.Waits.{turn_waits, did_same, puts_same}
+use Rattle.tunnel_link.specs.Alone.{LeavesAlone}
+use Rattle.tunnel_link.proofs.Alone.{none_each}
 use Rattle.hub_core.proofs.hub.Hub.turn.Goals as goal
 
 pub invariant_of-self : goal.invariant_of-self
@@ -65,3 +67,12 @@ returns-in_ok-put-in-Puts-clause-waits g c =
     rw (← c.self.view_is) (turn_waits (g.L.Link.place c.self.inside.tunnel.link) (g.L.Link.story c.self.inside.tunnel.link) c.self.inside.work _ _ none (subst (λ (n : ℕ). IsPlace n (g.L.Link.story c.self.inside.tunnel.link)) c.at-at.ensures.value c.at-at.ensures.told) c.self.invariant
     c.args.worker c.now-now.result c.now-now.ensures.newest c.has_place-has_place.result (c.has_place-has_place.ensures.told none) c.turn.result answer.Moved
     (subst (λ (n : ℕ). WaitsExactly c.now-now.result n c.has_place-has_place.result c.args.worker c.self.inside.work c.turn.result) c.at-at.ensures.value c.turn.ensures.waits) (puts_same c.turn.result c.in-Puts.cemi c.in-Puts.is))
+
+pub returns-in_err-put-in-Puts-clause-alone : goal.returns-in_err-put-in-Puts-clause-alone
+returns-in_err-put-in-Puts-clause-alone g c = rw (← c.self.view_is) c.put.ensures.alone
+
+pub returns-in-Did-clause-alone : goal.returns-in-Did-clause-alone
+returns-in-Did-clause-alone g c = rw (← c.self.view_is) (none_each LeavesAlone (g.L.Link.story c.self.inside.tunnel.link))
+
+pub returns-in_ok-put-in-Puts-clause-alone : goal.returns-in_ok-put-in-Puts-clause-alone
+returns-in_ok-put-in-Puts-clause-alone g c = rw (← c.self.view_is) c.put.ensures.alone

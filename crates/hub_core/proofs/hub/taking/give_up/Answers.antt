@@ -1,9 +1,12 @@
-use Rattle.std.proofs.Common.{sym, subst}
+use Rattle.std.proofs.Common.{sym, subst, inl, inr}
 use Rattle.tunnel_link.specs.declared.came.Loss.{Loss}
 use Rattle.hub_core.specs.Taking.{LosesIn}
 use Rattle.hub_core.proofs.Keeps.{of_books}
 use Rattle.hub_core.proofs.Losing.{loss_follows}
 use Rattle.hub_core.proofs.Quiet.{asides_fit}
+use Rattle.hub_work.specs.Came.{RisesBy}
+use Rattle.hub_work.proofs.Came.{stays_by}
+use Rattle.hub_core.specs.Came.{losses_in}
 use Rattle.hub_core.proofs.hub.taking.give_up.Goals as goal
 
 pub returns-in-Stays-clause-fits : goal.returns-in-Stays-clause-fits
@@ -12,10 +15,17 @@ returns-in-Stays-clause-fits c =
 
 pub returns-in-Ended-clause-fits : goal.returns-in-Ended-clause-fits
 returns-in-Ended-clause-fits c =
-    subst (λ (x : Loss). LosesIn x c.args.now c.args.work.now c.lost.new.self) (sym c.in-Ended.is)
-    (loss_follows c.args.work.now c.lost.new.self c.args.now (of_books _ _ c.lost.ensures.books) c.moments_go_on.ensures.aside c.lost.ensures.follows)
+    let follows = loss_follows c.args.work.now c.lost.new.self c.args.now (of_books _ _ c.lost.ensures.books) c.moments_go_on.ensures.aside c.lost.ensures.follows in
+    elim c.in-Ended.is [
+      | inl ended ↦ subst (λ (x : Loss). LosesIn x c.args.now c.args.work.now c.lost.new.self) (sym ended) follows
+      | inr told ↦ subst (λ (x : Loss). LosesIn x c.args.now c.args.work.now c.lost.new.self) (sym told) follows
+    ]
 
-pub returns-in-Told-clause-fits : goal.returns-in-Told-clause-fits
-returns-in-Told-clause-fits c =
-    subst (λ (x : Loss). LosesIn x c.args.now c.args.work.now c.lost-in-Told.new.self) (sym c.in-Told.is)
-    (loss_follows c.args.work.now c.lost-in-Told.new.self c.args.now (of_books _ _ c.lost-in-Told.ensures.books) c.moments_go_on.ensures.aside c.lost-in-Told.ensures.follows)
+pub returns-in-Stays-clause-came : goal.returns-in-Stays-clause-came
+returns-in-Stays-clause-came c = stays_by c.args.work.now.crew (losses_in c.args.loss)
+
+pub returns-in-Ended-clause-came : goal.returns-in-Ended-clause-came
+returns-in-Ended-clause-came c = elim c.in-Ended.is [
+  | inl ended ↦ subst (λ (x : Loss). RisesBy (losses_in x) c.args.work.now.crew c.lost.new.self.crew) (sym ended) c.lost.ensures.came
+  | inr told ↦ subst (λ (x : Loss). RisesBy (losses_in x) c.args.work.now.crew c.lost.new.self.crew) (sym told) c.lost.ensures.came
+]

@@ -12,7 +12,7 @@ pub returns-clause-fits : goal.returns-clause-fits
 returns-clause-fits c = closing_follows (AsideOrLost c.args.loss) c.args.now c.args.work.now c.give_up.new.work _ c.give_up.ensures.fits
 
 pub returns-clause-closes : goal.returns-clause-closes
-returns-clause-closes c = subst (λ (o : Option Closing). ClosesBy c.args.got c.args.loss c.args.now o c.closing_after-work.result) c.give_up.ensures.books.closing c.closing_after-work.ensures
+returns-clause-closes c = subst (λ (o : Option Closing). ClosesBy c.args.got c.args.loss c.args.now o c.closing_after-work.result) c.give_up.ensures.books.closing c.closing_after-work.ensures.closes
 
 pub returns-clause-books : goal.returns-clause-books
 returns-clause-books c =
@@ -25,5 +25,8 @@ returns-clause-books c =
       journal = b.journal;
       unfinished = b.unfinished;
       tasks_are = b.tasks_are;
-      begun = begun_by c.args.got c.args.loss c.args.now _ _ c.closing_after-work.ensures ∙ ap is_some c.give_up.ensures.books.closing;
+      begun = begun_by c.args.got c.args.loss c.args.now _ _ c.closing_after-work.ensures.closes ∙ ap is_some c.give_up.ensures.books.closing;
     }
+
+pub returns-clause-closing : goal.returns-clause-closing
+returns-clause-closing c = λ stays unheard. c.closing_after-work.ensures.stays stays unheard ∙ c.give_up.ensures.books.closing

@@ -25,3 +25,8 @@ returns-clause-told g c = λ fine.
 pub returns-clause-caused : goal.returns-clause-caused
 returns-clause-caused g c = λ before was.
     told_caused c.close-link.result.fault c.told_fault.result before _ c.told_fault.ensures.fault (rw (c.close-link.ensures.fault, c.close-link.ensures.link) was)
+
+pub returns-clause-leaves : goal.returns-clause-leaves
+returns-clause-leaves g c = λ all are.
+    let log_is : reverse c.close-link.result.log ≡ c.args.self.hub.log = ap reverse c.close-link.ensures.log ∙ reverse-reverse c.args.self.hub.log in
+    rw (log_is, c.close-link.ensures.link) (c.requires.leaves all are)

@@ -1,6 +1,8 @@
-use Rattle.std.proofs.Common.{rules, sym, subst, ◌∙◌}
+use Rattle.std.proofs.Common.{rules, refl, sym, subst, ◌∙◌}
 use Rattle.tunnel_link.specs.Goes.{GoesOn}
-use Rattle.tunnel_link.proofs.Stories.{goes_again}
+use Rattle.tunnel_link.proofs.Stories.{goes_again, stays}
+use Rattle.hub_driver.proofs.Leaving.{closing_leaves, closing_begins, how_far_first}
+use Rattle.hub_driver.proofs.Telling.{stays_done}
 use Rattle.hub_driver.proofs.driver.Driver.closes.Goals.{in-None, in-Some+in_ok-finishes+then-branch}
 use Rattle.hub_driver.proofs.driver.Driver.closes.Goals as goal
 
@@ -20,6 +22,8 @@ loop-preserved g c = record {
   run = search rules;
   done = c.in_ok-finishes.ensures.done;
   log = c.finishes.ensures.log ∙ c.loop.invariant.log;
+  closes = c.finishes.ensures.closes;
+  far = c.in_ok-finishes.ensures.far;
   heard = c.in_ok-finishes.ensures.heard;
 }
 
@@ -47,3 +51,27 @@ returns-clause-done g c = elim c.match-next.branch [
   | in-None w ↦ rw w.self-is c.loop.invariant.done
   | in-Some+in_ok-finishes+then-branch w ↦ rw w.self-is w.in_ok-finishes.ensures.done
 ]
+
+pub returns-in_err-finishes-clause-leaves : goal.returns-in_err-finishes-clause-leaves
+returns-in_err-finishes-clause-leaves g c = closing_leaves c.finishes.new.self.hub (g.L.Link.story c.finishes.new.self.hub.link) c.finishes.ensures.closes (stays_done _ _ c.finishes.ensures.run c.finishes.ensures.log c.loop.invariant.done)
+
+pub returns-clause-leaves : goal.returns-clause-leaves
+returns-clause-leaves g c = elim c.match-next.branch [
+  | in-None w ↦ rw w.self-is (closing_leaves _ _ c.loop.invariant.closes c.loop.invariant.done)
+  | in-Some+in_ok-finishes+then-branch w ↦ rw w.self-is (closing_leaves _ _ w.finishes.ensures.closes w.in_ok-finishes.ensures.done)
+]
+
+pub loop-init : goal.loop-init
+loop-init g c = record {
+  next = tt;
+  finite = tt;
+  grows = (stays (g.L.Link.story c.args.self.now.hub.link) (g.L.Link.story c.args.self.now.hub.link) refl).on;
+  script = refl;
+  caused = λ before was. was;
+  run = record { tasks = refl; devices = refl; turns = refl; missed = refl };
+  done = c.requires.done;
+  log = refl;
+  closes = closing_begins c.args.self.now.hub (g.L.Link.story c.args.self.now.hub.link) c.requires.done c.requires.through;
+  far = how_far_first c.args.self.now.hub (g.L.Link.story c.args.self.now.hub.link) c.requires.done c.requires.through;
+  heard = c.requires.heard;
+}

@@ -4,6 +4,7 @@ use Rattle.hub_core.specs.Seen.{SameRun}
 use Rattle.tunnel_link.specs.Goes.{GoesOn}
 use Rattle.hub_driver.specs.Drives.{AllDone, CausedSince}
 use Rattle.hub_driver.specs.Heard.{HeardAll}
+use Rattle.hub_driver.specs.Leaving.{ClosesSo, KnowsHowFar}
 use Rattle.hub_driver.proofs.driver.Driver.closes.Given as goal
 
 -- the link's story goes on, the log stays, all is done, and all that was taken is told
@@ -17,5 +18,7 @@ invariant-loop g l = record {
   run : SameRun l.fn.self.hub l.self.hub;
   done : AllDone l.self.hub;
   log : l.self.hub.log ≡ l.fn.self.hub.log;
+  closes : ClosesSo l.self.hub (g.L.Link.story l.self.hub.link);
+  far : KnowsHowFar l.self.hub (g.L.Link.story l.self.hub.link);
   heard : HeardAll l.self.heard (record_in (g.L.Link.story l.self.hub.link));
 }

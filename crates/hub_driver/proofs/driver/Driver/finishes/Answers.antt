@@ -3,6 +3,7 @@ use Rattle.hub_core.specs.Hears.{heard_at_end}
 use Rattle.hub_driver.proofs.Causes.{call_caused}
 use Rattle.hub_driver.proofs.Hearing.{hears_none, hears_one}
 use Rattle.hub_driver.proofs.Telling.{stays_done}
+use Rattle.hub_driver.proofs.Leaving.{closes_step, how_far_step}
 use Rattle.hub_driver.proofs.driver.Driver.finishes.Goals as goal
 
 pub finish-requires : goal.finish-requires
@@ -42,3 +43,27 @@ returns-in-Going-clause-caused g c = call_caused c.finish.result _ _ _ _ _ (ap g
 
 pub returns-in-Over-clause-caused : goal.returns-in-Over-clause-caused
 returns-in-Over-clause-caused g c = call_caused c.finish.result _ _ _ _ _ (ap g.L.Link.faults) c.finish.ensures.count c.finish.ensures.cause c.finish.ensures.stands c.finish.ensures.ended c.finish.ensures.fault
+
+pub returns-in_err-indication-clause-closes : goal.returns-in_err-indication-clause-closes
+returns-in_err-indication-clause-closes g c = closes_step c.args.self.now.hub c.finish.new.self (g.L.Link.story c.args.self.now.hub.link) (g.L.Link.story c.finish.new.self.link) c.finish.ensures.grows c.finish.ensures.rightly c.finish.ensures.log c.requires.closes c.requires.far
+
+pub returns-in_err-hears-in-Heard-clause-closes : goal.returns-in_err-hears-in-Heard-clause-closes
+returns-in_err-hears-in-Heard-clause-closes g c = rw c.hears.ensures.hub (closes_step c.args.self.now.hub c.finish.new.self (g.L.Link.story c.args.self.now.hub.link) (g.L.Link.story c.finish.new.self.link) c.finish.ensures.grows c.finish.ensures.rightly c.finish.ensures.log c.requires.closes c.requires.far)
+
+pub returns-in_ok-hears-in-Heard-clause-closes : goal.returns-in_ok-hears-in-Heard-clause-closes
+returns-in_ok-hears-in-Heard-clause-closes g c = rw c.hears.ensures.hub (closes_step c.args.self.now.hub c.finish.new.self (g.L.Link.story c.args.self.now.hub.link) (g.L.Link.story c.finish.new.self.link) c.finish.ensures.grows c.finish.ensures.rightly c.finish.ensures.log c.requires.closes c.requires.far)
+
+pub returns-in-Going-clause-closes : goal.returns-in-Going-clause-closes
+returns-in-Going-clause-closes g c = closes_step c.args.self.now.hub c.finish.new.self (g.L.Link.story c.args.self.now.hub.link) (g.L.Link.story c.finish.new.self.link) c.finish.ensures.grows c.finish.ensures.rightly c.finish.ensures.log c.requires.closes c.requires.far
+
+pub returns-in-Over-clause-closes : goal.returns-in-Over-clause-closes
+returns-in-Over-clause-closes g c = closes_step c.args.self.now.hub c.finish.new.self (g.L.Link.story c.args.self.now.hub.link) (g.L.Link.story c.finish.new.self.link) c.finish.ensures.grows c.finish.ensures.rightly c.finish.ensures.log c.requires.closes c.requires.far
+
+pub returns-in_ok-hears-in-Heard-clause-far : goal.returns-in_ok-hears-in-Heard-clause-far
+returns-in_ok-hears-in-Heard-clause-far g c = rw c.hears.ensures.hub (how_far_step c.args.self.now.hub c.finish.new.self (g.L.Link.story c.args.self.now.hub.link) (g.L.Link.story c.finish.new.self.link) c.finish.ensures.grows c.finish.ensures.rightly c.finish.ensures.log c.requires.closes c.requires.far c.in_ok-indication.ensures.closes)
+
+pub returns-in-Going-clause-far : goal.returns-in-Going-clause-far
+returns-in-Going-clause-far g c = how_far_step c.args.self.now.hub c.finish.new.self (g.L.Link.story c.args.self.now.hub.link) (g.L.Link.story c.finish.new.self.link) c.finish.ensures.grows c.finish.ensures.rightly c.finish.ensures.log c.requires.closes c.requires.far c.in_ok-indication.ensures.closes
+
+pub returns-in-Over-clause-far : goal.returns-in-Over-clause-far
+returns-in-Over-clause-far g c = how_far_step c.args.self.now.hub c.finish.new.self (g.L.Link.story c.args.self.now.hub.link) (g.L.Link.story c.finish.new.self.link) c.finish.ensures.grows c.finish.ensures.rightly c.finish.ensures.log c.requires.closes c.requires.far c.in_ok-indication.ensures.closes

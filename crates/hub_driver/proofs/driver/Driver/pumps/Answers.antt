@@ -7,6 +7,7 @@ use Rattle.hub_core.specs.Hears.{heard_of}
 use Rattle.hub_driver.specs.Heard.{HeardAll}
 use Rattle.hub_driver.proofs.Causes.{call_caused}
 use Rattle.hub_driver.proofs.Hearing.{hears_none, hears_one}
+use Rattle.hub_driver.proofs.Leaving.{through_left, closing_stays}
 use Rattle.hub_driver.proofs.driver.Driver.pumps.Goals as goal
 
 pub returns-in-Heard-clause-heard : goal.returns-in-Heard-clause-heard
@@ -30,3 +31,12 @@ returns-in-Heard-clause-caused g c = rw c.hears.ensures.hub (call_caused c.pump.
 
 pub returns-in-Nothing-clause-caused : goal.returns-in-Nothing-clause-caused
 returns-in-Nothing-clause-caused g c = call_caused c.pump.result _ _ _ _ _ (ap g.L.Link.faults) c.pump.ensures.count c.pump.ensures.cause c.pump.ensures.stands c.pump.ensures.ended c.pump.ensures.fault
+
+pub returns-in_err-indication-clause-through : goal.returns-in_err-indication-clause-through
+returns-in_err-indication-clause-through g c = through_left c.args.self.now.hub c.pump.new.self c.pump.ensures.run.devices c.pump.ensures.run.turns (closing_stays _ _ c.pump.ensures.begun c.requires.through.unbegun) (g.L.Link.story c.args.self.now.hub.link) (g.L.Link.story c.pump.new.self.link) c.pump.ensures.grows c.pump.ensures.ends_none c.pump.ensures.log c.requires.left c.requires.through
+
+pub returns-in-Heard-clause-through : goal.returns-in-Heard-clause-through
+returns-in-Heard-clause-through g c = rw c.hears.ensures.hub (through_left c.args.self.now.hub c.pump.new.self c.pump.ensures.run.devices c.pump.ensures.run.turns (closing_stays _ _ c.pump.ensures.begun c.requires.through.unbegun) (g.L.Link.story c.args.self.now.hub.link) (g.L.Link.story c.pump.new.self.link) c.pump.ensures.grows c.pump.ensures.ends_none c.pump.ensures.log c.requires.left c.requires.through)
+
+pub returns-in-Nothing-clause-through : goal.returns-in-Nothing-clause-through
+returns-in-Nothing-clause-through g c = through_left c.args.self.now.hub c.pump.new.self c.pump.ensures.run.devices c.pump.ensures.run.turns (closing_stays _ _ c.pump.ensures.begun c.requires.through.unbegun) (g.L.Link.story c.args.self.now.hub.link) (g.L.Link.story c.pump.new.self.link) c.pump.ensures.grows c.pump.ensures.ends_none c.pump.ensures.log c.requires.left c.requires.through

@@ -2,10 +2,15 @@ use Rattle.std.proofs.Common.{None, refl, ap}
 use Rattle.tunnel_link.proofs.Stories.{goes_again}
 use Rattle.hub_driver.proofs.Causes.{call_caused}
 use Rattle.hub_driver.proofs.Hearing.{hears_none}
+use Rattle.hub_driver.proofs.Leaving.{through_group, left_same, waits_told, next_left}
 use Rattle.hub_driver.proofs.driver.Driver.tells.Goals as goal
 
 pub pumps-requires : goal.pumps-requires
-pumps-requires g c = record { heard = hears_none _ None _ _ refl c.send_group.ensures.grows c.in_ok-send_group.ensures.heard c.requires.heard }
+pumps-requires g c = record {
+  through = through_group c.args.self.now.hub c.send_group.new.self c.send_group.ensures.run.devices c.send_group.ensures.run.turns c.send_group.ensures.closing c.send_group.result _ _ (g.L.Link.story c.args.self.now.hub.link) (g.L.Link.story c.send_group.new.self.link) c.send_group.ensures.grows c.send_group.ensures.alone _ (ap g.L.Link.story) c.send_group.ensures.still c.send_group.ensures.told c.send_group.ensures.untold c.keeps.ensures.place (next_left c.args.self.now.hub _ c.in-Some.ensures.next) c.requires.through;
+  left = left_same c.args.self.now.hub c.send_group.new.self c.send_group.ensures.run.devices c.send_group.ensures.run.turns c.send_group.ensures.closing (waits_told _ _ c.in_ok-send_group.field-0 _ _ c.in-Wait.is c.in_ok-send_group.ensures.told) (next_left c.args.self.now.hub _ c.in-Some.ensures.next);
+  heard = hears_none _ None _ _ refl c.send_group.ensures.grows c.in_ok-send_group.ensures.heard c.requires.heard;
+}
 
 pub returns-in-Wait-clause-grows : goal.returns-in-Wait-clause-grows
 returns-in-Wait-clause-grows g c = goes_again _ _ _ c.send_group.ensures.grows c.pumps.ensures.grows
@@ -21,3 +26,9 @@ returns-in-Wait-clause-caused g c = λ before was. c.pumps.ensures.caused before
 
 pub returns-in-Put-clause-caused : goal.returns-in-Put-clause-caused
 returns-in-Put-clause-caused g c = call_caused c.send_group.result _ _ _ _ _ (ap g.L.Link.faults) c.send_group.ensures.count c.send_group.ensures.cause c.send_group.ensures.stands c.send_group.ensures.ended c.send_group.ensures.fault
+
+pub returns-in_err-send_group-clause-through : goal.returns-in_err-send_group-clause-through
+returns-in_err-send_group-clause-through g c = through_group c.args.self.now.hub c.send_group.new.self c.send_group.ensures.run.devices c.send_group.ensures.run.turns c.send_group.ensures.closing c.send_group.result _ _ (g.L.Link.story c.args.self.now.hub.link) (g.L.Link.story c.send_group.new.self.link) c.send_group.ensures.grows c.send_group.ensures.alone _ (ap g.L.Link.story) c.send_group.ensures.still c.send_group.ensures.told c.send_group.ensures.untold c.keeps.ensures.place (next_left c.args.self.now.hub _ c.in-Some.ensures.next) c.requires.through
+
+pub returns-in-Put-clause-through : goal.returns-in-Put-clause-through
+returns-in-Put-clause-through g c = through_group c.args.self.now.hub c.send_group.new.self c.send_group.ensures.run.devices c.send_group.ensures.run.turns c.send_group.ensures.closing c.send_group.result _ _ (g.L.Link.story c.args.self.now.hub.link) (g.L.Link.story c.send_group.new.self.link) c.send_group.ensures.grows c.send_group.ensures.alone _ (ap g.L.Link.story) c.send_group.ensures.still c.send_group.ensures.told c.send_group.ensures.untold c.keeps.ensures.place (next_left c.args.self.now.hub _ c.in-Some.ensures.next) c.requires.through

@@ -6,11 +6,17 @@ use Rattle.hub_driver.specs.Drives.{CausedSince}
 use Rattle.hub_driver.specs.Heard.{HeardAll}
 use Rattle.hub_driver.proofs.Causes.{call_caused}
 use Rattle.hub_driver.proofs.Hearing.{hears_none}
+use Rattle.hub_driver.specs.Leaving.{GoesThrough}
+use Rattle.hub_driver.proofs.Leaving.{through_turn, left_same, waits_same}
 use Rattle.hub_driver.proofs.driver.Driver.works.Goals.{in-Took, in-Wait+in_ok-pumps-in-Wait, in-Done, in-Moved}
 use Rattle.hub_driver.proofs.driver.Driver.works.Goals as goal
 
 pub pumps-requires : goal.pumps-requires
-pumps-requires g c = record { heard = hears_none _ None _ _ refl c.turn.ensures.grows c.in_ok-job.ensures.heard c.requires.heard }
+pumps-requires g c = record {
+  through = through_turn c.args.self.now.hub c.turn.new.self c.turn.ensures.run.devices c.turn.ensures.run.turns c.turn.ensures.closing c.turn.result _ _ (g.L.Link.story c.args.self.now.hub.link) (g.L.Link.story c.turn.new.self.link) c.turn.ensures.grows c.turn.ensures.alone _ (ap g.L.Link.story) c.turn.ensures.still c.turn.ensures.told c.turn.ensures.untold c.keeps.ensures.place c.requires.left c.requires.through;
+  left = left_same c.args.self.now.hub c.turn.new.self c.turn.ensures.run.devices c.turn.ensures.run.turns c.turn.ensures.closing (waits_same _ _ c.in_ok-job.field-0 _ _ c.in-Wait.is c.in_ok-job.ensures.told) c.requires.left;
+  heard = hears_none _ None _ _ refl c.turn.ensures.grows c.in_ok-job.ensures.heard c.requires.heard;
+}
 
 pub returns-in_err-pumps-in-Wait-clause-grows : goal.returns-in_err-pumps-in-Wait-clause-grows
 returns-in_err-pumps-in-Wait-clause-grows g c = goes_again _ _ _ c.turn.ensures.grows c.pumps.ensures.grows
@@ -49,4 +55,17 @@ returns-clause-caused g c = λ before was.
       | in-Wait+in_ok-pumps-in-Wait w ↦ rw w.self-is (w.pumps.ensures.caused before caused)
       | in-Done w ↦ rw (w.self-is, w.ended.ensures.hub) caused
       | in-Moved w ↦ rw w.self-is caused
+    ]
+
+pub returns-in_err-job-clause-through : goal.returns-in_err-job-clause-through
+returns-in_err-job-clause-through g c = through_turn c.args.self.now.hub c.turn.new.self c.turn.ensures.run.devices c.turn.ensures.run.turns c.turn.ensures.closing c.turn.result _ _ (g.L.Link.story c.args.self.now.hub.link) (g.L.Link.story c.turn.new.self.link) c.turn.ensures.grows c.turn.ensures.alone _ (ap g.L.Link.story) c.turn.ensures.still c.turn.ensures.told c.turn.ensures.untold c.keeps.ensures.place c.requires.left c.requires.through
+
+pub returns-clause-through : goal.returns-clause-through
+returns-clause-through g c =
+    let through : GoesThrough c.turn.new.self (g.L.Link.story c.turn.new.self.link) = through_turn c.args.self.now.hub c.turn.new.self c.turn.ensures.run.devices c.turn.ensures.run.turns c.turn.ensures.closing c.turn.result _ _ (g.L.Link.story c.args.self.now.hub.link) (g.L.Link.story c.turn.new.self.link) c.turn.ensures.grows c.turn.ensures.alone _ (ap g.L.Link.story) c.turn.ensures.still c.turn.ensures.told c.turn.ensures.untold c.keeps.ensures.place c.requires.left c.requires.through in
+    elim c.match-branch-2.branch [
+      | in-Took w ↦ subst (λ s. GoesThrough s.hub (g.L.Link.story s.hub.link)) (sym w.self-is) through
+      | in-Wait+in_ok-pumps-in-Wait w ↦ subst (λ s. GoesThrough s.hub (g.L.Link.story s.hub.link)) (sym w.self-is) w.pumps.ensures.through
+      | in-Done w ↦ subst (λ h. GoesThrough h (g.L.Link.story h.link)) (sym (ap (λ s. s.hub) w.self-is ∙ w.ended.ensures.hub)) through
+      | in-Moved w ↦ subst (λ s. GoesThrough s.hub (g.L.Link.story s.hub.link)) (sym w.self-is) through
     ]

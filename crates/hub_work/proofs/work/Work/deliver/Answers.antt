@@ -4,6 +4,8 @@ use Rattle.hub_work.specs.declared.work.Work.{Work}
 use Rattle.hub_work.specs.Follows.{FrameFollows}
 use Rattle.hub_work.proofs.Moments.{frame_of_none, frame_confirms, frame_is_heard}
 use Rattle.hub_work.proofs.work.Work.deliver.Goals.{in-Con, in-Ind, in-Ind+else-not-frame, in-Req}
+use Rattle.hub_work.specs.Came.{RisesBy}
+use Rattle.hub_work.proofs.Came.{stays_by}
 use Rattle.hub_work.proofs.work.Work.deliver.Goals as goal
 
 pub returns-clause-follows : goal.returns-clause-follows
@@ -15,4 +17,12 @@ returns-clause-follows c = elim c.match-frame.branch [
       (frame_of_none c.of_a_downloader.ensures c.args.self.now c.args.frame.now c.args.now (ap is_con w.in-Ind.is) (inr w.if-not-frame.false))
   | in-Req w ↦ subst (λ (v : Work). FrameFollows c.args.self.now v c.args.frame.now c.args.now) (sym w.self-is)
       (frame_of_none c.of_a_downloader.ensures c.args.self.now c.args.frame.now c.args.now (ap is_con w.in-Req.is) (inl (ap is_ind w.in-Req.is)))
+]
+
+pub returns-clause-came : goal.returns-clause-came
+returns-clause-came c = elim c.match-frame.branch [
+  | in-Con w ↦ subst (λ (v : Work). RisesBy 1 c.args.self.now.crew v.crew) (sym w.self-is) w.confirmed.ensures.came
+  | in-Ind w ↦ subst (λ (v : Work). RisesBy 1 c.args.self.now.crew v.crew) (sym w.self-is) w.heard.ensures.came
+  | in-Ind+else-not-frame w ↦ subst (λ (v : Work). RisesBy 1 c.args.self.now.crew v.crew) (sym w.self-is) (stays_by c.args.self.now.crew 1)
+  | in-Req w ↦ subst (λ (v : Work). RisesBy 1 c.args.self.now.crew v.crew) (sym w.self-is) (stays_by c.args.self.now.crew 1)
 ]

@@ -1,8 +1,10 @@
-use Rattle.std.proofs.Common.{ap, sym, subst, map, ◌≤◌, ◌+◌, ◌∙◌}
+use Rattle.std.proofs.Common.{refl, ap, sym, subst, map, ◌≤◌, ◌+◌, ◌∙◌}
 use Rattle.hub_work.specs.Downloaders.{states, task_of_state}
 use Rattle.hub_work.proofs.Works.{holder_holds}
 use Rattle.hub_work.proofs.KeptBooks.{room_for_end, end_books}
 use Rattle.hub_work.proofs.Logs.{end_follows}
+use Rattle.hub_work.specs.Came.{TakesOneIn}
+use Rattle.hub_work.proofs.Came.{puts_none, holder_waits}
 use Rattle.hub_work.proofs.work.Work.tells_end.Goals as goal
 
 pub add-requires : goal.add-requires
@@ -29,3 +31,8 @@ returns-clause-run c = record {
   turns = ap (λ t. t.turns) c.forget.ensures.telegrams;
   closing = c.forget.ensures.closing;
 }
+
+pub returns-clause-came : goal.returns-clause-came
+returns-clause-came c =
+    subst (TakesOneIn c.args.worker c.args.self.now.crew) (sym c.forget.ensures.crew)
+    (puts_none c.args.self.now.crew c.ends.new.self c.args.worker _ c.ends.ensures refl (holder_waits c.args.self.now.crew _ c.args.held c.requires.holder c.requires.taken_in))

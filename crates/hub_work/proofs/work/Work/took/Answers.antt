@@ -3,6 +3,7 @@ use Rattle.hub_work.proofs.Rooms.{room_to_take}
 use Rattle.hub_work.proofs.Works.{taking_holds, taking_untaken}
 use Rattle.hub_work.proofs.KeptBooks.{take_books}
 use Rattle.hub_work.proofs.Logs.{took_follows}
+use Rattle.hub_work.proofs.Came.{puts_none, none_waits}
 use Rattle.hub_work.proofs.work.Work.took.Goals as goal
 
 pub add-requires : goal.add-requires
@@ -21,3 +22,6 @@ returns-clause-follows c =
     took_follows c.of_a_downloader.ensures c.args.self.now c.add.new.self c.takes.new.self c.args.at c.args.worker c.args.job
     (record { job = c.args.job; device = c.device_of-device.result; begun = false; came = 0 }) c.add.ensures.added c.takes.ensures refl refl c.requires.worker c.requires.empty c.device_of-device.ensures
     (taking_untaken c.args.self.now c.args.at c.args.worker c.args.job c.requires.taking)
+
+pub returns-clause-came : goal.returns-clause-came
+returns-clause-came c = puts_none c.args.self.now.crew c.takes.new.self c.args.worker _ c.takes.ensures refl (none_waits c.args.self.now.crew _ c.requires.empty)

@@ -16,10 +16,10 @@ returns-in-None-clause-follows c = c.takes_job.ensures.follows c.args.now
 pub returns-in-Some-clause-books : goal.returns-in-Some-clause-books
 returns-in-Some-clause-books c =
     same_keeps c.args.at c.args.self.now (record c.args.self.now { crew = c.takes_in.new.self })
-    (record { reservation = refl; turns = refl; told = refl; held = same_jobs_held c.args.self.now.crew c.takes_in.new.self c.takes_in.ensures; journal = refl; unfinished = refl; tasks_are = refl; closing = refl }) c.requires.books
+    (record { reservation = refl; turns = refl; told = refl; held = same_jobs_held c.args.self.now.crew c.takes_in.new.self c.takes_in.ensures.held; journal = refl; unfinished = refl; tasks_are = refl; closing = refl }) c.requires.books
 
 pub returns-in-Some-clause-follows : goal.returns-in-Some-clause-follows
-returns-in-Some-clause-follows c = counted_follows c.args.now c.args.at c.args.self.now c.takes_in.new.self answer.Moved c.takes_in.ensures
+returns-in-Some-clause-follows c = counted_follows c.args.now c.args.at c.args.self.now c.takes_in.new.self answer.Moved c.takes_in.ensures.held
 
 pub returns-in-None-clause-waits : goal.returns-in-None-clause-waits
 returns-in-None-clause-waits c = nothing_held c.args.self.now c.args.worker c.args.now c.args.at c.args.has_place c.takes_job.result (c.in-None.ensures.place c.requires.worker)

@@ -6,6 +6,7 @@ use Rattle.hub_work.specs.declared.answers.Turned.TheVariants as answer
 use Rattle.hub_work.proofs.OneTurn.{puts_follows, ends_follow}
 use Rattle.hub_work.proofs.Waits.{waits_so, moves_so, never_none, never_empty, puts_isnt_wait, end_isnt_wait, unsent, no_octets}
 use Rattle.hub_work.proofs.work.Work.works.Goals.{then-has_place+else-not-is_empty, else-has_place}
+use Rattle.hub_work.proofs.Came.{takes_none, none_taken_in, holder_waits}
 use Rattle.hub_work.proofs.work.Work.works.Goals as goal
 
 pub returns-in-Send-clause-follows : goal.returns-in-Send-clause-follows
@@ -64,3 +65,15 @@ pub returns-in-Refused-clause-waits : goal.returns-in-Refused-clause-waits
 returns-in-Refused-clause-waits c =
     moves_so c.of_a_downloader.ensures c.args.self.now c.args.worker c.args.now c.args.at c.args.has_place c.args.held c.requires.holder (did.Refused c.in-Refused.op c.in-Refused.got c.in-Refused.expected) c.tells_end-in-Refused.result
     (ap Some (sym c.in-Refused.is) ∙ c.in-Some.ensures) (end_isnt_wait c.tells_end-in-Refused.result (answer.Refused c.args.held.job) c.tells_end-in-Refused.ensures.answer tt) (inl refl)
+
+pub returns-in-Send-clause-came : goal.returns-in-Send-clause-came
+returns-in-Send-clause-came c = none_taken_in c.args.self.now.crew c.puts.new.self.crew c.args.worker c.puts.ensures.came (holder_waits c.args.self.now.crew _ c.args.held c.requires.holder c.requires.taken_in)
+
+pub returns-in-Send-2-clause-came : goal.returns-in-Send-2-clause-came
+returns-in-Send-2-clause-came c = takes_none c.args.self.now.crew c.args.worker (holder_waits c.args.self.now.crew _ c.args.held c.requires.holder c.requires.taken_in)
+
+pub returns-in-Wait-clause-came : goal.returns-in-Wait-clause-came
+returns-in-Wait-clause-came c = takes_none c.args.self.now.crew c.args.worker (holder_waits c.args.self.now.crew _ c.args.held c.requires.holder c.requires.taken_in)
+
+pub returns-in_default-clause-came : goal.returns-in_default-clause-came
+returns-in_default-clause-came c = takes_none c.args.self.now.crew c.args.worker (holder_waits c.args.self.now.crew _ c.args.held c.requires.holder c.requires.taken_in)

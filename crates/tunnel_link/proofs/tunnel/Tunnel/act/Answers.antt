@@ -6,6 +6,8 @@ use Rattle.tunnel_link.specs.Adds.{AllPrompt}
 use Rattle.tunnel_link.proofs.Acting.{at_first, act_lost, act_first, act_second, act_all}
 use Rattle.tunnel_link.proofs.Faulted.{passed_on}
 use Rattle.tunnel_link.proofs.Prompts.{both_prompt, twice_acted}
+use Rattle.tunnel_link.specs.Alone.{Each, LeavesAlone}
+use Rattle.tunnel_link.proofs.Alone.{both_each}
 use Rattle.tunnel_link.proofs.tunnel.Tunnel.act.Goals as goal
 
 pub returns-in_err-loss-clause-adds : goal.returns-in_err-loss-clause-adds
@@ -54,3 +56,15 @@ pub returns-clause-acted : goal.returns-clause-acted
 returns-clause-acted g c =
     let known : (c.send_due-2.new.self.known ≡ with_due (with_due c.lapse.new.self.known c.now-now.result) c.now-now.result) = c.in_ok-beat.ensures.known ∙ ap (λ k. with_due k c.now-now.result) c.in_ok-again.ensures.known in
     rw (← c.self-2.view_is) (twice_acted c.lapse.new.self.known _ _ c.now-now.result c.self-2.invariant (subst (λ v. IsTime c.now-now.result (g.L.Link.story v.link)) (sym c.self-2.view_is) c.in_ok-beat.ensures.told) (ap (λ v. v.known) c.self-2.view_is ∙ known))
+
+pub returns-in_err-loss-clause-alone : goal.returns-in_err-loss-clause-alone
+returns-in_err-loss-clause-alone g c = act_lost _ _ _ c.lapse.ensures.still (Each LeavesAlone) c.in_err-loss.field-0.0 c.in_err-loss.was
+
+pub returns-in_err-again-clause-alone : goal.returns-in_err-again-clause-alone
+returns-in_err-again-clause-alone g c = at_first _ _ _ c.lapse.ensures.still (Each LeavesAlone) _ c.send_due.ensures.alone
+
+pub returns-in_err-beat-clause-alone : goal.returns-in_err-beat-clause-alone
+returns-in_err-beat-clause-alone g c = at_first _ _ _ c.lapse.ensures.still (Each LeavesAlone) _ (both_each LeavesAlone _ _ _ c.send_due.ensures.grows c.send_due-2.ensures.grows c.send_due.ensures.alone c.send_due-2.ensures.alone)
+
+pub returns-clause-alone : goal.returns-clause-alone
+returns-clause-alone g c = at_first _ _ _ c.lapse.ensures.still (Each LeavesAlone) _ (both_each LeavesAlone _ _ _ c.send_due.ensures.grows c.send_due-2.ensures.grows c.send_due.ensures.alone c.send_due-2.ensures.alone)

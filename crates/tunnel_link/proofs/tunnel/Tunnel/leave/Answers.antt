@@ -2,6 +2,7 @@ use Rattle.std.proofs.Common.{rules, sym, ◌∙◌, ap}
 use Rattle.tunnel_link.proofs.CallAnswers.{sends_go_on, leave_call_keeps, leave_call_err, leave_call_ok, unleft_adds}
 use Rattle.tunnel_link.proofs.Faulted.{sends_of, passed_on}
 use Rattle.tunnel_link.proofs.Prompts.{none_prompt, sends_prompt}
+use Rattle.tunnel_link.proofs.AloneCalls.{leave_once, leave_none}
 use Rattle.tunnel_link.proofs.tunnel.Tunnel.leave.Goals as goal
 
 pub invariant_of-self : goal.invariant_of-self
@@ -36,3 +37,15 @@ returns-in_ok-sent-in-Some-clause-prompt g c = rw (← ap (λ v. v.link) c.self.
 
 pub returns-in-None-clause-prompt : goal.returns-in-None-clause-prompt
 returns-in-None-clause-prompt g c = rw (← ap (λ v. v.link) c.self.view_is) (none_prompt _)
+
+pub returns-in_err-sent-in-Some-clause-alone : goal.returns-in_err-sent-in-Some-clause-alone
+returns-in_err-sent-in-Some-clause-alone g c = rw (← ap (λ v. v.link) c.self.view_is) (leave_once _ _ _ _ _ c.self.invariant c.in_ok-standing.ensures.stands _ _ (sym c.leaves.ensures.answer ∙ c.in-Some.is) c.sent.ensures.so)
+
+pub returns-in_ok-sent-in-Some-clause-alone : goal.returns-in_ok-sent-in-Some-clause-alone
+returns-in_ok-sent-in-Some-clause-alone g c = rw (← ap (λ v. v.link) c.self.view_is) (leave_once _ _ _ _ _ c.self.invariant c.in_ok-standing.ensures.stands _ _ (sym c.leaves.ensures.answer ∙ c.in-Some.is) c.sent.ensures.so)
+
+pub returns-in-None-clause-alone : goal.returns-in-None-clause-alone
+returns-in-None-clause-alone g c = rw (← ap (λ v. v.link) c.self.view_is) (leave_none _)
+
+pub returns-in_err-standing-clause-alone : goal.returns-in_err-standing-clause-alone
+returns-in_err-standing-clause-alone g c = rw (← ap (λ v. v.link) c.self.view_is) (leave_none _)

@@ -3,6 +3,9 @@ use Rattle.tunnel_link.proofs.CallAnswers.{sends_go_on, put_call_keeps, put_call
 use Rattle.tunnel_link.proofs.CallsKept.{unput_adds}
 use Rattle.tunnel_link.proofs.Faulted.{sends_of}
 use Rattle.tunnel_link.proofs.Prompts.{none_prompt, sends_prompt}
+use Rattle.tunnel_link.specs.Alone.{LeavesAlone}
+use Rattle.tunnel_link.proofs.Alone.{none_each}
+use Rattle.tunnel_link.proofs.AloneCalls.{put_alone}
 use Rattle.tunnel_link.proofs.tunnel.Tunnel.put.Goals as goal
 
 pub invariant_of-self : goal.invariant_of-self
@@ -25,3 +28,9 @@ returns-in-Some-clause-prompt g c = rw (← ap (λ v. v.link) c.self.view_is) (s
 
 pub returns-in-None-clause-prompt : goal.returns-in-None-clause-prompt
 returns-in-None-clause-prompt g c = rw (← ap (λ v. v.link) c.self.view_is) (none_prompt _)
+
+pub returns-in-Some-clause-alone : goal.returns-in-Some-clause-alone
+returns-in-Some-clause-alone g c = rw (← ap (λ v. v.link) c.self.view_is) (put_alone _ _ _ _ _ c.self.invariant c.in_ok-standing.ensures.stands _ _ _ _ c.now-now.ensures.told c.requires (sym c.puts.ensures.answer ∙ c.in-Some.is) c.sent.ensures.so)
+
+pub returns-in-None-clause-alone : goal.returns-in-None-clause-alone
+returns-in-None-clause-alone g c = rw (← ap (λ v. v.link) c.self.view_is) (none_each LeavesAlone _)

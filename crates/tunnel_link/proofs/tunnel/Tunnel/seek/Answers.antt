@@ -3,6 +3,7 @@ use Rattle.tunnel_link.proofs.SeekKept.{seek_keeps, seek_goes}
 use Rattle.tunnel_link.proofs.CallAnswers.{sought_err, sought_ok}
 use Rattle.tunnel_link.proofs.Faulted.{connects_of, passed_on}
 use Rattle.tunnel_link.proofs.Prompts.{connects_prompt, sought_ready}
+use Rattle.tunnel_link.proofs.AloneCalls.{connects_ends_none}
 use Rattle.tunnel_link.proofs.tunnel.Tunnel.seek.Goals as goal
 
 pub invariant_of-self : goal.invariant_of-self
@@ -35,3 +36,9 @@ returns-clause-prompt g c = rw (← ap (λ v. v.link) c.self.view_is) (connects_
 pub returns-clause-ready : goal.returns-clause-ready
 returns-clause-ready g c =
     λ acted. (sought_ready _ _ c.in_ok-connected.was _ _ _ _ (seek_keeps _ _ _ _ _ c.self.invariant c.in_ok-standing.ensures.stands (c.may_connect.ensures.0 (search rules)) c.connected.ensures.so) c.connected.ensures.so)
+
+pub returns-in_err-connected-clause-alone : goal.returns-in_err-connected-clause-alone
+returns-in_err-connected-clause-alone g c = rw (← ap (λ v. v.link) c.self.view_is) (connects_ends_none _ _ _ _ _ c.self.invariant.legal c.connected.ensures.so)
+
+pub returns-clause-alone : goal.returns-clause-alone
+returns-clause-alone g c = rw (← ap (λ v. v.link) c.self.view_is) (connects_ends_none _ _ _ _ _ c.self.invariant.legal c.connected.ensures.so)

@@ -3,6 +3,9 @@ use Rattle.line_model.specs.LinkStory.{IsTime}
 use Rattle.tunnel_link.proofs.CallAnswers.{sends_go_on, due_call_keeps, due_none_keeps, due_err, due_ok, due_none}
 use Rattle.tunnel_link.proofs.Faulted.{sends_of, passed_on}
 use Rattle.tunnel_link.proofs.Prompts.{none_prompt, sends_prompt}
+use Rattle.tunnel_link.specs.Alone.{LeavesAlone}
+use Rattle.tunnel_link.proofs.Alone.{none_each}
+use Rattle.tunnel_link.proofs.AloneCalls.{due_alone}
 use Rattle.tunnel_link.proofs.tunnel.Tunnel.send_due.Goals as goal
 
 pub invariant_of-self : goal.invariant_of-self
@@ -40,3 +43,12 @@ returns-in_ok-sent-in-Some-clause-prompt g c = rw (← ap (λ v. v.link) c.self.
 
 pub returns-in-None-clause-prompt : goal.returns-in-None-clause-prompt
 returns-in-None-clause-prompt g c = rw (← ap (λ v. v.link) c.self.view_is) (none_prompt _)
+
+pub returns-in_err-sent-in-Some-clause-alone : goal.returns-in_err-sent-in-Some-clause-alone
+returns-in_err-sent-in-Some-clause-alone g c = rw (← ap (λ v. v.link) c.self.view_is) (due_alone _ _ _ _ _ c.self.invariant (ap (λ v. v.known.fault) c.self.view_is ∙ c.requires.stands) _ _ _ (subst (λ v. IsTime c.args.now (g.L.Link.story v.link)) (sym c.self.view_is) c.requires.time) (sym c.due.ensures.answer ∙ c.in-Some.is) c.sent.ensures.so)
+
+pub returns-in_ok-sent-in-Some-clause-alone : goal.returns-in_ok-sent-in-Some-clause-alone
+returns-in_ok-sent-in-Some-clause-alone g c = rw (← ap (λ v. v.link) c.self.view_is) (due_alone _ _ _ _ _ c.self.invariant (ap (λ v. v.known.fault) c.self.view_is ∙ c.requires.stands) _ _ _ (subst (λ v. IsTime c.args.now (g.L.Link.story v.link)) (sym c.self.view_is) c.requires.time) (sym c.due.ensures.answer ∙ c.in-Some.is) c.sent.ensures.so)
+
+pub returns-in-None-clause-alone : goal.returns-in-None-clause-alone
+returns-in-None-clause-alone g c = rw (← ap (λ v. v.link) c.self.view_is) (none_each LeavesAlone _)

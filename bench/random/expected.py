@@ -1,0 +1,235 @@
+"""What a call of `knx` has to answer, by docs/formats.md: the status and the text where that page settles them; and of a run of `sim` all that can be
+said without running it, of its report. run.py asks it of many calls."""
+import re
+
+from formats import CatalogueRefused, Project, Refused, individual, individual_text, models_of, script_of
+from frames import datagram
+from plan import check_end, load_end
+
+USAGE = "usage: knx check, tables, sim, download, gateway, decode or big, with their words\n"
+SIGN = "(?: (?:nocon|closed|silent|tunnel))"
+OCTETS = "(?:-|(?:[0-9A-F]{2})+)"
+JOB = re.compile(rf"job (\d+) (load|check) (\S+) (done|open|failed{SIGN}{{3}}|refused \d+ got {OCTETS} expected {OCTETS})")
+LOG = re.compile(r"log (\d+) 1 (took|done|failed|refused) (\d+)")
+ALL_NOCON = "failed nocon nocon nocon"
+# a download that stops before it dials is told so; one that dials is answered so where no gateway can be reached
+DIALS = (9, "link fault\n")
+
+
+class Stop(Exception):
+    """A status and a line."""
+
+
+NO_DEVICE = Stop(3, "new line 0: 20 NoDevice\n")
+
+
+# ---- calls that stop, or tell without a run
+
+def is_gateway(word):
+    """An address with or without a port."""
+    address, colon, port = word.partition(":")
+    parts = address.split(".")
+    return (len(parts) == 4 and all(re.fullmatch("[0-9]{1,3}", part) and int(part) < 256 for part in parts)
+            and (not colon or bool(re.fullmatch("[0-9]{1,5}", port)) and 0 < int(port) < 65536))
+
+
+def read(files, name):
+    if name not in files:
+        raise Stop(6, f"read fault {name} NotThere\n")
+    return files[name]
+
+
+def options_of(words, for_sim):
+    """The catalogue's name or None, whether the log is asked for, and the jobs."""
+    names, logs, jobs = [], 0, []
+    for word in words:
+        job = re.fullmatch("(load|check):(.*)", word, re.S)
+        if word.startswith("catalogue="):
+            names.append(word[10:])
+        elif for_sim and word == "log":
+            logs += 1
+        elif for_sim and job and individual(job[2]):
+            jobs.append((job[1], individual(job[2])))
+        else:
+            raise Stop(2, USAGE)
+    if len(names) > 1 or logs > 1 or len(jobs) > 1024:
+        raise Stop(2, USAGE)
+    return (names or [None])[0], logs == 1, jobs
+
+
+def judged(place, read_it, octets, *others):
+    try:
+        return read_it(octets, *others)
+    except Refused as why:
+        raise Stop(5 if place == "script" else 3, f"{place} {why.text}\n") from None
+
+
+def models_in(octets):
+    try:
+        return models_of(octets)
+    except CatalogueRefused as why:
+        raise Stop(4, f"catalogue: {why}\n") from None
+
+
+def asked(words, files):
+    """What is to be told of words that need no run, or the run."""
+    command, rest = words[0] if words else "", words[1:]
+    if command == "decode" and len(rest) == 1 and re.fullmatch("([0-9A-Fa-f]{2}){1,512}", rest[0]):
+        return "".join(line + "\n" for line in datagram(bytes.fromhex(rest[0])))
+    if command == "download" and rest:
+        rest = rest[1:] if is_gateway(rest[0]) else []
+    count = {"check": 1, "tables": 1, "download": 1, "sim": 3}.get(command, len(rest) + 1)
+    if len(rest) < count:
+        raise Stop(2, USAGE)
+    catalogue, log, jobs = options_of(rest[count:], command in ("sim", "download"))
+    first = [read(files, catalogue)] if catalogue is not None else []
+    texts = [read(files, name) for name in rest[:count]]
+    models = models_in(first[0]) if first else {}
+    new = judged("new", Project, texts[0], models)
+    if command == "download":
+        raise Stop(*DIALS) if all(device in new.model for _, device in jobs) else NO_DEVICE
+    if command != "sim":
+        return new.counts() if command == "check" else new.tables()
+    return Run(new, judged("old", Project, texts[1], models), judged("script", script_of, texts[2]), log, jobs)
+
+
+# ---- a run
+
+def device_in(word, values):
+    return values[0] if word in ("lose to", "lose from", "repeat to", "cut", "worn", "close", "off", "standard") else None
+
+
+class Run:
+    """What is known of a run of `sim` before it: its jobs, its devices and what may happen to each."""
+
+    def __init__(self, new, old, script, log, jobs):
+        self.log = log
+        first = next((values[0] for _, word, values in new.statements if word == "device"), 0x1100)
+        self.tunnel = first | 255
+        self.devices = sorted(d for d in {*new.model, *old.model} if d | 255 == self.tunnel)
+        for line, word, values in script:
+            if device_in(word, values) not in (None, *self.devices):
+                raise Stop(5, f"script line {line}: 20 NoDevice\n")
+        if any(device not in new.model for _, device in jobs):
+            raise NO_DEVICE
+        if any(word.endswith("group") for _, word, _ in script):
+            raise Stop(5, "script line 0: 21 NotBuilt\n")
+        self.jobs = jobs or [("load", device) for device in sorted(new.model)]
+        self.strangers = [device for _, device in self.jobs if device | 255 != self.tunnel]
+        self.harms = {(word, *values) for _, word, values in script if word != "standard"}
+        self.size = {values[0]: 12 for _, word, values in script if word == "standard"}
+        self.image = {d: new.image(d) for d in new.model}
+        # what each device holds, as long as it is known: a blank one None; and what it may show by now
+        self.held = {d: old.image(d) if d in old.model else None for d in self.devices}
+        self.cases = {d: {"stopped"} if d not in old.model else {"new"} if self.held[d] == self.image.get(d) else {"old"} for d in self.devices}
+        self.loaded = set()
+
+    def harms_to(self, device):
+        return [word for word, *values in self.harms if device_in(word, values) in (None, device)]
+
+    def surprises(self, status, text):
+        """What in a run's answer isn't as it has to be."""
+        lines = text.split("\n")
+        if lines.pop() != "":
+            return ["the last line has no end"]
+        if status == 12:
+            wrong = f"wrong line {individual_text(self.strangers[0])} tunnel {individual_text(self.tunnel)}" if self.strangers else None
+            return [] if lines == [wrong] else ["a wrong line that isn't there, or another one"]
+        if status not in (0, 1, 10):
+            return ["a run ends with another status"]
+        found = self.end_surprises(lines.pop() if status == 10 else None)
+        jobs, lines = lines[:len(self.jobs)], lines[len(self.jobs):]
+        devices, lines = lines[:len(self.devices)], lines[len(self.devices):]
+        ends = self.ends_of(jobs)
+        if None in ends:
+            return found + ["the jobs' lines aren't those of the jobs"]
+        words = [end.split()[0] for end in ends]
+        if status != 10 and ("open" in words or status != any(word != "done" for word in words)):
+            found.append("the status isn't that of the jobs' ends")
+        if status != 10 and self.strangers:
+            found.append("a job of another line was done")
+        if "open" in words and set(words[words.index("open"):]) != {"open"}:
+            found.append("a job after one without its end has one")
+        for (kind, device), end in zip(self.jobs, ends):
+            exact = self.exact_end(kind, device)
+            found += [f"{end}, and it can only be {exact}"] if exact not in (None, end) else []
+            found += self.job_surprises(kind, device, end)
+        return found + self.device_surprises(devices) + self.tail_surprises(lines, words)
+
+    def ends_of(self, lines):
+        """How each job ended; None where a line isn't the job's."""
+        said = [JOB.fullmatch(line) for line in lines]
+        return [it[4] if it and it.groups()[:3] == (str(k), kind, individual_text(device)) else None
+                for k, ((kind, device), it) in enumerate(zip(self.jobs, said + [None] * (len(self.jobs) - len(said))), 1)]
+
+    def end_surprises(self, line):
+        """The line of a gateway that refused, where there is one: three signs, each of a line of the script that refuses or loses."""
+        if line is None:
+            return []
+        said = re.fullmatch("gateway refused (-|[0-9A-F]{2}) (-|[0-9A-F]{2}) (-|[0-9A-F]{2})", line)
+        statuses = [values[1].upper() for word, *values in self.harms if word == "refuse"]
+        losses = sum(word in ("lose up", "lose down") for word, *_ in self.harms)
+        wanted = said and all(statuses.count(it) or it == "-" for it in said.groups()) and said.groups().count("-") <= losses
+        return [] if wanted else ["the gateway refused otherwise than the script says"]
+
+    def exact_end(self, kind, device):
+        """How the job ends, where that is settled: a check by what the device is known to hold, where an attempt of it is left to go through; and
+        a load that nothing disturbs but worn memory, the first of its device, whose writes are counted from 1."""
+        harms, image, size = self.harms_to(device), self.image[device], self.size.get(device, 60)
+        others = [word for word in harms if word != "worn"]
+        if kind == "check" and device in self.held and len(others) < 3 and "off" not in others:
+            return check_end(image, self.held[device], size)
+        if kind == "load" and device in self.devices and not others and not (harms and device in self.loaded):
+            return load_end(image, size, {values[1] for word, *values in self.harms if word == "worn" and values[0] == device})
+        return None
+
+    def job_surprises(self, kind, device, end):
+        """Follows what the device may run by now, by what each job told."""
+        harms, cases, found = self.harms_to(device), self.cases.get(device, {"stopped"}), []
+        word = end.split()[0]
+        if kind == "load" or word == "done":
+            self.held.pop(device, None)
+            self.loaded |= {device} if kind == "load" else set()
+        if word == "done":
+            self.held[device] = self.image[device]
+            if kind == "check" and "new" not in cases or "off" in harms:
+                found.append("done, where the device can't run it")
+            self.cases[device] = {"new"}
+        elif kind == "load" and word != "open" and end != ALL_NOCON:
+            self.cases[device] = {"stopped"} if word == "refused" else cases | {"stopped", "new"}
+        elif kind == "load" and word == "open":
+            self.cases[device] = cases | {"stopped", "new"}
+        if word == "refused" and (kind == "load" and "worn" not in harms or kind == "check" and cases == {"new"}):
+            found.append("refused, and nothing differs")
+        if word == "refused" and kind == "check":
+            self.cases[device] = cases - {"new"}
+        if word == "failed" and "off" not in harms and len(harms) < 3:
+            found.append("failed by fewer than three disturbances")
+        if word == "failed" and harms == ["off"] and end != ALL_NOCON:
+            found.append("another sign than nocon of a device without power")
+        return found
+
+    def device_surprises(self, lines):
+        wanted = [f"device {individual_text(d)} " for d in self.devices]
+        if [line[:line.rfind(" ") + 1] for line in lines] != wanted:
+            return ["the devices' lines aren't those of the devices"]
+        return [f"{line}, and it can only be {' or '.join(sorted(self.cases[d]))}" for d, line in zip(self.devices, lines)
+                if line.split()[-1] not in self.cases[d]]
+
+    def tail_surprises(self, lines, words):
+        """What follows the devices: what was missed, and the log with a count of dropped datagrams."""
+        if lines[:1] != ["missed 0"]:
+            return ["no line missed 0"]
+        if not self.log:
+            return ["lines after the last one"] if lines[1:] else []
+        dropped = re.fullmatch(r"dropped (\d+)", lines[-1])
+        said = [LOG.fullmatch(line) for line in lines[1:-1]]
+        if not dropped or None in said:
+            return ["the log's lines aren't of its form"]
+        times = [int(it[1]) for it in said]
+        entries = [(it[2], int(it[3])) for it in said]
+        wanted = [entry for k, word in enumerate(words, 1) for entry in (("took", k), (word, k)) if word != "open"]
+        # the job that was taken and has no end
+        begun = [("took", len(wanted) // 2 + 1)] if "open" in words else []
+        found = [] if entries in (wanted, wanted + begun) and times == sorted(times) else ["the log isn't that of the jobs' ends"]
+        return found + (["dropped, and nothing was disturbed"] if int(dropped[1]) and not self.harms else [])

@@ -1,0 +1,12 @@
+use Rattle.std.proofs.Common.{◌≤◌, ◌-◌, ◌^◌, length}
+use Rattle.bus_sim.proofs.Playing.{PlaysUntil}
+use Rattle.bus_sim.proofs.run.Run.go_on_for.Given as goal
+
+abbrev pub invariant-loop-letter : goal.invariant-loop-letter
+invariant-loop-letter g l = record {
+  plays : PlaysUntil l.left l.wait l.fn.self l.self (g.P.Port.story l.fn.port) (g.P.Port.story l.port);
+  count : g.P.Port.faults l.fn.port ≤ g.P.Port.faults l.port;
+}
+
+abbrev pub decreases-loop-letter : goal.decreases-loop-letter
+decreases-loop-letter g l = 2 ^ 62 - length l.self.events

@@ -1,0 +1,194 @@
+-- A run over a dialled link, once it was handed back; and what is written of a download.
+use Rattle.std.proofs.Common.{◌≡◌, ℕ, ◌≤◌, Bool, List, [], map, Option, Some, None, Result, Ok, Err, refl, sym, ◌∙◌, subst, inl, inr, ◌⊎◌}
+use Rattle.std.specs.Prelude.{IfErr, IfOk, IfSome}
+use Rattle.hub_core.specs.Promises.{IsRightOver, FaultRightIn, DropsIn}
+use Rattle.hub_core.specs.Thorough.{IsThoroughOver}
+use Rattle.hub_driver.specs.Heard.{HeardAll}
+use Rattle.hub_driver.specs.Leaving.{LeavesOver}
+use Rattle.knx_model.specs.declared.command.Stop.{Stop}
+use Rattle.knx_model.specs.declared.command.Stop.TheVariants as stop
+use Rattle.knx_model.specs.declared.log.JobWord.{JobWord}
+use Rattle.knx_model.specs.declared.status.Status.{Status}
+use Rattle.knx_model.specs.declared.status.Status.TheVariants as status
+use Rattle.knx_model.specs.declared.no_memory.NoMemory.{NoMemory}
+use Rattle.knx_model.specs.Outside.{FileContent}
+use Rattle.knx_model.specs.Meaning.{Installation}
+use Rattle.knx_model.specs.ReportText.{stop_text}
+use Rattle.line_model.specs.declared.log.LogEntry.{LogEntry}
+use Rattle.line_model.specs.declared.log.Report.{Report}
+use Rattle.line_model.specs.declared.group.GroupTurn.{GroupTurn}
+use Rattle.line_model.specs.Dialled.{Address, TakesBack, Tells}
+use Rattle.line_model.specs.Headline.{Keeps}
+use Rattle.line_model.specs.LinkStory.{Story, Untold, Recorded, Full, IsNewLink, record_in}
+use Rattle.line_model.specs.Log.{Job, IsLog, OneDownloaderPerDevice, AllOver}
+use Rattle.tunnel_link.specs.Goes.{GoesOn}
+use Rattle.tunnel_link.specs.Rights.{FailsWhere}
+use Rattle.knx_top.specs.Call.{AtMostOneRose, Writes}
+use Rattle.knx_top.specs.Command.{Command, Download as AskedDownload, DownloadWords, ProjectWords}
+use Rattle.knx_top.specs.Dialled.{DialEnd, DialerNow, DialledRun, Dials, DialsOr, Download, HasItsCause, IsToldOver, MeansOver, NotReached, RepliesEnd, RunsDialled, Shown, Stopped, StopsFor, Unshown, download_tests, download_told, end_status, judged_download, project_named, report_of}
+use Rattle.knx_top.specs.Input.{ProjectIsRead, OnlyRose, failed_of_project}
+use Rattle.knx_top.specs.Jobs.{ArePlanned, seen_job}
+use Rattle.knx_top.specs.Ran.{log_in}
+use Rattle.knx_top.specs.Ready.{IsReady, IsTextOfEnd, RepliesEndOf, wanting_end}
+use Rattle.knx_top.specs.declared.dialled.Ready.{Ready}
+use Rattle.knx_top.specs.declared.input.ProjectTexts.{ProjectTexts}
+use Rattle.knx_top.specs.declared.tell.Text.{Text}
+use Rattle.knx_top.proofs.Dialling.{judged_download_is}
+use Rattle.knx_top.proofs.Meanings.{devices_mean, done_means}
+use Rattle.knx_top.proofs.Stops.{stopped_by, stopped_by_none, unless_stopped}
+
+-- ---- the dialer's count takes in the link's
+
+pub caused : (report : Report) (old faults since after : ℕ) → old ≡ 0 → IfSome report.fault (λ fault. FailsWhere fault old faults) → TakesBack faults since after → HasItsCause report since after
+caused report old faults since after none cause taken = record {
+  faults = faults;
+  taken = taken;
+  cause = subst (λ (began : ℕ). IfSome report.fault (λ fault. FailsWhere fault began faults)) none cause;
+}
+
+-- ---- by what the project says
+
+pub means_over : (project : Installation) (jobs : List Job) (words : List JobWord) (story : Story) (log : List LogEntry) → ArePlanned project jobs words → IsRightOver jobs story log → MeansOver project jobs story log
+means_over project jobs words Untold log planned right = tt
+means_over project jobs words (Recorded r) log planned right = tt
+means_over project jobs words (Full start events) log planned right = (devices_mean project jobs words start events log planned right.devices, done_means project jobs words start events log planned right.done)
+
+-- ---- the run
+
+pub told_over : (jobs : List Job) (groups : List GroupTurn) (began after : Story) (place : ℕ) (report : Report) → groups ≡ [] → IsNewLink began → GoesOn began after → Keeps jobs groups after (log_in report) → IsRightOver jobs after (log_in report)
+    → IsThoroughOver jobs after (log_in report) → LeavesOver jobs groups after (log_in report)
+    → FaultRightIn jobs (log_in report) report.fault (record_in after) → (report.fault ≡ None → AllOver jobs (log_in report)) → IsLog jobs groups place (log_in report) → OneDownloaderPerDevice jobs (log_in report)
+    → (report.fault ≡ None → HeardAll report.heard (record_in after)) → report.missed ≡ 0 → DropsIn report.dropped (record_in after) → IsToldOver jobs after report
+told_over jobs groups began after place report none new goes keeps right thorough leaves fault ended form alone heard missed dropped = record {
+  began = began;
+  new = new;
+  goes = goes;
+  keeps = subst (λ (turns : List GroupTurn). Keeps jobs turns after (log_in report)) none keeps;
+  right = right;
+  thorough = thorough;
+  leaves = subst (λ (turns : List GroupTurn). LeavesOver jobs turns after (log_in report)) none leaves;
+  fault = fault;
+  ended = ended;
+  place = place;
+  form = subst (λ (turns : List GroupTurn). IsLog jobs turns place (log_in report)) none form;
+  alone = alone;
+  heard = heard;
+  missed = missed;
+  dropped = dropped;
+}
+
+pub to_address : (one other : Address) (given : Option Address) → one ≡ other → Tells other.host other.port given → Tells one.host one.port given
+to_address one other given same tells = subst (λ (at : Address). Tells at.host at.port given) (sym same) tells
+
+dialled : (d : Download) (ready : Ready) (before after : DialerNow) (report : Report) → IsReady d.project d.options.jobs ready → Tells d.at.host d.at.port after.given → IsToldOver (map seen_job ready.plans) after.link_back report
+    → (since : ℕ) → before.faults ≤ since → HasItsCause report since after.faults → DialledRun d before after report ready.jobs
+dialled d ready before after report is given told since count cause = record {
+  given = given;
+  words_are = is.jobs;
+  jobs = map seen_job ready.plans;
+  planned = is.plans;
+  told = told;
+  means = means_over d.project (map seen_job ready.plans) ready.jobs after.link_back (log_in report) is.plans told.right;
+  since = since;
+  count = count;
+  cause = cause;
+}
+
+-- the gateway was reached: a dial gave a link, and the run over it told this
+pub reached : (d : Download) (ready : Ready) (at : Address) (faults : ℕ) (given : Option Address) (before after : DialerNow) (report : Report) (log : Bool) → IsReady d.project d.options.jobs ready → d.at ≡ at → log ≡ d.options.log
+    → before.faults ≤ faults → Tells at.host at.port given → after.given ≡ given → IsToldOver (map seen_job ready.plans) after.link_back report → HasItsCause report faults after.faults
+    → Dials d before after (Shown report ready.jobs log)
+reached d ready at faults given before after report log is same logs count tells stays told cause = (
+  dialled d ready before after report is (subst (λ (told : Option Address). Tells d.at.host d.at.port told) (sym stays) (to_address d.at at given same tells)) told faults count cause,
+  logs,
+)
+
+-- ---- memory may be wanting after all
+
+stop_wants : (why : Stop) (ending : DialEnd) → StopsFor why ending → StopsFor why (wanting_end ending)
+stop_wants why (Stopped told) h = inr refl
+stop_wants why NotReached h = absurd h
+stop_wants why (Unshown report) h = absurd h
+stop_wants why (Shown report words log) h = absurd h
+
+dials_wants : (d : Download) (before after : DialerNow) (ending : DialEnd) → Dials d before after ending → Dials d before after (wanting_end ending)
+dials_wants d before after (Stopped told) h = (refl, h.1)
+dials_wants d before after NotReached h = h
+dials_wants d before after (Unshown report) h = h
+dials_wants d before after (Shown report words log) h = (words, h.0)
+
+comes_wanting : (j : Result Download Stop) (before after : DialerNow) (ending : DialEnd) → DialsOr j before after ending → DialsOr j before after (wanting_end ending)
+comes_wanting (Err why) before after ending h = (stop_wants why ending h.0, h.1)
+comes_wanting (Ok d) before after ending h = dials_wants d before after ending h
+
+report_wants : (ending : DialEnd) → report_of (wanting_end ending) ≡ report_of ending
+report_wants (Stopped told) = refl
+report_wants NotReached = refl
+report_wants (Unshown report) = refl
+report_wants (Shown report words log) = refl
+
+-- ---- what is written
+
+replied_text : (ending : DialEnd) (text : List ℕ) (now : Status) (faults faults' : ℕ) (taken taken' : Option (List ℕ)) (told : Status) → IsTextOfEnd ending text now → Writes text now faults faults' taken taken' told → RepliesEnd faults faults' taken taken' told ending
+replied_text ending text now faults faults' taken taken' told is h =
+    subst (λ (t : List ℕ). Writes t (end_status ending) faults faults' taken taken' told) is.0 (subst (λ (s : Status). Writes text s faults faults' taken taken' told) is.1 h)
+
+-- a text is written, or that there was no memory for it
+pub text_replied : (ending : DialEnd) (text : Result Text NoMemory) (faults faults' : ℕ) (taken taken' : Option (List ℕ)) (told : Status)
+    → (Writes (stop_text (stop.NoMemory tt)) (status.NoMemory tt) faults faults' taken taken' told → RepliesEnd faults faults' taken taken' told (wanting_end ending))
+    → IfOk text (λ p. IsTextOfEnd ending p.octets p.status) → IfOk text (λ p. Writes p.octets p.status faults faults' taken taken' told) → IfErr text (λ _. Writes (stop_text (stop.NoMemory tt)) (status.NoMemory tt) faults faults' taken taken' told)
+    → RepliesEndOf faults faults' taken taken' told ending
+text_replied ending (Ok text) faults faults' taken taken' told wants is writes wanting = inl (replied_text ending text.octets text.status faults faults' taken taken' told is writes)
+text_replied ending (Err want) faults faults' taken taken' told wants is writes wanting = inr (wants wanting)
+
+-- ---- the whole of it
+
+from_end : (words : DownloadWords) (file : List ℕ → FileContent) (faults faults' : List ℕ → ℕ) (before after : DialerNow) (report : Option Report) (Replied : DialEnd → Type 0) (texts : ProjectTexts) (ending : DialEnd)
+    → ProjectIsRead file (project_named words) texts → OnlyRose (failed_of_project (project_named words) texts) faults faults' → DialsOr (judged_download words texts) before after ending → report ≡ report_of ending → Replied ending
+    → RunsDialled words file faults faults' before after report Replied
+from_end words file faults faults' before after report Replied texts ending is counts comes report_is replied =
+    let came : DialsOr (unless_stopped (download_tests words texts) (download_told words texts)) before after ending = subst (λ (j : Result Download Stop). DialsOr j before after ending) (judged_download_is words texts) comes in
+    record {
+      texts = texts;
+      is_read = is;
+      counts = counts;
+      ending = ending;
+      stops = λ why e. subst (λ (j : Result Download Stop). DialsOr j before after ending) (stopped_by (download_tests words texts) (download_told words texts) why e) came;
+      dials = λ e. subst (λ (j : Result Download Stop). DialsOr j before after ending) (stopped_by_none (download_tests words texts) (download_told words texts) e) came;
+      report_is = report_is;
+      replied = replied;
+    }
+
+end_or_wanting : (words : DownloadWords) (file : List ℕ → FileContent) (faults faults' : List ℕ → ℕ) (before after : DialerNow) (report : Option Report) (Replied : DialEnd → Type 0) (texts : ProjectTexts) (ending : DialEnd)
+    → ProjectIsRead file (project_named words) texts → OnlyRose (failed_of_project (project_named words) texts) faults faults' → DialsOr (judged_download words texts) before after ending → report ≡ report_of ending
+    → Replied ending ⊎ Replied (wanting_end ending) → RunsDialled words file faults faults' before after report Replied
+end_or_wanting words file faults faults' before after report Replied texts ending is counts comes report_is (inl replied) = from_end words file faults faults' before after report Replied texts ending is counts comes report_is replied
+end_or_wanting words file faults faults' before after report Replied texts ending is counts comes report_is (inr replied) =
+    from_end words file faults faults' before after report Replied texts (wanting_end ending) is counts (comes_wanting _ before after ending comes) (report_is ∙ sym (report_wants ending)) replied
+
+-- where these files were read
+pub runs_dialled : (words : DownloadWords) (named : ProjectWords) (file : List ℕ → FileContent) (faults faults' : List ℕ → ℕ) (before after : DialerNow) (report : Option Report) (Replied : DialEnd → Type 0) (texts : ProjectTexts) (ending : DialEnd)
+    → named ≡ project_named words → ProjectIsRead file named texts → OnlyRose (failed_of_project named texts) faults faults' → DialsOr (judged_download words texts) before after ending → report ≡ report_of ending
+    → Replied ending ⊎ Replied (wanting_end ending) → RunsDialled words file faults faults' before after report Replied
+runs_dialled words named file faults faults' before after report Replied texts ending same is counts comes report_is replied =
+    end_or_wanting words file faults faults' before after report Replied texts ending (subst (λ (these : ProjectWords). ProjectIsRead file these texts) same is)
+    (subst (λ (these : ProjectWords). OnlyRose (failed_of_project these texts) faults faults') same counts) comes report_is replied
+
+-- ---- which command it is
+
+pub rose_at_most : (words : DownloadWords) (file : List ℕ → FileContent) (faults faults' : List ℕ → ℕ) (before after : DialerNow) (report : Option Report) (Replied : DialEnd → Type 0) → RunsDialled words file faults faults' before after report Replied → AtMostOneRose faults faults'
+rose_at_most words file faults faults' before after report Replied run = (failed_of_project (project_named words) run.texts, run.counts)
+
+same_words : (one other : DownloadWords) → AskedDownload one ≡ AskedDownload other → one ≡ other
+same_words one other e = cc
+
+-- the run is of the words that were asked
+pub of_words : (command : Command) (told names : DownloadWords) (file : List ℕ → FileContent) (faults faults' : List ℕ → ℕ) (before after : DialerNow) (report : Option Report) (Replied : DialEnd → Type 0) → command ≡ AskedDownload told → command ≡ AskedDownload names
+    → RunsDialled told file faults faults' before after report Replied → RunsDialled names file faults faults' before after report Replied
+of_words command told names file faults faults' before after report Replied is e run = subst (λ (words : DownloadWords). RunsDialled words file faults faults' before after report Replied) (same_words told names (sym is ∙ e)) run
+
+pub same_command : (one other : Command) → Some one ≡ Some other → one ≡ other
+same_command one other e = cc
+
+pub no_command : (other : Command) → None ≡ Some other → ⊥
+no_command other e = cc
