@@ -9,7 +9,10 @@ use Rattle.knx_model.specs.declared.script.ScriptWhat.TheVariants.{Standard, Gro
 use Rattle.line_model.specs.declared.log.LogEntry.{LogEntry}
 use Rattle.line_model.specs.declared.log.LogWhat.{LogWhat}
 use Rattle.line_model.specs.declared.log.LogWhat.TheVariants.{Failed, Lost as LostTurn}
+use Rattle.line_model.specs.Follows.{Follows}
+use Rattle.line_model.specs.Fresh.{IsFresh}
 use Rattle.line_model.specs.Lines.{Script}
+use Rattle.line_model.specs.Tunnel.{Commissions}
 use Rattle.line_model.specs.World.{World, Event, Pass}
 use Rattle.line_model.specs.Legal.{OfDevice}
 use Rattle.line_model.specs.Record.{Entry, Placed, entries, placed}
@@ -75,3 +78,20 @@ FailsNot _ = Unit {0}
 
 abbrev pub NothingFailed : List LogEntry → Type 0
 NothingFailed log = AllByRecursion (λ (e : LogEntry). FailsNot e.what) log
+
+-- ---- the promise of a run that nothing disturbs
+
+-- it began on a fresh line with its devices, and what happened follows a script that disturbs nothing
+pub record IsUndisturbedRun (script : Script) (jobs : List Job) (start : World) (events : List Event) : Type 0 where
+  pub says : IsUndisturbed script
+  pub fresh : IsFresh start
+  pub devices : HasDevices jobs start
+  pub follows : Follows script Commissions start events
+
+pub record IsPrompt (jobs : List Job) (start : World) (log : List LogEntry) (events : List Event) : Type 0 where
+  pub idle : PassesIdly jobs start log events
+  pub nothing_failed : NothingFailed log
+
+-- whichever script of this kind it follows
+abbrev pub PromptWhereUndisturbed : List Job → World → List LogEntry → List Event → Type 0
+PromptWhereUndisturbed jobs start log events = (script : Script) → IsUndisturbedRun script jobs start events → IsPrompt jobs start log events
