@@ -44,7 +44,7 @@ fn is_group_line(line: &ScriptLine) -> bool
 }
 
 /// A script, where it reads.
-fn script_in(alloc: Global, octets: &[u8]) -> Result<Script, Stop>
+pub fn script_in(alloc: Global, octets: &[u8]) -> Result<Script, Stop>
     ensures { Gives (λ s. s.lines) result (unless_refused OfScript (script_reading octets.now)) }
 {
     match read_script(alloc, octets) {
@@ -54,7 +54,7 @@ fn script_in(alloc: Global, octets: &[u8]) -> Result<Script, Stop>
 }
 
 /// Whether a line of a script has a group telegram.
-fn has_groups(lines: &[ScriptLine]) -> bool
+pub fn has_groups(lines: &[ScriptLine]) -> bool
     ensures { result ≡ list_any is_group_line lines.now }
 {
     lines.iter().any(|line| is_group_line(line))

@@ -38,3 +38,6 @@ returns-in-Ok-clause-thorough g c = rw (c.in-Ok.is, ← c.as_slice.ensures.value
 
 pub returns-in-Ok-clause-leaves : goal.returns-in-Ok-clause-leaves
 returns-in-Ok-clause-leaves g c = rw (c.in-Ok.is, ← c.as_slice.ensures.value) c.ended.ensures.leaves
+
+pub returns-in-Ok-clause-gateway : goal.returns-in-Ok-clause-gateway
+returns-in-Ok-clause-gateway g c = rw (c.in-Ok.is, ← c.as_slice.ensures.value) c.ended.ensures.gateway
