@@ -52,12 +52,6 @@ returns-clause-done g c = elim c.match-next.branch [
   | in-Some+in_ok-finishes+then-branch w ↦ rw w.self-is w.in_ok-finishes.ensures.done
 ]
 
-pub returns-clause-closed : goal.returns-clause-closed
-returns-clause-closed g c = elim c.match-next.branch [
-  | in-None w ↦ absurd cc
-  | in-Some+in_ok-finishes+then-branch w ↦ rw w.self-is (w.in_ok-finishes.ensures.closed w.then-branch.is)
-]
-
 pub returns-in_err-finishes-clause-leaves : goal.returns-in_err-finishes-clause-leaves
 returns-in_err-finishes-clause-leaves g c = closing_leaves c.finishes.new.self.hub (g.L.Link.story c.finishes.new.self.hub.link) c.finishes.ensures.closes (stays_done _ _ c.finishes.ensures.run c.finishes.ensures.log c.loop.invariant.done)
 
