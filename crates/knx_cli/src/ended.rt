@@ -8,7 +8,7 @@ ghost use Rattle.knx_top.specs.Call.{AtMostOneRose, HasRunOf, IsCountsText, IsTa
 ghost use Rattle.knx_top.specs.Command.{DownloadWords, GatewayWords, ProjectWords, SimWords, asked, Check as AskedCheck, Decode as AskedDecode, Download as AskedDownload, Gateway as AskedGateway, Sim as AskedSim, Tables as AskedTables};
 ghost use Rattle.knx_top.specs.Dialled.{RepliesEnd, RunsDialled};
 ghost use Rattle.knx_top.specs.Gateway.{RepliesServed, RunsGateway};
-ghost use Rattle.knx_top.specs.Headline.{ActsOnce, BeganRightly, EndsEveryJob, EndsThoroughly, HasFaultRight, HasOldStoppedOrNew, HasTelegramsRight, IsToldRightly, LeavesItsChannel, RunsWhereDone};
+ghost use Rattle.knx_top.specs.Headline.{ActsOnce, BeganRightly, ClosesToItsEnd, EndsEveryJob, EndsThoroughly, HasFaultRight, HasOldStoppedOrNew, HasTelegramsRight, IsToldRightly, LeavesItsChannel, RunsWhereDone};
 ghost use Rattle.knx_top.specs.Ran.{FaultsOfLine, Stops};
 ghost use Rattle.knx_cli.specs.Exit.{status_of};
 
@@ -48,6 +48,7 @@ fn ended<R: Wait, F: Files, K: Sink, D: Dialer>(
     ensures leaves { HasRunOf LeavesItsChannel (map string_bytes words.now) (F.file files.old) sim.old (record { line = sim.new; report = last.new }) }
     ensures fault { HasRunOf HasFaultRight (map string_bytes words.now) (F.file files.old) sim.old (record { line = sim.new; report = last.new }) }
     ensures over { HasRunOf EndsEveryJob (map string_bytes words.now) (F.file files.old) sim.old (record { line = sim.new; report = last.new }) }
+    ensures closed { HasRunOf ClosesToItsEnd (map string_bytes words.now) (F.file files.old) sim.old (record { line = sim.new; report = last.new }) }
     ensures link { (names : SimWords) → asked (map string_bytes words.now) ≡ Some (AskedSim names) → FaultsOfLine last.new sim.new }
     ensures line { ((names : SimWords) → asked (map string_bytes words.now) ≢ Some (AskedSim names)) → ((names : GatewayWords) → asked (map string_bytes words.now) ≢ Some (AskedGateway names)) → sim.new ≡ sim.old }
     ensures undialled { ((names : DownloadWords) → asked (map string_bytes words.now) ≢ Some (AskedDownload names)) → ((names : GatewayWords) → asked (map string_bytes words.now) ≢ Some (AskedGateway names)) → dial.new ≡ dial.old }
@@ -100,6 +101,7 @@ pub fn status_of<R: Wait, F: Files, K: Sink, D: Dialer>(
     ensures leaves { IfOk words.now (λ words. HasRunOf LeavesItsChannel (map string_bytes words.items) (F.file files.old) sim.old (record { line = sim.new; report = last.new })) }
     ensures fault { IfOk words.now (λ words. HasRunOf HasFaultRight (map string_bytes words.items) (F.file files.old) sim.old (record { line = sim.new; report = last.new })) }
     ensures over { IfOk words.now (λ words. HasRunOf EndsEveryJob (map string_bytes words.items) (F.file files.old) sim.old (record { line = sim.new; report = last.new })) }
+    ensures closed { IfOk words.now (λ words. HasRunOf ClosesToItsEnd (map string_bytes words.items) (F.file files.old) sim.old (record { line = sim.new; report = last.new })) }
     ensures link { IfOk words.now (λ words. (names : SimWords) → asked (map string_bytes words.items) ≡ Some (AskedSim names) → FaultsOfLine last.new sim.new) }
     // where memory is wanting for the words, that is told
     ensures wanting { IfErr words.now (λ _. Replies (K.faults out.old) (K.faults out.new) (K.taken out.old) (K.taken out.new) (status_of result) (Stops (Wanting tt))) }

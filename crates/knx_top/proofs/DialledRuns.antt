@@ -3,6 +3,7 @@ use Rattle.std.proofs.Common.{◌≡◌, ℕ, ◌≤◌, Bool, List, [], map, Op
 use Rattle.std.specs.Prelude.{IfSome}
 use Rattle.hub_core.specs.Promises.{IsRightOver, FaultRightIn, DropsIn}
 use Rattle.hub_core.specs.Thorough.{IsThoroughOver}
+use Rattle.hub_driver.specs.Closed.{HasClosed}
 use Rattle.hub_driver.specs.Heard.{HeardAll}
 use Rattle.hub_driver.specs.Leaving.{LeavesOver}
 use Rattle.knx_model.specs.declared.command.Stop.{Stop}
@@ -17,7 +18,7 @@ use Rattle.line_model.specs.Headline.{Keeps}
 use Rattle.line_model.specs.LinkStory.{Story, Untold, Recorded, Full, IsNewLink, record_in}
 use Rattle.line_model.specs.Log.{Job, IsLog, OneDownloaderPerDevice, AllOver}
 use Rattle.tunnel_link.specs.Goes.{GoesOn}
-use Rattle.tunnel_link.specs.Rights.{FailsWhere}
+use Rattle.tunnel_link.specs.Rights.{FailsWhere, WhereTold}
 use Rattle.knx_top.specs.Call.{AtMostOneRose}
 use Rattle.knx_top.specs.Command.{Command, Download as AskedDownload, DownloadWords, ProjectWords}
 use Rattle.knx_top.specs.Dialled.{DialEnd, DialerNow, DialledRun, Dials, DialsOr, Download, HasItsCause, IsToldOver, MeansOver, NotReached, RunsDialled, Shown, Stopped, StopsFor, Unshown, download_tests, download_told, judged_download, project_named, report_of}
@@ -51,9 +52,9 @@ means_over project jobs words (Full start events) log planned right = (devices_m
 
 pub told_over : (jobs : List Job) (groups : List GroupTurn) (began after : Story) (place : ℕ) (report : Report) → groups ≡ [] → IsNewLink began → GoesOn began after → Keeps jobs groups after (log_in report) → IsRightOver jobs after (log_in report)
     → IsThoroughOver jobs after (log_in report) → LeavesOver jobs groups after (log_in report)
-    → FaultRightIn jobs (log_in report) report.fault (record_in after) → (report.fault ≡ None → AllOver jobs (log_in report)) → IsLog jobs groups place (log_in report) → OneDownloaderPerDevice jobs (log_in report)
+    → FaultRightIn jobs (log_in report) report.fault (record_in after) → (report.fault ≡ None → AllOver jobs (log_in report)) → (report.fault ≡ None → WhereTold (HasClosed (log_in report)) after) → IsLog jobs groups place (log_in report) → OneDownloaderPerDevice jobs (log_in report)
     → (report.fault ≡ None → HeardAll report.heard (record_in after)) → report.missed ≡ 0 → DropsIn report.dropped (record_in after) → IsToldOver jobs after report
-told_over jobs groups began after place report none new goes keeps right thorough leaves fault ended form alone heard missed dropped = record {
+told_over jobs groups began after place report none new goes keeps right thorough leaves fault ended closed form alone heard missed dropped = record {
   began = began;
   new = new;
   goes = goes;
@@ -63,6 +64,7 @@ told_over jobs groups began after place report none new goes keeps right thoroug
   leaves = subst (λ (turns : List GroupTurn). LeavesOver jobs turns after (log_in report)) none leaves;
   fault = fault;
   ended = ended;
+  closed = closed;
   place = place;
   form = subst (λ (turns : List GroupTurn). IsLog jobs turns place (log_in report)) none form;
   alone = alone;

@@ -8,6 +8,7 @@ use Rattle.bus_sim.specs.RunNow.{RunNow, mode, script, start, story, story_of}
 use Rattle.hub_core.specs.Promises.{IsRightOver, FaultRightIn, DropsIn}
 use Rattle.hub_core.specs.Seen.{AreJobs}
 use Rattle.hub_core.specs.Thorough.{IsThoroughOver}
+use Rattle.hub_driver.specs.Closed.{HasClosed}
 use Rattle.hub_driver.specs.Heard.{HeardAll}
 use Rattle.hub_driver.specs.Leaving.{LeavesOver}
 use Rattle.hub_work.specs.declared.job.HubJob.{HubJob}
@@ -23,10 +24,12 @@ use Rattle.line_model.specs.Legal.{IsLegal}
 use Rattle.line_model.specs.Lines.{Script, script_of}
 use Rattle.line_model.specs.LinkStory.{Full, IsNewLink, record_in}
 use Rattle.line_model.specs.Log.{Job, AllOver}
+use Rattle.line_model.specs.Record.{placed}
 use Rattle.line_model.specs.StartOf.{BusOf}
 use Rattle.line_model.specs.Tunnel.{Commissions}
 use Rattle.line_model.specs.World.{World, Event}
 use Rattle.tunnel_link.specs.Goes.{GoesOn}
+use Rattle.tunnel_link.specs.Rights.{WhereTold}
 use Rattle.knx_top.specs.Begun.{IsOrder}
 use Rattle.knx_top.specs.Jobs.{seen_job}
 use Rattle.knx_top.specs.Ran.{IsRunOf, KeepsPromises, Ran, log_in}
@@ -113,11 +116,12 @@ pub driven : (c : Commission) (order : Order) (line : BusNow) (report : Report) 
     → IsRightOver (map seen_job order.plans) (story line.run) (log_in report)
     → FaultRightIn (map seen_job order.plans) (log_in report) report.fault (record_in (story line.run))
     → (report.fault ≡ None → AllOver (map seen_job order.plans) (log_in report))
+    → (report.fault ≡ None → WhereTold (HasClosed (log_in report)) (story line.run))
     → (report.fault ≡ None → HeardAll report.heard (record_in (story line.run)))
     → report.missed ≡ 0
     → DropsIn report.dropped (record_in (story line.run))
     → Ran c line.run report order.jobs
-driven c order line report is one goes says fresh legal follows keeps thorough leaves right fault over heard missed dropped =
+driven c order line report is one goes says fresh legal follows keeps thorough leaves right fault over closed heard missed dropped =
     let jobs : List Job = map seen_job order.plans in
     let whole : story line.run ≡ Full (start line.run) line.run.events = told_whole order.line.run line.run one goes in
     let in_run : mode line.run ≡ Commissions = ap mode_of (still_one order.line.run line.run one goes) in
@@ -137,6 +141,7 @@ driven c order line report is one goes says fresh legal follows keeps thorough l
         leaves = subst (λ s. LeavesOver jobs [] s (log_in report)) whole leaves;
         fault = subst (λ s. FaultRightIn jobs (log_in report) report.fault (record_in s)) whole fault;
         ended = over;
+        closed = λ none. subst (λ s. WhereTold (HasClosed (log_in report)) s) whole (closed none) (placed (start line.run) line.run.events) refl;
         heard = λ none. subst (λ s. HeardAll report.heard (record_in s)) whole (heard none);
         missed = missed;
         dropped = subst (λ s. DropsIn report.dropped (record_in s)) whole dropped;

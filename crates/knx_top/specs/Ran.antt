@@ -29,6 +29,7 @@ use Rattle.line_model.specs.Telegrams.{TelegramsActRight, ActsByProject}
 use Rattle.line_model.specs.Tunnel.{Commissions}
 use Rattle.tunnel_link.specs.Rights.{FailsWhere}
 use Rattle.hub_core.specs.Thorough.{IsThorough}
+use Rattle.hub_driver.specs.Closed.{HasClosed}
 use Rattle.knx_top.specs.Jobs.{AreJobs, ArePlanned}
 use Rattle.knx_top.specs.OnLine.{on_bus}
 use Rattle.knx_top.specs.Shown.{AreShown}
@@ -62,6 +63,7 @@ pub record IsTold (jobs : List Job) (r : RunNow) (report : Report) : Type 0 wher
   pub leaves : LeavesRightly jobs [] (log_in report) (placed (start r) r.events)
   pub fault : FaultRight jobs (log_in report) (record_of (start r) r.events) report.fault
   pub ended : report.fault ≡ None → AllOver jobs (log_in report)
+  pub closed : report.fault ≡ None → HasClosed (log_in report) (placed (start r) r.events)
   pub heard : report.fault ≡ None → report.heard ≡ reverse (indications (record_of (start r) r.events))
   pub missed : report.missed ≡ 0
   -- a number of 64 bits, which stands still at its greatest

@@ -27,6 +27,9 @@ returns-in-Ok-clause-fault g c = rw (c.in-Ok.is, ← c.as_slice.ensures.value) c
 pub returns-in-Ok-clause-over : goal.returns-in-Ok-clause-over
 returns-in-Ok-clause-over g c = rw (c.in-Ok.is, ← c.as_slice.ensures.value) c.ended.ensures.over
 
+pub returns-in-Ok-clause-closed : goal.returns-in-Ok-clause-closed
+returns-in-Ok-clause-closed g c = rw (c.in-Ok.is, ← c.as_slice.ensures.value) c.ended.ensures.closed
+
 pub returns-in-Ok-clause-link : goal.returns-in-Ok-clause-link
 returns-in-Ok-clause-link g c = rw (c.in-Ok.is, ← c.as_slice.ensures.value) c.ended.ensures.link
 

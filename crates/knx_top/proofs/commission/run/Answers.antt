@@ -37,7 +37,7 @@ returns-clause-runs g c = λ commission is logs.
     runs_so commission c.args.sim.now line report c.args.order.jobs c.args.order.devices c.args.log (outcome_of c.end_of_run.result)
     (driven commission c.args.order line report is c.requires.one c.commission-line.ensures.grows c.commission-line.ensures.script c.keeps-2.ensures.fresh c.keeps-2.ensures.legal c.keeps-2.ensures.follows
     keeps (c.commission-line.ensures.thorough jobs (jobs_seen c.args.order.plans)) leaves (c.commission-line.ensures.right jobs (jobs_seen c.args.order.plans) c.requires.good) (c.commission-line.ensures.fault jobs (jobs_seen c.args.order.plans))
-    (λ none. c.commission-line.ensures.over none jobs (devices_seen c.args.order.plans)) c.commission-line.ensures.heard c.commission-line.ensures.missed c.commission-line.ensures.dropped)
+    (λ none. c.commission-line.ensures.over none jobs (devices_seen c.args.order.plans)) c.commission-line.ensures.closed c.commission-line.ensures.heard c.commission-line.ensures.missed c.commission-line.ensures.dropped)
     is.prepared.devices logs
     (subst (λ (devices : List (IndAddr × Option Image)). ShowsRun line.run report c.args.order.jobs devices c.args.log (outcome_of c.end_of_run.result)) c.as_slice.ensures c.end_of_run.ensures)
 
