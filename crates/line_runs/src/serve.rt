@@ -66,13 +66,20 @@ fn tell_items(alloc: Global, items: &[PortItem], told: &mut String) -> Result<()
     Ok(())
 }
 
+/// The word for why a serving broke off.
+fn word_of_fault(fault: PortFault) -> Result<&'static str, Fault> {
+    match fault {
+        PortFault::Failed => Ok(" failed"),
+        PortFault::NoMemory(want) => Err(Fault::NoMemory(want)),
+    }
+}
+
 /// The word for how a serving ended.
 fn word_of(served: Result<Served, PortFault>) -> Result<&'static str, Fault> {
     match served {
         Ok(Served::Ended) => Ok(" ended"),
         Ok(Served::OpenTurns) => Ok(" open"),
-        Err(PortFault::Failed) => Ok(" failed"),
-        Err(PortFault::NoMemory(want)) => Err(Fault::NoMemory(want)),
+        Err(fault) => word_of_fault(fault),
     }
 }
 
