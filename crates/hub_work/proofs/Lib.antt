@@ -33,3 +33,4 @@ pub mod Growing
 pub mod Lasting
 pub mod PollsRight
 pub mod Came
+pub mod CameFor
