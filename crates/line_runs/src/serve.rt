@@ -1,5 +1,8 @@
 //! A serving at a port of fixed data.
 
+ghost use Rattle.std.specs.Prelude.{IfSome};
+ghost use Rattle.knx_model.specs.KnxNetIp.{IsInRange};
+
 use crate::fault::Fault;
 use bus_sim::{Served, SimBus};
 use knx_model::{IpFrame, List, Octets};
@@ -15,7 +18,9 @@ const CLIENT: u32 = 7;
 const CHANNEL: u8 = 1;
 
 /// What a letter stands for: a connect request, or the state or disconnect request of the first channel.
-fn frame_of(letter: u8) -> Option<IpFrame> {
+fn frame_of(letter: u8) -> Option<IpFrame>
+    ensures { IfSome result IsInRange }
+{
     match letter {
         b'c' => Some(IpFrame::ConnectRequest),
         b's' => Some(IpFrame::StateRequest { channel: CHANNEL }),
