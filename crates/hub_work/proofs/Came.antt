@@ -33,13 +33,6 @@ stays_by crew n place = omega arith
 
 -- ---- where something came
 
-one_at_most : (b : Bool) (n : ℕ) → after_coming b n ≤ n + 1
-one_at_most true n = omega arith
-one_at_most false n = omega arith
-
-pub by_where : (came : ℕ → Bool) (old new : List (Option Held)) → RisesWhere came old new → RisesBy 1 old new
-by_where came old new r place = let is = r place in let le = one_at_most (came place) (waiting_at old place) in omega (arith, is, le)
-
 -- at the same places
 pub same_where : (f g : ℕ → Bool) (old new : List (Option Held)) → ((place : ℕ) → f place ≡ g place) → RisesWhere f old new → RisesWhere g old new
 same_where f g old new same r place = r place ∙ ap (λ b. after_coming b (waiting_at old place)) (same place)

@@ -6,7 +6,7 @@ use Rattle.std.proofs.lemmas.Bool.Decides.{nat_tests}
 use Rattle.knx_model.specs.declared.address.IndAddr.{IndAddr}
 use Rattle.knx_model.specs.declared.frames.cemi.Ldata.{Ldata}
 use Rattle.knx_model.specs.declared.frames.cemi.LdataCode.{LdataCode}
-use Rattle.knx_model.specs.declared.frames.cemi.LdataCode.TheVariants.{Ind}
+use Rattle.knx_model.specs.declared.frames.cemi.LdataCode.TheVariants.{Req, Con, Ind}
 use Rattle.device_reservation.specs.Reservation.{stage_of}
 use Rattle.device_reservation.specs.declared.stage.Stage.TheVariants.{Held as IsHeldBy}
 use Rattle.download_core.specs.Attempt.{DownloaderState}
@@ -17,8 +17,9 @@ use Rattle.hub_work.specs.declared.work.Sender.{Sender}
 use Rattle.hub_work.specs.declared.work.Sender.TheVariants.{Nobody, Worker, GroupThread}
 use Rattle.hub_work.specs.declared.work.Work.{Work}
 use Rattle.hub_work.specs.Books.{held_at, is_of_device}
-use Rattle.hub_work.specs.Came.{waiting_at, holds_at, after_coming, RisesWhere}
-use Rattle.hub_work.specs.CameFor.{ComesFrom, ForHolder, FrameComes, Comes, IsConfirmed, has_put, runs, runs_in, runs_at, LossComes}
+use Rattle.hub_work.specs.Came.{waiting_at, holds_at, after_coming, RisesBy, RisesWhere, OneEach}
+use Rattle.hub_work.specs.CameFor.{ComesFrom, ForHolder, ForNobody, FrameComes, Comes, IsConfirmed, has_put, runs, runs_in, runs_at, LossComes}
+use Rattle.hub_work.specs.Closes.{counted}
 use Rattle.hub_work.specs.Comes.{lost_for}
 use Rattle.hub_work.specs.Crew.{holdings}
 use Rattle.hub_work.specs.Downloaders.{states, downloader_of}
@@ -58,13 +59,39 @@ not_of_none device o none of = let isnt : is_of_device device o ≡ false = sym 
 
 -- ---- a frame, by its code
 
-pub heard_comes : (old new : Work) (frame : Ldata) → frame.code ≡ Ind → frame.group ≡ false → ComesFrom (record { raw = frame.source }) old.crew new.crew → Comes frame old new
+pub heard_comes : (old new : Work) (frame : Ldata) → frame.code ≡ Ind → frame.group ≡ false → ComesFrom (record { raw = frame.source }) old.crew new.crew → Comes frame old new.crew
 heard_comes old new frame code group h =
     subst (λ (c : LdataCode). FrameComes old.sender c frame.group frame.source old.crew new.crew) (sym code) (subst (λ (b : Bool). FrameComes old.sender Ind b frame.source old.crew new.crew) (sym group) h)
 
-pub group_comes : (old : Work) (frame : Ldata) → frame.code ≡ Ind → frame.group ≡ true → Comes frame old old
+pub group_comes : (old : Work) (frame : Ldata) → frame.code ≡ Ind → frame.group ≡ true → Comes frame old old.crew
 group_comes old frame code group =
     subst (λ (c : LdataCode). FrameComes old.sender c frame.group frame.source old.crew old.crew) (sym code) (subst (λ (b : Bool). FrameComes old.sender Ind b frame.source old.crew old.crew) (sym group) refl)
+
+-- for each worker as before, or one more
+pub where_each : (f : ℕ → Bool) (old new : List (Option Held)) → RisesWhere f old new → OneEach old new
+where_each f old new r place = by_test (f place) (r place) where
+  by_test : (b : Bool) → waiting_at new place ≡ after_coming b (waiting_at old place) → (waiting_at new place ≡ waiting_at old place) ⊎ (waiting_at new place ≡ counted (waiting_at old place))
+  by_test true is = inr is
+  by_test false is = inl is
+
+same_each : (old new : List (Option Held)) → new ≡ old → OneEach old new
+same_each old new same place = inl (ap (λ crew. waiting_at crew place) same)
+
+frame_each : (sender : Sender) (code : LdataCode) (group : Bool) (source : ℕ) (old new : List (Option Held)) → FrameComes sender code group source old new → OneEach old new
+frame_each sender Req group source old new same = same_each old new same
+frame_each sender Con group source old new r = where_each _ old new r
+frame_each sender Ind false source old new (ForHolder holder of r) = where_each _ old new r
+frame_each sender Ind false source old new (ForNobody none same) = same_each old new same
+frame_each sender Ind true source old new same = same_each old new same
+
+pub comes_each : (frame : Ldata) (old : Work) (new : List (Option Held)) → Comes frame old new → OneEach old.crew new
+comes_each frame old new h = frame_each old.sender frame.code frame.group frame.source old.crew new h
+
+pub each_at_most : (old new : List (Option Held)) → OneEach old new → RisesBy 1 old new
+each_at_most old new each place = elim (each place) [
+  | inl same ↦ omega (arith, same)
+  | inr more ↦ omega (arith, more)
+]
 
 -- ---- a confirmation
 
@@ -130,7 +157,7 @@ abbrev pub RisenSoFar : ℕ → ℕ → Work → Work → Type 0
 RisenSoFar n now old new = (at : ℕ) → KeepsBooks at old → RisesWhere (λ place. nat_lt place n && runs_at old now place) old.crew new.crew
 
 -- a job is held by one worker
-held_once : (w : Work) (at p q : ℕ) (g h : Held) → KeepsBooks at w → Some g ≡ held_at w.crew p → Some h ≡ held_at w.crew q → g.job ≡ h.job → p ≡ q
+pub held_once : (w : Work) (at p q : ℕ) (g h : Held) → KeepsBooks at w → Some g ≡ held_at w.crew p → Some h ≡ held_at w.crew q → g.job ≡ h.job → p ≡ q
 held_once w at p q g h books eg eh same = by_stage (books.live.holds p g.job (job_at w.crew p g eg)) (subst (λ k. stage_of w.reservation k ≡ Some (IsHeldBy (suc q))) (sym same) (books.live.holds q h.job (job_at w.crew q h eh))) where
   by_stage : stage_of w.reservation g.job ≡ Some (IsHeldBy (suc p)) → stage_of w.reservation g.job ≡ Some (IsHeldBy (suc q)) → p ≡ q
   by_stage a b = let e : Some (IsHeldBy (suc p)) ≡ Some (IsHeldBy (suc q)) = sym a ∙ b in cc
@@ -189,7 +216,7 @@ nobody_beyond [] place le = refl
 nobody_beyond (x ∷ crew) zero le = absurd (omega (arith, le))
 nobody_beyond (x ∷ crew) (suc place) le = nobody_beyond crew place (omega (arith, le))
 
-pub all_came : (now n end : ℕ) (old new : Work) → end ≡ length old.crew → end ≤ n → RisenSoFar n now old new → LossComes now old new
+pub all_came : (now n end : ℕ) (old new : Work) → end ≡ length old.crew → end ≤ n → RisenSoFar n now old new → LossComes now old new.crew
 all_came now n end old new crew all so_far at books = same_where _ _ old.crew new.crew (λ place. each place (cases_lt place n)) (so_far at books) where
   each : (place : ℕ) → (place < n) ⊎ (n ≤ place) → (nat_lt place n && runs_at old now place) ≡ runs_at old now place
   each place (inl lt) = let b : nat_lt place n ≡ true = grind (arith, nat_tests) in ap (λ x. x && runs_at old now place) b

@@ -34,3 +34,4 @@ pub mod Lasting
 pub mod PollsRight
 pub mod Came
 pub mod CameFor
+pub mod Counted

@@ -1,5 +1,5 @@
 -- How much of what came waits for the workers' turns, by the place of each, from 0: what comes adds one, and a turn takes one thing in.
-use Rattle.std.specs.Prelude.{◌≡◌, ◌≢◌, ℕ, ◌+◌, ◌-◌, ◌≤◌, Bool, true, false, is_some, List, [], ◌∷◌, Option, Some, None}
+use Rattle.std.specs.Prelude.{◌≡◌, ◌≢◌, ℕ, ◌+◌, ◌-◌, ◌≤◌, ◌⊎◌, Bool, true, false, is_some, List, [], ◌∷◌, Option, Some, None}
 use Rattle.line_model.specs.ClientView.{Deed, Puts, Takes, Loses, Nothing}
 use Rattle.line_model.specs.Moments.{Moment}
 use Rattle.hub_work.specs.declared.crew.Held.{Held}
@@ -29,6 +29,10 @@ after_coming false n = n
 -- one more for each worker at whose place this holds, and for no other
 abbrev pub RisesWhere : (ℕ → Bool) → List (Option Held) → List (Option Held) → Type 0
 RisesWhere came old new = (place : ℕ) → waiting_at new place ≡ after_coming (came place) (waiting_at old place)
+
+-- for each worker as before, or one more
+abbrev pub OneEach : List (Option Held) → List (Option Held) → Type 0
+OneEach old new = (place : ℕ) → (waiting_at new place ≡ waiting_at old place) ⊎ (waiting_at new place ≡ counted (waiting_at old place))
 
 -- one less for the worker, from 1, where something waits for it
 pub record TakesOneIn (worker : ℕ) (old new : List (Option Held)) : Type 0 where

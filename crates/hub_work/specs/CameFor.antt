@@ -1,10 +1,18 @@
 -- For which workers something came, by the place of each, from 0: the frame of a device is for one that holds a job of it, a confirmation for the one
--- that put last, and the loss of the channel for each whose attempt runs.
-use Rattle.std.specs.Prelude.{◌≡◌, ℕ, ◌+◌, Bool, true, false, not, ◌&&◌, ◌==◌, List, [], ◌∷◌, Option, Some, None}
+-- that put last, and the loss of the channel for each whose attempt runs. And the same by record and log.
+use Rattle.std.specs.Prelude.{◌≡◌, ℕ, ◌+◌, ◌<◌, Bool, true, false, not, ◌&&◌, ◌==◌, List, [], ◌∷◌, Option, Some, None}
 use Rattle.knx_model.specs.declared.address.IndAddr.{IndAddr}
+use Rattle.knx_model.specs.declared.connection.TransportFrame.{TransportFrame}
 use Rattle.knx_model.specs.declared.frames.cemi.Ldata.{Ldata}
 use Rattle.knx_model.specs.declared.frames.cemi.LdataCode.{LdataCode}
 use Rattle.knx_model.specs.declared.frames.cemi.LdataCode.TheVariants.{Req, Con, Ind}
+use Rattle.line_model.specs.declared.log.LogEntry.{LogEntry}
+use Rattle.line_model.specs.Reading.{ldata_in}
+use Rattle.line_model.specs.ClientView.{Deed, Takes, Loses}
+use Rattle.line_model.specs.Moments.{Moment, between, heard_from, confirmation_in}
+use Rattle.line_model.specs.Log.{Job}
+use Rattle.line_model.specs.Attempts.{Attempt, Attempts, Running, attempts}
+use Rattle.line_model.specs.Waiting.{IsHeldJob}
 use Rattle.download_core.specs.declared.did.Did.{Did}
 use Rattle.download_core.specs.declared.did.Did.TheVariants as did
 use Rattle.download_core.specs.Attempt.{DownloaderState}
@@ -13,8 +21,10 @@ use Rattle.hub_work.specs.declared.work.Sender.{Sender}
 use Rattle.hub_work.specs.declared.work.Sender.TheVariants.{Nobody, Worker, GroupThread}
 use Rattle.hub_work.specs.declared.work.Work.{Work}
 use Rattle.hub_work.specs.Books.{held_at, is_of_device}
-use Rattle.hub_work.specs.Came.{holds_at, RisesWhere}
+use Rattle.hub_work.specs.Came.{waiting_at, holds_at, RisesWhere}
+use Rattle.hub_work.specs.Closes.{counted}
 use Rattle.hub_work.specs.Downloaders.{states}
+use Rattle.hub_work.specs.Fits.{Fits}
 use Rattle.hub_work.specs.Polls.{next_of_job}
 use Rattle.hub_work.specs.Works.{KeepsBooks}
 
@@ -42,8 +52,8 @@ FrameComes sender Con group source old new = IsConfirmed sender old new
 FrameComes sender Ind false source old new = ComesFrom (record { raw = source }) old new
 FrameComes sender Ind true source old new = new ≡ old
 
-abbrev pub Comes : Ldata → Work → Work → Type 0
-Comes frame old new = FrameComes old.sender frame.code frame.group frame.source old.crew new.crew
+abbrev pub Comes : Ldata → Work → List (Option Held) → Type 0
+Comes frame old new = FrameComes old.sender frame.code frame.group frame.source old.crew new
 
 -- ---- the loss of the channel
 
@@ -69,5 +79,30 @@ runs_in all now (Some held) = runs (next_of_job all now held.job)
 abbrev pub runs_at : Work → ℕ → ℕ → Bool
 runs_at w now place = runs_in (states w.downloaders) now (held_at w.crew place)
 
-abbrev pub LossComes : ℕ → Work → Work → Type 0
-LossComes now old new = (at : ℕ) → KeepsBooks at old → RisesWhere (runs_at old now) old.crew new.crew
+abbrev pub LossComes : ℕ → Work → List (Option Held) → Type 0
+LossComes now old new = (at : ℕ) → KeepsBooks at old → RisesWhere (runs_at old now) old.crew new
+
+-- ---- by record: what a moment did is for a job with this device, of which so much was done before it
+
+pub data IsFor (device : ℕ) (t : Attempts) (what : Deed) : Type 0 where
+  OfDevice : (frame : TransportFrame) → heard_from device what ≡ Some frame → IsFor device t what
+  OfConfirmation : (k : ℕ) (a : Attempt) (frame : TransportFrame) (error : Bool) → t ≡ Running k a → a.flying ≡ Some frame → confirmation_in what ≡ Some error → IsFor device t what
+  OfLoss : (k : ℕ) (a : Attempt) → t ≡ Running k a → what ≡ Loses → IsFor device t what
+
+-- this moment, after those, is for the job that the worker at a place holds
+pub record IsForHolder (jobs : List Job) (log : List LogEntry) (crew : List (Option Held)) (place : ℕ) (m : Moment) (l : List Moment) : Type 0 where
+  pub held : Held
+  pub there : Some held ≡ held_at crew place
+  pub job : Job
+  pub since : ℕ
+  pub holds : IsHeldJob jobs log held.job job since
+  pub is_for : IsFor job.device.raw (attempts job.device job.plan (between since m.at l)) m.what
+
+-- it is counted
+abbrev pub Counts : Work → List (Option Held) → Deed → Type 0
+Counts old new what =
+    (jobs : List Job) (now at place : ℕ) (m : Moment) (l : List Moment) → KeepsBooks at old → Fits jobs old now at l → m.what ≡ what → at < m.at → IsForHolder jobs old.journal.entries old.crew place m l
+    → waiting_at new place ≡ counted (waiting_at old.crew place)
+
+abbrev pub CountsFrame : Work → List (Option Held) → Ldata → Type 0
+CountsFrame old new frame = (octets : List ℕ) → ldata_in octets ≡ Some frame → Counts old new (Takes octets)

@@ -1,11 +1,11 @@
 //! What comes for the jobs and the group telegrams.
 
 ghost use Rattle.std.specs.Prelude.{◌≡◌, ◌==◌, ◌&&◌, Some, ℕ};
-ghost use Rattle.line_model.specs.ClientView.{indication_of};
+ghost use Rattle.line_model.specs.ClientView.{Loses, indication_of};
 ghost use Rattle.hub_work.specs.Follows.{FrameFollows, LossFollows};
 ghost use Rattle.hub_work.specs.Books.{held_at};
 ghost use Rattle.hub_work.specs.Came.{RisesWhere};
-ghost use Rattle.hub_work.specs.CameFor.{Comes, ComesFrom, IsConfirmed, LossComes, is_connect, runs, runs_at};
+ghost use Rattle.hub_work.specs.CameFor.{Comes, ComesFrom, Counts, CountsFrame, IsConfirmed, LossComes, is_connect, runs, runs_at};
 ghost use Rattle.hub_work.specs.Comes.{ConfirmationFollows, HearingFollows, lost_for};
 ghost use Rattle.hub_work.specs.Crew.{holdings};
 ghost use Rattle.hub_work.specs.Downloaders.{states};
@@ -26,7 +26,8 @@ impl Work {
         ensures heard { result ≡ indication_of (Some frame.now) }
         ensures books { SameBooks self.old self.new }
         ensures follows { FrameFollows self.old self.new frame.now now }
-        ensures came { Comes frame.now self.old self.new }
+        ensures came { Comes frame.now self.old self.new.crew }
+        ensures counts { CountsFrame self.old self.new.crew frame.now }
     {
         of_a_downloader();
         match frame.code {
@@ -77,7 +78,8 @@ impl Work {
     pub fn lost(&mut self, now: u64)
         ensures books { SameBooks self.old self.new }
         ensures follows { (then : ℕ) → LossFollows self.old self.new then }
-        ensures came { LossComes now self.old self.new }
+        ensures came { LossComes now self.old self.new.crew }
+        ensures counts { Counts self.old self.new.crew Loses }
     {
         of_a_downloader();
         self.sender = Sender::Nobody;

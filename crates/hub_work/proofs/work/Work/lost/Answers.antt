@@ -3,6 +3,7 @@ use Rattle.download_core.specs.Attempt.{DownloaderState}
 use Rattle.hub_work.specs.Crew.{holdings}
 use Rattle.hub_work.specs.Downloaders.{states}
 use Rattle.hub_work.proofs.CameFor.{leaves_others, one_more_came, all_came}
+use Rattle.hub_work.proofs.Counted.{loss_counts}
 use Rattle.hub_work.proofs.Lost.{LostSoFar, one_more_lost, loss_follows}
 use Rattle.hub_work.proofs.Moments.{books_again}
 use Rattle.hub_work.proofs.work.Work.lost.Goals as goal
@@ -24,3 +25,6 @@ returns-clause-follows c then = loss_follows c.of_a_downloader.ensures c.args.se
 
 pub returns-clause-came : goal.returns-clause-came
 returns-clause-came c = all_came c.args.now c.loop-place.place c.len-place-end.result c.args.self.now c.loop-place.self c.len-place-end.ensures c.loop-place-test.false c.loop-place.invariant.came
+
+pub returns-clause-counts : goal.returns-clause-counts
+returns-clause-counts c = loss_counts c.of_a_downloader.ensures c.args.self.now c.loop-place.self.crew c.args.now (returns-clause-came c)
