@@ -74,7 +74,7 @@ where_each f old new r place = by_test (f place) (r place) where
   by_test true is = inr is
   by_test false is = inl is
 
-same_each : (old new : List (Option Held)) → new ≡ old → OneEach old new
+pub same_each : (old new : List (Option Held)) → new ≡ old → OneEach old new
 same_each old new same place = inl (ap (λ crew. waiting_at crew place) same)
 
 frame_each : (sender : Sender) (code : LdataCode) (group : Bool) (source : ℕ) (old new : List (Option Held)) → FrameComes sender code group source old new → OneEach old new
@@ -188,7 +188,7 @@ module _ (n : ℕ) (old cur new : Work) (same : holdings cur.crew ≡ holdings o
         let one : x.0 ≡ h = some_is x.0 h (x.1 ∙ sym ep) in
         let job : h.job ≡ g.job = sym (ap (λ (y : Held). y.job) one) ∙ x.2 in
         let there : downloader_of (states cur.downloaders) g.job ≡ downloader_of (states old.downloaders) g.job =
-            others g.job (λ place y lt e its. let here : place ≡ n = held_once old at place n y h books e ep (its ∙ sym job) in omega (arith, lt, here)) in
+        others g.job (λ place y lt e its. let here : place ≡ n = held_once old at place n y h books e ep (its ∙ sym job) in omega (arith, lt, here)) in
         ap (λ (o : Option DownloaderState). runs (option_map (λ (s : DownloaderState). next_did s now) o)) there ∙ ap (λ k. runs (next_of_job (states old.downloaders) now k)) (sym job)
 
     one_more_place : RisesWhere (λ place. nat_lt place n && runs_at old now place) old.crew cur.crew → RisesWhere (λ other. eqb other n && runs_at cur now other) cur.crew new.crew → RisesWhere (λ place. nat_lt place (n + 1) && runs_at old now place) old.crew new.crew

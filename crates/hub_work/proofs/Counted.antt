@@ -1,8 +1,7 @@
 -- By record and log, what is for a worker's job is counted.
-use Rattle.std.proofs.Common.{◌≡◌, ◌≢◌, ◌⊎◌, inl, inr, ℕ, suc, ◌+◌, ◌<◌, ◌≤◌, eqb, Bool, true, false, List, [], ◌∷◌, Option, Some, None, refl, sym, ap, subst, ◌∙◌, arith}
+use Rattle.std.proofs.Common.{◌≡◌, inl, inr, ℕ, suc, ◌+◌, ◌<◌, eqb, Bool, true, false, List, [], ◌∷◌, Option, Some, None, refl, sym, ap, subst, ◌∙◌, arith}
 use Rattle.std.specs.Prelude.{◌&&◌, is_some, not, option_map}
 use Rattle.std.proofs.lemmas.Bool.{cases_eq, eq-eqb, ne_eqb}
-use Rattle.std.proofs.lemmas.Bool.Decides.{nat_tests}
 use Rattle.knx_model.specs.declared.address.IndAddr.{IndAddr}
 use Rattle.knx_model.specs.declared.connection.TransportFrame.{TransportFrame}
 use Rattle.knx_model.specs.declared.connection.TransportFrame.TheVariants as frame
@@ -11,35 +10,32 @@ use Rattle.knx_model.specs.declared.frames.cemi.LdataCode.{LdataCode}
 use Rattle.knx_model.specs.declared.frames.cemi.LdataCode.TheVariants.{Req, Con, Ind}
 use Rattle.knx_model.specs.ClientConnection.{ClientEnd, Ended as NoConnection}
 use Rattle.knx_model.specs.Connection.{frame_in}
-use Rattle.line_model.specs.declared.log.LogEntry.{LogEntry}
-use Rattle.line_model.specs.Reading.{ldata_in, is_con, is_ind}
-use Rattle.line_model.specs.ClientView.{Takes, Loses, Nothing}
+use Rattle.line_model.specs.Reading.{is_con, is_ind}
+use Rattle.line_model.specs.ClientView.{Loses, Nothing}
 use Rattle.line_model.specs.Moments.{Moment, between, is_loss, heard_from, confirmation_in}
-use Rattle.line_model.specs.Log.{Job, Held, job_of, state_of}
+use Rattle.line_model.specs.Log.{Job, Held}
 use Rattle.line_model.specs.Attempts as line
 use Rattle.line_model.specs.Attempts.{Attempts, attempts, MayPut}
-use Rattle.line_model.specs.Waiting.{IsHeldJob, IsResting}
+use Rattle.line_model.specs.Waiting.{IsResting}
 use Rattle.download_core.specs.declared.did.Did.{Did}
 use Rattle.download_core.specs.declared.did.Did.TheVariants as did
 use Rattle.download_core.specs.declared.flight.Flight.{Flight}
 use Rattle.download_core.specs.declared.flight.Flight.TheVariants as flight
 use Rattle.download_core.specs.declared.signs.Signs.{Signs}
-use Rattle.download_core.specs.Attempt.{Attempt, Phase, Resting, Running, Closing, Leaving, Ended, DownloaderState}
+use Rattle.download_core.specs.Attempt.{Phase, Resting, Running, Closing, Leaving, Ended, DownloaderState}
 use Rattle.download_core.specs.Fits.{FitsPhase, IsFlight}
 use Rattle.download_core.specs.Follows.{IsMoment, flies, is_in_flight}
 use Rattle.download_core.specs.Record.{FitsRecord}
 use Rattle.download_core.specs.Tells.{is_end}
-use Rattle.download_core.specs.Steps.{next_did, phase_did}
+use Rattle.download_core.specs.Steps.{next_did}
 use Rattle.hub_work.specs.declared.crew.Held.{Held as Holds}
-use Rattle.hub_work.specs.declared.work.Sender.{Sender}
-use Rattle.hub_work.specs.declared.work.Sender.TheVariants.{Worker}
 use Rattle.hub_work.specs.declared.work.Work.{Work}
 use Rattle.hub_work.specs.Books.{held_at, is_of_device}
 use Rattle.hub_work.specs.Came.{waiting_at, holds_at, after_coming, RisesWhere}
 use Rattle.hub_work.specs.CameFor.{ComesFrom, ForHolder, ForNobody, FrameComes, Comes, has_put, is_connect, runs, runs_in, runs_at, LossComes, IsFor, OfDevice, OfConfirmation, OfLoss, IsForHolder, Counts, CountsFrame}
 use Rattle.hub_work.specs.Closes.{counted}
 use Rattle.hub_work.specs.Comes.{Confirms, Hears, IsNothing}
-use Rattle.hub_work.specs.Downloaders.{states, downloader_of}
+use Rattle.hub_work.specs.Downloaders.{states}
 use Rattle.hub_work.specs.Fits.{Fits, FitsJob}
 use Rattle.hub_work.specs.Laws.{Laws}
 use Rattle.hub_work.specs.Works.{KeepsBooks}
