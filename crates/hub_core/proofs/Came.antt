@@ -18,7 +18,7 @@ use Rattle.tunnel_link.specs.declared.came.Loss.{Loss}
 use Rattle.tunnel_link.specs.declared.came.Loss.TheVariants.{Stays, Ended, Told}
 use Rattle.tunnel_link.specs.declared.came.What.{What}
 use Rattle.tunnel_link.specs.declared.came.What.TheVariants as came
-use Rattle.tunnel_link.specs.Adds.{place_of, Growing, Added, moments_on, IsNothing, AllNothing, One, TakesAt, TakesUnread, OrLoses, DoesSo, PollAdds, Acts, Seeks, Leaves}
+use Rattle.tunnel_link.specs.Adds.{place_of, Growing, moments_on, IsNothing, AllNothing, One, TakesAt, TakesUnread, OrLoses, DoesSo, PollAdds, Acts, Seeks, Leaves}
 use Rattle.tunnel_link.specs.Goes.{GoesOn}
 use Rattle.tunnel_link.specs.Rights.{WhereTold}
 use Rattle.tunnel_link.proofs.Acting.{grows_then, nothing_two}
@@ -37,12 +37,11 @@ use Rattle.hub_work.proofs.Came.{by_more, stays_by}
 use Rattle.hub_work.proofs.CameFor.{same_each, where_each, comes_each, each_at_most}
 use Rattle.hub_core.specs.Came.{CountsTaken, CountsLoss, CountsIn, ComesSo, Comes}
 use Rattle.hub_core.specs.Keeps.{Keeps}
-use Rattle.hub_core.specs.Seen.{Seen, SameRun, AreJobs, hub_job_of}
+use Rattle.hub_core.specs.Seen.{Seen, SameRun, hub_job_of}
 use Rattle.hub_core.specs.Taking.{place_or, Rise}
 use Rattle.hub_core.proofs.Counting.{places_ascend}
 use Rattle.hub_core.proofs.Ascending.{Ascend}
 use Rattle.hub_core.proofs.Following.{rising, rise_parts, asides}
-use Rattle.hub_core.proofs.Keeps.{books_same}
 use Rattle.hub_core.proofs.Polls.{grows_as, jobs_back}
 use Rattle.hub_core.proofs.Quiet.{FitsThen, aside_fits, nothing_aside}
 use Rattle.hub_core.proofs.View.{seen_tasks}

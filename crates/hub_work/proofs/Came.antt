@@ -1,5 +1,5 @@
 -- How much waits for the workers, as one worker's part is written.
-use Rattle.std.proofs.Common.{◌≡◌, ◌≢◌, inl, inr, ℕ, zero, suc, ◌+◌, ◌-◌, ◌≤◌, eqb, Bool, true, false, List, [], ◌∷◌, set, Option, Some, None, refl, sym, ap, subst, ◌∙◌, arith}
+use Rattle.std.proofs.Common.{◌≡◌, ◌≢◌, inl, inr, ℕ, zero, suc, ◌-◌, ◌≤◌, eqb, Bool, true, false, List, [], ◌∷◌, set, Option, Some, None, refl, sym, ap, subst, ◌∙◌, arith}
 use Rattle.std.specs.Prelude.{◌&&◌, is_some}
 use Rattle.std.proofs.lemmas.Bool.{cases_eq, eq-eqb, ne_eqb}
 use Rattle.hub_work.specs.declared.crew.Held.{Held}
@@ -104,6 +104,3 @@ none_taken_in crew new worker same none = record { here = (let s = same (worker 
 
 pub by_more : (m n : ℕ) (old new : List (Option Held)) → m ≤ n → RisesBy m old new → RisesBy n old new
 by_more m n old new le r place = let h = r place in omega (arith, h, le)
-
-pub by_both : (m n : ℕ) (a b c : List (Option Held)) → RisesBy m a b → RisesBy n b c → RisesBy (m + n) a c
-by_both m n a b c r s place = let x = r place in let y = s place in omega (arith, x, y)
