@@ -243,7 +243,7 @@ pub fn knx<R: Wait, F: Files, K: Sink, D: Dialer>(
     // a run ends without its end exactly at a cause, and else every job has its end
     ensures fault { HasRunOf HasFaultRight (map string_bytes words.now) (F.file files.old) sim.old (record { line = sim.new; report = last.new }) }
     ensures over { HasRunOf EndsEveryJob (map string_bytes words.now) (F.file files.old) sim.old (record { line = sim.new; report = last.new }) }
-    // that the link failed is told of `sim` only where a call of the simulated line failed
+    // that the link failed is told of `sim` only at the last time of 64 bits, where a call of the simulated line failed
     ensures link { (names : SimWords) → asked (map string_bytes words.now) ≡ Some (AskedSim names) → FaultsOfLine last.new sim.new }
     // only `sim` runs over the simulated line, and only `download` dials; other words begin no run
     ensures line { ((names : SimWords) → asked (map string_bytes words.now) ≢ Some (AskedSim names)) → sim.new ≡ sim.old }
