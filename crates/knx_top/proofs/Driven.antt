@@ -1,9 +1,11 @@
 -- A run that one caller of the hub drives over the simulated line: what is promised of it, in the words of its commission.
-use Rattle.std.proofs.Common.{◌≡◌, List, [], ◌∷◌, ◌++◌, map, None, refl, sym, ap, ◌∙◌, subst}
+use Rattle.std.proofs.Common.{◌≡◌, ℕ, inl, inr, List, [], ◌∷◌, ◌++◌, map, Option, Some, None, refl, sym, ap, ◌∙◌, subst, arith}
+use Rattle.std.specs.Prelude.{IfSome}
 use Rattle.bus_sim.specs.Loaded.{BusNow}
 use Rattle.bus_sim.specs.declared.clients.Clients.{Clients}
 use Rattle.bus_sim.specs.declared.clients.Clients.TheVariants.{One, Any}
 use Rattle.bus_sim.specs.Begun.{mode_of}
+use Rattle.bus_sim.specs.Ended.{FailsAtEnd}
 use Rattle.bus_sim.specs.RunNow.{RunNow, mode, script, start, story, story_of}
 use Rattle.hub_core.specs.Promises.{IsRightOver, FaultRightIn, DropsIn}
 use Rattle.hub_core.specs.Seen.{AreJobs}
@@ -15,6 +17,9 @@ use Rattle.hub_work.specs.declared.job.HubJob.{HubJob}
 use Rattle.hub_work.specs.Books.{AreJobsOf}
 use Rattle.hub_work.specs.Downloaders.{Task, task_of_hub_job}
 use Rattle.knx_model.specs.declared.address.IndAddr.{IndAddr}
+use Rattle.knx_model.specs.Outside.{Rose}
+use Rattle.line_model.specs.declared.fault.HubFault.{HubFault}
+use Rattle.line_model.specs.declared.fault.HubFault.TheVariants.{LinkFailed}
 use Rattle.line_model.specs.declared.log.LogEntry.{LogEntry}
 use Rattle.line_model.specs.declared.log.Report.{Report}
 use Rattle.line_model.specs.Follows.{Follows}
@@ -29,10 +34,10 @@ use Rattle.line_model.specs.StartOf.{BusOf}
 use Rattle.line_model.specs.Tunnel.{Commissions}
 use Rattle.line_model.specs.World.{World, Event}
 use Rattle.tunnel_link.specs.Goes.{GoesOn}
-use Rattle.tunnel_link.specs.Rights.{WhereTold}
+use Rattle.tunnel_link.specs.Rights.{FailsWhere, WhereTold}
 use Rattle.knx_top.specs.Begun.{IsOrder}
 use Rattle.knx_top.specs.Jobs.{seen_job}
-use Rattle.knx_top.specs.Ran.{IsRunOf, KeepsPromises, Ran, log_in}
+use Rattle.knx_top.specs.Ran.{FailsAtLast, IsRunOf, KeepsPromises, Ran, log_in}
 use Rattle.knx_top.specs.Stops.{Commission}
 use Rattle.knx_top.specs.declared.judge.Order.{Order}
 use Rattle.knx_top.proofs.Meanings.{devices_mean, done_means}
@@ -84,6 +89,25 @@ same_start before after one goes =
   where
     one_start : (one other : World) (events more : List Event) → Full one events ≡ Full other more → one ≡ other
     one_start one other events more e = cc
+
+-- ---- the link failed only at the end of the run
+
+fails_last : (fault : HubFault) (line : BusNow) → line.run.begun.clients ≡ One → FailsAtEnd line.faults line.run → FailsWhere fault 0 line.faults → FailsAtLast fault line
+fails_last LinkFailed line one (inl none) rose = absurd (none_rose line.faults none rose)
+  where
+    none_rose : (n : ℕ) → n ≡ 0 → Rose 0 n → ⊥
+    none_rose n none (inl more) = omega (arith, none, more)
+    none_rose n none (inr greatest) = omega (arith, none, greatest)
+fails_last LinkFailed line one (inr (inl end)) rose = (end, rose)
+fails_last LinkFailed line one (inr (inr serves)) rose = absurd (not_both (sym one ∙ serves))
+  where
+    not_both : One ≡ Any → ⊥
+    not_both e = cc
+fails_last fault line one ends rose = tt
+
+pub faults_last : (told : Option HubFault) (line : BusNow) → line.run.begun.clients ≡ One → FailsAtEnd line.faults line.run → IfSome told (λ fault. FailsWhere fault 0 line.faults) → IfSome told (λ fault. FailsAtLast fault line)
+faults_last None line one ends cause = tt
+faults_last (Some fault) line one ends cause = fails_last fault line one ends cause
 
 -- ---- the premises, and what is promised
 

@@ -230,7 +230,7 @@ pub fn knx<R: Wait, F: Files, K: Sink, D: Dialer>(
     ensures fault { HasRunOf HasFaultRight (map string_bytes words.now) (F.file files.old) sim.old (record { line = sim.new; report = last.new }) }
     ensures over { HasRunOf EndsEveryJob (map string_bytes words.now) (F.file files.old) sim.old (record { line = sim.new; report = last.new }) }
     ensures closed { HasRunOf ClosesToItsEnd (map string_bytes words.now) (F.file files.old) sim.old (record { line = sim.new; report = last.new }) }
-    // that the link failed is told of `sim` only where a call of the simulated line failed
+    // that the link failed is told of `sim` only at the last time of 64 bits, where a call of the simulated line failed
     ensures link { (names : SimWords) → asked (map string_bytes words.now) ≡ Some (AskedSim names) → FaultsOfLine last.new sim.new }
     // only `sim` and `gateway` begin the simulated line anew, only `download` and `gateway` reach a network, and only `sim` and `download` begin a run
     ensures line { ((names : SimWords) → asked (map string_bytes words.now) ≢ Some (AskedSim names)) → ((names : GatewayWords) → asked (map string_bytes words.now) ≢ Some (AskedGateway names)) → sim.new ≡ sim.old }
