@@ -84,7 +84,8 @@ def served(words, files):
     texts = [read(files, name) for name in words[1:3]]
     models = models_in(models[0]) if models else {}
     old = judged("old", Project, texts[0], models)
-    Run(old, old, judged("script", script_of, texts[1]), False, [])
+    # lines with `group` have no effect
+    Run(old, old, [it for it in judged("script", script_of, texts[1]) if not it[1].endswith("group")], False, [])
     raise Stop(*DIALS)
 
 

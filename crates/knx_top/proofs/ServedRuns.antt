@@ -9,7 +9,12 @@ use Rattle.bus_sim.specs.Loaded.{BusNow}
 use Rattle.bus_sim.specs.RunNow.{RunNow, mode, script, start}
 use Rattle.bus_sim.specs.Serving.{BreaksOff, FailsAt, ServedSo, served_beginning}
 use Rattle.knx_model.specs.declared.command.Stop.{Stop}
+use Rattle.knx_model.specs.declared.command.Stop.TheVariants as stop
+use Rattle.knx_model.specs.declared.no_memory.NoMemory.{NoMemory}
+use Rattle.knx_model.specs.declared.status.Status.{Status}
+use Rattle.knx_model.specs.declared.status.Status.TheVariants as status
 use Rattle.knx_model.specs.Outside.{FileContent}
+use Rattle.knx_model.specs.ReportText.{stop_text}
 use Rattle.line_model.specs.declared.outside.port.PortFault.{PortFault}
 use Rattle.line_model.specs.declared.outside.port.PortFault.TheVariants as fault
 use Rattle.line_model.specs.Dialled.{Address, TakesBack, Tells}
@@ -22,13 +27,14 @@ use Rattle.line_model.specs.StartOf.{BusOf}
 use Rattle.line_model.specs.Tunnel.{Mode, Serves as AtPort}
 use Rattle.line_model.specs.World.{World, Event}
 use Rattle.knx_top.specs.Begun.{BeginsLine}
-use Rattle.knx_top.specs.Bound.{end_of_serving, wanting_end}
-use Rattle.knx_top.specs.Call.{AtMostOneRose}
+use Rattle.knx_top.specs.Bound.{IsTextOfEnd, RepliesServedOf, end_of_serving, wanting_end}
+use Rattle.knx_top.specs.Call.{AtMostOneRose, Writes}
 use Rattle.knx_top.specs.Command.{Command, Gateway as AskedGateway, GatewayWords}
 use Rattle.knx_top.specs.Dialled.{DialerNow}
 use Rattle.knx_top.specs.Gateway.{GatewayEnd, Stopped, NotBound, Ended, OpenTurns, Failed, Unserved, Unshown, HasCause, IsServed, RunsGateway, Service, Serves, ServesOr, ServesTo, ServedRun, Serving, StopsFor, gateway_tests, gateway_told, judged_gateway}
 use Rattle.knx_top.specs.Input.{GatewayIsRead, OnlyRose, failed_of_gateway}
 use Rattle.knx_top.specs.declared.input.GatewayTexts.{GatewayTexts}
+use Rattle.knx_top.specs.declared.tell.Text.{Text}
 use Rattle.knx_top.proofs.DialledRuns.{to_address}
 use Rattle.knx_top.proofs.Services.{judged_gateway_is}
 use Rattle.knx_top.proofs.Stops.{stopped_by, stopped_by_none, unless_stopped}
@@ -168,6 +174,16 @@ serves_wants s before after line line' Unshown h = h
 comes_wanting : (j : Result Service Stop) (before after : DialerNow) (line line' : BusNow) (ending : GatewayEnd) → ServesOr j before after line line' ending → ServesOr j before after line line' (wanting_end ending)
 comes_wanting (Err why) before after line line' ending h = (stop_wants why ending h.0, h.1, h.2)
 comes_wanting (Ok s) before after line line' ending h = serves_wants s before after line line' ending h
+
+-- ---- what is written
+
+-- that all turns were used is written, or that there was no memory for it
+pub turns_told : (turns : ℕ) (text : Result Text NoMemory) (faults faults' : ℕ) (taken taken' : Option (List ℕ)) (told : Status) → IfOk text (λ p. IsTextOfEnd (OpenTurns turns) p.octets p.status)
+    → IfOk text (λ p. Writes p.octets p.status faults faults' taken taken' told) → IfErr text (λ _. Writes (stop_text (stop.NoMemory tt)) (status.NoMemory tt) faults faults' taken taken' told)
+    → RepliesServedOf faults faults' taken taken' told (OpenTurns turns)
+turns_told turns (Ok text) faults faults' taken taken' told is writes wants =
+    inl (subst (λ (t : List ℕ). Writes t status.OpenTurns faults faults' taken taken' told) is.0 (subst (λ (s : Status). Writes text.octets s faults faults' taken taken' told) is.1 writes))
+turns_told turns (Err want) faults faults' taken taken' told is writes wants = inr wants
 
 -- ---- the whole of it
 

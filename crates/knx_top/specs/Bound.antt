@@ -31,12 +31,16 @@ end_of (ended.OpenTurns turns) = OpenTurns turns
 end_of ended.Failed = Failed
 end_of (ended.Unserved want) = Unserved
 
+-- the end of a serving that broke off so
+abbrev pub end_of_fault : PortFault → GatewayEnd
+end_of_fault fault.Failed = Failed
+end_of_fault (fault.NoMemory want) = Unserved
+
 -- the end of a serving of at most so many turns
 abbrev pub end_of_serving : ℕ → Result Served PortFault → GatewayEnd
 end_of_serving turns (Ok served.Ended) = Ended
 end_of_serving turns (Ok served.OpenTurns) = OpenTurns turns
-end_of_serving turns (Err fault.Failed) = Failed
-end_of_serving turns (Err (fault.NoMemory want)) = Unserved
+end_of_serving turns (Err why) = end_of_fault why
 
 -- ---- what is written of it
 

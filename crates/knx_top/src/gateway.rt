@@ -5,7 +5,7 @@ ghost use Rattle.knx_model.specs.declared.command.Stop.TheVariants.{NoMemory as 
 ghost use Rattle.knx_model.specs.Outside.{one_more};
 ghost use Rattle.line_model.specs.PortStory.{IsNewPort};
 ghost use Rattle.knx_top.specs.Begun.{BeginsLine};
-ghost use Rattle.knx_top.specs.Bound.{IsTextOfEnd, LineFor, RepliesServedOf, end_of, end_of_serving};
+ghost use Rattle.knx_top.specs.Bound.{IsTextOfEnd, LineFor, RepliesServedOf, end_of, end_of_fault, end_of_serving};
 ghost use Rattle.knx_top.specs.Gateway.{GatewayEnd, RepliesServed, RunsGateway, Serves, ServesOr, Service, Serving, judged_gateway, open_line, with_lines};
 ghost use Rattle.knx_top.specs.Names.{address_of, gateway_words_of};
 
@@ -55,7 +55,7 @@ fn judge_script(
     ensures ok { IfOk result (λ line. LineFor (with_lines (gateway_words_of names.entry) old.now script.now.lines) line) }
     ensures err { IfErr result (λ why. why ≢ OutOfMemory tt → with_lines (gateway_words_of names.entry) old.now script.now.lines ≡ Err why) }
 {
-    let line = line_begun(alloc, old, old, script)?;
+    let line = line_begun(alloc, old, &*old, script)?;
     if has_groups(script.lines.as_slice()) {
         return Err(not_built(InputFile::Script));
     }
@@ -78,6 +78,16 @@ fn judge(alloc: Global, names: GatewayNames<'_>, texts: &GatewayTexts) -> Result
     Ok(line)
 }
 
+/// The end of a serving that broke off so.
+fn end_of_fault(fault: PortFault) -> ServiceEnd
+    ensures { end_of result ≡ end_of_fault fault }
+{
+    match fault {
+        PortFault::Failed => ServiceEnd::Failed,
+        PortFault::NoMemory(want) => ServiceEnd::Unserved(want),
+    }
+}
+
 /// The end of a serving of at most so many turns.
 fn end_of_serving(turns: u32, served: Result<Served, PortFault>) -> ServiceEnd
     ensures { end_of result ≡ end_of_serving turns served }
@@ -85,8 +95,7 @@ fn end_of_serving(turns: u32, served: Result<Served, PortFault>) -> ServiceEnd
     match served {
         Ok(Served::Ended) => ServiceEnd::Ended,
         Ok(Served::OpenTurns) => ServiceEnd::OpenTurns(turns),
-        Err(PortFault::Failed) => ServiceEnd::Failed,
-        Err(PortFault::NoMemory(want)) => ServiceEnd::Unserved(want),
+        Err(fault) => end_of_fault(fault),
     }
 }
 

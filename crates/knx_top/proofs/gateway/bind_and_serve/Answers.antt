@@ -1,3 +1,4 @@
+use Rattle.std.proofs.Common.{refl}
 use Rattle.knx_top.specs.Names.{address_of}
 use Rattle.knx_top.proofs.DialledRuns.{to_address}
 use Rattle.knx_top.proofs.ServedRuns.{bound}
