@@ -1,7 +1,5 @@
 -- What was judged for a gateway is served, or the call stops.
-use Rattle.std.proofs.Common.{ℕ, ◌≡◌, ◌≢◌, List, ◌∷◌, [], true, false, Option, Some, Result, Ok, Err, refl, sym, ap, ◌∙◌, inl, inr}
-use Rattle.std.specs.Prelude.{not}
-use Rattle.std.specs.List.{list_any}
+use Rattle.std.proofs.Common.{ℕ, ◌≡◌, ◌≢◌, List, ◌∷◌, [], Option, Some, Result, Ok, Err, refl, sym, ap, ◌∙◌, inl, inr}
 use Rattle.bus_sim.specs.Loaded.{BusNow}
 use Rattle.knx_model.specs.declared.catalogue.model.NamedModel.{NamedModel}
 use Rattle.knx_model.specs.declared.command.InputFile.TheVariants as file
@@ -16,11 +14,11 @@ use Rattle.knx_top.specs.Begun.{BeginsLine}
 use Rattle.knx_top.specs.Bound.{IsLineOf, LineFor}
 use Rattle.knx_top.specs.Command.{GatewayWords}
 use Rattle.knx_top.specs.Dialled.{DialerNow}
-use Rattle.knx_top.specs.Gateway.{GatewayEnd, Service, Serves, ServesOr, Stopped, after_catalogue, after_old, after_script, gateway_tests, gateway_told, judged_gateway, service, with_before, with_built, with_lines, with_models, with_old}
+use Rattle.knx_top.specs.Gateway.{GatewayEnd, Service, Serves, ServesOr, Stopped, after_catalogue, after_old, after_script, gateway_tests, gateway_told, judged_gateway, service, with_before, with_lines, with_models, with_old}
 use Rattle.knx_top.specs.Input.{fault_in, octets_of}
-use Rattle.knx_top.specs.Judged.{models_of, read_of, sound, unless_grouped, unless_refused, unless_strange}
+use Rattle.knx_top.specs.Judged.{models_of, read_of, sound, unless_refused, unless_strange}
 use Rattle.knx_top.specs.OnLine.{on_bus}
-use Rattle.knx_top.specs.Stops.{catalogue_refused, given_or, is_group_line, models_in, not_built, rule_broken, stranger_named, text_refused, unless_built}
+use Rattle.knx_top.specs.Stops.{catalogue_refused, given_or, models_in, rule_broken, stranger_named, text_refused}
 use Rattle.knx_top.specs.declared.input.GatewayTexts.{GatewayTexts}
 use Rattle.knx_top.proofs.Dialling.{is_memory}
 use Rattle.knx_top.proofs.Stops.{broken_step, failed_step, models_step, passed, read_step, step, text_step, unless_stopped}
@@ -28,12 +26,10 @@ use Rattle.knx_top.proofs.Stops.{broken_step, failed_step, models_step, passed, 
 -- ---- the tests
 
 lines_are : (words : GatewayWords) (before : Installation) (ls : List ScriptLine)
-    → with_lines words before ls ≡ unless_stopped (stranger_named (first_stranger (on_bus before before) ls) ∷ unless_built file.Script (not (list_any is_group_line ls)) ∷ []) (service words before ls)
+    → with_lines words before ls ≡ unless_stopped (stranger_named (first_stranger (on_bus before before) ls) ∷ []) (service words before ls)
 lines_are words before ls =
-    let t1 : Option Stop = stranger_named (first_stranger (on_bus before before) ls) in
-    let t2 : Option Stop = unless_built file.Script (not (list_any is_group_line ls)) in
-    step (t1 ∷ []) (t2 ∷ []) (unless_strange before before ls) ls (with_built words before ls) (service words before ls) (failed_step t1 ls)
-    (step (t2 ∷ []) [] (unless_grouped ls) ls (λ (built : List ScriptLine). Ok (service words before ls)) (service words before ls) (failed_step t2 ls) refl)
+    let stranger : Option Stop = stranger_named (first_stranger (on_bus before before) ls) in
+    step (stranger ∷ []) [] (unless_strange before before ls) ls (λ (known : List ScriptLine). Ok (service words before ls)) (service words before ls) (failed_step stranger ls) refl
 
 pub judged_gateway_is : (words : GatewayWords) (texts : GatewayTexts) → judged_gateway words texts ≡ unless_stopped (gateway_tests words texts) (gateway_told words texts)
 judged_gateway_is words texts =
@@ -48,7 +44,7 @@ judged_gateway_is words texts =
     let t5 : Option Stop = text_refused file.Old (reading old) in
     let t6 : Option Stop = rule_broken file.Old s.before in
     let t7 : Option Stop = text_refused file.Script (script_reading script) in
-    let rest : List (Option Stop) = stranger_named (first_stranger (on_bus s.before s.before) s.script) ∷ unless_built file.Script (not (list_any is_group_line s.script)) ∷ [] in
+    let rest : List (Option Stop) = stranger_named (first_stranger (on_bus s.before s.before) s.script) ∷ [] in
     step (t1 ∷ []) (t2 ∷ t3 ∷ t4 ∷ t5 ∷ t6 ∷ t7 ∷ rest) (read_of words.catalogue texts.catalogue) (octets_of texts.catalogue) (after_catalogue words texts) s (read_step words.catalogue texts.catalogue)
     (step (t2 ∷ []) (t3 ∷ t4 ∷ t5 ∷ t6 ∷ t7 ∷ rest) (read_of (Some words.old) texts.old) old (after_old words texts) s (read_step (Some words.old) texts.old)
     (step (t3 ∷ []) (t4 ∷ t5 ∷ t6 ∷ t7 ∷ rest) (read_of (Some words.script) texts.script) script (after_script words texts old) s (read_step (Some words.script) texts.script)
@@ -58,16 +54,10 @@ judged_gateway_is words texts =
     (step (t7 ∷ []) rest (unless_refused file.Script (script_reading script)) s.script (with_lines words s.before) s (text_step file.Script [] (script_reading script))
     (lines_are words s.before s.script)))))))
 
--- ---- the last tests
+-- ---- the last test
 
-pub stranger_ends : (words : GatewayWords) (before : Installation) (ls : List ScriptLine) (why : Stop) → (why ≢ stop.NoMemory tt → unless_strange before before ls ≡ Err why) → why ≢ stop.NoMemory tt → with_lines words before ls ≡ Err why
-stranger_ends words before ls why h w = rw (h w) refl
-
-pub groups_end : (words : GatewayWords) (before : Installation) (ls : List ScriptLine) (line : BusNow) → BeginsLine before before ls line.run → list_any is_group_line ls ≡ true → with_lines words before ls ≡ Err (not_built file.Script)
-groups_end words before ls line begins groups = rw (begins.known, groups) refl
-
-pub line_for : (words : GatewayWords) (before : Installation) (ls : List ScriptLine) (line : BusNow) → BeginsLine before before ls line.run → line.faults ≡ 0 → list_any is_group_line ls ≡ false → LineFor (with_lines words before ls) line
-line_for words before ls line begins sound groups = rw (begins.known, groups) (record { begins = begins; sound = sound })
+pub line_for : (words : GatewayWords) (before : Installation) (ls : List ScriptLine) (line : BusNow) → BeginsLine before before ls line.run → line.faults ≡ 0 → LineFor (with_lines words before ls) line
+line_for words before ls line begins sound = rw begins.known (record { begins = begins; sound = sound })
 
 -- ---- where the call stops before it binds
 

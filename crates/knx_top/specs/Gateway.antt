@@ -1,9 +1,8 @@
 -- What `gateway` does. It reads the catalogue, OLD and the script and tells the first test that fails; no port is bound then. Else it binds the port that its
 -- words name. Where that fails, a link fault is told, and nothing else. Else it serves the line that OLD and the script say, at that port, for at most
 -- so many turns, and hands the port back: all that is told is told of what that port told last. The dialer's count of faults takes in those of the port.
-use Rattle.std.specs.Prelude.{ℕ, ◌≡◌, ◌≤◌, ◌⊎◌, not, codes, List, [], ◌∷◌, Option, Some, None, Result, Ok, Err}
+use Rattle.std.specs.Prelude.{ℕ, ◌≡◌, ◌≤◌, ◌⊎◌, codes, List, [], ◌∷◌, Option, Some, None, Result, Ok, Err}
 use Rattle.std.specs.Fmt.{decimal}
-use Rattle.std.specs.List.{list_any}
 use Rattle.bus_sim.specs.declared.serve.Served.TheVariants as served
 use Rattle.bus_sim.specs.Loaded.{BusNow}
 use Rattle.bus_sim.specs.RunNow.{RunNow, start}
@@ -38,9 +37,9 @@ use Rattle.knx_top.specs.Call.{Writes}
 use Rattle.knx_top.specs.Command.{GatewayWords}
 use Rattle.knx_top.specs.Dialled.{DialerNow}
 use Rattle.knx_top.specs.Input.{GatewayIsRead, OnlyRose, failed_of_gateway, fault_in, first_some, octets_of}
-use Rattle.knx_top.specs.Judged.{installed, models_of, read_of, sound, unless_grouped, unless_refused, unless_strange}
+use Rattle.knx_top.specs.Judged.{installed, models_of, read_of, sound, unless_refused, unless_strange}
 use Rattle.knx_top.specs.OnLine.{on_bus}
-use Rattle.knx_top.specs.Stops.{catalogue_refused, is_group_line, lines_in, project_in, rule_broken, stranger_named, text_refused, unless_built}
+use Rattle.knx_top.specs.Stops.{catalogue_refused, lines_in, project_in, rule_broken, stranger_named, text_refused}
 use Rattle.knx_top.specs.declared.input.GatewayTexts.{GatewayTexts}
 
 -- ---- what is asked for, and the tests before it
@@ -69,7 +68,6 @@ gateway_tests words texts =
     ∷ rule_broken file.Old s.before
     ∷ text_refused file.Script (script_reading (octets_of texts.script))
     ∷ stranger_named (first_stranger (on_bus s.before s.before) s.script)
-    ∷ unless_built file.Script (not (list_any is_group_line s.script))
     ∷ []
 
 -- ---- how the call ends: it stops before it binds a port, or the port isn't bound; or the serving comes to its end, or uses all its turns before that, or
@@ -86,7 +84,8 @@ pub data GatewayEnd : Type 0 where
 
 -- ---- a serving at the port that came back
 
--- the line began as OLD and the script say, its devices loaded with OLD's images; what happened on it is legal where clients come to a port, and follows the script
+-- the line began as OLD and the script say, its devices loaded with OLD's images; what happened on it is legal where clients come to a port, and follows the script,
+-- whose lines with `group` call for nothing here
 pub record IsServed (s : Service) (r : RunNow) : Type 0 where
   pub begins : BusOf s.before s.before (script_of s.script) (start r)
   pub fresh : IsFresh (start r)
@@ -187,11 +186,8 @@ pub record RunsGateway (words : GatewayWords) (file : List ℕ → FileContent) 
 
 -- ---- the same tests one after another: what the code does
 
-abbrev pub with_built : GatewayWords → Installation → List ScriptLine → List ScriptLine → Result Service Stop
-with_built words before ls known = unless_grouped ls >>= λ built. Ok (service words before ls)
-
 abbrev pub with_lines : GatewayWords → Installation → List ScriptLine → Result Service Stop
-with_lines words before ls = unless_strange before before ls >>= with_built words before ls
+with_lines words before ls = unless_strange before before ls >>= λ known. Ok (service words before ls)
 
 abbrev pub with_before : GatewayWords → List ℕ → Installation → Result Service Stop
 with_before words script before = unless_refused file.Script (script_reading script) >>= with_lines words before

@@ -11,9 +11,9 @@ ghost use Rattle.knx_top.specs.Names.{address_of, gateway_words_of};
 
 use crate::command::GatewayNames;
 use crate::input::{GatewayTexts, read_gateway_texts};
-use crate::judge::{has_groups, script_in};
+use crate::judge::script_in;
 use crate::line::line_begun;
-use crate::project::{models_in, not_built, project_in, read_of, sound_in};
+use crate::project::{models_in, project_in, read_of, sound_in};
 use crate::tell::{LINK_FAULT, Text, tell, tell_or_want, text_of_stop};
 use bus_sim::{Served, SimBus};
 use knx_model::{
@@ -45,7 +45,7 @@ pub enum ServiceEnd {
     Unserved(NoMemory),
 }
 
-/// The last tests, of the devices that a script names and of its form, and the line that begins.
+/// The last test, of the devices that a script names, and the line that begins.
 fn judge_script(
     alloc: Global,
     names: GatewayNames<'_>,
@@ -56,9 +56,6 @@ fn judge_script(
     ensures err { IfErr result (λ why. why ≢ OutOfMemory tt → with_lines (gateway_words_of names.entry) old.now script.now.lines ≡ Err why) }
 {
     let line = line_begun(alloc, old, &*old, script)?;
-    if has_groups(script.lines.as_slice()) {
-        return Err(not_built(InputFile::Script));
-    }
     Ok(line)
 }
 

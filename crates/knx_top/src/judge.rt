@@ -54,7 +54,7 @@ pub fn script_in(alloc: Global, octets: &[u8]) -> Result<Script, Stop>
 }
 
 /// Whether a line of a script has a group telegram.
-pub fn has_groups(lines: &[ScriptLine]) -> bool
+fn has_groups(lines: &[ScriptLine]) -> bool
     ensures { result ≡ list_any is_group_line lines.now }
 {
     lines.iter().any(|line| is_group_line(line))
