@@ -48,12 +48,13 @@ serves_to turns (Ok served.OpenTurns) began r new_port port so broken = (refl, s
 serves_to turns (Err fault.Failed) began r new_port port so broken = broken
 serves_to turns (Err (fault.NoMemory want)) began r new_port port so broken = broken
 
-has_cause : (turns : ℕ) (result : Result Served PortFault) (port port' line line' : ℕ) → port ≡ 0 → line ≡ 0 → IfErr result (λ why. FailsAt why port port' line line') → OnOk result (line' ≡ line) → HasCause (end_of_serving turns result) port' line'
-has_cause turns (Ok served.Ended) port port' line line' unfailed sound cause still = still ∙ sound
-has_cause turns (Ok served.OpenTurns) port port' line line' unfailed sound cause still = still ∙ sound
-has_cause turns (Err fault.Failed) port port' line line' unfailed sound cause still =
-    subst (λ (n : ℕ). FailsAt fault.Failed n port' 0 line') unfailed (subst (λ (n : ℕ). FailsAt fault.Failed port port' n line') sound cause)
-has_cause turns (Err (fault.NoMemory want)) port port' line line' unfailed sound cause still = cause ∙ sound
+has_cause : (turns : ℕ) (result : Result Served PortFault) (port port' began : ℕ) (line : BusNow) → port ≡ 0 → began ≡ 0 → IfErr result (λ why. FailsAt why port port' began line.faults line.run) → OnOk result (line.faults ≡ began)
+    → HasCause (end_of_serving turns result) port' line
+has_cause turns (Ok served.Ended) port port' began line unfailed sound cause still = still ∙ sound
+has_cause turns (Ok served.OpenTurns) port port' began line unfailed sound cause still = still ∙ sound
+has_cause turns (Err fault.Failed) port port' began line unfailed sound cause still =
+    subst (λ (n : ℕ). FailsAt fault.Failed n port' 0 line.faults line.run) unfailed (subst (λ (n : ℕ). FailsAt fault.Failed port port' n line.faults line.run) sound cause)
+has_cause turns (Err (fault.NoMemory want)) port port' began line unfailed sound cause still = cause ∙ sound
 
 -- ---- the line is one where clients come to a port, or nothing happened on it
 
@@ -102,7 +103,7 @@ is_served s began r begins same says fresh legal follows at = record {
 pub serving : (s : Service) (turns : ℕ) (result : Result Served PortFault) (begun line : BusNow) (new_port port port_back : PortStory) (faults faults' since after : ℕ) (ending : GatewayEnd)
     → BeginsLine s.before s.before s.script begun.run → s.turns ≡ turns → IsNewPort new_port → faults ≡ 0 → begun.faults ≡ 0
     → IfOk result (λ as_served. ServedSo as_served turns begun.run line.run new_port port) → OnErr result (BreaksOff turns begun.run line.run new_port port)
-    → IfErr result (λ why. FailsAt why faults faults' begun.faults line.faults) → OnOk result (line.faults ≡ begun.faults)
+    → IfErr result (λ why. FailsAt why faults faults' begun.faults line.faults line.run) → OnOk result (line.faults ≡ begun.faults)
     → start line.run ≡ start begun.run → script line.run ≡ script begun.run → IsFresh (start line.run) → IsLegal (mode line.run) (start line.run) line.run.events → Follows (script line.run) (mode line.run) (start line.run) line.run.events
     → port_back ≡ port → TakesBack faults' since after → ending ≡ end_of_serving turns result → Serving s line port_back since after ending
 serving s turns result begun line new_port port port_back faults faults' since after ending begins most new unfailed sound so broken cause still same says fresh legal follows told taken ended = record {
@@ -114,7 +115,7 @@ serving s turns result begun line new_port port port_back faults faults' since a
   serves = rw (told, ended, most) (serves_to turns result begun.run line.run new_port port so broken);
   faults = faults';
   taken = taken;
-  cause = rw ended (has_cause turns result faults faults' begun.faults line.faults unfailed sound cause still);
+  cause = rw ended (has_cause turns result faults faults' begun.faults line unfailed sound cause still);
 }
 
 -- ---- the port was bound

@@ -103,11 +103,11 @@ ServesTo Unserved turns began r new_port port = BreaksOff turns began r new_port
 ServesTo (Stopped why) turns began r new_port port = ⊥
 ServesTo NotBound turns began r new_port port = ⊥
 
--- of the counts of failed calls of the port and of the line, which are 0 where it begins: that it failed is told only where one of them rose, and else no call of
--- the line failed
-abbrev pub HasCause : GatewayEnd → ℕ → ℕ → Type 0
-HasCause Failed port line = FailsAt fault.Failed 0 port 0 line
-HasCause ending port line = line ≡ 0
+-- Of the counts of failed calls of the port and of the line, which are 0 where it begins: that it failed is told only where the port's rose, or the line's did at
+-- the last time of 64 bits, 2^64 - 1 ms after it began. Else no call of the line failed.
+abbrev pub HasCause : GatewayEnd → ℕ → BusNow → Type 0
+HasCause Failed port line = FailsAt fault.Failed 0 port 0 line.faults line.run
+HasCause ending port line = line.faults ≡ 0
 
 -- a serving, over whose port's return the dialer's count was `since` and is `after`
 pub record Serving (s : Service) (line : BusNow) (port : PortStory) (since after : ℕ) (ending : GatewayEnd) : Type 0 where
@@ -121,7 +121,7 @@ pub record Serving (s : Service) (line : BusNow) (port : PortStory) (since after
   -- the port's count of failed calls, which the dialer's takes in
   pub faults : ℕ
   pub taken : TakesBack faults since after
-  pub cause : HasCause ending faults line.faults
+  pub cause : HasCause ending faults line
 
 -- a port was bound, the line served there, and the port handed back, where the dialer told `before` and tells `after`
 pub record ServedRun (s : Service) (before after : DialerNow) (line : BusNow) (ending : GatewayEnd) : Type 0 where
