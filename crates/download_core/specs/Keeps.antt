@@ -1,7 +1,6 @@
 -- What the code of a downloader keeps of an attempt stands for what the definitions say: a place in the plan for the plan that is left.
 use Rattle.std.specs.Prelude.{◌≡◌, ℕ, ◌<◌, ◌≤◌, ◌+◌, Option, Some, None}
 use Rattle.knx_model.specs.declared.address.IndAddr.{IndAddr}
-use Rattle.knx_model.specs.declared.plan.Op.TheVariants.{Send}
 use Rattle.knx_model.specs.Connection.{next_number, IsNumber}
 use Rattle.knx_model.specs.ClientConnection.{ClientEnd, Asked, Up, Asking, Awaiting, Ended as NoConnection}
 use Rattle.knx_model.specs.Plans.{Plan, Over, IsHead}
@@ -47,7 +46,7 @@ state_of d = record { device = d.device; plan = job_left d.plan 0; signs = d.sig
 
 -- the operation at the place is this one
 abbrev pub IsAt : (ℕ → Plan) → Question → Type 0
-IsAt left q = IsHead (Send q.apdu q.expect) (left q.place) (left (q.place + 1))
+IsAt left q = IsHead q.apdu q.expect (left q.place) (left (q.place + 1))
 
 -- the operation that comes next from a place on; none where all are over
 abbrev pub IsNextOf : (ℕ → Plan) → ℕ → Option Question → Type 0
