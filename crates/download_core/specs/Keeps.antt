@@ -4,7 +4,6 @@ use Rattle.knx_model.specs.declared.address.IndAddr.{IndAddr}
 use Rattle.knx_model.specs.Connection.{next_number, IsNumber}
 use Rattle.knx_model.specs.ClientConnection.{ClientEnd, Asked, Up, Asking, Awaiting, Ended as NoConnection}
 use Rattle.knx_model.specs.Plans.{Plan, Over, IsHead}
-use Rattle.knx_model.specs.GoodPlan.{IsSendable}
 use Rattle.download_core.specs.declared.job_plan.JobPlan.{JobPlan}
 use Rattle.download_core.specs.declared.question.Question.{Question}
 use Rattle.download_core.specs.declared.position.Position.{Position}
@@ -76,7 +75,3 @@ KeepsPhase left (kept.Running r) = KeepsRun left r
 KeepsPhase left (kept.Closing flight outcome) = Unit {0}
 KeepsPhase left (kept.Leaving outcome) = Unit {0}
 KeepsPhase left (kept.Ended outcome) = Unit {0}
-
--- whatever was noted, each operation that is left can be sent
-abbrev pub Sendable : (ℕ → Plan) → Type 0
-Sendable left = (k : ℕ) → IsSendable (left k)

@@ -24,7 +24,6 @@ use Rattle.knx_model.specs.Acts.{is_written, answerer}
 use Rattle.knx_model.specs.ApduReading.{service_in, apdu_octets}
 use Rattle.knx_model.specs.Cemi.{is_extended}
 use Rattle.knx_model.specs.Connection.{frame_in}
-use Rattle.knx_model.specs.DeviceConnection.{device_took, device_after, device_answered, after_answer}
 use Rattle.knx_model.specs.DeviceConnection.{DeviceEnd, Closed, Idle, Answering, partner_of, device_took, device_after, device_answered, after_answer, device_expired, device_repeated}
 use Rattle.knx_model.specs.Device.{NonVolatile, Effect, Loads, Stores, Nothing, runs, whole, torn, taken_over, is_write, effect_in, answer_in}
 use Rattle.knx_model.specs.DeviceState.{DeviceState, cut, moved, value_of, written_values}

@@ -67,7 +67,6 @@ pub use frames::Ldata;
 pub use frames::LdataCode;
 pub use frames::LongValue;
 pub use frames::MOST_MEMORY_OCTETS;
-pub use frames::MOST_STANDARD_MEMORY_OCTETS;
 pub use frames::Tpdu;
 pub use frames::TpduRefused;
 pub use frames::Value;
