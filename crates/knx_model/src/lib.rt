@@ -20,6 +20,7 @@ mod project;
 mod refusal;
 mod script;
 mod status;
+mod waits;
 mod words;
 
 pub use address::GroupAddr;
@@ -104,6 +105,10 @@ pub use script::GroupService;
 pub use script::ScriptLine;
 pub use script::ScriptWhat;
 pub use status::Status;
+pub use waits::earlier;
+pub use waits::end_of;
+pub use waits::has_passed;
+pub use waits::nearer;
 pub use words::LONGEST_TEXT;
 pub use words::Name;
 pub use words::Span;

@@ -5,7 +5,8 @@ use Rattle.knx_model.specs.declared.frames.cemi.Ldata.{Ldata}
 use Rattle.knx_model.specs.DeviceConnection.{DeviceEnd, device_deadline, device_expired}
 use Rattle.knx_model.specs.DeviceSending.{due_sending, sending_of}
 use Rattle.knx_model.specs.DeviceState.{DeviceState}
-use Rattle.line_sim.specs.Due.{IsNearest, deadline_at, nearer}
+use Rattle.line_sim.specs.Due.{IsNearest, deadline_at}
+use Rattle.knx_model.specs.Connection.{nearer}
 use Rattle.line_sim.specs.Places.{DevicesNow, AreKept, IsQuietThere, device_at, device_in, device_part, line_part, sending_at}
 use Rattle.line_sim.specs.Parts.{has_part}
 

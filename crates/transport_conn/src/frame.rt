@@ -87,7 +87,7 @@ pub fn disconnect() -> ApduOctets
 }
 
 /// The number that follows.
-pub fn next(number: u8) -> u8
+pub fn next_number(number: u8) -> u8
     requires { number < 16 }
     ensures value { result ≡ next_number number }
     ensures fits { result < 16 }
@@ -100,5 +100,5 @@ pub fn is_before(one: u8, other: u8) -> bool
     requires { one < 16 }
     ensures { result ≡ is_before one other }
 {
-    next(one) == other
+    next_number(one) == other
 }

@@ -7,8 +7,8 @@ ghost use Rattle.tunnel_channel.specs.Ends.{client_end, MayBeat};
 
 use crate::ends::{Ends, disconnect_request};
 use crate::took::{leaving_took, open_took, seeking_took};
-use crate::wait::{CONNECT_WAIT_MS, end_of, has_passed};
-use knx_model::{Datagram, IpFrame};
+use crate::wait::CONNECT_WAIT_MS;
+use knx_model::{Datagram, IpFrame, end_of, has_passed};
 use line_model::{ChannelExpired, ChannelTook, PutRefused};
 use std::mem;
 

@@ -8,8 +8,8 @@ ghost use Rattle.line_model.specs.GatewayEnd.{IsChannelNumber, told, told_due, c
 
 use crate::answers::{NO_ERROR, ack, answered, disconnect_request, dropped, request};
 use crate::request::Request;
-use crate::wait::{CLIENT_WAIT_MS, end_of, has_passed};
-use knx_model::Datagram;
+use crate::wait::CLIENT_WAIT_MS;
+use knx_model::{Datagram, end_of, has_passed};
 use line_model::{GatewayExpired, GatewayTook, PutRefused};
 use std::marker::Model;
 

@@ -4,7 +4,7 @@ use Rattle.std.specs.Prelude.{◌||◌, is_some, nat_lt, IfSome}
 use Rattle.std.proofs.lemmas.Bool.Decides.{nat_tests}
 use Rattle.knx_model.specs.KnxNetIp.{Written}
 use Rattle.knx_model.specs.declared.frames.ip.IpFrame.TheVariants.{StateRequest}
-use Rattle.knx_model.specs.Connection.{has_passed, wait_end, last_time}
+use Rattle.knx_model.specs.Connection.{has_passed, wait_end, last_time, nearer}
 use Rattle.knx_model.specs.ConnectionLaws.{Reached}
 use Rattle.line_model.specs.declared.client_end.ChannelExpired.{ChannelExpired}
 use Rattle.line_model.specs.declared.client_end.ChannelExpired.TheVariants as due
@@ -17,7 +17,7 @@ use Rattle.line_model.specs.ClientEnd.{ClientEnd, Idle, Seeking, Open, Leaving, 
 use Rattle.tunnel_channel.proofs.Deadline.{nearest}
 use Rattle.tunnel_link.specs.declared.known.Known.{Known}
 use Rattle.tunnel_link.specs.Kept as kept
-use Rattle.tunnel_link.specs.Kept.{confirmation_end, nearer, next_due, is_over_for}
+use Rattle.tunnel_link.specs.Kept.{confirmation_end, next_due, is_over_for}
 use Rattle.tunnel_link.specs.Rights.{FitsRecord}
 use Rattle.tunnel_link.specs.Adds.{IsBefore, TimelyBefore}
 use Rattle.tunnel_link.proofs.Late.{late_open, late_end, late_same}

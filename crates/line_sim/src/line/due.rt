@@ -13,9 +13,8 @@ ghost use Rattle.line_sim.specs.Due.{IsSettledWithin};
 ghost use Rattle.line_sim.specs.Places.{IsDue, sending_at};
 
 use super::Line;
-use crate::devices::nearer;
 use crate::gateway::Due;
-use knx_model::Sending;
+use knx_model::{Sending, nearer};
 use network_sim::Reach;
 use tunnel_gateway::deadline_is_nearest;
 
