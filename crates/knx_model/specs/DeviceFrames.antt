@@ -21,6 +21,7 @@ use Rattle.knx_model.specs.declared.frames.value.Value.{Value}
 use Rattle.knx_model.specs.declared.script.GroupService.{GroupService}
 use Rattle.knx_model.specs.declared.script.GroupService.TheVariants.{Read, Write, Response}
 use Rattle.knx_model.specs.Acts.{is_written, answerer}
+use Rattle.knx_model.specs.Apdu.{IsValueInRange}
 use Rattle.knx_model.specs.ApduReading.{service_in, apdu_octets}
 use Rattle.knx_model.specs.Cemi.{is_extended}
 use Rattle.knx_model.specs.Connection.{frame_in}
@@ -113,6 +114,12 @@ group_service (Some GroupRead) = Some Read
 group_service (Some (GroupWrite value)) = Some (Write value)
 group_service (Some (GroupResponse value)) = Some (Response value)
 group_service _ = None
+
+-- a short value has at most six bits, and a long one 1 to 14 octets
+abbrev pub IsServiceInRange : GroupService → Type 0
+IsServiceInRange Read = Unit {0}
+IsServiceInRange (Write value) = IsValueInRange value
+IsServiceInRange (Response value) = IsValueInRange value
 
 abbrev pub response_octets : Value → List ℕ
 response_octets value = apdu_octets (GroupResponse value)
