@@ -79,6 +79,13 @@ pub fn nak(number: u8) -> ApduOctets
     encode(&Tpdu::Nak(number))
 }
 
+/// T_Connect.
+pub fn connect() -> ApduOctets
+    ensures { result ≡ Written tpdu.Connect }
+{
+    encode(&Tpdu::Connect)
+}
+
 /// T_Disconnect.
 pub fn disconnect() -> ApduOctets
     ensures { result ≡ Written tpdu.Disconnect }
