@@ -197,10 +197,3 @@ impl Ends {
         self.unanswered = 0;
     }
 }
-
-/// The request that asks to end a channel.
-pub fn disconnect_request(channel: u8) -> Datagram
-    ensures { result ≡ Written (DisconnectRequest channel) }
-{
-    encode(&IpFrame::DisconnectRequest { channel })
-}
