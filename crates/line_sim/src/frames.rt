@@ -1,41 +1,18 @@
-//! Frames as octets (ISO 22510, Core and Tunnelling; KNX standard 3/6/3, common EMI).
+//! The frame that a request brings, and the frame that the bus carries for it (KNX standard 3/6/3, common EMI).
 
 ghost use Rattle.std.specs.Prelude.{◌≡◌, option_to_list};
-ghost use Rattle.line_model.specs.Reading.{datagram_in};
 ghost use Rattle.line_model.specs.Gateway.{to_bus};
 ghost use Rattle.line_model.specs.Reading.{ldata_in};
 ghost use Rattle.line_model.specs.World.{on_bus};
 
-use knx_model::{IndAddr, IpFrame, Ldata, LdataCode};
-use line_model::frames_are_read;
+use knx_model::{IndAddr, Ldata, LdataCode};
+use line_frames::ldata_in;
 
 /// The priority of a frame on the bus: low.
 const PRIORITY: u8 = 3;
 
 /// The hop count of a frame on the bus.
 const HOP_COUNT: u8 = 6;
-
-/// The frame that a datagram is; None where it is none.
-pub fn datagram_in(octets: &[u8]) -> Option<IpFrame>
-    ensures { result ≡ datagram_in octets.now }
-{
-    frames_are_read();
-    match knxnetip_frames::decode(octets) {
-        Ok(frame) => Some(frame),
-        Err(_) => None,
-    }
-}
-
-/// The frame of the link layer that a request's octets are; None where they are none.
-fn ldata_in(octets: &[u8]) -> Option<Ldata>
-    ensures { result ≡ ldata_in octets.now }
-{
-    frames_are_read();
-    match cemi_frames::decode(octets) {
-        Ok(frame) => Some(frame),
-        Err(_) => None,
-    }
-}
 
 /// The frame that a request asks the gateway to send on the bus; None where its octets are no L_Data.req.
 pub fn asked_for(cemi: &[u8]) -> Option<Ldata>

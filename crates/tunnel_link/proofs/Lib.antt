@@ -28,7 +28,6 @@ pub mod Polls
 pub mod Prompting
 pub mod Prompts
 pub mod Quiet
-pub mod Read
 pub mod Results
 pub mod SeekKept
 pub mod Seeks

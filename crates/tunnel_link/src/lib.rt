@@ -6,7 +6,6 @@
 mod acted;
 mod came;
 mod flight;
-mod frames;
 mod got;
 mod known;
 mod lapse;

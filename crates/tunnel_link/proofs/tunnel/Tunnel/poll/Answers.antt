@@ -3,7 +3,7 @@ use Rattle.std.specs.Prelude.{IfSome}
 use Rattle.tunnel_link.specs.Kept.{next_due}
 use Rattle.tunnel_link.proofs.Deadlines.{WaitsUntil}
 use Rattle.tunnel_link.proofs.PollKept.{listens_go, poll_keeps, poll_adds}
-use Rattle.tunnel_link.proofs.Read.{has_tunnels}
+use Rattle.line_frames.proofs.Read.{has_tunnels}
 use Rattle.tunnel_link.proofs.Faulted.{listens_of}
 use Rattle.tunnel_link.proofs.Prompts.{poll_prompt}
 use Rattle.tunnel_link.proofs.AloneCalls.{poll_alone}

@@ -8,7 +8,7 @@ use knx_model::{IpFrame, Ldata};
 use line_model::frames_are_read;
 
 /// The frame that a datagram is; None where it is none.
-pub fn frame_in(octets: &[u8]) -> Option<IpFrame>
+pub fn datagram_in(octets: &[u8]) -> Option<IpFrame>
     ensures value { result ≡ datagram_in octets.now }
     ensures tunnel { IfSome result HasTunnelIfUp }
 {

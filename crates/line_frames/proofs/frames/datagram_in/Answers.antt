@@ -1,5 +1,5 @@
-use Rattle.tunnel_link.proofs.frames.frame_in.Goals as goal
-use Rattle.tunnel_link.proofs.Read.{datagram_read, datagram_unread, has_tunnel}
+use Rattle.line_frames.proofs.frames.datagram_in.Goals as goal
+use Rattle.line_frames.proofs.Read.{datagram_read, datagram_unread, has_tunnel}
 
 pub returns-in-Ok : goal.returns-in-Ok
 returns-in-Ok c = record {
