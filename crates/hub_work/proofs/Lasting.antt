@@ -10,18 +10,6 @@ use Rattle.hub_work.specs.Books.{held_at}
 use Rattle.hub_work.specs.Downloaders.{states}
 use Rattle.hub_work.specs.Polls.{does_something, next_of_job, is_busy, is_busy_at, deadline_of, deadline_at, end_of_closing, IsDue, OfClosing, OfWorker, LooksOrLasts}
 
--- ---- one deadline
-
-some_time : (a b : ℕ) → Some a ≡ Some b → a ≡ b
-some_time a b e = cc
-
-pub same_deadline : (deadline : Option ℕ) (time t now wait : ℕ) → deadline ≡ Some time → deadline ≡ Some t → now + wait ≤ time → now + wait ≤ t
-same_deadline deadline time t now wait is other le = let same : time ≡ t = some_time time t (sym is ∙ other) in omega (arith, le, same)
-
--- one that is reached is no other
-pub other_deadline : (deadline : Option ℕ) (time t now : ℕ) → deadline ≡ Some time → deadline ≡ Some t → time ≤ now → now < t → ⊥
-other_deadline deadline time t now is other le lt = let same : time ≡ t = some_time time t (sym is ∙ other) in omega (arith, le, lt, same)
-
 -- ---- the shorter of two waits
 
 ends_as : (longest now wait : ℕ) (A C : ℕ → Type 0) → ((t : ℕ) → A t → C t) → PollEnds longest A now wait → PollEnds longest C now wait

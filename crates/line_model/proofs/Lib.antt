@@ -15,3 +15,4 @@ pub mod Projection
 pub mod Turns
 pub mod Prints
 mod Lapses
+pub mod Deadlines

@@ -12,7 +12,6 @@ mod lapse;
 mod sending;
 mod tries;
 mod tunnel;
-mod wait;
 
 pub use acted::Acted;
 pub use came::{Answer, Came, Loss, What};
@@ -21,4 +20,3 @@ pub use known::Known;
 pub use line_model::{HubFault, Link, LinkFault, Polled, Try};
 pub use tries::Tries;
 pub use tunnel::Tunnel;
-pub use wait::until;

@@ -26,11 +26,10 @@ use crate::job::HubJob;
 use crate::journal::Journal;
 use crate::laws::of_a_downloader;
 use crate::telegrams::{Stage, Telegrams};
-use crate::wait::{LONGEST_POLL_MS, until};
 use device_reservation::Jobs;
 use download_core::{Did, each_operation_can_be_sent};
 use knx_model::{Datagram, IndAddr, List, NoMemory};
-use line_model::{GroupTurn, LogEntry, LogWhat};
+use line_model::{GroupTurn, LONGEST_POLL_MS, LogEntry, LogWhat, until};
 use std::alloc::Global;
 pub use turn::Turn;
 

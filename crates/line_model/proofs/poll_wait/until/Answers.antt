@@ -1,8 +1,8 @@
 use Rattle.std.proofs.Common.{rules, arith}
 use Rattle.line_model.specs.Waiting.{AtDeadline, AtLastTime}
-use Rattle.hub_work.proofs.Lasting.{same_deadline, other_deadline}
-use Rattle.hub_work.proofs.wait.until.Goals.{in-Some, in_default, in_default-via-in-Some+else-now-time, in_default-via-in_default}
-use Rattle.hub_work.proofs.wait.until.Goals as goal
+use Rattle.line_model.proofs.Deadlines.{same_deadline, other_deadline}
+use Rattle.line_model.proofs.poll_wait.until.Goals.{in-Some, in_default, in_default-via-in-Some+else-now-time, in_default-via-in_default}
+use Rattle.line_model.proofs.poll_wait.until.Goals as goal
 
 pub returns-then-left-from : goal.returns-then-left-from
 returns-then-left-from c = elim c.match-deadline.branch [
