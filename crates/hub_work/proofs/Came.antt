@@ -1,10 +1,9 @@
 -- How much waits for the workers, as one worker's part is written.
 use Rattle.std.proofs.Common.{◌≡◌, ◌≢◌, inl, inr, ℕ, zero, suc, ◌+◌, ◌-◌, ◌<◌, ◌≤◌, List, [], ◌∷◌, set, Option, Some, None, refl, sym, ap, subst, ◌∙◌, arith}
-use Rattle.std.proofs.lemmas.Bool.{cases_eq}
+use Rattle.std.proofs.lemmas.Bool.{cases_eq, cases_lt}
 use Rattle.hub_work.specs.declared.crew.Held.{Held}
 use Rattle.hub_work.specs.Books.{held_at}
 use Rattle.hub_work.specs.Came.{waiting_in, waiting_at, RisesBy, RisesAt, TakesOneIn}
-use Rattle.hub_work.proofs.Crews.{cases_lt}
 
 set_here : (crew : List (Option Held)) (place : ℕ) (h : Held) (o : Option Held) → Some h ≡ held_at crew place → held_at (set crew place o) place ≡ o
 set_here [] place h o e = absurd (cc)

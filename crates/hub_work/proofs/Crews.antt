@@ -1,5 +1,5 @@
 -- What the workers hold, and the jobs that they hold by the log.
-use Rattle.std.proofs.Common.{◌≡◌, ◌≢◌, ◌⊎◌, inl, inr, Bool, true, false, ℕ, ◌+◌, zero, suc, ◌-◌, ◌<◌, ◌≤◌, List, [], ◌∷◌, length, map, set, Option, Some, None, refl, sym, ap, subst, ◌∙◌, arith}
+use Rattle.std.proofs.Common.{◌≡◌, ◌≢◌, inl, inr, Bool, true, false, ℕ, ◌+◌, zero, suc, ◌-◌, ◌<◌, ◌≤◌, List, [], ◌∷◌, length, map, set, Option, Some, None, refl, sym, ap, subst, ◌∙◌, arith}
 use Rattle.std.specs.Prelude.{slice_get}
 use Rattle.std.proofs.lemmas.Bool.{cases_eq}
 use Rattle.std.proofs.lemmas.List.{map-set}
@@ -175,17 +175,6 @@ crew_holds_worker w jobs at worker h from books of e =
     (c.0, c.1 ∙ ap (λ n. Held n c.0) number)
 
 -- ---- a job that a worker at a place holds, by log and crew
-
-pub cases_lt : (a b : ℕ) → (a < b) ⊎ (b ≤ a)
-cases_lt a zero = inr (omega arith)
-cases_lt zero (suc b) = inl (omega arith)
-cases_lt (suc a) (suc b) = elim (cases_lt a b) [
-  | inl lt ↦ inl (omega arith)
-  | inr le ↦ inr (omega arith)
-]
-
-pub some_is : {X : Type 0} (x y : X) → Some x ≡ Some y → x ≡ y
-some_is x y e = cc
 
 there_is : {X : Type 0} (o : Option X) → o ≢ None → (x : X) × (o ≡ Some x)
 there_is None e = absurd (e refl)

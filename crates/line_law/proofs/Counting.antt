@@ -2,6 +2,7 @@
 use Rattle.std.proofs.Common.{◌≡◌, ℕ, suc, ◌%◌, ◌≤◌, ◌⊎◌, List, [], ◌∷◌, ◌++◌, reverse, length, Bool, true, false, ◌&&◌, cond, Option, Some, refl, sym, ◌∙◌, ap, subst, inl, inr, arith}
 use Rattle.std.proofs.lemmas.List.{reverse-append}
 use Rattle.std.proofs.lemmas.Slice.Eq.{bytes_eq-Decides}
+use Rattle.std.proofs.lemmas.Bool.{and_parts, cases_Bool}
 use Rattle.knx_model.specs.declared.connection.ClientTook.{ClientTook}
 use Rattle.knx_model.specs.declared.connection.ClientTook.TheVariants as heard
 use Rattle.knx_model.specs.declared.plan.Expect.{Expect}
@@ -93,19 +94,11 @@ one_more plan left sent ans got s h =
     (subst (λ z. Reaches plan (suc h.before) (reverse ans ++ got ∷ []) z) (sym (followed_is left got h.apdu h.expect h.next h.head))
     (answered_one plan h.before (reverse ans) h.apdu got h.expect h.next (suits_is left got h.apdu h.expect h.next h.head s) h.reaches))
 
-both_true : (a b : Bool) → (a && b) ≡ true → (a ≡ true) × (b ≡ true)
-both_true true b h = (refl, h)
-both_true false b h = absurd (cc)
-
-either : (b : Bool) → (b ≡ true) ⊎ (b ≡ false)
-either true = inl refl
-either false = inr refl
-
 answer_count : (plan : Plan) (t : Attempt) (o : Number) (acked now : ℕ) (ans : Texts) (got ack : List ℕ) (b : Bool) → (awaits t.end && suits t.left got) ≡ b → Count plan t o acked ans
     → Count plan (owing (cond {A = Attempt} b (record t { left = followed t.left got }) (record t { closing = true })) now (heard.Answer got ack) ack) o acked (got ∷ ans)
 unfolding client_after
 answer_count plan t o acked now ans got ack true e h =
-    let q = both_true (awaits t.end) (suits t.left got) e in
+    let q = and_parts (awaits t.end) (suits t.left got) e in
     record {
       sent = h.sent;
       number_is = number_after t.end o acked h.sent now h.number_is;
@@ -123,7 +116,7 @@ answer_count plan t o acked now ans got ack false e h =
       plain = h.plain;
       left_is = λ k. absurd (cc);
       spoilt = λ k. subst (Spoilt plan h.sent) (sym (last_more ans got))
-          (elim (either t.closing) [ inl was ↦ spoilt_more plan h.sent ans got (h.spoilt was) | inr isnt ↦ spoilt_now plan t.left h.sent ans got (awaits t.end) e (h.left_is isnt) ]);
+          (elim (cases_Bool t.closing) [ inl was ↦ spoilt_more plan h.sent ans got (h.spoilt was) | inr isnt ↦ spoilt_now plan t.left h.sent ans got (awaits t.end) e (h.left_is isnt) ]);
     }
 
 -- ---- whatever is heard

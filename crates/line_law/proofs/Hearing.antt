@@ -1,6 +1,7 @@
 -- The attempt of a job and the session's client take a frame of the device.
 use Rattle.std.proofs.Common.{◌≡◌, ℕ, List, ◌∷◌, Bool, true, false, ◌&&◌, cond, Option, Some, None, refl, sym, ◌∙◌, ap, subst}
 use Rattle.std.proofs.lemmas.Slice.Eq.{bytes_eq-Decides}
+use Rattle.std.proofs.lemmas.Bool.{and_parts}
 use Rattle.knx_model.specs.declared.address.IndAddr.{IndAddr}
 use Rattle.knx_model.specs.declared.connection.ClientTook.{ClientTook}
 use Rattle.knx_model.specs.declared.connection.ClientTook.TheVariants as heard
@@ -28,10 +29,6 @@ through : (plan left : Plan) (sent accepted : List (List ℕ)) (got : List ℕ) 
 through plan left sent accepted got s h =
     let one : Went plan (h.apdu ∷ h.older) (got ∷ accepted) (h.next (Some got)) = Answered h.apdu h.expect h.next got h.older accepted h.went (suits_is left got h.apdu h.expect h.next h.head s) in
     subst (λ z. Went plan z (got ∷ accepted) (followed left got)) (sym h.last) (subst (λ z. Went plan (h.apdu ∷ h.older) (got ∷ accepted) (followed z got)) (sym h.head) one)
-
-both_true : (a b : Bool) → (a && b) ≡ true → (a ≡ true) × (b ≡ true)
-both_true true b h = (refl, h)
-both_true false b h = absurd (cc)
 
 -- ---- what the end is then
 
@@ -131,7 +128,7 @@ module _ (a : ℕ) (plan : Plan) (k : ℕ) (t : Attempt) (c : Client) (now : ℕ
   answer_by : (b : Bool) (got ack : List ℕ) → (awaits t.end && suits t.left got) ≡ b → Runs a plan (owing (cond {A = Attempt} b (record t { left = followed t.left got }) (record t { closing = true })) now (heard.Answer got ack) ack) (hears c now (heard.Answer got ack))
   unfolding client_after
   answer_by true got ack e =
-      let q = both_true (awaits t.end) (suits t.left got) e in
+      let q = and_parts (awaits t.end) (suits t.left got) e in
       record {
         end_is = ap (λ z. client_answered z now) h.end_is;
         owed_is = ap (λ z. with_reply z ack) h.owed_is;

@@ -1,5 +1,6 @@
 -- What a confirmation says, and what a cut of the power takes.
 use Rattle.std.proofs.Common.{◌≡◌, ℕ, List, Bool, true, false, not, ◌&&◌, ◌||◌, ◌==◌, refl, sym, ap, ◌∙◌, arith, Option, Some, None, if◌then◌else◌}
+use Rattle.std.proofs.lemmas.Bool.{or_left}
 use Rattle.knx_model.specs.declared.frames.cemi.Ldata.{Ldata}
 use Rattle.knx_model.specs.ApduReading.{option_map}
 use Rattle.knx_model.specs.DeviceConnection.{Closed}
@@ -20,14 +21,10 @@ error_is w left_out frame = error_of frame.group (is_among left_out frame.destin
 pub to_group : (w : World) (left_out : List ℕ) (frame : Ldata) → frame.group ≡ true → (confirmation w left_out frame).error ≡ false
 to_group w left_out frame g = error_is w left_out frame ∙ ap (λ (b : Bool). not b && (is_among left_out frame.destination || not (takes_it frame (w.devices frame.destination)))) g
 
-lost_or : (a b : Bool) → a ≡ true → (a || b) ≡ true
-lost_or true b e = refl
-lost_or false b e = cc
-
 pub lost : (w : World) (left_out : List ℕ) (frame : Ldata) → frame.group ≡ false → is_among left_out frame.destination ≡ true → (confirmation w left_out frame).error ≡ true
 lost w left_out frame g a =
     error_is w left_out frame ∙ ap (λ (b : Bool). not b && (is_among left_out frame.destination || not (takes_it frame (w.devices frame.destination)))) g
-    ∙ lost_or (is_among left_out frame.destination) (not (takes_it frame (w.devices frame.destination))) a
+    ∙ or_left (is_among left_out frame.destination) (not (takes_it frame (w.devices frame.destination))) a
 
 not_lost : (a b : Bool) → a ≡ false → (a || b) ≡ b
 not_lost true b e = cc

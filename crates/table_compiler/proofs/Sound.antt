@@ -1,8 +1,8 @@
 -- What a text keeps that breaks no rule: the links of a device are at most 2,047, no object is linked to a group twice, and each
 -- parameter is set to a value in its range.
-use Rattle.std.proofs.Common.{◌≡◌, ℕ, zero, suc, ◌+◌, ◌<◌, ◌≤◌, Bool, true, false, cond, ◌&&◌, ◌||◌, List, [], ◌∷◌, ◌++◌, length, get_or, take, eqb, leb, bytes_eq, All, Option, Some, None, refl, sym, ap, ◌∙◌, subst, arith}
+use Rattle.std.proofs.Common.{◌≡◌, ℕ, zero, suc, ◌+◌, ◌<◌, ◌≤◌, Bool, true, false, cond, ◌&&◌, List, [], ◌∷◌, ◌++◌, length, get_or, take, eqb, leb, bytes_eq, All, Option, Some, None, refl, sym, ap, ◌∙◌, subst, arith}
 use Rattle.std.specs.List.{AllPairs, AllByRecursion, cons_option, filter_map, last_or}
-use Rattle.std.proofs.lemmas.Bool.{eqb-true, eq-eqb, leb-false, false≢true}
+use Rattle.std.proofs.lemmas.Bool.{eqb-true, eq-eqb, leb-false, false≢true, or_parts}
 use Rattle.std.proofs.lemmas.List.{take_more, take_all, append-nil}
 use Rattle.std.proofs.lemmas.List.Elements.{All-from_recursion, recursion_from_All, filter_map-append}
 use Rattle.std.proofs.lemmas.Slice.Eq.{bytes_eq-Decides}
@@ -137,10 +137,6 @@ few_lines catalogue device ss sound =
 
 abbrev pub Apart : ℕ × GroupAddr → ℕ × GroupAddr → Type 0
 Apart x y = x.0 ≡ y.0 → x.1.raw ≡ y.1.raw → ⊥
-
-or_parts : (a b : Bool) → (a || b) ≡ false → (a ≡ false) × (b ≡ false)
-or_parts false b e = (refl, e)
-or_parts true b e = absurd (false≢true (sym e))
 
 link_kept : (b : Bool) (y x : ℕ × GroupAddr) (ys : List (ℕ × GroupAddr)) → (b ≡ true → Apart y x) → AllByRecursion (λ y. Apart y x) ys → AllByRecursion (λ y. Apart y x) (cons_option (cond b (Some y) None) ys)
 link_kept true y x ys h all = (h refl, all)

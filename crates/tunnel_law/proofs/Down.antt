@@ -3,6 +3,7 @@
 use Rattle.std.proofs.Common.{◌≡◌, ℕ, suc, ◌+◌, ◌-◌, ◌%◌, ◌<◌, ◌≤◌, ◌⊎◌, List, [], ◌∷◌, length, drop, Bool, true, false, cond, ◌&&◌, Option, Some, None, refl, sym, ◌∙◌, ap, subst, arith, inl, inr}
 use Rattle.std.specs.Prelude.{slice_index, take, nat_le, ◌==◌}
 use Rattle.std.proofs.lemmas.List.{take_all, length-take}
+use Rattle.std.proofs.lemmas.Bool.{and_parts}
 use Rattle.knx_model.specs.declared.frames.ip.IpFrame.{IpFrame}
 use Rattle.knx_model.specs.declared.frames.ip.IpFrame.TheVariants.{TunnellingRequest, TunnellingAck}
 use Rattle.knx_model.specs.KnxNetIp.{Written}
@@ -145,12 +146,8 @@ pub put_next : (takes puts : List (List ℕ)) (acks settled : ℕ) (p : List ℕ
 put_next takes puts acks settled p b none =
     record { prefix = (p ∷ b.prefix.0, ap (λ l. p ∷ l) b.prefix.1); acked = b.acked; owes = b.owes; told = b.told; one = omega arith }
 
-two : (a b : Bool) → (a && b) ≡ true → (a ≡ true) × (b ≡ true)
-two true b e = (refl, e)
-two false b e = cc
-
 pub request_this : (c n : ℕ) (p : List ℕ) → IsThis c n p (seen_of (Written (TunnellingRequest c n p)))
 unfolding datagram_in
 request_this c n p =
     let body : List ℕ = drop 6 (take 512 (Written (TunnellingRequest c n p))) in
-    this_by _ _ c n p (take 502 p) (λ h. short p (two (nat_le 5 (length body)) (nat_le (length body) 294) (two (nat_le 5 (length body) && nat_le (length body) 294) (slice_index body 0 == 4) h).0).1)
+    this_by _ _ c n p (take 502 p) (λ h. short p (and_parts (nat_le 5 (length body)) (nat_le (length body) 294) (and_parts (nat_le 5 (length body) && nat_le (length body) 294) (slice_index body 0 == 4) h).0).1)

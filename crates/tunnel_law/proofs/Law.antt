@@ -1,5 +1,6 @@
 -- The law: an induction over the events.
-use Rattle.std.proofs.Common.{◌≡◌, ℕ, suc, ◌<◌, ◌≤◌, ◌⊎◌, List, [], ◌∷◌, length, Bool, true, false, cond, if◌then◌else◌, Option, Some, None, refl, sym, ◌∙◌, ap, subst, arith, inl, inr}
+use Rattle.std.proofs.Common.{◌≡◌, ℕ, suc, List, [], ◌∷◌, length, Bool, true, false, cond, if◌then◌else◌, Option, Some, None, refl, sym, ◌∙◌, ap, subst, inl, inr}
+use Rattle.std.proofs.lemmas.Bool.{cases_lt}
 use Rattle.knx_model.specs.declared.address.IndAddr.{IndAddr}
 use Rattle.knx_model.specs.declared.frames.ip.IpFrame.{IpFrame}
 use Rattle.knx_model.specs.declared.frames.ip.IpFrame.TheVariants.{TunnellingRequest}
@@ -162,9 +163,6 @@ pub record IsUpOnce (g : Gateway) (r : List Entry) : Type 0 where
   pub up : (k : ℕ) (v : View) → IsChannelOf g r k v → IsPrefix (in_channel k g.acted) v.puts
   pub alone : (k : ℕ) → ((v : View) → ¬ IsChannelOf g r k v) → in_channel k g.acted ≡ []
 
-below_or : (k n : ℕ) → (k < n) ⊎ (n ≤ k)
-below_or k n = grind arith
-
 named_is : (makers : List ℕ) (acted : List (ℕ × List ℕ)) (up : List Sent) (e k : ℕ) (joined asked number : Option ℕ) (puts : List (List ℕ)) → BookFits up makers acted e joined puts asked → Named joined number → number ≡ Some (number_of k) → Has makers k e
     → IsPrefix (in_channel k acted) puts
 named_is makers acted up e k None asked number puts old named is maker = absurd (let h : None ≡ Some (number_of k) = sym named ∙ is in cc)
@@ -188,7 +186,7 @@ says t r i =
           subst (λ (z : View). IsPrefix (in_channel k t.gateway.acted) z.puts) f.is
           (named_is t.gateway.makers t.gateway.acted t.network.up h.endpoint k old.joined old.asked f.book.view.number f.book.view.puts old.fits old.named (ap (λ (z : View). z.number) f.is ∙ h.number) h.made_by));
       alone = λ k none.
-          elim (below_or k (length t.gateway.makers)) [
+          elim (cases_lt k (length t.gateway.makers)) [
             | inl below ↦
                 (let m : Found t.gateway.makers k = has_at t.gateway.makers k below in
                 let f : Found (books r) m.what = has_at (books r) m.what (i.made k m.what m.at) in
