@@ -5,13 +5,6 @@ use Rattle.std.proofs.lemmas.List.{map_more, take-append-drop, map-append}
 use Rattle.std.proofs.lemmas.List.Folds.{list_any-append}
 use Rattle.catalogue.specs.Shapes.{repeats}
 
-flipped : (a b r x : Bool) → ((a || b) || (r || x)) ≡ ((a || r) || (b || x))
-flipped true b r x = refl
-flipped false true true x = refl
-flipped false true false x = refl
-flipped false false true x = refl
-flipped false false false x = refl
-
 -- one more at the end repeats where it equals one before
 pub repeats-push : {X : Type 0} (eq : X → X → Bool) (flips : (x y : X) → eq x y ≡ eq y x) (xs : List X) (y : X) → repeats eq (xs ++ y ∷ []) ≡ (repeats eq xs || list_any (eq y) xs)
 unfolding repeats
@@ -48,4 +41,3 @@ added_or true false c d e f = cc
 added_or false true c d e f = cc
 added_or false false true false e f = cc
 added_or false false false true e f = cc
-

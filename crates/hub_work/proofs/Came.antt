@@ -99,9 +99,6 @@ pub record RisesSoFar (n : ℕ) (old new : List (Option Held)) : Type 0 where
   pub before : (place : ℕ) → place < n → waiting_at new place ≤ waiting_at old place + 1
   pub after : (place : ℕ) → n ≤ place → waiting_at new place ≡ waiting_at old place
 
-pub none_risen : (crew : List (Option Held)) → RisesSoFar 0 crew crew
-none_risen crew = record { before = λ place lt. absurd (omega (arith, lt)); after = λ place le. refl }
-
 pub one_more_risen : (n : ℕ) (old so_far new : List (Option Held)) → RisesSoFar n old so_far → RisesAt n so_far new → RisesSoFar (n + 1) old new
 one_more_risen n old so_far new r s = record {
   before = λ place lt. elim (cases_eq place n) [

@@ -29,10 +29,6 @@ pub upto_more : (n m : ℕ) (places : List Placed) → n ≤ m → AreUpto n pla
 upto_more n m [] le h = tt
 upto_more n m (p ∷ places) le h = (let f = h.0 in omega (arith, le, f), upto_more n m places le h.1)
 
-pub upto_joined : (n : ℕ) (added old : List Placed) → AreUpto n added → AreUpto n old → AreUpto n (added ++ old)
-upto_joined n [] old a o = o
-upto_joined n (p ∷ added) old a o = (a.0, upto_joined n added old a.1 o)
-
 -- ---- of a link that tells something, each place is at most its number of events or of entries
 
 pub placed_upto : (start : World) (events : List Event) → AreUpto (length events) (placed start events)

@@ -36,9 +36,6 @@ pub record LostSoFar (held : List (Option Holding)) (n : ℕ) (old new : List Do
   pub told : (place : ℕ) (x : Holding) (s : DownloaderState) → place < n → slice_get held place ≡ Some (Some x) → downloader_of old x.job ≡ Some s → downloader_of new x.job ≡ Some (lost s)
   pub each : (k : ℕ) (s : DownloaderState) → downloader_of old k ≡ Some s → (downloader_of new k ≡ Some s) ⊎ (downloader_of new k ≡ Some (lost s))
 
-pub none_lost : (held : List (Option Holding)) (all : List DownloaderState) → LostSoFar held 0 all all
-none_lost held all = record { told = λ place x s lt e t. absurd (omega arith); each = λ k s e. inl e }
-
 -- the worker at a place holds that
 at_holding : (crew : List (Option Holds)) (n : ℕ) (x : Holding) → slice_get (holdings crew) n ≡ Some (Some x) → (h : Holds) × (held_at crew n ≡ Some h) × (h.job ≡ x.job)
 at_holding [] n x e = absurd (cc)

@@ -39,9 +39,6 @@ use Rattle.hub_work.proofs.Undecided.{ends_at_rest}
 
 -- ---- nothing of the record or of the log
 
-pub still : (now at : ℕ) (w : Work) (turned : Turned) → TurnFollows now at w w (turn.Did turned)
-still now at w turned jobs places f = (f, record { truly = λ told. told; rests = λ rests. rests })
-
 -- the same, but for what came for the workers and for how far the jobs are in the reservation
 module _ (v w : Work) (devices : v.reservation.devices ≡ w.reservation.devices) (ds : v.downloaders ≡ w.downloaders) (same : holdings v.crew ≡ holdings w.crew) (telling : v.telegrams ≡ w.telegrams) (sender : v.sender ≡ w.sender) (journal : v.journal ≡ w.journal) where
   job_same : (now k worker : ℕ) (job : Job) (x : List Moment) → FitsJob w now x k worker job → FitsJob v now x k worker job

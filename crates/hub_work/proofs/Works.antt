@@ -71,11 +71,6 @@ take_written w v at worker job t from er et el =
     written_as v (job_taken worker job t.before) (jobs_held v.crew) (entry_of at worker (Took job) ∷ w.journal.entries) w.telegrams.turns at (er ∙ t.taken) et el
     (took_written t.before (jobs_held w.crew) w.telegrams.turns at worker job w.journal.entries t.written t.live t.first from)
 
--- for want of memory the log stays
-pub take_unwritten : (w v : Work) (at worker job : ℕ) → IsTaking w at worker job → v.reservation ≡ w.reservation → v.telegrams.turns ≡ w.telegrams.turns → v.journal.entries ≡ w.journal.entries → WritesRightly at v
-take_unwritten w v at worker job t er et el =
-    written_as v (job_taken worker job t.before) (jobs_held v.crew) w.journal.entries w.telegrams.turns at (er ∙ t.taken) et el t.written
-
 pub take_live : (w v : Work) (at worker job : ℕ) (held : Held) → held.job ≡ job → IsTaking w at worker job → 1 ≤ worker
     → v.reservation ≡ w.reservation → v.crew ≡ set w.crew (worker - 1) (Some held) → v.journal.entries ≡ entry_of at worker (Took job) ∷ w.journal.entries → Lives v
 take_live w v at worker job held same t from er ec el =

@@ -8,7 +8,7 @@ use Rattle.knx_model.specs.declared.connection.ClientTook.TheVariants as heard
 use Rattle.knx_model.specs.declared.plan.Expect.{Expect}
 use Rattle.knx_model.specs.declared.plan.Expect.TheVariants.{AckOnly, Is, Note}
 use Rattle.knx_model.specs.ClientConnection.{ClientEnd, Asked, Up, Asking, Awaiting, Ended, client_after, client_answered}
-use Rattle.knx_model.specs.Connection.{Session, next_number}
+use Rattle.knx_model.specs.Connection.{next_number}
 use Rattle.knx_model.specs.Plans.{Plan, Asks as Operation, Suits, followed}
 use Rattle.line_model.specs.Attempts.{Attempt, awaits, with_reply, owing, heard_attempt}
 use Rattle.line_model.specs.Moments.{Number}
@@ -17,13 +17,6 @@ use Rattle.line_law.proofs.Reaching.{Texts, too_many, answered_one, suits_next}
 use Rattle.line_law.proofs.Counts.{NumberIs, ExpectedIs, AwaitsOne, LeftIs, Spoilt, Count, CountIs, Effect, Drops, Agains, Naks, Acks, Answers, stayed_count, acked_count}
 
 -- ---- an answer
-
-answered_number : (end : ClientEnd) (o : Number) (acked sent t : ℕ) → NumberIs end o acked sent → (NumberIs (client_answered end t) o acked sent) ⊎ ((p : Session) × (end ≡ Awaiting p))
-answered_number (Asked device) o acked sent t h = absurd h
-answered_number (Up p) o acked sent t h = inl h
-answered_number (Asking p q) o acked sent t h = inl h
-answered_number (Awaiting p) o acked sent t h = inl h
-answered_number Ended o acked sent t h = absurd h
 
 number_after : (end : ClientEnd) (o : Number) (acked sent t : ℕ) → NumberIs end o acked sent → NumberIs (client_answered end t) o acked sent
 number_after (Asked device) o acked sent t h = h

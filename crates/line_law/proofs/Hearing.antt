@@ -32,17 +32,6 @@ through plan left sent accepted got s h =
 
 -- ---- what the end is then
 
-abbrev NotAsked : ClientEnd → Type 0
-NotAsked (Asked device) = ⊥
-NotAsked _ = Unit {0}
-
-plain_fits : (end : ClientEnd) (flying : Option TransportFrame) → NotAsked end → FlyFits end flying → NotConnect flying
-plain_fits (Asked device) flying n h = absurd n
-plain_fits (Up s) flying n h = h
-plain_fits (Asking s q) flying n h = h.0
-plain_fits (Awaiting s) flying n h = h
-plain_fits Ended flying n h = h
-
 stayed_fits : (end : ClientEnd) (flying : Option TransportFrame) (t : ℕ) → FlyFits end flying → FlyFits (client_stayed end t) flying
 stayed_fits (Asked device) flying t h = h
 stayed_fits (Up s) flying t h = h

@@ -15,7 +15,7 @@ use Rattle.line_model.specs.ChannelLost.{confirmed, is_new_request, is_confirmat
 use Rattle.line_model.specs.ClientView.{ClientChannel, Open, Lost, Deed, or_number, channel, deed, views}
 use Rattle.line_model.specs.ClientView as view
 use Rattle.line_model.specs.Log.{Job}
-use Rattle.line_model.specs.Moments.{Moment, moments, where_is, put_frame}
+use Rattle.line_model.specs.Moments.{moments, where_is, put_frame}
 use Rattle.line_model.specs.Reading.{ldata_in, is_req}
 use Rattle.line_model.specs.Record.{Entry, Placed, entries, is_renewal}
 use Rattle.line_model.specs.Told.{PutsTurn}
@@ -51,9 +51,6 @@ use Rattle.line_law.proofs.NothingAsked.{silent_follows}
 module _ (jobs : List Job) (turns : List GroupTurn) (log : List LogEntry) (a : ℕ) (w : World) (r : List Entry) (older : List Placed) (x : Entry) (at : ℕ) (s : SessionWorld) (same : entries older ≡ r) (kept : is_renewal x.what ≡ false) (h : HeadView r w.tunnel.present)
     (inv : InvT (books (x ∷ r)) w.tunnel) (once : IsActedOnce w.tunnel.gateway (x ∷ r)) (named : s.device.address.raw ≡ a) (time : s.now ≡ x.now) (upto : AreUpto at (moments older)) (one : (p q : HeldJob jobs log a) → (p.job ≡ q.job) × (p.since ≡ q.since))
     (can : (p : HeldJob jobs log a) → IsSendable p.job.plan) (c : Coupled a w r s) (before : AllAttempted jobs log a (moments older) s.client) where
-  abbrev m : Moment
-  m = record { what = deed (channel r) x; now = x.now; at = suc at }
-
   abbrev Next : Type 0
   Next = EntryGoes jobs log a w (x ∷ r) (moments older) (record { what = deed (channel r) x; now = x.now; at = suc at }) s
 

@@ -13,7 +13,7 @@ use Rattle.knx_model.specs.Plans.{Over as Ended}
 use Rattle.line_model.specs.declared.group.GroupTurn.{GroupTurn}
 use Rattle.line_model.specs.declared.log.LogEntry.{LogEntry}
 use Rattle.line_model.specs.Headline.{IsGoodJob}
-use Rattle.line_model.specs.Log.{Job, Held, loads, log_before, takes_it, ends_it, state_after, state_of, latest, IsLog, OneDownloaderPerDevice}
+use Rattle.line_model.specs.Log.{Job, Held, loads, log_before, takes_it, ends_it, state_after, state_of, latest, IsLog}
 use Rattle.line_model.specs.Moments.{Moment, moments, between}
 use Rattle.line_model.specs.OldStoppedOrNew.{first_events}
 use Rattle.line_model.specs.Record.{Item, Placed, placed_if, placed, item_at}
@@ -47,10 +47,6 @@ held_then k n worker since (e ∷ log) h le = by_entry (is_to k e) (held_then k 
 pub form_at : (jobs : List Job) (turns : List GroupTurn) (count : ℕ) (newer rest : List LogEntry) → IsLog jobs turns count (newer ++ rest) → IsLog jobs turns count rest
 form_at jobs turns count [] rest h = h
 form_at jobs turns count (x ∷ newer) rest h = form_at jobs turns count newer rest h.1
-
-pub alone_at : (jobs : List Job) (newer rest : List LogEntry) → OneDownloaderPerDevice jobs (newer ++ rest) → OneDownloaderPerDevice jobs rest
-alone_at jobs [] rest h = h
-alone_at jobs (x ∷ newer) rest h = alone_at jobs newer rest h.1
 
 pub true_at : (jobs : List Job) (turns : List GroupTurn) (places : List Placed) (newer older : List LogEntry) (e : LogEntry) → ToldTruly jobs turns places (newer ++ e ∷ older) → IsTrue jobs turns places older e.at e.what
 true_at jobs turns places [] older e h = h.0

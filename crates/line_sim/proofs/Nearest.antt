@@ -40,9 +40,6 @@ pub record IsNearestBefore (places : List (Option DeviceState)) (part : ℕ) (ne
   pub least : (end : ℕ) → nearest ≡ Some end → (k t : ℕ) → k < part → deadline_at (device_in places k) ≡ Some t → end ≤ t
   pub named : (end : ℕ) → nearest ≡ Some end → (k : ℕ) × (k < part) × (deadline_at (device_in places k) ≡ Some end)
 
-pub nearest_first : (places : List (Option DeviceState)) → IsNearestBefore places 0 None
-nearest_first places = record { never = λ e k h. absurd (omega (arith, h)); least = λ end e k t h. cc; named = λ end e. cc }
-
 -- a quiet device has no time
 pub quiet_has_none : (o : Option DeviceState) → IsQuietThere o → deadline_at o ≡ None
 unfolding device_deadline

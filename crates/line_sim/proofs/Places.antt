@@ -1,5 +1,5 @@
 -- The places of a line: one device more, one that is changed, and what stays so of each.
-use Rattle.std.proofs.Common.{◌≡◌, ◌≢◌, ℕ, zero, suc, ◌+◌, ◌*◌, ◌/◌, ◌%◌, ◌<◌, ◌==◌, Bool, true, false, ◌⊎◌, inl, inr, List, [], ◌∷◌, ◌++◌, Option, Some, None, slice_index_or, length, refl, ap, sym, subst, ◌∙◌, arith, if◌then◌else◌}
+use Rattle.std.proofs.Common.{◌≡◌, ◌≢◌, ℕ, ◌+◌, ◌*◌, ◌/◌, ◌%◌, ◌<◌, ◌==◌, Bool, true, false, ◌⊎◌, inl, inr, List, Option, Some, None, slice_index_or, length, refl, ap, sym, subst, ◌∙◌, arith, if◌then◌else◌}
 use Rattle.std.proofs.Math.ListN.{set, length-set}
 use Rattle.std.proofs.lemmas.List.{get_or-set_same, get_or-set_other, get_or_default}
 use Rattle.std.proofs.lemmas.Bool.{eqb-true, eq-eqb}
@@ -8,7 +8,7 @@ use Rattle.device_sim.specs.Sending.{IsQuiet}
 use Rattle.knx_model.specs.ApduReading.{option_map}
 use Rattle.line_model.specs.World.{Devices, changed}
 use Rattle.line_sim.specs.Parts.{has_part}
-use Rattle.line_sim.specs.Places.{DevicesNow, AreDevices, AreKept, IsNamed, IsQuietThere, with_device, device_at, device_in, line_part, device_part}
+use Rattle.line_sim.specs.Places.{AreDevices, AreKept, IsNamed, IsQuietThere, with_device, device_at, device_in, line_part, device_part}
 
 -- ---- tests
 
@@ -22,13 +22,6 @@ same_or_other a b = decide_so (a == b) refl
 choose : {X : Type 0} (t : Bool) (x y z : X) → (t ≡ true → x ≡ z) → (t ≡ false → y ≡ z) → (if t then x else y) ≡ z
 choose true x y z this that = this refl
 choose false x y z this that = that refl
-
-decide : (P : Type 0) (t : Bool) → (t ≡ true → P) → (t ≡ false → P) → P
-decide P true this that = this refl
-decide P false this that = that refl
-
-is_other : (a b : ℕ) → a ≢ b → (a == b) ≡ false
-is_other a b e = grind arith
 
 -- ---- one device more on the line
 
@@ -63,17 +56,6 @@ placed line places d devices long on are a = choose (a == d.address.raw) _ _ _
 pub place_is : (t : Bool) (k part : ℕ) → Some k ≡ (if t then Some part else None) → k ≡ part
 place_is true k part e = cc
 place_is false k part e = cc
-
--- ---- no devices
-
-pub none_more : (xs : List (Option DeviceState)) → ((k : ℕ) → slice_index_or xs k None ≡ None) → (k : ℕ) → slice_index_or (xs ++ None ∷ []) k None ≡ None
-none_more [] none zero = refl
-none_more [] none (suc k) = refl
-none_more (x ∷ xs) none zero = none zero
-none_more (x ∷ xs) none (suc k) = none_more xs (λ i. none (suc i)) k
-
-pub no_devices : (n : DevicesNow) → ((k : ℕ) → slice_index_or n.places k None ≡ None) → AreDevices n (λ address. None)
-no_devices n none a = sym (choose (line_part a == n.line) _ _ None (λ e. none (device_part a)) (λ e. refl))
 
 -- ---- a place is changed: its device keeps its address, and is marked busy unless it is quiet
 

@@ -12,10 +12,6 @@ use Rattle.line_model.specs.Telegrams.{unless_among, for_others, ActsByImage, Ev
 use Rattle.line_model.specs.World.{World, Event, Send, From, Renew, Up, UpRefused, Down, LoseUp, LoseDown, Bus, BusTorn, BusWorn, BusAgain, DevSend, DevRepeat, DevClose, GwAgain, GwRepeat, GwClose, Cut, On, Pass, Devices, now, next_frame, waiting_at, frame_by, is_among, all_take, others_take, changed, replay}
 use Rattle.telegram_law.proofs.Telegram.{acts_right}
 
-abbrev or_it : {A : Type 0} → A → Option A → A
-or_it x None = x
-or_it x (Some y) = y
-
 none_is : {P : Type 0} (frame : Ldata) → ◌≡◌ {A = Option Ldata} None (Some frame) → P
 none_is frame e = cc
 

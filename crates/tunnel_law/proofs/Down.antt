@@ -14,7 +14,7 @@ use Rattle.line_model.specs.ActedOnce.{Has, in_channel, IsPrefix}
 use Rattle.tunnel_law.proofs.Numbers as numbers
 use Rattle.tunnel_law.proofs.Numbers.{Near}
 use Rattle.tunnel_law.proofs.Read.{seen_of}
-use Rattle.tunnel_law.proofs.Inside.{CountedIn, Next, again_at, has_newest, tail_length, tail_by_one, split}
+use Rattle.tunnel_law.proofs.Inside.{has_newest, tail_length, tail_by_one}
 use Rattle.tunnel_law.proofs.Fits.{IsAck, IsTell}
 
 -- ---- a request of the gateway, as the client reads it: a long one is cut off, and is no frame then
@@ -101,31 +101,6 @@ before_is makers puts takes acks settled k d expected octets made endpoint n you
     let told : settled ≤ acks = b.told in
     let one : length puts ≤ suc settled = b.one in
     numbers.number_before near.place (length takes) (omega arith) (omega arith) (ap next_number (sym n_is) ∙ h ∙ e)
-
--- the client acknowledges the last that it took: for the first time, or again
-pub record Sends (up : List Sent) (number : Option ℕ) (e : ℕ) (s : Sent) (takes puts : List (List ℕ)) (settled : ℕ) : Type 0 where
-  pub acks : ℕ
-  pub sent : CountedIn (AckUp number) (NotAckUp e) (s ∷ up) acks
-  pub still : Between takes puts acks settled
-
-pub ack_sent : (up : List Sent) (number : Option ℕ) (e : ℕ) (s : Sent) (takes puts : List (List ℕ)) (acks settled a channel : ℕ) → Between takes puts acks settled → CountedIn (AckUp number) (NotAckUp e) up acks
-    → a + 1 ≡ length takes → datagram_in s.octets ≡ Some (TunnellingAck channel (a % 256) 0) → number ≡ Some channel → Sends up number e s takes puts settled
-ack_sent up number e s takes puts acks settled a channel b sent len is named =
-    let acked : acks ≤ length takes = b.acked in
-    let owes : length takes ≤ suc acks = b.owes in
-    let told : settled ≤ acks = b.told in
-    let ack : AckUp number a s = record { channel = channel; is = is; named = named } in
-    elim (split acks (length takes) acked) [
-      | inl all ↦
-          record { acks = acks; sent = again_at (AckUp number) (NotAckUp e) up s a acks (len ∙ sym all) ack sent; still = b }
-      | inr less ↦
-          (let a_is : acks ≡ a = omega arith in
-          record {
-            acks = suc acks;
-            sent = Next (subst (λ z. AckUp number z s) (sym a_is) ack) sent;
-            still = record { prefix = b.prefix; acked = omega arith; owes = omega arith; told = omega arith; one = b.one };
-          })
-    ]
 
 -- an acknowledgement of the outstanding number settles it
 pub settled_by : (takes puts : List (List ℕ)) (acks settled own d : ℕ) (f : Option IpFrame) (number : Option ℕ) (channel n : ℕ) → d < 128 → Between takes puts acks settled → own ≡ settled % 256 → length puts ≡ suc settled

@@ -7,8 +7,8 @@ use Rattle.knx_model.specs.declared.frames.ip.IpFrame.TheVariants.{TunnellingReq
 use Rattle.line_model.specs.Reading.{datagram_in}
 use Rattle.line_model.specs.Network.{Sent}
 use Rattle.line_model.specs.Gateway.{Gateway, number_of}
-use Rattle.line_model.specs.Tunnel.{Tunnel, TunnelEvent, Send, From, Renew, Up, UpRefused, Down, LoseUp, LoseDown, Carried, Heard, Repeat, Close, Pass, Elsewhere, Commissions, IsLegal, fresh, replay}
-use Rattle.line_model.specs.Record.{Item, Put, Entry, entry, noted, is_renewal, put_in, item_of, tunnel_record}
+use Rattle.line_model.specs.Tunnel.{Tunnel, TunnelEvent, Send, From, Renew, Up, UpRefused, Down, LoseUp, LoseDown, Carried, Heard, Repeat, Close, Pass, Elsewhere, fresh}
+use Rattle.line_model.specs.Record.{Item, Put, Entry, entry, noted, is_renewal, put_in, item_of}
 use Rattle.line_model.specs.ClientView.{ClientChannel, Fresh, View, unused, goes_on, after_entry, deed, channel, views, first_view_after, view_after}
 use Rattle.line_model.specs.Reading.{is_connect_request}
 use Rattle.line_model.specs.Renews.{RenewsRightly, RenewsSo, is_just_renewed}
@@ -19,7 +19,7 @@ use Rattle.tunnel_law.proofs.Fits.{Book, new_book, head_after, books, BookIs, Bo
 use Rattle.tunnel_law.proofs.Sends.{MaySend, ask_or}
 use Rattle.tunnel_law.proofs.Takes.{same_channel}
 use Rattle.tunnel_law.proofs.Took.{InvT}
-use Rattle.tunnel_law.proofs.Steps.{noted_in, MayDo, MaySendHere, step_kept}
+use Rattle.tunnel_law.proofs.Steps.{noted_in, MayDo, MaySendHere}
 
 -- ---- a renewed endpoint is fresh
 
@@ -145,16 +145,6 @@ first_each e x (inr q) = absurd q
 
 pub first : (me : IndAddr) → InvT (new_book ∷ []) (fresh me)
 first me = record { endpoints = refl; sent = tt; made = λ k e h. absurd h; unmade = λ k le. refl; each = first_each; serving = tt; acks = λ k. Nothing; responses = tt }
-
-always : (me : IndAddr) (events : List TunnelEvent) → IsLegal Commissions (fresh me) events → RenewsRightly (tunnel_record (fresh me) events) → SendsRightly (tunnel_record (fresh me) events)
-    → InvT (books (tunnel_record (fresh me) events)) (replay (fresh me) events)
-always me [] legal a b = first me
-always me (e ∷ events) legal a b =
-    let t : Tunnel = replay (fresh me) events in
-    let r : List Entry = tunnel_record (fresh me) events in
-    let now : ℕ = (replay (fresh me) (e ∷ events)).now in
-    let i : InvT (books r) t = always me events legal.1 (renews_before (item_of t e) now r a) (sends_before (item_of t e) now r b) in
-    books_noted (item_of t e) now r (replay (fresh me) (e ∷ events)) (step_kept (books r) t e now i legal.0 (may_do r t e now a b))
 
 -- ---- what this says
 

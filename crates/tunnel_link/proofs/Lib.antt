@@ -36,7 +36,6 @@ pub mod Stories
 pub mod Takes
 pub mod TakesRows
 pub mod TakesSends
-pub mod Timeless
 pub mod Times
 pub mod Waited
 pub mod Nearest

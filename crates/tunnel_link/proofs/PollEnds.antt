@@ -42,9 +42,6 @@ module _ (k : Known) (r : List Entry) (f : FitsRecord k r) (right : IsRight k r)
   in_time : is_over k.channel now ≡ false
   in_time = (or_parts (is_late k.flight now) (is_over k.channel now) over).1
 
-  told : ChannelTook
-  told = channel_took k.channel frame now
-
   timely : (end : ClientEnd) → k.channel ≡ end → FitsNow end (channel r) → InTimeAt (channel r) now
   timely Idle at g = none_timely (channel r) g
     where
