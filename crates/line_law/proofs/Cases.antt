@@ -20,7 +20,7 @@ use Rattle.session_law.specs.Events.{Event as SessionEvent, replay, IsLegal}
 use Rattle.session_law.proofs.Books.{Books, empty, books}
 use Rattle.session_law.proofs.Steps.{WorldInv, fresh_inv, always}
 use Rattle.load_law.specs.Download.{MayAsk, Follows}
-use Rattle.load_law.proofs.Capacities.{kept_capacities}
+use Rattle.knx_model.proofs.Capacities.{kept_capacities}
 use Rattle.load_law.proofs.Walked.{AllGoodFor}
 use Rattle.load_law.proofs.Follows.{LoadInv, load_always, fresh_load}
 use Rattle.load_law.proofs.Checked.{ChangesNothing, Unchanged, unchanged_step}

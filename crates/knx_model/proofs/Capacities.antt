@@ -72,7 +72,7 @@ whole_capacities nv (Loads o e) h = same_capacities nv o (load_step (loadable nv
 whole_capacities nv (Stores a octets) h = changed_capacities nv a (λ p at. memory_written p at octets) (λ p at. laid_capacity (takes_write p at (length octets)) p at octets) h
 whole_capacities nv Nothing h = h
 
-torn_capacities : (nv : NonVolatile) (e : Effect) (fresh : Bool) (octets : List ℕ) → HasCapacities nv → HasCapacities (torn nv e fresh octets)
+pub torn_capacities : (nv : NonVolatile) (e : Effect) (fresh : Bool) (octets : List ℕ) → HasCapacities nv → HasCapacities (torn nv e fresh octets)
 torn_capacities nv (Loads o e) fresh octets h = same_capacities nv o (load_torn (loadable nv o) e fresh octets) (torn_capacity (loadable nv o) e fresh octets) h
 torn_capacities nv (Stores a asked) fresh octets h =
     changed_capacities nv a (λ p at. memory_torn p at (length asked) octets) (λ p at. laid_capacity (takes_write p at (length asked)) p at (take (length asked) octets)) h
