@@ -9,7 +9,7 @@ use Rattle.line_model.specs.declared.log.LogWhat.{LogWhat}
 use Rattle.line_model.specs.declared.log.LogWhat.TheVariants.{Took, Done, Failed, Refused, Sent, Lost}
 use Rattle.line_model.specs.Log.{Job, JobState, Untaken, Held, Over, job_of, log_before, takes_it, ends_it, state_after, state_of, latest, IsLog, IsFree, SameDevice, OneDownloaderPerDevice}
 use Rattle.line_model.specs.Moments.{Moment, moments, between}
-use Rattle.line_model.specs.Record.{Item, placed_if, placed, entries, item_at, noted, record_of}
+use Rattle.line_model.specs.Record.{Item, placed_if, placed, item_at}
 use Rattle.line_model.specs.World.{World, Event, now, replay}
 use Rattle.tunnel_law.proofs.Inside.{Every}
 
@@ -176,13 +176,6 @@ pub after_more : (since : ℕ) (m : Moment) (l : List Moment) → since < m.at �
 after_more since m l h = let lt : nat_lt since m.at ≡ true = grind (arith, h) in rw lt refl
 
 -- ---- places
-
-pub entries_of : (start : World) (events : List Event) → entries (placed start events) ≡ record_of start events
-entries_of start [] = refl
-entries_of start (e ∷ events) = by_item (item_at (replay start events) e) (entries_of start events) where
-  by_item : (o : Option Item) → entries (placed start events) ≡ record_of start events → entries (placed_if (length (e ∷ events)) (now (replay start (e ∷ events))) o (placed start events)) ≡ noted o (now (replay start (e ∷ events))) (record_of start events)
-  by_item None q = q
-  by_item (Some what) q = ap (λ z. Rattle.line_model.specs.Record.entry what (now (replay start (e ∷ events))) ∷ z) q
 
 pub moments_upto : (start : World) (events : List Event) → AreUpto (length events) (moments (placed start events))
 moments_upto start [] = tt

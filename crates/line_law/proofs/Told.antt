@@ -20,6 +20,7 @@ use Rattle.line_model.specs.Record.{Item, Placed, placed_if, placed, item_at}
 use Rattle.line_model.specs.Told.{ToldTruly, IsTrue}
 use Rattle.line_model.specs.World as line
 use Rattle.line_model.specs.World.{World, Event, now}
+use Rattle.line_model.proofs.Moments.{not_yet}
 use Rattle.line_law.proofs.Logs.{IsTo, TakesIt, EndsIt, Else, is_to, took_state, ended_state, after_other, before_in, AreUpto, after, between_is, moments_upto}
 
 -- ---- the job was held before the moment
@@ -80,13 +81,6 @@ none_between since upto (m ∷ l) h = by_test (nat_lt since m.at && nat_le m.at 
 
 pub nothing_between : (since upto : ℕ) (l : List Moment) → upto ≤ since → between since upto l ≡ []
 nothing_between since upto l h = none_between since upto l h
-
-not_yet : (since upto : ℕ) (m : Moment) (l : List Moment) → upto < m.at → between since upto (m ∷ l) ≡ between since upto l
-not_yet since upto m l h = by_test (nat_lt since m.at) (nat_le m.at upto) (grind (arith, h)) where
-  by_test : (b c : Bool) → c ≡ false → ◌≡◌ {A = List Moment} (cond (b && c) (m ∷ between since upto l) (between since upto l)) (between since upto l)
-  by_test true true e = absurd (cc)
-  by_test true false e = refl
-  by_test false c e = refl
 
 upto_least : (n k : ℕ) (l : List Moment) → n ≤ k → AreUpto n l → AreUpto k l
 upto_least n k [] le h = tt

@@ -16,3 +16,6 @@ pub mod Turns
 pub mod Prints
 mod Lapses
 pub mod Deadlines
+pub mod UnderWay
+pub mod Entries
+pub mod Moments

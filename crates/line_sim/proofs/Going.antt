@@ -1,11 +1,12 @@
 -- The datagram that goes next, and one that goes once more, may come.
-use Rattle.std.proofs.Common.{◌≡◌, ℕ, zero, suc, ◌+◌, ◌-◌, Bool, true, false, not, ◌&&◌, ◌==◌, List, [], ◌∷◌, length, Option, Some, None, refl, ap, sym, subst, ◌∙◌, arith, if◌then◌else◌}
+use Rattle.std.proofs.Common.{◌≡◌, ℕ, zero, suc, ◌+◌, ◌-◌, Bool, true, false, ◌&&◌, ◌==◌, List, [], ◌∷◌, length, Option, Some, None, refl, ap, sym, subst, ◌∙◌, arith, if◌then◌else◌}
 use Rattle.std.specs.Prelude.{IfSome, nat_lt, slice_get}
 use Rattle.std.proofs.lemmas.Bool.{and_parts}
 use Rattle.line_model.specs.Deliveries.{is_under_way, oldest, or_here}
-use Rattle.line_model.specs.Network.{Sent, IsUnderWay, OfSent, oldest_age, most_deliveries, channel_numbers}
+use Rattle.line_model.specs.Network.{Sent, IsUnderWay, OfSent}
 use Rattle.line_model.specs.Owed.{goes_again, passes_again}
 use Rattle.line_model.specs.Tunnel.{Mode}
+use Rattle.line_model.proofs.UnderWay.{under_way}
 use Rattle.network_sim.specs.declared.place.Reach.{Reach}
 use Rattle.network_sim.specs.declared.place.Reach.TheVariants.{Every, To}
 use Rattle.network_sim.specs.Arriving.{MayCome, passes}
@@ -13,17 +14,6 @@ use Rattle.network_sim.specs.Window.{CanTell, Window, kept_age, window_of}
 use Rattle.network_sim.proofs.Ages.{goes_again_kept}
 
 -- ---- tests
-
-under_way : (m age : ℕ) (s : Sent) → is_under_way m age s ≡ true → IsUnderWay m age s
-under_way m age s h =
-    let three = and_parts (not s.lost && nat_lt s.delivered most_deliveries && nat_lt age oldest_age) (nat_lt m (s.made + channel_numbers)) h in
-    let two = and_parts (not s.lost && nat_lt s.delivered most_deliveries) (nat_lt age oldest_age) three.0 in
-    let one = and_parts (not s.lost) (nat_lt s.delivered most_deliveries) two.0 in
-    record { kept = not_lost s.lost one.0; twice = grind arith; young = grind arith; soon = grind arith }
-  where
-    not_lost : (b : Bool) → not b ≡ true → b ≡ false
-    not_lost true h = cc
-    not_lost false h = refl
 
 may_come : (reach : Reach) (m age : ℕ) (sent : List Sent) → OfSent (λ s. passes reach m age s ≡ true) (slice_get sent age) → MayCome reach m sent age
 may_come Every m age sent h = by_sent (slice_get sent age) h

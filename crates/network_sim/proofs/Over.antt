@@ -1,23 +1,17 @@
 -- When all that was sent is over: where none goes first.
-use Rattle.std.proofs.Common.{◌≡◌, ℕ, zero, suc, ◌+◌, ◌<◌, Bool, true, false, not, ◌&&◌, ◌==◌, List, [], ◌∷◌, refl, sym, subst, ◌∙◌, inl, inr, arith, Option, Some, None}
+use Rattle.std.proofs.Common.{◌≡◌, ℕ, zero, suc, ◌+◌, Bool, true, false, not, ◌&&◌, ◌==◌, List, [], ◌∷◌, refl, sym, subst, ◌∙◌, inl, inr, arith, Option, Some, None}
 use Rattle.std.specs.Prelude.{nat_lt, slice_get, is_some}
-use Rattle.std.proofs.lemmas.Bool.{cases_eq, and_parts, and_from, not-true, not_from_false}
+use Rattle.std.proofs.lemmas.Bool.{cases_eq, and_parts, and_from, not_from_false}
 use Rattle.line_model.specs.Deliveries.{is_under_way, or_here, oldest}
 use Rattle.line_model.specs.Fresh.{IsOver}
 use Rattle.line_model.specs.Network.{Sent, IsUnderWay, OfSent}
+use Rattle.line_model.proofs.UnderWay.{under_way}
 use Rattle.network_sim.specs.declared.place.Reach.{Reach}
 use Rattle.network_sim.specs.declared.place.Reach.TheVariants.{Every, To}
 use Rattle.network_sim.specs.Arriving.{passes, MayCome, AllOver}
 use Rattle.network_sim.proofs.Deliveries.{goes, none_oldest}
 
 -- ---- the test and what it tests
-
-under_is : (made age : ℕ) (s : Sent) → is_under_way made age s ≡ true → IsUnderWay made age s
-under_is made age s e =
-    let a = and_parts _ _ e in let b = and_parts _ _ a.0 in let c = and_parts _ _ b.0 in
-    let kept : s.lost ≡ false = not-true s.lost c.0 in let twice : s.delivered < 2 = grind (arith, c.1) in
-    let young : age < 128 = grind (arith, b.1) in let soon : made < s.made + 255 = grind (arith, a.1) in
-    record { kept = kept; twice = twice; young = young; soon = soon }
 
 is_under : (made age : ℕ) (s : Sent) → IsUnderWay made age s → is_under_way made age s ≡ true
 is_under made age s u =
@@ -26,12 +20,12 @@ is_under made age s u =
     and_from _ _ (and_from _ _ (and_from _ _ (not_from_false s.lost u.kept) twice) young) soon
 
 passes_is : (reach : Reach) (made : ℕ) (sent : List Sent) (age : ℕ) (s : Sent) → slice_get sent age ≡ Some s → passes reach made age s ≡ true → MayCome reach made sent age
-passes_is Every made sent age s there e = let Q : Option Sent → Type 0 = OfSent (IsUnderWay made age) in subst Q (sym there) (under_is made age s e)
+passes_is Every made sent age s there e = let Q : Option Sent → Type 0 = OfSent (IsUnderWay made age) in subst Q (sym there) (under_way made age s e)
 passes_is (To endpoint) made sent age s there e =
     let p = and_parts _ _ e in
     let here : s.endpoint ≡ endpoint = grind (arith, p.1) in
     let Q : Option Sent → Type 0 = OfSent (λ t. IsUnderWay made age t × (t.endpoint ≡ endpoint)) in
-    subst Q (sym there) (under_is made age s p.0, here)
+    subst Q (sym there) (under_way made age s p.0, here)
 
 is_passed : (reach : Reach) (made : ℕ) (sent : List Sent) (age : ℕ) (s : Sent) → slice_get sent age ≡ Some s → MayCome reach made sent age → passes reach made age s ≡ true
 is_passed Every made sent age s there may = let Q : Option Sent → Type 0 = OfSent (IsUnderWay made age) in is_under made age s (subst Q there may)
@@ -42,8 +36,8 @@ is_passed (To endpoint) made sent age s there may =
     and_from _ _ (is_under made age s p.0) here
 
 passed_kept : (reach : Reach) (made age : ℕ) (s : Sent) → passes reach made age s ≡ true → s.lost ≡ false
-passed_kept Every made age s e = (under_is made age s e).kept
-passed_kept (To endpoint) made age s e = (under_is made age s (and_parts _ _ e).0).kept
+passed_kept Every made age s e = (under_way made age s e).kept
+passed_kept (To endpoint) made age s e = (under_way made age s (and_parts _ _ e).0).kept
 
 -- ---- none goes first
 
