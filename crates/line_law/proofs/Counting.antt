@@ -15,6 +15,7 @@ use Rattle.line_model.specs.Moments.{Number}
 use Rattle.line_model.specs.Progress.{Reaches, suits}
 use Rattle.line_law.proofs.Reaching.{Texts, too_many, answered_one, suits_next}
 use Rattle.line_law.proofs.Counts.{NumberIs, ExpectedIs, AwaitsOne, LeftIs, Spoilt, Count, CountIs, Effect, Drops, Agains, Naks, Acks, Answers, stayed_count, acked_count}
+use Rattle.line_law.proofs.Hearing.{suits_is}
 
 -- ---- an answer
 
@@ -41,11 +42,6 @@ awaits_after (Up p) t = refl
 awaits_after (Asking p q) t = refl
 awaits_after (Awaiting p) t = refl
 awaits_after Ended t = refl
-
-suits_is : (left : Plan) (got apdu : List ℕ) (expect : Expect) (next : Option (List ℕ) → Plan) → left ≡ Operation apdu expect next → suits left got ≡ true → Suits apdu expect (Some got)
-suits_is left got apdu AckOnly next e h = absurd (let z : suits (Operation apdu AckOnly next) got ≡ true = ap (λ p. suits p got) (sym e) ∙ h in cc)
-suits_is left got apdu (Is wanted) next e h = let z : suits (Operation apdu (Is wanted) next) got ≡ true = ap (λ p. suits p got) (sym e) ∙ h in (bytes_eq-Decides got wanted).0 z
-suits_is left got apdu Note next e h = ap (λ p. suits p got) (sym e) ∙ h
 
 is_suits : (left : Plan) (got apdu : List ℕ) (expect : Expect) (next : Option (List ℕ) → Plan) → left ≡ Operation apdu expect next → Suits apdu expect (Some got) → suits left got ≡ true
 is_suits left got apdu AckOnly next e h = absurd h

@@ -20,7 +20,7 @@ use Rattle.line_law.proofs.Attempting.{NotConnect, FlyFits, IsAwaited, Stands, I
 
 -- ---- an answer that suits
 
-suits_is : (left : Plan) (got apdu : List ℕ) (expect : Expect) (next : Option (List ℕ) → Plan) → left ≡ Operation apdu expect next → suits left got ≡ true → Suits apdu expect (Some got)
+pub suits_is : (left : Plan) (got apdu : List ℕ) (expect : Expect) (next : Option (List ℕ) → Plan) → left ≡ Operation apdu expect next → suits left got ≡ true → Suits apdu expect (Some got)
 suits_is left got apdu AckOnly next e h = absurd (let z : suits (Operation apdu AckOnly next) got ≡ true = ap (λ p. suits p got) (sym e) ∙ h in cc)
 suits_is left got apdu (Is wanted) next e h = let z : suits (Operation apdu (Is wanted) next) got ≡ true = ap (λ p. suits p got) (sym e) ∙ h in (bytes_eq-Decides got wanted).0 z
 suits_is left got apdu Note next e h = ap (λ p. suits p got) (sym e) ∙ h

@@ -153,16 +153,13 @@ upto_more n [] h = tt
 upto_more n (m ∷ l) h = (omega (arith, h.0), upto_more n l h.1)
 
 -- all are up to a later place
-between_after : (since n : ℕ) (l : List Moment) → AreUpto n l → between since n l ≡ after since l
+pub between_after : (since n : ℕ) (l : List Moment) → AreUpto n l → between since n l ≡ after since l
 between_after since n [] h = refl
 between_after since n (m ∷ l) h = by_test (nat_lt since m.at) (nat_le m.at n) (grind (arith, h.0)) (between_after since n l h.1) where
   by_test : (b c : Bool) → c ≡ true → between since n l ≡ after since l → ◌≡◌ {A = List Moment} (cond (b && c) (m ∷ between since n l) (between since n l)) (cond b (m ∷ after since l) (after since l))
   by_test true true e q = ap (λ z. m ∷ z) q
   by_test true false e q = absurd (cc)
   by_test false c e q = q
-
-pub between_is : (since n : ℕ) (l : List Moment) → AreUpto n l → between since n l ≡ after since l
-between_is since n l h = between_after since n l h
 
 -- nothing is since a place that is the last
 pub after_last : (n : ℕ) (l : List Moment) → AreUpto n l → after n l ≡ []

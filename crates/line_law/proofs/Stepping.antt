@@ -44,7 +44,7 @@ use Rattle.line_law.proofs.Landing.{Free, PutsSo as PutsAllowed}
 use Rattle.line_law.proofs.Telling.{take_attempt, still_attempt, lost_attempt, none_runs}
 use Rattle.line_law.proofs.Asking.{asks_kept}
 use Rattle.line_law.proofs.Requests.{PutsGoes, other_step}
-use Rattle.line_law.proofs.Logs.{AreUpto, after, between_is, upto_more}
+use Rattle.line_law.proofs.Logs.{AreUpto, after, upto_more, between_after}
 use Rattle.line_law.proofs.HeldJobs.{HeldJob, HeldPlan, AllAttempted, AttemptedOn, EntryGoes, moves_number, its_is}
 use Rattle.line_law.proofs.NothingAsked.{silent_follows}
 
@@ -209,7 +209,7 @@ module _ (jobs : List Job) (turns : List GroupTurn) (log : List LogEntry) (a : �
   job_next n l content f p q true its =
       let to : f.destination ≡ a = eqb-true f.destination a (its_is f.group (f.destination == a) its) in
       let k : HeldJob jobs log a = record { number = q.k; job = q.job; worker = q.worker; since = q.since; there = q.there; of_device = sym q.to ∙ to; held = q.held } in
-      mine n l content f p its k q.alone to (subst (λ z. MayPut (attempts q.job.device q.job.plan z) x.now f.tpdu (frame_in f.tpdu)) (between_is q.since (suc at) (moments older) (upto_more at (moments older) upto)) q.may)
+      mine n l content f p its k q.alone to (subst (λ z. MayPut (attempts q.job.device q.job.plan z) x.now f.tpdu (frame_in f.tpdu)) (between_after q.since (suc at) (moments older) (upto_more at (moments older) upto)) q.may)
 
   puts_next : (n : ℕ) (l : List Entry) (content : List ℕ) → channel r ≡ Open n l → channel (x ∷ r) ≡ Open n (x ∷ l) → deed (channel r) x ≡ view.Puts content → is_new_request n l x ≡ true
       → IsRightRequest jobs turns log older (record { what = view.Puts content; now = x.now; at = suc at }) content → Next
