@@ -200,6 +200,16 @@ def told(r):
     return [*command, "new", *words], {"new": text_of(r, says), "cat": document}
 
 
+TURNS = ("turns=1", "turns=9", "turns=0x10", "turns=0100000000", "turns=1000000000", "turns=1000000001", "turns=4294967297", "turns=0", "turns=", "turns=-1", "Turns=1", "5")
+
+
+def gateway(r):
+    words, files = sim(r)
+    options = [word for word in words[4:] if word.startswith("catalogue=") or r.random() < 0.02]
+    at, turns = (r.choice(them if r.random() < 0.1 else them[:5]) for them in (GATEWAYS, TURNS))
+    return ["gateway", at, "old", "script", turns, *options], {**files, "new": b""}
+
+
 # ---- datagrams
 
 def some(r, least, most):
@@ -244,7 +254,7 @@ def decode(r):
 
 
 def call(r):
-    words, files = r.choice((sim, sim, sim, sim, sim, sim, told, told, decode, decode))(r)
+    words, files = r.choice((sim, sim, sim, sim, sim, sim, told, told, gateway, decode, decode))(r)
     if files and r.random() < 0.01:
         del files[r.choice(sorted(files))]
     if r.random() < 0.01:

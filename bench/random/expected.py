@@ -2,7 +2,7 @@
 said without running it, of its report. run.py asks it of many calls."""
 import re
 
-from formats import CatalogueRefused, Project, Refused, individual, individual_text, models_of, script_of
+from formats import CatalogueRefused, Project, Refused, individual, individual_text, models_of, number, script_of
 from frames import datagram
 from plan import check_end, load_end
 
@@ -12,7 +12,7 @@ OCTETS = "(?:-|(?:[0-9A-F]{2})+)"
 JOB = re.compile(rf"job (\d+) (load|check) (\S+) (done|open|failed{SIGN}{{3}}|refused \d+ got {OCTETS} expected {OCTETS})")
 LOG = re.compile(r"log (\d+) 1 (took|done|failed|refused) (\d+)")
 ALL_NOCON = "failed nocon nocon nocon"
-# a download that stops before it dials is told so; one that dials is answered so where no gateway can be reached
+# a download that stops before it dials, and a gateway that stops before it binds, is told so; one that goes on is answered so where nothing can be dialled or bound
 DIALS = (9, "link fault\n")
 
 
@@ -31,6 +31,10 @@ def is_gateway(word):
     parts = address.split(".")
     return (len(parts) == 4 and all(re.fullmatch("[0-9]{1,3}", part) and int(part) < 256 for part in parts)
             and (not colon or bool(re.fullmatch("[0-9]{1,5}", port)) and 0 < int(port) < 65536))
+
+
+def are_turns(word):
+    return word.startswith("turns=") and 1 <= (number(word[6:]) or 0) <= 10 ** 9
 
 
 def read(files, name):
@@ -71,11 +75,27 @@ def models_in(octets):
         raise Stop(4, f"catalogue: {why}\n") from None
 
 
+def served(words, files):
+    """What `gateway` tells before it binds its port."""
+    if len(words) < 4 or not is_gateway(words[0]) or not are_turns(words[3]):
+        raise Stop(2, USAGE)
+    catalogue, _, _ = options_of(words[4:], False)
+    models = [read(files, catalogue)] if catalogue is not None else []
+    texts = [read(files, name) for name in words[1:3]]
+    models = models_in(models[0]) if models else {}
+    old = judged("old", Project, texts[0], models)
+    # lines with `group` have no effect
+    Run(old, old, [it for it in judged("script", script_of, texts[1]) if not it[1].endswith("group")], False, [])
+    raise Stop(*DIALS)
+
+
 def asked(words, files):
     """What is to be told of words that need no run, or the run."""
     command, rest = words[0] if words else "", words[1:]
     if command == "decode" and len(rest) == 1 and re.fullmatch("([0-9A-Fa-f]{2}){1,512}", rest[0]):
         return "".join(line + "\n" for line in datagram(bytes.fromhex(rest[0])))
+    if command == "gateway":
+        served(rest, files)
     if command == "download" and rest:
         rest = rest[1:] if is_gateway(rest[0]) else []
     count = {"check": 1, "tables": 1, "download": 1, "sim": 3}.get(command, len(rest) + 1)

@@ -3,7 +3,7 @@
     python3 bench/random/run.py [--prog ./crates/knx_cli/out/knx_cli] [--runs 3000] [--seed 1] [--only K] [--keep FOLDER] [--try] [--stored]
 
 Each call is made of seed and number alone: random projects, catalogues, scripts of all lines that `sim` takes, jobs and options, and random datagrams;
-some have something wrong. Of `download` there are only calls that stop before a gateway is dialled. Where the page settles the answer (expected.py),
+some have something wrong. Of `download` and `gateway` there are only calls that stop before anything is dialled or bound. Where the page settles the answer (expected.py),
 status and text have to be just that: every refusal, and all that `check`, `tables` and `decode` tell. Of a run of `sim` the report has to be of its form, its status, jobs, devices and log have to agree, and each device has to
 be what it may be after what its jobs told: new after done, unchanged where nothing was loaded, and old, stopped or new else. A job has to end done where
 fewer than three lines of the script can disturb it. Each fourth run is made twice, with another choice of `log` and a line of the script that nothing
@@ -115,7 +115,7 @@ def random_calls(args):
         made = {k: told for k, it in made.items() if (told := transcripts.as_told(*it))}
     wants = {k: wanted_of(*it) for k, it in made.items()}
     if not args.unproved:
-        # the program would dial a gateway
+        # the program would dial a gateway, or bind a port
         made = {k: it for k, it in made.items() if wants[k] != DIALS}
     twins = {k: twin_of(*made[k]) for k in made if k % 4 == 0 and isinstance(wants[k], Run)}
     calls = [it for k in made for it in (made[k], twins.get(k)) if it]

@@ -57,8 +57,8 @@ def lines_told(line):
 
 
 def stored():
-    """The calls of the stored transcript, each with what it has to answer."""
-    files, words, name, calls = {}, [], None, []
+    """The calls of the stored transcript, each with what it answers; None also where it has a port."""
+    files, words, name, calls, has_port = {}, [], None, [], False
     for line in (CRATE / "stdin").read_text(encoding="utf-8").split("\n"):
         if name is not None:
             if line == "end":
@@ -69,11 +69,14 @@ def stored():
             name, said = line[5:], []
         elif line.startswith("with "):
             words = line[5:].split()
+        elif line.startswith("port"):
+            has_port = True
         elif line.startswith(("$ ", "> ")):
             if line[0] == ">":
                 files["s"] = unescaped(line[2:])
-            calls.append((words if line[0] == ">" else line[2:].split(), dict(files)))
+            calls.append((words if line[0] == ">" else line[2:].split(), dict(files), has_port))
+            has_port = False
     answers = answers_in((CRATE / "stdout").read_text(encoding="utf-8"))
     if len(answers) != len(calls):
         raise SystemExit(f"{len(calls)} calls stand in the transcript, and {len(answers)} answers")
-    return zip(calls, answers)
+    return [((words, files), None if has_port else answer) for (words, files, has_port), answer in zip(calls, answers)]

@@ -99,5 +99,5 @@ where_taken false false P k l e same = refl
 where_taken true false P k l e same = cc
 where_taken false true P k l e same = cc
 
-pub capped_few : (n : ℕ) → n < 2 ^ 62 → capped n ≡ n
+pub capped_few : (n : ℕ) → n < 2 ^ 63 → capped n ≡ n
 capped_few n few = omega arith

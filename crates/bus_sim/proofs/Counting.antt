@@ -63,12 +63,12 @@ pub record Counts (w : World) (e : Event) (address : ℕ) (met : Met) : Type 0 w
   pub wrote : (a : ℕ) → writes_one a w e ≡ (if a == address then met.wrote else false)
   pub connect : connect_reaches w e ≡ false
 
-one_more : (t : Bool) (n : ℕ) → n < 2 ^ 62 → and_if t n ≡ (if t then suc n else n)
+one_more : (t : Bool) (n : ℕ) → n < 2 ^ 63 → and_if t n ≡ (if t then suc n else n)
 one_more true n few = omega arith
 one_more false n few = refl
 
 -- the counts of one device
-here : (m : Met) (s t u v : Bool) (c : DeviceCounts) → s ≡ m.to → t ≡ m.from → u ≡ m.taken → v ≡ m.wrote → c.to < 2 ^ 62 → c.from < 2 ^ 62 → c.taken < 2 ^ 62 → c.writes < 2 ^ 62
+here : (m : Met) (s t u v : Bool) (c : DeviceCounts) → s ≡ m.to → t ≡ m.from → u ≡ m.taken → v ≡ m.wrote → c.to < 2 ^ 63 → c.from < 2 ^ 63 → c.taken < 2 ^ 63 → c.writes < 2 ^ 63
     → and_met m c ≡ record { to = if s then suc c.to else c.to; from = if t then suc c.from else c.from; taken = if u then suc c.taken else c.taken; writes = if v then suc c.writes else c.writes }
 here m s t u v c es et eu ev a b d f =
     let to = one_more m.to c.to a ∙ ap (λ x. if x then suc c.to else c.to) (sym es) in
@@ -109,23 +109,23 @@ part_below a = omega arith
 abbrev grown : CountsNow → ℕ → Met → List DeviceCounts
 grown n address met = slice_set n.places (address % 256) (and_met met (counts_in n.places (address % 256)))
 
-pub counted : (n : CountsNow) (start : World) (es : List Event) (e : Event) (address : ℕ) (met : Met) → Counts (replay start es) e address met → length n.places ≡ 256 → length es + 1 < 2 ^ 62 → AreCounts n start es
+pub counted : (n : CountsNow) (start : World) (es : List Event) (e : Event) (address : ℕ) (met : Met) → Counts (replay start es) e address met → length n.places ≡ 256 → length es + 1 < 2 ^ 63 → AreCounts n start es
     → AreCounts (added address met n) start (e ∷ es)
 counted n start es e address met is size few are = by_line (line_of address == n.line) refl
   where
     w : World
     w = replay start es
 
-    few_to : (a : ℕ) → (counts_of start es a).to < 2 ^ 62
+    few_to : (a : ℕ) → (counts_of start es a).to < 2 ^ 63
     few_to a = let h = count_few (goes_to a) start es in omega arith
 
-    few_from : (a : ℕ) → (counts_of start es a).from < 2 ^ 62
+    few_from : (a : ℕ) → (counts_of start es a).from < 2 ^ 63
     few_from a = let h = count_few (comes_from a) start es in omega arith
 
-    few_taken : (a : ℕ) → (counts_of start es a).taken < 2 ^ 62
+    few_taken : (a : ℕ) → (counts_of start es a).taken < 2 ^ 63
     few_taken a = let h = count_few (takes_one a) start es in omega arith
 
-    few_writes : (a : ℕ) → (counts_of start es a).writes < 2 ^ 62
+    few_writes : (a : ℕ) → (counts_of start es a).writes < 2 ^ 63
     few_writes a = let h = count_few (writes_one a) start es in omega arith
 
     -- of an address that isn't the event's nothing is counted
@@ -171,7 +171,7 @@ counted n start es e address met is size few are = by_line (line_of address == n
 -- ---- a connect request that reaches the gateway, and nothing else
 
 pub asked : (n : CountsNow) (start : World) (es : List Event) (e : Event) (more : Bool) → ((a : ℕ) → goes_to a (replay start es) e ≡ false) → ((a : ℕ) → comes_from a (replay start es) e ≡ false)
-    → ((a : ℕ) → takes_one a (replay start es) e ≡ false) → ((a : ℕ) → writes_one a (replay start es) e ≡ false) → connect_reaches (replay start es) e ≡ more → length es + 1 < 2 ^ 62 → AreCounts n start es
+    → ((a : ℕ) → takes_one a (replay start es) e ≡ false) → ((a : ℕ) → writes_one a (replay start es) e ≡ false) → connect_reaches (replay start es) e ≡ more → length es + 1 < 2 ^ 63 → AreCounts n start es
     → AreCounts (connected more n) start (e ∷ es)
 asked n start es e more to from taken wrote is few are = record {
   devices = λ a on. are.devices a on ∙ away (goes_to a (replay start es) e) (comes_from a (replay start es) e) (takes_one a (replay start es) e) (writes_one a (replay start es) e) (counts_of start es a) (to a) (from a) (taken a) (wrote a);

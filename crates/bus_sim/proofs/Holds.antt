@@ -21,13 +21,13 @@ run b es = record { begun = b; events = es }
 -- ---- one event more
 
 module _ (b : Beginning) (es es' : List Event) (index : ScriptIndex) (n m : LineNow) (counts counts' : CountsNow) (o o' left cs : List Owed) (e : Event) where
-  after : IsHeld (run b es) index n counts o → ((w : World) → IsNow n w → IsNow m (step w e)) → IsRight (run b es) e → es' ≡ e ∷ es → length es + 1 < 2 ^ 62
+  after : IsHeld (run b es) index n counts o → ((w : World) → IsNow n w → IsNow m (step w e)) → IsRight (run b es) e → es' ≡ e ∷ es → length es + 1 < 2 ^ 63
       → ((w : World) → IsNow m w → AreCounted w → o' ≡ filter (is_possible (mode_in b) w) (left ++ cs)) → left ≡ left_after e o → cs ≡ caused (said b) (start_of b) es e → AreCounts counts' (start_of b) (e ∷ es) → counts'.line ≡ counts.line
       → IsFromClient e → IsHeld (run b es') index m counts' o'
   after h goes right grown few meets leaves causes counts_too line client =
       let w : World = replay (start_of b) es in
       let pictured : IsNow m (step w e) = goes w h.pictured in
-      let small : length (e ∷ es) < 2 ^ 62 = omega (arith, few) in
+      let small : length (e ∷ es) < 2 ^ 63 = omega (arith, few) in
       let exact : AreCounted (step w e) = counted (start_of b) (e ∷ es) h.keeps.fresh small in
       let new : IsHeld (run b (e ∷ es)) index m counts' o' = record {
         loaded = h.loaded;
@@ -46,7 +46,7 @@ module _ (b : Beginning) (es es' : List Event) (index : ScriptIndex) (n m : Line
 
 -- of the line's own
 pub after_own : (b : Beginning) (es es0 es' : List Event) (index : ScriptIndex) (n m : LineNow) (counts counts' : CountsNow) (o o0 o' cs : List Owed) (e : Event) → is_clients e ≡ false
-    → IsHeld (run b es) index n counts o → ((w : World) → IsNow n w → IsNow m (step w e)) → IsRight (run b es) e → es0 ≡ es → es' ≡ e ∷ es0 → length es + 1 < 2 ^ 62
+    → IsHeld (run b es) index n counts o → ((w : World) → IsNow n w → IsNow m (step w e)) → IsRight (run b es) e → es0 ≡ es → es' ≡ e ∷ es0 → length es + 1 < 2 ^ 63
     → o0 ≡ o → ((w : World) → IsNow m w → AreCounted w → o' ≡ filter (is_possible (mode_in b) w) (drop 1 o0 ++ cs)) → cs ≡ caused (said b) (start_of b) es e → AreCounts counts' (start_of b) (e ∷ es) → counts'.line ≡ counts.line
     → IsHeld (run b es') index m counts' o'
 after_own b es es0 es' index n m counts counts' o o0 o' cs e own h goes right same grown few same_owed meets causes counts_too line =
@@ -54,7 +54,7 @@ after_own b es es0 es' index n m counts counts' o o0 o' cs e own h goes right sa
 
 -- of the client's
 pub after_client : (b : Beginning) (es es0 es' : List Event) (index : ScriptIndex) (n m : LineNow) (counts counts' : CountsNow) (o o0 o' : List Owed) (e : Event) → is_clients e ≡ true → IsFromClient e
-    → IsHeld (run b es) index n counts o → ((w : World) → IsNow n w → IsNow m (step w e)) → IsRight (run b es) e → es0 ≡ es → es' ≡ e ∷ es0 → length es + 1 < 2 ^ 62
+    → IsHeld (run b es) index n counts o → ((w : World) → IsNow n w → IsNow m (step w e)) → IsRight (run b es) e → es0 ≡ es → es' ≡ e ∷ es0 → length es + 1 < 2 ^ 63
     → o0 ≡ o → ((w : World) → IsNow m w → AreCounted w → o' ≡ filter (is_possible (mode_in b) w) o0) → [] ≡ caused (said b) (start_of b) es e → AreCounts counts' (start_of b) (e ∷ es) → counts'.line ≡ counts.line
     → IsHeld (run b es') index m counts' o'
 after_client b es es0 es' index n m counts counts' o o0 o' e theirs client h goes right same grown few same_owed meets causes counts_too line =

@@ -33,5 +33,6 @@ pub mod Playing
 pub mod Quiets
 pub mod Turned
 pub mod Serves
+pub mod Sound
 pub mod Faults
 pub mod Meets

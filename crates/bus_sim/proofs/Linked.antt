@@ -77,7 +77,7 @@ told_stopped wait old new h =
 pub still_nothing : (wait : ℕ) (old mid new : RunNow) → new ≡ mid → StopsRun wait old mid → PollsNothing wait (story old) (story new)
 still_nothing wait old mid new same h = subst (λ r. PollsNothing wait (story old) (story r)) (sym same) (told_stopped wait old mid h)
 
-stops_later : (wait : ℕ) (old new : RunNow) → StopsRun wait old new → RunsLater old new
+pub stops_later : (wait : ℕ) (old new : RunNow) → StopsRun wait old new → RunsLater old new
 stops_later wait old new h =
     let later : IsLater (Full (start old) old.events) (Full (start old) new.events) = goes_later (start old) old.events new.events h.goes in
     record { time = subst (λ (b : Beginning). time old ≤ now (replay (start_of b) new.events)) (sym h.same) later.time; events = later.events }

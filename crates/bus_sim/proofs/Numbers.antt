@@ -31,11 +31,11 @@ other_number : (a b : ℕ) → (a == b) ≡ false → a ≢ b
 other_number a b e = grind arith
 
 -- one more than a count
-pub one_more : (held known : ℕ) → held ≡ known → known < 2 ^ 62 → min (held + 1) (2 ^ 64 - 1) ≡ suc known
+pub one_more : (held known : ℕ) → held ≡ known → known < 2 ^ 63 → min (held + 1) (2 ^ 64 - 1) ≡ suc known
 one_more held known e few = omega arith
 
 module _ (b : Beginning) (es : List Event) (index : ScriptIndex) (n : LineNow) (counts : CountsNow) (o : List Owed) (h : IsHeld (run b es) index n counts o) where
-  small : length es < 2 ^ 62
+  small : length es < 2 ^ 63
   small = h.few
 
   -- the counts of a device of the line

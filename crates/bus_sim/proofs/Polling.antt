@@ -23,10 +23,10 @@ OnErrAny (Ok x) P p = tt
 OnErrAny (Err e) P p = p
 
 -- one event more
-pub one_more : (n m : ℕ) → n < 2 ^ 62 → m ≡ suc n → 2 ^ 62 - m < 2 ^ 62 - n
+pub one_more : (n m : ℕ) → n < 2 ^ 63 → m ≡ suc n → 2 ^ 63 - m < 2 ^ 63 - n
 one_more n m few e = omega (arith, few, e)
 
-pub smaller : (old new : RunState) (e : Event) → length old.events < 2 ^ 62 → Went old e new → 2 ^ 62 - length new.events < 2 ^ 62 - length old.events
+pub smaller : (old new : RunState) (e : Event) → length old.events < 2 ^ 63 → Went old e new → 2 ^ 63 - length new.events < 2 ^ 63 - length old.events
 smaller old new e few went = one_more (length old.events) (length new.events) few (ap (λ (r : RunNow). length r.events) went)
 
 -- ---- it goes on
@@ -54,6 +54,9 @@ stays_so old mid new before same = record {
 
 in_wait : (a b left c wait : ℕ) → a + left ≡ c + wait → b ≡ a → b ≤ c + wait
 in_wait a b left c wait h e = omega (arith, h, e)
+
+no_later : (b c wait longer : ℕ) → b ≤ c + wait → wait ≤ longer → b ≤ c + longer
+no_later b c wait longer h le = omega (arith, h, le)
 
 -- it stops where nothing more has happened
 pub stops : (old mid new : RunState) (left wait : ℕ) → GoesOnFrom old mid × (now (world mid) + left ≡ now (world old) + wait) → seen new ≡ seen mid → StopsWithin wait old new
@@ -90,19 +93,20 @@ ended old mid new e what wait one before went h =
 may_one : (old mid : RunState) (e : Event) → old.begun.clients ≡ One → mid.begun ≡ old.begun → MayHappen (mode (seen mid)) (world mid) e → MayHappen Commissions (replay (start (seen old)) mid.events) e
 may_one old mid e one same may = subst (λ c. MayHappen (mode_of c) (replay (start_of old.begun) mid.events) e) one (subst (λ b. MayHappen (mode_of b.clients) (replay (start_of b) mid.events) e) same may)
 
-pub ends_got : (old mid new : RunState) (letter : Letter) (left wait : ℕ) → old.begun.clients ≡ One → GoesOnFrom old mid × (now (world mid) + left ≡ now (world old) + wait) → Gets letter mid new → EndedSo (Some letter.octets) wait old new
-ends_got old mid new letter left wait one before h =
+pub ends_got : (old mid new : RunState) (letter : Letter) (left wait longer : ℕ) → old.begun.clients ≡ One → GoesOnFrom old mid × (now (world mid) + left ≡ now (world old) + wait) → Gets letter mid new → wait ≤ longer → EndedSo (Some letter.octets) longer old new
+ends_got old mid new letter left wait longer one before h le =
     let sameworld : world mid ≡ replay (start (seen old)) mid.events = ap (λ b. replay (start_of b) mid.events) before.0.same in (
       h.short,
-      ended old mid new (Down h.age) (Got letter.octets) wait one before.0 h.went (record {
+      ended old mid new (Down h.age) (Got letter.octets) longer one before.0 h.went (record {
         events = mid.events;
         foreign = before.0.goes;
         last = Down h.age;
         legal = may_one old mid (Down h.age) one before.0.same h.may;
         brings = subst (λ (w : World). got (slice_get w.tunnel.network.down h.age) ≡ Some (Got letter.octets)) sameworld (got_so letter (slice_get (world mid).tunnel.network.down h.age) h.short h.got);
         all = refl;
-        ends = in_wait (now (world mid)) (now (replay (start (seen old)) (Down h.age ∷ mid.events))) left (now (world old)) wait before.1
-            (timeless (replay (start (seen old)) mid.events) (Down h.age) refl ∙ sym (ap now sameworld));
+        ends = no_later (now (replay (start (seen old)) (Down h.age ∷ mid.events))) (now (world old)) wait longer
+            (in_wait (now (world mid)) (now (replay (start (seen old)) (Down h.age ∷ mid.events))) left (now (world old)) wait before.1
+            (timeless (replay (start (seen old)) mid.events) (Down h.age) refl ∙ sym (ap now sameworld))) le;
       }),
     )
 
@@ -118,3 +122,8 @@ ends_quiet old mid new left wait one before h =
       all = refl;
       ends = passes (replay (start (seen old)) mid.events) left ∙ sym (ap (λ w. now w + left) sameworld) ∙ before.1;
     })
+
+-- and the wait has passed
+pub ends_passed : (old mid new : RunState) (left wait : ℕ) → old.begun.clients ≡ One → GoesOnFrom old mid × (now (world mid) + left ≡ now (world old) + wait) → 0 < left → Passes left mid new
+    → GoesOnFrom old new × (time (seen new) ≡ time (seen old) + wait)
+ends_passed old mid new left wait one before some h = (goes_past old mid new left one before.0 some h, passed mid new left h ∙ before.1)

@@ -27,6 +27,6 @@ pub record IsHeld (r : RunNow) (index : ScriptIndex) (line : LineNow) (counts : 
   pub on_line : counts.line ≡ line_of r.begun.tunnel.raw
   pub called : owed ≡ owed_in r
   pub placed : (address : ℕ) → line_of address ≢ counts.line → (world r).devices address ≡ None
-  pub few : length r.events < 2 ^ 62
+  pub few : length r.events < 2 ^ 63
   pub keeps : Keeps r
   pub numbered : AreNumbered r.begun.clients (world r).tunnel

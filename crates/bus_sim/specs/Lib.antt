@@ -5,6 +5,7 @@ pub mod Counted
 pub mod Owing
 pub mod RunNow
 pub mod Held
+pub mod Ended
 pub mod Went
 pub mod Choices
 pub mod Turns

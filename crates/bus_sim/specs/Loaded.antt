@@ -1,4 +1,4 @@
--- What a simulated line is seen as: its run, and how many of its calls failed. Why a run isn't loaded: a line of the script names a device that
+-- What a simulated line is seen as: its run, and how many calls of it failed. Why a run isn't loaded: a line of the script names a device that
 -- isn't listed, and the first such line is told; or there was no memory.
 use Rattle.std.specs.Prelude.{◌≡◌, ◌⊎◌, ℕ, [], Option, Some, None, Err}
 use Rattle.knx_model.specs.declared.refusal.Refused.{Refused}
@@ -15,7 +15,7 @@ use Rattle.bus_sim.specs.RunNow.{RunNow, RunState, seen}
 
 pub record BusNow : Type 0 where
   pub run : RunNow
-  pub faults : ℕ  -- how many calls failed
+  pub faults : ℕ  -- how many calls of the run failed
 
 -- before a run is loaded nothing has happened on a line without devices
 abbrev pub nothing_run : RunNow

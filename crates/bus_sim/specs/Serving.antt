@@ -21,6 +21,7 @@ use Rattle.bus_sim.specs.declared.stopped.Broken.{Broken}
 use Rattle.bus_sim.specs.declared.stopped.Broken.TheVariants as broken
 use Rattle.bus_sim.specs.declared.serve.Served.{Served}
 use Rattle.bus_sim.specs.declared.serve.Served.TheVariants.{Ended, OpenTurns}
+use Rattle.bus_sim.specs.Ended.{IsAtEnd}
 use Rattle.bus_sim.specs.RunNow.{RunNow, start, world}
 
 abbrev pub quiet_ms : ℕ
@@ -126,14 +127,15 @@ BreaksOff n old new before after = ((new ≡ old) × (after ≡ before)) ⊎ Bro
 
 -- ---- and why
 
--- a call of the port failed, at which its count of faults rose; or the run stopped
-abbrev pub IsCausedBy : Broken → ℕ → ℕ → Type 0
-IsCausedBy (broken.Run why) before after = Unit {0}
-IsCausedBy (broken.Port (fault.NoMemory want)) before after = Unit {0}
-IsCausedBy (broken.Port fault.Failed) before after = Rose before after
+-- memory was wanting; or the run has come to its end; or a call of the port failed, at which its count of faults rose
+abbrev pub IsCausedBy : Broken → ℕ → ℕ → RunNow → Type 0
+IsCausedBy (broken.NoMemory want) before after r = Unit {0}
+IsCausedBy broken.AtEnd before after r = IsAtEnd r
+IsCausedBy (broken.Port (fault.NoMemory want)) before after r = Unit {0}
+IsCausedBy (broken.Port fault.Failed) before after r = Rose before after
 
--- A serving answers that it failed only where the port's count rose or the line's did; for want of memory the line's count stays, and where the
--- port failed too.
-abbrev pub FailsAt : PortFault → ℕ → ℕ → ℕ → ℕ → Type 0
-FailsAt (fault.NoMemory want) port port' line line' = line' ≡ line
-FailsAt fault.Failed port port' line line' = (Rose port port' × (line' ≡ line)) ⊎ Rose line line'
+-- A serving answers that it failed only where the port's count rose, or the line's did since its run has come to its end; for want of memory the
+-- line's count stays, and where the port failed too.
+abbrev pub FailsAt : PortFault → ℕ → ℕ → ℕ → ℕ → RunNow → Type 0
+FailsAt (fault.NoMemory want) port port' line line' r = line' ≡ line
+FailsAt fault.Failed port port' line line' r = (Rose port port' × (line' ≡ line)) ⊎ (Rose line line' × IsAtEnd r)

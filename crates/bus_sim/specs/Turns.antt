@@ -38,5 +38,5 @@ pub record Passes (ms : ℕ) (old new : RunState) : Type 0 where
 abbrev pub Turns : Turn → ℕ → RunState → RunState → Type 0
 Turns (Got letter) left old new = Gets letter old new
 Turns HasGone left old new = Happens old new
-Turns (Passed ms) left old new = (0 < ms) × (ms ≤ left) × Passes ms old new
+Turns (Passed ms) left old new = (0 < ms) × (ms < left) × Passes ms old new
 Turns Quiet left old new = Passes left old new

@@ -14,8 +14,8 @@ ghost use Rattle.bus_sim.specs.Went.{IsRight, Stays};
 use crate::owed::Owed;
 use crate::reaching::again_down;
 use crate::run::Run;
-use crate::stopped::Stopped;
 use crate::turn::Letter;
+use knx_model::NoMemory;
 
 impl Run {
     /// What the script calls for first.
@@ -26,7 +26,7 @@ impl Run {
     }
 
     /// The client's datagram of a number comes to the gateway again.
-    pub fn deliver_again(&mut self, number: u64) -> Result<(), Stopped>
+    pub fn deliver_again(&mut self, number: u64) -> Result<(), NoMemory>
         requires { Calls (seen self.old) (model.DeliverAgain number) }
         ensures happens { OnOk result (Happens self.old self.new) }
         ensures err { OnErr result (Stays self.old self.new) }
@@ -45,7 +45,7 @@ impl Run {
     }
 
     /// The gateway's datagram of a number comes to the client again.
-    pub fn reach_again(&mut self, number: u64) -> Result<Letter, Stopped>
+    pub fn reach_again(&mut self, number: u64) -> Result<Letter, NoMemory>
         requires { Calls (seen self.old) (model.ReachAgain number) }
         ensures gets { IfOk result (λ letter. Gets letter self.old self.new) }
         ensures err { OnErr result (Stays self.old self.new) }
@@ -64,7 +64,7 @@ impl Run {
     }
 
     /// A device takes its last frame again.
-    pub fn frame_again(&mut self, device: u16) -> Result<(), Stopped>
+    pub fn frame_again(&mut self, device: u16) -> Result<(), NoMemory>
         requires { Calls (seen self.old) (model.BringAgain device) }
         ensures happens { OnOk result (Happens self.old self.new) }
         ensures err { OnErr result (Stays self.old self.new) }
@@ -73,7 +73,7 @@ impl Run {
     }
 
     /// The power of a device returns.
-    pub fn power_again(&mut self, device: u16) -> Result<(), Stopped>
+    pub fn power_again(&mut self, device: u16) -> Result<(), NoMemory>
         requires { Calls (seen self.old) (model.PowerReturns device) }
         ensures happens { OnOk result (Happens self.old self.new) }
         ensures err { OnErr result (Stays self.old self.new) }
@@ -83,7 +83,7 @@ impl Run {
     }
 
     /// The connection of a device closes.
-    pub fn connection_closes(&mut self, device: u16) -> Result<(), Stopped>
+    pub fn connection_closes(&mut self, device: u16) -> Result<(), NoMemory>
         requires { Calls (seen self.old) (model.ConnectionCloses device) }
         ensures happens { OnOk result (Happens self.old self.new) }
         ensures err { OnErr result (Stays self.old self.new) }
@@ -93,7 +93,7 @@ impl Run {
     }
 
     /// The channel closes.
-    pub fn channel_closes(&mut self) -> Result<(), Stopped>
+    pub fn channel_closes(&mut self) -> Result<(), NoMemory>
         requires { Calls (seen self.old) model.ChannelCloses }
         ensures happens { OnOk result (Happens self.old self.new) }
         ensures err { OnErr result (Stays self.old self.new) }

@@ -19,8 +19,7 @@ use crate::happened::Happened;
 use crate::owed::{Caused, NOTHING, Owed};
 use crate::room::make_room;
 use crate::run::Run;
-use crate::stopped::Stopped;
-use knx_model::{IndAddr, Ldata, WriteKind};
+use knx_model::{IndAddr, Ldata, NoMemory, WriteKind};
 
 /// How the client's frame goes over the bus.
 #[derive(Clone, Copy, Debug, Drop, PartialEq, Eq)]
@@ -35,7 +34,7 @@ pub enum Carriage {
 
 impl Run {
     /// The client's frame goes over the bus as the script wants it. At `Err` nothing has happened.
-    pub fn carry(&mut self, frame: &Ldata) -> Result<(), Stopped>
+    pub fn carry(&mut self, frame: &Ldata) -> Result<(), NoMemory>
         requires due { Some frame.now ≡ next_frame (world self.old) }
         requires free { NothingCalled (seen self.old) }
         ensures went { OnOk result (Went self.old (carried self.old frame.now) self.new) }
@@ -91,7 +90,7 @@ impl Run {
     }
 
     /// It goes whole, lost for one device or for none.
-    fn bus(&mut self, frame: &Ldata, lost: Option<u16>) -> Result<(), Stopped>
+    fn bus(&mut self, frame: &Ldata, lost: Option<u16>) -> Result<(), NoMemory>
         requires due { Some frame.now ≡ next_frame (world self.old) }
         requires free { NothingCalled (seen self.old) }
         requires so { Bus (option_to_list lost) ≡ carried self.old frame.now }
@@ -99,7 +98,7 @@ impl Run {
         ensures right { OnOk result (IsRight self.old (Bus (option_to_list lost))) }
         ensures err { OnErr result (Stays self.old self.new) }
     {
-        make_room(&mut self.events, &mut self.owed, &self.line, 0)?;
+        make_room(&mut self.events, &mut self.owed, 0)?;
         self.line.names();
         let device = frame.destination;
         let comes = comes_to(frame, lost);
@@ -129,7 +128,7 @@ impl Run {
     }
 
     /// The device that it is for takes it torn, after so many octets of the write.
-    fn bus_torn(&mut self, frame: &Ldata, k: u32) -> Result<(), Stopped>
+    fn bus_torn(&mut self, frame: &Ldata, k: u32) -> Result<(), NoMemory>
         requires due { Some frame.now ≡ next_frame (world self.old) }
         requires write { is_some (write_due self.old.line) ≡ true }
         requires free { NothingCalled (seen self.old) }
@@ -139,7 +138,7 @@ impl Run {
         ensures err { OnErr result (Stays self.old self.new) }
     {
         let octets = self.line.torn_octets(self.alloc, k)?;
-        make_room(&mut self.events, &mut self.owed, &self.line, octets.len())?;
+        make_room(&mut self.events, &mut self.owed, octets.len())?;
         self.line.names();
         let device = frame.destination;
         let counts = self.counts.of(device);
@@ -162,7 +161,7 @@ impl Run {
     }
 
     /// The device that it is for takes it over worn memory.
-    fn bus_worn(&mut self, frame: &Ldata) -> Result<(), Stopped>
+    fn bus_worn(&mut self, frame: &Ldata) -> Result<(), NoMemory>
         requires due { Some frame.now ≡ next_frame (world self.old) }
         requires write { write_due self.old.line ≡ Some Memory }
         requires free { NothingCalled (seen self.old) }
@@ -172,7 +171,7 @@ impl Run {
         ensures err { OnErr result (Stays self.old self.new) }
     {
         let octets = self.line.worn_octets();
-        make_room(&mut self.events, &mut self.owed, &self.line, octets.len())?;
+        make_room(&mut self.events, &mut self.owed, octets.len())?;
         self.line.names();
         let device = frame.destination;
         let counts = self.counts.of(device);

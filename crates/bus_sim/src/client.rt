@@ -1,7 +1,9 @@
 //! What clients do.
 
-ghost use Rattle.std.specs.Prelude.{◌≡◌, OnOk, OnErr};
+ghost use Rattle.std.specs.Prelude.{◌≡◌, IfErr, OnOk, OnErr};
 ghost use Rattle.line_model.specs.World.{Send, From, Renew};
+ghost use Rattle.bus_sim.specs.Ended.{StopsFor};
+ghost use Rattle.bus_sim.specs.RunNow.{seen};
 ghost use Rattle.bus_sim.specs.Went.{Stays, Went};
 ghost use Rattle.bus_sim.specs.declared.clients.Clients.TheVariants.{One, Any};
 
@@ -10,11 +12,13 @@ use crate::happened::Happened;
 use crate::room::make_room;
 use crate::run::Run;
 use crate::stopped::Stopped;
+use knx_model::NoMemory;
 
 impl Run {
     /// The run is of one client, which drives the line as a link; else it serves.
     pub fn drives(&self) -> Result<(), Stopped>
-        ensures { OnOk result (self.now.begun.clients ≡ One) }
+        ensures one { OnOk result (self.now.begun.clients ≡ One) }
+        ensures cause { IfErr result (λ why. StopsFor why (seen self.now)) }
     {
         match self.begun.clients {
             Clients::One => Ok(()),
@@ -23,12 +27,12 @@ impl Run {
     }
 
     /// A client at this endpoint sends a datagram, where the run is of any clients. At `Err` nothing has happened.
-    pub fn send_from(&mut self, endpoint: u32, octets: &[u8]) -> Result<(), Stopped>
+    pub fn send_from(&mut self, endpoint: u32, octets: &[u8]) -> Result<(), NoMemory>
         requires { self.old.begun.clients ≡ Any }
         ensures went { OnOk result (Went self.old (From endpoint octets.now) self.new) }
         ensures err { OnErr result (Stays self.old self.new) }
     {
-        make_room(&mut self.events, &mut self.owed, &self.line, octets.len())?;
+        make_room(&mut self.events, &mut self.owed, octets.len())?;
         self.line.send_from(u64::from(endpoint), octets);
         self.owed.wait(&self.line, self.begun.clients);
         self.events
@@ -41,9 +45,10 @@ impl Run {
         ensures one { OnOk result (self.old.begun.clients ≡ One) }
         ensures went { OnOk result (Went self.old (Send octets.now) self.new) }
         ensures err { OnErr result (Stays self.old self.new) }
+        ensures cause { IfErr result (λ why. StopsFor why (seen self.new)) }
     {
         self.drives()?;
-        make_room(&mut self.events, &mut self.owed, &self.line, octets.len())?;
+        make_room(&mut self.events, &mut self.owed, octets.len())?;
         self.line.send(octets);
         self.owed.wait(&self.line, self.begun.clients);
         self.events
@@ -56,9 +61,10 @@ impl Run {
         ensures one { OnOk result (self.old.begun.clients ≡ One) }
         ensures went { OnOk result (Went self.old Renew self.new) }
         ensures err { OnErr result (Stays self.old self.new) }
+        ensures cause { IfErr result (λ why. StopsFor why (seen self.new)) }
     {
         self.drives()?;
-        make_room(&mut self.events, &mut self.owed, &self.line, 0)?;
+        make_room(&mut self.events, &mut self.owed, 0)?;
         self.line.renew();
         self.owed.wait(&self.line, self.begun.clients);
         self.events.push(Happened::Renew, &[]);

@@ -13,8 +13,8 @@ use crate::happened::Happened;
 use crate::owed::{Caused, NOTHING};
 use crate::room::make_room;
 use crate::run::Run;
-use crate::stopped::Stopped;
 use crate::turn::Letter;
+use knx_model::NoMemory;
 
 /// How the client's datagram is delivered.
 #[derive(Clone, Copy, Debug, Drop, PartialEq, Eq)]
@@ -27,7 +27,7 @@ pub enum Delivery {
 
 impl Run {
     /// A client gets the gateway's datagram of an age. At `Err` nothing has happened.
-    pub fn down(&mut self, age: usize) -> Result<Letter, Stopped>
+    pub fn down(&mut self, age: usize) -> Result<Letter, NoMemory>
         requires deliverable { OfSent IsDeliverable (slice_get self.old.line.tunnel.down.kept age) }
         requires right { IsRight self.old (Down age) }
         ensures went { OnOk result (Went self.old (Down age) self.new) }
@@ -35,7 +35,7 @@ impl Run {
         ensures number { IfOk result (λ letter. IsNumber self.old.begun.clients letter.to) }
         ensures err { OnErr result (Stays self.old self.new) }
     {
-        make_room(&mut self.events, &mut self.owed, &self.line, 0)?;
+        make_room(&mut self.events, &mut self.owed, 0)?;
         let first = reaches_again(&self.index, self.line.number_down(age));
         let to = self.line.endpoint_down(age);
         let octets = self.line.down(age);
@@ -46,12 +46,12 @@ impl Run {
     }
 
     /// It is lost. At `Err` nothing has happened.
-    pub fn lose_down(&mut self, age: usize) -> Result<(), Stopped>
+    pub fn lose_down(&mut self, age: usize) -> Result<(), NoMemory>
         requires right { IsRight self.old (LoseDown age) }
         ensures went { OnOk result (Went self.old (LoseDown age) self.new) }
         ensures err { OnErr result (Stays self.old self.new) }
     {
-        make_room(&mut self.events, &mut self.owed, &self.line, 0)?;
+        make_room(&mut self.events, &mut self.owed, 0)?;
         self.line.lose_down(age);
         self.owed.meet(NOTHING, &self.line, self.begun.clients);
         self.events.push(Happened::LoseDown(age as u64), &[]);
@@ -60,7 +60,7 @@ impl Run {
 
     /// The client's datagram of an age is delivered to the gateway, which takes it or refuses the connect request that it is. At `Err` nothing
     /// has happened.
-    pub fn deliver_up(&mut self, age: usize) -> Result<(), Stopped>
+    pub fn deliver_up(&mut self, age: usize) -> Result<(), NoMemory>
         requires deliverable { OfSent IsDeliverable (slice_get self.old.line.tunnel.up.kept age) }
         requires right { IsRight self.old (delivered self.old age) }
         ensures went { OnOk result (Went self.old (delivered self.old age) self.new) }
@@ -87,13 +87,13 @@ impl Run {
     }
 
     /// The gateway takes it.
-    fn up(&mut self, age: usize) -> Result<(), Stopped>
+    fn up(&mut self, age: usize) -> Result<(), NoMemory>
         requires deliverable { OfSent IsDeliverable (slice_get self.old.line.tunnel.up.kept age) }
         requires right { IsRight self.old (Up age) }
         ensures went { OnOk result (Went self.old (Up age) self.new) }
         ensures err { OnErr result (Stays self.old self.new) }
     {
-        make_room(&mut self.events, &mut self.owed, &self.line, 0)?;
+        make_room(&mut self.events, &mut self.owed, 0)?;
         let first = comes_again(&self.index, self.line.number_up(age));
         let connects = self.line.is_connect(age);
         let before = self.line.acted();
@@ -111,13 +111,13 @@ impl Run {
     }
 
     /// It refuses the connect request.
-    fn up_refused(&mut self, age: usize, status: u8) -> Result<(), Stopped>
+    fn up_refused(&mut self, age: usize, status: u8) -> Result<(), NoMemory>
         requires deliverable { OfSent IsDeliverable (slice_get self.old.line.tunnel.up.kept age) }
         requires right { IsRight self.old (UpRefused age status) }
         ensures went { OnOk result (Went self.old (UpRefused age status) self.new) }
         ensures err { OnErr result (Stays self.old self.new) }
     {
-        make_room(&mut self.events, &mut self.owed, &self.line, 1)?;
+        make_room(&mut self.events, &mut self.owed, 1)?;
         let first = comes_again(&self.index, self.line.number_up(age));
         self.line.up_refused(age, status);
         self.counts.connect_if(true);
@@ -128,12 +128,12 @@ impl Run {
     }
 
     /// The client's datagram of an age is lost. At `Err` nothing has happened.
-    pub fn lose_up(&mut self, age: usize) -> Result<(), Stopped>
+    pub fn lose_up(&mut self, age: usize) -> Result<(), NoMemory>
         requires right { IsRight self.old (LoseUp age) }
         ensures went { OnOk result (Went self.old (LoseUp age) self.new) }
         ensures err { OnErr result (Stays self.old self.new) }
     {
-        make_room(&mut self.events, &mut self.owed, &self.line, 0)?;
+        make_room(&mut self.events, &mut self.owed, 0)?;
         self.line.lose_up(age);
         self.owed.meet(NOTHING, &self.line, self.begun.clients);
         self.events.push(Happened::LoseUp(age as u64), &[]);

@@ -1,6 +1,6 @@
 //! The events of a run.
 
-ghost use Rattle.std.specs.Prelude.{◌≡◌, ◌+◌, ◌<◌, ◌≤◌, [], ◌∷◌, ◌++◌, length, OnOk, vec_len, vec_capacity};
+ghost use Rattle.std.specs.Prelude.{◌≡◌, ◌+◌, ◌^◌, ◌<◌, ◌≤◌, [], ◌∷◌, ◌++◌, length, OnOk, vec_len, vec_capacity};
 ghost use Rattle.bus_sim.specs.Kept.{event_of, octets_of};
 
 use crate::happened::Happened;
@@ -37,11 +37,12 @@ impl Events {
         }
     }
 
-    /// Takes memory for one more event and so many octets.
+    /// Takes memory for one more event and so many octets. A vector has fewer than 2^63 places.
     pub fn reserve(&mut self, octets: usize) -> Result<(), NoMemory>
         ensures list { self.new.list ≡ self.old.list }
         ensures room { OnOk result (1 ≤ self.new.room) }
         ensures octets_room { OnOk result (octets ≤ self.new.octets_room) }
+        ensures few { OnOk result (length self.old.list + 1 < 2 ^ 63) }
     {
         self.items.reserve(1)?;
         self.octets.reserve(octets)?;

@@ -13,13 +13,13 @@ ghost use Rattle.bus_sim.specs.Turns.{Turns};
 ghost use Rattle.bus_sim.specs.Went.{Stays, world};
 
 use crate::run::Run;
-use crate::stopped::Stopped;
 use crate::turn::Turn;
+use knx_model::NoMemory;
 use line_sim::{Due, what_is_settled};
 
 impl Run {
     /// Nothing is called for.
-    pub fn go_on(&mut self, left: u32) -> Result<Turn, Stopped>
+    pub fn go_on(&mut self, left: u32) -> Result<Turn, NoMemory>
         requires time { now (world self.old) + left ≤ last_time }
         requires free { NothingCalled (seen self.old) }
         ensures turns { IfOk result (λ turn. Turns turn left self.old self.new) }
@@ -32,7 +32,7 @@ impl Run {
     }
 
     /// And no datagram goes to the client.
-    fn go_on_up(&mut self, left: u32) -> Result<Turn, Stopped>
+    fn go_on_up(&mut self, left: u32) -> Result<Turn, NoMemory>
         requires time { now (world self.old) + left ≤ last_time }
         requires free { NothingCalled (seen self.old) }
         requires down { next_down (mode (seen self.old)) (world self.old) ≡ None }
@@ -49,7 +49,7 @@ impl Run {
     }
 
     /// And none to the gateway.
-    fn go_on_bus(&mut self, left: u32) -> Result<Turn, Stopped>
+    fn go_on_bus(&mut self, left: u32) -> Result<Turn, NoMemory>
         requires time { now (world self.old) + left ≤ last_time }
         requires free { NothingCalled (seen self.old) }
         requires down { next_down (mode (seen self.old)) (world self.old) ≡ None }
@@ -67,7 +67,7 @@ impl Run {
     }
 
     /// And no frame waits for the bus.
-    fn go_on_gateway(&mut self, left: u32) -> Result<Turn, Stopped>
+    fn go_on_gateway(&mut self, left: u32) -> Result<Turn, NoMemory>
         requires time { now (world self.old) + left ≤ last_time }
         requires free { NothingCalled (seen self.old) }
         requires down { next_down (mode (seen self.old)) (world self.old) ≡ None }
@@ -90,7 +90,7 @@ impl Run {
     }
 
     /// And the gateway has nothing to send: a device sends, or time passes.
-    fn at_devices(&mut self, left: u32) -> Result<Turn, Stopped>
+    fn at_devices(&mut self, left: u32) -> Result<Turn, NoMemory>
         requires time { now (world self.old) + left ≤ last_time }
         requires free { NothingCalled (seen self.old) }
         requires down { next_down (mode (seen self.old)) (world self.old) ≡ None }
@@ -113,7 +113,7 @@ impl Run {
     }
 
     /// Nothing but time can go on: it passes until something is due, or the wait is over.
-    fn let_pass(&mut self, left: u32) -> Result<Turn, Stopped>
+    fn let_pass(&mut self, left: u32) -> Result<Turn, NoMemory>
         requires time { now (world self.old) + left ≤ last_time }
         requires free { NothingCalled (seen self.old) }
         requires settled { Settled (mode (seen self.old)) (world self.old) }

@@ -11,6 +11,7 @@ mod client;
 mod clients;
 mod counts;
 mod deliver;
+mod driving;
 mod events;
 mod going;
 mod happened;

@@ -20,9 +20,8 @@ ghost use Rattle.bus_sim.specs.Went.{IsRight, Stays, world};
 
 use crate::reaching::next_down;
 use crate::run::Run;
-use crate::stopped::Stopped;
 use crate::turn::Turn;
-use knx_model::{Ldata, Sending};
+use knx_model::{Ldata, NoMemory, Sending};
 use line_sim::{Due, what_is_due_is_allowed};
 
 impl Run {
@@ -36,7 +35,7 @@ impl Run {
     }
 
     /// The gateway's datagram that goes next is lost, or the client gets it.
-    pub fn next_down(&mut self, age: usize) -> Result<Turn, Stopped>
+    pub fn next_down(&mut self, age: usize) -> Result<Turn, NoMemory>
         requires free { NothingCalled (seen self.old) }
         requires next { next_down (mode (seen self.old)) (world self.old) ≡ Some age }
         requires deliverable { OfSent IsDeliverable (slice_get self.old.line.tunnel.down.kept age) }
@@ -72,7 +71,7 @@ impl Run {
     }
 
     /// The client's datagram that goes next is lost, or delivered.
-    pub fn next_up(&mut self, age: usize) -> Result<(), Stopped>
+    pub fn next_up(&mut self, age: usize) -> Result<(), NoMemory>
         requires free { NothingCalled (seen self.old) }
         requires next { next_up (world self.old) ≡ Some age }
         requires deliverable { OfSent IsDeliverable (slice_get self.old.line.tunnel.up.kept age) }
@@ -105,7 +104,7 @@ impl Run {
     }
 
     /// It goes over the bus.
-    pub fn next_frame(&mut self, frame: &Ldata) -> Result<(), Stopped>
+    pub fn next_frame(&mut self, frame: &Ldata) -> Result<(), NoMemory>
         requires free { NothingCalled (seen self.old) }
         requires due { Some frame.now ≡ next_frame (world self.old) }
         ensures happens { OnOk result (Happens self.old self.new) }
@@ -122,7 +121,7 @@ impl Run {
     }
 
     /// The gateway sends its outstanding request again.
-    pub fn gateway_repeats(&mut self) -> Result<(), Stopped>
+    pub fn gateway_repeats(&mut self) -> Result<(), NoMemory>
         requires free { NothingCalled (seen self.old) }
         requires due { due_of (gateway_expired (world self.old).tunnel.gateway (now (world self.old))) ≡ due.Repeat }
         ensures happens { OnOk result (Happens self.old self.new) }
@@ -133,7 +132,7 @@ impl Run {
     }
 
     /// It closes its channel.
-    pub fn gateway_closes(&mut self) -> Result<(), Stopped>
+    pub fn gateway_closes(&mut self) -> Result<(), NoMemory>
         requires free { NothingCalled (seen self.old) }
         requires due { due_of (gateway_expired (world self.old).tunnel.gateway (now (world self.old))) ≡ due.Closed }
         ensures happens { OnOk result (Happens self.old self.new) }
@@ -153,7 +152,7 @@ impl Run {
     }
 
     /// It sends it.
-    pub fn device_sends(&mut self, device: u16, sending: Sending) -> Result<(), Stopped>
+    pub fn device_sends(&mut self, device: u16, sending: Sending) -> Result<(), NoMemory>
         requires free { NothingCalled (seen self.old) }
         requires found { sending_at ((world self.old).devices device) (now (world self.old)) ≡ Some sending }
         requires repeats { sending ≡ Repeat → IsDue self.old.line.devices device self.old.line.tunnel.now }

@@ -1,29 +1,35 @@
 //! A poll: the line goes on until the client gets a datagram or the wait is over.
 
-ghost use Rattle.std.specs.Prelude.{◌≡◌, ◌+◌, ◌≤◌, ◌<◌, ◌^◌, ◌-◌, IfOk, OnOk, OnErr, length, take};
+ghost use Rattle.std.specs.Prelude.{◌≡◌, ◌+◌, ◌≤◌, ◌<◌, ◌⊎◌, ◌^◌, ◌-◌, IfErr, IfOk, OnOk, OnErr, length, take};
 ghost use Rattle.knx_model.specs.Connection.{last_time};
 ghost use Rattle.line_model.specs.World.{now};
-ghost use Rattle.bus_sim.specs.Polls.{PolledSo, EndedSo, StopsWithin};
+ghost use Rattle.bus_sim.specs.Ended.{StopsFor};
+ghost use Rattle.bus_sim.specs.Polls.{EndedSo, GotWithin, PassedSo, PolledSo, StopsWithin};
+ghost use Rattle.bus_sim.specs.RunNow.{seen};
 ghost use Rattle.bus_sim.specs.Went.{world};
 ghost use Rattle.bus_sim.specs.declared.clients.Clients.TheVariants.{One};
 
 use crate::run::Run;
 use crate::stopped::Stopped;
 use crate::turn::Turn;
-use knx_model::Datagram;
+use knx_model::{Datagram, NoMemory};
 use line_model::Polled;
 
 impl Run {
-    /// The line goes on until the client gets a datagram, which stands in the buffer then, or so many milliseconds have passed.
+    /// The line goes on until the client gets a datagram, which stands in the buffer then, or so many milliseconds have passed. Where the last
+    /// time comes before, it goes on until then.
     pub fn poll(&mut self, into: &mut [u8; 512], wait_ms: u32) -> Result<Polled, Stopped>
         ensures polled { IfOk result (λ polled. PolledSo polled into.new wait_ms self.old self.new) }
         ensures one { OnOk result (self.old.begun.clients ≡ One) }
         ensures err { OnErr result (StopsWithin wait_ms self.old self.new) }
+        ensures cause { IfErr result (λ why. StopsFor why (seen self.new)) }
         ensures begun { self.new.begun ≡ self.old.begun }
     {
         self.drives()?;
-        if self.now() > u64::MAX - u64::from(wait_ms) {
-            return Err(Stopped::AtEnd);
+        let left = self.before_end(wait_ms);
+        if left < wait_ms {
+            let octets = self.run_to_end(left)?;
+            return Ok(Polled::Got(fill(into, &octets)));
         }
         match self.run_for(wait_ms)? {
             Some(octets) => Ok(Polled::Got(fill(into, &octets))),
@@ -39,11 +45,39 @@ impl Run {
         self.line.now()
     }
 
+    /// So much of a wait is over before the last time.
+    pub fn before_end(&self, wait: u32) -> u32
+        ensures few { result ≤ wait }
+        ensures fits { now (world self.now) + result ≤ last_time }
+        ensures end { (result ≡ wait) ⊎ (now (world self.now) + result ≡ last_time) }
+    {
+        shorter(wait, u64::MAX - self.now())
+    }
+
+    /// What the client gets until the last time, so many milliseconds from now.
+    fn run_to_end(&mut self, left: u32) -> Result<Datagram, Stopped>
+        requires one { self.old.begun.clients ≡ One }
+        requires end { now (world self.old) + left ≡ last_time }
+        ensures got { IfOk result (λ octets. GotWithin left octets self.old self.new) }
+        ensures err { OnErr result (StopsWithin left self.old self.new) }
+        ensures cause { IfErr result (λ why. StopsFor why (seen self.new)) }
+        ensures begun { self.new.begun ≡ self.old.begun }
+    {
+        if left == 0 {
+            return Err(Stopped::AtEnd);
+        }
+        match self.run_for(left)? {
+            Some(octets) => Ok(octets),
+            None => Err(Stopped::AtEnd),
+        }
+    }
+
     /// What the client gets within so many milliseconds; None where it gets nothing, and they have passed.
-    fn run_for(&mut self, wait: u32) -> Result<Option<Datagram>, Stopped>
+    fn run_for(&mut self, wait: u32) -> Result<Option<Datagram>, NoMemory>
         requires one { self.old.begun.clients ≡ One }
         requires time { now (world self.old) + wait ≤ last_time }
         ensures ended { IfOk result (λ got. EndedSo got wait self.old self.new) }
+        ensures passed { IfOk result (λ got. PassedSo got wait self.old self.new) }
         ensures err { OnErr result (StopsWithin wait self.old self.new) }
         ensures begun { self.new.begun ≡ self.old.begun }
     {
@@ -61,9 +95,29 @@ impl Run {
 
     /// How many events there can be. It does nothing.
     pub fn few(&self)
-        ensures { length self.now.events < 2 ^ 62 }
+        ensures { length self.now.events < 2 ^ 63 }
     {
         let _ = &self.events;
+    }
+
+    /// How late it can be. It does nothing.
+    pub fn in_time(&self)
+        ensures { now (world self.now) ≤ last_time }
+    {
+        let _ = self.now();
+    }
+}
+
+/// The shorter of a wait and of what is left.
+fn shorter(wait: u32, left: u64) -> u32
+    ensures few { result ≤ wait }
+    ensures within { result ≤ left }
+    ensures all { (result ≡ wait) ⊎ (result ≡ left) }
+{
+    if left < u64::from(wait) {
+        left as u32
+    } else {
+        wait
     }
 }
 

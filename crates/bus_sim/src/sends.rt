@@ -17,8 +17,7 @@ use crate::happened::Happened;
 use crate::owed::{Caused, NOTHING};
 use crate::room::make_room;
 use crate::run::Run;
-use crate::stopped::Stopped;
-use knx_model::IndAddr;
+use knx_model::{IndAddr, NoMemory};
 use line_sim::AtGateway;
 
 /// A frame that the device sends.
@@ -43,13 +42,13 @@ impl Run {
     }
 
     /// A device's oldest unsent frame goes over the bus. At `Err` nothing has happened.
-    pub fn dev_send(&mut self, device: u16) -> Result<(), Stopped>
+    pub fn dev_send(&mut self, device: u16) -> Result<(), NoMemory>
         requires { IsRight self.old (DevSend device (heard_so self.old device) []) }
         ensures went { OnOk result (Went self.old (DevSend device (heard_so self.old device) []) self.new) }
         ensures err { OnErr result (Stays self.old self.new) }
     {
         let at = self.at_gateway(device);
-        make_room(&mut self.events, &mut self.owed, &self.line, 0)?;
+        make_room(&mut self.events, &mut self.owed, 0)?;
         self.line.dev_send(self.alloc, device, at)?;
         self.counts.add(device, SENT);
         self.owed.meet(NOTHING, &self.line, self.begun.clients);
@@ -58,14 +57,14 @@ impl Run {
     }
 
     /// A device's outstanding answer, which is due again, goes over the bus once more. At `Err` nothing has happened.
-    pub fn dev_repeat(&mut self, device: u16) -> Result<(), Stopped>
+    pub fn dev_repeat(&mut self, device: u16) -> Result<(), NoMemory>
         requires due { IsDue self.old.line.devices device self.old.line.tunnel.now }
         requires right { IsRight self.old (DevRepeat device (heard_so self.old device)) }
         ensures went { OnOk result (Went self.old (DevRepeat device (heard_so self.old device)) self.new) }
         ensures err { OnErr result (Stays self.old self.new) }
     {
         let at = self.at_gateway(device);
-        make_room(&mut self.events, &mut self.owed, &self.line, 0)?;
+        make_room(&mut self.events, &mut self.owed, 0)?;
         self.line.dev_repeat(device, at)?;
         self.counts.add(device, SENT);
         self.owed.meet(NOTHING, &self.line, self.begun.clients);
@@ -74,12 +73,12 @@ impl Run {
     }
 
     /// A device closes its connection. At `Err` nothing has happened.
-    pub fn dev_close(&mut self, device: u16) -> Result<(), Stopped>
+    pub fn dev_close(&mut self, device: u16) -> Result<(), NoMemory>
         requires { IsRight self.old (DevClose device) }
         ensures went { OnOk result (Went self.old (DevClose device) self.new) }
         ensures err { OnErr result (Stays self.old self.new) }
     {
-        make_room(&mut self.events, &mut self.owed, &self.line, 0)?;
+        make_room(&mut self.events, &mut self.owed, 0)?;
         self.line.dev_close(self.alloc, device)?;
         self.owed.meet(NOTHING, &self.line, self.begun.clients);
         self.events.push(Happened::DevClose(device), &[]);
@@ -87,12 +86,12 @@ impl Run {
     }
 
     /// A device has power again. At `Err` nothing has happened.
-    pub fn power_returns(&mut self, device: u16) -> Result<(), Stopped>
+    pub fn power_returns(&mut self, device: u16) -> Result<(), NoMemory>
         requires { IsRight self.old (On device) }
         ensures went { OnOk result (Went self.old (On device) self.new) }
         ensures err { OnErr result (Stays self.old self.new) }
     {
-        make_room(&mut self.events, &mut self.owed, &self.line, 0)?;
+        make_room(&mut self.events, &mut self.owed, 0)?;
         self.line.on(device);
         self.owed.meet(NOTHING, &self.line, self.begun.clients);
         self.events.push(Happened::On(device), &[]);
@@ -100,12 +99,12 @@ impl Run {
     }
 
     /// A device takes again the frame that it got last. At `Err` nothing has happened.
-    pub fn bring_again(&mut self, device: u16) -> Result<(), Stopped>
+    pub fn bring_again(&mut self, device: u16) -> Result<(), NoMemory>
         requires { IsRight self.old (BusAgain device) }
         ensures went { OnOk result (Went self.old (BusAgain device) self.new) }
         ensures err { OnErr result (Stays self.old self.new) }
     {
-        make_room(&mut self.events, &mut self.owed, &self.line, 0)?;
+        make_room(&mut self.events, &mut self.owed, 0)?;
         let taken = self.line.would_be_taken_again(device);
         let wrote = self.line.would_write_again(device).is_some();
         let n = self.counts.of(device).taken.saturating_add(1);
@@ -125,13 +124,13 @@ impl Run {
     }
 
     /// The gateway sends its outstanding request again, which is due. At `Err` nothing has happened.
-    pub fn gw_repeat(&mut self) -> Result<(), Stopped>
+    pub fn gw_repeat(&mut self) -> Result<(), NoMemory>
         requires due { due_of (gateway_expired (world self.old).tunnel.gateway (now (world self.old))) ≡ due.Repeat }
         requires right { IsRight self.old GwRepeat }
         ensures went { OnOk result (Went self.old GwRepeat self.new) }
         ensures err { OnErr result (Stays self.old self.new) }
     {
-        make_room(&mut self.events, &mut self.owed, &self.line, 0)?;
+        make_room(&mut self.events, &mut self.owed, 0)?;
         let _ = self.line.gateway_expire();
         self.owed.meet(NOTHING, &self.line, self.begun.clients);
         self.events.push(Happened::GwRepeat, &[]);
@@ -139,12 +138,12 @@ impl Run {
     }
 
     /// The gateway closes its channel. At `Err` nothing has happened.
-    pub fn gw_close(&mut self) -> Result<(), Stopped>
+    pub fn gw_close(&mut self) -> Result<(), NoMemory>
         requires { IsRight self.old GwClose }
         ensures went { OnOk result (Went self.old GwClose self.new) }
         ensures err { OnErr result (Stays self.old self.new) }
     {
-        make_room(&mut self.events, &mut self.owed, &self.line, 0)?;
+        make_room(&mut self.events, &mut self.owed, 0)?;
         self.line.gateway_close();
         self.owed.meet(NOTHING, &self.line, self.begun.clients);
         self.events.push(Happened::GwClose, &[]);
@@ -152,13 +151,13 @@ impl Run {
     }
 
     /// So many milliseconds pass. At `Err` nothing has happened.
-    pub fn pass(&mut self, ms: u32) -> Result<(), Stopped>
+    pub fn pass(&mut self, ms: u32) -> Result<(), NoMemory>
         requires time { now (world self.old) + ms ≤ last_time }
         requires right { IsRight self.old (Pass ms) }
         ensures went { OnOk result (Went self.old (Pass ms) self.new) }
         ensures err { OnErr result (Stays self.old self.new) }
     {
-        make_room(&mut self.events, &mut self.owed, &self.line, 0)?;
+        make_room(&mut self.events, &mut self.owed, 0)?;
         let _ = self.line.pass(u64::from(ms));
         self.owed.meet(NOTHING, &self.line, self.begun.clients);
         self.events.push(Happened::Pass(ms), &[]);

@@ -1,8 +1,10 @@
 //! A run that serves clients at a port, turn by turn.
 
-ghost use Rattle.std.specs.Prelude.{◌≡◌, ◌≤◌, ◌↔◌, ◌&&◌, IfErr, IfOk, IsTrue, List, OnErr, OnOk};
+ghost use Rattle.std.specs.Prelude.{◌≡◌, ◌+◌, ◌≤◌, ◌↔◌, ◌&&◌, IfErr, IfOk, IsTrue, List, OnErr, OnOk};
+ghost use Rattle.knx_model.specs.Connection.{last_time};
 ghost use Rattle.line_model.specs.PortStory.{PortItem};
 ghost use Rattle.line_model.specs.Serving.{HasEnded, quiet_turns};
+ghost use Rattle.line_model.specs.World.{now};
 ghost use Rattle.bus_sim.specs.RunNow.{script, seen, start};
 ghost use Rattle.bus_sim.specs.Serving.{BreaksOff, IsCausedBy, ServedSo, served_beginning, served_before};
 ghost use Rattle.bus_sim.specs.Turned.{CountsQuiet, PlaysFor, StopsPlaying, StopsTurn, Turned};
@@ -15,7 +17,7 @@ use crate::events::Events;
 use crate::owed::Owing;
 use crate::run::Run;
 use crate::serve::Served;
-use crate::stopped::{Broken, Stopped};
+use crate::stopped::Broken;
 use crate::turn::Turn;
 use knx_model::NoMemory;
 use line_model::{Port, PortPolled};
@@ -38,7 +40,7 @@ impl Run {
     ) -> Result<Served, Broken>
         ensures served { IfOk result (λ served. ServedSo served turns (seen self.old) (seen self.new) (P.story port.old) (P.story port.new)) }
         ensures broken { OnErr result (BreaksOff turns (seen self.old) (seen self.new) (P.story port.old) (P.story port.new)) }
-        ensures cause { IfErr result (λ why. IsCausedBy why (P.faults port.old) (P.faults port.new)) }
+        ensures cause { IfErr result (λ why. IsCausedBy why (P.faults port.old) (P.faults port.new) (seen self.new)) }
         ensures count { P.faults port.old ≤ P.faults port.new }
         ensures start { start (seen self.new) ≡ start (seen self.old) }
         ensures script { script (seen self.new) ≡ script (seen self.old) }
@@ -90,7 +92,7 @@ impl Run {
         ensures turned { IfOk result (λ now_quiet. Turned quiet now_quiet self.old self.new (P.story port.old) (P.story port.new)) }
         ensures most { IfOk result (λ now_quiet. now_quiet ≤ quiet_turns) }
         ensures err { OnErr result (StopsTurn self.old self.new (P.story port.old) (P.story port.new)) }
-        ensures cause { IfErr result (λ why. IsCausedBy why (P.faults port.old) (P.faults port.new)) }
+        ensures cause { IfErr result (λ why. IsCausedBy why (P.faults port.old) (P.faults port.new) (seen self.new)) }
         ensures count { P.faults port.old ≤ P.faults port.new }
     {
         let mut into = [0; 512];
@@ -107,17 +109,32 @@ impl Run {
         }
     }
 
-    /// The line goes on for so many milliseconds, and the port is given what its clients get.
+    /// The line goes on for so many milliseconds, or to the last time where that comes before, and the port is given what its clients get.
     fn go_on_for<P: Port>(&mut self, port: &mut P, wait: u32) -> Result<(), Broken>
         requires { self.old.begun.clients ≡ Any }
         ensures plays { OnOk result (PlaysFor wait self.old self.new (P.story port.old) (P.story port.new)) }
         ensures err { OnErr result (StopsPlaying self.old self.new (P.story port.old) (P.story port.new)) }
-        ensures cause { IfErr result (λ why. IsCausedBy why (P.faults port.old) (P.faults port.new)) }
+        ensures cause { IfErr result (λ why. IsCausedBy why (P.faults port.old) (P.faults port.new) (seen self.new)) }
         ensures count { P.faults port.old ≤ P.faults port.new }
     {
-        if self.now() > u64::MAX - u64::from(wait) {
-            return Err(Broken::Run(Stopped::AtEnd));
+        let left = self.before_end(wait);
+        self.play(port, left)?;
+        if left < wait {
+            Err(Broken::AtEnd)
+        } else {
+            Ok(())
         }
+    }
+
+    /// The line goes on for so many milliseconds, and the port is given what its clients get.
+    fn play<P: Port>(&mut self, port: &mut P, wait: u32) -> Result<(), Broken>
+        requires serves { self.old.begun.clients ≡ Any }
+        requires time { now (world self.old) + wait ≤ last_time }
+        ensures plays { OnOk result (PlaysFor wait self.old self.new (P.story port.old) (P.story port.new)) }
+        ensures err { OnErr result (StopsPlaying self.old self.new (P.story port.old) (P.story port.new)) }
+        ensures cause { IfErr result (λ why. IsCausedBy why (P.faults port.old) (P.faults port.new) (seen self.new)) }
+        ensures count { P.faults port.old ≤ P.faults port.new }
+    {
         let mut left = wait;
         loop {
             self.few();

@@ -1,14 +1,14 @@
-//! Why a run stops, and why a serving breaks off.
+//! Why a call of a run stops, and why a serving breaks off.
 
 use knx_model::NoMemory;
 use line_model::PortFault;
 
-/// Why a call of a run stops before its end.
+/// Why a call of a run that is driven as a link stops.
 #[derive(Debug, Drop)]
 pub enum Stopped {
     /// There was no memory.
     NoMemory(NoMemory),
-    /// A number has come to its greatest value, 2^62 events or a time of 2^64 - 1 ms. No run comes to that.
+    /// The run has come to its end: its time is the last of 64 bits, 2^64 - 1 ms.
     AtEnd,
     /// The run serves clients at a port: it isn't driven as a link.
     Serves,
@@ -28,32 +28,22 @@ impl From<NoMemory> for Stopped {
 /// Why a serving breaks off.
 #[derive(Drop)]
 pub enum Broken {
-    /// The run stops.
-    Run(Stopped),
+    /// There was no memory.
+    NoMemory(NoMemory),
+    /// The run has come to its end.
+    AtEnd,
     /// A call of the port failed.
     Port(PortFault),
 }
 
-impl From<Stopped> for Broken {
-    ghost use Rattle.bus_sim.specs.declared.stopped.Broken.{Broken};
-    ghost use Rattle.std.specs.Prelude.{◌≡◌};
-
-    ghost from_gives = { λ why broken. broken ≡ Broken.Run why };
-
-    fn from(why: Stopped) -> Broken {
-        Broken::Run(why)
-    }
-}
-
 impl From<NoMemory> for Broken {
     ghost use Rattle.bus_sim.specs.declared.stopped.Broken.{Broken};
-    ghost use Rattle.bus_sim.specs.declared.stopped.Stopped.{Stopped};
     ghost use Rattle.std.specs.Prelude.{◌≡◌};
 
-    ghost from_gives = { λ _ broken. broken ≡ Broken.Run (Stopped.NoMemory tt) };
+    ghost from_gives = { λ _ broken. broken ≡ Broken.NoMemory tt };
 
     fn from(want: NoMemory) -> Broken {
-        Broken::Run(Stopped::NoMemory(want))
+        Broken::NoMemory(want)
     }
 }
 

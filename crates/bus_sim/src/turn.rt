@@ -10,8 +10,7 @@ ghost use Rattle.bus_sim.specs.Went.{Stays, world};
 
 use crate::owed::Owed;
 use crate::run::Run;
-use crate::stopped::Stopped;
-use knx_model::Datagram;
+use knx_model::{Datagram, NoMemory};
 
 /// A datagram of the gateway, and the endpoint that it comes to.
 #[derive(Drop)]
@@ -37,7 +36,7 @@ impl Run {
     /// One turn of the line, while so much of a wait is left. What the script calls for goes first; then a datagram to the client, one to the
     /// gateway, a frame that waits for the bus, what the gateway has due, and the device with the least address that has something to send.
     /// Where there is none of these, time passes, until something is due or the wait is over. At `Err` nothing has happened.
-    pub fn turn(&mut self, left: u32) -> Result<Turn, Stopped>
+    pub fn turn(&mut self, left: u32) -> Result<Turn, NoMemory>
         requires { now (world self.old) + left ≤ last_time }
         ensures turns { IfOk result (λ turn. Turns turn left self.old self.new) }
         ensures err { OnErr result (Stays self.old self.new) }
@@ -49,7 +48,7 @@ impl Run {
     }
 
     /// What the script calls for happens.
-    fn meet(&mut self, owed: Owed) -> Result<Turn, Stopped>
+    fn meet(&mut self, owed: Owed) -> Result<Turn, NoMemory>
         requires { Calls (seen self.old) (meant owed) }
         ensures turns { IfOk result (λ turn. (left : ℕ) → Turns turn left self.old self.new) }
         ensures err { OnErr result (Stays self.old self.new) }

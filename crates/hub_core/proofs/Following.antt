@@ -25,7 +25,7 @@ pub newest : (places : List Placed) → newest_time (entries places) ≡ time (m
 newest [] = refl
 newest (p ∷ places) = refl
 
-rise_parts : (since : ℕ) (newer older : List Moment) (m : Moment) → Rise since (newer ++ m ∷ older) → Rise m.at newer × (place_or since older < m.at) × Rise since older
+pub rise_parts : (since : ℕ) (newer older : List Moment) (m : Moment) → Rise since (newer ++ m ∷ older) → Rise m.at newer × (place_or since older < m.at) × Rise since older
 rise_parts since [] older m h = (tt, h.0, h.1)
 rise_parts since (x ∷ newer) older m h =
     let rest : Rise m.at newer × (place_or since older < m.at) × Rise since older = rise_parts since newer older m h.1 in

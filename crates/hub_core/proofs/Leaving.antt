@@ -1,5 +1,5 @@
 -- Each entry of a step of the closing is right where it stands.
-use Rattle.std.proofs.Common.{◌≡◌, inl, inr, ℕ, Bool, true, false, List, [], ◌∷◌, ◌++◌, Option, Some, None, Result, Ok, Err, refl, sym, ap, subst, ◌∙◌, append_assoc, arith}
+use Rattle.std.proofs.Common.{◌≡◌, ℕ, Bool, true, false, List, [], ◌∷◌, ◌++◌, Option, Some, None, refl, sym, ap, subst, ◌∙◌, append_assoc, arith}
 use Rattle.std.proofs.lemmas.Bool.Decides.{nat_tests}
 use Rattle.std.proofs.lemmas.List.{append_cancel_right}
 use Rattle.std.specs.Prelude.{◌&&◌, ◌||◌, min, nat_le}
@@ -17,7 +17,6 @@ use Rattle.tunnel_link.proofs.Growth.{entries_append}
 use Rattle.tunnel_link.proofs.Places.{unmoved}
 use Rattle.tunnel_link.proofs.SeekKept.{grows_as}
 use Rattle.hub_work.specs.declared.closing.Closing.{Closing}
-use Rattle.hub_work.specs.Closes.{closing_of}
 use Rattle.hub_core.specs.Closes.{capped, HasCome, resumed, Resumes, Begins, HasListened, AsksNow}
 use Rattle.hub_core.specs.Leaving.{RightFrom, ClosesOn}
 use Rattle.hub_core.specs.Pumps.{AddsSo}

@@ -41,7 +41,7 @@ use Rattle.hub_core.proofs.View.{seen_tasks}
 
 -- ---- what each call adds
 
-grows_as : (P Q : List Placed → List Placed → Type 0) (s t : Story) → ((old added : List Placed) → P old added → Q old added) → Growing P s t → Growing Q s t
+pub grows_as : (P Q : List Placed → List Placed → Type 0) (s t : Story) → ((old added : List Placed) → P old added → Q old added) → Growing P s t → Growing Q s t
 grows_as P Q s t to g old e = let x = g old e in record { new = x.new; told = x.told; added = x.added; grown = x.grown; is = to old x.added x.is }
 
 pub none_sent : (s t : Story) → t ≡ s → Growing SendsOnly s t
@@ -119,7 +119,7 @@ sent_first jobs turns log crew closing at old one two s x = record {
 
 -- of the hub before the call and before its poll
 module _ {L : Type 0} (x y : Seen L) (run : SameRun x y) (log : y.log ≡ x.log) where
-  jobs_back : (jobs : List Job) → AreJobs x.jobs jobs → AreJobs y.jobs jobs
+  pub jobs_back : (jobs : List Job) → AreJobs x.jobs jobs → AreJobs y.jobs jobs
   jobs_back jobs of = subst (λ (ts : List Task). AreJobsWith ts jobs) (sym run.tasks) of
 
   once_same : (jobs : List Job) (crew : List (Option Held)) (closing : Option line.Closing) (at : ℕ) (old added : List Placed) → y.crew ≡ crew → PollsOnce jobs y.turns y.log y.crew closing at old added → PollsOnce jobs x.turns x.log crew closing at old added

@@ -1,3 +1,4 @@
+pub mod Closed
 pub mod Drives
 pub mod Heard
 pub mod Leaving

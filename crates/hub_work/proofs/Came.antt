@@ -1,10 +1,11 @@
 -- How much waits for the workers, as one worker's part is written.
-use Rattle.std.proofs.Common.{◌≡◌, ◌≢◌, inl, inr, ℕ, zero, suc, ◌+◌, ◌-◌, ◌<◌, ◌≤◌, List, [], ◌∷◌, set, Option, Some, None, refl, sym, ap, subst, ◌∙◌, arith}
-use Rattle.std.proofs.lemmas.Bool.{cases_eq}
+use Rattle.std.proofs.Common.{◌≡◌, ◌≢◌, inl, inr, ℕ, zero, suc, ◌-◌, ◌≤◌, eqb, Bool, true, false, List, [], ◌∷◌, set, Option, Some, None, refl, sym, ap, subst, ◌∙◌, arith}
+use Rattle.std.specs.Prelude.{◌&&◌, is_some}
+use Rattle.std.proofs.lemmas.Bool.{cases_eq, eq-eqb, ne_eqb}
 use Rattle.hub_work.specs.declared.crew.Held.{Held}
 use Rattle.hub_work.specs.Books.{held_at}
-use Rattle.hub_work.specs.Came.{waiting_in, waiting_at, RisesBy, RisesAt, TakesOneIn}
-use Rattle.hub_work.proofs.Crews.{cases_lt}
+use Rattle.hub_work.specs.Closes.{counted}
+use Rattle.hub_work.specs.Came.{waiting_in, waiting_at, holds_at, after_coming, RisesBy, RisesWhere, TakesOneIn}
 
 set_here : (crew : List (Option Held)) (place : ℕ) (h : Held) (o : Option Held) → Some h ≡ held_at crew place → held_at (set crew place o) place ≡ o
 set_here [] place h o e = absurd (cc)
@@ -30,17 +31,36 @@ others_stay crew new place o is other apart = ap (λ (c : List (Option Held)). w
 pub stays_by : (crew : List (Option Held)) (n : ℕ) → RisesBy n crew crew
 stays_by crew n place = omega arith
 
-pub stays_at : (crew : List (Option Held)) (place : ℕ) → RisesAt place crew crew
-stays_at crew place = record { here = omega arith; others = λ other apart. refl }
+-- ---- where something came
 
-pub rises_so : (crew new : List (Option Held)) (place : ℕ) (h g : Held) → Some h ≡ held_at crew place → new ≡ set crew place (Some g) → g.came ≤ h.came + 1 → RisesAt place crew new
-rises_so crew new place h g e is le = record {
-  here =
+-- at the same places
+pub same_where : (f g : ℕ → Bool) (old new : List (Option Held)) → ((place : ℕ) → f place ≡ g place) → RisesWhere f old new → RisesWhere g old new
+same_where f g old new same r place = r place ∙ ap (λ b. after_coming b (waiting_at old place)) (same place)
+
+pub nowhere : (f : ℕ → Bool) (crew : List (Option Held)) → ((place : ℕ) → f place ≡ false) → RisesWhere f crew crew
+nowhere f crew none place = sym (ap (λ b. after_coming b (waiting_at crew place)) (none place))
+
+pub rises_so : (crew new : List (Option Held)) (place : ℕ) (h g : Held) → Some h ≡ held_at crew place → new ≡ set crew place (Some g) → g.came ≡ counted h.came → RisesWhere (λ other. eqb other place && holds_at crew other) crew new
+rises_so crew new place h g e is more other = elim (cases_eq other place) [
+  | inl here ↦
       let now : waiting_at new place ≡ g.came = ap (λ (c : List (Option Held)). waiting_at c place) is ∙ ap waiting_in (set_here crew place h (Some g) e) in
-      let was : h.came ≡ waiting_at crew place = ap waiting_in e in
-      omega (arith, now, was, le);
-  others = others_stay crew new place (Some g) is;
-}
+      let one : waiting_at new place ≡ after_coming true (waiting_at crew place) = now ∙ (more ∙ ap (λ (o : Option Held). counted (waiting_in o)) e) in
+      let test : (eqb other place && holds_at crew place) ≡ true = ap (λ b. b && holds_at crew place) (eq-eqb other place here) ∙ sym (ap is_some e) in
+      subst (λ p. waiting_at new p ≡ after_coming (eqb other place && holds_at crew p) (waiting_at crew p)) (sym here) (one ∙ sym (ap (λ b. after_coming b (waiting_at crew place)) test))
+  | inr apart ↦ others_stay crew new place (Some g) is other apart ∙ sym (ap (λ b. after_coming (b && holds_at crew other) (waiting_at crew other)) (ne_eqb other place apart))
+]
+
+-- at a place where no job is held
+not_there : (place other : ℕ) (b : Bool) → (other ≡ place → b ≡ false) → (eqb other place && b) ≡ false
+not_there place other b none = elim (cases_eq other place) [
+  | inl here ↦ ap (λ x. x && b) (eq-eqb other place here) ∙ none here
+  | inr apart ↦ ap (λ x. x && b) (ne_eqb other place apart)
+]
+
+pub for_nobody : (crew : List (Option Held)) (place : ℕ) → None ≡ held_at crew place → RisesWhere (λ other. eqb other place && holds_at crew other) crew crew
+for_nobody crew place e = nowhere _ crew (λ other. not_there place other (holds_at crew other) (λ here. ap (λ p. is_some (held_at crew p)) here ∙ sym (ap is_some e)))
+
+-- ---- a turn takes in
 
 pub takes_so : (crew new : List (Option Held)) (worker place : ℕ) (h g : Held) → place ≡ worker - 1 → Some h ≡ held_at crew place → new ≡ set crew place (Some g) → g.came ≡ h.came - 1 → TakesOneIn worker crew new
 takes_so crew new worker place h g at e is less =
@@ -82,41 +102,5 @@ same_waits crew new place h g e is same other = elim (cases_eq other place) [
 pub none_taken_in : (crew new : List (Option Held)) (worker : ℕ) → ((other : ℕ) → waiting_at new other ≡ waiting_at crew other) → waiting_at crew (worker - 1) ≡ 0 → TakesOneIn worker crew new
 none_taken_in crew new worker same none = record { here = (let s = same (worker - 1) in omega (arith, s, none)); others = λ other apart. same other }
 
-pub at_by : (place : ℕ) (old new : List (Option Held)) → RisesAt place old new → RisesBy 1 old new
-at_by place old new r other = elim (cases_eq other place) [
-  | inl here ↦ subst (λ p. waiting_at new p ≤ waiting_at old p + 1) (sym here) r.here
-  | inr apart ↦ let same = r.others other apart in omega (arith, same)
-]
-
 pub by_more : (m n : ℕ) (old new : List (Option Held)) → m ≤ n → RisesBy m old new → RisesBy n old new
 by_more m n old new le r place = let h = r place in omega (arith, h, le)
-
-pub by_both : (m n : ℕ) (a b c : List (Option Held)) → RisesBy m a b → RisesBy n b c → RisesBy (m + n) a c
-by_both m n a b c r s place = let x = r place in let y = s place in omega (arith, x, y)
-
--- ---- one worker after another
-
-pub record RisesSoFar (n : ℕ) (old new : List (Option Held)) : Type 0 where
-  pub before : (place : ℕ) → place < n → waiting_at new place ≤ waiting_at old place + 1
-  pub after : (place : ℕ) → n ≤ place → waiting_at new place ≡ waiting_at old place
-
-pub none_risen : (crew : List (Option Held)) → RisesSoFar 0 crew crew
-none_risen crew = record { before = λ place lt. absurd (omega (arith, lt)); after = λ place le. refl }
-
-pub one_more_risen : (n : ℕ) (old so_far new : List (Option Held)) → RisesSoFar n old so_far → RisesAt n so_far new → RisesSoFar (n + 1) old new
-one_more_risen n old so_far new r s = record {
-  before = λ place lt. elim (cases_eq place n) [
-    | inl here ↦
-        let same = r.after n (omega arith) in
-        let le = s.here in
-        subst (λ p. waiting_at new p ≤ waiting_at old p + 1) (sym here) (omega (arith, same, le))
-    | inr apart ↦ let le = r.before place (omega (arith, lt, apart)) in let same = s.others place apart in omega (arith, le, same)
-  ];
-  after = λ place le. s.others place (λ e. omega (arith, le, e)) ∙ r.after place (omega (arith, le));
-}
-
-pub all_risen : (n : ℕ) (old new : List (Option Held)) → RisesSoFar n old new → RisesBy 1 old new
-all_risen n old new r place = elim (cases_lt place n) [
-  | inl lt ↦ r.before place lt
-  | inr le ↦ let same = r.after place le in omega (arith, same)
-]

@@ -44,7 +44,7 @@ one_job jobs old before at l j k w s v t a b books f ja kb e sj sk =
 is_raw : (a b : ℕ) → eqb a b ≡ true → a ≡ b
 is_raw a b e = grind (arith, nat_tests)
 
-of_it : (device : IndAddr) (h : Holds) → is_of_device device (Some h) ≡ true → h.device.raw ≡ device.raw
+pub of_it : (device : IndAddr) (h : Holds) → is_of_device device (Some h) ≡ true → h.device.raw ≡ device.raw
 of_it device h e = is_raw h.device.raw device.raw e
 
 -- ---- a frame of a device

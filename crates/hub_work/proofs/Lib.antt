@@ -33,3 +33,5 @@ pub mod Growing
 pub mod Lasting
 pub mod PollsRight
 pub mod Came
+pub mod CameFor
+pub mod Counted

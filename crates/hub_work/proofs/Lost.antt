@@ -39,7 +39,7 @@ pub none_lost : (held : List (Option Holding)) (all : List DownloaderState) → 
 none_lost held all = record { told = λ place x s lt e t. absurd (omega arith); each = λ k s e. inl e }
 
 -- the worker at a place holds that
-at_holding : (crew : List (Option Holds)) (n : ℕ) (x : Holding) → slice_get (holdings crew) n ≡ Some (Some x) → (h : Holds) × (held_at crew n ≡ Some h) × (h.job ≡ x.job)
+pub at_holding : (crew : List (Option Holds)) (n : ℕ) (x : Holding) → slice_get (holdings crew) n ≡ Some (Some x) → (h : Holds) × (held_at crew n ≡ Some h) × (h.job ≡ x.job)
 at_holding [] n x e = absurd (cc)
 at_holding (None ∷ crew) zero x e = absurd (cc)
 at_holding (Some h ∷ crew) zero x e = (h, refl, same_held_job (record { job = h.job; device = h.device; begun = h.begun }) x e)

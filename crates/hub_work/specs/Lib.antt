@@ -15,3 +15,4 @@ pub mod Waits
 pub mod Closes
 pub mod Polls
 pub mod Came
+pub mod CameFor

@@ -1,8 +1,8 @@
 //! The workers.
 
-ghost use Rattle.std.specs.Prelude.{◌≡◌, ℕ, ◌-◌, ◌≤◌, Some, None, false, true, IfOk, IfSome, length, replicate, slice_set};
+ghost use Rattle.std.specs.Prelude.{◌≡◌, ℕ, ◌+◌, ◌-◌, ◌≤◌, ◌==◌, ◌&&◌, Some, None, false, true, IfOk, IfSome, length, replicate, slice_set};
 ghost use Rattle.hub_work.specs.Books.{held_at, is_of_device};
-ghost use Rattle.hub_work.specs.Came.{waiting_at, RisesAt, RisesBy, TakesOneIn};
+ghost use Rattle.hub_work.specs.Came.{waiting_at, holds_at, RisesWhere, TakesOneIn};
 ghost use Rattle.hub_work.specs.Crew.{holdings, after_begun};
 
 use knx_model::{IndAddr, NoMemory};
@@ -129,18 +129,20 @@ impl Crew {
         }
     }
 
-    /// Something came for it.
+    /// Something came for it, where it holds a job.
     pub fn came(&mut self, worker: u8)
         ensures held { holdings self.new ≡ holdings self.old }
-        ensures came { RisesBy 1 self.old self.new }
+        ensures came { RisesWhere (λ place. (place + 1 == worker) && holds_at self.old place) self.old self.new }
     {
-        self.came_at(place_of(worker));
+        if worker != 0 {
+            self.came_at(place_of(worker));
+        }
     }
 
-    /// Something came for the worker at a place, from 0.
+    /// Something came for the worker at a place, from 0, where it holds a job.
     pub fn came_at(&mut self, place: usize)
         ensures held { holdings self.new ≡ holdings self.old }
-        ensures came { RisesAt place self.old self.new }
+        ensures came { RisesWhere (λ other. (other == place) && holds_at self.old other) self.old self.new }
     {
         if let Some(held) = self.at(place) {
             let came = held.came.saturating_add(1);

@@ -5,9 +5,10 @@ ghost use Rattle.knx_model.specs.declared.command.Stop.TheVariants.{Usage, NoMem
 ghost use Rattle.knx_model.specs.Outside.{one_more};
 ghost use Rattle.knx_model.specs.Refusal.{status_number};
 ghost use Rattle.knx_top.specs.Call.{AtMostOneRose, HasRunOf, IsCountsText, IsTablesText, Replies, RunsScript, TellsOfFrame, TellsOfProject};
-ghost use Rattle.knx_top.specs.Command.{DownloadWords, ProjectWords, SimWords, asked, Check as AskedCheck, Decode as AskedDecode, Download as AskedDownload, Sim as AskedSim, Tables as AskedTables};
+ghost use Rattle.knx_top.specs.Command.{DownloadWords, GatewayWords, ProjectWords, SimWords, asked, Check as AskedCheck, Decode as AskedDecode, Download as AskedDownload, Gateway as AskedGateway, Sim as AskedSim, Tables as AskedTables};
 ghost use Rattle.knx_top.specs.Dialled.{RepliesEnd, RunsDialled};
-ghost use Rattle.knx_top.specs.Headline.{ActsOnce, BeganRightly, EndsEveryJob, EndsThoroughly, HasFaultRight, HasOldStoppedOrNew, HasTelegramsRight, IsToldRightly, LeavesItsChannel, RunsWhereDone};
+ghost use Rattle.knx_top.specs.Gateway.{RepliesServed, RunsGateway};
+ghost use Rattle.knx_top.specs.Headline.{ActsOnce, BeganRightly, ClosesToItsEnd, EndsEveryJob, EndsThoroughly, HasFaultRight, HasOldStoppedOrNew, HasTelegramsRight, IsToldRightly, LeavesItsChannel, RunsWhereDone};
 ghost use Rattle.knx_top.specs.Ran.{FaultsOfLine, Stops};
 ghost use Rattle.knx_cli.specs.Exit.{status_of};
 
@@ -36,6 +37,7 @@ fn ended<R: Wait, F: Files, K: Sink, D: Dialer>(
     ensures decode { (word : List ℕ) → asked (map string_bytes words.now) ≡ Some (AskedDecode word) → TellsOfFrame word (Replies (K.faults out.old) (K.faults out.new) (K.taken out.old) (K.taken out.new) (status_of result)) }
     ensures sim { (names : SimWords) → asked (map string_bytes words.now) ≡ Some (AskedSim names) → RunsScript names (F.file files.old) (F.faults files.old) (F.faults files.new) sim.old (record { line = sim.new; report = last.new }) (Replies (K.faults out.old) (K.faults out.new) (K.taken out.old) (K.taken out.new) (status_of result)) }
     ensures download { (names : DownloadWords) → asked (map string_bytes words.now) ≡ Some (AskedDownload names) → RunsDialled names (F.file files.old) (F.faults files.old) (F.faults files.new) (record { faults = D.faults dial.old; given = D.given dial.old; link_back = D.link_back dial.old; port_back = D.port_back dial.old }) (record { faults = D.faults dial.new; given = D.given dial.new; link_back = D.link_back dial.new; port_back = D.port_back dial.new }) last.new (RepliesEnd (K.faults out.old) (K.faults out.new) (K.taken out.old) (K.taken out.new) (status_of result)) }
+    ensures gateway { (names : GatewayWords) → asked (map string_bytes words.now) ≡ Some (AskedGateway names) → RunsGateway names (F.file files.old) (F.faults files.old) (F.faults files.new) (record { faults = D.faults dial.old; given = D.given dial.old; link_back = D.link_back dial.old; port_back = D.port_back dial.old }) (record { faults = D.faults dial.new; given = D.given dial.new; link_back = D.link_back dial.new; port_back = D.port_back dial.new }) sim.old sim.new (RepliesServed (K.faults out.old) (K.faults out.new) (K.taken out.old) (K.taken out.new) (status_of result)) }
     ensures begins { HasRunOf BeganRightly (map string_bytes words.now) (F.file files.old) sim.old (record { line = sim.new; report = last.new }) }
     ensures old_stopped_or_new { HasRunOf HasOldStoppedOrNew (map string_bytes words.now) (F.file files.old) sim.old (record { line = sim.new; report = last.new }) }
     ensures telegrams { HasRunOf HasTelegramsRight (map string_bytes words.now) (F.file files.old) sim.old (record { line = sim.new; report = last.new }) }
@@ -46,9 +48,10 @@ fn ended<R: Wait, F: Files, K: Sink, D: Dialer>(
     ensures leaves { HasRunOf LeavesItsChannel (map string_bytes words.now) (F.file files.old) sim.old (record { line = sim.new; report = last.new }) }
     ensures fault { HasRunOf HasFaultRight (map string_bytes words.now) (F.file files.old) sim.old (record { line = sim.new; report = last.new }) }
     ensures over { HasRunOf EndsEveryJob (map string_bytes words.now) (F.file files.old) sim.old (record { line = sim.new; report = last.new }) }
+    ensures closed { HasRunOf ClosesToItsEnd (map string_bytes words.now) (F.file files.old) sim.old (record { line = sim.new; report = last.new }) }
     ensures link { (names : SimWords) → asked (map string_bytes words.now) ≡ Some (AskedSim names) → FaultsOfLine last.new sim.new }
-    ensures line { ((names : SimWords) → asked (map string_bytes words.now) ≢ Some (AskedSim names)) → sim.new ≡ sim.old }
-    ensures undialled { ((names : DownloadWords) → asked (map string_bytes words.now) ≢ Some (AskedDownload names)) → dial.new ≡ dial.old }
+    ensures line { ((names : SimWords) → asked (map string_bytes words.now) ≢ Some (AskedSim names)) → ((names : GatewayWords) → asked (map string_bytes words.now) ≢ Some (AskedGateway names)) → sim.new ≡ sim.old }
+    ensures undialled { ((names : DownloadWords) → asked (map string_bytes words.now) ≢ Some (AskedDownload names)) → ((names : GatewayWords) → asked (map string_bytes words.now) ≢ Some (AskedGateway names)) → dial.new ≡ dial.old }
     ensures no_run { ((names : SimWords) → asked (map string_bytes words.now) ≢ Some (AskedSim names)) → ((names : DownloadWords) → asked (map string_bytes words.now) ≢ Some (AskedDownload names)) → last.new ≡ None }
     ensures files { (name : List ℕ) → F.file files.new name ≡ F.file files.old name }
     ensures faults { AtMostOneRose (F.faults files.old) (F.faults files.new) }
@@ -87,6 +90,7 @@ pub fn status_of<R: Wait, F: Files, K: Sink, D: Dialer>(
     ensures decode { IfOk words.now (λ words. (word : List ℕ) → asked (map string_bytes words.items) ≡ Some (AskedDecode word) → TellsOfFrame word (Replies (K.faults out.old) (K.faults out.new) (K.taken out.old) (K.taken out.new) (status_of result))) }
     ensures sim { IfOk words.now (λ words. (names : SimWords) → asked (map string_bytes words.items) ≡ Some (AskedSim names) → RunsScript names (F.file files.old) (F.faults files.old) (F.faults files.new) sim.old (record { line = sim.new; report = last.new }) (Replies (K.faults out.old) (K.faults out.new) (K.taken out.old) (K.taken out.new) (status_of result))) }
     ensures download { IfOk words.now (λ words. (names : DownloadWords) → asked (map string_bytes words.items) ≡ Some (AskedDownload names) → RunsDialled names (F.file files.old) (F.faults files.old) (F.faults files.new) (record { faults = D.faults dial.old; given = D.given dial.old; link_back = D.link_back dial.old; port_back = D.port_back dial.old }) (record { faults = D.faults dial.new; given = D.given dial.new; link_back = D.link_back dial.new; port_back = D.port_back dial.new }) last.new (RepliesEnd (K.faults out.old) (K.faults out.new) (K.taken out.old) (K.taken out.new) (status_of result))) }
+    ensures gateway { IfOk words.now (λ words. (names : GatewayWords) → asked (map string_bytes words.items) ≡ Some (AskedGateway names) → RunsGateway names (F.file files.old) (F.faults files.old) (F.faults files.new) (record { faults = D.faults dial.old; given = D.given dial.old; link_back = D.link_back dial.old; port_back = D.port_back dial.old }) (record { faults = D.faults dial.new; given = D.given dial.new; link_back = D.link_back dial.new; port_back = D.port_back dial.new }) sim.old sim.new (RepliesServed (K.faults out.old) (K.faults out.new) (K.taken out.old) (K.taken out.new) (status_of result))) }
     ensures begins { IfOk words.now (λ words. HasRunOf BeganRightly (map string_bytes words.items) (F.file files.old) sim.old (record { line = sim.new; report = last.new })) }
     ensures old_stopped_or_new { IfOk words.now (λ words. HasRunOf HasOldStoppedOrNew (map string_bytes words.items) (F.file files.old) sim.old (record { line = sim.new; report = last.new })) }
     ensures telegrams { IfOk words.now (λ words. HasRunOf HasTelegramsRight (map string_bytes words.items) (F.file files.old) sim.old (record { line = sim.new; report = last.new })) }
@@ -97,6 +101,7 @@ pub fn status_of<R: Wait, F: Files, K: Sink, D: Dialer>(
     ensures leaves { IfOk words.now (λ words. HasRunOf LeavesItsChannel (map string_bytes words.items) (F.file files.old) sim.old (record { line = sim.new; report = last.new })) }
     ensures fault { IfOk words.now (λ words. HasRunOf HasFaultRight (map string_bytes words.items) (F.file files.old) sim.old (record { line = sim.new; report = last.new })) }
     ensures over { IfOk words.now (λ words. HasRunOf EndsEveryJob (map string_bytes words.items) (F.file files.old) sim.old (record { line = sim.new; report = last.new })) }
+    ensures closed { IfOk words.now (λ words. HasRunOf ClosesToItsEnd (map string_bytes words.items) (F.file files.old) sim.old (record { line = sim.new; report = last.new })) }
     ensures link { IfOk words.now (λ words. (names : SimWords) → asked (map string_bytes words.items) ≡ Some (AskedSim names) → FaultsOfLine last.new sim.new) }
     // where memory is wanting for the words, that is told
     ensures wanting { IfErr words.now (λ _. Replies (K.faults out.old) (K.faults out.new) (K.taken out.old) (K.taken out.new) (status_of result) (Stops (Wanting tt))) }

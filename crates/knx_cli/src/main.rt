@@ -7,6 +7,8 @@ mod dial;
 mod disk;
 mod ended;
 mod link;
+#[cfg(test)]
+mod meet;
 mod output;
 mod port;
 mod socket;

@@ -1,8 +1,10 @@
 -- A whole call, from what was read to what was written.
 use Rattle.std.proofs.Common.{ℕ, ◌≡◌, ◌≢◌, List, Option, Some, None, Result, Ok, Err, ◌⊎◌, refl, sym, ◌∙◌, subst, inl, inr}
 use Rattle.frame_text.specs.FrameText.{IsFrameText, hex_word}
+use Rattle.std.specs.Prelude.{IfErr, IfOk}
 use Rattle.knx_model.specs.declared.command.Stop.{Stop}
 use Rattle.knx_model.specs.declared.command.Stop.TheVariants as stop
+use Rattle.knx_model.specs.declared.no_memory.NoMemory.{NoMemory}
 use Rattle.knx_model.specs.declared.status.Status.{Status}
 use Rattle.knx_model.specs.declared.log.JobWord.{JobWord}
 use Rattle.knx_model.specs.declared.status.Status.TheVariants as status
@@ -12,15 +14,16 @@ use Rattle.bus_sim.specs.RunNow.{RunNow}
 use Rattle.knx_model.specs.Meaning.{Installation}
 use Rattle.knx_model.specs.Outside.{FileContent}
 use Rattle.line_model.specs.declared.log.Report.{Report}
-use Rattle.knx_top.specs.Command.{Command, Check, Tables, Sim, Decode, Download, DownloadWords, ProjectWords, SimWords, asked}
-use Rattle.knx_top.specs.Call.{Does, TellsText, TellsOf, TellsOfProject, TellsOfFrame, Left, RunsScript, HasRunOf, NoRun, Elsewhere, HasRun, IsCountsText, IsTablesText, AtMostOneRose, Replies, Writes, octets_or_usage, outcome_status}
-use Rattle.knx_top.specs.Ended.{IsTextOf, wanting}
+use Rattle.knx_top.specs.Command.{Command, Check, Tables, Sim, Decode, Download, DownloadWords, Gateway, GatewayWords, ProjectWords, SimWords, asked}
+use Rattle.knx_top.specs.Call.{Does, TellsText, TellsOf, TellsOfProject, TellsOfFrame, Left, RunsScript, HasRunOf, NoRun, Elsewhere, AtPort, HasRun, IsCountsText, IsTablesText, AtMostOneRose, Replies, Writes, octets_or_usage, outcome_status}
+use Rattle.knx_top.specs.Ended.{IsTextOf, RepliesOf, wanting}
 use Rattle.knx_top.specs.Input.{ProjectIsRead, SimIsRead, OnlyRose, failed_of_project, failed_of_sim, first_some}
 use Rattle.knx_top.specs.Judged.{judged, judged_project}
 use Rattle.knx_top.specs.Ran.{Outcome, Stops, Tells, BreaksOff, Reports, StopsFor, Ran, Runs, Comes, report_in}
 use Rattle.knx_top.specs.Stops.{Commission, project_tests, project_told, sim_tests, commission_told}
 use Rattle.knx_top.specs.declared.input.ProjectTexts.{ProjectTexts}
 use Rattle.knx_top.specs.declared.input.SimTexts.{SimTexts}
+use Rattle.knx_top.specs.declared.tell.Text.{Text}
 use Rattle.knx_top.proofs.Stops.{unless_stopped, stopped_by, stopped_by_none, judged_is, judged_project_is}
 
 -- ---- memory may be wanting after all
@@ -59,15 +62,19 @@ report_wants (BreaksOff report) = refl
 report_wants (Reports report jobs devices log) = refl
 
 -- what is written where memory is wanting for a text is the text of the outcome that wants it
-pub replied_wanting : (outcome : Outcome) (faults faults' : ℕ) (taken taken' : Option (List ℕ)) (told : Status) → Writes (stop_text (stop.NoMemory tt)) (status.NoMemory tt) faults faults' taken taken' told → Replies faults faults' taken taken' told (wanting outcome)
+replied_wanting : (outcome : Outcome) (faults faults' : ℕ) (taken taken' : Option (List ℕ)) (told : Status) → Writes (stop_text (stop.NoMemory tt)) (status.NoMemory tt) faults faults' taken taken' told → Replies faults faults' taken taken' told (wanting outcome)
 replied_wanting (Stops why) faults faults' taken taken' told h = h
 replied_wanting (Tells text) faults faults' taken taken' told h = h
 replied_wanting (BreaksOff report) faults faults' taken taken' told h = h
 replied_wanting (Reports report jobs devices log) faults faults' taken taken' told h = h
 
-pub replied_text : (outcome : Outcome) (text : List ℕ) (ending : Status) (faults faults' : ℕ) (taken taken' : Option (List ℕ)) (told : Status) → IsTextOf outcome text ending → Writes text ending faults faults' taken taken' told → Replies faults faults' taken taken' told outcome
-replied_text outcome text ending faults faults' taken taken' told is h =
-    subst (λ (t : List ℕ). Writes t (outcome_status outcome) faults faults' taken taken' told) is.0 (subst (λ (s : Status). Writes text s faults faults' taken taken' told) is.1 h)
+-- a text is written, or that there was no memory for it
+pub text_replied : (outcome : Outcome) (text : Result Text NoMemory) (faults faults' : ℕ) (taken taken' : Option (List ℕ)) (told : Status) → IfOk text (λ p. IsTextOf outcome p.octets p.status)
+    → IfOk text (λ p. Writes p.octets p.status faults faults' taken taken' told) → IfErr text (λ _. Writes (stop_text (stop.NoMemory tt)) (status.NoMemory tt) faults faults' taken taken' told)
+    → RepliesOf faults faults' taken taken' told outcome
+text_replied outcome (Ok text) faults faults' taken taken' told is writes wants =
+    inl (subst (λ (t : List ℕ). Writes t (outcome_status outcome) faults faults' taken taken' told) is.0 (subst (λ (s : Status). Writes text.octets s faults faults' taken taken' told) is.1 writes))
+text_replied outcome (Err want) faults faults' taken taken' told is writes wants = inr (replied_wanting outcome faults faults' taken taken' told wants)
 
 -- ---- the commands
 
@@ -132,13 +139,14 @@ decode_of command file faults faults' before after Replied word does e = (subst 
 pub sim_of : (command : Option Command) (file : List ℕ → FileContent) (faults faults' : List ℕ → ℕ) (before : BusNow) (after : Left) (Replied : Outcome → Type 0) (words : SimWords) → Does command file faults faults' before after Replied → command ≡ Some (Sim words) → RunsScript words file faults faults' before after Replied
 sim_of command file faults faults' before after Replied words does e = subst (λ (o : Option Command). Does o file faults faults' before after Replied) e does
 
-pub line_of : (command : Option Command) (file : List ℕ → FileContent) (faults faults' : List ℕ → ℕ) (before : BusNow) (after : Left) (Replied : Outcome → Type 0) → Does command file faults faults' before after Replied → ((words : SimWords) → command ≢ Some (Sim words)) → after.line ≡ before
-line_of None file faults faults' before after Replied does other = does.2.line
-line_of (Some (Check words)) file faults faults' before after Replied does other = does.1.line
-line_of (Some (Tables words)) file faults faults' before after Replied does other = does.1.line
-line_of (Some (Sim words)) file faults faults' before after Replied does other = absurd (other words refl)
-line_of (Some (Decode word)) file faults faults' before after Replied does other = does.2.line
-line_of (Some (Download words)) file faults faults' before after Replied does other = does.0
+pub line_of : (command : Option Command) (file : List ℕ → FileContent) (faults faults' : List ℕ → ℕ) (before : BusNow) (after : Left) (Replied : Outcome → Type 0) → Does command file faults faults' before after Replied → ((words : SimWords) → command ≢ Some (Sim words)) → ((words : GatewayWords) → command ≢ Some (Gateway words)) → after.line ≡ before
+line_of None file faults faults' before after Replied does sim gateway = does.2.line
+line_of (Some (Check words)) file faults faults' before after Replied does sim gateway = does.1.line
+line_of (Some (Tables words)) file faults faults' before after Replied does sim gateway = does.1.line
+line_of (Some (Sim words)) file faults faults' before after Replied does sim gateway = absurd (sim words refl)
+line_of (Some (Decode word)) file faults faults' before after Replied does sim gateway = does.2.line
+line_of (Some (Download words)) file faults faults' before after Replied does sim gateway = does.0
+line_of (Some (Gateway words)) file faults faults' before after Replied does sim gateway = absurd (gateway words refl)
 
 pub no_run_of : (command : Option Command) (file : List ℕ → FileContent) (faults faults' : List ℕ → ℕ) (before : BusNow) (after : Left) (Replied : Outcome → Type 0) → Does command file faults faults' before after Replied → ((words : SimWords) → command ≢ Some (Sim words)) → ((words : DownloadWords) → command ≢ Some (Download words)) → after.report ≡ None
 no_run_of None file faults faults' before after Replied does sim download = does.2.report
@@ -147,6 +155,7 @@ no_run_of (Some (Tables words)) file faults faults' before after Replied does si
 no_run_of (Some (Sim words)) file faults faults' before after Replied does sim download = absurd (sim words refl)
 no_run_of (Some (Decode word)) file faults faults' before after Replied does sim download = does.2.report
 no_run_of (Some (Download words)) file faults faults' before after Replied does sim download = absurd (download words refl)
+no_run_of (Some (Gateway words)) file faults faults' before after Replied does sim download = does.0
 
 pub faults_in : (command : Option Command) (file : List ℕ → FileContent) (faults faults' : List ℕ → ℕ) (before : BusNow) (after : Left) (Replied : Outcome → Type 0) → Does command file faults faults' before after Replied → AtMostOneRose faults faults'
 faults_in None file faults faults' before after Replied does = (None, does.1)
@@ -155,6 +164,7 @@ faults_in (Some (Tables words)) file faults faults' before after Replied does = 
 faults_in (Some (Sim words)) file faults faults' before after Replied does = (failed_of_sim words does.texts, does.counts)
 faults_in (Some (Decode word)) file faults faults' before after Replied does = (None, does.1)
 faults_in (Some (Download words)) file faults faults' before after Replied does = does.1
+faults_in (Some (Gateway words)) file faults faults' before after Replied does = does.1
 
 -- ---- what is so of each run
 
@@ -187,6 +197,7 @@ ran_in P get (Some (Tables names)) words file faults faults' before after Replie
 ran_in P get (Some (Sim names)) words file faults faults' before after Replied e does = tested P get _ words names file faults faults' before after Replied does refl e
 ran_in P get (Some (Decode word)) words file faults faults' before after Replied e does = NoRun does.2
 ran_in P get (Some (Download names)) words file faults faults' before after Replied e does = Elsewhere names e does.0
+ran_in P get (Some (Gateway names)) words file faults faults' before after Replied e does = AtPort names e does.0
 
 -- what is so of each run that a commission describes is so of the call's
 pub ran_of : (P : Commission → RunNow → Report → Type 0) → ((c : Commission) (r : RunNow) (report : Report) (jobs : List JobWord) → Ran c r report jobs → P c r report)

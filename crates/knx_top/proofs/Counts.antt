@@ -1,8 +1,9 @@
 -- The counts of faults over the reads of a call: only the read that failed is counted.
 use Rattle.std.proofs.Common.{ℕ, ◌≡◌, Bool, true, false, List, [], ◌∷◌, Option, Some, None, Ok, Err, refl, sym, ◌∙◌, subst, inl, inr, ◌⊎◌}
 use Rattle.knx_model.specs.Outside.{FileContent, MayRead, Rose}
-use Rattle.knx_top.specs.Command.{ProjectWords, SimWords}
-use Rattle.knx_top.specs.Input.{limit, goes_on, IsRead, failed, first_some, OnlyRose, failed_of_project, failed_of_sim, ProjectIsRead, SimIsRead}
+use Rattle.knx_top.specs.Command.{GatewayWords, ProjectWords, SimWords}
+use Rattle.knx_top.specs.Input.{limit, goes_on, IsRead, failed, first_some, OnlyRose, failed_of_gateway, failed_of_project, failed_of_sim, GatewayIsRead, ProjectIsRead, SimIsRead}
+use Rattle.knx_top.specs.declared.input.GatewayTexts.{GatewayTexts}
 use Rattle.knx_top.specs.declared.input.ProjectTexts.{ProjectTexts}
 use Rattle.knx_top.specs.declared.input.Reading.{Reading}
 use Rattle.knx_top.specs.declared.input.Reading.TheVariants as read
@@ -104,6 +105,17 @@ sim_rose file words texts a b c d e is first second third fourth =
     rose_then words.options.catalogue texts.catalogue new a b e behind_catalogue first
     (rose_then (Some words.new) texts.new old b c e behind_new second
     (rose_then (Some words.old) texts.old script c d e behind_old third scripted))
+
+pub gateway_rose : (file : List ℕ → FileContent) (words : GatewayWords) (texts : GatewayTexts) (a b c d : List ℕ → ℕ) → GatewayIsRead file words texts
+    → OnlyRose (failed words.catalogue texts.catalogue) a b → OnlyRose (failed (Some words.old) texts.old) b c → OnlyRose (failed (Some words.script) texts.script) c d → OnlyRose (failed_of_gateway words texts) a d
+gateway_rose file words texts a b c d is first second third =
+    let script : List (Option (List ℕ)) = failed (Some words.script) texts.script ∷ [] in
+    let old : List (Option (List ℕ)) = failed (Some words.old) texts.old ∷ script in
+    let behind_old : goes_on texts.old ≡ false → first_some script ≡ None = tail_of (goes_on texts.old) file (Some words.script) texts.script [] is.script (λ _. refl) in
+    let behind_catalogue : goes_on texts.catalogue ≡ false → first_some old ≡ None = tail_of (goes_on texts.catalogue) file (Some words.old) texts.old script is.old behind_old in
+    let scripted : OnlyRose (first_some script) c d = subst (λ (o : Option (List ℕ)). OnlyRose o c d) (sym (alone (failed (Some words.script) texts.script))) third in
+    rose_then words.catalogue texts.catalogue old a b d behind_catalogue first
+    (rose_then (Some words.old) texts.old script b c d behind_old second scripted)
 
 -- ---- what the files tell stays, so that later reads are of the same files
 

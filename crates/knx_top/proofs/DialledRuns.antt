@@ -1,19 +1,15 @@
 -- A run over a dialled link, once it was handed back; and what is written of a download.
 use Rattle.std.proofs.Common.{◌≡◌, ℕ, ◌≤◌, Bool, List, [], map, Option, Some, None, Result, Ok, Err, refl, sym, ◌∙◌, subst, inl, inr, ◌⊎◌}
-use Rattle.std.specs.Prelude.{IfErr, IfOk, IfSome}
+use Rattle.std.specs.Prelude.{IfSome}
 use Rattle.hub_core.specs.Promises.{IsRightOver, FaultRightIn, DropsIn}
 use Rattle.hub_core.specs.Thorough.{IsThoroughOver}
+use Rattle.hub_driver.specs.Closed.{HasClosed}
 use Rattle.hub_driver.specs.Heard.{HeardAll}
 use Rattle.hub_driver.specs.Leaving.{LeavesOver}
 use Rattle.knx_model.specs.declared.command.Stop.{Stop}
-use Rattle.knx_model.specs.declared.command.Stop.TheVariants as stop
 use Rattle.knx_model.specs.declared.log.JobWord.{JobWord}
-use Rattle.knx_model.specs.declared.status.Status.{Status}
-use Rattle.knx_model.specs.declared.status.Status.TheVariants as status
-use Rattle.knx_model.specs.declared.no_memory.NoMemory.{NoMemory}
 use Rattle.knx_model.specs.Outside.{FileContent}
 use Rattle.knx_model.specs.Meaning.{Installation}
-use Rattle.knx_model.specs.ReportText.{stop_text}
 use Rattle.line_model.specs.declared.log.LogEntry.{LogEntry}
 use Rattle.line_model.specs.declared.log.Report.{Report}
 use Rattle.line_model.specs.declared.group.GroupTurn.{GroupTurn}
@@ -22,17 +18,16 @@ use Rattle.line_model.specs.Headline.{Keeps}
 use Rattle.line_model.specs.LinkStory.{Story, Untold, Recorded, Full, IsNewLink, record_in}
 use Rattle.line_model.specs.Log.{Job, IsLog, OneDownloaderPerDevice, AllOver}
 use Rattle.tunnel_link.specs.Goes.{GoesOn}
-use Rattle.tunnel_link.specs.Rights.{FailsWhere}
-use Rattle.knx_top.specs.Call.{AtMostOneRose, Writes}
+use Rattle.tunnel_link.specs.Rights.{FailsWhere, WhereTold}
+use Rattle.knx_top.specs.Call.{AtMostOneRose}
 use Rattle.knx_top.specs.Command.{Command, Download as AskedDownload, DownloadWords, ProjectWords}
-use Rattle.knx_top.specs.Dialled.{DialEnd, DialerNow, DialledRun, Dials, DialsOr, Download, HasItsCause, IsToldOver, MeansOver, NotReached, RepliesEnd, RunsDialled, Shown, Stopped, StopsFor, Unshown, download_tests, download_told, end_status, judged_download, project_named, report_of}
+use Rattle.knx_top.specs.Dialled.{DialEnd, DialerNow, DialledRun, Dials, DialsOr, Download, HasItsCause, IsToldOver, MeansOver, NotReached, RunsDialled, Shown, Stopped, StopsFor, Unshown, download_tests, download_told, judged_download, project_named, report_of}
 use Rattle.knx_top.specs.Input.{ProjectIsRead, OnlyRose, failed_of_project}
 use Rattle.knx_top.specs.Jobs.{ArePlanned, seen_job}
 use Rattle.knx_top.specs.Ran.{log_in}
-use Rattle.knx_top.specs.Ready.{IsReady, IsTextOfEnd, RepliesEndOf, wanting_end}
+use Rattle.knx_top.specs.Ready.{IsReady, wanting_end}
 use Rattle.knx_top.specs.declared.dialled.Ready.{Ready}
 use Rattle.knx_top.specs.declared.input.ProjectTexts.{ProjectTexts}
-use Rattle.knx_top.specs.declared.tell.Text.{Text}
 use Rattle.knx_top.proofs.Dialling.{judged_download_is}
 use Rattle.knx_top.proofs.Meanings.{devices_mean, done_means}
 use Rattle.knx_top.proofs.Stops.{stopped_by, stopped_by_none, unless_stopped}
@@ -57,9 +52,9 @@ means_over project jobs words (Full start events) log planned right = (devices_m
 
 pub told_over : (jobs : List Job) (groups : List GroupTurn) (began after : Story) (place : ℕ) (report : Report) → groups ≡ [] → IsNewLink began → GoesOn began after → Keeps jobs groups after (log_in report) → IsRightOver jobs after (log_in report)
     → IsThoroughOver jobs after (log_in report) → LeavesOver jobs groups after (log_in report)
-    → FaultRightIn jobs (log_in report) report.fault (record_in after) → (report.fault ≡ None → AllOver jobs (log_in report)) → IsLog jobs groups place (log_in report) → OneDownloaderPerDevice jobs (log_in report)
+    → FaultRightIn jobs (log_in report) report.fault (record_in after) → (report.fault ≡ None → AllOver jobs (log_in report)) → (report.fault ≡ None → WhereTold (HasClosed (log_in report)) after) → IsLog jobs groups place (log_in report) → OneDownloaderPerDevice jobs (log_in report)
     → (report.fault ≡ None → HeardAll report.heard (record_in after)) → report.missed ≡ 0 → DropsIn report.dropped (record_in after) → IsToldOver jobs after report
-told_over jobs groups began after place report none new goes keeps right thorough leaves fault ended form alone heard missed dropped = record {
+told_over jobs groups began after place report none new goes keeps right thorough leaves fault ended closed form alone heard missed dropped = record {
   began = began;
   new = new;
   goes = goes;
@@ -69,6 +64,7 @@ told_over jobs groups began after place report none new goes keeps right thoroug
   leaves = subst (λ (turns : List GroupTurn). LeavesOver jobs turns after (log_in report)) none leaves;
   fault = fault;
   ended = ended;
+  closed = closed;
   place = place;
   form = subst (λ (turns : List GroupTurn). IsLog jobs turns place (log_in report)) none form;
   alone = alone;
@@ -126,20 +122,6 @@ report_wants (Stopped told) = refl
 report_wants NotReached = refl
 report_wants (Unshown report) = refl
 report_wants (Shown report words log) = refl
-
--- ---- what is written
-
-replied_text : (ending : DialEnd) (text : List ℕ) (now : Status) (faults faults' : ℕ) (taken taken' : Option (List ℕ)) (told : Status) → IsTextOfEnd ending text now → Writes text now faults faults' taken taken' told → RepliesEnd faults faults' taken taken' told ending
-replied_text ending text now faults faults' taken taken' told is h =
-    subst (λ (t : List ℕ). Writes t (end_status ending) faults faults' taken taken' told) is.0 (subst (λ (s : Status). Writes text s faults faults' taken taken' told) is.1 h)
-
--- a text is written, or that there was no memory for it
-pub text_replied : (ending : DialEnd) (text : Result Text NoMemory) (faults faults' : ℕ) (taken taken' : Option (List ℕ)) (told : Status)
-    → (Writes (stop_text (stop.NoMemory tt)) (status.NoMemory tt) faults faults' taken taken' told → RepliesEnd faults faults' taken taken' told (wanting_end ending))
-    → IfOk text (λ p. IsTextOfEnd ending p.octets p.status) → IfOk text (λ p. Writes p.octets p.status faults faults' taken taken' told) → IfErr text (λ _. Writes (stop_text (stop.NoMemory tt)) (status.NoMemory tt) faults faults' taken taken' told)
-    → RepliesEndOf faults faults' taken taken' told ending
-text_replied ending (Ok text) faults faults' taken taken' told wants is writes wanting = inl (replied_text ending text.octets text.status faults faults' taken taken' told is writes)
-text_replied ending (Err want) faults faults' taken taken' told wants is writes wanting = inr (wants wanting)
 
 -- ---- the whole of it
 

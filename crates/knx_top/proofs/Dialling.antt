@@ -41,7 +41,7 @@ known_ready words project named ready are all is =
 
 -- ---- where the call stops before it dials
 
-is_memory : (told : Stop) → (told ≡ stop.NoMemory tt) ⊎ (told ≢ stop.NoMemory tt)
+pub is_memory : (told : Stop) → (told ≡ stop.NoMemory tt) ⊎ (told ≢ stop.NoMemory tt)
 is_memory (stop.NoMemory want) = inl refl
 is_memory stop.Usage = inr (λ q. cc)
 is_memory (stop.NotThere name) = inr (λ q. cc)

@@ -1,19 +1,25 @@
 -- A run that one caller of the hub drives over the simulated line: what is promised of it, in the words of its commission.
-use Rattle.std.proofs.Common.{◌≡◌, List, [], ◌∷◌, ◌++◌, map, None, refl, sym, ap, ◌∙◌, subst}
+use Rattle.std.proofs.Common.{◌≡◌, ℕ, inl, inr, List, [], ◌∷◌, ◌++◌, map, Option, Some, None, refl, sym, ap, ◌∙◌, subst, arith}
+use Rattle.std.specs.Prelude.{IfSome}
 use Rattle.bus_sim.specs.Loaded.{BusNow}
 use Rattle.bus_sim.specs.declared.clients.Clients.{Clients}
 use Rattle.bus_sim.specs.declared.clients.Clients.TheVariants.{One, Any}
 use Rattle.bus_sim.specs.Begun.{mode_of}
+use Rattle.bus_sim.specs.Ended.{FailsAtEnd}
 use Rattle.bus_sim.specs.RunNow.{RunNow, mode, script, start, story, story_of}
 use Rattle.hub_core.specs.Promises.{IsRightOver, FaultRightIn, DropsIn}
 use Rattle.hub_core.specs.Seen.{AreJobs}
 use Rattle.hub_core.specs.Thorough.{IsThoroughOver}
+use Rattle.hub_driver.specs.Closed.{HasClosed}
 use Rattle.hub_driver.specs.Heard.{HeardAll}
 use Rattle.hub_driver.specs.Leaving.{LeavesOver}
 use Rattle.hub_work.specs.declared.job.HubJob.{HubJob}
 use Rattle.hub_work.specs.Books.{AreJobsOf}
 use Rattle.hub_work.specs.Downloaders.{Task, task_of_hub_job}
 use Rattle.knx_model.specs.declared.address.IndAddr.{IndAddr}
+use Rattle.knx_model.specs.Outside.{Rose}
+use Rattle.line_model.specs.declared.fault.HubFault.{HubFault}
+use Rattle.line_model.specs.declared.fault.HubFault.TheVariants.{LinkFailed}
 use Rattle.line_model.specs.declared.log.LogEntry.{LogEntry}
 use Rattle.line_model.specs.declared.log.Report.{Report}
 use Rattle.line_model.specs.Follows.{Follows}
@@ -23,13 +29,15 @@ use Rattle.line_model.specs.Legal.{IsLegal}
 use Rattle.line_model.specs.Lines.{Script, script_of}
 use Rattle.line_model.specs.LinkStory.{Full, IsNewLink, record_in}
 use Rattle.line_model.specs.Log.{Job, AllOver}
+use Rattle.line_model.specs.Record.{placed}
 use Rattle.line_model.specs.StartOf.{BusOf}
 use Rattle.line_model.specs.Tunnel.{Commissions}
 use Rattle.line_model.specs.World.{World, Event}
 use Rattle.tunnel_link.specs.Goes.{GoesOn}
+use Rattle.tunnel_link.specs.Rights.{FailsWhere, WhereTold}
 use Rattle.knx_top.specs.Begun.{IsOrder}
 use Rattle.knx_top.specs.Jobs.{seen_job}
-use Rattle.knx_top.specs.Ran.{IsRunOf, KeepsPromises, Ran, log_in}
+use Rattle.knx_top.specs.Ran.{FailsAtLast, IsRunOf, KeepsPromises, Ran, log_in}
 use Rattle.knx_top.specs.Stops.{Commission}
 use Rattle.knx_top.specs.declared.judge.Order.{Order}
 use Rattle.knx_top.proofs.Meanings.{devices_mean, done_means}
@@ -82,6 +90,25 @@ same_start before after one goes =
     one_start : (one other : World) (events more : List Event) → Full one events ≡ Full other more → one ≡ other
     one_start one other events more e = cc
 
+-- ---- the link failed only at the end of the run
+
+fails_last : (fault : HubFault) (line : BusNow) → line.run.begun.clients ≡ One → FailsAtEnd line.faults line.run → FailsWhere fault 0 line.faults → FailsAtLast fault line
+fails_last LinkFailed line one (inl none) rose = absurd (none_rose line.faults none rose)
+  where
+    none_rose : (n : ℕ) → n ≡ 0 → Rose 0 n → ⊥
+    none_rose n none (inl more) = omega (arith, none, more)
+    none_rose n none (inr greatest) = omega (arith, none, greatest)
+fails_last LinkFailed line one (inr (inl end)) rose = (end, rose)
+fails_last LinkFailed line one (inr (inr serves)) rose = absurd (not_both (sym one ∙ serves))
+  where
+    not_both : One ≡ Any → ⊥
+    not_both e = cc
+fails_last fault line one ends rose = tt
+
+pub faults_last : (told : Option HubFault) (line : BusNow) → line.run.begun.clients ≡ One → FailsAtEnd line.faults line.run → IfSome told (λ fault. FailsWhere fault 0 line.faults) → IfSome told (λ fault. FailsAtLast fault line)
+faults_last None line one ends cause = tt
+faults_last (Some fault) line one ends cause = fails_last fault line one ends cause
+
 -- ---- the premises, and what is promised
 
 is_run : (c : Commission) (order : Order) (r : RunNow) → IsOrder c order → start r ≡ start order.line.run → script r ≡ script order.line.run
@@ -113,11 +140,12 @@ pub driven : (c : Commission) (order : Order) (line : BusNow) (report : Report) 
     → IsRightOver (map seen_job order.plans) (story line.run) (log_in report)
     → FaultRightIn (map seen_job order.plans) (log_in report) report.fault (record_in (story line.run))
     → (report.fault ≡ None → AllOver (map seen_job order.plans) (log_in report))
+    → (report.fault ≡ None → WhereTold (HasClosed (log_in report)) (story line.run))
     → (report.fault ≡ None → HeardAll report.heard (record_in (story line.run)))
     → report.missed ≡ 0
     → DropsIn report.dropped (record_in (story line.run))
     → Ran c line.run report order.jobs
-driven c order line report is one goes says fresh legal follows keeps thorough leaves right fault over heard missed dropped =
+driven c order line report is one goes says fresh legal follows keeps thorough leaves right fault over closed heard missed dropped =
     let jobs : List Job = map seen_job order.plans in
     let whole : story line.run ≡ Full (start line.run) line.run.events = told_whole order.line.run line.run one goes in
     let in_run : mode line.run ≡ Commissions = ap mode_of (still_one order.line.run line.run one goes) in
@@ -137,6 +165,7 @@ driven c order line report is one goes says fresh legal follows keeps thorough l
         leaves = subst (λ s. LeavesOver jobs [] s (log_in report)) whole leaves;
         fault = subst (λ s. FaultRightIn jobs (log_in report) report.fault (record_in s)) whole fault;
         ended = over;
+        closed = λ none. subst (λ s. WhereTold (HasClosed (log_in report)) s) whole (closed none) (placed (start line.run) line.run.events) refl;
         heard = λ none. subst (λ s. HeardAll report.heard (record_in s)) whole (heard none);
         missed = missed;
         dropped = subst (λ s. DropsIn report.dropped (record_in s)) whole dropped;

@@ -4,7 +4,7 @@ use Rattle.bus_sim.specs.RunNow.{RunNow}
 use Rattle.knx_model.specs.declared.log.JobWord.{JobWord}
 use Rattle.line_model.specs.declared.log.Report.{Report}
 use Rattle.line_model.specs.Log.{Job}
-use Rattle.knx_top.specs.Headline.{OfItsJobs, BeganRightly, HasOldStoppedOrNew, HasTelegramsRight, RunsWhereDone, ActsOnce, IsToldRightly, EndsThoroughly, LeavesItsChannel, HasFaultRight, EndsEveryJob}
+use Rattle.knx_top.specs.Headline.{OfItsJobs, BeganRightly, HasOldStoppedOrNew, HasTelegramsRight, RunsWhereDone, ActsOnce, IsToldRightly, EndsThoroughly, LeavesItsChannel, HasFaultRight, EndsEveryJob, ClosesToItsEnd}
 use Rattle.knx_top.specs.Ran.{Ran}
 use Rattle.knx_top.specs.Stops.{Commission}
 
@@ -40,3 +40,6 @@ fault_right c r report words ran = of_its_jobs c r report words _ ran ran.told.f
 
 pub ends_every_job : (c : Commission) (r : RunNow) (report : Report) (words : List JobWord) → Ran c r report words → EndsEveryJob c r report
 ends_every_job c r report words ran = of_its_jobs c r report words _ ran ran.told.ended
+
+pub closes_to_its_end : (c : Commission) (r : RunNow) (report : Report) (words : List JobWord) → Ran c r report words → ClosesToItsEnd c r report
+closes_to_its_end c r report words ran = ran.told.closed

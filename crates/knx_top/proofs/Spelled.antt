@@ -4,11 +4,12 @@ use Rattle.std.specs.Prelude.{bytes_eq, if◌then◌else◌}
 use Rattle.std.specs.Option.{option_map}
 use Rattle.std.proofs.lemmas.List.{take-append-drop}
 use Rattle.std.proofs.lemmas.Slice.Eq.{bytes_eq-Decides}
-use Rattle.knx_top.specs.Command.{Command, Check, Tables, Sim, Decode, ProjectWords, SimOptions, SimWords, SpellsOption, NoOption, CatalogueOption, SpellsCommand, SpellsCheck, SpellsTables, SpellsSim, SpellsDecode, SpellsDownload, Download, DownloadWords, options, project_words, sim_options, sim_words, decode_word, download_words, asked}
+use Rattle.knx_top.specs.Command.{Command, Check, Tables, Sim, Decode, ProjectWords, SimOptions, SimWords, SpellsOption, NoOption, CatalogueOption, SpellsCommand, SpellsCheck, SpellsTables, SpellsSim, SpellsDecode, SpellsDownload, SpellsGateway, Download, DownloadWords, Gateway, GatewayWords, options, project_words, sim_options, sim_words, decode_word, download_words, gateway_words, turns_value, asked}
 use Rattle.knx_model.specs.Addresses.{◌>>=◌}
 use Rattle.line_model.specs.Dialled.{Address}
 use Rattle.knx_top.specs.Host.{address_value}
 use Rattle.knx_top.proofs.SpelledOptions.{options_to, sim_options_from}
+use Rattle.knx_top.proofs.SpelledTurns.{Asked, turns_from, turns_to}
 
 -- ---- from the words that spell it
 
@@ -22,6 +23,7 @@ asked_from words command (SpellsTables project others catalogue o) = rw (options
 asked_from words command (SpellsSim new old script others options o) = rw (sim_options_from others options o) refl
 asked_from words command (SpellsDecode word) = refl
 asked_from words command (SpellsDownload address new others at options is o) = rw (is, sim_options_from others options o) refl
+asked_from words command (SpellsGateway address old script number others at turns catalogue is number_is some few o) = rw (is, turns_from number turns number_is some few, options_from others catalogue o) refl
 
 -- ---- from the command that is asked
 
@@ -97,23 +99,45 @@ download_of_words [] command e = absurd cc
 download_of_words (address ∷ []) command e = absurd cc
 download_of_words (address ∷ new ∷ others) command e = download_to (address_value address) (sim_options others) address new others command refl refl e
 
+abbrev gateway_with : Address → ℕ → List ℕ → List ℕ → Option (Option (List ℕ)) → Option GatewayWords
+gateway_with at turns old script o = option_map (λ (catalogue : Option (List ℕ)). let w : GatewayWords = record { at = at; old = old; script = script; turns = turns; catalogue = catalogue } in w) o
+
+gateway_to : (at : Option Address) (turns : Option ℕ) (o : Option (Option (List ℕ))) (address old script word : List ℕ) (others : List (List ℕ)) (command : Command) → address_value address ≡ at → turns_value word ≡ turns → options others ≡ o
+    → option_map Gateway (at >>= λ to. turns >>= λ n. gateway_with to n old script o) ≡ Some command → SpellsCommand (codes "gateway" ∷ address ∷ old ∷ script ∷ word ∷ others) command
+gateway_to None turns o address old script word others command is_at is_turns is e = absurd cc
+gateway_to (Some at) None o address old script word others command is_at is_turns is e = absurd cc
+gateway_to (Some at) (Some turns) None address old script word others command is_at is_turns is e = absurd cc
+gateway_to (Some at) (Some turns) (Some catalogue) address old script word others command is_at is_turns is e =
+    let turned : Asked word turns = turns_to word turns is_turns in
+    let spelled = SpellsGateway address old script turned.number others at turns catalogue is_at turned.is turned.some turned.few (option_to others catalogue is) in
+    subst (λ (c : Command). SpellsCommand (codes "gateway" ∷ address ∷ old ∷ script ∷ word ∷ others) c) (some_command (Gateway (record { at = at; old = old; script = script; turns = turns; catalogue = catalogue })) command e)
+    (subst (λ (w : List ℕ). SpellsCommand (codes "gateway" ∷ address ∷ old ∷ script ∷ w ∷ others) (Gateway (record { at = at; old = old; script = script; turns = turns; catalogue = catalogue }))) turned.whole spelled)
+
+gateway_of_words : (words : List (List ℕ)) (command : Command) → option_map Gateway (gateway_words words) ≡ Some command → SpellsCommand (codes "gateway" ∷ words) command
+gateway_of_words [] command e = absurd cc
+gateway_of_words (address ∷ []) command e = absurd cc
+gateway_of_words (address ∷ old ∷ []) command e = absurd cc
+gateway_of_words (address ∷ old ∷ script ∷ []) command e = absurd cc
+gateway_of_words (address ∷ old ∷ script ∷ word ∷ others) command e = gateway_to (address_value address) (turns_value word) (options others) address old script word others command refl refl refl e
+
 headed : (first text : List ℕ) (words : List (List ℕ)) (command : Command) → bytes_eq first text ≡ true → SpellsCommand (text ∷ words) command → SpellsCommand (first ∷ words) command
 headed first text words command is s = subst (λ (w : List ℕ). SpellsCommand (w ∷ words) command) (sym ((bytes_eq-Decides first text).0 is)) s
 
-asked_to : (a b c d f : Bool) (first : List ℕ) (words : List (List ℕ)) (command : Command) → bytes_eq first (codes "check") ≡ a → bytes_eq first (codes "tables") ≡ b → bytes_eq first (codes "sim") ≡ c → bytes_eq first (codes "decode") ≡ d → bytes_eq first (codes "download") ≡ f
-    → (if a then option_map Check (project_words words) else (if b then option_map Tables (project_words words) else (if c then option_map Sim (sim_words words) else (if d then option_map Decode (decode_word words) else (if f then option_map Download (download_words words) else None))))) ≡ Some command
+asked_to : (a b c d f g : Bool) (first : List ℕ) (words : List (List ℕ)) (command : Command) → bytes_eq first (codes "check") ≡ a → bytes_eq first (codes "tables") ≡ b → bytes_eq first (codes "sim") ≡ c → bytes_eq first (codes "decode") ≡ d → bytes_eq first (codes "download") ≡ f → bytes_eq first (codes "gateway") ≡ g
+    → (if a then option_map Check (project_words words) else (if b then option_map Tables (project_words words) else (if c then option_map Sim (sim_words words) else (if d then option_map Decode (decode_word words) else (if f then option_map Download (download_words words) else (if g then option_map Gateway (gateway_words words) else None)))))) ≡ Some command
     → SpellsCommand (first ∷ words) command
-asked_to true b c d f first words command is _ _ _ _ e = headed first (codes "check") words command is (check_words words command e)
-asked_to false true c d f first words command _ is _ _ _ e = headed first (codes "tables") words command is (tables_words words command e)
-asked_to false false true d f first words command _ _ is _ _ e = headed first (codes "sim") words command is (sim_of_words words command e)
-asked_to false false false true f first words command _ _ _ is _ e = headed first (codes "decode") words command is (decode_words words command e)
-asked_to false false false false true first words command _ _ _ _ is e = headed first (codes "download") words command is (download_of_words words command e)
-asked_to false false false false false first words command _ _ _ _ _ e = absurd cc
+asked_to true b c d f g first words command is _ _ _ _ _ e = headed first (codes "check") words command is (check_words words command e)
+asked_to false true c d f g first words command _ is _ _ _ _ e = headed first (codes "tables") words command is (tables_words words command e)
+asked_to false false true d f g first words command _ _ is _ _ _ e = headed first (codes "sim") words command is (sim_of_words words command e)
+asked_to false false false true f g first words command _ _ _ is _ _ e = headed first (codes "decode") words command is (decode_words words command e)
+asked_to false false false false true g first words command _ _ _ _ is _ e = headed first (codes "download") words command is (download_of_words words command e)
+asked_to false false false false false true first words command _ _ _ _ _ is e = headed first (codes "gateway") words command is (gateway_of_words words command e)
+asked_to false false false false false false first words command _ _ _ _ _ _ e = absurd cc
 
 spelled_to : (words : List (List ℕ)) (command : Command) → asked words ≡ Some command → SpellsCommand words command
 spelled_to [] command e = absurd cc
 spelled_to (first ∷ words) command e =
-    asked_to (bytes_eq first (codes "check")) (bytes_eq first (codes "tables")) (bytes_eq first (codes "sim")) (bytes_eq first (codes "decode")) (bytes_eq first (codes "download")) first words command refl refl refl refl refl e
+    asked_to (bytes_eq first (codes "check")) (bytes_eq first (codes "tables")) (bytes_eq first (codes "sim")) (bytes_eq first (codes "decode")) (bytes_eq first (codes "download")) (bytes_eq first (codes "gateway")) first words command refl refl refl refl refl refl e
 
 pub commands : (words : List (List ℕ)) (command : Command) → (asked words ≡ Some command) ↔ SpellsCommand words command
 commands words command = (spelled_to words command, asked_from words command)

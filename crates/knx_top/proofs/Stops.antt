@@ -66,7 +66,7 @@ step tests rest r x next v is e = ap (λ (q : Result _ Stop). q >>= next) is ∙
 
 -- ---- each step
 
-read_step : (name : Option (List ℕ)) (reading : Reading) → read_of name reading ≡ unless_stopped (fault_in name reading ∷ []) (octets_of reading)
+pub read_step : (name : Option (List ℕ)) (reading : Reading) → read_of name reading ≡ unless_stopped (fault_in name reading ∷ []) (octets_of reading)
 read_step name read.Unnamed = refl
 read_step name read.Unread = refl
 read_step name (read.Whole octets) = refl
@@ -76,17 +76,17 @@ models_of_answer : (answer : Result (List NamedModel) CatRefused) → models_or 
 models_of_answer (Ok models) = refl
 models_of_answer (Err why) = refl
 
-models_step : (reading : Reading) → models_of reading ≡ unless_stopped (catalogue_refused reading ∷ []) (models_in reading)
+pub models_step : (reading : Reading) → models_of reading ≡ unless_stopped (catalogue_refused reading ∷ []) (models_in reading)
 models_step read.Unnamed = refl
 models_step read.Unread = refl
 models_step (read.Whole octets) = models_of_answer (catalogue_of octets)
 models_step (read.Fault why) = refl
 
-text_step : {A : Type 0} (place : InputFile) (default : A) (answer : Result A Refused) → unless_refused place answer ≡ unless_stopped (text_refused place answer ∷ []) (given_or default answer)
+pub text_step : {A : Type 0} (place : InputFile) (default : A) (answer : Result A Refused) → unless_refused place answer ≡ unless_stopped (text_refused place answer ∷ []) (given_or default answer)
 text_step place default (Ok x) = refl
 text_step place default (Err why) = refl
 
-broken_step : {A : Type 0} (place : InputFile) (broken : Option Refused) (x : A) → unless_broken place broken x ≡ unless_stopped (option_map (λ refused. let s : Stop = stop.Refused place refused in s) broken ∷ []) x
+pub broken_step : {A : Type 0} (place : InputFile) (broken : Option Refused) (x : A) → unless_broken place broken x ≡ unless_stopped (option_map (λ refused. let s : Stop = stop.Refused place refused in s) broken ∷ []) x
 broken_step place None x = refl
 broken_step place (Some why) x = refl
 

@@ -20,7 +20,7 @@ use Rattle.knx_model.specs.Tables.{StandsFor}
 use Rattle.line_model.specs.declared.log.Report.{Report}
 use Rattle.line_model.specs.Printed.{line_report_text}
 use Rattle.report_text.specs.LineStatus.{line_status}
-use Rattle.knx_top.specs.Command.{Command, Check, Tables, Sim, Decode, Download, DownloadWords, ProjectWords, SimWords, asked}
+use Rattle.knx_top.specs.Command.{Command, Check, Tables, Sim, Decode, Download, DownloadWords, Gateway, GatewayWords, ProjectWords, SimWords, asked}
 use Rattle.knx_top.specs.Input.{ProjectIsRead, SimIsRead, OnlyRose, failed_of_project, failed_of_sim, first_some}
 use Rattle.knx_top.specs.Ran.{Outcome, Stops, Tells, BreaksOff, Reports, StopsFor, Runs, report_in}
 use Rattle.knx_top.specs.Stops.{Commission, project_tests, project_told, sim_tests, commission_told}
@@ -133,7 +133,7 @@ pub record RunsScript (words : SimWords) (file : List ℕ → FileContent) (faul
 abbrev pub AtMostOneRose : (List ℕ → ℕ) → (List ℕ → ℕ) → Type 0
 AtMostOneRose faults faults' = (one : Option (List ℕ)) × OnlyRose one faults faults'
 
--- ---- a call, by what its words ask for; what `download` does besides is in Dialled.antt
+-- ---- a call, by what its words ask for; what `download` does besides is in Dialled.antt, and what `gateway` does in Gateway.antt
 
 abbrev pub Does : Option Command → (List ℕ → FileContent) → (List ℕ → ℕ) → (List ℕ → ℕ) → BusNow → Left → (Outcome → Type 0) → Type 0
 Does None file faults faults' before after Replied = Replied (Stops stop.Usage) × OnlyRose None faults faults' × HasNoRun before after
@@ -142,11 +142,13 @@ Does (Some (Tables words)) file faults faults' before after Replied = TellsOfPro
 Does (Some (Sim words)) file faults faults' before after Replied = RunsScript words file faults faults' before after Replied
 Does (Some (Decode word)) file faults faults' before after Replied = TellsOfFrame word Replied × OnlyRose None faults faults' × HasNoRun before after
 Does (Some (Download words)) file faults faults' before after Replied = (after.line ≡ before) × AtMostOneRose faults faults'
+Does (Some (Gateway words)) file faults faults' before after Replied = (after.report ≡ None) × AtMostOneRose faults faults'
 
--- no run was begun, or only one over a dialled link; or the simulated line has a run of what the words ask for and the files gave, in which no test fails, of
--- which P holds, and its report is left
+-- no run was begun, or only one over a dialled link, or the simulated line was for a port; or it has a run of what the words ask for and the files gave, in which
+-- no test fails, of which P holds, and its report is left
 pub data HasRunOf (P : Commission → RunNow → Report → Type 0) (words : List (List ℕ)) (file : List ℕ → FileContent) (before : BusNow) (after : Left) : Type 0 where
   NoRun : HasNoRun before after → HasRunOf P words file before after
   Elsewhere : (names : DownloadWords) → asked words ≡ Some (Download names) → after.line ≡ before → HasRunOf P words file before after
+  AtPort : (names : GatewayWords) → asked words ≡ Some (Gateway names) → after.report ≡ None → HasRunOf P words file before after
   HasRun : (names : SimWords) (texts : SimTexts) (report : Report) → asked words ≡ Some (Sim names) → SimIsRead file names texts → first_some (sim_tests names texts) ≡ None → after.report ≡ Some report
       → P (commission_told names texts) after.line.run report → HasRunOf P words file before after

@@ -7,8 +7,9 @@ use Rattle.knx_model.specs.declared.log.JobKind.{JobKind}
 use Rattle.knx_model.specs.declared.log.JobKind.TheVariants as kind
 use Rattle.knx_model.specs.declared.log.JobWord.{JobWord}
 use Rattle.knx_model.specs.Addresses.{◌>>=◌, ind_value}
+use Rattle.knx_model.specs.Numbers.{number_value, up_to}
 use Rattle.line_model.specs.Dialled.{Address}
-use Rattle.knx_top.specs.Host.{address_value}
+use Rattle.knx_top.specs.Host.{address_value, unless_zero}
 
 -- P [catalogue=F]
 pub record ProjectWords : Type 0 where
@@ -34,12 +35,21 @@ pub record DownloadWords : Type 0 where
   pub new : List ℕ
   pub options : SimOptions
 
+-- ADDR OLD SCRIPT turns=N [catalogue=F]
+pub record GatewayWords : Type 0 where
+  pub at : Address
+  pub old : List ℕ
+  pub script : List ℕ
+  pub turns : ℕ
+  pub catalogue : Option (List ℕ)
+
 pub data Command : Type 0 where
   Check : ProjectWords → Command
   Tables : ProjectWords → Command
   Sim : SimWords → Command
   Decode : List ℕ → Command
   Download : DownloadWords → Command
+  Gateway : GatewayWords → Command
 
 -- the words name at most 1,024 jobs
 abbrev pub most_jobs : ℕ
@@ -105,7 +115,12 @@ pub record SpellsOptions (words : List (List ℕ)) (options : SimOptions) : Type
   pub jobs : filter_map job_in named ≡ options.jobs
   pub few : HasFewJobs options
 
--- `check P`, `tables P`, each with its option behind, `sim NEW OLD SCRIPT` with options and jobs, `decode HEX`, and `download ADDR NEW` with options and jobs
+-- a gateway serves 1 to 1,000,000,000 turns
+abbrev pub most_turns : ℕ
+most_turns = 1000000000
+
+-- `check P`, `tables P`, each with its option behind, `sim NEW OLD SCRIPT` with options and jobs, `decode HEX`, `download ADDR NEW` with options and jobs,
+-- and `gateway ADDR OLD SCRIPT turns=N` with its option behind
 pub data SpellsCommand : List (List ℕ) → Command → Type 0 where
   SpellsCheck : (project : List ℕ) (others : List (List ℕ)) (catalogue : Option (List ℕ)) → SpellsOption others catalogue
       → SpellsCommand (codes "check" ∷ project ∷ others) (Check (record { project = project; catalogue = catalogue }))
@@ -116,6 +131,8 @@ pub data SpellsCommand : List (List ℕ) → Command → Type 0 where
   SpellsDecode : (word : List ℕ) → SpellsCommand (codes "decode" ∷ word ∷ []) (Decode word)
   SpellsDownload : (address new : List ℕ) (others : List (List ℕ)) (at : Address) (options : SimOptions) → address_value address ≡ Some at → SpellsOptions others options
       → SpellsCommand (codes "download" ∷ address ∷ new ∷ others) (Download (record { at = at; new = new; options = options }))
+  SpellsGateway : (address old script number : List ℕ) (others : List (List ℕ)) (at : Address) (turns : ℕ) (catalogue : Option (List ℕ)) → address_value address ≡ Some at → number_value number ≡ Some turns → 1 ≤ turns → turns ≤ most_turns → SpellsOption others catalogue
+      → SpellsCommand (codes "gateway" ∷ address ∷ old ∷ script ∷ (codes "turns=" ++ number) ∷ others) (Gateway (record { at = at; old = old; script = script; turns = turns; catalogue = catalogue }))
 
 -- ---- the command that words spell, and none for other words
 
@@ -207,6 +224,17 @@ abbrev pub download_words : List (List ℕ) → Option DownloadWords
 download_words (address ∷ new ∷ others) = address_value address >>= λ at. option_map (λ (options : SimOptions). let w : DownloadWords = record { at = at; new = new; options = options } in w) (sim_options others)
 download_words _ = None
 
+-- the number in `turns=N`
+abbrev pub turns_value : List ℕ → Option ℕ
+turns_value word = if starts_with nat_eq word (codes "turns=") then up_to most_turns (number_value (drop 6 word)) >>= unless_zero else None
+
+abbrev pub gateway_words : List (List ℕ) → Option GatewayWords
+gateway_words (address ∷ old ∷ script ∷ number ∷ others) = do
+  at ← address_value address
+  turns ← turns_value number
+  option_map (λ (catalogue : Option (List ℕ)). let w : GatewayWords = record { at = at; old = old; script = script; turns = turns; catalogue = catalogue } in w) (options others)
+gateway_words _ = None
+
 -- the command of the words; other words are no command
 abbrev pub asked : List (List ℕ) → Option Command
 asked [] = None
@@ -216,4 +244,5 @@ asked (command ∷ words) =
     else (if bytes_eq command (codes "sim") then option_map Sim (sim_words words)
     else (if bytes_eq command (codes "decode") then option_map Decode (decode_word words)
     else (if bytes_eq command (codes "download") then option_map Download (download_words words)
-    else None))))
+    else (if bytes_eq command (codes "gateway") then option_map Gateway (gateway_words words)
+    else None)))))

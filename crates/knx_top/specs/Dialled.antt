@@ -5,6 +5,7 @@ use Rattle.std.specs.Prelude.{ℕ, ◌≡◌, ◌≤◌, ◌⊎◌, Bool, List, 
 use Rattle.std.specs.List.{list_all}
 use Rattle.hub_core.specs.Promises.{IsRightOver, FaultRightIn, DropsIn}
 use Rattle.hub_core.specs.Thorough.{IsThoroughOver}
+use Rattle.hub_driver.specs.Closed.{HasClosed}
 use Rattle.hub_driver.specs.Heard.{HeardAll}
 use Rattle.hub_driver.specs.Leaving.{LeavesOver}
 use Rattle.knx_model.specs.declared.command.Stop.{Stop}
@@ -28,7 +29,7 @@ use Rattle.line_model.specs.PortStory.{PortStory}
 use Rattle.line_model.specs.Printed.{fault_line, line_report_text}
 use Rattle.report_text.specs.LineStatus.{line_status}
 use Rattle.tunnel_link.specs.Goes.{GoesOn}
-use Rattle.tunnel_link.specs.Rights.{FailsWhere}
+use Rattle.tunnel_link.specs.Rights.{FailsWhere, WhereTold}
 use Rattle.knx_top.specs.Call.{Writes}
 use Rattle.knx_top.specs.Command.{DownloadWords, ProjectWords, SimOptions}
 use Rattle.knx_top.specs.Input.{ProjectIsRead, OnlyRose, failed_of_project, first_some}
@@ -101,9 +102,10 @@ pub record IsToldOver (jobs : List Job) (story : Story) (report : Report) : Type
   -- it ends its jobs and loses its channels thoroughly, and leaves the open one rightly
   pub thorough : IsThoroughOver jobs story (log_in report)
   pub leaves : LeavesOver jobs [] story (log_in report)
-  -- a fault comes exactly at its cause, and without one every job has its end
+  -- a fault comes exactly at its cause, and without one every job has its end, and the closing is over
   pub fault : FaultRightIn jobs (log_in report) report.fault (record_in story)
   pub ended : report.fault ≡ None → AllOver jobs (log_in report)
+  pub closed : report.fault ≡ None → WhereTold (HasClosed (log_in report)) story
   -- over every link the log is one of the jobs, and no device has two downloaders at once
   pub place : ℕ
   pub form : IsLog jobs [] place (log_in report)

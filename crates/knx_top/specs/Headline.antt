@@ -12,6 +12,7 @@ use Rattle.line_model.specs.OldStoppedOrNew.{OldStoppedOrNew, RunsMeaning, Means
 use Rattle.line_model.specs.Record.{placed, record_of}
 use Rattle.line_model.specs.Telegrams.{TelegramsActRight, ActsByProject}
 use Rattle.hub_core.specs.Thorough.{IsThorough}
+use Rattle.hub_driver.specs.Closed.{HasClosed}
 use Rattle.knx_top.specs.Jobs.{AreJobs, ArePlanned}
 use Rattle.knx_top.specs.Ran.{IsRunOf, log_in}
 use Rattle.knx_top.specs.Stops.{Commission}
@@ -64,3 +65,7 @@ HasFaultRight c r report = OfItsJobs c (λ jobs. FaultRight jobs (log_in report)
 -- and without one every job has its end
 abbrev pub EndsEveryJob : Commission → RunNow → Report → Type 0
 EndsEveryJob c r report = OfItsJobs c (λ jobs. report.fault ≡ None → AllOver jobs (log_in report))
+
+-- and its closing is over
+abbrev pub ClosesToItsEnd : Commission → RunNow → Report → Type 0
+ClosesToItsEnd c r report = report.fault ≡ None → HasClosed (log_in report) (placed (start r) r.events)

@@ -5,7 +5,8 @@ use Rattle.knx_model.specs.declared.command.Stop.TheVariants as stop
 use Rattle.knx_model.specs.declared.outside.files.FileFault.{FileFault}
 use Rattle.knx_model.specs.declared.outside.files.FileFault.TheVariants as fault
 use Rattle.knx_model.specs.Outside.{FileContent, MayRead, Rose}
-use Rattle.knx_top.specs.Command.{ProjectWords, SimWords}
+use Rattle.knx_top.specs.Command.{GatewayWords, ProjectWords, SimWords}
+use Rattle.knx_top.specs.declared.input.GatewayTexts.{GatewayTexts}
 use Rattle.knx_top.specs.declared.input.ProjectTexts.{ProjectTexts}
 use Rattle.knx_top.specs.declared.input.Reading.{Reading}
 use Rattle.knx_top.specs.declared.input.Reading.TheVariants as read
@@ -43,6 +44,11 @@ pub record SimIsRead (file : List ℕ → FileContent) (words : SimWords) (texts
   pub old : IsRead file (goes_on texts.new) (Some words.old) texts.old
   pub script : IsRead file (goes_on texts.old) (Some words.script) texts.script
 
+pub record GatewayIsRead (file : List ℕ → FileContent) (words : GatewayWords) (texts : GatewayTexts) : Type 0 where
+  pub catalogue : IsRead file true words.catalogue texts.catalogue
+  pub old : IsRead file (goes_on texts.catalogue) (Some words.old) texts.old
+  pub script : IsRead file (goes_on texts.old) (Some words.script) texts.script
+
 -- ---- the counts of faults
 
 -- the file whose read failed, if it did
@@ -67,6 +73,9 @@ failed_of_project words texts = first_some (failed words.catalogue texts.catalog
 abbrev pub failed_of_sim : SimWords → SimTexts → Option (List ℕ)
 failed_of_sim words texts =
     first_some (failed words.options.catalogue texts.catalogue ∷ failed (Some words.new) texts.new ∷ failed (Some words.old) texts.old ∷ failed (Some words.script) texts.script ∷ [])
+
+abbrev pub failed_of_gateway : GatewayWords → GatewayTexts → Option (List ℕ)
+failed_of_gateway words texts = first_some (failed words.catalogue texts.catalogue ∷ failed (Some words.old) texts.old ∷ failed (Some words.script) texts.script ∷ [])
 
 -- ---- what was read, and why the call stops where a read was refused
 

@@ -14,4 +14,6 @@ pub mod Begun
 pub mod Ended
 pub mod Complete
 pub mod Dialled
+pub mod Gateway
+pub mod Bound
 pub mod Ready

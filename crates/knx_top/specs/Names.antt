@@ -5,8 +5,9 @@ use Rattle.std.specs.Borrow.{Bor}
 use Rattle.std.specs.List.{filter_map}
 use Rattle.knx_top.specs.Command as asked
 use Rattle.knx_top.specs.declared.command.Command.{Command}
-use Rattle.knx_top.specs.declared.command.Command.TheVariants.{Check, Tables, Sim, Decode, Download}
+use Rattle.knx_top.specs.declared.command.Command.TheVariants.{Check, Tables, Sim, Decode, Download, Gateway}
 use Rattle.knx_top.specs.declared.command.DownloadNames.{DownloadNames}
+use Rattle.knx_top.specs.declared.command.GatewayNames.{GatewayNames}
 use Rattle.knx_top.specs.declared.command.ProjectNames.{ProjectNames}
 use Rattle.knx_top.specs.declared.command.SimNames.{SimNames}
 use Rattle.knx_top.specs.declared.host.GatewayAddress.{GatewayAddress}
@@ -46,12 +47,16 @@ address_of at = record { host = at.host; port = at.port }
 abbrev pub download_words_of : DownloadNames → asked.DownloadWords
 download_words_of names = record { at = address_of names.at; new = names.new.now; options = options_of names.options }
 
+abbrev pub gateway_words_of : GatewayNames → asked.GatewayWords
+gateway_words_of names = record { at = address_of names.at; old = names.old.now; script = names.script.now; turns = names.turns; catalogue = named names.catalogue }
+
 abbrev pub command_of : Command → asked.Command
 command_of (Check names) = asked.Check (project_words_of names)
 command_of (Tables names) = asked.Tables (project_words_of names)
 command_of (Sim names) = asked.Sim (sim_words_of names)
 command_of (Decode word) = asked.Decode word.now
 command_of (Download names) = asked.Download (download_words_of names)
+command_of (Gateway names) = asked.Gateway (gateway_words_of names)
 
 abbrev pub installation_of : ReadProject → Installation
 installation_of read = record { statements = read.project.statements; catalogue = read.models }

@@ -3,11 +3,15 @@
 -- group telegram acts on exactly the objects that the running configuration links; `done` is told only where the new project's runs; no device has
 -- two downloaders at once, and no tunnelling request acts twice.
 use Rattle.std.specs.Prelude.{◌≡◌, ◌⊎◌, ℕ, ◌-◌, ◌^◌, min, Bool, List, [], length, reverse, IfSome, Option, Some, None, Result, Ok, Err}
+use Rattle.bus_sim.specs.Ended.{IsAtEnd}
 use Rattle.bus_sim.specs.Loaded.{BusNow}
 use Rattle.bus_sim.specs.RunNow.{RunNow, start, world}
 use Rattle.knx_model.specs.declared.command.Stop.{Stop}
 use Rattle.knx_model.specs.declared.command.Stop.TheVariants as stop
 use Rattle.knx_model.specs.declared.log.JobWord.{JobWord}
+use Rattle.knx_model.specs.Outside.{Rose}
+use Rattle.line_model.specs.declared.fault.HubFault.{HubFault}
+use Rattle.line_model.specs.declared.fault.HubFault.TheVariants.{LinkFailed}
 use Rattle.line_model.specs.declared.log.LogEntry.{LogEntry}
 use Rattle.line_model.specs.declared.log.Report.{Report}
 use Rattle.line_model.specs.ActedOnce.{ActedOnce}
@@ -27,8 +31,8 @@ use Rattle.line_model.specs.Record.{placed, record_of}
 use Rattle.line_model.specs.StartOf.{BusOf}
 use Rattle.line_model.specs.Telegrams.{TelegramsActRight, ActsByProject}
 use Rattle.line_model.specs.Tunnel.{Commissions}
-use Rattle.tunnel_link.specs.Rights.{FailsWhere}
 use Rattle.hub_core.specs.Thorough.{IsThorough}
+use Rattle.hub_driver.specs.Closed.{HasClosed}
 use Rattle.knx_top.specs.Jobs.{AreJobs, ArePlanned}
 use Rattle.knx_top.specs.OnLine.{on_bus}
 use Rattle.knx_top.specs.Shown.{AreShown}
@@ -62,6 +66,7 @@ pub record IsTold (jobs : List Job) (r : RunNow) (report : Report) : Type 0 wher
   pub leaves : LeavesRightly jobs [] (log_in report) (placed (start r) r.events)
   pub fault : FaultRight jobs (log_in report) (record_of (start r) r.events) report.fault
   pub ended : report.fault ≡ None → AllOver jobs (log_in report)
+  pub closed : report.fault ≡ None → HasClosed (log_in report) (placed (start r) r.events)
   pub heard : report.fault ≡ None → report.heard ≡ reverse (indications (record_of (start r) r.events))
   pub missed : report.missed ≡ 0
   -- a number of 64 bits, which stands still at its greatest
@@ -92,10 +97,15 @@ report_in (Tells text) = None
 report_in (BreaksOff report) = Some report
 report_in (Reports report jobs devices log) = Some report
 
--- that the link failed is told only where the simulated line's count of failed calls rose, which is 0 where a run begins
+-- That the link failed is told only at the end of a run, which is the last time of 64 bits, 2^64 - 1 ms after it began. There a call of the simulated
+-- line failed, and their count, which is 0 where a run begins, rose.
+abbrev pub FailsAtLast : HubFault → BusNow → Type 0
+FailsAtLast LinkFailed after = IsAtEnd after.run × Rose 0 after.faults
+FailsAtLast fault after = Unit {0}
+
 abbrev pub FaultsOfLine : Option Report → BusNow → Type 0
 FaultsOfLine None after = Unit {0}
-FaultsOfLine (Some report) after = IfSome report.fault (λ fault. FailsWhere fault 0 after.faults)
+FaultsOfLine (Some report) after = IfSome report.fault (λ fault. FailsAtLast fault after)
 
 -- a call stopped for a reason, or for want of memory
 abbrev pub StopsFor : Stop → Outcome → Type 0

@@ -4,34 +4,27 @@ ghost use Rattle.std.specs.Prelude.{◌≡◌, ◌≢◌, ℕ, List, None, Some,
 ghost use Rattle.knx_model.specs.declared.command.Stop.TheVariants.{Usage};
 ghost use Rattle.knx_model.specs.Outside.{one_more};
 ghost use Rattle.knx_top.specs.Call.{AtMostOneRose, Does, HasRunOf, IsCountsText, IsTablesText, Replies, RunsScript, TellsOfFrame, TellsOfProject};
-ghost use Rattle.knx_top.specs.Command.{HasFewJobs, NamesFewJobs, ProjectWords, SimWords, asked, Check as AskedCheck, Decode as AskedDecode, Download as AskedDownload, DownloadWords, Sim as AskedSim, Tables as AskedTables};
+ghost use Rattle.knx_top.specs.Command.{HasFewJobs, NamesFewJobs, ProjectWords, SimWords, asked, Check as AskedCheck, Decode as AskedDecode, Download as AskedDownload, DownloadWords, Gateway as AskedGateway, GatewayWords, Sim as AskedSim, Tables as AskedTables};
 ghost use Rattle.knx_top.specs.Dialled.{RepliesEnd, RunsDialled};
-ghost use Rattle.knx_top.specs.Ended.{IsTextOf, RepliesOf, outcome_of, told_outcome};
-ghost use Rattle.knx_top.specs.Headline.{ActsOnce, BeganRightly, EndsEveryJob, EndsThoroughly, HasFaultRight, HasOldStoppedOrNew, HasTelegramsRight, IsToldRightly, LeavesItsChannel, RunsWhereDone};
+ghost use Rattle.knx_top.specs.Ended.{IsTextOf, outcome_of, told_outcome};
+ghost use Rattle.knx_top.specs.Gateway.{RepliesServed, RunsGateway};
+ghost use Rattle.knx_top.specs.Headline.{ActsOnce, BeganRightly, ClosesToItsEnd, EndsEveryJob, EndsThoroughly, HasFaultRight, HasOldStoppedOrNew, HasTelegramsRight, IsToldRightly, LeavesItsChannel, RunsWhereDone};
 ghost use Rattle.knx_top.specs.Names.{command_of, options_of, project_words_of, sim_words_of};
-ghost use Rattle.knx_top.specs.Ran.{FaultsOfLine, Outcome, Stops};
+ghost use Rattle.knx_top.specs.Ran.{FaultsOfLine, Stops};
 
 use crate::command::{Command, ProjectNames, SimNames, asked};
 use crate::commission::{Reported, SimEnd, commission};
 use crate::dialled::tell_download;
+use crate::gateway::tell_gateway;
 use crate::input::{read_project_texts, read_sim_texts};
-use crate::tell::{Text, tell};
+use crate::tell::{Text, tell, tell_or_want, text_of_stop};
 use crate::told::{check_told, decode_told, tables_told};
 use bus_sim::SimBus;
 use knx_model::{Files, NoMemory, Octets, Sink, Status, Stop};
 use line_model::{Dialer, Report};
-use report_text::{NO_MEMORY, USAGE, line_report_of, line_status, stop_status, stop_text};
+use report_text::{USAGE, line_report_of, line_status};
 use std::alloc::Global;
 use std::sync::Wait;
-
-/// What is printed where a call stops.
-fn text_of_stop(alloc: Global, stop: &Stop) -> Result<Text, NoMemory>
-    ensures { IfOk result (λ p. IsTextOf (Stops stop.now) p.octets p.status) }
-{
-    let status = stop_status(stop);
-    let octets = stop_text(alloc, stop)?;
-    Ok(Text { status, octets })
-}
 
 /// What is printed of a command without a run.
 fn text_of_told(alloc: Global, told: Result<Octets, Stop>) -> Result<Text, NoMemory>
@@ -75,17 +68,6 @@ fn text_of_sim(alloc: Global, end: &SimEnd) -> Result<Text, NoMemory>
     }
 }
 
-/// Writes what is printed, or that there was no memory for it.
-fn tell_text<K: Sink>(out: &mut K, text: Result<Text, NoMemory>) -> Status
-    ensures told { (outcome : Outcome) → IfOk text (λ p. IsTextOf outcome p.octets p.status) → RepliesOf (K.faults out.old) (K.faults out.new) (K.taken out.old) (K.taken out.new) result outcome }
-    ensures written { K.writes out.new ≡ one_more (K.writes out.old) }
-{
-    match text {
-        Ok(text) => tell(out, text.octets.as_slice(), text.status),
-        Err(want) => tell(out, NO_MEMORY, Status::NoMemory(want)),
-    }
-}
-
 /// `check`: the counts of a project.
 fn tell_check<F: Files, K: Sink>(
     alloc: Global,
@@ -99,7 +81,7 @@ fn tell_check<F: Files, K: Sink>(
 {
     let texts = read_project_texts(alloc, files, names);
     let told = check_told(alloc, names, &texts);
-    tell_text(out, text_of_told(alloc, told))
+    tell_or_want(out, text_of_told(alloc, told))
 }
 
 /// `tables`: the tables of a project's devices.
@@ -115,7 +97,7 @@ fn tell_tables<F: Files, K: Sink>(
 {
     let texts = read_project_texts(alloc, files, names);
     let told = tables_told(alloc, names, &texts);
-    tell_text(out, text_of_told(alloc, told))
+    tell_or_want(out, text_of_told(alloc, told))
 }
 
 /// `decode`: the frame of octets.
@@ -124,7 +106,7 @@ fn tell_decode<K: Sink>(alloc: Global, word: &str, out: &mut K) -> Status
     ensures written { K.writes out.new ≡ one_more (K.writes out.old) }
 {
     let told = decode_told(alloc, word);
-    tell_text(out, text_of_told(alloc, told))
+    tell_or_want(out, text_of_told(alloc, told))
 }
 
 /// `sim`: a run, and its report.
@@ -145,7 +127,7 @@ fn tell_sim<R: Wait, F: Files, K: Sink>(
 {
     let texts = read_sim_texts(alloc, files, names);
     let end = commission(rt, alloc, names, &texts, sim);
-    let status = tell_text(out, text_of_sim(alloc, &end));
+    let status = tell_or_want(out, text_of_sim(alloc, &end));
     *last = end.report();
     status
 }
@@ -166,7 +148,8 @@ fn run<R: Wait, F: Files, K: Sink, D: Dialer>(
     ensures does { Does (Some (command_of command.entry)) (F.file files.old) (F.faults files.old) (F.faults files.new) sim.old (record { line = sim.new; report = last.new }) (Replies (K.faults out.old) (K.faults out.new) (K.taken out.old) (K.taken out.new) result) }
     ensures link { (names : SimWords) → command_of command.entry ≡ AskedSim names → FaultsOfLine last.new sim.new }
     ensures download { (names : DownloadWords) → command_of command.entry ≡ AskedDownload names → RunsDialled names (F.file files.old) (F.faults files.old) (F.faults files.new) (record { faults = D.faults dial.old; given = D.given dial.old; link_back = D.link_back dial.old; port_back = D.port_back dial.old }) (record { faults = D.faults dial.new; given = D.given dial.new; link_back = D.link_back dial.new; port_back = D.port_back dial.new }) last.new (RepliesEnd (K.faults out.old) (K.faults out.new) (K.taken out.old) (K.taken out.new) result) }
-    ensures undialled { ((names : DownloadWords) → command_of command.entry ≢ AskedDownload names) → dial.new ≡ dial.old }
+    ensures gateway { (names : GatewayWords) → command_of command.entry ≡ AskedGateway names → RunsGateway names (F.file files.old) (F.faults files.old) (F.faults files.new) (record { faults = D.faults dial.old; given = D.given dial.old; link_back = D.link_back dial.old; port_back = D.port_back dial.old }) (record { faults = D.faults dial.new; given = D.given dial.new; link_back = D.link_back dial.new; port_back = D.port_back dial.new }) sim.old sim.new (RepliesServed (K.faults out.old) (K.faults out.new) (K.taken out.old) (K.taken out.new) result) }
+    ensures undialled { ((names : DownloadWords) → command_of command.entry ≢ AskedDownload names) → ((names : GatewayWords) → command_of command.entry ≢ AskedGateway names) → dial.new ≡ dial.old }
     ensures stays { (other : List ℕ) → F.file files.new other ≡ F.file files.old other }
     ensures written { K.writes out.new ≡ one_more (K.writes out.old) }
 {
@@ -176,6 +159,7 @@ fn run<R: Wait, F: Files, K: Sink, D: Dialer>(
         Command::Sim(names) => tell_sim(rt, alloc, names, files, out, sim, last),
         Command::Decode(word) => tell_decode(alloc, word, out),
         Command::Download(names) => tell_download(rt, alloc, names, files, out, dial, last),
+        Command::Gateway(names) => tell_gateway(alloc, names, files, out, sim, dial),
     }
 }
 
@@ -194,7 +178,8 @@ fn answer<R: Wait, F: Files, K: Sink, D: Dialer>(
     ensures does { Does (asked (map string_bytes words.now)) (F.file files.old) (F.faults files.old) (F.faults files.new) sim.old (record { line = sim.new; report = last.new }) (Replies (K.faults out.old) (K.faults out.new) (K.taken out.old) (K.taken out.new) result) }
     ensures link { (names : SimWords) → asked (map string_bytes words.now) ≡ Some (AskedSim names) → FaultsOfLine last.new sim.new }
     ensures download { (names : DownloadWords) → asked (map string_bytes words.now) ≡ Some (AskedDownload names) → RunsDialled names (F.file files.old) (F.faults files.old) (F.faults files.new) (record { faults = D.faults dial.old; given = D.given dial.old; link_back = D.link_back dial.old; port_back = D.port_back dial.old }) (record { faults = D.faults dial.new; given = D.given dial.new; link_back = D.link_back dial.new; port_back = D.port_back dial.new }) last.new (RepliesEnd (K.faults out.old) (K.faults out.new) (K.taken out.old) (K.taken out.new) result) }
-    ensures undialled { ((names : DownloadWords) → asked (map string_bytes words.now) ≢ Some (AskedDownload names)) → dial.new ≡ dial.old }
+    ensures gateway { (names : GatewayWords) → asked (map string_bytes words.now) ≡ Some (AskedGateway names) → RunsGateway names (F.file files.old) (F.faults files.old) (F.faults files.new) (record { faults = D.faults dial.old; given = D.given dial.old; link_back = D.link_back dial.old; port_back = D.port_back dial.old }) (record { faults = D.faults dial.new; given = D.given dial.new; link_back = D.link_back dial.new; port_back = D.port_back dial.new }) sim.old sim.new (RepliesServed (K.faults out.old) (K.faults out.new) (K.taken out.old) (K.taken out.new) result) }
+    ensures undialled { ((names : DownloadWords) → asked (map string_bytes words.now) ≢ Some (AskedDownload names)) → ((names : GatewayWords) → asked (map string_bytes words.now) ≢ Some (AskedGateway names)) → dial.new ≡ dial.old }
     ensures stays { (other : List ℕ) → F.file files.new other ≡ F.file files.old other }
     ensures written { K.writes out.new ≡ one_more (K.writes out.old) }
 {
@@ -205,7 +190,7 @@ fn answer<R: Wait, F: Files, K: Sink, D: Dialer>(
 }
 
 /// All that the program does: it reads the words, reads the files, begins and ends the run, and writes the text. The status is
-/// the program's exit status. `last` becomes the report of the run, and None where no run began. A link that it dialled is handed back to the dialer.
+/// the program's exit status. `last` becomes the report of the run, and None where no run began. A link that it dialled or a port that it bound is handed back to the dialer.
 pub fn knx<R: Wait, F: Files, K: Sink, D: Dialer>(
     rt: &R,
     alloc: Global,
@@ -224,6 +209,7 @@ pub fn knx<R: Wait, F: Files, K: Sink, D: Dialer>(
     ensures decode { (word : List ℕ) → asked (map string_bytes words.now) ≡ Some (AskedDecode word) → TellsOfFrame word (Replies (K.faults out.old) (K.faults out.new) (K.taken out.old) (K.taken out.new) result) }
     ensures sim { (names : SimWords) → asked (map string_bytes words.now) ≡ Some (AskedSim names) → RunsScript names (F.file files.old) (F.faults files.old) (F.faults files.new) sim.old (record { line = sim.new; report = last.new }) (Replies (K.faults out.old) (K.faults out.new) (K.taken out.old) (K.taken out.new) result) }
     ensures download { (names : DownloadWords) → asked (map string_bytes words.now) ≡ Some (AskedDownload names) → RunsDialled names (F.file files.old) (F.faults files.old) (F.faults files.new) (record { faults = D.faults dial.old; given = D.given dial.old; link_back = D.link_back dial.old; port_back = D.port_back dial.old }) (record { faults = D.faults dial.new; given = D.given dial.new; link_back = D.link_back dial.new; port_back = D.port_back dial.new }) last.new (RepliesEnd (K.faults out.old) (K.faults out.new) (K.taken out.old) (K.taken out.new) result) }
+    ensures gateway { (names : GatewayWords) → asked (map string_bytes words.now) ≡ Some (AskedGateway names) → RunsGateway names (F.file files.old) (F.faults files.old) (F.faults files.new) (record { faults = D.faults dial.old; given = D.given dial.old; link_back = D.link_back dial.old; port_back = D.port_back dial.old }) (record { faults = D.faults dial.new; given = D.given dial.new; link_back = D.link_back dial.new; port_back = D.port_back dial.new }) sim.old sim.new (RepliesServed (K.faults out.old) (K.faults out.new) (K.taken out.old) (K.taken out.new) result) }
     // a run begins as it is stated, and what happens on the line is legal and follows the script
     ensures begins { HasRunOf BeganRightly (map string_bytes words.now) (F.file files.old) sim.old (record { line = sim.new; report = last.new }) }
     // whatever is lost, repeated or cut, at every moment of a run each device keeps its starting content, or is stopped, or runs what the project says
@@ -240,14 +226,15 @@ pub fn knx<R: Wait, F: Files, K: Sink, D: Dialer>(
     ensures thorough { HasRunOf EndsThoroughly (map string_bytes words.now) (F.file files.old) sim.old (record { line = sim.new; report = last.new }) }
     // it asks the gateway to end the open channel only when all jobs are over: then once, after the listening
     ensures leaves { HasRunOf LeavesItsChannel (map string_bytes words.now) (F.file files.old) sim.old (record { line = sim.new; report = last.new }) }
-    // a run ends without its end exactly at a cause, and else every job has its end
+    // a run ends without its end exactly at a cause, and else every job has its end and the closing is over
     ensures fault { HasRunOf HasFaultRight (map string_bytes words.now) (F.file files.old) sim.old (record { line = sim.new; report = last.new }) }
     ensures over { HasRunOf EndsEveryJob (map string_bytes words.now) (F.file files.old) sim.old (record { line = sim.new; report = last.new }) }
-    // that the link failed is told of `sim` only where a call of the simulated line failed
+    ensures closed { HasRunOf ClosesToItsEnd (map string_bytes words.now) (F.file files.old) sim.old (record { line = sim.new; report = last.new }) }
+    // that the link failed is told of `sim` only at the last time of 64 bits, where a call of the simulated line failed
     ensures link { (names : SimWords) → asked (map string_bytes words.now) ≡ Some (AskedSim names) → FaultsOfLine last.new sim.new }
-    // only `sim` runs over the simulated line, and only `download` dials; other words begin no run
-    ensures line { ((names : SimWords) → asked (map string_bytes words.now) ≢ Some (AskedSim names)) → sim.new ≡ sim.old }
-    ensures undialled { ((names : DownloadWords) → asked (map string_bytes words.now) ≢ Some (AskedDownload names)) → dial.new ≡ dial.old }
+    // only `sim` and `gateway` begin the simulated line anew, only `download` and `gateway` reach a network, and only `sim` and `download` begin a run
+    ensures line { ((names : SimWords) → asked (map string_bytes words.now) ≢ Some (AskedSim names)) → ((names : GatewayWords) → asked (map string_bytes words.now) ≢ Some (AskedGateway names)) → sim.new ≡ sim.old }
+    ensures undialled { ((names : DownloadWords) → asked (map string_bytes words.now) ≢ Some (AskedDownload names)) → ((names : GatewayWords) → asked (map string_bytes words.now) ≢ Some (AskedGateway names)) → dial.new ≡ dial.old }
     ensures no_run { ((names : SimWords) → asked (map string_bytes words.now) ≢ Some (AskedSim names)) → ((names : DownloadWords) → asked (map string_bytes words.now) ≢ Some (AskedDownload names)) → last.new ≡ None }
     // what the files tell stays, the count of one file rose at most, and there is just one write
     ensures files { (name : List ℕ) → F.file files.new name ≡ F.file files.old name }

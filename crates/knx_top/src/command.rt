@@ -2,12 +2,16 @@
 
 ghost use Rattle.std.specs.Prelude.{◌≡◌, ◌↔◌, ℕ, IfSome, List, Some, map, string_bytes};
 ghost use Rattle.std.specs.Option.{option_map};
-ghost use Rattle.knx_top.specs.Command.{Command as Commanded, HasFewJobs, NamesFewJobs, SpellsCommand, asked, catalogue_name, decode_word, download_words, options, project_words, sim_words};
+ghost use Rattle.knx_top.specs.Command.{Command as Commanded, HasFewJobs, NamesFewJobs, SpellsCommand, asked, catalogue_name, decode_word, download_words, gateway_words, options, project_words, sim_words, turns_value};
 ghost use Rattle.knx_top.specs.Dialled.{project_named};
-ghost use Rattle.knx_top.specs.Names.{command_of, download_words_of, named, options_of, project_words_of, sim_words_of, the_word};
+ghost use Rattle.knx_top.specs.Names.{command_of, download_words_of, gateway_words_of, named, options_of, project_words_of, sim_words_of, the_word};
 
 use crate::host::{GatewayAddress, address_in};
 use crate::options::{SimOptions, behind, sim_options};
+use knx_model::number_of;
+
+/// The most turns that a gateway serves.
+const MOST_TURNS: u32 = 1_000_000_000;
 
 /// The names in `P [catalogue=F]`.
 #[derive(Clone, Copy)]
@@ -45,6 +49,16 @@ impl<'a> DownloadNames<'a> {
     }
 }
 
+/// The port and the names in `ADDR OLD SCRIPT turns=N [catalogue=F]`.
+#[derive(Clone, Copy)]
+pub struct GatewayNames<'a> {
+    pub at: GatewayAddress,
+    pub old: &'a str,
+    pub script: &'a str,
+    pub turns: u32,
+    pub catalogue: Option<&'a str>,
+}
+
 /// A command with its words.
 #[derive(Clone, Copy)]
 pub enum Command<'a> {
@@ -58,6 +72,8 @@ pub enum Command<'a> {
     Decode(&'a str),
     /// `download ADDR NEW [catalogue=F] [log]`, and jobs
     Download(DownloadNames<'a>),
+    /// `gateway ADDR OLD SCRIPT turns=N [catalogue=F]`
+    Gateway(GatewayNames<'a>),
 }
 
 /// The name in `catalogue=F`.
@@ -132,6 +148,34 @@ fn download_names(words: &[String]) -> Option<DownloadNames<'_>>
     })
 }
 
+/// The number in `turns=N`.
+fn turns_in(word: &str) -> Option<u32>
+    ensures { result ≡ turns_value word.now }
+{
+    match number_of(behind("turns=", word)?) {
+        Some(turns) if 1 <= turns && turns <= MOST_TURNS => Some(turns),
+        _ => None,
+    }
+}
+
+fn gateway_names(words: &[String]) -> Option<GatewayNames<'_>>
+    ensures { option_map gateway_words_of result ≡ gateway_words (map string_bytes words.now) }
+{
+    let [address, old, script, number, others @ ..] = words else {
+        return None;
+    };
+    let at = address_in(address.as_str())?;
+    let turns = turns_in(number.as_str())?;
+    let catalogue = options(others)?;
+    Some(GatewayNames {
+        at,
+        old: old.as_str(),
+        script: script.as_str(),
+        turns,
+        catalogue,
+    })
+}
+
 /// The command of the words; none for words that are no command.
 pub fn asked(words: &[String]) -> Option<Command<'_>>
     ensures is { option_map command_of result ≡ asked (map string_bytes words.now) }
@@ -146,6 +190,7 @@ pub fn asked(words: &[String]) -> Option<Command<'_>>
         "sim" => Some(Command::Sim(sim_names(others)?)),
         "decode" => Some(Command::Decode(decode_word(others)?)),
         "download" => Some(Command::Download(download_names(others)?)),
+        "gateway" => Some(Command::Gateway(gateway_names(others)?)),
         _ => None,
     }
 }

@@ -4,11 +4,9 @@ ghost use Rattle.std.specs.Prelude.{◌≡◌, ◌≢◌, ◌≤◌, ◌<◌, �
 ghost use Rattle.std.specs.List.{AllByRecursion};
 ghost use Rattle.knx_model.specs.declared.command.Stop.TheVariants.{NoMemory as OutOfMemory};
 ghost use Rattle.knx_model.specs.Outside.{one_more};
-ghost use Rattle.knx_model.specs.ReportText.{stop_text};
 ghost use Rattle.line_model.specs.Headline.{IsGoodJob};
 ghost use Rattle.line_model.specs.LinkStory.{IsNewLink};
 ghost use Rattle.knx_top.specs.Command.{HasFewJobs, most_jobs};
-ghost use Rattle.knx_top.specs.Call.{Writes};
 ghost use Rattle.knx_top.specs.Dialled.{DialEnd, Dials, DialsOr, Download, HasItsCause, IsToldOver, RepliesEnd, RunsDialled, judged_download, report_of, with_project};
 ghost use Rattle.knx_top.specs.Jobs.{seen_job};
 ghost use Rattle.knx_top.specs.Names.{address_of, download_words_of, options_of};
@@ -21,19 +19,16 @@ use crate::input::{ProjectTexts, read_project_texts};
 use crate::jobs::{all_planned, are_known, jobs_of};
 use crate::options::{SimOptions, named_jobs};
 use crate::project::{sound_in, unknown_job};
-use crate::tell::{Text, tell};
+use crate::tell::{LINK_FAULT, Text, tell, tell_or_want, text_of_stop};
 use crate::told::read_in;
 use hub_driver::commission;
 use hub_work::HubJob;
 use knx_model::{Files, InputFile, JobWord, List, NoMemory, Octets, Sink, Status, Stop};
 use line_model::{Dialer, Report};
 use project_check::Checked;
-use report_text::{NO_MEMORY, line_report_of, line_status, stop_status, stop_text};
+use report_text::{line_report_of, line_status};
 use std::alloc::Global;
 use std::sync::Wait;
-
-/// What is told where the gateway wasn't reached.
-const LINK_FAULT: &[u8] = b"link fault\n";
 
 /// The jobs of a download.
 #[derive(Drop)]
@@ -180,15 +175,6 @@ fn download<R: Wait, D: Dialer>(
     }
 }
 
-/// What is printed where the call stops before it dials.
-fn text_of_stop(alloc: Global, stop: &Stop) -> Result<Text, NoMemory>
-    ensures { IfOk result (λ p. IsTextOfEnd (DialEnd.Stopped stop.now) p.octets p.status) }
-{
-    let status = stop_status(stop);
-    let octets = stop_text(alloc, stop)?;
-    Ok(Text { status, octets })
-}
-
 /// What is printed of a run, in which no group telegrams are sent and of which no devices are shown.
 fn text_of_report(alloc: Global, told: &DialledReport) -> Result<Text, NoMemory>
     ensures { IfOk result (λ p. IsTextOfEnd (DialEnd.Shown told.now.report told.now.jobs told.now.log) p.octets p.status) }
@@ -198,18 +184,6 @@ fn text_of_report(alloc: Global, told: &DialledReport) -> Result<Text, NoMemory>
         status: line_status(&told.report),
         octets,
     })
-}
-
-/// Writes a text, or that there was no memory for it.
-fn tell_or_want<K: Sink>(out: &mut K, text: Result<Text, NoMemory>) -> Status
-    ensures told { IfOk text (λ p. Writes p.octets p.status (K.faults out.old) (K.faults out.new) (K.taken out.old) (K.taken out.new) result) }
-    ensures wanting { IfErr text (λ _. Writes (stop_text (OutOfMemory tt)) (Status.NoMemory tt) (K.faults out.old) (K.faults out.new) (K.taken out.old) (K.taken out.new) result) }
-    ensures written { K.writes out.new ≡ one_more (K.writes out.old) }
-{
-    match text {
-        Ok(text) => tell(out, text.octets.as_slice(), text.status),
-        Err(want) => tell(out, NO_MEMORY, Status::NoMemory(want)),
-    }
 }
 
 /// Writes what is printed of `download`.

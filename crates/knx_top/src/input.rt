@@ -1,10 +1,10 @@
 //! The files of a call are read, up to the first read that is refused.
 
 ghost use Rattle.std.specs.Prelude.{◌≡◌, ℕ, List, Some, true};
-ghost use Rattle.knx_top.specs.Input.{IsRead, OnlyRose, ProjectIsRead, SimIsRead, failed, failed_of_project, failed_of_sim, goes_on};
-ghost use Rattle.knx_top.specs.Names.{named, project_words_of, sim_words_of};
+ghost use Rattle.knx_top.specs.Input.{GatewayIsRead, IsRead, OnlyRose, ProjectIsRead, SimIsRead, failed, failed_of_gateway, failed_of_project, failed_of_sim, goes_on};
+ghost use Rattle.knx_top.specs.Names.{gateway_words_of, named, project_words_of, sim_words_of};
 
-use crate::command::{ProjectNames, SimNames};
+use crate::command::{GatewayNames, ProjectNames, SimNames};
 use knx_model::{FileFault, Files, LONGEST_TEXT, Octets};
 use std::alloc::Global;
 
@@ -36,6 +36,14 @@ pub struct ProjectTexts {
 pub struct SimTexts {
     pub catalogue: Reading,
     pub new: Reading,
+    pub old: Reading,
+    pub script: Reading,
+}
+
+/// The texts of `gateway`.
+#[derive(Drop)]
+pub struct GatewayTexts {
+    pub catalogue: Reading,
     pub old: Reading,
     pub script: Reading,
 }
@@ -115,6 +123,26 @@ pub fn read_sim_texts<F: Files>(alloc: Global, files: &mut F, names: SimNames<'_
     SimTexts {
         catalogue,
         new,
+        old,
+        script,
+    }
+}
+
+/// Reads the catalogue, then OLD and the script.
+pub fn read_gateway_texts<F: Files>(
+    alloc: Global,
+    files: &mut F,
+    names: GatewayNames<'_>,
+) -> GatewayTexts
+    ensures read { GatewayIsRead (F.file files.old) (gateway_words_of names.entry) result }
+    ensures counts { OnlyRose (failed_of_gateway (gateway_words_of names.entry) result) (F.faults files.old) (F.faults files.new) }
+    ensures stays { (other : List ℕ) → F.file files.new other ≡ F.file files.old other }
+{
+    let catalogue = read_named(alloc, files, names.catalogue);
+    let old = read_after(alloc, files, &catalogue, names.old);
+    let script = read_after(alloc, files, &old, names.script);
+    GatewayTexts {
+        catalogue,
         old,
         script,
     }

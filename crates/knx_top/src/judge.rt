@@ -44,7 +44,7 @@ fn is_group_line(line: &ScriptLine) -> bool
 }
 
 /// A script, where it reads.
-fn script_in(alloc: Global, octets: &[u8]) -> Result<Script, Stop>
+pub fn script_in(alloc: Global, octets: &[u8]) -> Result<Script, Stop>
     ensures { Gives (λ s. s.lines) result (unless_refused OfScript (script_reading octets.now)) }
 {
     match read_script(alloc, octets) {

@@ -6,6 +6,7 @@ mod command;
 mod commission;
 mod complete;
 mod dialled;
+mod gateway;
 mod host;
 mod input;
 mod jobs;

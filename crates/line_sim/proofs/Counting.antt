@@ -1,5 +1,5 @@
 -- How far one event brings what is counted on a line, and so how far a run does.
-use Rattle.std.proofs.Common.{◌≡◌, ℕ, zero, suc, ◌+◌, ◌≤◌, Bool, true, false, List, [], ◌∷◌, length, Option, Some, None, refl, ap, sym, subst, arith}
+use Rattle.std.proofs.Common.{◌≡◌, ℕ, zero, suc, ◌+◌, ◌*◌, ◌≤◌, Bool, true, false, List, [], ◌∷◌, length, Option, Some, None, refl, ap, sym, subst, arith}
 use Rattle.std.specs.Prelude.{slice_get}
 use Rattle.knx_model.specs.declared.address.IndAddr.{IndAddr}
 use Rattle.knx_model.specs.declared.frames.cemi.Ldata.{Ldata}
@@ -109,45 +109,78 @@ loosely : (t u : Tunnel) (p m a x y p' m' a' x' y' : ℕ) → p ≤ p' → m ≤
 loosely t u p m a x y p' m' a' x' y' hp hm ha hx hy is =
     record { present = omega (arith, is.present, hp); made = omega (arith, is.made, hm); acted = omega (arith, is.acted, ha); up = omega (arith, is.up, hx); down = omega (arith, is.down, hy) }
 
-event_within : (t : Tunnel) (e : TunnelEvent) → tunnel.MayHappen Commissions t e → Within t (after t e) 1 1 1 1 1
-event_within t (Send octets) h = record { present = omega arith; made = omega arith; acted = omega arith; up = omega arith; down = omega arith }
-event_within t (From endpoint octets) h = absurd h
-event_within t Renew h = record { present = omega arith; made = omega arith; acted = omega arith; up = omega arith; down = omega arith }
-event_within t (Up age) h =
+-- a client at another endpoint than the present one may come from afar
+abbrev farthest : TunnelEvent → ℕ
+farthest (From endpoint octets) = endpoint
+farthest _ = 1
+
+event_within : (t : Tunnel) (e : TunnelEvent) → Within t (after t e) (farthest e) 1 1 1 1
+event_within t (Send octets) = record { present = omega arith; made = omega arith; acted = omega arith; up = omega arith; down = omega arith }
+event_within t (From endpoint octets) = record { present = omega arith; made = omega arith; acted = omega arith; up = omega arith; down = omega arith }
+event_within t Renew = record { present = omega arith; made = omega arith; acted = omega arith; up = omega arith; down = omega arith }
+event_within t (Up age) =
     let up : List Sent = changed_at age once_more t.network.up in
     loosely t (takes_sent (with_ups t up) (slice_get t.network.up age)) 0 1 1 0 1 1 1 1 1 1 (omega arith) (omega arith) (omega arith) (omega arith) (omega arith)
     (farther t (with_ups t up) (takes_sent (with_ups t up) (slice_get t.network.up age)) 0 0 0 0 0 0 1 1 0 1 (ups_within t up (changed_length age once_more t.network.up)) (takes_within (with_ups t up) (slice_get t.network.up age)))
-event_within t (UpRefused age status) h =
+event_within t (UpRefused age status) =
     let up : List Sent = changed_at age once_more t.network.up in
     loosely t (refuses (with_ups t up) status (slice_get t.network.up age)) 0 0 0 0 1 1 1 1 1 1 (omega arith) (omega arith) (omega arith) (omega arith) (omega arith)
     (farther t (with_ups t up) (refuses (with_ups t up) status (slice_get t.network.up age)) 0 0 0 0 0 0 0 0 0 1 (ups_within t up (changed_length age once_more t.network.up)) (refuses_within (with_ups t up) status (slice_get t.network.up age)))
-event_within t (Down age) h = loosely t _ 0 0 0 0 0 1 1 1 1 1 (omega arith) (omega arith) (omega arith) (omega arith) (omega arith) (downs_within t _ (changed_length age once_more t.network.down))
-event_within t (LoseUp age) h = loosely t _ 0 0 0 0 0 1 1 1 1 1 (omega arith) (omega arith) (omega arith) (omega arith) (omega arith) (ups_within t _ (changed_length age gone t.network.up))
-event_within t (LoseDown age) h = loosely t _ 0 0 0 0 0 1 1 1 1 1 (omega arith) (omega arith) (omega arith) (omega arith) (omega arith) (downs_within t _ (changed_length age gone t.network.down))
-event_within t (Carried confirmation) h = record { present = omega arith; made = omega arith; acted = omega arith; up = omega arith; down = omega arith }
-event_within t (Heard frames) h = record { present = omega arith; made = omega arith; acted = omega arith; up = omega arith; down = omega arith }
-event_within t Repeat h = loosely t (repeats t t.gateway.channel) 0 0 0 0 1 1 1 1 1 1 (omega arith) (omega arith) (omega arith) (omega arith) (omega arith) (repeats_within t t.gateway.channel)
-event_within t Close h = loosely t (closes t t.gateway.channel) 0 0 0 0 1 1 1 1 1 1 (omega arith) (omega arith) (omega arith) (omega arith) (omega arith) (closes_within t t.gateway.channel)
-event_within t (Pass ms) h = record { present = omega arith; made = omega arith; acted = omega arith; up = omega arith; down = omega arith }
-event_within t Elsewhere h = record { present = omega arith; made = omega arith; acted = omega arith; up = omega arith; down = omega arith }
+event_within t (Down age) = loosely t _ 0 0 0 0 0 1 1 1 1 1 (omega arith) (omega arith) (omega arith) (omega arith) (omega arith) (downs_within t _ (changed_length age once_more t.network.down))
+event_within t (LoseUp age) = loosely t _ 0 0 0 0 0 1 1 1 1 1 (omega arith) (omega arith) (omega arith) (omega arith) (omega arith) (ups_within t _ (changed_length age gone t.network.up))
+event_within t (LoseDown age) = loosely t _ 0 0 0 0 0 1 1 1 1 1 (omega arith) (omega arith) (omega arith) (omega arith) (omega arith) (downs_within t _ (changed_length age gone t.network.down))
+event_within t (Carried confirmation) = record { present = omega arith; made = omega arith; acted = omega arith; up = omega arith; down = omega arith }
+event_within t (Heard frames) = record { present = omega arith; made = omega arith; acted = omega arith; up = omega arith; down = omega arith }
+event_within t Repeat = loosely t (repeats t t.gateway.channel) 0 0 0 0 1 1 1 1 1 1 (omega arith) (omega arith) (omega arith) (omega arith) (omega arith) (repeats_within t t.gateway.channel)
+event_within t Close = loosely t (closes t t.gateway.channel) 0 0 0 0 1 1 1 1 1 1 (omega arith) (omega arith) (omega arith) (omega arith) (omega arith) (closes_within t t.gateway.channel)
+event_within t (Pass ms) = record { present = omega arith; made = omega arith; acted = omega arith; up = omega arith; down = omega arith }
+event_within t Elsewhere = record { present = omega arith; made = omega arith; acted = omega arith; up = omega arith; down = omega arith }
 
-step_within : (t : Tunnel) (e : TunnelEvent) → tunnel.MayHappen Commissions t e → Within t (tunnel.step t e) 1 1 1 1 2
-step_within t e h = farther t (after t e) (tunnel.step t e) 1 1 1 1 1 0 0 0 0 1 (event_within t e h) (puts_within (after t e) (next_put (after t e).gateway.channel (after t e).gateway.waiting))
+step_within : (t : Tunnel) (e : TunnelEvent) → Within t (tunnel.step t e) (farthest e + 0) 1 1 1 2
+step_within t e = farther t (after t e) (tunnel.step t e) (farthest e) 1 1 1 1 0 0 0 0 1 (event_within t e) (puts_within (after t e) (next_put (after t e).gateway.channel (after t e).gateway.waiting))
 
--- ---- a run
+-- ---- a run, of any clients
 
-at_first : (t : Tunnel) (address : IndAddr) → t ≡ fresh address → IsCounted 0 t
-at_first t address is = subst (IsCounted 0) (sym is) (record { endpoint = omega arith; channels = omega arith; requests = omega arith; up = omega arith; down = omega arith })
+pub record IsBounded (events : ℕ) (t : Tunnel) : Type 0 where
+  pub channels : made t ≤ events
+  pub requests : length t.gateway.acted ≤ events
+  pub up : length t.network.up ≤ events
+  pub down : length t.network.down ≤ 2 * events
 
-pub run_counted : (start : World) (events : List Event) → IsFresh start → IsLegal Commissions start events → IsCounted (length events) (replay start events).tunnel
-run_counted start [] is legal = at_first start.tunnel (me start) is.tunnel
-run_counted start (e ∷ events) is legal =
-    let before : IsCounted (length events) (replay start events).tunnel = run_counted start events is legal.1 in
-    let more = step_within (replay start events).tunnel (tunnel_event (replay start events) e) legal.0.tunnel in
+at_first : (t : Tunnel) (address : IndAddr) → t ≡ fresh address → IsBounded 0 t
+at_first t address is = subst (IsBounded 0) (sym is) (record { channels = omega arith; requests = omega arith; up = omega arith; down = omega arith })
+
+pub run_bounded : (start : World) (events : List Event) → IsFresh start → IsBounded (length events) (replay start events).tunnel
+run_bounded start [] is = at_first start.tunnel (me start) is.tunnel
+run_bounded start (e ∷ events) is =
+    let before : IsBounded (length events) (replay start events).tunnel = run_bounded start events is in
+    let more = step_within (replay start events).tunnel (tunnel_event (replay start events) e) in
     record {
-      endpoint = omega (arith, before.endpoint, more.present);
       channels = omega (arith, before.channels, more.made);
       requests = omega (arith, before.requests, more.acted);
       up = omega (arith, before.up, more.up);
       down = omega (arith, before.down, more.down);
     }
+
+-- ---- a run of one client, which takes one endpoint after another
+
+one_on : (t : Tunnel) (e : TunnelEvent) → tunnel.MayHappen Commissions t e → farthest e ≡ 1
+one_on t (From endpoint octets) h = absurd h
+one_on t e h = refl
+
+at_zero : (t : Tunnel) (address : IndAddr) → t ≡ fresh address → t.present ≤ 0
+at_zero t address is = subst (λ (t : Tunnel). t.present ≤ 0) (sym is) (omega arith)
+
+pub endpoint_bounded : (start : World) (events : List Event) → IsFresh start → IsLegal Commissions start events → (replay start events).tunnel.present ≤ length events
+endpoint_bounded start [] is legal = at_zero start.tunnel (me start) is.tunnel
+endpoint_bounded start (e ∷ events) is legal =
+    let t : Tunnel = (replay start events).tunnel in
+    let before : t.present ≤ length events = endpoint_bounded start events is legal.1 in
+    let more = step_within t (tunnel_event (replay start events) e) in
+    let one : farthest (tunnel_event (replay start events) e) ≡ 1 = one_on t (tunnel_event (replay start events) e) legal.0.tunnel in
+    omega (arith, before, more.present, one)
+
+pub run_counted : (start : World) (events : List Event) → IsFresh start → IsLegal Commissions start events → IsCounted (length events) (replay start events).tunnel
+run_counted start events is legal =
+    let few : IsBounded (length events) (replay start events).tunnel = run_bounded start events is in
+    record { endpoint = endpoint_bounded start events is legal; channels = few.channels; requests = few.requests; up = few.up; down = few.down }

@@ -1,5 +1,6 @@
 //! One call of `knx` over files in memory, and with a dialer that reaches no gateway.
 
+use crate::door::{dialer_of, put_given};
 use crate::fault::Fault;
 use crate::text::TextFile;
 use knx_model::{MemoryFile, MemoryFiles, MemorySink, NoMemory};
@@ -52,22 +53,20 @@ fn status_of<R: Wait>(
     words: &[String],
     files: &mut MemoryFiles,
     sink: &mut MemorySink,
+    dial: &mut FixedDialer,
 ) -> u8 {
     let mut sim = SimBus::empty(alloc);
-    let mut dial = FixedDialer::new(None, None);
     let mut last = None;
-    knx(
-        rt, alloc, words, files, sink, &mut sim, &mut dial, &mut last,
-    )
-    .number()
+    knx(rt, alloc, words, files, sink, &mut sim, dial, &mut last).number()
 }
 
-/// Adds what a call with these words writes, and its status.
+/// Adds what a call with these words gives at the port, where it has one, what it writes, and its status.
 pub fn put_call<R: Wait>(
     rt: &R,
     alloc: Global,
     out: &mut String,
     texts: &[TextFile],
+    port: Option<&str>,
     line: &str,
 ) -> Result<(), Fault> {
     let mut words = Vec::new(alloc);
@@ -76,7 +75,16 @@ pub fn put_call<R: Wait>(
     }
     let mut files = files_of(alloc, texts)?;
     let mut sink = MemorySink::new(alloc);
-    let status = status_of(rt, alloc, words.as_slice(), &mut files, &mut sink);
+    let mut dial = dialer_of(alloc, port)?;
+    let status = status_of(
+        rt,
+        alloc,
+        words.as_slice(),
+        &mut files,
+        &mut sink,
+        &mut dial,
+    );
+    put_given(alloc, out, &dial)?;
     put_output(alloc, out, sink.taken.as_slice())?;
     out.push_str(format!(in alloc; "status {status}\n")?.as_str())?;
     Ok(())

@@ -5,10 +5,14 @@
 //!   line's number from 1 on, `{ga}` the group address of that raw value, `{ia}` the individual address of that device part on line 1.1.
 //! - `$ WORDS` is a call with these words. An output of more than 2,000 octets is told by its length and its checksum (FNV-1a, 64 bits).
 //! - `> TEXT` is the call that `with WORDS` named last, where the file `s` has just this text, with `\n`, `\r`, `\t`, `\\` and `\xHH`.
+//! - `port WORDS` is the port that the next call of either kind can bind: a word in hexadecimal is a datagram that comes from client 0, in
+//!   order, before quiet waits; `fail:N` lets its N-th call fail. What it was given is told before what the call writes, as `gave CLIENT HEX`.
+//!   Without the line no port can be bound.
 //! - Every other line is copied.
 #![tactic(auto)]
 
 mod call;
+mod door;
 mod fault;
 mod text;
 
@@ -22,12 +26,14 @@ use std::sync::Wait;
 /// The file that a `>` line states.
 const STATED: &str = "s";
 
-/// What was read so far: the files that ended, the one that is open, the words of the `>` lines, and the transcript.
+/// What was read so far: the files that ended, the one that is open, the words of the `>` lines, those of the `port` line of the next
+/// call, and the transcript.
 #[derive(Drop)]
 struct Transcript {
     files: Vec<TextFile>,
     open: Option<TextFile>,
     words: String,
+    port: Option<String>,
     out: String,
 }
 
@@ -37,6 +43,7 @@ impl Transcript {
             files: Vec::new(alloc),
             open: None,
             words: String::new(alloc),
+            port: None,
             out: String::new(alloc),
         }
     }
@@ -66,6 +73,13 @@ impl Transcript {
         }
     }
 
+    /// A call with these words.
+    fn call<R: Wait>(&mut self, rt: &R, alloc: Global, words: &str) -> Result<(), Fault> {
+        let port = self.port.take();
+        let port = port.as_ref().map(|words| words.as_str());
+        put_call(rt, alloc, &mut self.out, self.files.as_slice(), port, words)
+    }
+
     /// A line outside of all files.
     fn follow<R: Wait>(&mut self, rt: &R, alloc: Global, line: &str) -> Result<(), Fault> {
         if let Some(name) = line.strip_prefix("file ") {
@@ -74,20 +88,17 @@ impl Transcript {
         }
         self.put_line(line)?;
         if let Some(words) = line.strip_prefix("$ ") {
-            put_call(rt, alloc, &mut self.out, self.files.as_slice(), words)?;
+            self.call(rt, alloc, words)?;
+        } else if let Some(words) = line.strip_prefix("port") {
+            self.port = Some(String::from_str(alloc, words)?);
         } else if let Some(words) = line.strip_prefix("with ") {
             self.words = String::from_str(alloc, words)?;
         } else if let Some(text) = line.strip_prefix("> ") {
             let content = unescaped(alloc, text)?;
             let name = String::from_str(alloc, STATED)?;
             self.put_file(TextFile { name, content })?;
-            put_call(
-                rt,
-                alloc,
-                &mut self.out,
-                self.files.as_slice(),
-                self.words.as_str(),
-            )?;
+            let words = String::from_str(alloc, self.words.as_str())?;
+            self.call(rt, alloc, words.as_str())?;
         }
         Ok(())
     }

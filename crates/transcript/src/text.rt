@@ -67,6 +67,20 @@ fn hex_octet(octets: &[u8]) -> Option<(u8, &[u8])> {
     Some(((high * 16 + low) as u8, rest))
 }
 
+/// The octets of a word of hexadecimal digits, two each, up to where it isn't one.
+pub fn hex_octets(alloc: Global, word: &str) -> Result<Octets, Fault> {
+    let mut out = Octets::new(alloc);
+    let mut rest = word.as_bytes();
+    for _ in 0..word.len() {
+        let Some((octet, after)) = hex_octet(rest) else {
+            break;
+        };
+        out.push(octet)?;
+        rest = after;
+    }
+    Ok(out)
+}
+
 /// The next octet of a text with escapes, and what follows it.
 fn next_octet(octets: &[u8]) -> Option<(u8, &[u8])> {
     match octets {

@@ -2,7 +2,7 @@
 
 ghost use Rattle.std.specs.Prelude.{◌≡◌, ◌≢◌, ◌≤◌, List, IfErr, IfOk, OnOk, Some, None};
 ghost use Rattle.line_model.specs.Log.{Job, AllOver, TurnUnfinished};
-ghost use Rattle.tunnel_link.specs.Adds.{Growing, HasActed};
+ghost use Rattle.tunnel_link.specs.Adds.{AllNothing, Growing, HasActed};
 ghost use Rattle.tunnel_link.specs.Goes.{GoesOn};
 ghost use Rattle.tunnel_link.specs.Rights.{FailsWhere, WhereTold};
 ghost use Rattle.hub_work.specs.Books.{AreJobsOf};
@@ -37,7 +37,7 @@ impl<L: Link> Hub<L> {
         ensures goes { IfOk result (λ done. GoesSo done (L.story self.old.link) (L.story self.new.link)) }
         ensures rightly { Growing (ClosesOn self.old.closing) (L.story self.old.link) (L.story self.new.link) }
         ensures polls { OnOk result (PollsInClosing self.old.jobs self.old.turns self.old.log self.old.crew self.old.closing (L.story self.old.link) (L.story self.new.link)) }
-        ensures came { OnOk result (Comes self.old.crew self.new.crew (L.story self.old.link) (L.story self.new.link)) }
+        ensures came { OnOk result (Comes self.old.jobs self.old.log self.old.crew self.new.crew (L.story self.old.link) (L.story self.new.link)) }
         ensures run { SameRun self.old self.new }
         ensures log { self.new.log ≡ self.old.log }
         ensures ended { StaysEnded self.old.fault result self.new.fault (self.new.link ≡ self.old.link) }
@@ -67,7 +67,7 @@ impl<L: Link> Hub<L> {
         ensures ends { IfOk result (λ done. EndsAs done self.new.closing (L.story self.new.link)) }
         ensures goes { IfOk result (λ done. GoesSo done (L.story self.old.link) (L.story self.new.link)) }
         ensures polls { OnOk result (PollsInClosing self.old.jobs self.old.turns self.old.log self.old.crew self.old.closing (L.story self.old.link) (L.story self.new.link)) }
-        ensures came { OnOk result (Comes self.old.crew self.new.crew (L.story self.old.link) (L.story self.new.link)) }
+        ensures came { OnOk result (Comes self.old.jobs self.old.log self.old.crew self.new.crew (L.story self.old.link) (L.story self.new.link)) }
         ensures fault { IfErr result (λ fault. self.new.fault ≡ Some fault) }
         ensures stands { OnOk result (self.new.fault ≡ None) }
         ensures rightly { Growing (ClosesOn self.old.closing) (L.story self.old.link) (L.story self.new.link) }
@@ -96,6 +96,7 @@ impl<L: Link> Hub<L> {
         ensures ends { IfOk result (λ done. EndsAs done self.new.closing (L.story self.new.link)) }
         ensures goes { IfOk result (λ done. GoesSo done (L.story self.old.link) (L.story self.new.link)) }
         ensures sends { OnOk result (Growing SendsOnly (L.story self.old.link) (L.story self.new.link)) }
+        ensures nothing { OnOk result (Growing AllNothing (L.story self.old.link) (L.story self.new.link)) }
         ensures crew { self.new.crew ≡ self.old.crew }
         ensures fault { IfErr result (λ fault. self.new.fault ≡ Some fault) }
         ensures stands { OnOk result (self.new.fault ≡ None) }
@@ -130,7 +131,7 @@ impl<L: Link> Hub<L> {
         ensures ends { IfOk result (λ done. EndsAs done self.new.closing (L.story self.new.link)) }
         ensures goes { IfOk result (λ done. GoesSo done (L.story self.old.link) (L.story self.new.link)) }
         ensures polls { OnOk result (Polls self.old.jobs self.old.turns self.old.log self.old.crew self.old.closing (L.story self.old.link) (L.story self.new.link)) }
-        ensures came { OnOk result (Comes self.old.crew self.new.crew (L.story self.old.link) (L.story self.new.link)) }
+        ensures came { OnOk result (Comes self.old.jobs self.old.log self.old.crew self.new.crew (L.story self.old.link) (L.story self.new.link)) }
         ensures fault { IfErr result (λ fault. self.new.fault ≡ Some fault) }
         ensures stands { OnOk result (self.new.fault ≡ None) }
         ensures rightly { Growing (ClosesOn self.old.closing) (L.story self.old.link) (L.story self.new.link) }

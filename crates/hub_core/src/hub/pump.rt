@@ -1,7 +1,7 @@
 //! One poll of the link, with what is due before it.
 
 ghost use Rattle.std.specs.Prelude.{◌≡◌, ◌≤◌, ◌||◌, is_some, IfErr, IfOk, OnOk, Some, None};
-ghost use Rattle.tunnel_link.specs.Adds.{Growing, HasActed, Ready};
+ghost use Rattle.tunnel_link.specs.Adds.{AllNothing, Growing, HasActed, Ready};
 ghost use Rattle.tunnel_link.specs.Alone.{Each, EndsNone, LeavesAlone};
 ghost use Rattle.tunnel_link.specs.Goes.{GoesOn};
 ghost use Rattle.tunnel_link.specs.Rights.{FailsWhere, WhereTold};
@@ -29,7 +29,7 @@ impl<L: Link> Hub<L> {
         ensures says { IfOk result (λ pumped. PumpsSo (is_some self.old.closing) pumped (L.story self.old.link) (L.story self.new.link)) }
         ensures ends_none { Growing (Each EndsNone) (L.story self.old.link) (L.story self.new.link) }
         ensures polls { OnOk result (Polls self.old.jobs self.old.turns self.old.log self.old.crew self.old.closing (L.story self.old.link) (L.story self.new.link)) }
-        ensures came { OnOk result (Comes self.old.crew self.new.crew (L.story self.old.link) (L.story self.new.link)) }
+        ensures came { OnOk result (Comes self.old.jobs self.old.log self.old.crew self.new.crew (L.story self.old.link) (L.story self.new.link)) }
         ensures run { SameRun self.old self.new }
         ensures begun { is_some self.new.closing ≡ is_some self.old.closing }
         ensures log { self.new.log ≡ self.old.log }
@@ -56,6 +56,7 @@ impl<L: Link> Hub<L> {
         ensures heard { OnOk result (HearsSo None (L.story self.old.link) (L.story self.new.link)) }
         ensures does { IfOk result (λ did. AddsSo (Does is_late_now did) (L.story self.old.link) (L.story self.new.link)) }
         ensures sends { OnOk result (Growing SendsOnly (L.story self.old.link) (L.story self.new.link)) }
+        ensures nothing { OnOk result (Growing AllNothing (L.story self.old.link) (L.story self.new.link)) }
         ensures still { OnOk result (WhereTold (λ places. (self.new.crew ≡ self.old.crew) × (self.new.closing ≡ self.old.closing)) (L.story self.old.link)) }
         ensures resumes { OnOk result (AddsSo (Resumes self.old.closing self.new.closing) (L.story self.old.link) (L.story self.new.link)) }
         ensures begun { is_some self.new.closing ≡ is_some self.old.closing }
@@ -86,6 +87,7 @@ impl<L: Link> Hub<L> {
         ensures does { IfOk result (λ did. AddsSo (Does (is_left_now (is_some self.old.closing)) did) (L.story self.old.link) (L.story self.new.link)) }
         ensures acted { OnOk result (HasActed self.new.known (L.story self.new.link)) }
         ensures sends { OnOk result (Growing SendsOnly (L.story self.old.link) (L.story self.new.link)) }
+        ensures nothing { OnOk result (Growing AllNothing (L.story self.old.link) (L.story self.new.link)) }
         ensures crew { self.new.crew ≡ self.old.crew }
         ensures closing { self.new.closing ≡ self.old.closing }
         ensures fault { IfErr result (λ fault. self.new.fault ≡ Some fault) }
@@ -118,7 +120,7 @@ impl<L: Link> Hub<L> {
         ensures heard { IfOk result (λ polled. HearsSo polled.heard (L.story self.old.link) (L.story self.new.link)) }
         ensures moves { IfOk result (λ polled. AddsSo (Moves polled.moved) (L.story self.old.link) (L.story self.new.link)) }
         ensures polls { OnOk result (Polls self.old.jobs self.old.turns self.old.log self.old.crew self.old.closing (L.story self.old.link) (L.story self.new.link)) }
-        ensures came { OnOk result (Comes self.old.crew self.new.crew (L.story self.old.link) (L.story self.new.link)) }
+        ensures came { OnOk result (Comes self.old.jobs self.old.log self.old.crew self.new.crew (L.story self.old.link) (L.story self.new.link)) }
         ensures resumes { OnOk result (AddsSo (Resumes self.old.closing self.new.closing) (L.story self.old.link) (L.story self.new.link)) }
         ensures done { OnOk result (AddsSo HasDone (L.story self.old.link) (L.story self.new.link)) }
         ensures fault { IfErr result (λ fault. self.new.fault ≡ Some fault) }

@@ -1,9 +1,8 @@
 //! What a poll brought, taken in.
 
 ghost use Rattle.std.specs.Prelude.{◌≡◌, ◌||◌, false};
-ghost use Rattle.hub_work.specs.Came.{RisesBy};
 ghost use Rattle.hub_work.specs.Works.{SameBooks};
-ghost use Rattle.hub_core.specs.Came.{brought, frames_in, losses_in};
+ghost use Rattle.hub_core.specs.Came.{CountsIn, CountsLoss, CountsTaken};
 ghost use Rattle.hub_core.specs.Closes.{ClosesBy};
 ghost use Rattle.hub_core.specs.Taking.{SameWork, DeliversIn, EndsSo, HeardIn, LosesIn, MeetsSo, TakesIn, is_got as got_one, is_taken as took_one};
 
@@ -29,7 +28,7 @@ pub fn take_in(work: &mut Work, came: &Came, now: u64) -> Polled
     ensures heard { HeardIn came.now.what result.heard }
     ensures closes { ClosesBy (got_one came.now.what) came.now.loss now work.old.closing work.new.closing }
     ensures moved { result.moved ≡ (came.now.sent || took_one came.now.what) }
-    ensures came { RisesBy (brought came.now) work.old.crew work.new.crew }
+    ensures came { CountsIn came.now now work.old work.new }
 {
     let heard = deliver(work, &came.what, now);
     lose(work, is_got(&came.what), came.loss, now);
@@ -45,7 +44,7 @@ fn deliver(work: &mut Work, what: &What, now: u64) -> Option<Indication>
     ensures fits { DeliversIn what.now now work.old work.new }
     ensures closing { work.new.closing ≡ work.old.closing }
     ensures heard { HeardIn what.now result }
-    ensures came { RisesBy (frames_in what.now) work.old.crew work.new.crew }
+    ensures came { CountsTaken what.now work.old work.new }
 {
     moments_go_on();
     match what {
@@ -59,7 +58,7 @@ pub fn lose(work: &mut Work, got: bool, loss: Loss, now: u64)
     ensures books { SameWork work.old work.new }
     ensures fits { LosesIn loss now work.old work.new }
     ensures closes { ClosesBy got loss now work.old.closing work.new.closing }
-    ensures came { RisesBy (losses_in loss) work.old.crew work.new.crew }
+    ensures came { CountsLoss loss now work.old work.new.crew }
     ensures crew { loss ≡ Loss.Stays → work.new.crew ≡ work.old.crew }
     ensures closing { loss ≡ Loss.Stays → got ≡ false → work.new.closing ≡ work.old.closing }
 {
@@ -71,7 +70,7 @@ pub fn lose(work: &mut Work, got: bool, loss: Loss, now: u64)
 fn give_up(work: &mut Work, loss: Loss, now: u64)
     ensures books { SameBooks work.old work.new }
     ensures fits { LosesIn loss now work.old work.new }
-    ensures came { RisesBy (losses_in loss) work.old.crew work.new.crew }
+    ensures came { CountsLoss loss now work.old work.new.crew }
     ensures crew { loss ≡ Loss.Stays → work.new.crew ≡ work.old.crew }
 {
     moments_go_on();

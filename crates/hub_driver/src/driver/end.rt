@@ -5,6 +5,7 @@ ghost use Rattle.std.specs.List.{AllByRecursion};
 ghost use Rattle.hub_core.specs.Promises.{IsRightOver, IsSafeOver, FaultRightIn, DropsIn};
 ghost use Rattle.hub_core.specs.Seen.{AreJobs};
 ghost use Rattle.hub_core.specs.Thorough.{IsThoroughOver};
+ghost use Rattle.hub_driver.specs.Closed.{HasClosed};
 ghost use Rattle.hub_driver.specs.Drives.{AllDone, CausedSince, HasEndedSo, TellsFault};
 ghost use Rattle.hub_driver.specs.Heard.{HeardAll};
 ghost use Rattle.hub_driver.specs.Leaving.{LeavesOver};
@@ -12,6 +13,7 @@ ghost use Rattle.hub_work.specs.Books.{AreJobsOf};
 ghost use Rattle.line_model.specs.Headline.{Keeps, IsGoodJob};
 ghost use Rattle.line_model.specs.LinkStory.{record_in};
 ghost use Rattle.line_model.specs.Log.{Job, IsLog, OneDownloaderPerDevice, AllOver, TurnUnfinished};
+ghost use Rattle.tunnel_link.specs.Rights.{WhereTold};
 
 use super::Driver;
 use hub_core::{HubEnd, HubFault};
@@ -33,6 +35,7 @@ impl<L: Link> Driver<L> {
     /// Hands the link back, and what is told of a run that was broken off for this, or wasn't.
     pub(super) fn close(self, broken_off: Option<HubFault>) -> (L, Report)
         requires done { broken_off ≡ None → AllDone self.hub }
+        requires closed { broken_off ≡ None → WhereTold (HasClosed self.hub.log) (L.story self.hub.link) }
         requires heard { broken_off ≡ None → HeardAll self.heard (record_in (L.story self.hub.link)) }
         requires cause { IfSome broken_off (HasEndedSo self.hub.fault) }
         requires leaves { (all : List Job) → AreJobsOf self.hub.devices all → LeavesOver all self.hub.turns (L.story self.hub.link) self.hub.log }
@@ -48,6 +51,7 @@ impl<L: Link> Driver<L> {
         ensures leaves { (all : List Job) → AreJobsOf self.hub.devices all → LeavesOver all self.hub.turns (L.story result.0) (reverse result.1.log) }
         ensures over { result.1.fault ≡ None → (all : List Job) → AreJobsOf self.hub.devices all → AllOver all (reverse result.1.log) }
         ensures told { result.1.fault ≡ None → ¬ TurnUnfinished self.hub.turns (reverse result.1.log) }
+        ensures closed { result.1.fault ≡ None → WhereTold (HasClosed (reverse result.1.log)) (L.story result.0) }
         ensures heard { result.1.fault ≡ None → HeardAll result.1.heard (record_in (L.story result.0)) }
         ensures missed { result.1.missed ≡ self.hub.missed }
         ensures caused { (before : ℕ) → CausedSince before self.hub.fault (L.faults self.hub.link) → CausedSince before result.1.fault (L.faults result.0) }

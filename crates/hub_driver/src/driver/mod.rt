@@ -1,5 +1,6 @@
 //! A hub with its only caller.
 
+mod closing;
 mod end;
 
 ghost use Rattle.std.specs.Prelude.{◌≡◌, ◌+◌, ℕ, None, List, [], ◌∷◌, ◌++◌, IfErr, OnOk, true, false, length, reverse};
@@ -7,16 +8,18 @@ ghost use Rattle.std.specs.List.{AllByRecursion};
 ghost use Rattle.hub_core.specs.Promises.{IsRightOver, IsSafeOver, FaultRightIn, DropsIn};
 ghost use Rattle.hub_core.specs.Seen.{SameRun, AreJobs};
 ghost use Rattle.hub_core.specs.Thorough.{IsThoroughOver};
+ghost use Rattle.hub_driver.specs.Closed.{HasClosed};
 ghost use Rattle.hub_driver.specs.Drives.{ends, LeavesOpen, AllDone, CausedSince, IsNoMemory, HasEndedSo};
 ghost use Rattle.hub_driver.specs.Heard.{HeardAll};
-ghost use Rattle.hub_driver.specs.Leaving.{ClosesSo, GoesThrough, IsLeft, KnowsHowFar, LeavesOver};
+ghost use Rattle.hub_driver.specs.Leaving.{GoesThrough, IsLeft, LeavesOver};
 ghost use Rattle.hub_work.specs.Books.{AreJobsOf};
 ghost use Rattle.line_model.specs.Headline.{Keeps, IsGoodJob};
 ghost use Rattle.line_model.specs.LinkStory.{record_in};
 ghost use Rattle.line_model.specs.Log.{Job, IsLog, OneDownloaderPerDevice, AllOver, TurnUnfinished};
 ghost use Rattle.tunnel_link.specs.Goes.{GoesOn};
+ghost use Rattle.tunnel_link.specs.Rights.{WhereTold};
 
-use hub_core::{Finished, GroupDid, Hub, HubFault, Indication, Pumped, Turned};
+use hub_core::{GroupDid, Hub, HubFault, Indication, Pumped, Turned};
 use knx_model::List;
 use line_model::{Gate, Link, Report};
 use std::alloc::Global;
@@ -71,6 +74,7 @@ impl<L: Link> Driver<L> {
         ensures leaves { (all : List Job) → AreJobsOf self.hub.devices all → LeavesOver all self.hub.turns (L.story result.0) (reverse result.1.log) }
         ensures over { result.1.fault ≡ None → (all : List Job) → AreJobsOf self.hub.devices all → AllOver all (reverse result.1.log) }
         ensures told { result.1.fault ≡ None → ¬ TurnUnfinished self.hub.turns (reverse result.1.log) }
+        ensures closed { result.1.fault ≡ None → WhereTold (HasClosed (reverse result.1.log)) (L.story result.0) }
         ensures heard { result.1.fault ≡ None → HeardAll result.1.heard (record_in (L.story result.0)) }
         ensures missed { result.1.missed ≡ self.hub.missed }
         ensures caused { (before : ℕ) → CausedSince before self.hub.fault (L.faults self.hub.link) → CausedSince before result.1.fault (L.faults result.0) }
@@ -91,6 +95,7 @@ impl<L: Link> Driver<L> {
         ensures leaves { (all : List Job) → AreJobsOf self.new.hub.devices all → LeavesOver all self.new.hub.turns (L.story self.new.hub.link) self.new.hub.log }
         ensures run { SameRun self.old.hub self.new.hub }
         ensures done { OnOk result (AllDone self.new.hub) }
+        ensures closed { OnOk result (WhereTold (HasClosed self.new.hub.log) (L.story self.new.hub.link)) }
         ensures heard { OnOk result (HeardAll self.new.heard (record_in (L.story self.new.hub.link))) }
         ensures cause { IfErr result (HasEndedSo self.new.hub.fault) }
     {
@@ -211,56 +216,6 @@ impl<L: Link> Driver<L> {
         match self.hub.pump()? {
             Pumped::Heard(indication) => self.hears(indication),
             Pumped::Nothing | Pumped::Moved => Ok(()),
-        }
-    }
-
-    /// The closing.
-    fn closes<R: Wait>(&mut self, rt: &R) -> Result<(), HubFault>
-        requires done { AllDone self.old.hub }
-        requires through { GoesThrough self.old.hub (L.story self.old.hub.link) }
-        requires heard { HeardAll self.old.heard (record_in (L.story self.old.hub.link)) }
-        ensures grows { GoesOn (L.story self.old.hub.link) (L.story self.new.hub.link) }
-        ensures script { L.script self.new.hub.link ≡ L.script self.old.hub.link }
-        ensures caused { (before : ℕ) → CausedSince before self.old.hub.fault (L.faults self.old.hub.link) → CausedSince before self.new.hub.fault (L.faults self.new.hub.link) }
-        ensures leaves { (all : List Job) → AreJobsOf self.new.hub.devices all → LeavesOver all self.new.hub.turns (L.story self.new.hub.link) self.new.hub.log }
-        ensures run { SameRun self.old.hub self.new.hub }
-        ensures log { self.new.hub.log ≡ self.old.hub.log }
-        ensures done { OnOk result (AllDone self.new.hub) }
-        ensures heard { OnOk result (HeardAll self.new.heard (record_in (L.story self.new.hub.link))) }
-        ensures cause { IfErr result (HasEndedSo self.new.hub.fault) }
-    {
-        for _ in rt.forever() {
-            if self.finishes()? {
-                break;
-            }
-        }
-        Ok(())
-    }
-
-    /// One step of the closing. Tells whether it is over.
-    fn finishes(&mut self) -> Result<bool, HubFault>
-        requires done { AllDone self.old.hub }
-        requires closes { ClosesSo self.old.hub (L.story self.old.hub.link) }
-        requires far { KnowsHowFar self.old.hub (L.story self.old.hub.link) }
-        requires heard { HeardAll self.old.heard (record_in (L.story self.old.hub.link)) }
-        ensures grows { GoesOn (L.story self.old.hub.link) (L.story self.new.hub.link) }
-        ensures script { L.script self.new.hub.link ≡ L.script self.old.hub.link }
-        ensures caused { (before : ℕ) → CausedSince before self.old.hub.fault (L.faults self.old.hub.link) → CausedSince before self.new.hub.fault (L.faults self.new.hub.link) }
-        ensures closes { ClosesSo self.new.hub (L.story self.new.hub.link) }
-        ensures far { OnOk result (KnowsHowFar self.new.hub (L.story self.new.hub.link)) }
-        ensures run { SameRun self.old.hub self.new.hub }
-        ensures log { self.new.hub.log ≡ self.old.hub.log }
-        ensures done { OnOk result (AllDone self.new.hub) }
-        ensures heard { OnOk result (HeardAll self.new.heard (record_in (L.story self.new.hub.link))) }
-        ensures cause { IfErr result (HasEndedSo self.new.hub.fault) }
-    {
-        match self.hub.finish()? {
-            Finished::Heard(indication) => {
-                self.hears(indication)?;
-                Ok(false)
-            }
-            Finished::Going => Ok(false),
-            Finished::Over => Ok(true),
         }
     }
 

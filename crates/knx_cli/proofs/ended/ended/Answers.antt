@@ -21,3 +21,6 @@ returns-clause-sim g c = rw (told c.knx.result c.number.result c.number.ensures)
 
 pub returns-clause-download : goal.returns-clause-download
 returns-clause-download g c = rw (told c.knx.result c.number.result c.number.ensures) c.knx.ensures.download
+
+pub returns-clause-gateway : goal.returns-clause-gateway
+returns-clause-gateway g c = rw (told c.knx.result c.number.result c.number.ensures) c.knx.ensures.gateway

@@ -27,6 +27,9 @@ returns-in-Ok-clause-fault g c = rw (c.in-Ok.is, ← c.as_slice.ensures.value) c
 pub returns-in-Ok-clause-over : goal.returns-in-Ok-clause-over
 returns-in-Ok-clause-over g c = rw (c.in-Ok.is, ← c.as_slice.ensures.value) c.ended.ensures.over
 
+pub returns-in-Ok-clause-closed : goal.returns-in-Ok-clause-closed
+returns-in-Ok-clause-closed g c = rw (c.in-Ok.is, ← c.as_slice.ensures.value) c.ended.ensures.closed
+
 pub returns-in-Ok-clause-link : goal.returns-in-Ok-clause-link
 returns-in-Ok-clause-link g c = rw (c.in-Ok.is, ← c.as_slice.ensures.value) c.ended.ensures.link
 
@@ -38,3 +41,6 @@ returns-in-Ok-clause-thorough g c = rw (c.in-Ok.is, ← c.as_slice.ensures.value
 
 pub returns-in-Ok-clause-leaves : goal.returns-in-Ok-clause-leaves
 returns-in-Ok-clause-leaves g c = rw (c.in-Ok.is, ← c.as_slice.ensures.value) c.ended.ensures.leaves
+
+pub returns-in-Ok-clause-gateway : goal.returns-in-Ok-clause-gateway
+returns-in-Ok-clause-gateway g c = rw (c.in-Ok.is, ← c.as_slice.ensures.value) c.ended.ensures.gateway

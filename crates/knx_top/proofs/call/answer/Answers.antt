@@ -13,7 +13,9 @@ pub returns-in-Some-clause-download : goal.returns-in-Some-clause-download
 returns-in-Some-clause-download g c = λ names e. c.run.ensures.download names (same_command _ _ (c.in-Some.ensures.is ∙ e))
 
 pub returns-in-Some-clause-undialled : goal.returns-in-Some-clause-undialled
-returns-in-Some-clause-undialled g c = λ other. c.run.ensures.undialled (λ names e. other names (sym c.in-Some.ensures.is ∙ ap (λ (command : Command). Some command) e))
+returns-in-Some-clause-undialled g c = λ download gateway.
+    c.run.ensures.undialled (λ names e. download names (sym c.in-Some.ensures.is ∙ ap (λ (command : Command). Some command) e))
+    (λ names e. gateway names (sym c.in-Some.ensures.is ∙ ap (λ (command : Command). Some command) e))
 
 pub returns-in-None-clause-download : goal.returns-in-None-clause-download
 returns-in-None-clause-download g c = λ names e. absurd (no_command _ (c.in-None.ensures.is ∙ e))
@@ -23,3 +25,9 @@ returns-in-Some-clause-link g c = λ names e. c.run.ensures.link names (same_com
 
 pub returns-in-None-clause-link : goal.returns-in-None-clause-link
 returns-in-None-clause-link g c = λ names e. absurd (no_command _ (c.in-None.ensures.is ∙ e))
+
+pub returns-in-Some-clause-gateway : goal.returns-in-Some-clause-gateway
+returns-in-Some-clause-gateway g c = λ names e. c.run.ensures.gateway names (same_command _ _ (c.in-Some.ensures.is ∙ e))
+
+pub returns-in-None-clause-gateway : goal.returns-in-None-clause-gateway
+returns-in-None-clause-gateway g c = λ names e. absurd (no_command _ (c.in-None.ensures.is ∙ e))

@@ -1,6 +1,7 @@
 use Rattle.std.proofs.Common.{refl, ap}
-use Rattle.knx_top.specs.Names.{command_of, download_words_of}
+use Rattle.knx_top.specs.Names.{command_of, download_words_of, gateway_words_of}
 use Rattle.knx_top.proofs.DialledRuns.{of_words, rose_at_most}
+use Rattle.knx_top.proofs.ServedRuns.{gateway_of_words, gateway_rose}
 use Rattle.knx_top.proofs.call.run.Goals as goal
 
 pub returns-in-Check-clause-does : goal.returns-in-Check-clause-does
@@ -22,4 +23,14 @@ pub returns-in-Download-clause-download : goal.returns-in-Download-clause-downlo
 returns-in-Download-clause-download g c = λ names e. of_words (command_of c.args.command) (download_words_of c.in-Download.names) names _ _ _ _ _ _ _ (ap command_of c.in-Download.is) e c.tell_download.ensures.told
 
 pub returns-in-Download-clause-undialled : goal.returns-in-Download-clause-undialled
-returns-in-Download-clause-undialled g c = λ other. absurd (other (download_words_of c.in-Download.names) (ap command_of c.in-Download.is))
+returns-in-Download-clause-undialled g c = λ download gateway. absurd (download (download_words_of c.in-Download.names) (ap command_of c.in-Download.is))
+
+pub returns-in-Gateway-clause-does : goal.returns-in-Gateway-clause-does
+returns-in-Gateway-clause-does g c = rw c.in-Gateway.is (c.requires.none, gateway_rose _ _ _ _ _ _ _ _ _ c.tell_gateway.ensures.told)
+
+pub returns-in-Gateway-clause-gateway : goal.returns-in-Gateway-clause-gateway
+returns-in-Gateway-clause-gateway g c = λ names e.
+    gateway_of_words (command_of c.args.command) (gateway_words_of c.in-Gateway.names) names _ _ _ _ _ _ _ _ (ap command_of c.in-Gateway.is) e c.tell_gateway.ensures.told
+
+pub returns-in-Gateway-clause-undialled : goal.returns-in-Gateway-clause-undialled
+returns-in-Gateway-clause-undialled g c = λ download gateway. absurd (gateway (gateway_words_of c.in-Gateway.names) (ap command_of c.in-Gateway.is))

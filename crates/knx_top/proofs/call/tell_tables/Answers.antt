@@ -1,10 +1,10 @@
 use Rattle.knx_top.specs.Call.{IsTablesText}
 use Rattle.knx_top.specs.Ended.{told_outcome}
 use Rattle.knx_top.specs.Names.{project_words_of}
-use Rattle.knx_top.proofs.Calls.{project_tells}
+use Rattle.knx_top.proofs.Calls.{project_tells, text_replied}
 use Rattle.knx_top.proofs.call.tell_tables.Goals as goal
 
 pub returns-clause-told : goal.returns-clause-told
 returns-clause-told g c =
     project_tells IsTablesText (project_words_of c.args.names) _ _ _ _ c.read_project_texts-texts.result (told_outcome c.tables_told-told.result)
-    c.read_project_texts-texts.ensures.read c.read_project_texts-texts.ensures.counts c.tables_told-told.ensures (c.tell_text.ensures.told (told_outcome c.tables_told-told.result) c.text_of_told.ensures)
+    c.read_project_texts-texts.ensures.read c.read_project_texts-texts.ensures.counts c.tables_told-told.ensures (text_replied (told_outcome c.tables_told-told.result) c.text_of_told.result _ _ _ _ _ c.text_of_told.ensures c.tell_or_want.ensures.told c.tell_or_want.ensures.wanting)

@@ -9,8 +9,5 @@ use Rattle.bus_sim.proofs.run.Run.poll.Goals as goal
 later : (now wait : ℕ) → now ≤ now + wait
 later now wait = omega arith
 
-pub returns-then-now-from-clause-err : goal.returns-then-now-from-clause-err
-returns-then-now-from-clause-err c = record { goes = goes_same c.args.self.now c.args.self.now refl; in_time = later (now (world c.args.self.now)) c.args.wait_ms }
-
 pub returns-in_err-drives-clause-err : goal.returns-in_err-drives-clause-err
 returns-in_err-drives-clause-err c = OnErrAny c.from_residual.result (StopsWithin c.args.wait_ms c.args.self.now c.args.self.now) (record { goes = goes_same c.args.self.now c.args.self.now refl; in_time = later (now (world c.args.self.now)) c.args.wait_ms })

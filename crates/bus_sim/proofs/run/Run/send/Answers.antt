@@ -11,5 +11,5 @@ use Rattle.bus_sim.proofs.run.Run.send.Goals as goal
 pub invariant_of-self-2 : goal.invariant_of-self-2
 invariant_of-self-2 c =
     after_client c.self.inside.begun c.self.inside.events.list c.make_room.new.events.list c.push.new.self.list c.self.inside.index c.self.inside.line c.send.new.self c.self.inside.counts c.self.inside.counts c.self.inside.owed.list c.make_room.new.owed.list c.wait.new.self.list (Send c.args.octets.now) refl tt c.self.invariant c.send.ensures
-    (send_right (run c.self.inside.begun c.self.inside.events.list) c.args.octets.now (subst (λ (v : RunState). v.begun.clients ≡ One) (sym c.self.view_is) c.in_ok-drives.ensures)) c.make_room.ensures.events c.push.ensures c.in_ok-make_room.ensures.few c.make_room.ensures.owed c.wait.ensures refl
+    (send_right (run c.self.inside.begun c.self.inside.events.list) c.args.octets.now (subst (λ (v : RunState). v.begun.clients ≡ One) (sym c.self.view_is) c.in_ok-drives.ensures.one)) c.make_room.ensures.events c.push.ensures c.in_ok-make_room.ensures.few c.make_room.ensures.owed c.wait.ensures refl
     (uncounted c.self.inside.counts (start_of c.self.inside.begun) c.self.inside.events.list (Send c.args.octets.now) (record { to = λ a. refl; from = λ a. refl; taken = λ a. takes_nothing _; wrote = λ a. writes_nothing _; connect = refl }) c.self.invariant.counted) refl

@@ -9,7 +9,7 @@ use Rattle.bus_sim.specs.Went.{IsRight}
 use Rattle.bus_sim.proofs.Calls.{capped_few, two_called}
 use Rattle.bus_sim.proofs.Counting.{asked, takes_nothing, writes_nothing}
 use Rattle.bus_sim.proofs.Holds.{after_own}
-use Rattle.bus_sim.proofs.Laws.{fewer, counted, requests}
+use Rattle.bus_sim.proofs.Laws.{channels, fewer, counted, requests}
 use Rattle.bus_sim.proofs.run.Run.up.Goals as goal
 
 pub invariant_of-self-2 : goal.invariant_of-self-2
@@ -20,7 +20,7 @@ invariant_of-self-2 c =
     let fresh = c.self.invariant.keeps.fresh in
     let few = c.in_ok-make_room.ensures.few in
     let exact = counted (start_of b) es fresh c.self.invariant.few in
-    let goes : (v : World) → IsNow c.self.inside.line v → IsNow c.up.new.self (step v (Up c.args.age)) = λ v is. c.in_ok-up.ensures.next v is c.in_ok-make_room.ensures.channels in
+    let goes : (v : World) → IsNow c.self.inside.line v → IsNow c.up.new.self (step v (Up c.args.age)) = λ v is. c.in_ok-up.ensures.next v is (channels c.self.inside.line (start_of b) es c.self.invariant.pictured fresh c.self.invariant.few) in
     let old : c.acted-before.result ≡ length w.tunnel.gateway.acted = c.acted-before.ensures.simulates w c.self.invariant.pictured ∙ capped_few _ (let h = requests (start_of b) es fresh in omega arith) in
     let new : c.acted.result ≡ length (step w (Up c.args.age)).tunnel.gateway.acted
     = c.acted.ensures.simulates (step w (Up c.args.age)) (goes w c.self.invariant.pictured) ∙ capped_few _ (let h = requests (start_of b) (Up c.args.age ∷ es) fresh in omega arith) in

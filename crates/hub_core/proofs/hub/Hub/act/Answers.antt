@@ -7,6 +7,7 @@ use Rattle.hub_core.proofs.Hears.{hears_none}
 use Rattle.hub_core.proofs.Pumping.{acts_so}
 use Rattle.hub_core.proofs.Endings.{acts_resume}
 use Rattle.hub_core.proofs.Polls.{acts_send, acts_stay}
+use Rattle.hub_core.proofs.Came.{acts_nothing}
 use Rattle.hub_core.proofs.hub.Hub.act.Goals as goal
 
 pub invariant_of-self : goal.invariant_of-self
@@ -48,3 +49,6 @@ returns-clause-still g c =
     rw (← c.self.view_is) (λ old e.
     let stays = acts_stay _ _ c.in_ok-acted.acted c.in_ok-acted.ensures.adds old e in
     (c.lose.ensures.crew stays, c.lose.ensures.closing stays refl))
+
+pub returns-clause-nothing : goal.returns-clause-nothing
+returns-clause-nothing g c = rw (← c.self.view_is) (acts_nothing _ _ c.in_ok-acted.acted c.in_ok-acted.ensures.adds)

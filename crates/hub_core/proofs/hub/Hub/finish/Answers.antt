@@ -6,14 +6,14 @@ use Rattle.hub_core.specs.Pumps.{AddsSo}
 use Rattle.hub_core.proofs.Endings.{closes_now, closes_all, goes_after}
 use Rattle.line_model.specs.LinkStory.{newest_time}
 use Rattle.line_model.specs.Record.{entries}
-use Rattle.tunnel_link.specs.Adds.{Growing}
+use Rattle.tunnel_link.specs.Adds.{AllNothing, Growing}
 use Rattle.tunnel_link.specs.Rights.{WhereTold}
 use Rattle.hub_core.specs.Leaving.{ClosesOn}
 use Rattle.hub_core.proofs.Leaving.{closes_none, closes_alone, closes_with}
 use Rattle.std.proofs.Common.{◌∙◌, ap}
 use Rattle.hub_core.proofs.Polls.{goes_once, closes_unpolled, none_sent, runs_on, ok_as}
 use Rattle.hub_core.specs.Polls.{SendsOnly}
-use Rattle.hub_core.proofs.Came.{comes_after, none_comes}
+use Rattle.hub_core.proofs.Came.{comes_after, none_comes, none_added}
 use Rattle.hub_core.proofs.hub.Hub.finish.Goals as goal
 
 pub returns-clause-grows : goal.returns-clause-grows
@@ -64,11 +64,12 @@ returns-clause-polls g c =
 
 pub returns-then-is_over-clause-came : goal.returns-then-is_over-clause-came
 returns-then-is_over-clause-came g c =
-    none_comes (g.L.Link.story c.args.self.now.link) (g.L.Link.story c.is_over.new.self.link) c.args.self.now.crew c.is_over.new.self.crew
-    (none_sent (g.L.Link.story c.args.self.now.link) (g.L.Link.story c.is_over.new.self.link) (ap (λ l. g.L.Link.story l) c.is_over.ensures.link)) c.is_over.ensures.crew
+    none_comes c.args.self.now.jobs c.args.self.now.log (g.L.Link.story c.args.self.now.link) (g.L.Link.story c.is_over.new.self.link) c.args.self.now.crew c.is_over.new.self.crew
+    (none_added (g.L.Link.story c.args.self.now.link) (g.L.Link.story c.is_over.new.self.link) (ap (λ l. g.L.Link.story l) c.is_over.ensures.link)) c.is_over.ensures.crew
 
 pub returns-clause-came : goal.returns-clause-came
 returns-clause-came g c =
-    ok_as c.goes_on.result (comes_after (g.L.Link.story c.args.self.now.link) (g.L.Link.story c.act.new.self.link) (g.L.Link.story c.goes_on.new.self.link) c.args.self.now.crew c.act.new.self.crew c.goes_on.new.self.crew
-    (rw (← c.is_over.ensures.link) c.act.ensures.grows) c.goes_on.ensures.grows (subst (λ l. Growing SendsOnly (g.L.Link.story l) (g.L.Link.story c.act.new.self.link)) c.is_over.ensures.link c.in_ok-act.ensures.sends)
+    ok_as c.goes_on.result (comes_after c.args.self.now c.act.new.self (runs_on c.args.self.now c.is_over.new.self c.act.new.self c.is_over.ensures.run c.act.ensures.run) (c.act.ensures.log ∙ c.is_over.ensures.log) c.goes_on.new.self.crew
+    (g.L.Link.story c.args.self.now.link) (g.L.Link.story c.act.new.self.link) (g.L.Link.story c.goes_on.new.self.link) (rw (← c.is_over.ensures.link) c.act.ensures.grows) c.goes_on.ensures.grows
+    (subst (λ l. Growing AllNothing (g.L.Link.story l) (g.L.Link.story c.act.new.self.link)) c.is_over.ensures.link c.in_ok-act.ensures.nothing)
     (λ old e. (c.in_ok-act.ensures.still old (rw c.is_over.ensures.link e)).0 ∙ c.is_over.ensures.crew)) c.goes_on.ensures.came

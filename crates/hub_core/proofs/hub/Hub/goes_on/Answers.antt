@@ -5,7 +5,7 @@ use Rattle.hub_core.specs.Pumps.{AddsSo}
 use Rattle.hub_core.proofs.Endings.{closes_ok}
 use Rattle.line_model.specs.LinkStory.{newest_time}
 use Rattle.line_model.specs.Record.{entries}
-use Rattle.tunnel_link.specs.Adds.{Growing}
+use Rattle.tunnel_link.specs.Adds.{AllNothing, Growing}
 use Rattle.tunnel_link.specs.Rights.{WhereTold}
 use Rattle.hub_core.specs.Leaving.{ClosesOn}
 use Rattle.hub_core.proofs.Leaving.{closes_begun}
@@ -14,7 +14,7 @@ use Rattle.hub_core.specs.Polls.{SendsOnly, Polls}
 use Rattle.hub_core.proofs.Polls.{closes_once, closes_unpolled, none_sent, ok_as}
 use Rattle.std.proofs.Common.{◌∙◌}
 use Rattle.hub_core.specs.Came.{Comes}
-use Rattle.hub_core.proofs.Came.{none_comes}
+use Rattle.hub_core.proofs.Came.{comes_after, none_comes, none_added}
 use Rattle.hub_core.proofs.hub.Hub.goes_on.Goals as goal
 
 pub returns-then-asks-clause-closes : goal.returns-then-asks-clause-closes
@@ -49,10 +49,11 @@ returns-else-asks-clause-polls g c =
 
 pub returns-then-asks-clause-came : goal.returns-then-asks-clause-came
 returns-then-asks-clause-came g c =
-    ok_as c.leave.result (λ h. none_comes (g.L.Link.story c.args.self.now.link) (g.L.Link.story c.leave.new.self.link) c.args.self.now.crew c.leave.new.self.crew
-    (subst (λ l. Growing SendsOnly (g.L.Link.story l) (g.L.Link.story c.leave.new.self.link)) c.closing.ensures.link h) (c.leave.ensures.crew ∙ c.closing.ensures.crew)) c.leave.ensures.sends
+    ok_as c.leave.result (λ h. none_comes c.args.self.now.jobs c.args.self.now.log (g.L.Link.story c.args.self.now.link) (g.L.Link.story c.leave.new.self.link) c.args.self.now.crew c.leave.new.self.crew
+    (subst (λ l. Growing AllNothing (g.L.Link.story l) (g.L.Link.story c.leave.new.self.link)) c.closing.ensures.link h) (c.leave.ensures.crew ∙ c.closing.ensures.crew)) c.leave.ensures.nothing
 
 pub returns-else-asks-clause-came : goal.returns-else-asks-clause-came
 returns-else-asks-clause-came g c =
-    ok_as c.listen.result (λ h. subst (λ w. Comes w c.listen.new.self.crew (g.L.Link.story c.args.self.now.link) (g.L.Link.story c.listen.new.self.link)) c.closing.ensures.crew
-    (subst (λ l. Comes c.closing.new.self.crew c.listen.new.self.crew (g.L.Link.story l) (g.L.Link.story c.listen.new.self.link)) c.closing.ensures.link h)) c.listen.ensures.came
+    ok_as c.listen.result (λ h. comes_after c.args.self.now c.closing.new.self c.closing.ensures.run c.closing.ensures.log c.listen.new.self.crew (g.L.Link.story c.args.self.now.link) (g.L.Link.story c.args.self.now.link) (g.L.Link.story c.listen.new.self.link)
+    (stays (g.L.Link.story c.args.self.now.link) (g.L.Link.story c.args.self.now.link) refl).on (rw (← c.closing.ensures.link) c.listen.ensures.grows) (none_added (g.L.Link.story c.args.self.now.link) (g.L.Link.story c.args.self.now.link) refl) (λ old e. c.closing.ensures.crew)
+    (subst (λ l. Comes c.closing.new.self.jobs c.closing.new.self.log c.closing.new.self.crew c.listen.new.self.crew (g.L.Link.story l) (g.L.Link.story c.listen.new.self.link)) c.closing.ensures.link h)) c.listen.ensures.came

@@ -10,7 +10,8 @@ use Rattle.hub_core.specs.Closes.{Resumes, AsksNow, HasDone}
 use Rattle.hub_core.specs.Hears.{HearsSo}
 use Rattle.hub_core.specs.Pumps.{AddsSo}
 use Rattle.hub_core.proofs.Endings.{some_begun, asked_resumes, unasked_resumes, unasked_over, asked_did, goes_by}
-use Rattle.tunnel_link.specs.Adds.{Growing}
+use Rattle.tunnel_link.specs.Adds.{AllNothing, Growing}
+use Rattle.hub_core.proofs.Came.{leaves_nothing}
 use Rattle.hub_core.specs.Leaving.{ClosesOn}
 use Rattle.hub_core.proofs.Leaving.{leave_closes}
 use Rattle.hub_core.specs.Polls.{SendsOnly}
@@ -78,3 +79,10 @@ returns-then-not-asked-clause-sends g c = rw (← c.self.view_is) (leaves_send _
 pub returns-clause-sends : goal.returns-clause-sends
 returns-clause-sends g c =
     rw (← c.self.view_is) (subst (λ l. Growing SendsOnly (g.L.Link.story c.self.inside.tunnel.link) (g.L.Link.story l)) (sym c.is_over-is_over.ensures.link) (leaves_send _ _ c.in_ok-asked.asked c.in_ok-asked.ensures.adds))
+
+pub returns-then-not-asked-clause-nothing : goal.returns-then-not-asked-clause-nothing
+returns-then-not-asked-clause-nothing g c = rw (← c.self.view_is) (leaves_nothing _ _ c.in_ok-asked.asked c.in_ok-asked.ensures.adds)
+
+pub returns-clause-nothing : goal.returns-clause-nothing
+returns-clause-nothing g c =
+    rw (← c.self.view_is) (subst (λ l. Growing AllNothing (g.L.Link.story c.self.inside.tunnel.link) (g.L.Link.story l)) (sym c.is_over-is_over.ensures.link) (leaves_nothing _ _ c.in_ok-asked.asked c.in_ok-asked.ensures.adds))

@@ -33,5 +33,5 @@ returns-clause-polls g c =
 
 pub returns-clause-came : goal.returns-clause-came
 returns-clause-came g c =
-    subst (λ l. Comes c.args.self.now.crew c.is_over-is_over.new.self.crew (g.L.Link.story c.args.self.now.link) (g.L.Link.story l)) (sym c.is_over-is_over.ensures.link)
-    (subst (λ w. Comes c.args.self.now.crew w (g.L.Link.story c.args.self.now.link) (g.L.Link.story c.poll.new.self.link)) (sym c.is_over-is_over.ensures.crew) c.in_ok-polled.ensures.came)
+    subst (λ l. Comes c.args.self.now.jobs c.args.self.now.log c.args.self.now.crew c.is_over-is_over.new.self.crew (g.L.Link.story c.args.self.now.link) (g.L.Link.story l)) (sym c.is_over-is_over.ensures.link)
+    (subst (λ w. Comes c.args.self.now.jobs c.args.self.now.log c.args.self.now.crew w (g.L.Link.story c.args.self.now.link) (g.L.Link.story c.poll.new.self.link)) (sym c.is_over-is_over.ensures.crew) c.in_ok-polled.ensures.came)

@@ -61,4 +61,6 @@ returns-in-None-clause-polls g c =
     c.wait_ms-longest_ms.result c.wait_ms-longest_ms.ensures.rightly (c.in_ok-came.ensures.lasts (subst (λ v. HasActed v.known (g.L.Link.story v.link)) (sym c.self.view_is) c.requires.acted)))
 
 pub returns-in-None-clause-came : goal.returns-in-None-clause-came
-returns-in-None-clause-came g c = rw (← c.self.view_is) (polls_come _ _ c.in_ok-came.came _ _ c.in_ok-came.ensures.adds c.take_in-polled.ensures.came)
+returns-in-None-clause-came g c =
+    let none : c.self.inside.tunnel.known.fault ≡ None = none_inside _ _ c.self.view_is c.requires.stands in
+    rw (← c.self.view_is) (polls_come _ _ _ c.self.inside.work c.take_in-polled.new.work _ _ none c.self.invariant c.moments_go_on.ensures.aside c.in_ok-came.came c.now-now-2.result c.in_ok-came.ensures.adds c.take_in-polled.ensures.came)

@@ -7,7 +7,7 @@ use Rattle.tunnel_link.specs.Alone.{EndsNone}
 use Rattle.tunnel_link.proofs.Alone.{both_each}
 use Rattle.hub_core.proofs.Leaving.{ends_none_of}
 use Rattle.hub_core.proofs.Polls.{pumps_once, sends_two, runs_on}
-use Rattle.hub_core.proofs.Came.{comes_after}
+use Rattle.hub_core.proofs.Came.{comes_after, nothing_both}
 use Rattle.hub_core.proofs.hub.Hub.pump.Goals as goal
 
 pub returns-in_err-sought-clause-grows : goal.returns-in_err-sought-clause-grows
@@ -49,6 +49,7 @@ returns-clause-polls g c =
 
 pub returns-clause-came : goal.returns-clause-came
 returns-clause-came g c =
-    comes_after (g.L.Link.story c.args.self.now.link) (g.L.Link.story c.seek.new.self.link) (g.L.Link.story c.poll.new.self.link) c.args.self.now.crew c.seek.new.self.crew c.poll.new.self.crew
-    (goes_again _ _ _ c.act.ensures.grows c.seek.ensures.grows) c.poll.ensures.grows (sends_two _ (g.L.Link.story c.act.new.self.link) _ c.act.ensures.grows c.seek.ensures.grows c.in_ok-acted.ensures.sends c.in_ok-sought.ensures.sends)
+    comes_after c.args.self.now c.seek.new.self (runs_on c.args.self.now c.act.new.self c.seek.new.self c.act.ensures.run c.seek.ensures.run) (c.seek.ensures.log ∙ c.act.ensures.log) c.poll.new.self.crew
+    (g.L.Link.story c.args.self.now.link) (g.L.Link.story c.seek.new.self.link) (g.L.Link.story c.poll.new.self.link) (goes_again _ _ _ c.act.ensures.grows c.seek.ensures.grows) c.poll.ensures.grows
+    (nothing_both _ (g.L.Link.story c.act.new.self.link) _ c.act.ensures.grows c.seek.ensures.grows c.in_ok-acted.ensures.nothing c.in_ok-sought.ensures.nothing)
     (λ old e. c.seek.ensures.crew ∙ (c.in_ok-acted.ensures.still old e).0) c.in_ok-polled.ensures.came

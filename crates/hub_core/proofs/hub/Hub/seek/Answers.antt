@@ -8,6 +8,7 @@ use Rattle.hub_core.proofs.Prompting.{prompts_told}
 use Rattle.hub_core.proofs.Hears.{seeks_heard}
 use Rattle.hub_core.proofs.Pumping.{seeks_answer, seeks_none}
 use Rattle.hub_core.proofs.Polls.{seeks_send, seeks_acted, none_sent}
+use Rattle.hub_core.proofs.Came.{seeks_nothing, none_added}
 use Rattle.tunnel_link.specs.Adds.{HasActed}
 use Rattle.hub_core.proofs.hub.Hub.seek.Goals as goal
 
@@ -41,3 +42,9 @@ returns-in-Some-clause-sends g c = rw (← c.self.view_is) (none_sent _ _ refl)
 pub returns-in-None-clause-acted : goal.returns-in-None-clause-acted
 returns-in-None-clause-acted g c =
     seeks_acted c.self.inside.tunnel.known c.seek-sought.new.self.known (g.L.Link.story c.self.inside.tunnel.link) (g.L.Link.story c.seek-sought.new.self.link) c.seek-sought.result c.seek-sought.ensures.ready (subst (λ v. HasActed v.known (g.L.Link.story v.link)) (sym c.self.view_is) c.requires.acted)
+
+pub returns-in-None-clause-nothing : goal.returns-in-None-clause-nothing
+returns-in-None-clause-nothing g c = rw (← c.self.view_is) (seeks_nothing _ _ c.seek-sought.result c.seek-sought.ensures.adds)
+
+pub returns-in-Some-clause-nothing : goal.returns-in-Some-clause-nothing
+returns-in-Some-clause-nothing g c = rw (← c.self.view_is) (none_added _ _ refl)

@@ -1,12 +1,10 @@
-use Rattle.std.proofs.Common.{sym, subst, inl, inr}
+use Rattle.std.proofs.Common.{refl, sym, subst, inl, inr}
 use Rattle.tunnel_link.specs.declared.came.Loss.{Loss}
 use Rattle.hub_core.specs.Taking.{LosesIn}
 use Rattle.hub_core.proofs.Keeps.{of_books}
 use Rattle.hub_core.proofs.Losing.{loss_follows}
 use Rattle.hub_core.proofs.Quiet.{asides_fit}
-use Rattle.hub_work.specs.Came.{RisesBy}
-use Rattle.hub_work.proofs.Came.{stays_by}
-use Rattle.hub_core.specs.Came.{losses_in}
+use Rattle.hub_core.specs.Came.{CountsLoss}
 use Rattle.hub_core.proofs.hub.taking.give_up.Goals as goal
 
 pub returns-in-Stays-clause-fits : goal.returns-in-Stays-clause-fits
@@ -22,10 +20,10 @@ returns-in-Ended-clause-fits c =
     ]
 
 pub returns-in-Stays-clause-came : goal.returns-in-Stays-clause-came
-returns-in-Stays-clause-came c = stays_by c.args.work.now.crew (losses_in c.args.loss)
+returns-in-Stays-clause-came c = subst (λ (x : Loss). CountsLoss x c.args.now c.args.work.now c.args.work.now.crew) (sym c.in-Stays.is) refl
 
 pub returns-in-Ended-clause-came : goal.returns-in-Ended-clause-came
 returns-in-Ended-clause-came c = elim c.in-Ended.is [
-  | inl ended ↦ subst (λ (x : Loss). RisesBy (losses_in x) c.args.work.now.crew c.lost.new.self.crew) (sym ended) c.lost.ensures.came
-  | inr told ↦ subst (λ (x : Loss). RisesBy (losses_in x) c.args.work.now.crew c.lost.new.self.crew) (sym told) c.lost.ensures.came
+  | inl ended ↦ subst (λ (x : Loss). CountsLoss x c.args.now c.args.work.now c.lost.new.self.crew) (sym ended) (c.lost.ensures.came, c.lost.ensures.counts)
+  | inr told ↦ subst (λ (x : Loss). CountsLoss x c.args.now c.args.work.now c.lost.new.self.crew) (sym told) (c.lost.ensures.came, c.lost.ensures.counts)
 ]

@@ -2,8 +2,6 @@ use Rattle.std.proofs.Common.{Bool, Option, subst}
 use Rattle.hub_work.specs.declared.closing.Closing.{Closing}
 use Rattle.hub_core.specs.Closes.{ClosesBy}
 use Rattle.hub_core.proofs.Losing.{taken_follows}
-use Rattle.hub_work.proofs.Came.{by_both}
-use Rattle.hub_core.specs.Came.{frames_in, losses_in}
 use Rattle.hub_core.proofs.hub.taking.take_in.Goals as goal
 
 pub returns-clause-fits : goal.returns-clause-fits
@@ -16,5 +14,4 @@ returns-clause-closes c =
     (subst (λ (o : Option Closing). ClosesBy c.is_got.result c.args.came.now.loss c.args.now o c.lose.new.work.closing) c.deliver-heard.ensures.closing c.lose.ensures.closes)
 
 pub returns-clause-came : goal.returns-clause-came
-returns-clause-came c =
-    by_both (frames_in c.args.came.now.what) (losses_in c.args.came.now.loss) c.args.work.now.crew c.deliver-heard.new.work.crew c.lose.new.work.crew c.deliver-heard.ensures.came c.lose.ensures.came
+returns-clause-came c = record { told = c.deliver-heard.new.work; same = c.deliver-heard.ensures.books; taken = c.deliver-heard.ensures.came; lost = c.lose.ensures.came }

@@ -22,6 +22,11 @@ returns-clause-told g c = λ fine.
     let log_is : reverse c.close-link.result.log ≡ c.args.self.hub.log = ap reverse c.close-link.ensures.log ∙ reverse-reverse c.args.self.hub.log in
     subst (λ l. TurnUnfinished c.args.self.hub.turns l → ⊥) (sym log_is) (c.requires.done (c.told_fault.ensures.none fine)).telegrams
 
+pub returns-clause-closed : goal.returns-clause-closed
+returns-clause-closed g c = λ fine.
+    let log_is : reverse c.close-link.result.log ≡ c.args.self.hub.log = ap reverse c.close-link.ensures.log ∙ reverse-reverse c.args.self.hub.log in
+    rw (log_is, c.close-link.ensures.link) (c.requires.closed (c.told_fault.ensures.none fine))
+
 pub returns-clause-caused : goal.returns-clause-caused
 returns-clause-caused g c = λ before was.
     told_caused c.close-link.result.fault c.told_fault.result before _ c.told_fault.ensures.fault (rw (c.close-link.ensures.fault, c.close-link.ensures.link) was)

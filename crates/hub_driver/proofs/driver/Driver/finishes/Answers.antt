@@ -1,6 +1,9 @@
-use Rattle.std.proofs.Common.{ap}
+use Rattle.std.proofs.Common.{ap, subst}
+use Rattle.hub_work.specs.declared.answers.Finished.{Finished}
+use Rattle.hub_core.specs.Closes.{EndsAs}
 use Rattle.hub_core.specs.Hears.{heard_at_end}
 use Rattle.hub_driver.proofs.Causes.{call_caused}
+use Rattle.hub_driver.proofs.Closed.{over_closed}
 use Rattle.hub_driver.proofs.Hearing.{hears_none, hears_one}
 use Rattle.hub_driver.proofs.Telling.{stays_done}
 use Rattle.hub_driver.proofs.Leaving.{closes_step, how_far_step}
@@ -67,3 +70,8 @@ returns-in-Going-clause-far g c = how_far_step c.args.self.now.hub c.finish.new.
 
 pub returns-in-Over-clause-far : goal.returns-in-Over-clause-far
 returns-in-Over-clause-far g c = how_far_step c.args.self.now.hub c.finish.new.self (g.L.Link.story c.args.self.now.hub.link) (g.L.Link.story c.finish.new.self.link) c.finish.ensures.grows c.finish.ensures.rightly c.finish.ensures.log c.requires.closes c.requires.far c.in_ok-indication.ensures.closes
+
+pub returns-in-Over-clause-closed : goal.returns-in-Over-clause-closed
+returns-in-Over-clause-closed g c = λ over. over_closed c.finish.new.self (g.L.Link.story c.finish.new.self.link)
+    (how_far_step c.args.self.now.hub c.finish.new.self (g.L.Link.story c.args.self.now.hub.link) (g.L.Link.story c.finish.new.self.link) c.finish.ensures.grows c.finish.ensures.rightly c.finish.ensures.log c.requires.closes c.requires.far c.in_ok-indication.ensures.closes)
+    (subst (λ (done : Finished). EndsAs done c.finish.new.self.closing (g.L.Link.story c.finish.new.self.link)) c.in-Over.is c.in_ok-indication.ensures.ends)

@@ -3,7 +3,8 @@ use Rattle.download_core.specs.Attempt.{DownloaderState}
 use Rattle.download_core.specs.Calls.{taken}
 use Rattle.hub_work.proofs.Heard.{heard_by_worker, heard_by_none}
 use Rattle.hub_work.proofs.Moments.{changed_books}
-use Rattle.hub_work.proofs.Came.{at_by, stays_by}
+use Rattle.hub_work.specs.CameFor.{ForNobody}
+use Rattle.hub_work.proofs.CameFor.{for_holder, not_of_none}
 use Rattle.hub_work.proofs.work.Work.heard.Goals as goal
 
 pub returns-in-Some-at-clause-books : goal.returns-in-Some-at-clause-books
@@ -18,7 +19,10 @@ pub returns-in_default-clause-follows : goal.returns-in_default-clause-follows
 returns-in_default-clause-follows c = heard_by_none c.of_a_downloader.ensures c.args.self.now c.args.frame.now c.args.frame.now.tpdu c.args.now refl (c.of_device.ensures.none c.in_default.is)
 
 pub returns-in-Some-at-clause-came : goal.returns-in-Some-at-clause-came
-returns-in-Some-at-clause-came c = at_by _ _ _ c.came_at.ensures.came
+returns-in-Some-at-clause-came c = for_holder _ _ _ c.in-Some.place c.in-Some-at.held c.in-Some-at.ensures c.in-Some.ensures.found c.came_at.ensures.came
 
 pub returns-in_default-clause-came : goal.returns-in_default-clause-came
-returns-in_default-clause-came c = stays_by c.args.self.now.crew 1
+returns-in_default-clause-came c = ForNobody (c.of_device.ensures.none c.in_default.is) refl
+
+pub returns-in_default-at-clause-came : goal.returns-in_default-at-clause-came
+returns-in_default-at-clause-came c = absurd (not_of_none _ _ c.in_default-at.ensures c.in-Some.ensures.found)

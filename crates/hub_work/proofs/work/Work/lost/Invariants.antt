@@ -4,7 +4,7 @@ use Rattle.hub_work.specs.Crew.{holdings}
 use Rattle.hub_work.specs.Downloaders.{states}
 use Rattle.hub_work.specs.Telegrams.{after_loss}
 use Rattle.hub_work.specs.Works.{SameBooks}
-use Rattle.hub_work.proofs.Came.{RisesSoFar}
+use Rattle.hub_work.proofs.CameFor.{LeavesOthers, RisenSoFar}
 use Rattle.hub_work.proofs.Lost.{LostSoFar}
 use Rattle.hub_work.proofs.work.Work.lost.Given as goal
 
@@ -14,6 +14,7 @@ invariant-loop-place l = record {
   held : holdings l.self.crew ≡ holdings l.fn.self.crew;
   sender : l.self.sender ≡ Nobody;
   telegrams : l.self.telegrams ≡ record l.fn.self.telegrams { stage = after_loss l.fn.self.telegrams.stage };
-  came : RisesSoFar l.place l.fn.self.crew l.self.crew;
+  others : LeavesOthers l.place l.fn.self l.self;
+  came : RisenSoFar l.place l.now l.fn.self l.self;
   so_far : LostSoFar (holdings l.fn.self.crew) l.place (states l.fn.self.downloaders) (states l.self.downloaders);
 }

@@ -2,7 +2,7 @@ use Rattle.std.proofs.Common.{[], refl, sym, subst}
 use Rattle.knx_model.specs.ScriptText as text
 use Rattle.bus_sim.specs.declared.clients.Clients.TheVariants.{One}
 use Rattle.bus_sim.specs.Held.{IsLoaded}
-use Rattle.bus_sim.proofs.bus.begun_empty.Goals as goal
+use Rattle.bus_sim.proofs.driving.begun_empty.Goals as goal
 
 pub begin-requires : goal.begin-requires
 unfolding text.strangers

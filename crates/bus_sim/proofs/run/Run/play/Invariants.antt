@@ -1,6 +1,6 @@
 use Rattle.std.proofs.Common.{◌≤◌, ◌-◌, ◌^◌, length}
 use Rattle.bus_sim.proofs.Playing.{PlaysUntil}
-use Rattle.bus_sim.proofs.run.Run.go_on_for.Given as goal
+use Rattle.bus_sim.proofs.run.Run.play.Given as goal
 
 abbrev pub invariant-loop-letter : goal.invariant-loop-letter
 invariant-loop-letter g l = record {
@@ -9,4 +9,4 @@ invariant-loop-letter g l = record {
 }
 
 abbrev pub decreases-loop-letter : goal.decreases-loop-letter
-decreases-loop-letter g l = 2 ^ 62 - length l.self.events
+decreases-loop-letter g l = 2 ^ 63 - length l.self.events

@@ -1,0 +1,72 @@
+//! The closing.
+
+ghost use Rattle.std.specs.Prelude.{◌≡◌, ℕ, true, List, IfErr, IfOk, OnOk};
+ghost use Rattle.hub_core.specs.Seen.{SameRun};
+ghost use Rattle.hub_driver.specs.Closed.{HasClosed};
+ghost use Rattle.hub_driver.specs.Drives.{AllDone, CausedSince, HasEndedSo};
+ghost use Rattle.hub_driver.specs.Heard.{HeardAll};
+ghost use Rattle.hub_driver.specs.Leaving.{ClosesSo, GoesThrough, KnowsHowFar, LeavesOver};
+ghost use Rattle.hub_work.specs.Books.{AreJobsOf};
+ghost use Rattle.line_model.specs.LinkStory.{record_in};
+ghost use Rattle.line_model.specs.Log.{Job};
+ghost use Rattle.tunnel_link.specs.Goes.{GoesOn};
+ghost use Rattle.tunnel_link.specs.Rights.{WhereTold};
+
+use super::Driver;
+use hub_core::{Finished, HubFault};
+use line_model::Link;
+use std::sync::Wait;
+
+impl<L: Link> Driver<L> {
+    /// The closing.
+    pub(super) fn closes<R: Wait>(&mut self, rt: &R) -> Result<(), HubFault>
+        requires done { AllDone self.old.hub }
+        requires through { GoesThrough self.old.hub (L.story self.old.hub.link) }
+        requires heard { HeardAll self.old.heard (record_in (L.story self.old.hub.link)) }
+        ensures grows { GoesOn (L.story self.old.hub.link) (L.story self.new.hub.link) }
+        ensures script { L.script self.new.hub.link ≡ L.script self.old.hub.link }
+        ensures caused { (before : ℕ) → CausedSince before self.old.hub.fault (L.faults self.old.hub.link) → CausedSince before self.new.hub.fault (L.faults self.new.hub.link) }
+        ensures leaves { (all : List Job) → AreJobsOf self.new.hub.devices all → LeavesOver all self.new.hub.turns (L.story self.new.hub.link) self.new.hub.log }
+        ensures run { SameRun self.old.hub self.new.hub }
+        ensures log { self.new.hub.log ≡ self.old.hub.log }
+        ensures done { OnOk result (AllDone self.new.hub) }
+        ensures closed { OnOk result (WhereTold (HasClosed self.new.hub.log) (L.story self.new.hub.link)) }
+        ensures heard { OnOk result (HeardAll self.new.heard (record_in (L.story self.new.hub.link))) }
+        ensures cause { IfErr result (HasEndedSo self.new.hub.fault) }
+    {
+        for _ in rt.forever() {
+            if self.finishes()? {
+                break;
+            }
+        }
+        Ok(())
+    }
+
+    /// One step of the closing. Tells whether it is over.
+    fn finishes(&mut self) -> Result<bool, HubFault>
+        requires done { AllDone self.old.hub }
+        requires closes { ClosesSo self.old.hub (L.story self.old.hub.link) }
+        requires far { KnowsHowFar self.old.hub (L.story self.old.hub.link) }
+        requires heard { HeardAll self.old.heard (record_in (L.story self.old.hub.link)) }
+        ensures grows { GoesOn (L.story self.old.hub.link) (L.story self.new.hub.link) }
+        ensures script { L.script self.new.hub.link ≡ L.script self.old.hub.link }
+        ensures caused { (before : ℕ) → CausedSince before self.old.hub.fault (L.faults self.old.hub.link) → CausedSince before self.new.hub.fault (L.faults self.new.hub.link) }
+        ensures closes { ClosesSo self.new.hub (L.story self.new.hub.link) }
+        ensures far { OnOk result (KnowsHowFar self.new.hub (L.story self.new.hub.link)) }
+        ensures run { SameRun self.old.hub self.new.hub }
+        ensures log { self.new.hub.log ≡ self.old.hub.log }
+        ensures done { OnOk result (AllDone self.new.hub) }
+        ensures closed { IfOk result (λ over. over ≡ true → WhereTold (HasClosed self.new.hub.log) (L.story self.new.hub.link)) }
+        ensures heard { OnOk result (HeardAll self.new.heard (record_in (L.story self.new.hub.link))) }
+        ensures cause { IfErr result (HasEndedSo self.new.hub.fault) }
+    {
+        match self.hub.finish()? {
+            Finished::Heard(indication) => {
+                self.hears(indication)?;
+                Ok(false)
+            }
+            Finished::Going => Ok(false),
+            Finished::Over => Ok(true),
+        }
+    }
+}
