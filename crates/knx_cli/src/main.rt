@@ -7,8 +7,6 @@ mod dial;
 mod disk;
 mod ended;
 mod link;
-#[cfg(test)]
-mod meet;
 mod output;
 mod port;
 mod socket;
