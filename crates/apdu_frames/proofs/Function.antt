@@ -1,11 +1,11 @@
 -- The grammar as a function is the grammar as a relation.
-use Rattle.std.proofs.Common.{◌≡◌, ◌≢◌, ℕ, List, [], ◌∷◌, length, refl, ap, sym, ◌∙◌, Option, Some, None, Bool, true, false, IsTrue, ◌==◌, if◌then◌else◌, ◌&&◌, nat_le, arith}
+use Rattle.std.proofs.Common.{◌≡◌, ◌≢◌, ℕ, List, [], ◌∷◌, length, refl, ap, sym, Option, Some, None, Bool, true, false, IsTrue, ◌==◌, if◌then◌else◌, ◌&&◌, nat_le, arith}
 use Rattle.std.proofs.lemmas.Grind.{common_steps}
 use Rattle.knx_model.specs.declared.frames.value.Value.{Value}
 use Rattle.knx_model.specs.declared.frames.tpdu.Apdu.{Apdu}
 use Rattle.knx_model.specs.declared.frames.tpdu.Apdu.TheVariants.{GroupRead, GroupResponse, GroupWrite, AddressWrite, AddressRead, AddressResponse, MemoryRead, MemoryResponse, MemoryWrite, DescriptorRead, DescriptorResponse, PropertyRead, PropertyResponse, PropertyWrite}
 use Rattle.knx_model.specs.declared.frames.tpdu.Tpdu.{Tpdu}
-use Rattle.knx_model.specs.declared.frames.tpdu.Tpdu.TheVariants.{Unnumbered, Numbered, Connect, Disconnect, Ack, Nak}
+use Rattle.knx_model.specs.declared.frames.tpdu.Tpdu.TheVariants.{Unnumbered}
 use Rattle.knx_model.specs.declared.frames.tpdu.TpduRefused.{TpduRefused}
 use Rattle.knx_model.specs.Apdu.{IsLeastBroken, Reads, ReadsApdu, ReadsControl, ReadsData, IsWord, IsValue, service, low, Written, IsInRange, IsApduInRange, most_memory_octets, most_property_octets}
 use Rattle.std.specs.Prelude.{IfOk, IfErr, Result, Ok, Err}
@@ -127,14 +127,6 @@ none_of : (found : Option Tpdu) → ((frame : Tpdu) → found ≢ Some frame) �
 none_of None never = refl
 none_of (Some frame) never = absurd (never frame refl)
 
-other_none : (frame : Tpdu) → ((apdu : Apdu) → frame ≢ Unnumbered apdu) → unnumbered (Some frame) ≡ None
-other_none (Unnumbered apdu) other = absurd (other apdu refl)
-other_none (Numbered number apdu) other = refl
-other_none Connect other = refl
-other_none Disconnect other = refl
-other_none (Ack number) other = refl
-other_none (Nak number) other = refl
-
 written_again : (frame : Tpdu) → IsInRange frame → Reads (Written frame) frame
 written_again frame range = grind (arith, common_steps)
 
@@ -168,16 +160,6 @@ tpdu_in_none octets never = none_of (tpdu_in octets) (λ frame e. never frame (t
 pub service_of_read : (octets : List ℕ) (apdu : Apdu) → Reads octets (Unnumbered apdu) → service_in octets ≡ Some apdu
 unfolding service_in
 service_of_read octets apdu p = ap unnumbered (tpdu_in_from octets (Unnumbered apdu) p)
-
--- another frame asks for no service
-pub service_of_other : (octets : List ℕ) (frame : Tpdu) → Reads octets frame → ((apdu : Apdu) → frame ≢ Unnumbered apdu) → service_in octets ≡ None
-unfolding service_in
-service_of_other octets frame p other = ap unnumbered (tpdu_in_from octets frame p) ∙ other_none frame other
-
--- octets that are no frame ask for no service
-pub service_of_none : (octets : List ℕ) → ((frame : Tpdu) → ¬ Reads octets frame) → service_in octets ≡ None
-unfolding service_in
-service_of_none octets never = ap unnumbered (tpdu_in_none octets never)
 
 -- a service that is written is read again
 pub service_again : (apdu : Apdu) → IsApduInRange apdu → service_in (apdu_octets apdu) ≡ Some apdu

@@ -5,9 +5,10 @@ ghost use Rattle.std.specs.Prelude.{◌≡◌, IfSome};
 ghost use Rattle.knx_model.specs.Apdu.{IsApduInRange};
 ghost use Rattle.knx_model.specs.ApduReading.{service_in, apdu_octets};
 ghost use Rattle.knx_model.specs.Connection.{IsApdu};
+ghost use Rattle.knx_model.specs.DeviceFrames.{IsServiceInRange, group_service};
 
 use crate::tpdu::{decode, encode};
-use knx_model::{Apdu, ApduOctets, Tpdu};
+use knx_model::{Apdu, ApduOctets, GroupService, Tpdu};
 
 /// The service that the octets ask for; None where they are no service, or one with a number.
 #[tactic(auto, unfolding(knx_model::specs::ApduReading::service_in))]
@@ -17,6 +18,19 @@ pub fn service_in(octets: &[u8]) -> Option<Apdu>
 {
     match decode(octets) {
         Ok(Tpdu::Unnumbered(apdu)) => Some(apdu),
+        _ => None,
+    }
+}
+
+/// The group service that the octets are; None where they are another service or none.
+pub fn group_service_in(octets: &[u8]) -> Option<GroupService>
+    ensures value { result ≡ group_service (service_in octets.now) }
+    ensures range { IfSome result IsServiceInRange }
+{
+    match service_in(octets)? {
+        Apdu::GroupRead => Some(GroupService::Read),
+        Apdu::GroupWrite(value) => Some(GroupService::Write(value)),
+        Apdu::GroupResponse(value) => Some(GroupService::Response(value)),
         _ => None,
     }
 }

@@ -1,4 +1,5 @@
 pub mod Kept
+pub mod New
 pub mod Modes
 pub mod Numbered
 pub mod Begins

@@ -1,16 +1,9 @@
 -- A list in which something stands twice.
-use Rattle.std.proofs.Common.{◌≡◌, ℕ, ◌+◌, ◌<◌, Bool, true, false, not, cond, ◌||◌, List, [], ◌∷◌, ◌++◌, length, get_or, take, drop, map, refl, ap, sym, ◌∙◌, arith}
+use Rattle.std.proofs.Common.{◌≡◌, ℕ, ◌+◌, ◌<◌, Bool, true, false, cond, ◌||◌, List, [], ◌∷◌, ◌++◌, length, get_or, take, drop, map, refl, ap, sym, ◌∙◌, arith}
 use Rattle.std.specs.List.{list_any}
 use Rattle.std.proofs.lemmas.List.{map_more, take-append-drop, map-append}
 use Rattle.std.proofs.lemmas.List.Folds.{list_any-append}
 use Rattle.catalogue.specs.Shapes.{repeats}
-
-flipped : (a b r x : Bool) → ((a || b) || (r || x)) ≡ ((a || r) || (b || x))
-flipped true b r x = refl
-flipped false true true x = refl
-flipped false true false x = refl
-flipped false false true x = refl
-flipped false false false x = refl
 
 -- one more at the end repeats where it equals one before
 pub repeats-push : {X : Type 0} (eq : X → X → Bool) (flips : (x y : X) → eq x y ≡ eq y x) (xs : List X) (y : X) → repeats eq (xs ++ y ∷ []) ≡ (repeats eq xs || list_any (eq y) xs)
@@ -48,11 +41,3 @@ added_or true false c d e f = cc
 added_or false true c d e f = cc
 added_or false false true false e f = cc
 added_or false false false true e f = cc
-
-pub not_true : (b : Bool) → not b ≡ true → b ≡ false
-not_true true h = sym h
-not_true false h = refl
-
-pub not_false : (b : Bool) → not b ≡ false → b ≡ true
-not_false true h = refl
-not_false false h = sym h

@@ -93,9 +93,11 @@ pub fn encode(frame: &Ldata) -> Datagram
     octets_of(frame)
 }
 
-fn octets_of(frame: &Ldata) -> Datagram
-    requires { IsInRange frame.now }
-    ensures { result ≡ Written frame.now }
+/// The octets of a frame as a gateway writes them, whatever it was given to send.
+pub fn octets_of(frame: &Ldata) -> Datagram
+    ensures value { result ≡ Written frame.now }
+    ensures least { 1 ≤ length result }
+    ensures most { length result ≤ 290 }
 {
     let mut out = Datagram::from_slice(&[
         code::octet_of(frame.code),
@@ -105,7 +107,7 @@ fn octets_of(frame: &Ldata) -> Datagram
     ]);
     out.extend(&frame.source.to_be_bytes());
     out.extend(&frame.destination.to_be_bytes());
-    out.extend(&[(frame.tpdu.len() - 1) as u8]);
+    out.extend(&[frame.tpdu.len().saturating_sub(1) as u8]);
     out.extend(frame.tpdu.as_slice());
     out
 }

@@ -1,5 +1,6 @@
 -- What is sent where no frame waits.
-use Rattle.std.proofs.Common.{ℕ, ◌≡◌, ◌↔◌, Bool, true, false, List, [], ◌∷◌, length, Option, Some, None, refl, sym, ap, subst, arith, if◌then◌else◌}
+use Rattle.std.proofs.Common.{ℕ, ◌≡◌, ◌↔◌, Bool, true, false, List, [], length, Option, Some, None, refl, sym, ap, subst, if◌then◌else◌}
+use Rattle.std.proofs.lemmas.List.{nil_from_length}
 use Rattle.knx_model.specs.declared.address.IndAddr.{IndAddr}
 use Rattle.knx_model.specs.declared.connection.DeviceExpired.{DeviceExpired}
 use Rattle.knx_model.specs.declared.connection.DeviceExpired.TheVariants as expired
@@ -76,9 +77,5 @@ end_is_closed Closed h = refl
 end_is_closed (Idle s) h = cc
 end_is_closed (Answering s a) h = cc
 
-none_left : {X : Type 0} (xs : List X) → length xs ≡ 0 → xs ≡ []
-none_left [] h = refl
-none_left (x ∷ xs) h = absurd (omega (arith, h))
-
 pub quiet_exactly : (d : DeviceState) → (partner_of d.connection ≡ None) × (length d.unsent ≡ 0) ↔ IsQuiet d
-quiet_exactly d = ((λ p. record { unconnected = end_is_closed d.connection p.0; nothing_unsent = none_left d.unsent p.1 }), (λ q. (ap partner_of q.unconnected, ap length q.nothing_unsent)))
+quiet_exactly d = ((λ p. record { unconnected = end_is_closed d.connection p.0; nothing_unsent = nil_from_length d.unsent p.1 }), (λ q. (ap partner_of q.unconnected, ap length q.nothing_unsent)))

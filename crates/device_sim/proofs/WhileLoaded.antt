@@ -26,9 +26,6 @@ loaded_is Error h = absurd (false≢true h)
 not_loading : (state : LoadState) → is_loaded state ≡ true → is_loading state ≡ false
 not_loading state h = ap is_loading (loaded_is state h)
 
-no_allocation : (p : Loadable) (n : ℕ) → is_loaded p.state ≡ true → allocates p n ≡ false
-no_allocation p n h = rw (not_loading p.state h) refl
-
 no_write : (p : Loadable) (at n : ℕ) → is_loaded p.state ≡ true → takes_write p at n ≡ false
 no_write p at n h = rw (not_loading p.state h) refl
 

@@ -4,5 +4,4 @@ pub mod Effects
 pub mod Indexed
 pub mod Sending
 pub mod States
-pub mod Telegrams
 pub mod Wear

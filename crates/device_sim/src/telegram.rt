@@ -2,19 +2,17 @@
 
 ghost use Rattle.std.specs.Prelude.{◌≡◌, ℕ, ◌∷◌, ◌++◌, [], true, Some, IfOk, IfSome};
 ghost use Rattle.knx_model.specs.Apdu.{IsValueInRange};
-ghost use Rattle.knx_model.specs.ApduReading.{service_in};
 ghost use Rattle.knx_model.specs.Acts.{is_written, answerer};
 ghost use Rattle.knx_model.specs.Device.{all_loaded, segments};
 ghost use Rattle.knx_model.specs.DeviceState.{value_of};
-ghost use Rattle.knx_model.specs.DeviceFrames.{Whole, group_service, takes, taken_group, telegram_acted, answered_by, response_octets};
+ghost use Rattle.knx_model.specs.DeviceFrames.{Whole, takes, taken_group, telegram_acted, answered_by, response_octets, IsServiceInRange};
 ghost use Rattle.device_tables.specs.Objects.{holds};
 ghost use Rattle.device_sim.specs.Brought.{brought_to};
-ghost use Rattle.device_sim.specs.Telegrams.{IsServiceInRange};
 
 use crate::brought::Brought;
 use crate::device::Device;
 use crate::sending::frame_to_group;
-use apdu_frames::{service_in, service_octets};
+use apdu_frames::{group_service_in, service_octets};
 use device_tables::{Acts, object_in_table};
 use knx_model::{
     Apdu, ApduOctets, GroupAddr, GroupService, Ldata, LoadableObject, NoMemory, Took, Value,
@@ -71,7 +69,7 @@ impl Device {
         if !self.runs() {
             return Ok(Brought::Nothing);
         }
-        let Some(service) = telegram_in(frame.tpdu.as_slice()) else {
+        let Some(service) = group_service_in(frame.tpdu.as_slice()) else {
             return Ok(Brought::Nothing);
         };
         self.told(alloc, frame, &service)
@@ -153,17 +151,4 @@ fn response_octets(value: Value) -> ApduOctets
     ensures { result ≡ response_octets value }
 {
     service_octets(Apdu::GroupResponse(value))
-}
-
-/// The group service that octets are; None where they are another service or none.
-fn telegram_in(tpdu: &[u8]) -> Option<GroupService>
-    ensures value { result ≡ group_service (service_in tpdu.now) }
-    ensures range { IfSome result IsServiceInRange }
-{
-    match service_in(tpdu)? {
-        Apdu::GroupRead => Some(GroupService::Read),
-        Apdu::GroupWrite(value) => Some(GroupService::Write(value)),
-        Apdu::GroupResponse(value) => Some(GroupService::Response(value)),
-        _ => None,
-    }
 }

@@ -10,7 +10,7 @@ use Rattle.std.proofs.lemmas.List.Elements.{Contains-get_or}
 use Rattle.std.proofs.lemmas.List.Folds.{list_any_at}
 use Rattle.std.proofs.lemmas.List.Kept.{AllPairs-from_increasing}
 use Rattle.std.proofs.lemmas.List.Sums.{position_or_len_is}
-use Rattle.std.proofs.lemmas.Option.{same_Some, slice_get-get_or, get_or_from_slice_get}
+use Rattle.std.proofs.lemmas.Option.{same_Some, slice_get-get_or, get_or_from_slice_get, slice_get_within}
 use Rattle.knx_model.specs.declared.config.Config.{Config}
 use Rattle.knx_model.specs.declared.config.Image.{Image}
 use Rattle.knx_model.specs.declared.config.LinkSpec.{LinkSpec}
@@ -19,7 +19,6 @@ use Rattle.knx_model.specs.declared.script.GroupService.{GroupService}
 use Rattle.knx_model.specs.declared.script.GroupService.TheVariants.{Read, Write, Response}
 use Rattle.knx_model.specs.Tables.{StandsFor, IsBefore, raw_of, at_place, two, pair, address_list, association_list, object_octets, object_list}
 use Rattle.knx_model.specs.Acts.{numbers, first_entries, addresses, in_pairs, first_pairs, pairs, in_specs, objects, is_pair_of, is_link_of, is_object_number, object_of_number, is_linked, is_linked_in, object_in_table, IsInRange, may_answer, lowest_answering, object_numbers}
-use Rattle.device_tables.proofs.Counting.{there}
 use Rattle.device_tables.proofs.ObjectTable.{is_number}
 use Rattle.device_tables.proofs.Pigeonhole.{at_most}
 
@@ -101,7 +100,7 @@ small_object links each l c = subst (λ (m : LinkSpec). m.object < 65536) c.2 (e
 -- a place of the address table is one of it
 within_table : (groups : List ℕ) (p g : ℕ) → at_place groups p ≡ Some g → p ≤ length groups
 within_table groups zero g e = omega arith
-within_table groups (suc i) g e = omega (arith, there groups i g e)
+within_table groups (suc i) g e = omega (arith, slice_get_within groups i g e)
 
 -- the place of a group, from 1
 place : List ℕ → ℕ → ℕ
@@ -111,7 +110,7 @@ place_is : (groups : List ℕ) (p g : ℕ) → IsStrictlyIncreasing groups → a
 unfolding place
 place_is groups zero g up e = absurd (cc)
 place_is groups (suc i) g up e =
-    let lt : i < length groups = there groups i g e in
+    let lt : i < length groups = slice_get_within groups i g e in
     let here : get_or groups i 0 ≡ g = get_or_from_slice_get groups i g 0 e in
     ap suc (position_or_len_is (λ y. eqb y g) groups i 0 (omega arith) (λ k below. ne_eqb (get_or groups k 0) g (λ q. let h = AllPairs-from_increasing groups up k i 0 below lt in omega arith)) (λ _. eq-eqb _ _ here))
 

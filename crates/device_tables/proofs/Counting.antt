@@ -1,5 +1,5 @@
 -- Searches and sets, one element further.
-use Rattle.std.proofs.Common.{◌≡◌, ℕ, zero, suc, ◌+◌, ◌<◌, ◌≤◌, inl, inr, Bool, true, false, ◌&&◌, ◌||◌, ltb, eqb, List, [], ◌∷◌, length, take, get_or, replicate, Some, None, refl, sym, ap, ◌∙◌, add-one, arith}
+use Rattle.std.proofs.Common.{◌≡◌, ℕ, zero, suc, ◌+◌, ◌<◌, ◌≤◌, inl, inr, Bool, true, false, ◌&&◌, ◌||◌, ltb, eqb, List, [], ◌∷◌, take, get_or, replicate, Some, None, refl, sym, ap, ◌∙◌, add-one, arith}
 use Rattle.std.specs.Prelude.{slice_get, find}
 use Rattle.std.specs.List.{list_any, range_with_len}
 use Rattle.std.proofs.lemmas.Bool.{lt-ltb, le-ltb, eq-eqb, ne_eqb, cases_order, cases_eq, cond-true, cond-false}
@@ -39,11 +39,6 @@ pub any_more : {X : Type 0} (p : X → Bool) (xs : List X) (i : ℕ) (x : X) →
 any_more p [] i x e = absurd (cc)
 any_more p (y ∷ ys) zero x e = let same : y ≡ x = cc in rw same (or_false (p x))
 any_more p (y ∷ ys) (suc i) x e = rw add-one (ap (λ b. p y || b) (rw add-one at (any_more p ys i x e)) ∙ sym (or_assoc (p y) (list_any p (take i ys)) (p x)))
-
-pub there : {X : Type 0} (xs : List X) (i : ℕ) (x : X) → slice_get xs i ≡ Some x → i < length xs
-there [] i x e = absurd (cc)
-there (y ∷ ys) zero x e = omega arith
-there (y ∷ ys) (suc i) x e = omega (arith, there ys i x e)
 
 pub all_taken : {X : Type 0} (xs : List X) (i : ℕ) → slice_get xs i ≡ None → take i xs ≡ xs
 all_taken [] zero e = refl

@@ -1,19 +1,14 @@
 -- The objects of the pairs of one group, found from its first pair on.
 use Rattle.std.proofs.Common.{◌≡◌, ℕ, zero, suc, ◌+◌, ◌<◌, ◌≤◌, inl, inr, Bool, true, false, ◌||◌, cond, eqb, List, [], ◌∷◌, length, take, get_or, Some, refl, sym, ap, ◌∙◌, arith}
-use Rattle.std.specs.Prelude.{slice_get}
 use Rattle.std.specs.List.{AllPairs, list_any, count_by, range_with_len}
 use Rattle.std.proofs.lemmas.Bool.{eq-eqb, eqb-true, ne_eqb, cases_Bool, cases_eq, and_parts}
 use Rattle.std.proofs.lemmas.List.{take_all, get_or_default}
 use Rattle.std.proofs.lemmas.List.Sums.{sum_by-cons}
+use Rattle.std.proofs.lemmas.Option.{slice_get-get_or}
 use Rattle.device_tables.specs.Objects.{holds}
 use Rattle.device_tables.specs.Index.{StandsBefore, is_of, is_paired, how_many}
 use Rattle.device_tables.proofs.Counting.{any_more}
 use Rattle.device_tables.proofs.Halves.{groups_rise}
-
-read_at : {X : Type 0} (xs : List X) (i : ℕ) (d : X) → i < length xs → slice_get xs i ≡ Some (get_or xs i d)
-read_at [] i d lt = absurd (omega arith)
-read_at (x ∷ xs) zero d lt = refl
-read_at (x ∷ xs) (suc i) d lt = read_at xs i d (omega arith)
 
 -- ---- a test that no pair of a part passes
 
@@ -46,7 +41,7 @@ all_looked_at ps g o at le = ap (λ qs. list_any (is_of g o) qs) (take_all at ps
 -- one pair of the group more
 pub one_more : (ps : List (ℕ × ℕ)) (g o at : ℕ) (x : ℕ × ℕ) → at < length ps → x ≡ get_or ps at x → x.0 ≡ g → list_any (is_of g o) (take (at + 1) ps) ≡ (list_any (is_of g o) (take at ps) || eqb o x.1)
 one_more ps g o at x lt here of =
-    any_more (is_of g o) ps at x (read_at ps at x lt ∙ ap Some (sym here)) ∙ ap (λ b. list_any (is_of g o) (take at ps) || b) (rw (eq-eqb x.0 g of) (turned x.1 o))
+    any_more (is_of g o) ps at x (slice_get-get_or ps at x lt ∙ ap Some (sym here)) ∙ ap (λ b. list_any (is_of g o) (take at ps) || b) (rw (eq-eqb x.0 g of) (turned x.1 o))
   where
     turned : (a b : ℕ) → eqb a b ≡ eqb b a
     turned a b = elim (cases_eq a b) as (λ _. eqb a b ≡ eqb b a) [

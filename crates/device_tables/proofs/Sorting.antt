@@ -12,10 +12,10 @@ use Rattle.std.proofs.lemmas.List.{length-take}
 use Rattle.std.proofs.lemmas.List.Elements.{All-from_recursion}
 use Rattle.std.proofs.lemmas.List.Kept.{AllPairs-cons, IsStrictlySortedBy-dedup}
 use Rattle.std.proofs.lemmas.List.Sorted.{Contains-permutation, IsPermutation-sym}
+use Rattle.std.proofs.lemmas.Option.{slice_get_within}
 use Rattle.knx_model.specs.Acts.{numbers, in_pairs, first_pairs, pairs}
 use Rattle.device_tables.specs.Index.{StandsBefore, is_of, is_paired}
 use Rattle.device_tables.proofs.Agreement.{alike, found, finds}
-use Rattle.device_tables.proofs.Counting.{there}
 
 abbrev pub pair_cmp : ℕ × ℕ → ℕ × ℕ → Ordering
 pair_cmp a b = ordering_then (nat_cmp a.0 b.0) (nat_cmp a.1 b.1)
@@ -96,5 +96,5 @@ first_few (count ∷ entries) some = omega (arith, within_taken count (in_pairs 
 
 pub table_few : (octets : List ℕ) (i : ℕ) (x : ℕ × ℕ) → slice_get (pairs octets) i ≡ Some x → 4 * i + 6 ≤ length octets
 table_few octets i x e =
-    let lt = there (pairs octets) i x e in
+    let lt = slice_get_within (pairs octets) i x e in
     omega (arith, lt, first_few (numbers octets) (omega (arith, lt)), numbers_few octets)

@@ -9,7 +9,7 @@ use Rattle.knx_model.specs.Plans.{Plan}
 use Rattle.transport_conn.proofs.Numbers.{client_numbers}
 use Rattle.line_model.specs.Moments.{Moment}
 use Rattle.line_model.specs.Attempts as line
-use Rattle.line_model.specs.Attempts.{Attempts, attempts_after, awaits, confirmed_attempt, heard_so, landed as line_landed}
+use Rattle.line_model.specs.Attempts.{Attempts, attempts_after, awaits, confirmed_attempt, landed as line_landed}
 use Rattle.download_core.specs.declared.flight.Flight.{Flight}
 use Rattle.download_core.specs.declared.flight.Flight.TheVariants.{Nothing, Frame, Reply}
 use Rattle.download_core.specs.declared.outcome.Outcome.{Outcome}
@@ -79,9 +79,6 @@ knows_timed a x error now k = record {
   numbers = client_numbers a.conn (Confirms error now) k.numbers;
   repeats = end_confirmed a.conn error now k.repeats;
 }
-
-abbrev timed : ℕ → line.Attempt → Bool → ℕ → Attempts
-timed n x error now = line.Running n (line_landed (record x { end = after_confirmed x.end error now }))
 
 connects : (signs : Signs) (a : Attempt) (x : line.Attempt) (device : IndAddr) (error : Bool) (now : ℕ) → a.conn ≡ Asked device → x.flying ≡ Some frame.Connect → Knows a x
     → FitsPhase signs (connected a (client_confirmed (Asked device) error) (after_confirmed a.conn error now)) (confirmed_attempt (suc (earlier signs)) x now error (Some frame.Connect))

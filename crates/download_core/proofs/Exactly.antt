@@ -66,9 +66,6 @@ runs_not device plan l k x e h = absurd (subst IsResting e h.rests)
 
 -- ---- an attempt runs
 
-abbrev SendsNext : IndAddr → Plan → ℕ → List Moment → Type 0
-SendsNext device plan now l = NextIsSending (attempts device plan l) now
-
 running_answers : (device : IndAddr) (plan : Plan) (now : ℕ) (l : List Moment) (k : ℕ) (x : line.Attempt) (d : Did) → attempts device plan l ≡ line.Running k x → Steps x now d → Answers device plan now l d
 running_answers device plan now l k x d e (Sends s h) = ASending s (subst (λ (t : Attempts). NextIsSending t now) (sym e) h) (runs_not device plan l k x e)
 running_answers device plan now l k x d e (Waits w h) = AWait w (λ n. h (subst (λ (t : Attempts). NextIsSending t now) e n)) (runs_not device plan l k x e)

@@ -1,5 +1,6 @@
 -- What each connection makes of a frame of the device, by the record of its session.
 use Rattle.std.proofs.Common.{◌≡◌, ◌≢◌, ◌%◌, ◌==◌, ℕ, not, Bool, true, false, List, ◌∷◌, length, Some, None, refl, ap, sym, subst, ◌∙◌, if◌then◌else◌}
+use Rattle.std.proofs.lemmas.Bool.{eqb-true, eqb-false}
 use Rattle.knx_model.specs.declared.address.IndAddr.{IndAddr}
 use Rattle.knx_model.specs.declared.frames.tpdu.Tpdu.TheVariants as tpdu
 use Rattle.knx_model.specs.declared.connection.TransportFrame.{TransportFrame}
@@ -12,7 +13,7 @@ use Rattle.line_model.specs.Moments.{Moment, Number, Next as NextNumber, Outstan
 use Rattle.line_model.specs.Signs.{is_ignored}
 use Rattle.download_core.specs.declared.flight.Flight.{Flight}
 use Rattle.download_core.specs.InSession.{Expects, UpFits, AskingFits, AwaitingFits, ConnFits}
-use Rattle.download_core.proofs.Readings.{IsSame, same_by, ends_after, is_same, not_same}
+use Rattle.download_core.proofs.Readings.{IsSame, same_by, ends_after}
 use Rattle.download_core.proofs.Acked.{acked_up, acked_awaiting, acked_got, answered_got, answered_up, answered_asking}
 use Rattle.download_core.proofs.HeardIn.{EndsIn, HeardBy, Hears, IsIgnored, same_services, dropped, repeated, again, refused}
 
@@ -75,7 +76,7 @@ AnsweredBy device conn flight sent n apdu m l = HeardBy device conn flight sent 
 
 service_heard : (device : IndAddr) (conn : ClientEnd) (s : Session) (flight : Flight) (sent n : ℕ) (apdu : List ℕ) (m : Moment) (l : List Moment) (t u : Bool) → (n == s.expected) ≡ t → is_before n s.expected ≡ u
     → ConnFits device.raw conn flight sent l → Expects device.raw s.expected l → Hears device (Numbered n apdu) m → (n ≡ s.expected → AnsweredBy device conn flight sent n apdu m l) → HeardBy device conn flight sent m l (up_took s (Numbered n apdu))
-service_heard device conn s flight sent n apdu m l true u e b k x w a = rw e (a (is_same n s.expected e))
+service_heard device conn s flight sent n apdu m l true u e b k x w a = rw e (a (eqb-true n s.expected e))
 service_heard device conn s flight sent n apdu m l false true e b k x w a = rw (e, b) (again device conn flight sent (Written (tpdu.Ack n)) m l (repeated device conn flight sent n apdu m l k w (unexpected_same device n s.expected apdu m l x e w)))
 service_heard device conn s flight sent n apdu m l false false e b k x w a = rw (e, b) (refused device conn flight sent (Written (tpdu.Nak n)) m l (repeated device conn flight sent n apdu m l k w (unexpected_same device n s.expected apdu m l x e w)))
 
@@ -147,7 +148,7 @@ acked : (device : IndAddr) (s : Session) (q : Question) (flight : Flight) (sent 
 unfolding client_after
 acked device s q flight sent k m l f t w = record {
   goes = ends_after device None (Some (Ack k)) None m l w ∙ own_goes k s.number (number device.raw l) f.own t;
-  fits = acked_conn device s q flight sent m l q.awaits refl f (subst (λ (j : ℕ). Hears device (Ack j) m) (is_same k s.number t) w);
+  fits = acked_conn device s q flight sent m l q.awaits refl f (subst (λ (j : ℕ). Hears device (Ack j) m) (eqb-true k s.number t) w);
   got = acked_got device k m l w;
   put = same_services device (Ack k) m l w;
 }
@@ -155,7 +156,7 @@ acked device s q flight sent k m l f t w = record {
 busy_ack : (device : IndAddr) (s : Session) (q : Question) (flight : Flight) (sent k : ℕ) (m : Moment) (l : List Moment) (t : Bool) → is_before k s.number ≡ t → (k == s.number) ≡ false → AskingFits device.raw s q flight sent l → Hears device (Ack k) m
     → HeardBy device (Asking s q) flight sent m l (up_took s (Ack k))
 busy_ack device s q flight sent k m l true b d f w =
-    rw b (dropped device (Asking s q) flight sent (Ack k) m l f w (busy_same device k s.number m l f.own d w) (busy_closes k s.number true (number device.raw l) f.own d b) (λ e. not_same k s.number d (cc e)))
+    rw b (dropped device (Asking s q) flight sent (Ack k) m l f w (busy_same device k s.number m l f.own d w) (busy_closes k s.number true (number device.raw l) f.own d b) (λ e. eqb-false k s.number d (cc e)))
 busy_ack device s q flight sent k m l false b d f w =
     rw b (record { ends = ends_after device None (Some (Ack k)) None m l w ∙ busy_closes k s.number false (number device.raw l) f.own d b; same = busy_same device k s.number m l f.own d w })
 

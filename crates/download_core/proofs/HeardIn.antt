@@ -6,7 +6,7 @@ use Rattle.knx_model.specs.declared.connection.TransportFrame.TheVariants.{Ack, 
 use Rattle.knx_model.specs.declared.connection.ClientTook.{ClientTook}
 use Rattle.knx_model.specs.declared.connection.ClientTook.TheVariants as heard
 use Rattle.knx_model.specs.ClientConnection.{ClientEnd, Asked, Up, Asking, Awaiting, Ended as NoConnection, client_after, client_stayed}
-use Rattle.line_model.specs.Moments.{Moment, Number, Next as NextNumber, Outstanding, number, answers, ends_session, closes_by}
+use Rattle.line_model.specs.Moments.{Moment, number, answers, ends_session, closes_by}
 use Rattle.line_model.specs.Signs.{is_ignored}
 use Rattle.download_core.specs.declared.flight.Flight.{Flight}
 use Rattle.download_core.specs.InSession.{ConnFits}
@@ -52,14 +52,6 @@ HeardBy device conn flight sent m l took = HeardIn device.raw flight sent m l to
 
 pub same_services : (device : IndAddr) (f : TransportFrame) (m : Moment) (l : List Moment) → Hears device f m → SameServices device.raw m l
 same_services device f m l w = put_after device None (Some f) None m l w
-
--- the number of an own service that is outstanding, or of the next one
-abbrev IsOwn : ClientEnd → Number → Type 0
-IsOwn (Asked to) o = ⊥
-IsOwn (Up s) o = o ≡ NextNumber s.number
-IsOwn (Asking s q) o = o ≡ Outstanding s.number
-IsOwn (Awaiting s) o = o ≡ NextNumber s.number
-IsOwn NoConnection o = ⊥
 
 abbrev pub IsIgnored : ClientEnd → TransportFrame → Type 0
 IsIgnored (Asked to) f = Unit {0}

@@ -1,5 +1,6 @@
 -- An answer, in the downloader and in the line's view: whether it is the expected one, and what is left of the plan then.
 use Rattle.std.proofs.Common.{◌≡◌, ◌&&◌, ◌-◌, ℕ, Bool, true, false, is_some, List, [], Option, Some, None, refl, ap, sym, subst, ◌∙◌, if◌then◌else◌}
+use Rattle.std.proofs.lemmas.Bool.{and_left}
 use Rattle.knx_model.specs.declared.plan.Expect.{Expect}
 use Rattle.knx_model.specs.declared.plan.Expect.TheVariants.{AckOnly, Is, Note}
 use Rattle.knx_model.specs.Plans.{Plan, Over, Asks, followed}
@@ -108,10 +109,6 @@ suits_same apdu AckOnly next got = refl
 suits_same apdu (Is wanted) next got = refl
 suits_same apdu Note next got = refl
 
-and_false : (b c : Bool) → b ≡ false → (b && c) ≡ false
-and_false true c e = absurd (cc e)
-and_false false c e = refl
-
 and_same : (b c d : Bool) → b ≡ true → c ≡ d → (b && c) ≡ d
 and_same true c d e f = f
 and_same false c d e f = absurd (cc e)
@@ -133,7 +130,7 @@ in_time true a x apdu expect next got e w p k = line_right a x (record a { stand
 in_time false a x apdu expect next got e w p k = line_wrong a x (gone_wrong a got (wanted_of expect)) got (awaits x.end && suits x.left got) e (learns_wrong a x got (wanted_of expect) k)
 
 early_at : (a : Attempt) (x : line.Attempt) (st : Standing) (got : List ℕ) → a.wrong ≡ None → a.standing ≡ st → StandsWith (awaits a.conn) st → Knows a x → Learns a x (answered_at a st got) (line.answered x got)
-early_at a x (Next plan) got w p s k = line_wrong a x (gone_wrong a got []) got (awaits x.end && suits x.left got) (and_false (awaits x.end) (suits x.left got) (ap awaits k.end ∙ s)) (learns_wrong a x got [] k)
+early_at a x (Next plan) got w p s k = line_wrong a x (gone_wrong a got []) got (awaits x.end && suits x.left got) (and_left (awaits x.end) (suits x.left got) (ap awaits k.end ∙ s)) (learns_wrong a x got [] k)
 early_at a x (AnswerOf Over) got w p s k = absurd s.1
 early_at a x (AnswerOf (Asks apdu expect next)) got w p s k =
     in_time (suits_expect apdu expect got) a x apdu expect next got

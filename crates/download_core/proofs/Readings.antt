@@ -1,5 +1,5 @@
 -- What one moment more changes in the readings of a session: the own number, how many services were acknowledged, the answers and the services.
-use Rattle.std.proofs.Common.{◌≡◌, ◌≢◌, ◌||◌, ℕ, suc, Bool, true, false, ◌==◌, List, [], ◌∷◌, length, Option, refl, ◌∙◌, if◌then◌else◌, arith}
+use Rattle.std.proofs.Common.{◌≡◌, ◌||◌, ℕ, suc, Bool, true, false, ◌==◌, List, [], ◌∷◌, length, Option, refl, ◌∙◌, if◌then◌else◌, arith}
 use Rattle.std.proofs.lemmas.Bool.Decides.{nat_tests}
 use Rattle.knx_model.specs.declared.address.IndAddr.{IndAddr}
 use Rattle.knx_model.specs.declared.connection.TransportFrame.{TransportFrame}
@@ -70,9 +70,3 @@ lost_early device m x e d = rw (e, d) refl
 
 pub same_number : (c : ℕ) → (c == c) ≡ true
 same_number c = grind (arith, nat_tests)
-
-pub is_same : (k n : ℕ) → (k == n) ≡ true → k ≡ n
-is_same k n t = grind (arith, nat_tests)
-
-pub not_same : (k n : ℕ) → (k == n) ≡ false → k ≢ n
-not_same k n t = grind (arith, nat_tests)

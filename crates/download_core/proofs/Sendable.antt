@@ -2,7 +2,6 @@
 use Rattle.std.proofs.Common.{◌≢◌, ℕ, zero, suc, List, [], ◌∷◌, drop, ◌+◌, None, subst}
 use Rattle.knx_model.specs.declared.plan.Expect.{Expect}
 use Rattle.knx_model.specs.declared.plan.Expect.TheVariants.{AckOnly, Is, Note}
-use Rattle.knx_model.specs.declared.plan.Op.TheVariants.{Send}
 use Rattle.knx_model.specs.declared.plan.PieceSize.{PieceSize}
 use Rattle.knx_model.specs.Connection.{IsApdu}
 use Rattle.knx_model.specs.LoadPlan.{load_operations, check_operations}
@@ -41,7 +40,7 @@ pub job_sendable : (plan : JobPlan) (k : ℕ) → IsSendable (job_left plan k)
 job_sendable (Load p) k = load_sendable p k
 job_sendable (Check p) k = check_sendable p k
 
-apdu_at : (apdu : List ℕ) (expect : Expect) (plan rest : Plan) → IsHead (Send apdu expect) plan rest → IsSendable plan → IsApdu apdu
+apdu_at : (apdu : List ℕ) (expect : Expect) (plan rest : Plan) → IsHead apdu expect plan rest → IsSendable plan → IsApdu apdu
 apdu_at apdu AckOnly plan rest h s = (subst IsSendable h s).0
 apdu_at apdu (Is wanted) plan rest h s = (subst IsSendable h s).0
 apdu_at apdu Note plan rest h s = (subst IsSendable h.1 s).0

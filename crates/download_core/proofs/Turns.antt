@@ -1,5 +1,6 @@
 -- A downloader's step, for the log and for the turn of its worker.
-use Rattle.std.proofs.Common.{◌≡◌, inl, inr, ℕ, Bool, true, false, List, Option, Some, refl, sym, subst, ◌∙◌}
+use Rattle.std.proofs.Common.{◌≡◌, inl, inr, ℕ, true, List, Option, Some, refl, sym, subst, ◌∙◌}
+use Rattle.std.proofs.lemmas.Bool.{false_from_ne_true, both_ways, eqb-true}
 use Rattle.knx_model.specs.declared.address.IndAddr.{IndAddr}
 use Rattle.knx_model.specs.declared.connection.TransportFrame.{TransportFrame}
 use Rattle.knx_model.specs.declared.connection.TransportFrame.TheVariants as frame
@@ -24,7 +25,7 @@ use Rattle.download_core.specs.Attempt.{DownloaderState}
 use Rattle.download_core.specs.Steps.{next_did}
 use Rattle.download_core.specs.Tells.{TellsTruly, IsAtEnd, is_end}
 use Rattle.download_core.specs.Turns.{IsDownloaderOf, entry_of, LogsTruly, StepWaits, TurnWaitsExactly, ConnectsAtRest}
-use Rattle.download_core.proofs.Readings.{same_number, is_same}
+use Rattle.download_core.proofs.Readings.{same_number}
 use Rattle.download_core.proofs.SentRecord.{sends_rightly}
 use Rattle.download_core.proofs.Exactly.{ends_truly}
 use Rattle.download_core.proofs.Decided.{ends_exactly, sends_exactly}
@@ -77,23 +78,15 @@ ended_by : (jobs : List Job) (turns : List GroupTurn) (told : List LogEntry) (pl
     → IsTrue jobs turns places told at what → IsAtEnd job.device job.plan (between since at (moments places))
 ended_by jobs turns told places at k since job (log.Took j) h r e t = absurd (cc e)
 ended_by jobs turns told places at k since job (log.Done j) h r e t =
-    record { rests = r; which = inl (held_by jobs told k since job _ h (subst (λ (i : ℕ). IsTrue jobs turns places told at (log.Done i)) (is_same j k e) t)) }
+    record { rests = r; which = inl (held_by jobs told k since job _ h (subst (λ (i : ℕ). IsTrue jobs turns places told at (log.Done i)) (eqb-true j k e) t)) }
 ended_by jobs turns told places at k since job (log.Failed j signs) h r e t =
-    record { rests = r; which = inr (inl (signs, held_by jobs told k since job _ h (subst (λ (i : ℕ). IsTrue jobs turns places told at (log.Failed i signs)) (is_same j k e) t))) }
+    record { rests = r; which = inr (inl (signs, held_by jobs told k since job _ h (subst (λ (i : ℕ). IsTrue jobs turns places told at (log.Failed i signs)) (eqb-true j k e) t))) }
 ended_by jobs turns told places at k since job (log.Refused j op got expected) h r e t =
-    record { rests = r; which = inr (inr (op, got, expected, held_by jobs told k since job _ h (subst (λ (i : ℕ). IsTrue jobs turns places told at (log.Refused i op got expected)) (is_same j k e) t))) }
+    record { rests = r; which = inr (inr (op, got, expected, held_by jobs told k since job _ h (subst (λ (i : ℕ). IsTrue jobs turns places told at (log.Refused i op got expected)) (eqb-true j k e) t))) }
 ended_by jobs turns told places at k since job (log.Sent j) h r e t = absurd (cc e)
 ended_by jobs turns told places at k since job (log.Lost j) h r e t = absurd (cc e)
 
 -- ---- the turn
-
-not_true : (b : Bool) → (b ≡ true → ⊥) → b ≡ false
-not_true true n = absurd (n refl)
-not_true false n = refl
-
-false_true : (b : Bool) → b ≡ false → b ≡ true → ⊥
-false_true true f t = cc f
-false_true false f t = cc t
 
 -- the job that a turn holds, and since when, is one
 pub record IsSameJob (one other : Job) (since from : ℕ) : Type 0 where
@@ -117,7 +110,7 @@ waits_by : (s : DownloaderState) (now : ℕ) (jobs : List Job) (turns : List Gro
 waits_by s now jobs turns told places at k w g =
     let l = between w.since at (moments places) in
     record {
-      no_end = not_true (is_end (next_did s now)) (λ e. g.0 (ending_so jobs turns told places at k w.since w.job w.holds (of_job (λ device plan. IsAtEnd device plan l) s w.job w.device w.plan ((ends_exactly s now l w.fits).0 e))));
+      no_end = false_from_ne_true (is_end (next_did s now)) (λ e. g.0 (ending_so jobs turns told places at k w.since w.job w.holds (of_job (λ device plan. IsAtEnd device plan l) s w.job w.device w.plan ((ends_exactly s now l w.fits).0 e))));
       cannot_send = λ e. g.1 (of_job (λ device plan. NextIsSending (attempts device plan l) now) s w.job w.device w.plan ((sends_exactly s now l w.fits).0 e).next);
     }
 
@@ -125,7 +118,7 @@ waits_so : (s : DownloaderState) (now : ℕ) (jobs : List Job) (turns : List Gro
     → TurnWaits jobs turns told places at now k 0
 waits_so s now jobs turns told places at k w v =
     let l = between w.since at (moments places) in
-    let goes_on : IsAtEnd s.device s.plan l → ⊥ = λ e. false_true (is_end (next_did s now)) v.no_end ((ends_exactly s now l w.fits).1 e) in
+    let goes_on : IsAtEnd s.device s.plan l → ⊥ = λ e. both_ways (is_end (next_did s now)) v.no_end ((ends_exactly s now l w.fits).1 e) in
     record {
       job = w.job;
       since = w.since;

@@ -1,11 +1,9 @@
 -- What the code of a downloader keeps of an attempt stands for what the definitions say: a place in the plan for the plan that is left.
 use Rattle.std.specs.Prelude.{◌≡◌, ℕ, ◌<◌, ◌≤◌, ◌+◌, Option, Some, None}
 use Rattle.knx_model.specs.declared.address.IndAddr.{IndAddr}
-use Rattle.knx_model.specs.declared.plan.Op.TheVariants.{Send}
 use Rattle.knx_model.specs.Connection.{next_number, IsNumber}
 use Rattle.knx_model.specs.ClientConnection.{ClientEnd, Asked, Up, Asking, Awaiting, Ended as NoConnection}
 use Rattle.knx_model.specs.Plans.{Plan, Over, IsHead}
-use Rattle.knx_model.specs.GoodPlan.{IsSendable}
 use Rattle.download_core.specs.declared.job_plan.JobPlan.{JobPlan}
 use Rattle.download_core.specs.declared.question.Question.{Question}
 use Rattle.download_core.specs.declared.position.Position.{Position}
@@ -47,7 +45,7 @@ state_of d = record { device = d.device; plan = job_left d.plan 0; signs = d.sig
 
 -- the operation at the place is this one
 abbrev pub IsAt : (ℕ → Plan) → Question → Type 0
-IsAt left q = IsHead (Send q.apdu q.expect) (left q.place) (left (q.place + 1))
+IsAt left q = IsHead q.apdu q.expect (left q.place) (left (q.place + 1))
 
 -- the operation that comes next from a place on; none where all are over
 abbrev pub IsNextOf : (ℕ → Plan) → ℕ → Option Question → Type 0
@@ -77,7 +75,3 @@ KeepsPhase left (kept.Running r) = KeepsRun left r
 KeepsPhase left (kept.Closing flight outcome) = Unit {0}
 KeepsPhase left (kept.Leaving outcome) = Unit {0}
 KeepsPhase left (kept.Ended outcome) = Unit {0}
-
--- whatever was noted, each operation that is left can be sent
-abbrev pub Sendable : (ℕ → Plan) → Type 0
-Sendable left = (k : ℕ) → IsSendable (left k)

@@ -10,7 +10,6 @@ ghost use Rattle.download_core.specs.Steps.{next_did, closing_did, ended_did, fa
 
 use crate::did::Did;
 use crate::flight::Flight;
-use crate::frame::{connect, disconnect};
 use crate::job_plan::JobPlan;
 use crate::outcome::Outcome;
 use crate::phase::Phase;
@@ -19,6 +18,7 @@ use crate::signs::Signs;
 use knx_model::{IndAddr, Sign};
 use std::marker::Model;
 use std::mem;
+use transport_conn::{connect, disconnect};
 
 /// The downloader of one job: three attempts, each of which opens a connection and goes through the plan from its first operation on.
 /// It takes no memory. Times are in milliseconds, and none is smaller than one that an earlier call had.

@@ -5,7 +5,6 @@
 mod did;
 mod downloader;
 mod flight;
-mod frame;
 mod job_plan;
 mod laws;
 mod outcome;

@@ -19,14 +19,13 @@ pub struct Question {
 pub fn next_question(plan: &JobPlan, from: u32) -> Option<Question>
     ensures { IsNextOf (job_left plan.now) from result }
 {
-    for place in from..plan.len() {
-        if let Op::Send { apdu, expect } = plan.op(place) {
-            return Some(Question {
-                place,
-                apdu,
-                expect,
-            });
-        }
+    if from >= plan.len() {
+        return None;
     }
-    None
+    let Op { apdu, expect } = plan.op(from);
+    Some(Question {
+        place: from,
+        apdu,
+        expect,
+    })
 }

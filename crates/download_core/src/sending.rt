@@ -11,7 +11,6 @@ ghost use Rattle.download_core.specs.Keeps.{phase_of, attempt_of, standing_of, K
 
 use crate::did::Did;
 use crate::flight::Flight;
-use crate::frame::{disconnect, next_number, numbered};
 use crate::job_plan::JobPlan;
 use crate::outcome::Outcome;
 use crate::phase::Phase;
@@ -19,6 +18,7 @@ use crate::position::Position;
 use crate::question::{Question, next_question};
 use crate::run::Run;
 use knx_model::{ClientExpired, Expect, Sign};
+use transport_conn::{disconnect, next_number, numbered};
 
 impl Run {
     /// What is to be done next.

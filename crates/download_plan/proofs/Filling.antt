@@ -88,9 +88,6 @@ pub allocated_stopped : (p : Loadable) (n fill : ℕ) → is_loaded p.state ≡ 
 allocated_stopped p n fill h =
     elim (is_loading p.state && nat_le n (capacity_of p)) as (λ v. is_loaded (if v then record { state = Loading; len = n; memory = replicate n fill ++ drop n p.memory } else with_state p Error).state ≡ false) [ true ↦ refl | false ↦ refl ]
 
-pub allocates_within : (p : Loadable) (n : ℕ) → allocates p n ≡ true → n ≤ length p.memory
-allocates_within p n e = grind (arith, common_steps)
-
 pub allocated_is : (p : Loadable) (n fill : ℕ) → (allocated p n fill).state ≡ Loading → IsAllocated n (allocated p n fill)
 allocated_is p n fill =
     let by : (v : Bool) → allocates p n ≡ v → (if v then record { state = Loading; len = n; memory = replicate n fill ++ drop n p.memory } else with_state p Error).state ≡ Loading

@@ -4,35 +4,33 @@ use Rattle.std.specs.List.{slice_get}
 use Rattle.std.proofs.lemmas.List.{drop_all}
 use Rattle.knx_model.specs.declared.config.Image.{Image}
 use Rattle.knx_model.specs.declared.frames.tpdu.Apdu.{Apdu}
-use Rattle.knx_model.specs.declared.frames.tpdu.Apdu.TheVariants.{DescriptorRead, DescriptorResponse, PropertyRead}
+use Rattle.knx_model.specs.declared.frames.tpdu.Apdu.TheVariants.{DescriptorRead, DescriptorResponse}
 use Rattle.knx_model.specs.declared.loading.LoadState.TheVariants.{Unloaded}
 use Rattle.knx_model.specs.declared.loading.LoadEvent.TheVariants.{Unload}
 use Rattle.knx_model.specs.declared.loading.LoadableObject.TheVariants.{Application}
-use Rattle.knx_model.specs.declared.plan.Expect.TheVariants.{Note}
 use Rattle.knx_model.specs.declared.plan.Op.{Op}
-use Rattle.knx_model.specs.declared.plan.Op.TheVariants.{Send}
 use Rattle.knx_model.specs.declared.plan.PieceSize.{PieceSize}
 use Rattle.knx_model.specs.ApduReading.{apdu_octets}
 use Rattle.knx_model.specs.Plans.{Plan, Over, Asks, IsHead, IsNoted, followed}
 use Rattle.knx_model.specs.Operations.{Operation, expecting, expect_of, event_then, listed}
 use Rattle.knx_model.specs.LoadPlan.{size_by, opened, noting, load_operations, check_operations}
-use Rattle.download_plan.specs.Step.{op_of}
+use Rattle.download_plan.specs.Step.{op_of, length_noted}
 use Rattle.download_plan.specs.Left.{Listening, left_of, load_left, check_left, load_count, check_count}
 use Rattle.download_plan.proofs.Places.{load_begins}
 
 -- ---- lists
 
-head_by : (apdu : List ℕ) (expected : Option Apdu) (rest : Plan) → IsHead (Send apdu (expect_of expected)) (Asks apdu (expect_of expected) (λ _. rest)) rest
+head_by : (apdu : List ℕ) (expected : Option Apdu) (rest : Plan) → IsHead apdu (expect_of expected) (Asks apdu (expect_of expected) (λ _. rest)) rest
 head_by apdu None rest = refl
 head_by apdu (Some answer) rest = refl
 
 same_op : (x y : Op) → Some x ≡ Some y → x ≡ y
 same_op x y e = cc
 
-listed_head : (ops : List Operation) (j : ℕ) (op : Op) → slice_get (map op_of ops) j ≡ Some op → IsHead op (listed (drop j ops)) (listed (drop (suc j) ops))
+listed_head : (ops : List Operation) (j : ℕ) (op : Op) → slice_get (map op_of ops) j ≡ Some op → IsHead op.apdu op.expect (listed (drop j ops)) (listed (drop (suc j) ops))
 listed_head [] zero op e = absurd (cc)
 listed_head [] (suc j) op e = absurd (cc)
-listed_head (x ∷ xs) zero op e = subst (λ (y : Op). IsHead y (listed (x ∷ xs)) (listed xs)) (same_op (op_of x) op e) (head_by (apdu_octets x.service) x.expected (listed xs))
+listed_head (x ∷ xs) zero op e = subst (λ (y : Op). IsHead y.apdu y.expect (listed (x ∷ xs)) (listed xs)) (same_op (op_of x) op e) (head_by (apdu_octets x.service) x.expected (listed xs))
 listed_head (x ∷ xs) (suc j) op e = listed_head xs j op e
 
 expected_unnoted : (apdu : List ℕ) (expected : Option Apdu) (next : Option (List ℕ) → Plan) → ¬ IsNoted (Asks apdu (expect_of expected) next)
@@ -45,22 +43,22 @@ listed_unnoted (x ∷ xs) h = expected_unnoted (apdu_octets x.service) x.expecte
 
 -- ---- positions
 
-left_first : (operations : PieceSize → List Operation) (size : PieceSize) (k : ℕ) (op : Op) → k ≡ 0 → op ≡ op_of (expecting (DescriptorRead 0) (DescriptorResponse 0 (Some 0x07B0))) → IsHead op (left_of operations size k) (left_of operations size (k + 1))
+left_first : (operations : PieceSize → List Operation) (size : PieceSize) (k : ℕ) (op : Op) → k ≡ 0 → op ≡ op_of (expecting (DescriptorRead 0) (DescriptorResponse 0 (Some 0x07B0))) → IsHead op.apdu op.expect (left_of operations size k) (left_of operations size (k + 1))
 left_first operations size k op e f =
-    subst (λ (j : ℕ). IsHead op (left_of operations size j) (left_of operations size (j + 1))) (sym e)
-    (subst (λ (y : Op). IsHead y (opened operations) (noting operations)) (sym f) refl)
+    subst (λ (j : ℕ). IsHead op.apdu op.expect (left_of operations size j) (left_of operations size (j + 1))) (sym e)
+    (subst (λ (y : Op). IsHead y.apdu y.expect (opened operations) (noting operations)) (sym f) refl)
 
-left_second : (operations : PieceSize → List Operation) (size : PieceSize) (k : ℕ) (op : Op) → k ≡ 1 → op ≡ Send (apdu_octets (PropertyRead 0 56 1 1)) Note → IsHead op (left_of operations size k) (left_of operations size (k + 1))
+left_second : (operations : PieceSize → List Operation) (size : PieceSize) (k : ℕ) (op : Op) → k ≡ 1 → op ≡ length_noted → IsHead op.apdu op.expect (left_of operations size k) (left_of operations size (k + 1))
 left_second operations size k op e f =
-    subst (λ (j : ℕ). IsHead op (left_of operations size j) (left_of operations size (j + 1))) (sym e)
-    (subst (λ (y : Op). IsHead y (noting operations) (left_of operations size 2)) (sym f) (λ answer. listed (operations (size_by answer)), refl))
+    subst (λ (j : ℕ). IsHead op.apdu op.expect (left_of operations size j) (left_of operations size (j + 1))) (sym e)
+    (subst (λ (y : Op). IsHead y.apdu y.expect (noting operations) (left_of operations size 2)) (sym f) (λ answer. listed (operations (size_by answer)), refl))
 
-left_from : (operations : PieceSize → List Operation) (size : PieceSize) (j k : ℕ) (op : Op) → k ≡ j + 2 → slice_get (map op_of (operations size)) j ≡ Some op → IsHead op (left_of operations size k) (left_of operations size (k + 1))
+left_from : (operations : PieceSize → List Operation) (size : PieceSize) (j k : ℕ) (op : Op) → k ≡ j + 2 → slice_get (map op_of (operations size)) j ≡ Some op → IsHead op.apdu op.expect (left_of operations size k) (left_of operations size (k + 1))
 left_from operations size j k op e f =
     let one : k ≡ suc (suc j) = omega (arith, e) in
     let two : k + 1 ≡ suc (suc (suc j)) = omega (arith, e) in
-    subst (λ (i : ℕ). IsHead op (left_of operations size i) (left_of operations size (k + 1))) (sym one)
-    (subst (λ (i : ℕ). IsHead op (listed (drop j (operations size))) (left_of operations size i)) (sym two) (listed_head (operations size) j op f))
+    subst (λ (i : ℕ). IsHead op.apdu op.expect (left_of operations size i) (left_of operations size (k + 1))) (sym one)
+    (subst (λ (i : ℕ). IsHead op.apdu op.expect (listed (drop j (operations size))) (left_of operations size i)) (sym two) (listed_head (operations size) j op f))
 
 left_over : (operations : PieceSize → List Operation) (size : PieceSize) (k : ℕ) → 2 + length (operations size) ≤ k → left_of operations size k ≡ Over
 left_over operations size zero h = absurd (omega (arith, h))
@@ -94,19 +92,19 @@ left_is_noted operations size k e = subst (λ (j : ℕ). IsNoted (left_of operat
 
 -- ---- the load plan
 
-pub load_first : (p : Listening) (k : ℕ) (op : Op) → k ≡ 0 → op ≡ op_of (expecting (DescriptorRead 0) (DescriptorResponse 0 (Some 0x07B0))) → IsHead op (load_left p k) (load_left p (k + 1))
+pub load_first : (p : Listening) (k : ℕ) (op : Op) → k ≡ 0 → op ≡ op_of (expecting (DescriptorRead 0) (DescriptorResponse 0 (Some 0x07B0))) → IsHead op.apdu op.expect (load_left p k) (load_left p (k + 1))
 unfolding load_left
 load_first p k op e f = left_first (load_operations p.image) p.size k op e f
 
-pub load_second : (p : Listening) (k : ℕ) (op : Op) → k ≡ 1 → op ≡ Send (apdu_octets (PropertyRead 0 56 1 1)) Note → IsHead op (load_left p k) (load_left p (k + 1))
+pub load_second : (p : Listening) (k : ℕ) (op : Op) → k ≡ 1 → op ≡ length_noted → IsHead op.apdu op.expect (load_left p k) (load_left p (k + 1))
 unfolding load_left
 load_second p k op e f = left_second (load_operations p.image) p.size k op e f
 
-pub load_third : (p : Listening) (k : ℕ) (op : Op) → k ≡ 2 → op ≡ op_of (event_then Application Unload Unloaded) → IsHead op (load_left p k) (load_left p (k + 1))
+pub load_third : (p : Listening) (k : ℕ) (op : Op) → k ≡ 2 → op ≡ op_of (event_then Application Unload Unloaded) → IsHead op.apdu op.expect (load_left p k) (load_left p (k + 1))
 unfolding load_left
 load_third p k op e f = left_from (load_operations p.image) p.size 0 k op (omega (arith, e)) (load_begins p.image p.size ∙ ap Some (sym f))
 
-pub load_from : (p : Listening) (k : ℕ) (op : Op) → 3 ≤ k → slice_get (map op_of (load_operations p.image p.size)) (k - 3 + 1) ≡ Some op → IsHead op (load_left p k) (load_left p (k + 1))
+pub load_from : (p : Listening) (k : ℕ) (op : Op) → 3 ≤ k → slice_get (map op_of (load_operations p.image p.size)) (k - 3 + 1) ≡ Some op → IsHead op.apdu op.expect (load_left p k) (load_left p (k + 1))
 unfolding load_left
 load_from p k op h e = left_from (load_operations p.image) p.size (k - 3 + 1) k op (omega (arith, h)) e
 
@@ -133,15 +131,15 @@ load_ignored old new k i f unnoted j =
 
 -- ---- the check plan
 
-pub check_first : (p : Listening) (k : ℕ) (op : Op) → k ≡ 0 → op ≡ op_of (expecting (DescriptorRead 0) (DescriptorResponse 0 (Some 0x07B0))) → IsHead op (check_left p k) (check_left p (k + 1))
+pub check_first : (p : Listening) (k : ℕ) (op : Op) → k ≡ 0 → op ≡ op_of (expecting (DescriptorRead 0) (DescriptorResponse 0 (Some 0x07B0))) → IsHead op.apdu op.expect (check_left p k) (check_left p (k + 1))
 unfolding check_left
 check_first p k op e f = left_first (check_operations p.image) p.size k op e f
 
-pub check_second : (p : Listening) (k : ℕ) (op : Op) → k ≡ 1 → op ≡ Send (apdu_octets (PropertyRead 0 56 1 1)) Note → IsHead op (check_left p k) (check_left p (k + 1))
+pub check_second : (p : Listening) (k : ℕ) (op : Op) → k ≡ 1 → op ≡ length_noted → IsHead op.apdu op.expect (check_left p k) (check_left p (k + 1))
 unfolding check_left
 check_second p k op e f = left_second (check_operations p.image) p.size k op e f
 
-pub check_from : (p : Listening) (k : ℕ) (op : Op) → 2 ≤ k → slice_get (map op_of (check_operations p.image p.size)) (k - 2) ≡ Some op → IsHead op (check_left p k) (check_left p (k + 1))
+pub check_from : (p : Listening) (k : ℕ) (op : Op) → 2 ≤ k → slice_get (map op_of (check_operations p.image p.size)) (k - 2) ≡ Some op → IsHead op.apdu op.expect (check_left p k) (check_left p (k + 1))
 unfolding check_left
 check_from p k op h e = left_from (check_operations p.image) p.size (k - 2) k op (omega (arith, h)) e
 

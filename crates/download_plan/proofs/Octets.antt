@@ -24,15 +24,6 @@ abbrev pub IsOptionInRange : Option Apdu → Type 0
 IsOptionInRange None = Unit {0}
 IsOptionInRange (Some s) = IsApduInRange s
 
-some_apart : (xs ys : List ℕ) → Some xs ≡ Some ys → xs ≡ ys
-some_apart xs ys e = cc
-
-options_apart : (a b : Option Apdu) → IsOptionInRange a → IsOptionInRange b → option_map apdu_octets a ≡ option_map apdu_octets b → a ≡ b
-options_apart None None h k e = refl
-options_apart None (Some t) h k e = cc
-options_apart (Some s) None h k e = cc
-options_apart (Some s) (Some t) h k e = octets_apart s t h k (some_apart (apdu_octets s) (apdu_octets t) e)
-
 -- what a device answers to a service in range is in range
 range_short : (nv : NonVolatile) (a n : ℕ) → length (range_octets nv a n) ≤ n
 range_short nv a n =

@@ -1,5 +1,5 @@
 -- The pieces of a list, of either size: where they begin, how long they are, and how many there are.
-use Rattle.std.proofs.Common.{ℕ, ◌≡◌, ◌+◌, ◌-◌, ◌/◌, ◌<◌, ◌≤◌, List, length, length-take, length-drop, drop, min, refl, arith}
+use Rattle.std.proofs.Common.{ℕ, ◌≡◌, ◌+◌, ◌-◌, ◌<◌, ◌≤◌, List, length, length-take, length-drop, drop, min, refl, arith}
 use Rattle.knx_model.specs.declared.plan.PieceSize.{PieceSize}
 use Rattle.knx_model.specs.declared.plan.PieceSize.TheVariants.{Twelve, Sixty}
 use Rattle.knx_model.specs.Operations.{piece_octets, piece_start, piece, piece_count}
@@ -39,14 +39,6 @@ pub count_few : (size : PieceSize) (list : List ℕ) → length list ≤ 0x2000 
 unfolding piece_count
 count_few Twelve list h = omega (arith, h)
 count_few Sixty list h = omega (arith, h)
-
-pub count_twelve : (list : List ℕ) → (length list + (12 - 1)) / 12 ≡ piece_count Twelve list
-unfolding piece_count
-count_twelve list = refl
-
-pub count_sixty : (list : List ℕ) → (length list + (60 - 1)) / 60 ≡ piece_count Sixty list
-unfolding piece_count
-count_sixty list = refl
 
 pub piece_length : (size : PieceSize) (list : List ℕ) (k : ℕ) → length (piece size list k) ≡ min (piece_octets size) (length list - piece_start size k)
 unfolding piece

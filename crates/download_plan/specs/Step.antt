@@ -5,9 +5,9 @@ use Rattle.knx_model.specs.declared.loading.LoadEvent.{LoadEvent}
 use Rattle.knx_model.specs.declared.loading.LoadEvent.TheVariants.{StartLoading, LoadCompleted, Allocate, Unload}
 use Rattle.knx_model.specs.declared.loading.LoadableObject.{LoadableObject}
 use Rattle.knx_model.specs.declared.loading.LoadableObject.TheVariants.{AddressTable, AssociationTable, GroupObjects, Application}
-use Rattle.knx_model.specs.declared.frames.tpdu.Apdu.TheVariants.{MemoryRead, MemoryResponse}
+use Rattle.knx_model.specs.declared.frames.tpdu.Apdu.TheVariants.{MemoryRead, MemoryResponse, PropertyRead}
+use Rattle.knx_model.specs.declared.plan.Expect.TheVariants.{Note}
 use Rattle.knx_model.specs.declared.plan.Op.{Op}
-use Rattle.knx_model.specs.declared.plan.Op.TheVariants.{Send}
 use Rattle.knx_model.specs.declared.plan.PieceSize.{PieceSize}
 use Rattle.knx_model.specs.ApduReading.{apdu_octets}
 use Rattle.knx_model.specs.Device.{segment_base, capacity}
@@ -20,7 +20,11 @@ use Rattle.download_plan.specs.declared.step.CheckStep.TheVariants as check
 
 -- an operation in octets
 abbrev pub op_of : Operation → Op
-op_of operation = Send (apdu_octets operation.service) (expect_of operation.expected)
+op_of operation = record { apdu = apdu_octets operation.service; expect = expect_of operation.expected }
+
+-- the greatest length of an APDU is read, and noted
+abbrev pub length_noted : Op
+length_noted = record { apdu = apdu_octets (PropertyRead 0 56 1 1); expect = Note }
 
 -- an event whose octets carry its size
 abbrev pub IsShort : LoadEvent → Type 0

@@ -2,13 +2,10 @@
 //! pieces may be.
 
 ghost use Rattle.std.specs.Prelude.{◌≡◌, ◌≢◌, Some};
-ghost use Rattle.knx_model.specs.declared.plan.Expect.TheVariants.{Note};
-ghost use Rattle.knx_model.specs.declared.plan.Op.TheVariants.{Send};
-ghost use Rattle.knx_model.specs.declared.frames.tpdu.Apdu.TheVariants.{DescriptorRead, DescriptorResponse, PropertyRead};
-ghost use Rattle.knx_model.specs.ApduReading.{apdu_octets};
+ghost use Rattle.knx_model.specs.declared.frames.tpdu.Apdu.TheVariants.{DescriptorRead, DescriptorResponse};
 ghost use Rattle.knx_model.specs.LoadPlan.{size_by, size_told};
 ghost use Rattle.knx_model.specs.Operations.{expecting};
-ghost use Rattle.download_plan.specs.Step.{op_of};
+ghost use Rattle.download_plan.specs.Step.{op_of, length_noted};
 
 use crate::operation::asks;
 use apdu_frames::{service_in, service_octets};
@@ -41,9 +38,9 @@ pub fn read_descriptor() -> Op
 
 /// The greatest length of an APDU is read, and noted.
 pub fn read_greatest_length() -> Op
-    ensures { result ≡ Send (apdu_octets (PropertyRead 0 56 1 1)) Note }
+    ensures { result ≡ length_noted }
 {
-    Op::Send {
+    Op {
         apdu: service_octets(Apdu::PropertyRead {
             object: DEVICE_OBJECT,
             property: GREATEST_LENGTH,

@@ -21,7 +21,7 @@ pub fn asks(service: Apdu, expected: Apdu) -> Op
     requires expected { IsApduInRange expected }
     ensures { result ≡ op_of (expecting service expected) }
 {
-    Op::Send {
+    Op {
         apdu: service_octets(service),
         expect: Expect::Is(service_octets(expected)),
     }
@@ -32,7 +32,7 @@ fn tells(service: Apdu) -> Op
     requires { IsApduInRange service }
     ensures { result ≡ op_of (acknowledged service) }
 {
-    Op::Send {
+    Op {
         apdu: service_octets(service),
         expect: Expect::AckOnly,
     }

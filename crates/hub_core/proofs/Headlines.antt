@@ -11,6 +11,7 @@ use Rattle.line_model.specs.Log.{Job, OneDownloaderPerDevice}
 use Rattle.line_model.specs.Dropped.{dropped}
 use Rattle.line_model.specs.Faults.{tries, FaultRight}
 use Rattle.line_model.specs.Headline.{Keeps, IsGoodJob}
+use Rattle.line_model.proofs.Entries.{entries_placed, entries_counted}
 use Rattle.line_law.specs.Safe.{EachAsked, IsSafe, EverySafeInterleaving}
 use Rattle.hub_core.specs.Discipline.{EachSo, Asks, IsPrompt, TellsAndAsks}
 use Rattle.tunnel_link.specs.declared.known.Known.{Known}
@@ -18,7 +19,6 @@ use Rattle.tunnel_link.specs.Adds.{place_of}
 use Rattle.tunnel_link.specs.Goes as tunnel
 use Rattle.tunnel_link.specs.Rights.{WhereTold, FitsFault, IsKept, KeepsRecord, at_most_64_bits}
 use Rattle.hub_work.specs.declared.work.Work.{Work}
-use Rattle.hub_work.proofs.Growing.{entries_placed, entries_counted}
 use Rattle.hub_core.specs.Keeps.{KeepsTold}
 use Rattle.hub_core.specs.Promises.{DropsIn, FaultRightIn, IsRightOver, IsSafeOver, TellsIn}
 use Rattle.hub_core.proofs.Disciplines.{disciplined}

@@ -7,8 +7,8 @@ use Rattle.line_model.specs.ClientView.{indications}
 use Rattle.line_model.specs.LinkStory.{Story, Untold, Recorded, Full, record_in, places_in}
 use Rattle.line_model.specs.Record.{Entry, entries, counted, placed, record_of}
 use Rattle.line_model.specs.World.{Event}
+use Rattle.line_model.proofs.Entries.{entries_placed, entries_counted}
 use Rattle.tunnel_link.specs.Goes.{GoesOn}
-use Rattle.hub_work.proofs.Growing.{entries_placed, entries_counted}
 use Rattle.hub_core.specs.Hears.{HearsSo}
 use Rattle.hub_driver.specs.Heard.{HeardAll}
 

@@ -4,5 +4,6 @@ pub mod Ends
 pub mod Hearing
 pub mod Leaving
 pub mod New
+pub mod Seats
 pub mod Telling
 pub mod Told

@@ -11,6 +11,7 @@ ghost use Rattle.hub_core.specs.Thorough.{IsThoroughOver};
 ghost use Rattle.hub_driver.specs.Closed.{HasClosed};
 ghost use Rattle.hub_driver.specs.Heard.{HeardAll};
 ghost use Rattle.hub_driver.specs.Leaving.{LeavesOver};
+ghost use Rattle.hub_driver.specs.Seats.{IsOfWorkers};
 ghost use Rattle.line_model.specs.Headline.{Keeps, IsGoodJob};
 ghost use Rattle.line_model.specs.LinkStory.{IsNewLink, record_in};
 ghost use Rattle.line_model.specs.Log.{Job, IsLog, OneDownloaderPerDevice, AllOver, TurnUnfinished};
@@ -71,6 +72,7 @@ pub fn commission<R: Wait, L: Link, G: Gate>(
     ensures over { result.1.fault ≡ None → (all : List Job) → AreJobsOf (map (λ (j : JobOfHub). j.device) jobs) all → AllOver all (reverse result.1.log) }
     ensures told { result.1.fault ≡ None → ¬ TurnUnfinished groups (reverse result.1.log) }
     ensures closed { result.1.fault ≡ None → WhereTold (HasClosed (reverse result.1.log)) (L.story result.0) }
+    ensures seats { IsOfWorkers 1 (reverse result.1.log) }
     ensures heard { result.1.fault ≡ None → HeardAll result.1.heard (record_in (L.story result.0)) }
     ensures missed { result.1.missed ≡ 0 }
     ensures cause { IfSome result.1.fault (λ fault. FailsWhere fault (L.faults link) (L.faults result.0)) }

@@ -12,6 +12,7 @@ use std::alloc::Global;
 
 mod begin;
 mod datagrams;
+mod failing;
 mod line;
 mod polls;
 
@@ -21,8 +22,15 @@ const DEVICE: IndAddr = IndAddr { raw: 0x1105 };
 fn image(alloc: Global) -> Result<Image, NoMemory>
     ensures { IfOk result (λ image. Fits image) }
 {
+    image_linked(alloc, [0x0A, 0x03])
+}
+
+/// One object of one octet, linked to a group address.
+fn image_linked(alloc: Global, group: [u8; 2]) -> Result<Image, NoMemory>
+    ensures { IfOk result (λ image. Fits image) }
+{
     Ok(Image {
-        addr: Octets::from_slice(alloc, &[0x00, 0x01, 0x0A, 0x03])?,
+        addr: Octets::from_slice(alloc, &[0x00, 0x01, group[0], group[1]])?,
         assoc: Octets::from_slice(alloc, &[0x00, 0x01, 0x00, 0x01, 0x00, 0x01])?,
         objs: Octets::from_slice(alloc, &[0x00, 0x01, 0x5F, 0x00])?,
         params: Octets::from_slice(alloc, &[])?,

@@ -1,6 +1,7 @@
 -- A hub's work of which nothing is done fits the record of no moments.
 use Rattle.std.proofs.Common.{◌≡◌, ◌≢◌, ℕ, zero, suc, ◌+◌, ◌-◌, List, [], ◌∷◌, map, Some, refl, sym, ap, subst, ◌∙◌}
 use Rattle.std.specs.Prelude.{slice_get}
+use Rattle.std.proofs.lemmas.Option.{same_Some}
 use Rattle.knx_model.specs.GoodPlan.{IsSendable}
 use Rattle.knx_model.specs.Plans.{Over as IsOver}
 use Rattle.line_model.specs.Log.{Job, Untaken, Held, job_of, turn_of, state_of}
@@ -17,7 +18,6 @@ use Rattle.hub_work.specs.Downloaders.{Task, states, downloader_of, task_of, tas
 use Rattle.hub_work.specs.Fits.{FitsTelegram}
 use Rattle.hub_work.specs.Follows.{BeginsRightly}
 use Rattle.hub_work.proofs.NextTelegram.{nothing_yet}
-use Rattle.hub_work.proofs.Crews.{some_is}
 
 -- ---- the jobs, by device and plan
 
@@ -42,12 +42,12 @@ record Mapped {X Y : Type 0} (f : X → Y) (xs : List X) (i : ℕ) (y : Y) : Typ
 
 mapped_at : {X Y : Type 0} (f : X → Y) (xs : List X) (i : ℕ) (y : Y) → slice_get (map f xs) i ≡ Some y → Mapped f xs i y
 mapped_at f [] i y e = absurd (cc)
-mapped_at f (x ∷ xs) zero y e = record { from = x; there = refl; is = some_is (f x) y e }
+mapped_at f (x ∷ xs) zero y e = record { from = x; there = refl; is = same_Some (f x) y e }
 mapped_at f (x ∷ xs) (suc i) y e = let m = mapped_at f xs i y e in record { from = m.from; there = m.there; is = m.is }
 
 at_map : {X Y : Type 0} (f : X → Y) (xs : List X) (i : ℕ) (x : X) → slice_get xs i ≡ Some x → slice_get (map f xs) i ≡ Some (f x)
 at_map f [] i x e = absurd (cc)
-at_map f (z ∷ xs) zero x e = ap (λ y. Some (f y)) (some_is z x e)
+at_map f (z ∷ xs) zero x e = ap (λ y. Some (f y)) (same_Some z x e)
 at_map f (z ∷ xs) (suc i) x e = at_map f xs i x e
 
 its_job : (hub_jobs : List HubJob) (jobs : List Job) (k : ℕ) (job : Job) → map task_of jobs ≡ map task_of_hub_job hub_jobs → job_of jobs k ≡ Some job → Mapped task_of_hub_job hub_jobs (k - 1) (task_of job)

@@ -21,9 +21,6 @@ same_test since at later k up le = grind (arith, nat_tests)
 isnt_after : (at later k : ℕ) → k ≤ at → (nat_lt at k && nat_le k later) ≡ false
 isnt_after at later k up = grind (arith, nat_tests)
 
-isnt_up_to : (since upto k : ℕ) → upto < k → (nat_lt since k && nat_le k upto) ≡ false
-isnt_up_to since upto k lt = grind (arith, nat_tests)
-
 -- there are no later ones than at the first place
 pub same_up_to : (since at later : ℕ) (l : List Moment) → at ≤ later → UpTo at l → between since later l ≡ between since at l
 same_up_to since at later [] le e = refl
@@ -44,7 +41,3 @@ none_since at later [] e = refl
 none_since at later (m ∷ l) e =
     let up : m.at ≤ at = e.0 in
     ap (λ b. cond b (m ∷ between at later l) (between at later l)) (isnt_after at later m.at up) ∙ none_since at later l e.1
-
--- one behind the last place doesn't count
-pub same_before : (since upto : ℕ) (m : Moment) (l : List Moment) → upto < m.at → between since upto (m ∷ l) ≡ between since upto l
-same_before since upto m l lt = ap (λ b. cond b (m ∷ between since upto l) (between since upto l)) (isnt_up_to since upto m.at lt)

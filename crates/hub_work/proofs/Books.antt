@@ -1,5 +1,5 @@
 -- Each entry of the log keeps the books: a job that is taken, a job that has ended, and a group telegram that is told.
-use Rattle.std.proofs.Common.{◌≡◌, ◌≢◌, ◌⊎◌, inl, inr, ℕ, zero, suc, ◌-◌, ◌<◌, ◌≤◌, List, [], ◌∷◌, length, set, Option, Some, None, refl, sym, ap, subst, ◌∙◌, arith}
+use Rattle.std.proofs.Common.{◌≡◌, ◌≢◌, ◌⊎◌, inl, inr, ℕ, zero, suc, ◌-◌, ◌≤◌, List, [], ◌∷◌, set, Option, Some, None, refl, sym, ap, subst, ◌∙◌, arith}
 use Rattle.std.specs.Prelude.{slice_get}
 use Rattle.knx_model.specs.declared.address.IndAddr.{IndAddr}
 use Rattle.line_model.specs.declared.group.GroupTurn.{GroupTurn}
@@ -7,7 +7,7 @@ use Rattle.line_model.specs.declared.log.LogEntry.{LogEntry}
 use Rattle.line_model.specs.declared.log.LogWhat.{LogWhat}
 use Rattle.line_model.specs.declared.log.LogWhat.TheVariants.{Took, Done, Failed, Refused, Sent, Lost}
 use Rattle.line_model.specs.Log as logs
-use Rattle.line_model.specs.Log.{Job, IsLog, IsEntry, MayFollow, EndsHeld, IsNextTurn, state_of, latest}
+use Rattle.line_model.specs.Log.{Job, IsLog, MayFollow, EndsHeld, IsNextTurn, state_of, latest}
 use Rattle.device_reservation.specs.declared.stage.Stage.TheVariants.{Untaken, Held, Over}
 use Rattle.device_reservation.specs.Reservation.{Reservation, IsFirstFree, IsHeld, stage_of, job_taken, job_ended}
 use Rattle.device_reservation.specs.Reserved.{MayEnter, after_entry, reservation_after}
@@ -50,11 +50,6 @@ by_log : (P : Reservation → Type 0) (r : Reservation) (held : List (Option ℕ
 by_log P r held l live p jobs of = subst P (sym (live.reservation_is jobs of)) p
 
 -- ---- what a worker holds
-
-set_there : {X : Type 0} (xs : List X) (i : ℕ) (y : X) → i < length xs → slice_get (set xs i y) i ≡ Some y
-set_there [] i y lt = absurd (omega arith)
-set_there (x ∷ xs) zero y lt = refl
-set_there (x ∷ xs) (suc i) y lt = set_there xs i y (omega arith)
 
 -- what is read after a writing was written there, or stood there before
 read_after : {X : Type 0} (xs : List X) (i j : ℕ) (y z : X) → slice_get (set xs i y) j ≡ Some z → ((j ≡ i) × (y ≡ z)) ⊎ ((j ≢ i) × (slice_get xs j ≡ Some z))
@@ -184,14 +179,6 @@ told_live r held at turn what l tells live = record {
 }
 
 -- ---- the workers
-
--- a worker's counts change, and its job stays
-pub same_jobs : (held : List (Option Holding)) (place : ℕ) (old new : Holding) → Some old ≡ held_at held place → new.job ≡ old.job → jobs_held (set held place (Some new)) ≡ jobs_held held
-same_jobs [] place old new e same = absurd (cc)
-same_jobs (h ∷ held) zero old new e same =
-    let is : h ≡ Some old = sym e in
-    ap (λ (j : Option ℕ). j ∷ jobs_held held) (ap Some same ∙ sym (ap job_in is))
-same_jobs (h ∷ held) (suc place) old new e same = ap (λ (l : List (Option ℕ)). job_in h ∷ l) (same_jobs held place old new e same)
 
 -- the worker that holds a job holds it in the reservation
 pub holds_it : (r : Reservation) (held : List (Option Holding)) (l : List LogEntry) (worker : ℕ) (h : Holding) → IsLive r (jobs_held held) l → 1 ≤ worker → Some h ≡ held_at held (worker - 1) → stage_of r h.job ≡ Some (Held worker)

@@ -1,7 +1,8 @@
 -- For which workers something came.
 use Rattle.std.proofs.Common.{◌≡◌, ◌≢◌, ◌⊎◌, inl, inr, ℕ, zero, suc, ◌+◌, ◌-◌, ◌<◌, ◌≤◌, eqb, Bool, true, false, List, [], ◌∷◌, length, Option, Some, None, refl, sym, ap, subst, ◌∙◌, arith}
+use Rattle.std.proofs.lemmas.Option.{same_Some}
 use Rattle.std.specs.Prelude.{◌&&◌, is_some, nat_lt, slice_get, option_map}
-use Rattle.std.proofs.lemmas.Bool.{cases_eq, eq-eqb, ne_eqb}
+use Rattle.std.proofs.lemmas.Bool.{cases_eq, cases_lt, eq-eqb, ne_eqb}
 use Rattle.std.proofs.lemmas.Bool.Decides.{nat_tests}
 use Rattle.knx_model.specs.declared.address.IndAddr.{IndAddr}
 use Rattle.knx_model.specs.declared.frames.cemi.Ldata.{Ldata}
@@ -27,7 +28,7 @@ use Rattle.hub_work.specs.Polls.{next_of_job}
 use Rattle.hub_work.specs.Works.{KeepsBooks}
 use Rattle.hub_work.proofs.Came.{same_where, nowhere}
 use Rattle.hub_work.proofs.Changed.{changed_elsewhere}
-use Rattle.hub_work.proofs.Crews.{cases_lt, some_is, holding_at, job_at}
+use Rattle.hub_work.proofs.Crews.{holding_at, job_at}
 use Rattle.hub_work.proofs.Lost.{at_holding}
 
 -- ---- a worker by its number
@@ -185,7 +186,7 @@ module _ (n : ℕ) (old cur new : Work) (same : holdings cur.crew ≡ holdings o
     as_before (Some g) None eo ep = let x = held_before old.crew cur.crew n g same eo in let isnt : Some x.0 ≡ None = x.1 ∙ sym ep in absurd (cc)
     as_before (Some g) (Some h) eo ep =
         let x = held_before old.crew cur.crew n g same eo in
-        let one : x.0 ≡ h = some_is x.0 h (x.1 ∙ sym ep) in
+        let one : x.0 ≡ h = same_Some x.0 h (x.1 ∙ sym ep) in
         let job : h.job ≡ g.job = sym (ap (λ (y : Held). y.job) one) ∙ x.2 in
         let there : downloader_of (states cur.downloaders) g.job ≡ downloader_of (states old.downloaders) g.job =
         others g.job (λ place y lt e its. let here : place ≡ n = held_once old at place n y h books e ep (its ∙ sym job) in omega (arith, lt, here)) in

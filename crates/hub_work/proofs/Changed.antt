@@ -1,14 +1,12 @@
 -- The downloaders of a run's jobs after one of them was changed.
-use Rattle.std.proofs.Common.{◌≡◌, ◌≢◌, ℕ, zero, suc, ◌-◌, ◌<◌, ◌≤◌, cond, get_or, List, [], ◌∷◌, ◌++◌, length, map, set, Some, None, refl, sym, ap, subst, ◌∙◌, arith}
+use Rattle.std.proofs.Common.{◌≡◌, ◌≢◌, ℕ, zero, suc, ◌-◌, ◌<◌, ◌≤◌, cond, get_or, List, [], ◌∷◌, length, map, set, Some, None, refl, sym, ap, subst, ◌∙◌, arith}
 use Rattle.std.specs.Prelude.{slice_get}
 use Rattle.std.proofs.lemmas.Bool.{ne_eqb}
 use Rattle.std.proofs.lemmas.Option.{slice_get-get_or}
 use Rattle.line_model.specs.Log.{numbered_from_one}
-use Rattle.download_core.specs.Keeps.{Known, state_of}
 use Rattle.download_core.specs.Attempt.{DownloaderState}
-use Rattle.hub_work.specs.declared.job.HubJob.{HubJob}
 use Rattle.device_reservation.proofs.Numbered.{by_place, from_1}
-use Rattle.hub_work.specs.Downloaders.{downloader_of, states, changed, changed_at, task_of_state, new_of_job}
+use Rattle.hub_work.specs.Downloaders.{downloader_of, changed, changed_at, task_of_state}
 
 abbrev pub Change : Type 0
 Change = DownloaderState → DownloaderState
@@ -82,16 +80,3 @@ none_changed f (suc i) (z ∷ all) e = ap (λ ss. z ∷ ss) (none_changed f i al
 pub changed_none : (f : Change) (k : ℕ) (all : List DownloaderState) → downloader_of all k ≡ None → all ≡ changed f k all
 changed_none f zero all e = refl
 changed_none f (suc k) all e = sym (numbered f (suc k) all (omega arith) ∙ none_changed f (suc k - 1) all (sym (by_place all (suc k) (omega arith)) ∙ e))
-
--- ---- at the beginning
-
-pub one_made : (made : List Known) (d : Known) (job : HubJob) (rest : List HubJob) → state_of d ≡ new_of_job job → states (made ++ d ∷ []) ++ map new_of_job rest ≡ states made ++ map new_of_job (job ∷ rest)
-one_made [] d job rest e = ap (λ s. s ∷ map new_of_job rest) e
-one_made (x ∷ made) d job rest e = ap (λ ss. state_of x ∷ ss) (one_made made d job rest e)
-
-all_made : (made : List Known) → states made ++ [] ≡ states made
-all_made [] = refl
-all_made (x ∷ made) = ap (λ ss. state_of x ∷ ss) (all_made made)
-
-pub made_of_all : (made : List Known) (rest jobs : List HubJob) → rest ≡ [] → states made ++ map new_of_job rest ≡ map new_of_job jobs → states made ≡ map new_of_job jobs
-made_of_all made rest jobs e h = sym (all_made made) ∙ (ap (λ (r : List HubJob). states made ++ map new_of_job r) (sym e) ∙ h)

@@ -1,6 +1,6 @@
 -- A hub's work fits the record after a confirmation: of nobody's request, of a group telegram, and of a job's frame.
 use Rattle.std.proofs.Common.{◌≡◌, ◌≢◌, inl, inr, ◌↔◌, ℕ, ◌-◌, ◌≤◌, Bool, true, false, List, ◌∷◌, length, Option, Some, None, refl, sym, ap, subst, ◌∙◌}
-use Rattle.std.proofs.lemmas.Bool.{cases_eq}
+use Rattle.std.proofs.lemmas.Bool.{cases_eq, cases_lt}
 use Rattle.line_model.specs.declared.group.GroupTurn.{GroupTurn}
 use Rattle.line_model.specs.Moments.{Moment, between}
 use Rattle.line_model.specs.Log.{Job, Untaken, Held, state_of}
@@ -24,7 +24,7 @@ use Rattle.hub_work.specs.Comes.{Confirms, ConfirmationFollows}
 use Rattle.hub_work.specs.Works.{KeepsBooks, SameBooks}
 use Rattle.hub_work.specs.Telegrams.{Telling, after_confirmation}
 use Rattle.hub_work.proofs.Changed.{changed_there, changed_elsewhere}
-use Rattle.hub_work.proofs.Crews.{cases_lt, unheld, same_slot, same_worker, within_crew, crew_holds_worker}
+use Rattle.hub_work.proofs.Crews.{unheld, same_slot, same_worker, within_crew, crew_holds_worker}
 use Rattle.hub_work.proofs.Events.{fits_on}
 use Rattle.hub_work.proofs.JobEvents.{job_on, not_flying, others_become, confirmed_becomes, landed}
 use Rattle.hub_work.proofs.Moments.{changed_books}

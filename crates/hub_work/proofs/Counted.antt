@@ -1,5 +1,6 @@
 -- By record and log, what is for a worker's job is counted.
 use Rattle.std.proofs.Common.{◌≡◌, inl, inr, ℕ, suc, ◌+◌, ◌<◌, eqb, Bool, true, false, List, [], ◌∷◌, Option, Some, None, refl, sym, ap, subst, ◌∙◌, arith}
+use Rattle.std.proofs.lemmas.Option.{same_Some}
 use Rattle.std.specs.Prelude.{◌&&◌, is_some, not, option_map}
 use Rattle.std.proofs.lemmas.Bool.{cases_eq, eq-eqb, ne_eqb}
 use Rattle.knx_model.specs.declared.address.IndAddr.{IndAddr}
@@ -41,7 +42,7 @@ use Rattle.hub_work.specs.Laws.{Laws}
 use Rattle.hub_work.specs.Works.{KeepsBooks}
 use Rattle.hub_work.proofs.Between.{same_up_to}
 use Rattle.hub_work.proofs.CameFor.{held_once}
-use Rattle.hub_work.proofs.Crews.{IsHeldSo, held_so, some_is}
+use Rattle.hub_work.proofs.Crews.{IsHeldSo, held_so}
 use Rattle.hub_work.proofs.Deeds.{confirms, hears, nothing, nothing_of_req, nothing_of_group}
 use Rattle.hub_work.proofs.Heard.{one_job, of_it}
 
@@ -139,7 +140,7 @@ module _ (laws : Laws) (old : Work) (jobs : List Job) (before at place : ℕ) (m
   number = (same_state i.holds.worker (suc place) i.since its.since (sym i.holds.held ∙ its.held)).0
 
   its_device : its.job.device.raw ≡ i.job.device.raw
-  its_device = ap (λ (j : Job). j.device.raw) (some_is its.job i.job (sym its.there ∙ i.holds.there))
+  its_device = ap (λ (j : Job). j.device.raw) (same_Some its.job i.job (sym its.there ∙ i.holds.there))
 
   j : FitsJob old before (between i.since at l) i.held.job i.holds.worker i.job
   j = f.held i.held.job i.holds.worker i.since i.job i.holds.there i.holds.held

@@ -1,9 +1,7 @@
 -- What the workers hold, and the jobs that they hold by the log.
-use Rattle.std.proofs.Common.{◌≡◌, ◌≢◌, ◌⊎◌, inl, inr, Bool, true, false, ℕ, ◌+◌, zero, suc, ◌-◌, ◌<◌, ◌≤◌, List, [], ◌∷◌, length, map, set, Option, Some, None, refl, sym, ap, subst, ◌∙◌, arith}
+use Rattle.std.proofs.Common.{◌≡◌, ◌≢◌, Bool, true, ℕ, zero, suc, ◌-◌, ◌<◌, ◌≤◌, List, [], ◌∷◌, length, map, set, Option, Some, None, refl, sym, ap, subst, ◌∙◌, arith}
 use Rattle.std.specs.Prelude.{slice_get}
-use Rattle.std.proofs.lemmas.Bool.{cases_eq}
 use Rattle.std.proofs.lemmas.List.{map-set}
-use Rattle.knx_model.specs.declared.address.IndAddr.{IndAddr}
 use Rattle.line_model.specs.Moments.{Moment, between}
 use Rattle.line_model.specs.Log.{Job, Held, job_of, state_of}
 use Rattle.device_reservation.specs.declared.stage.Stage.TheVariants.{Held as IsHeldBy}
@@ -12,7 +10,7 @@ use Rattle.device_reservation.proofs.Logged.{held_by_log}
 use Rattle.hub_work.specs.declared.crew.Held.{Held as Holds}
 use Rattle.hub_work.specs.declared.work.Sender.TheVariants.{Worker}
 use Rattle.hub_work.specs.declared.work.Work.{Work}
-use Rattle.hub_work.specs.Books.{AreJobsOf, job_in, jobs_held, held_at, is_of_device}
+use Rattle.hub_work.specs.Books.{AreJobsOf, job_in, jobs_held, held_at}
 use Rattle.hub_work.specs.Crew.{Holding, holding_in, holdings, begun_in, after_begun}
 use Rattle.hub_work.specs.Works.{KeepsBooks}
 use Rattle.hub_work.specs.Fits.{Fits, FitsJob}
@@ -102,19 +100,6 @@ none_begun crew place at is e = subst (λ (i : ℕ). holdings crew ≡ after_beg
     here (Some h ∷ crew) zero e = absurd (cc)
     here (x ∷ crew) (suc place) e = ap (λ (os : List (Option Holding)). holding_in x ∷ os) (here crew place e)
 
--- ---- the worker of a device
-
-pub one_place_more : (crew : List (Option Holds)) (device : IndAddr) (n k : ℕ) (b : Bool) → b ≡ is_of_device device (held_at crew n) → b ≡ false → ((i : ℕ) → i < n → is_of_device device (held_at crew i) ≡ false) → k < n + 1 → is_of_device device (held_at crew k) ≡ false
-one_place_more crew device n k b is e older lt = elim (cases_eq k n) [
-  | inl same ↦ ap (λ i. is_of_device device (held_at crew i)) same ∙ (sym is ∙ e)
-  | inr apart ↦ older k (omega arith)
-]
-
-pub all_places : (crew : List (Option Holds)) (device : IndAddr) (n : ℕ) → length crew ≤ n → ((i : ℕ) → i < n → is_of_device device (held_at crew i) ≡ false) → (k : ℕ) → is_of_device device (held_at crew k) ≡ false
-all_places [] device n le older k = refl
-all_places (x ∷ crew) device n le older zero = older 0 (omega arith)
-all_places (x ∷ crew) device n le older (suc k) = all_places crew device (n - 1) (omega arith) (λ i lt. older (suc i) (omega arith)) k
-
 -- ---- an attempt of one worker's job has begun
 
 pub begun_there : (place : ℕ) (held : List (Option Holding)) (x : Holding) → slice_get held place ≡ Some (Some x) → slice_get (after_begun place held) place ≡ Some (Some (record x { begun = true }))
@@ -175,17 +160,6 @@ crew_holds_worker w jobs at worker h from books of e =
     (c.0, c.1 ∙ ap (λ n. Held n c.0) number)
 
 -- ---- a job that a worker at a place holds, by log and crew
-
-pub cases_lt : (a b : ℕ) → (a < b) ⊎ (b ≤ a)
-cases_lt a zero = inr (omega arith)
-cases_lt zero (suc b) = inl (omega arith)
-cases_lt (suc a) (suc b) = elim (cases_lt a b) [
-  | inl lt ↦ inl (omega arith)
-  | inr le ↦ inr (omega arith)
-]
-
-pub some_is : {X : Type 0} (x y : X) → Some x ≡ Some y → x ≡ y
-some_is x y e = cc
 
 there_is : {X : Type 0} (o : Option X) → o ≢ None → (x : X) × (o ≡ Some x)
 there_is None e = absurd (e refl)

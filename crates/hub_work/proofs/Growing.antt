@@ -1,17 +1,18 @@
 -- What entries that come later leave of the old ones: the moments up to a place, and what was told.
-use Rattle.std.proofs.Common.{◌≡◌, ℕ, suc, ◌<◌, ◌≤◌, List, [], ◌∷◌, ◌++◌, length, Bool, true, false, ◌&&◌, cond, Option, Some, None, refl, sym, ◌∙◌, ap, subst, arith}
-use Rattle.std.specs.Prelude.{nat_lt, nat_le}
+use Rattle.std.proofs.Common.{◌≡◌, ℕ, suc, ◌<◌, ◌≤◌, List, [], ◌∷◌, ◌++◌, length, true, Option, Some, None, refl, sym, ◌∙◌, ap, subst, arith}
+use Rattle.std.specs.Prelude.{nat_lt}
 use Rattle.std.specs.List.{AllByRecursion}
 use Rattle.line_model.specs.declared.group.GroupTurn.{GroupTurn}
 use Rattle.line_model.specs.declared.log.LogEntry.{LogEntry}
 use Rattle.line_model.specs.declared.log.LogWhat.{LogWhat}
 use Rattle.line_model.specs.declared.log.LogWhat.TheVariants.{Took, Done, Failed, Refused, Sent, Lost}
-use Rattle.line_model.specs.Record.{Item, Entry, entry, Placed, placed_if, placed, counted, entries, item_at, noted, record_of}
+use Rattle.line_model.specs.Record.{Item, Entry, Placed, placed_if, placed, counted, item_at}
 use Rattle.line_model.specs.World.{World, Event, now, replay}
-use Rattle.line_model.specs.Moments.{Moment, moments, between}
+use Rattle.line_model.specs.Moments.{moments, between}
 use Rattle.line_model.specs.Log.{Job, JobState, Untaken, Held, Over, job_of, turn_of, state_of, log_before, IsLog}
 use Rattle.line_model.specs.Told.{ToldTruly, IsTrue, OfJob, OfTurn, session_since, WentThrough, IsRefused, PutOnce, IsConfirmed, IsLoss}
 use Rattle.line_model.specs.Signs.{SignsHold}
+use Rattle.line_model.proofs.Moments.{not_yet}
 
 -- ---- places
 
@@ -29,10 +30,6 @@ pub upto_more : (n m : ℕ) (places : List Placed) → n ≤ m → AreUpto n pla
 upto_more n m [] le h = tt
 upto_more n m (p ∷ places) le h = (let f = h.0 in omega (arith, le, f), upto_more n m places le h.1)
 
-pub upto_joined : (n : ℕ) (added old : List Placed) → AreUpto n added → AreUpto n old → AreUpto n (added ++ old)
-upto_joined n [] old a o = o
-upto_joined n (p ∷ added) old a o = (a.0, upto_joined n added old a.1 o)
-
 -- ---- of a link that tells something, each place is at most its number of events or of entries
 
 pub placed_upto : (start : World) (events : List Event) → AreUpto (length events) (placed start events)
@@ -46,25 +43,7 @@ pub counted_upto : (r : List Entry) → AreUpto (length r) (counted r)
 counted_upto [] = tt
 counted_upto (x ∷ r) = (omega arith, upto_more (length r) (suc (length r)) (counted r) (omega arith) (counted_upto r))
 
-pub entries_placed : (start : World) (events : List Event) → entries (placed start events) ≡ record_of start events
-entries_placed start [] = refl
-entries_placed start (e ∷ events) = by_item (item_at (replay start events) e) (entries_placed start events) where
-  by_item : (o : Option Item) → entries (placed start events) ≡ record_of start events → entries (placed_if (length (e ∷ events)) (now (replay start (e ∷ events))) o (placed start events)) ≡ noted o (now (replay start (e ∷ events))) (record_of start events)
-  by_item None q = q
-  by_item (Some what) q = ap (λ z. entry what (now (replay start (e ∷ events))) ∷ z) q
-
-pub entries_counted : (r : List Entry) → entries (counted r) ≡ r
-entries_counted [] = refl
-entries_counted (x ∷ r) = ap (λ z. x ∷ z) (entries_counted r)
-
 -- ---- the moments up to a place stay
-
-pub not_yet : (since upto : ℕ) (m : Moment) (l : List Moment) → upto < m.at → between since upto (m ∷ l) ≡ between since upto l
-not_yet since upto m l h = by_test (nat_lt since m.at) (nat_le m.at upto) (grind (arith, h)) where
-  by_test : (b c : Bool) → c ≡ false → ◌≡◌ {A = List Moment} (cond (b && c) (m ∷ between since upto l) (between since upto l)) (between since upto l)
-  by_test true true e = absurd (cc)
-  by_test true false e = refl
-  by_test false c e = refl
 
 pub between_grown : (since upto : ℕ) (added old : List Placed) → AreAbove upto added → between since upto (moments (added ++ old)) ≡ between since upto (moments old)
 between_grown since upto [] old h = refl

@@ -1,7 +1,7 @@
 -- A hub's work fits the record after a frame of a device, and after the loss of the channel.
-use Rattle.std.proofs.Common.{◌≡◌, ◌≢◌, inl, inr, ℕ, suc, ◌-◌, eqb, Bool, true, false, List, ◌∷◌, length, Option, Some, None, refl, sym, ap, subst, ◌∙◌, arith}
-use Rattle.std.proofs.lemmas.Bool.{cases_eq, eq-eqb}
-use Rattle.std.proofs.lemmas.Bool.Decides.{nat_tests}
+use Rattle.std.proofs.Common.{◌≡◌, ◌≢◌, inl, inr, ℕ, suc, ◌-◌, eqb, Bool, true, false, List, ◌∷◌, length, Option, Some, None, refl, sym, ap, subst, ◌∙◌}
+use Rattle.std.proofs.lemmas.Bool.{cases_eq, eq-eqb, eqb-true, cases_lt}
+use Rattle.std.proofs.lemmas.Option.{same_Some}
 use Rattle.knx_model.specs.declared.address.IndAddr.{IndAddr}
 use Rattle.knx_model.specs.declared.frames.cemi.Ldata.{Ldata}
 use Rattle.line_model.specs.Moments.{Moment, between, is_loss, confirmation_in}
@@ -23,7 +23,7 @@ use Rattle.hub_work.specs.Follows.{IsNew}
 use Rattle.hub_work.specs.Comes.{Hears, HearingFollows}
 use Rattle.hub_work.specs.Works.{KeepsBooks, SameBooks}
 use Rattle.hub_work.proofs.Changed.{changed_there, changed_elsewhere}
-use Rattle.hub_work.proofs.Crews.{IsHeldSo, held_so, some_is, held_anywhere, cases_lt}
+use Rattle.hub_work.proofs.Crews.{IsHeldSo, held_so, held_anywhere}
 use Rattle.hub_work.proofs.Events.{fits_on}
 use Rattle.hub_work.proofs.HeldJobs.{alone_held}
 use Rattle.hub_work.proofs.JobEvents.{job_on, aside_becomes, heard_becomes, heard_flies, taken_at_rest}
@@ -41,11 +41,8 @@ pub one_job : (jobs : List Job) (old : Work) (before at : ℕ) (l : List Moment)
 one_job jobs old before at l j k w s v t a b books f ja kb e sj sk =
     alone_held jobs old.journal.entries j k w s v t (one_downloader jobs old.journal.entries (books.written.reserved jobs f.devices)) (same_device (job_of jobs j) (job_of jobs k) a b ja kb e) sj sk
 
-is_raw : (a b : ℕ) → eqb a b ≡ true → a ≡ b
-is_raw a b e = grind (arith, nat_tests)
-
 pub of_it : (device : IndAddr) (h : Holds) → is_of_device device (Some h) ≡ true → h.device.raw ≡ device.raw
-of_it device h e = is_raw h.device.raw device.raw e
+of_it device h e = eqb-true h.device.raw device.raw e
 
 -- ---- a frame of a device
 
@@ -78,7 +75,7 @@ module _ (laws : Laws) (jobs : List Job) (old new : Work) (source : ℕ) (tpdu :
   })
     where
       still_moment : (b : Bool) → eqb 0 source ≡ b → (is_loss m.what ≡ false) × (confirmation_in m.what ≡ None)
-      still_moment true e = let w = c.to (record { raw = 0 }) (is_raw 0 source e) in (w.lasts, w.confirmed_is)
+      still_moment true e = let w = c.to (record { raw = 0 }) (eqb-true 0 source e) in (w.lasts, w.confirmed_is)
       still_moment false e = let w = c.others (record { raw = 0 }) (λ is. let t : eqb 0 source ≡ true = eq-eqb 0 source is in absurd (cc)) in (w.lasts, w.confirmed_is)
 
   -- a worker holds a job of the device
@@ -111,7 +108,7 @@ module _ (laws : Laws) (jobs : List Job) (old new : Work) (source : ℕ) (tpdu :
 
           of_source : k ≡ h.job → job.device.raw ≡ source
           of_source same =
-              let one : job ≡ its.job = some_is job its.job (sym there ∙ (ap (job_of jobs) same ∙ its.there)) in
+              let one : job ≡ its.job = same_Some job its.job (sym there ∙ (ap (job_of jobs) same ∙ its.there)) in
               ap (λ (x : Job). x.device.raw) one ∙ (ap (λ (d : IndAddr). d.raw) its.device ∙ is)
 
   -- none does

@@ -1,16 +1,12 @@
 -- The jobs that workers hold by the log: each is there, is held since a place that was, and no two of them are of one device.
 use Rattle.std.proofs.Common.{◌≡◌, ◌≢◌, inl, inr, ℕ, ◌≤◌, eqb, Bool, true, false, List, [], ◌∷◌, Option, Some, None, refl, sym, ap, subst, ◌∙◌, arith}
 use Rattle.std.specs.Prelude.{if◌then◌else◌}
-use Rattle.std.proofs.lemmas.Bool.{cases_eq, ne_eqb}
-use Rattle.std.proofs.lemmas.Bool.Decides.{nat_tests}
+use Rattle.std.proofs.lemmas.Bool.{cases_eq, ne_eqb, eqb-true}
 use Rattle.line_model.specs.declared.group.GroupTurn.{GroupTurn}
 use Rattle.line_model.specs.declared.log.LogEntry.{LogEntry}
 use Rattle.line_model.specs.declared.log.LogWhat.{LogWhat}
 use Rattle.line_model.specs.declared.log.LogWhat.TheVariants.{Took, Done, Failed, Refused, Sent, Lost}
 use Rattle.line_model.specs.Log.{Job, JobState, Held, Over, IsLog, MayFollow, SameDevice, IsFree, TakesFree, OneDownloaderPerDevice, job_of, state_of, takes_it, ends_it, is_turn, turn_place}
-
-is_same : (k n : ℕ) → eqb k n ≡ true → k ≡ n
-is_same k n t = grind (arith, nat_tests)
 
 -- ---- where the newest entry didn't take the job, it was held before
 
@@ -32,7 +28,7 @@ same_hold by at worker since e = (cc, cc)
 taken_now : (jobs : List Job) (turns : List GroupTurn) (count k worker since : ℕ) (by at : ℕ) (what : LogWhat) (log : List LogEntry) → at ≤ count → MayFollow jobs turns by log what → takes_it k what ≡ true → Held by at ≡ Held worker since
     → IsHeldIn jobs count k worker since
 taken_now jobs turns count k worker since by at (Took j) log up may t e =
-    let is : j ≡ k = is_same j k t in
+    let is : j ≡ k = eqb-true j k t in
     let s : (by ≡ worker) × (at ≡ since) = same_hold by at worker since e in
     let b : by ≡ worker = s.0 in
     let a : at ≡ since = s.1 in

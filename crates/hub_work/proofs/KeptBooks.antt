@@ -94,5 +94,5 @@ tell_books w v at k what b tells next few er ec eu en et el room = record {
 
 -- ---- the beginning, all of it
 
-pub begins_books : (devices : List IndAddr) (turns : List GroupTurn) (w : Work) (at : ℕ) → BeginsWith devices turns w → KeepsBooks at w
-begins_books devices turns w at b = record { written = begins_written devices turns w at b; telling = begins_telling devices turns w b; live = begins_live devices turns w b; counts = begins_counts devices turns w b }
+pub begins_books : (workers : ℕ) (devices : List IndAddr) (turns : List GroupTurn) (w : Work) (at : ℕ) → BeginsWith workers devices turns w → KeepsBooks at w
+begins_books workers devices turns w at b = record { written = begins_written workers devices turns w at b; telling = begins_telling workers devices turns w b; live = begins_live workers devices turns w b; counts = begins_counts workers devices turns w b }

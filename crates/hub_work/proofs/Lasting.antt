@@ -1,7 +1,7 @@
 -- How long a poll may last, worker by worker.
 use Rattle.std.proofs.Common.{◌≡◌, ◌⊎◌, inl, inr, ℕ, zero, suc, ◌+◌, ◌<◌, ◌≤◌, Bool, true, false, List, [], ◌∷◌, length, min, Option, Some, None, refl, sym, subst, ap, ◌∙◌, arith}
 use Rattle.std.specs.Prelude.{nat_le, ◌&&◌}
-use Rattle.std.proofs.lemmas.Bool.{cases_eq}
+use Rattle.std.proofs.lemmas.Bool.{cases_eq, cases_lt}
 use Rattle.std.proofs.lemmas.Bool.Decides.{nat_tests}
 use Rattle.line_model.specs.Waiting.{longest_poll, PollEnds, AsLongAsItMay, AtDeadline, AtLastTime, LastsUntil}
 use Rattle.hub_work.specs.declared.crew.Held.{Held}
@@ -9,18 +9,6 @@ use Rattle.hub_work.specs.declared.work.Work.{Work}
 use Rattle.hub_work.specs.Books.{held_at}
 use Rattle.hub_work.specs.Downloaders.{states}
 use Rattle.hub_work.specs.Polls.{does_something, next_of_job, is_busy, is_busy_at, deadline_of, deadline_at, end_of_closing, IsDue, OfClosing, OfWorker, LooksOrLasts}
-
--- ---- one deadline
-
-some_time : (a b : ℕ) → Some a ≡ Some b → a ≡ b
-some_time a b e = cc
-
-pub same_deadline : (deadline : Option ℕ) (time t now wait : ℕ) → deadline ≡ Some time → deadline ≡ Some t → now + wait ≤ time → now + wait ≤ t
-same_deadline deadline time t now wait is other le = let same : time ≡ t = some_time time t (sym is ∙ other) in omega (arith, le, same)
-
--- one that is reached is no other
-pub other_deadline : (deadline : Option ℕ) (time t now : ℕ) → deadline ≡ Some time → deadline ≡ Some t → time ≤ now → now < t → ⊥
-other_deadline deadline time t now is other le lt = let same : time ≡ t = some_time time t (sym is ∙ other) in omega (arith, le, lt, same)
 
 -- ---- the shorter of two waits
 
@@ -63,13 +51,6 @@ idle_part w now has_place place wait h does deadline e none acts idle due lasts 
     let rests : is_busy (states w.downloaders) now has_place (Some h) ≡ false = rw (empty, ← acts) idle in
     subst (λ (o : Option Held). LooksOrLasts (is_busy (states w.downloaders) now has_place o) (deadline_of (states w.downloaders) o) now wait) e
     (subst (λ (b : Bool). LooksOrLasts b (deadline_of (states w.downloaders) (Some h)) now wait) (sym rests) (subst (λ (d : Option ℕ). LastsUntil longest_poll (λ t. d ≡ Some t) now wait) due lasts))
-
-pub not_begun : (b does : Bool) → b ≡ false → (b && does) ≡ false
-not_begun b does is = rw is refl
-
-pub does_nothing : (b does : Bool) → does ≡ false → (b && does) ≡ false
-does_nothing true does is = is
-does_nothing false does is = refl
 
 -- ---- of the workers at the places before this one
 
@@ -137,14 +118,6 @@ beyond (x ∷ crew) zero le = absurd (omega (arith, le))
 beyond (x ∷ crew) (suc place) le = beyond crew place (omega (arith, le))
 
 module _ (w : Work) (now : ℕ) (has_place : Bool) (n wait : ℕ) (all : length w.crew ≤ n) (so_far : LooksSoFar w now has_place n wait) where
-  cases_lt : (a b : ℕ) → (a < b) ⊎ (b ≤ a)
-  cases_lt a zero = inr (omega arith)
-  cases_lt zero (suc b) = inl (omega arith)
-  cases_lt (suc a) (suc b) = elim (cases_lt a b) [
-    | inl lt ↦ inl (omega (arith, lt))
-    | inr le ↦ inr (omega (arith, le))
-  ]
-
   none_there : (place : ℕ) → n ≤ place → held_at w.crew place ≡ None
   none_there place le = beyond w.crew place (omega (arith, le, all))
 

@@ -1,8 +1,9 @@
 -- A hub's work fits the record after the loss of the channel.
 use Rattle.std.proofs.Common.{◌≡◌, ◌≢◌, ◌⊎◌, inl, inr, ℕ, zero, suc, ◌+◌, ◌-◌, ◌<◌, ◌≤◌, false, List, [], ◌∷◌, length, Option, Some, None, refl, sym, ap, subst, ◌∙◌, arith}
 use Rattle.std.specs.Prelude.{slice_get}
-use Rattle.std.proofs.lemmas.Bool.{cases_eq}
+use Rattle.std.proofs.lemmas.Bool.{cases_eq, cases_lt}
 use Rattle.std.proofs.lemmas.List.{length-map}
+use Rattle.std.proofs.lemmas.Option.{same_Some}
 use Rattle.line_model.specs.ClientView.{Loses}
 use Rattle.line_model.specs.Moments.{Moment, between, is_loss, put_to, put_frame}
 use Rattle.line_model.specs.Log.{Job}
@@ -24,7 +25,7 @@ use Rattle.hub_work.specs.Comes.{lost_for}
 use Rattle.hub_work.specs.Telegrams.{Telling, after_loss}
 use Rattle.hub_work.specs.Works.{SameBooks}
 use Rattle.hub_work.proofs.Changed.{changed_there, changed_elsewhere}
-use Rattle.hub_work.proofs.Crews.{cases_lt, some_is, same_held_job}
+use Rattle.hub_work.proofs.Crews.{same_held_job}
 use Rattle.hub_work.proofs.Events.{fits_on}
 use Rattle.hub_work.proofs.JobEvents.{job_on, lost_becomes, lost_lands, lost_twice, lost_at_rest}
 use Rattle.hub_work.proofs.Stages.{lost_telegram, not_after_loss}
@@ -34,9 +35,6 @@ use Rattle.hub_work.proofs.Stages.{lost_telegram, not_after_loss}
 pub record LostSoFar (held : List (Option Holding)) (n : ℕ) (old new : List DownloaderState) : Type 0 where
   pub told : (place : ℕ) (x : Holding) (s : DownloaderState) → place < n → slice_get held place ≡ Some (Some x) → downloader_of old x.job ≡ Some s → downloader_of new x.job ≡ Some (lost s)
   pub each : (k : ℕ) (s : DownloaderState) → downloader_of old k ≡ Some s → (downloader_of new k ≡ Some s) ⊎ (downloader_of new k ≡ Some (lost s))
-
-pub none_lost : (held : List (Option Holding)) (all : List DownloaderState) → LostSoFar held 0 all all
-none_lost held all = record { told = λ place x s lt e t. absurd (omega arith); each = λ k s e. inl e }
 
 -- the worker at a place holds that
 pub at_holding : (crew : List (Option Holds)) (n : ℕ) (x : Holding) → slice_get (holdings crew) n ≡ Some (Some x) → (h : Holds) × (held_at crew n ≡ Some h) × (h.job ≡ x.job)
@@ -83,7 +81,7 @@ module _ (held : List (Option Holding)) (n : ℕ) (old all : List DownloaderStat
 
   by_holder : (o : Option Holds) → ((x : Holding) → slice_get held n ≡ Some (Some x) → (h : Holds) × (o ≡ Some h) × (h.job ≡ x.job)) → LostSoFar held (n + 1) old (lost_for o all)
   by_holder None its = lost_for_nobody (λ x e. let h : (h : Holds) × (None ≡ Some h) × (h.job ≡ x.job) = its x e in let isnt : None ≡ Some h.0 = h.1 in cc)
-  by_holder (Some h) its = lost_for_one h (λ x e. let i : (g : Holds) × (Some h ≡ Some g) × (g.job ≡ x.job) = its x e in sym (ap (λ (g : Holds). g.job) (some_is h i.0 i.1) ∙ i.2))
+  by_holder (Some h) its = lost_for_one h (λ x e. let i : (g : Holds) × (Some h ≡ Some g) × (g.job ≡ x.job) = its x e in sym (ap (λ (g : Holds). g.job) (same_Some h i.0 i.1) ∙ i.2))
 
   pub one_more_lost : (crew : List (Option Holds)) → holdings crew ≡ held → LostSoFar held (n + 1) old (lost_for (held_at crew n) all)
   one_more_lost crew same = by_holder (held_at crew n) (λ x e. at_holding crew n x (ap (λ (hs : List (Option Holding)). slice_get hs n) same ∙ e))

@@ -146,9 +146,6 @@ module _ (old : Work) (jn : Written) (t : Telling) (at k : ℕ) (what : LogWhat)
         place : turn_place t.told jn.entries ≡ at
         place = ap (λ n. turn_place n jn.entries) told_is ∙ (ap (turn_place k) journal ∙ told_place k at what old.journal.entries tells)
 
-    the_moments : List Moment
-    the_moments = between (turn_place (k - 1) old.journal.entries) at (moments places)
-
     as_k : (P : Option GroupTurn → List Moment → Type 0) → P (turn_of old.telegrams.turns (old.telegrams.told + 1)) (between (turn_place old.telegrams.told old.journal.entries) at (moments places)) → P (turn_of old.telegrams.turns k) (between (turn_place (k - 1) old.journal.entries) at (moments places))
     as_k P p =
         subst (λ n. P (turn_of old.telegrams.turns n) (between (turn_place (k - 1) old.journal.entries) at (moments places))) (sym next)

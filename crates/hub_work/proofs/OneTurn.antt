@@ -1,6 +1,7 @@
 -- What a worker's turn comes to, for the record and for the log.
 use Rattle.std.proofs.Common.{◌≡◌, ℕ, ◌+◌, ◌-◌, ◌<◌, ◌≤◌, false, List, length, map, Option, Some, refl, sym, ap, subst, ◌∙◌, suc}
 use Rattle.std.specs.Prelude.{slice_get, option_map}
+use Rattle.std.proofs.lemmas.Option.{same_Some}
 use Rattle.line_model.specs.declared.group.GroupTurn.{GroupTurn}
 use Rattle.line_model.specs.declared.log.LogWhat.{LogWhat}
 use Rattle.line_model.specs.Record.{Placed}
@@ -32,14 +33,11 @@ use Rattle.hub_work.specs.Journals.{Written}
 use Rattle.hub_work.specs.Requests.{request_with}
 use Rattle.hub_work.specs.Telegrams.{Telling}
 use Rattle.hub_work.specs.Works.{KeepsBooks, SameBooks}
-use Rattle.hub_work.proofs.Crews.{IsHeldSo, held_so, some_is}
+use Rattle.hub_work.proofs.Crews.{IsHeldSo, held_so}
 use Rattle.hub_work.proofs.Put.{put_follows}
 use Rattle.hub_work.proofs.Undecided.{ends_at_rest}
 
 -- ---- nothing of the record or of the log
-
-pub still : (now at : ℕ) (w : Work) (turned : Turned) → TurnFollows now at w w (turn.Did turned)
-still now at w turned jobs places f = (f, record { truly = λ told. told; rests = λ rests. rests })
 
 -- the same, but for what came for the workers and for how far the jobs are in the reservation
 module _ (v w : Work) (devices : v.reservation.devices ≡ w.reservation.devices) (ds : v.downloaders ≡ w.downloaders) (same : holdings v.crew ≡ holdings w.crew) (telling : v.telegrams ≡ w.telegrams) (sender : v.sender ≡ w.sender) (journal : v.journal ≡ w.journal) where
@@ -108,7 +106,7 @@ end_of laws old new worker now at h d what books from holds next entry follows j
     j = f.held h.job (suc (worker - 1)) its.since its.job its.there its.held
 
     next_is : next_did j.state now ≡ d
-    next_is = sym (some_is d (next_did j.state now) (next ∙ ap (λ (p : Option DownloaderState). option_map (λ (x : DownloaderState). next_did x now) p) j.there))
+    next_is = sym (same_Some d (next_did j.state now) (next ∙ ap (λ (p : Option DownloaderState). option_map (λ (x : DownloaderState). next_did x now) p) j.there))
 
     is_downloader : IsDownloaderOf j.state now jobs old.journal.entries places at h.job
     is_downloader = record {

@@ -137,10 +137,6 @@ after_so : (ch : ClientChannel) (x : Entry) → after_entry ch x ≡ (if is_rene
 unfolding after_entry
 after_so ch x = refl
 
-deed_so : (c : ℕ) (l : List Entry) (x : Entry) → deed (Open c l) x ≡ (if is_lost c l x then Loses else deed_in c l x)
-unfolding deed
-deed_so c l x = refl
-
 pub is_at : (r : List Entry) → RenewsRightly r → IsAt (channel r) r
 is_at [] s = tt
 is_at (x ∷ r) s = subst (λ ch. IsAt ch (x ∷ r)) (sym (after_so (channel r) x)) (by_renewal (is_renewal x.what) (is_at r s.1))

@@ -1,8 +1,9 @@
 -- By record and log a poll lasts as it should: who has something to do and which deadlines there are is what these say.
 use Rattle.std.proofs.Common.{◌≡◌, ◌≢◌, ◌⊎◌, inl, inr, ◌↔◌, ℕ, zero, suc, ◌+◌, ◌-◌, ◌<◌, ◌≤◌, eqb, Bool, true, false, List, [], ◌∷◌, length, min, Option, Some, None, refl, sym, subst, ap, ◌∙◌, arith}
 use Rattle.std.specs.Prelude.{Contains, slice_get, nat_le, not, ◌&&◌, ◌||◌}
-use Rattle.std.proofs.lemmas.Bool.{cases_eq, ne_eqb}
+use Rattle.std.proofs.lemmas.Bool.{cases_eq, ne_eqb, cases_lt, false_from_ne_true}
 use Rattle.std.proofs.lemmas.Bool.Decides.{nat_tests}
+use Rattle.std.proofs.lemmas.Option.{same_Some}
 use Rattle.knx_model.specs.Connection.{last_time, wait_end}
 use Rattle.knx_model.specs.ClientConnection.{client_deadline}
 use Rattle.line_model.specs.Record.{Placed, entries}
@@ -37,7 +38,7 @@ use Rattle.hub_work.specs.Fits.{Fits, FitsJob}
 use Rattle.hub_work.specs.Laws.{Laws}
 use Rattle.hub_work.specs.Polls.{does_something, next_of_job, is_busy, is_busy_at, deadline_at, closing_end, end_of_closing, IsDue, OfClosing, OfWorker, came_for, closing_so_far, PollsRightly}
 use Rattle.hub_work.specs.Works.{KeepsBooks}
-use Rattle.hub_work.proofs.Crews.{IsHeldSo, held_so, some_is, crew_holds, within_crew, holding_at, cases_lt, job_at}
+use Rattle.hub_work.proofs.Crews.{IsHeldSo, held_so, crew_holds, within_crew, holding_at, job_at}
 
 -- ---- what came for a job, by its one worker
 
@@ -46,7 +47,7 @@ came_of [] place h e alone = absurd (cc)
 came_of (None ∷ crew) zero h e alone = absurd (cc)
 came_of (None ∷ crew) (suc place) h e alone = came_of crew place h e (λ other x is same. let q = alone (suc other) x is same in omega (arith, q))
 came_of (Some y ∷ crew) zero h e alone =
-    let is : h ≡ y = some_is h y e in
+    let is : h ≡ y = same_Some h y e in
     let same : eqb y.job h.job ≡ true = rw is (grind (arith, nat_tests)) in
     rw same (ap (λ (x : Holds). x.came) (sym is))
 came_of (Some y ∷ crew) (suc place) h e alone =
@@ -71,14 +72,14 @@ held_since a b s t e = cc
 holder_there : (crew : List (Option Holds)) (place : ℕ) (x : Holding) → slice_get (holdings crew) place ≡ Some (Some x) → (h : Holds) × (Some h ≡ held_at crew place) × (holding_in (Some h) ≡ Some x)
 holder_there [] place x e = absurd (cc)
 holder_there (None ∷ crew) zero x e = absurd (cc)
-holder_there (Some h ∷ crew) zero x e = (h, refl, some_is (holding_in (Some h)) (Some x) e)
+holder_there (Some h ∷ crew) zero x e = (h, refl, same_Some (holding_in (Some h)) (Some x) e)
 holder_there (y ∷ crew) (suc place) x e = holder_there crew place x e
 
 held_job : (h : Holds) (x : Holding) → holding_in (Some h) ≡ Some x → h.job ≡ x.job
-held_job h x e = ap (λ (y : Holding). y.job) (some_is (record { job = h.job; device = h.device; begun = h.begun }) x e)
+held_job h x e = ap (λ (y : Holding). y.job) (same_Some (record { job = h.job; device = h.device; begun = h.begun }) x e)
 
 held_begun : (h : Holds) (x : Holding) → holding_in (Some h) ≡ Some x → h.begun ≡ x.begun
-held_begun h x e = ap (λ (y : Holding). y.begun) (some_is (record { job = h.job; device = h.device; begun = h.begun }) x e)
+held_begun h x e = ap (λ (y : Holding). y.begun) (same_Some (record { job = h.job; device = h.device; begun = h.begun }) x e)
 
 -- ---- the deadline of its attempt
 
@@ -133,10 +134,6 @@ either n b c e = elim (cases_eq n 0) [
     both true c e = (refl, e)
     both false c e = absurd (cc)
 
-not_true : (b : Bool) → (b ≡ true → ⊥) → b ≡ false
-not_true true never = absurd (never refl)
-not_true false never = refl
-
 -- ---- the closing's deadline; a time stays at the last one
 
 capped_end : (wait since : ℕ) → (wait_end wait since ≡ since + wait) ⊎ ((wait_end wait since ≡ last_time) × (last_time < since + wait))
@@ -164,7 +161,7 @@ module _ (now wait : ℕ) (in_range : now + wait ≤ last_time) where
   closing_not_past (Some c) not_past t due lt = by_range (closing_capped (closing_of c))
     where
       is : closing_time (closing_of c) ≡ t
-      is = some_is (closing_time (closing_of c)) t (sym (closing_due (closing_of c)) ∙ due)
+      is = same_Some (closing_time (closing_of c)) t (sym (closing_due (closing_of c)) ∙ due)
 
       by_range : (closing_end (closing_of c) ≡ closing_time (closing_of c)) ⊎ ((closing_end (closing_of c) ≡ last_time) × (last_time < closing_time (closing_of c))) → now + wait ≤ t
       by_range (inl same) = not_past t (ap Some (same ∙ is)) lt
@@ -175,7 +172,7 @@ module _ (now wait : ℕ) (in_range : now + wait ≤ last_time) where
   closing_at_end longest D (Some c) t due e lt is = by_range (closing_capped (closing_of c))
     where
       end : closing_end (closing_of c) ≡ t
-      end = some_is (closing_end (closing_of c)) t e
+      end = same_Some (closing_end (closing_of c)) t e
 
       by_range : (closing_end (closing_of c) ≡ closing_time (closing_of c)) ⊎ ((closing_end (closing_of c) ≡ last_time) × (last_time < closing_time (closing_of c))) → PollEnds longest D now wait
       by_range (inl same) = AtDeadline t (due t (closing_due (closing_of c) ∙ ap Some (sym same ∙ end))) lt is
@@ -230,7 +227,7 @@ module _ (laws : Laws) (w : Work) (now at : ℕ) (has_place : Bool) (jobs : List
         let same : suc place - 1 ≡ place = omega arith in
         let within : place < length (holdings w.crew) = within_crew w.crew place h e in
         let there : slice_get (holdings w.crew) place ≡ Some (Some (record { job = h.job; device = its.job.device; begun = nat_le 1 (begun (attempts_of its.job its.since at places)) })) = subst (λ i. slice_get (holdings w.crew) i ≡ Some (Some (record { job = h.job; device = its.job.device; begun = nat_le 1 (begun (attempts_of its.job its.since at places)) }))) same (j.holds (omega (arith, same, within))) in
-        held_begun h (record { job = h.job; device = its.job.device; begun = nat_le 1 (begun (attempts_of its.job its.since at places)) }) (some_is (holding_in (Some h)) (Some (record { job = h.job; device = its.job.device; begun = nat_le 1 (begun (attempts_of its.job its.since at places)) })) (sym (holding_at w.crew place h e) ∙ there))
+        held_begun h (record { job = h.job; device = its.job.device; begun = nat_le 1 (begun (attempts_of its.job its.since at places)) }) (same_Some (holding_in (Some h)) (Some (record { job = h.job; device = its.job.device; begun = nat_le 1 (begun (attempts_of its.job its.since at places)) })) (sym (holding_at w.crew place h e) ∙ there))
 
     -- it has something to do
     busy_works : is_busy (states w.downloaders) now has_place (Some h) ≡ true → Works h.job
@@ -301,7 +298,7 @@ module _ (laws : Laws) (w : Work) (now at : ℕ) (has_place : Bool) (jobs : List
               holder = x;
               there = e;
               is = is;
-              same_job = some_is i.job job (sym i.there ∙ (ap (job_of jobs) is ∙ h.there));
+              same_job = same_Some i.job job (sym i.there ∙ (ap (job_of jobs) is ∙ h.there));
               same_since = held_since (suc (h.worker - 1)) h.worker i.since since (sym i.held ∙ (ap (λ n. state_of n w.journal.entries) is ∙ h.held));
             }
 
@@ -349,7 +346,7 @@ module _ (laws : Laws) (w : Work) (now at : ℕ) (has_place : Bool) (jobs : List
       where
         by_holder : (o : Option Holds) → held_at w.crew place ≡ o → is_busy (states w.downloaders) now has_place o ≡ false
         by_holder None e = refl
-        by_holder (Some h) e = not_true _ (λ b. none h.job (busy_works place h (sym e) b))
+        by_holder (Some h) e = false_from_ne_true _ (λ b. none h.job (busy_works place h (sym e) b))
 
     module _ (s : LastsUntil longest_poll (IsDue w) now longest) where
       shorter : wait ≤ longest

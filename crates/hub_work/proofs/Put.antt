@@ -2,6 +2,7 @@
 use Rattle.std.proofs.Common.{◌≡◌, ◌≢◌, inl, inr, ℕ, suc, ◌-◌, ◌<◌, ◌≤◌, true, false, List, ◌∷◌, length, Option, Some, None, refl, sym, ap, subst, ◌∙◌, arith}
 use Rattle.std.specs.Prelude.{slice_get, nat_le, option_map}
 use Rattle.std.proofs.lemmas.Bool.{cases_eq}
+use Rattle.std.proofs.lemmas.Option.{same_Some}
 use Rattle.knx_model.specs.declared.address.IndAddr.{IndAddr}
 use Rattle.knx_model.specs.declared.connection.TransportFrame.TheVariants.{Connect}
 use Rattle.knx_model.specs.Connection.{frame_in}
@@ -40,7 +41,7 @@ use Rattle.hub_work.specs.Works.{KeepsBooks, SameBooks}
 use Rattle.hub_work.proofs.Begun.{flying_begun, begun_stays}
 use Rattle.hub_work.proofs.Between.{same_up_to}
 use Rattle.hub_work.proofs.Changed.{changed_there, changed_elsewhere}
-use Rattle.hub_work.proofs.Crews.{IsHeldSo, held_so, some_is, same_slot, within_crew, holding_at, begun_there, begun_elsewhere, length_begun}
+use Rattle.hub_work.proofs.Crews.{IsHeldSo, held_so, same_slot, within_crew, holding_at, begun_there, begun_elsewhere, length_begun}
 use Rattle.hub_work.proofs.Deeds.{puts_to}
 use Rattle.hub_work.proofs.Events.{fits_on}
 use Rattle.hub_work.proofs.Heard.{one_job}
@@ -51,7 +52,7 @@ use Rattle.hub_work.proofs.Undecided.{LeavesUndecided, undecided}
 
 -- what comes next of a downloader that is there
 its_next : (o : Option DownloaderState) (s : DownloaderState) (now : ℕ) (d : Did) → o ≡ Some s → Some d ≡ option_map (λ (x : DownloaderState). next_did x now) o → next_did s now ≡ d
-its_next o s now d there e = sym (some_is d (next_did s now) (e ∙ ap (λ (p : Option DownloaderState). option_map (λ (x : DownloaderState). next_did x now) p) there))
+its_next o s now d there e = sym (same_Some d (next_did s now) (e ∙ ap (λ (p : Option DownloaderState). option_map (λ (x : DownloaderState). next_did x now) p) there))
 
 same_holder : (w v s t : ℕ) → Held w s ≡ Held v t → w ≡ v
 same_holder w v s t e = cc
@@ -119,9 +120,9 @@ module _ (laws : Laws) (jobs : List Job) (places : List Placed) (old new : Work)
       of_its : job.device.raw ≡ h.device.raw → IsUndecided job since m.at places
       of_its is =
           let same : k ≡ h.job = one_job jobs old now at (moments places) k h.job held.worker since worker its.since job its.job books f held.there its.there (is ∙ ap (λ (d : IndAddr). d.raw) (sym its.device)) held.held its_log in
-          let one : its.job ≡ job = some_is its.job job (sym its.there ∙ (ap (job_of jobs) (sym same) ∙ held.there)) in
+          let one : its.job ≡ job = same_Some its.job job (sym its.there ∙ (ap (job_of jobs) (sym same) ∙ held.there)) in
           let holds_so : Held worker its.since ≡ Held held.worker since = sym its_log ∙ (ap (λ i. state_of i old.journal.entries) (sym same) ∙ held.held) in
-          let frame : frame_in tpdu ≡ Connect = some_is (frame_in tpdu) Connect (sym (to.to job.device is).put_is ∙ connects) in
+          let frame : frame_in tpdu ≡ Connect = same_Some (frame_in tpdu) Connect (sym (to.to job.device is).put_is ∙ connects) in
           subst (λ (b : Job). IsUndecided b since m.at places) one (subst (λ s. IsUndecided its.job s m.at places) (same_since worker held.worker its.since since holds_so) (its_last m le frame))
 
   -- ---- once it is put
@@ -224,7 +225,7 @@ module _ (laws : Laws) (jobs : List Job) (places : List Placed) (old new : Work)
 
         same_job : (k by since : ℕ) (job : Job) → job_of jobs k ≡ Some job → state_of k old.journal.entries ≡ Held by since → k ≡ h.job → FitsJob new now (m ∷ between since at (moments places)) k by job
         same_job k by since job there log is =
-            let one : its.job ≡ job = some_is its.job job (sym its.there ∙ (ap (job_of jobs) (sym is) ∙ there)) in
+            let one : its.job ≡ job = same_Some its.job job (sym its.there ∙ (ap (job_of jobs) (sym is) ∙ there)) in
             let holds_so : Held worker its.since ≡ Held by since = sym its_log ∙ (ap (λ i. state_of i old.journal.entries) (sym is) ∙ log) in
             subst (λ i. FitsJob new now (m ∷ between since at (moments places)) i by job) (sym is)
             (subst (λ (b : Job). FitsJob new now (m ∷ between since at (moments places)) h.job by b) one

@@ -3,21 +3,20 @@ use Rattle.std.proofs.Common.{◌≡◌, ℕ, zero, suc, ◌+◌, ◌-◌, ◌�
 use Rattle.std.specs.Prelude.{slice_get}
 use Rattle.std.specs.List.{sum_by, count_by}
 use Rattle.std.proofs.lemmas.List.Sums.{sum_by-set, sum_by-cons, get_or-le-sum_by}
-use Rattle.std.proofs.lemmas.Option.{slice_get-get_or, slice_get_within}
+use Rattle.std.proofs.lemmas.Option.{slice_get-get_or, slice_get_within, same_Some}
 use Rattle.knx_model.specs.declared.address.IndAddr.{IndAddr}
 use Rattle.line_model.specs.declared.group.GroupTurn.{GroupTurn}
 use Rattle.device_reservation.specs.declared.stage.Stage.{Stage}
 use Rattle.device_reservation.specs.declared.stage.Stage.TheVariants.{Untaken, Held, Over}
 use Rattle.device_reservation.specs.Reservation.{Reservation, stage_of, with_stage}
 use Rattle.device_reservation.proofs.Numbered.{by_place, from_1}
-use Rattle.hub_work.proofs.Crews.{some_is}
 use Rattle.hub_work.specs.declared.work.Work.{Work}
 use Rattle.hub_work.specs.Counts.{is_unfinished, entries_to_come}
 use Rattle.hub_work.specs.Works.{Counts, IsTaking, BeginsWith}
 
 -- a sum after one element was written
 its_place : {X : Type 0} (xs : List X) (i : ℕ) (x : X) → slice_get xs i ≡ Some x → get_or xs i x ≡ x
-its_place xs i x e = some_is (get_or xs i x) x (sym (slice_get-get_or xs i x (slice_get_within xs i x e)) ∙ e)
+its_place xs i x e = same_Some (get_or xs i x) x (sym (slice_get-get_or xs i x (slice_get_within xs i x e)) ∙ e)
 
 sum_set : {X : Type 0} (f : X → ℕ) (xs : List X) (i : ℕ) (x y : X) → slice_get xs i ≡ Some x → sum_by f (set xs i y) + f x ≡ sum_by f xs + f y
 sum_set f xs i x y e = subst (λ z. sum_by f (set xs i y) + f z ≡ sum_by f xs + f y) (its_place xs i x e) (sum_by-set f xs i y x (slice_get_within xs i x e))
@@ -84,8 +83,8 @@ twos_of_all : (n : ℕ) → sum_by entries_to_come (replicate n Untaken) ≡ n +
 twos_of_all zero = refl
 twos_of_all (suc n) = sum_by-cons entries_to_come Untaken (replicate n Untaken) ∙ (let ih : sum_by entries_to_come (replicate n Untaken) ≡ n + n = twos_of_all n in omega (arith, ih))
 
-pub begins_counts : (devices : List IndAddr) (turns : List GroupTurn) (w : Work) → BeginsWith devices turns w → Counts w
-begins_counts devices turns w b =
+pub begins_counts : (workers : ℕ) (devices : List IndAddr) (turns : List GroupTurn) (w : Work) → BeginsWith workers devices turns w → Counts w
+begins_counts workers devices turns w b =
     let ones : count_by is_unfinished (replicate (length devices) Untaken) ≡ length devices = ones_of_all (length devices) in
     let twos : sum_by entries_to_come (replicate (length devices) Untaken) ≡ length devices + length devices = twos_of_all (length devices) in
     let stages : w.reservation.stages ≡ replicate (length devices) Untaken = ap (λ (r : Reservation). r.stages) b.reservation in

@@ -1,5 +1,5 @@
 -- How far the next group telegram is, with one more moment.
-use Rattle.std.proofs.Common.{◌≡◌, ◌≢◌, List, [], ◌∷◌, Option, Some, None, refl, ap}
+use Rattle.std.proofs.Common.{◌≢◌, List, [], ◌∷◌, Option, Some, None, refl, ap}
 use Rattle.line_model.specs.declared.group.GroupTurn.{GroupTurn}
 use Rattle.line_model.specs.ClientView.{Loses}
 use Rattle.line_model.specs.Moments.{Moment}
@@ -117,9 +117,3 @@ not_after_loss Unput e = cc
 not_after_loss UnderWay e = cc
 not_after_loss Confirmed e = cc
 not_after_loss Lost e = cc
-
-pub stays_settled : (s : Stage) → s ≢ UnderWay → after_confirmation s ≡ s
-stays_settled Unput not = refl
-stays_settled UnderWay not = absurd (not refl)
-stays_settled Confirmed not = refl
-stays_settled Lost not = refl

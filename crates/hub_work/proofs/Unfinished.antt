@@ -4,6 +4,7 @@ use Rattle.std.specs.Prelude.{slice_get, nat_lt}
 use Rattle.std.specs.List.{count_by}
 use Rattle.std.proofs.lemmas.Bool.Decides.{nat_tests}
 use Rattle.std.proofs.lemmas.List.Sums.{sum_by-cons}
+use Rattle.std.proofs.lemmas.Option.{same_Some}
 use Rattle.line_model.specs.Log.{Job, JobState, Untaken, Held, Over, AllOver, JobUnfinished, job_of, state_of}
 use Rattle.device_reservation.specs.declared.stage.Stage.{Stage}
 use Rattle.device_reservation.specs.Reservation.{Reservation, stage_of}
@@ -13,7 +14,6 @@ use Rattle.hub_work.specs.declared.work.Work.{Work}
 use Rattle.hub_work.specs.Books.{AreJobsOf}
 use Rattle.hub_work.specs.Counts.{is_unfinished}
 use Rattle.hub_work.specs.Works.{KeepsBooks, HasUnfinished}
-use Rattle.hub_work.proofs.Crews.{some_is}
 use Rattle.hub_work.proofs.Rooms.{at_least, one_if}
 
 abbrev one_of : Bool → ℕ
@@ -68,7 +68,7 @@ module _ (w : Work) (jobs : List Job) (at : ℕ) (books : KeepsBooks at w) (of :
       let lt : u.0 < length w.reservation.stages = within w.reservation.stages u.0 u.1 u.2 in
       let there : job_of jobs (u.0 + 1) ≢ None = is_there jobs (u.0 + 1) (omega arith) (omega (arith, lt, stages_are)) in
       let place : u.0 + 1 - 1 ≡ u.0 = omega arith in
-      let same : u.1 ≡ stage_in (state_of (u.0 + 1) w.journal.entries) = some_is u.1 (stage_in (state_of (u.0 + 1) w.journal.entries)) (sym u.2 ∙ (ap (slice_get w.reservation.stages) (sym place) ∙ at_place (u.0 + 1) there)) in
+      let same : u.1 ≡ stage_in (state_of (u.0 + 1) w.journal.entries) = same_Some u.1 (stage_in (state_of (u.0 + 1) w.journal.entries)) (sym u.2 ∙ (ap (slice_get w.reservation.stages) (sym place) ∙ at_place (u.0 + 1) there)) in
       (u.0 + 1, there, over_isnt (state_of (u.0 + 1) w.journal.entries) (ap is_unfinished (sym same) ∙ u.3))
     where
       more : (n : ℕ) → nat_lt 0 n ≡ true → 0 < n

@@ -1,6 +1,7 @@
 -- A worker's turn waits exactly where the record says so.
 use Rattle.std.proofs.Common.{◌≡◌, ◌≢◌, ◌⊎◌, inl, inr, ◌↔◌, ℕ, suc, ◌-◌, ◌<◌, ◌≤◌, Bool, true, false, List, [], ◌∷◌, length, Option, Some, None, refl, sym, ap, subst, ◌∙◌, arith}
 use Rattle.std.specs.Prelude.{option_map, IsTrue}
+use Rattle.std.proofs.lemmas.Option.{same_Some}
 use Rattle.knx_model.specs.declared.connection.TransportFrame.TheVariants.{Other}
 use Rattle.knx_model.specs.Connection.{frame_in}
 use Rattle.line_model.specs.Record.{Placed, entries}
@@ -29,7 +30,7 @@ use Rattle.hub_work.specs.Laws.{Laws}
 use Rattle.hub_work.specs.Turns.{IsEnd}
 use Rattle.hub_work.specs.Waits.{WaitsFor, WaitsExactly}
 use Rattle.hub_work.specs.Works.{KeepsBooks}
-use Rattle.hub_work.proofs.Crews.{IsHeldSo, held_so, some_is}
+use Rattle.hub_work.proofs.Crews.{IsHeldSo, held_so}
 
 none_isnt_some : (d : Did) (o : Option DownloaderState) (s : DownloaderState) (now : ℕ) → o ≡ Some s → None ≡ option_map (λ (x : DownloaderState). next_did x now) o → ⊥
 none_isnt_some d o s now there e = let isnt : None ≡ Some (next_did s now) = e ∙ ap (λ (p : Option DownloaderState). option_map (λ (x : DownloaderState). next_did x now) p) there in cc
@@ -67,7 +68,7 @@ module _ (laws : Laws) (old : Work) (worker now at : ℕ) (has_place : Bool) (h 
     exactly = laws.waits j.state now jobs old.telegrams.turns old.journal.entries places at h.job is_downloader
 
     next_is : (d : Did) → Some d ≡ option_map (λ (x : DownloaderState). next_did x now) (downloader_of (states old.downloaders) h.job) → next_did j.state now ≡ d
-    next_is d next = sym (some_is d (next_did j.state now) (next ∙ ap (λ (p : Option DownloaderState). option_map (λ (x : DownloaderState). next_did x now) p) j.there))
+    next_is d next = sym (same_Some d (next_did j.state now) (next ∙ ap (λ (p : Option DownloaderState). option_map (λ (x : DownloaderState). next_did x now) p) j.there))
 
   -- it waits
   pub waits_so : (d : Did) (result : Turn) → Some d ≡ option_map (λ (x : DownloaderState). next_did x now) (downloader_of (states old.downloaders) h.job) → result ≡ turn.Did answer.Wait → is_end d ≡ false → (is_send d ≡ true → has_place ≡ false) → WaitsFor now at has_place old h 0 result
@@ -126,11 +127,11 @@ nothing_held old worker now at has_place result none h e = absurd (let isnt : No
 
 pub something_came : (old : Work) (worker now at : ℕ) (has_place : Bool) (held : Holds) (result : Turn) → Some held ≡ held_at old.crew (worker - 1) → held.came ≢ 0 → result ≢ turn.Did answer.Wait → WaitsExactly now at has_place worker old result
 something_came old worker now at has_place held result holds came moves h e jobs places books f place =
-    (λ w. absurd (moves w), λ w. absurd (came (ap (λ (x : Holds). x.came) (some_is held h (holds ∙ sym e)) ∙ w.all_taken_in)))
+    (λ w. absurd (moves w), λ w. absurd (came (ap (λ (x : Holds). x.came) (same_Some held h (holds ∙ sym e)) ∙ w.all_taken_in)))
 
 pub all_taken : (old : Work) (worker now at : ℕ) (has_place : Bool) (held : Holds) (result : Turn) → Some held ≡ held_at old.crew (worker - 1) → held.came ≡ 0 → WaitsFor now at has_place old held 0 result → WaitsExactly now at has_place worker old result
 all_taken old worker now at has_place held result holds came waits h e =
-    subst (λ (x : Holds). WaitsFor now at has_place old x x.came result) (some_is held h (holds ∙ sym e)) (subst (λ n. WaitsFor now at has_place old held n result) (sym came) waits)
+    subst (λ (x : Holds). WaitsFor now at has_place old x x.came result) (same_Some held h (holds ∙ sym e)) (subst (λ n. WaitsFor now at has_place old held n result) (sym came) waits)
 
 pub is_some_number : (n : ℕ) → 0 < n → n ≢ 0
 is_some_number n lt e = omega (arith, lt, e)

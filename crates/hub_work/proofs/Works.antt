@@ -71,11 +71,6 @@ take_written w v at worker job t from er et el =
     written_as v (job_taken worker job t.before) (jobs_held v.crew) (entry_of at worker (Took job) ∷ w.journal.entries) w.telegrams.turns at (er ∙ t.taken) et el
     (took_written t.before (jobs_held w.crew) w.telegrams.turns at worker job w.journal.entries t.written t.live t.first from)
 
--- for want of memory the log stays
-pub take_unwritten : (w v : Work) (at worker job : ℕ) → IsTaking w at worker job → v.reservation ≡ w.reservation → v.telegrams.turns ≡ w.telegrams.turns → v.journal.entries ≡ w.journal.entries → WritesRightly at v
-take_unwritten w v at worker job t er et el =
-    written_as v (job_taken worker job t.before) (jobs_held v.crew) w.journal.entries w.telegrams.turns at (er ∙ t.taken) et el t.written
-
 pub take_live : (w v : Work) (at worker job : ℕ) (held : Held) → held.job ≡ job → IsTaking w at worker job → 1 ≤ worker
     → v.reservation ≡ w.reservation → v.crew ≡ set w.crew (worker - 1) (Some held) → v.journal.entries ≡ entry_of at worker (Took job) ∷ w.journal.entries → Lives v
 take_live w v at worker job held same t from er ec el =
@@ -200,13 +195,13 @@ nobody zero place job e = cc
 nobody (suc n) zero job e = cc
 nobody (suc n) (suc place) job e = nobody n place job e
 
-pub begins_written : (devices : List IndAddr) (turns : List GroupTurn) (w : Work) (place : ℕ) → BeginsWith devices turns w → WritesRightly place w
-begins_written devices turns w place b = written_as w (none_taken devices) (jobs_held w.crew) [] turns place b.reservation b.turns_are b.journal
+pub begins_written : (workers : ℕ) (devices : List IndAddr) (turns : List GroupTurn) (w : Work) (place : ℕ) → BeginsWith workers devices turns w → WritesRightly place w
+begins_written workers devices turns w place b = written_as w (none_taken devices) (jobs_held w.crew) [] turns place b.reservation b.turns_are b.journal
     (record { form = λ jobs of. tt; reserved = λ jobs of. tt; so_far = omega arith })
 
-pub begins_telling : (devices : List IndAddr) (turns : List GroupTurn) (w : Work) → BeginsWith devices turns w → TellsRightly w
-begins_telling devices turns w b = telling_as w 0 turns [] b.none_told b.turns_are b.journal (record { entries = none_told; there = omega arith })
+pub begins_telling : (workers : ℕ) (devices : List IndAddr) (turns : List GroupTurn) (w : Work) → BeginsWith workers devices turns w → TellsRightly w
+begins_telling workers devices turns w b = telling_as w 0 turns [] b.none_told b.turns_are b.journal (record { entries = none_told; there = omega arith })
 
-pub begins_live : (devices : List IndAddr) (turns : List GroupTurn) (w : Work) → BeginsWith devices turns w → Lives w
-begins_live devices turns w b = live_as w (none_taken devices) (jobs_held (replicate b.workers None)) [] turns 0 b.reservation b.turns_are b.journal (ap jobs_held b.crew)
-    (record { reservation_is = λ jobs of. ap none_taken of; holds = λ place job e. absurd (nobody b.workers place job e) })
+pub begins_live : (workers : ℕ) (devices : List IndAddr) (turns : List GroupTurn) (w : Work) → BeginsWith workers devices turns w → Lives w
+begins_live workers devices turns w b = live_as w (none_taken devices) (jobs_held (replicate workers None)) [] turns 0 b.reservation b.turns_are b.journal (ap jobs_held b.crew)
+    (record { reservation_is = λ jobs of. ap none_taken of; holds = λ place job e. absurd (nobody workers place job e) })

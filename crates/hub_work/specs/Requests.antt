@@ -2,16 +2,8 @@
 use Rattle.std.specs.Prelude.{ℕ, Bool, false, List}
 use Rattle.knx_model.specs.declared.frames.cemi.Ldata.{Ldata}
 use Rattle.knx_model.specs.declared.frames.cemi.LdataCode.TheVariants.{Req}
-use Rattle.knx_model.specs.declared.script.GroupService.{GroupService}
-use Rattle.knx_model.specs.declared.script.GroupService.TheVariants.{Read, Write, Response}
-use Rattle.knx_model.specs.Apdu.{IsValueInRange}
+use Rattle.knx_model.specs.DeviceFrames.{IsServiceInRange}
 use Rattle.line_model.specs.declared.group.GroupTurn.{GroupTurn}
-
--- a short value has at most six bits, and a long one 1 to 14 octets
-abbrev pub IsServiceInRange : GroupService → Type 0
-IsServiceInRange Read = Unit {0}
-IsServiceInRange (Write value) = IsValueInRange value
-IsServiceInRange (Response value) = IsValueInRange value
 
 abbrev pub IsTurnInRange : GroupTurn → Type 0
 IsTurnInRange turn = IsServiceInRange turn.service

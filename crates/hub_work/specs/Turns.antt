@@ -72,12 +72,6 @@ GroupTells at k did.Wait old new = new ≡ old
 GroupTells at k did.Sent old new = Adds at 0 (Sent k) old new
 GroupTells at k did.Lost old new = Adds at 0 (Lost k) old new
 
-abbrev pub IsntTold : GroupDid → Type 0
-IsntTold did.Put = Unit {0}
-IsntTold did.Wait = Unit {0}
-IsntTold did.Sent = ⊥
-IsntTold did.Lost = ⊥
-
 -- ---- why a worker gets no job
 
 abbrev pub WhyFree : Reservation → Turned → Type 0

@@ -71,9 +71,8 @@ pub record IsTaking (w : Work) (at worker job : ℕ) : Type 0 where
   pub unfinished : w.unfinished ≡ count_by is_unfinished before.stages
   pub room : sum_by entries_to_come before.stages + (length w.telegrams.turns - w.telegrams.told) ≤ w.journal.room
 
--- nothing is done yet
-pub record BeginsWith (devices : List IndAddr) (turns : List GroupTurn) (w : Work) : Type 0 where
-  pub workers : ℕ
+-- nothing is done yet by so many workers
+pub record BeginsWith (workers : ℕ) (devices : List IndAddr) (turns : List GroupTurn) (w : Work) : Type 0 where
   pub reservation : w.reservation ≡ none_taken devices
   pub turns_are : w.telegrams.turns ≡ turns
   pub none_told : w.telegrams.told ≡ 0

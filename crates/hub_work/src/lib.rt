@@ -13,7 +13,6 @@ mod journal;
 mod laws;
 mod requests;
 mod telegrams;
-mod wait;
 mod work;
 
 pub use answers::{Finished, GroupDid, Pumped, Turned};

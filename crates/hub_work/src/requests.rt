@@ -1,15 +1,15 @@
 //! Frames of the link layer that a hub asks for, and the group telegrams in those that it hears (KNX standard 3/6/3, common EMI).
 
 ghost use Rattle.std.specs.Prelude.{◌≡◌, ◌≤◌, false, true, length, Some};
-ghost use Rattle.knx_model.specs.DeviceFrames.{group_service};
+ghost use Rattle.knx_model.specs.DeviceFrames.{IsServiceInRange};
 ghost use Rattle.line_model.specs.ClientEnd.{IsCemi};
 ghost use Rattle.line_model.specs.ClientView.{indication_of};
 ghost use Rattle.line_model.specs.Told.{service_of};
 ghost use Rattle.line_model.specs.Reading.{ldata_in};
-ghost use Rattle.knx_model.specs.ApduReading.{apdu_octets, service_in};
-ghost use Rattle.hub_work.specs.Requests.{IsServiceInRange, request_with};
+ghost use Rattle.knx_model.specs.ApduReading.{apdu_octets};
+ghost use Rattle.hub_work.specs.Requests.{request_with};
 
-use apdu_frames::{service_in, service_octets};
+use apdu_frames::{group_service_in, service_octets};
 use cemi_frames::encode;
 use knx_model::{Apdu, ApduOctets, Datagram, GroupAddr, GroupService, IndAddr, Ldata, LdataCode};
 use line_model::{GroupTurn, Indication, frames_are_read};
@@ -78,7 +78,7 @@ pub fn indication_of(frame: &Ldata) -> Option<Indication>
     if frame.code != LdataCode::Ind || !frame.group {
         return None;
     }
-    match group_service(frame.tpdu.as_slice()) {
+    match group_service_in(frame.tpdu.as_slice()) {
         Some(service) => Some(Indication {
             from: IndAddr { raw: frame.source },
             group: GroupAddr {
@@ -87,17 +87,5 @@ pub fn indication_of(frame: &Ldata) -> Option<Indication>
             service,
         }),
         None => None,
-    }
-}
-
-/// The group service that octets are; None where they are another service or none.
-fn group_service(tpdu: &[u8]) -> Option<GroupService>
-    ensures { result ≡ group_service (service_in tpdu.now) }
-{
-    match service_in(tpdu)? {
-        Apdu::GroupRead => Some(GroupService::Read),
-        Apdu::GroupWrite(value) => Some(GroupService::Write(value)),
-        Apdu::GroupResponse(value) => Some(GroupService::Response(value)),
-        _ => None,
     }
 }

@@ -8,7 +8,7 @@ ghost use Rattle.knx_top.specs.Call.{AtMostOneRose, HasRunOf, IsCountsText, IsTa
 ghost use Rattle.knx_top.specs.Command.{DownloadWords, GatewayWords, ProjectWords, SimWords, asked, Check as AskedCheck, Decode as AskedDecode, Download as AskedDownload, Gateway as AskedGateway, Sim as AskedSim, Tables as AskedTables};
 ghost use Rattle.knx_top.specs.Dialled.{RepliesEnd, RunsDialled};
 ghost use Rattle.knx_top.specs.Gateway.{RepliesServed, RunsGateway};
-ghost use Rattle.knx_top.specs.Headline.{ActsOnce, BeganRightly, ClosesToItsEnd, EndsEveryJob, EndsThoroughly, HasFaultRight, HasOldStoppedOrNew, HasTelegramsRight, IsToldRightly, LeavesItsChannel, RunsWhereDone};
+ghost use Rattle.knx_top.specs.Headline.{ActsOnce, BeganRightly, ClosesToItsEnd, EndsEveryJob, EndsThoroughly, HasFaultRight, HasOldStoppedOrNew, HasTelegramsRight, IsOfOneWorker, IsToldRightly, LeavesItsChannel, RunsWhereDone};
 ghost use Rattle.knx_top.specs.Ran.{FaultsOfLine, Stops};
 ghost use Rattle.knx_cli.specs.Exit.{status_of};
 
@@ -49,6 +49,7 @@ fn ended<R: Wait, F: Files, K: Sink, D: Dialer>(
     ensures fault { HasRunOf HasFaultRight (map string_bytes words.now) (F.file files.old) sim.old (record { line = sim.new; report = last.new }) }
     ensures over { HasRunOf EndsEveryJob (map string_bytes words.now) (F.file files.old) sim.old (record { line = sim.new; report = last.new }) }
     ensures closed { HasRunOf ClosesToItsEnd (map string_bytes words.now) (F.file files.old) sim.old (record { line = sim.new; report = last.new }) }
+    ensures seats { HasRunOf IsOfOneWorker (map string_bytes words.now) (F.file files.old) sim.old (record { line = sim.new; report = last.new }) }
     ensures link { (names : SimWords) → asked (map string_bytes words.now) ≡ Some (AskedSim names) → FaultsOfLine last.new sim.new }
     ensures line { ((names : SimWords) → asked (map string_bytes words.now) ≢ Some (AskedSim names)) → ((names : GatewayWords) → asked (map string_bytes words.now) ≢ Some (AskedGateway names)) → sim.new ≡ sim.old }
     ensures undialled { ((names : DownloadWords) → asked (map string_bytes words.now) ≢ Some (AskedDownload names)) → ((names : GatewayWords) → asked (map string_bytes words.now) ≢ Some (AskedGateway names)) → dial.new ≡ dial.old }
@@ -102,8 +103,15 @@ pub fn status_of<R: Wait, F: Files, K: Sink, D: Dialer>(
     ensures fault { IfOk words.now (λ words. HasRunOf HasFaultRight (map string_bytes words.items) (F.file files.old) sim.old (record { line = sim.new; report = last.new })) }
     ensures over { IfOk words.now (λ words. HasRunOf EndsEveryJob (map string_bytes words.items) (F.file files.old) sim.old (record { line = sim.new; report = last.new })) }
     ensures closed { IfOk words.now (λ words. HasRunOf ClosesToItsEnd (map string_bytes words.items) (F.file files.old) sim.old (record { line = sim.new; report = last.new })) }
+    ensures seats { IfOk words.now (λ words. HasRunOf IsOfOneWorker (map string_bytes words.items) (F.file files.old) sim.old (record { line = sim.new; report = last.new })) }
     ensures link { IfOk words.now (λ words. (names : SimWords) → asked (map string_bytes words.items) ≡ Some (AskedSim names) → FaultsOfLine last.new sim.new) }
-    // where memory is wanting for the words, that is told
+    ensures line { IfOk words.now (λ words. ((names : SimWords) → asked (map string_bytes words.items) ≢ Some (AskedSim names)) → ((names : GatewayWords) → asked (map string_bytes words.items) ≢ Some (AskedGateway names)) → sim.new ≡ sim.old) }
+    ensures undialled { IfOk words.now (λ words. ((names : DownloadWords) → asked (map string_bytes words.items) ≢ Some (AskedDownload names)) → ((names : GatewayWords) → asked (map string_bytes words.items) ≢ Some (AskedGateway names)) → dial.new ≡ dial.old) }
+    ensures no_run { IfOk words.now (λ words. ((names : SimWords) → asked (map string_bytes words.items) ≢ Some (AskedSim names)) → ((names : DownloadWords) → asked (map string_bytes words.items) ≢ Some (AskedDownload names)) → last.new ≡ None) }
+    ensures files { (name : List ℕ) → F.file files.new name ≡ F.file files.old name }
+    ensures faults { IfOk words.now (λ _. AtMostOneRose (F.faults files.old) (F.faults files.new)) }
+    // where memory is wanting for the words, that is told, and nothing else is done
+    ensures untouched { IfErr words.now (λ _. (files.new ≡ files.old) × (sim.new ≡ sim.old) × (dial.new ≡ dial.old) × (last.new ≡ last.old)) }
     ensures wanting { IfErr words.now (λ _. Replies (K.faults out.old) (K.faults out.new) (K.taken out.old) (K.taken out.new) (status_of result) (Stops (Wanting tt))) }
     ensures written { K.writes out.new ≡ one_more (K.writes out.old) }
 {

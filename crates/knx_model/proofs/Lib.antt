@@ -18,3 +18,4 @@ pub mod Text
 pub mod Values
 pub mod Leads
 pub mod Misfit
+pub mod Capacities

@@ -4,17 +4,13 @@ use Rattle.std.specs.Prelude.{◌==◌, nat_le, nat_lt, fold}
 use Rattle.std.specs.List.{list_all, slice_split, onto_first}
 use Rattle.std.specs.Str.{IsAscii}
 use Rattle.std.specs.Str.Lines.{lines, lines_of_parts, strip_carriage_return}
-use Rattle.std.proofs.lemmas.Bool.{cases_Bool}
+use Rattle.std.proofs.lemmas.Bool.{cases_Bool, and_parts}
 use Rattle.std.proofs.lemmas.Str.{is_utf8-from_IsUtf8, IsUtf8-from_ascii}
 use Rattle.knx_model.specs.Words.{is_feed, is_text, is_text_octet, is_plain_octet}
 
 -- printable ASCII or a tab
 abbrev in_line : ℕ → Bool
 in_line b = (nat_le 32 b && nat_lt b 127) || (b == 9)
-
-both : (a b : Bool) → (a && b) ≡ true → (a ≡ true) × (b ≡ true)
-both true b e = (refl, e)
-both false b e = absurd (cc)
 
 never : {X : Type 0} (p : X → Bool) (xs : List X) → fold (λ all x. all && p x) false xs ≡ false
 never p [] = refl
@@ -28,10 +24,10 @@ fold_is_all p (x ∷ xs) = elim (cases_Bool (p x)) [
 ]
 
 pub first_passes : {X : Type 0} (p : X → Bool) (x : X) (xs : List X) → list_all p (x ∷ xs) ≡ true → p x ≡ true
-first_passes p x xs h = (both (p x) (list_all p xs) h).0
+first_passes p x xs h = (and_parts (p x) (list_all p xs) h).0
 
 pub rest_pass : {X : Type 0} (p : X → Bool) (x : X) (xs : List X) → list_all p (x ∷ xs) ≡ true → list_all p xs ≡ true
-rest_pass p x xs h = (both (p x) (list_all p xs) h).1
+rest_pass p x xs h = (and_parts (p x) (list_all p xs) h).1
 
 all_pass : {X : Type 0} (p : X → Bool) (x : X) (xs : List X) → p x ≡ true → list_all p xs ≡ true → list_all p (x ∷ xs) ≡ true
 all_pass p x xs first rest = rw first rest

@@ -19,12 +19,9 @@ most_octets = 64
 abbrev pub most_standard_octets : ℕ
 most_standard_octets = 16
 
--- the most octets that a memory service carries, and those of one in a standard frame
+-- the most octets that a memory service carries
 abbrev pub most_memory_octets : ℕ
 most_memory_octets = 60
-
-abbrev pub most_standard_memory_octets : ℕ
-most_standard_memory_octets = 12
 
 -- the most octets of a property's value in one service
 abbrev pub most_property_octets : ℕ

@@ -14,7 +14,7 @@
 --     | ---------------------------------------> |     the device's next number is 1
 --     |  T_Disconnect                            |
 --     | ---------------------------------------> |
-use Rattle.std.specs.Prelude.{ℕ, ◌<◌, ◌≤◌, ◌+◌, ◌-◌, ◌*◌, ◌/◌, ◌%◌, Bool, ◌&&◌, ◌==◌, nat_lt, nat_le, List, [], ◌∷◌, length, Option, Some, if◌then◌else◌}
+use Rattle.std.specs.Prelude.{ℕ, ◌<◌, ◌≤◌, ◌+◌, ◌-◌, ◌*◌, ◌/◌, ◌%◌, Bool, ◌&&◌, ◌==◌, nat_lt, nat_le, List, [], ◌∷◌, length, Option, Some, None, min, if◌then◌else◌}
 use Rattle.knx_model.specs.declared.address.IndAddr.{IndAddr}
 use Rattle.knx_model.specs.declared.frames.tpdu.Tpdu.{Tpdu}
 use Rattle.knx_model.specs.declared.frames.tpdu.Tpdu.TheVariants as tpdu
@@ -104,6 +104,12 @@ wait_end wait since = if nat_le (since + wait) last_time then since + wait else 
 
 abbrev pub earlier_time : ℕ → ℕ → ℕ
 earlier_time one other = if nat_le one other then one else other
+
+-- the nearer of two times, where there are any
+abbrev pub nearer : Option ℕ → Option ℕ → Option ℕ
+nearer None other = other
+nearer (Some one) None = Some one
+nearer (Some one) (Some other) = Some (min one other)
 
 -- ---- an open connection, at either end
 

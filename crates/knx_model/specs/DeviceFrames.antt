@@ -21,10 +21,10 @@ use Rattle.knx_model.specs.declared.frames.value.Value.{Value}
 use Rattle.knx_model.specs.declared.script.GroupService.{GroupService}
 use Rattle.knx_model.specs.declared.script.GroupService.TheVariants.{Read, Write, Response}
 use Rattle.knx_model.specs.Acts.{is_written, answerer}
+use Rattle.knx_model.specs.Apdu.{IsValueInRange}
 use Rattle.knx_model.specs.ApduReading.{service_in, apdu_octets}
 use Rattle.knx_model.specs.Cemi.{is_extended}
 use Rattle.knx_model.specs.Connection.{frame_in}
-use Rattle.knx_model.specs.DeviceConnection.{device_took, device_after, device_answered, after_answer}
 use Rattle.knx_model.specs.DeviceConnection.{DeviceEnd, Closed, Idle, Answering, partner_of, device_took, device_after, device_answered, after_answer, device_expired, device_repeated}
 use Rattle.knx_model.specs.Device.{NonVolatile, Effect, Loads, Stores, Nothing, runs, whole, torn, taken_over, is_write, effect_in, answer_in}
 use Rattle.knx_model.specs.DeviceState.{DeviceState, cut, moved, value_of, written_values}
@@ -114,6 +114,12 @@ group_service (Some GroupRead) = Some Read
 group_service (Some (GroupWrite value)) = Some (Write value)
 group_service (Some (GroupResponse value)) = Some (Response value)
 group_service _ = None
+
+-- a short value has at most six bits, and a long one 1 to 14 octets
+abbrev pub IsServiceInRange : GroupService → Type 0
+IsServiceInRange Read = Unit {0}
+IsServiceInRange (Write value) = IsValueInRange value
+IsServiceInRange (Response value) = IsValueInRange value
 
 abbrev pub response_octets : Value → List ℕ
 response_octets value = apdu_octets (GroupResponse value)

@@ -6,8 +6,6 @@ use Rattle.knx_model.specs.declared.frames.tpdu.Apdu.{Apdu}
 use Rattle.knx_model.specs.declared.frames.tpdu.Apdu.TheVariants.{MemoryRead, MemoryResponse, DescriptorRead, DescriptorResponse, PropertyRead, PropertyResponse, PropertyWrite}
 use Rattle.knx_model.specs.declared.plan.Expect.{Expect}
 use Rattle.knx_model.specs.declared.plan.Expect.TheVariants.{AckOnly, Is, Note}
-use Rattle.knx_model.specs.declared.plan.Op.{Op}
-use Rattle.knx_model.specs.declared.plan.Op.TheVariants.{Send, Skip}
 use Rattle.knx_model.specs.ApduReading.{service_in}
 
 -- An operation asks for a service, by its octets with transport bits 0. The answer is none where the acknowledgement is all.
@@ -42,13 +40,12 @@ Suits apdu _ _ = ⊥
 
 -- ---- a position in a plan
 
--- The operation stands at the head of the plan, and `rest` follows it. One that is passed over isn't in the plan. What follows one
--- whose answer is noted is settled by its answer alone.
-abbrev pub IsHead : Op → Plan → Plan → Type 0
-IsHead Skip plan rest = plan ≡ rest
-IsHead (Send apdu AckOnly) plan rest = plan ≡ Asks apdu AckOnly (λ _. rest)
-IsHead (Send apdu (Is wanted)) plan rest = plan ≡ Asks apdu (Is wanted) (λ _. rest)
-IsHead (Send apdu Note) plan rest = (next : Option (List ℕ) → Plan) × (plan ≡ Asks apdu Note next)
+-- The operation stands at the head of the plan, and `rest` follows it. What follows one whose answer is noted is settled by its answer
+-- alone.
+abbrev pub IsHead : List ℕ → Expect → Plan → Plan → Type 0
+IsHead apdu AckOnly plan rest = plan ≡ Asks apdu AckOnly (λ _. rest)
+IsHead apdu (Is wanted) plan rest = plan ≡ Asks apdu (Is wanted) (λ _. rest)
+IsHead apdu Note plan rest = (next : Option (List ℕ) → Plan) × (plan ≡ Asks apdu Note next)
 
 -- the answer to the plan's first operation is noted
 abbrev pub IsNoted : Plan → Type 0

@@ -17,12 +17,12 @@ pub enum Expect {
     Note,
 }
 
-/// An operation of a plan. The octets are whole APDUs with transport bits 0.
+/// An operation of a plan.
 #[derive(Debug, Drop, PartialEq, Eq)]
-pub enum Op {
-    Send { apdu: ApduOctets, expect: Expect },
-    /// It is passed over.
-    Skip,
+pub struct Op {
+    /// A whole APDU with transport bits 0.
+    pub apdu: ApduOctets,
+    pub expect: Expect,
 }
 
 /// The operations of a plan in order. What follows an operation whose answer is noted depends on that answer, so a plan listens.
@@ -41,7 +41,7 @@ pub trait PlanSource: Drop {
     /// The k-th operation, from 0 on. It takes no memory.
     fn op(&self, k: u32) -> Op
         requires { k < count self.now }
-        ensures { IsHead result (left self.now k) (left self.now (k + 1)) };
+        ensures { IsHead result.apdu result.expect (left self.now k) (left self.now (k + 1)) };
 
     /// Notes the answer that came to the k-th operation. Where that one isn't noted, nothing changes.
     fn note(&mut self, k: u32, got: &[u8])

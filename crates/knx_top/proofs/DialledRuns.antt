@@ -4,6 +4,7 @@ use Rattle.std.specs.Prelude.{IfSome}
 use Rattle.hub_core.specs.Promises.{IsRightOver, FaultRightIn, DropsIn}
 use Rattle.hub_core.specs.Thorough.{IsThoroughOver}
 use Rattle.hub_driver.specs.Closed.{HasClosed}
+use Rattle.hub_driver.specs.Seats.{IsOfWorkers}
 use Rattle.hub_driver.specs.Heard.{HeardAll}
 use Rattle.hub_driver.specs.Leaving.{LeavesOver}
 use Rattle.knx_model.specs.declared.command.Stop.{Stop}
@@ -52,9 +53,9 @@ means_over project jobs words (Full start events) log planned right = (devices_m
 
 pub told_over : (jobs : List Job) (groups : List GroupTurn) (began after : Story) (place : ℕ) (report : Report) → groups ≡ [] → IsNewLink began → GoesOn began after → Keeps jobs groups after (log_in report) → IsRightOver jobs after (log_in report)
     → IsThoroughOver jobs after (log_in report) → LeavesOver jobs groups after (log_in report)
-    → FaultRightIn jobs (log_in report) report.fault (record_in after) → (report.fault ≡ None → AllOver jobs (log_in report)) → (report.fault ≡ None → WhereTold (HasClosed (log_in report)) after) → IsLog jobs groups place (log_in report) → OneDownloaderPerDevice jobs (log_in report)
+    → FaultRightIn jobs (log_in report) report.fault (record_in after) → (report.fault ≡ None → AllOver jobs (log_in report)) → (report.fault ≡ None → WhereTold (HasClosed (log_in report)) after) → IsLog jobs groups place (log_in report) → OneDownloaderPerDevice jobs (log_in report) → IsOfWorkers 1 (log_in report)
     → (report.fault ≡ None → HeardAll report.heard (record_in after)) → report.missed ≡ 0 → DropsIn report.dropped (record_in after) → IsToldOver jobs after report
-told_over jobs groups began after place report none new goes keeps right thorough leaves fault ended closed form alone heard missed dropped = record {
+told_over jobs groups began after place report none new goes keeps right thorough leaves fault ended closed form alone seats heard missed dropped = record {
   began = began;
   new = new;
   goes = goes;
@@ -68,6 +69,7 @@ told_over jobs groups began after place report none new goes keeps right thoroug
   place = place;
   form = subst (λ (turns : List GroupTurn). IsLog jobs turns place (log_in report)) none form;
   alone = alone;
+  seats = seats;
   heard = heard;
   missed = missed;
   dropped = dropped;

@@ -11,6 +11,7 @@ use Rattle.hub_core.specs.Promises.{IsRightOver, FaultRightIn, DropsIn}
 use Rattle.hub_core.specs.Seen.{AreJobs}
 use Rattle.hub_core.specs.Thorough.{IsThoroughOver}
 use Rattle.hub_driver.specs.Closed.{HasClosed}
+use Rattle.hub_driver.specs.Seats.{IsOfWorkers}
 use Rattle.hub_driver.specs.Heard.{HeardAll}
 use Rattle.hub_driver.specs.Leaving.{LeavesOver}
 use Rattle.hub_work.specs.declared.job.HubJob.{HubJob}
@@ -27,7 +28,7 @@ use Rattle.line_model.specs.Fresh.{IsFresh}
 use Rattle.line_model.specs.Headline.{IsRight, Keeps}
 use Rattle.line_model.specs.Legal.{IsLegal}
 use Rattle.line_model.specs.Lines.{Script, script_of}
-use Rattle.line_model.specs.LinkStory.{Full, IsNewLink, record_in}
+use Rattle.line_model.specs.LinkStory.{Full, record_in}
 use Rattle.line_model.specs.Log.{Job, AllOver}
 use Rattle.line_model.specs.Record.{placed}
 use Rattle.line_model.specs.StartOf.{BusOf}
@@ -53,15 +54,7 @@ pub devices_seen : (plans : List HubJob) → AreJobsOf (map (λ (job : HubJob). 
 devices_seen [] = refl
 devices_seen (job ∷ plans) = ap (λ (devices : List IndAddr). job.device ∷ devices) (devices_seen plans)
 
--- ---- the line is new, and its start stays
-
--- whosever the run is
-new_story : (clients : Clients) (start : World) (events : List Event) → events ≡ [] → IsFresh start → IsNewLink (story_of clients start events)
-new_story One start events nothing fresh = (nothing, fresh)
-new_story Any start events nothing fresh = tt
-
-pub new_line : (line : BusNow) → line.run.events ≡ [] → IsFresh (start line.run) → IsNewLink (story line.run)
-new_line line nothing fresh = new_story line.run.begun.clients (start line.run) line.run.events nothing fresh
+-- ---- the start of the line stays
 
 -- the run of one client tells its events, and goes on as that
 one_story : (r : RunNow) → r.begun.clients ≡ One → story r ≡ Full (start r) r.events
@@ -141,11 +134,12 @@ pub driven : (c : Commission) (order : Order) (line : BusNow) (report : Report) 
     → FaultRightIn (map seen_job order.plans) (log_in report) report.fault (record_in (story line.run))
     → (report.fault ≡ None → AllOver (map seen_job order.plans) (log_in report))
     → (report.fault ≡ None → WhereTold (HasClosed (log_in report)) (story line.run))
+    → IsOfWorkers 1 (log_in report)
     → (report.fault ≡ None → HeardAll report.heard (record_in (story line.run)))
     → report.missed ≡ 0
     → DropsIn report.dropped (record_in (story line.run))
     → Ran c line.run report order.jobs
-driven c order line report is one goes says fresh legal follows keeps thorough leaves right fault over closed heard missed dropped =
+driven c order line report is one goes says fresh legal follows keeps thorough leaves right fault over closed seats heard missed dropped =
     let jobs : List Job = map seen_job order.plans in
     let whole : story line.run ≡ Full (start line.run) line.run.events = told_whole order.line.run line.run one goes in
     let in_run : mode line.run ≡ Commissions = ap mode_of (still_one order.line.run line.run one goes) in
@@ -167,6 +161,7 @@ driven c order line report is one goes says fresh legal follows keeps thorough l
         ended = over;
         closed = λ none. subst (λ s. WhereTold (HasClosed (log_in report)) s) whole (closed none) (placed (start line.run) line.run.events) refl;
         heard = λ none. subst (λ s. HeardAll report.heard (record_in s)) whole (heard none);
+        seats = seats;
         missed = missed;
         dropped = subst (λ s. DropsIn report.dropped (record_in s)) whole dropped;
       };

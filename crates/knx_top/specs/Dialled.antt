@@ -6,6 +6,7 @@ use Rattle.std.specs.List.{list_all}
 use Rattle.hub_core.specs.Promises.{IsRightOver, FaultRightIn, DropsIn}
 use Rattle.hub_core.specs.Thorough.{IsThoroughOver}
 use Rattle.hub_driver.specs.Closed.{HasClosed}
+use Rattle.hub_driver.specs.Seats.{IsOfWorkers}
 use Rattle.hub_driver.specs.Heard.{HeardAll}
 use Rattle.hub_driver.specs.Leaving.{LeavesOver}
 use Rattle.knx_model.specs.declared.command.Stop.{Stop}
@@ -110,6 +111,8 @@ pub record IsToldOver (jobs : List Job) (story : Story) (report : Report) : Type
   pub place : ℕ
   pub form : IsLog jobs [] place (log_in report)
   pub alone : OneDownloaderPerDevice jobs (log_in report)
+  -- one caller drives the hub, as worker 1
+  pub seats : IsOfWorkers 1 (log_in report)
   -- what was heard, and what was dropped
   pub heard : report.fault ≡ None → HeardAll report.heard (record_in story)
   pub missed : report.missed ≡ 0

@@ -13,6 +13,7 @@ use Rattle.line_model.specs.Record.{placed, record_of}
 use Rattle.line_model.specs.Telegrams.{TelegramsActRight, ActsByProject}
 use Rattle.hub_core.specs.Thorough.{IsThorough}
 use Rattle.hub_driver.specs.Closed.{HasClosed}
+use Rattle.hub_driver.specs.Seats.{IsOfWorkers}
 use Rattle.knx_top.specs.Jobs.{AreJobs, ArePlanned}
 use Rattle.knx_top.specs.Ran.{IsRunOf, log_in}
 use Rattle.knx_top.specs.Stops.{Commission}
@@ -69,3 +70,7 @@ EndsEveryJob c r report = OfItsJobs c (λ jobs. report.fault ≡ None → AllOve
 -- and its closing is over
 abbrev pub ClosesToItsEnd : Commission → RunNow → Report → Type 0
 ClosesToItsEnd c r report = report.fault ≡ None → HasClosed (log_in report) (placed (start r) r.events)
+
+-- one caller drives the hub: what its log tells was done by worker 1, or by the group thread
+abbrev pub IsOfOneWorker : Commission → RunNow → Report → Type 0
+IsOfOneWorker c r report = IsOfWorkers 1 (log_in report)

@@ -33,6 +33,7 @@ use Rattle.line_model.specs.Telegrams.{TelegramsActRight, ActsByProject}
 use Rattle.line_model.specs.Tunnel.{Commissions}
 use Rattle.hub_core.specs.Thorough.{IsThorough}
 use Rattle.hub_driver.specs.Closed.{HasClosed}
+use Rattle.hub_driver.specs.Seats.{IsOfWorkers}
 use Rattle.knx_top.specs.Jobs.{AreJobs, ArePlanned}
 use Rattle.knx_top.specs.OnLine.{on_bus}
 use Rattle.knx_top.specs.Shown.{AreShown}
@@ -68,6 +69,8 @@ pub record IsTold (jobs : List Job) (r : RunNow) (report : Report) : Type 0 wher
   pub ended : report.fault ≡ None → AllOver jobs (log_in report)
   pub closed : report.fault ≡ None → HasClosed (log_in report) (placed (start r) r.events)
   pub heard : report.fault ≡ None → report.heard ≡ reverse (indications (record_of (start r) r.events))
+  -- one caller drives the hub, as worker 1
+  pub seats : IsOfWorkers 1 (log_in report)
   pub missed : report.missed ≡ 0
   -- a number of 64 bits, which stands still at its greatest
   pub dropped : report.dropped ≡ min (dropped (record_of (start r) r.events)) (2 ^ 64 - 1)

@@ -8,7 +8,7 @@ ghost use Rattle.knx_top.specs.Command.{HasFewJobs, NamesFewJobs, ProjectWords, 
 ghost use Rattle.knx_top.specs.Dialled.{RepliesEnd, RunsDialled};
 ghost use Rattle.knx_top.specs.Ended.{IsTextOf, outcome_of, told_outcome};
 ghost use Rattle.knx_top.specs.Gateway.{RepliesServed, RunsGateway};
-ghost use Rattle.knx_top.specs.Headline.{ActsOnce, BeganRightly, ClosesToItsEnd, EndsEveryJob, EndsThoroughly, HasFaultRight, HasOldStoppedOrNew, HasTelegramsRight, IsToldRightly, LeavesItsChannel, RunsWhereDone};
+ghost use Rattle.knx_top.specs.Headline.{ActsOnce, BeganRightly, ClosesToItsEnd, EndsEveryJob, EndsThoroughly, HasFaultRight, HasOldStoppedOrNew, HasTelegramsRight, IsOfOneWorker, IsToldRightly, LeavesItsChannel, RunsWhereDone};
 ghost use Rattle.knx_top.specs.Names.{command_of, options_of, project_words_of, sim_words_of};
 ghost use Rattle.knx_top.specs.Ran.{FaultsOfLine, Stops};
 
@@ -230,6 +230,8 @@ pub fn knx<R: Wait, F: Files, K: Sink, D: Dialer>(
     ensures fault { HasRunOf HasFaultRight (map string_bytes words.now) (F.file files.old) sim.old (record { line = sim.new; report = last.new }) }
     ensures over { HasRunOf EndsEveryJob (map string_bytes words.now) (F.file files.old) sim.old (record { line = sim.new; report = last.new }) }
     ensures closed { HasRunOf ClosesToItsEnd (map string_bytes words.now) (F.file files.old) sim.old (record { line = sim.new; report = last.new }) }
+    // one caller drives the hub: what the log tells was done by worker 1, or by the group thread
+    ensures seats { HasRunOf IsOfOneWorker (map string_bytes words.now) (F.file files.old) sim.old (record { line = sim.new; report = last.new }) }
     // that the link failed is told of `sim` only at the last time of 64 bits, where a call of the simulated line failed
     ensures link { (names : SimWords) → asked (map string_bytes words.now) ≡ Some (AskedSim names) → FaultsOfLine last.new sim.new }
     // only `sim` and `gateway` begin the simulated line anew, only `download` and `gateway` reach a network, and only `sim` and `download` begin a run

@@ -1,7 +1,9 @@
 use crate::{SimBus, Status, knx};
 use knx_model::{List, MemoryFile, MemoryFiles, MemorySink, NoMemory, Octets};
 use line_fixed::{FixedDialer, FixedLink};
+use line_model::Report;
 use std::alloc::Global;
+use std::sync::Wait;
 use std::test::Fail;
 
 /// A project of one device.
@@ -30,6 +32,20 @@ fn words(alloc: Global, line: &str) -> Result<Vec<String>, NoMemory> {
         words.push(String::from_str(alloc, word)?)?;
     }
     Ok(words)
+}
+
+/// The status of a call, over a simulated line of its own.
+fn told_of<R: Wait>(
+    rt: &R,
+    alloc: Global,
+    words: &[String],
+    files: &mut MemoryFiles,
+    out: &mut MemorySink,
+    dial: &mut FixedDialer,
+    last: &mut Option<Report>,
+) -> Status {
+    let mut sim = SimBus::empty(alloc);
+    knx(rt, alloc, words, files, out, &mut sim, dial, last)
 }
 
 #[test]
@@ -74,16 +90,14 @@ fn faults_of_the_outside_are_told(rt: HostRuntime) -> Result<(), Fail> {
         let mut files = files(alloc, reads).ok().ok_or("memory")?;
         let mut out = MemorySink::new(alloc);
         out.failing = Vec::from_slice(alloc, writes)?;
-        let mut sim = SimBus::empty(alloc);
         let mut dial = FixedDialer::new(None, None);
         let mut last = None;
-        let told = knx(
+        let told = told_of(
             &rt,
             alloc,
             words.as_slice(),
             &mut files,
             &mut out,
-            &mut sim,
             &mut dial,
             &mut last,
         );
@@ -170,16 +184,14 @@ fn a_dialled_link_is_handed_back(rt: HostRuntime) -> Result<(), Fail> {
         let words = words(alloc, line).ok().ok_or("memory")?;
         let mut files = files(alloc, &[]).ok().ok_or("memory")?;
         let mut out = MemorySink::new(alloc);
-        let mut sim = SimBus::empty(alloc);
         let mut dial = dialer(alloc, gives).ok().ok_or("memory")?;
         let mut last = None;
-        let told = knx(
+        let told = told_of(
             &rt,
             alloc,
             words.as_slice(),
             &mut files,
             &mut out,
-            &mut sim,
             &mut dial,
             &mut last,
         );

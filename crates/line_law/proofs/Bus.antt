@@ -1,6 +1,7 @@
 -- A frame of the client goes over the bus: its confirmation waits for the client, and each session sees it.
 use Rattle.std.proofs.Common.{◌≡◌, ℕ, List, [], ◌∷◌, Bool, true, false, not, ◌&&◌, cond, Option, Some, refl, ◌∙◌, ap, subst, arith}
 use Rattle.std.specs.Prelude.{◌==◌}
+use Rattle.std.proofs.lemmas.Bool.{eqb-true}
 use Rattle.knx_model.specs.declared.frames.cemi.Ldata.{Ldata}
 use Rattle.knx_model.specs.ApduReading.{option_map}
 use Rattle.knx_model.specs.DeviceState.{DeviceState}
@@ -39,12 +40,6 @@ error_by : (w : World) (left_out : List ℕ) (frame : Ldata) (d : DeviceState) (
     → (confirmation w left_out frame).error ≡ not (not b && is_taken (took_of d frame))
 error_by w left_out frame d b g among at = rw g (rw among (rw at refl))
 
-pub eqb_is : (x y : ℕ) → (x == y) ≡ true → x ≡ y
-eqb_is x y e = grind arith
-
-pub is_eqb : (x y : ℕ) → x ≡ y → (x == y) ≡ true
-is_eqb x y e = grind arith
-
 pub eqb_sym : (x y : ℕ) → (x == y) ≡ (y == x)
 eqb_sym x y = grind arith
 
@@ -73,7 +68,7 @@ module _ (a : ℕ) (w : World) (r : List Entry) (s : SessionWorld) (items : Item
       let con : Ldata = confirmation w left_out (on_bus (me w) f) in
       let devices : Devices = all_take (now w) left_out (Some (on_bus (me w) f)) w.devices in
       let its : is_its a f ≡ true = ap (λ z. not z && (f.destination == a)) g ∙ m in
-      let to : f.destination ≡ a = eqb_is f.destination a m in
+      let to : f.destination ≡ a = eqb-true f.destination a m in
       let at : devices a ≡ Some s.device = mapped_at (w.devices a) s.device (λ d. takes d (on_bus (me w) f) (now w) Whole) (is_among left_out a) h.side.device ∙ ap (λ z. Some (cond {A = DeviceState} z s.device (takes s.device (on_bus (me w) f) (now w) Whole))) l in
       let error : con.error ≡ true = error_by w left_out (on_bus (me w) f) s.device true g (ap (is_among left_out) to ∙ l) (ap w.devices to ∙ h.side.device) in
       bus_lost a w r s items older base e v f con devices (con_of w left_out f octets reads) h its at error
@@ -81,7 +76,7 @@ module _ (a : ℕ) (w : World) (r : List Entry) (s : SessionWorld) (items : Item
       let con : Ldata = confirmation w left_out (on_bus (me w) f) in
       let devices : Devices = all_take (now w) left_out (Some (on_bus (me w) f)) w.devices in
       let its : is_its a f ≡ true = ap (λ z. not z && (f.destination == a)) g ∙ m in
-      let to : f.destination ≡ a = eqb_is f.destination a m in
+      let to : f.destination ≡ a = eqb-true f.destination a m in
       let at : devices a ≡ Some (takes s.device (on_bus (me w) f) (now w) Whole) = mapped_at (w.devices a) s.device (λ d. takes d (on_bus (me w) f) (now w) Whole) (is_among left_out a) h.side.device ∙ ap (λ z. Some (cond {A = DeviceState} z s.device (takes s.device (on_bus (me w) f) (now w) Whole))) l in
       let error : con.error ≡ not (is_taken (took_of s.device (on_bus (me w) f))) = error_by w left_out (on_bus (me w) f) s.device false g (ap (is_among left_out) to ∙ l) (ap w.devices to ∙ h.side.device) in
       bus_mine a w r s items older base e v f con devices (con_of w left_out f octets reads) h Whole its at error
@@ -104,7 +99,7 @@ module _ (a : ℕ) (w : World) (r : List Entry) (s : SessionWorld) (items : Item
       let con : Ldata = confirmation w [] (on_bus (me w) f) in
       let devices : Devices = one_takes (now w) outcome (Some (on_bus (me w) f)) w.devices in
       let its : is_its a f ≡ true = ap (λ z. not z && (f.destination == a)) g ∙ m in
-      let to : f.destination ≡ a = eqb_is f.destination a m in
+      let to : f.destination ≡ a = eqb-true f.destination a m in
       let at : devices a ≡ Some (takes s.device (on_bus (me w) f) (now w) outcome)
       = changed_at (w.devices a) s.device (λ d. takes d (on_bus (me w) f) (now w) outcome) (a == f.destination) h.side.device ∙ ap (λ z. Some (cond {A = DeviceState} z (takes s.device (on_bus (me w) f) (now w) outcome) s.device)) (eqb_sym a f.destination ∙ m) in
       let error : con.error ≡ not (is_taken (took_of s.device (on_bus (me w) f))) = error_by w [] (on_bus (me w) f) s.device false g refl (ap w.devices to ∙ h.side.device) in

@@ -1,7 +1,8 @@
 -- At every moment each device keeps its starting content, or is stopped, or runs the image of a load job; and it is untouched before its first one.
-use Rattle.std.proofs.Common.{◌≡◌, ℕ, zero, suc, ◌-◌, ◌<◌, List, [], ◌∷◌, ◌++◌, Bool, true, false, ◌&&◌, ◌||◌, cond, Some, None, refl, sym, ◌∙◌, ap, subst, inl, inr, arith}
+use Rattle.std.proofs.Common.{◌≡◌, ℕ, zero, suc, ◌-◌, ◌<◌, List, [], ◌∷◌, ◌++◌, Bool, true, false, ◌&&◌, cond, Some, None, refl, sym, ◌∙◌, ap, subst, inl, inr, arith}
 use Rattle.std.specs.Prelude.{◌==◌, nat_lt, slice_get}
 use Rattle.std.specs.List.{AllByRecursion}
+use Rattle.std.proofs.lemmas.Bool.{or_parts}
 use Rattle.knx_model.specs.declared.device.FrameSupport.{FrameSupport}
 use Rattle.knx_model.specs.Device.{NonVolatile, HasCapacities, runs, answer_in, effect_in}
 use Rattle.knx_model.specs.DeviceState.{DeviceState}
@@ -19,7 +20,7 @@ use Rattle.session_law.specs.Events.{Event as SessionEvent, replay, IsLegal}
 use Rattle.session_law.proofs.Books.{Books, empty, books}
 use Rattle.session_law.proofs.Steps.{WorldInv, fresh_inv, always}
 use Rattle.load_law.specs.Download.{MayAsk, Follows}
-use Rattle.load_law.proofs.Capacities.{kept_capacities}
+use Rattle.knx_model.proofs.Capacities.{kept_capacities}
 use Rattle.load_law.proofs.Walked.{AllGoodFor}
 use Rattle.load_law.proofs.Follows.{LoadInv, load_always, fresh_load}
 use Rattle.load_law.proofs.Checked.{ChangesNothing, Unchanged, unchanged_step}
@@ -132,10 +133,6 @@ taken_by jobs a k number e job t there of = by_what e.what t where
   by_what (Sent j) h = absurd (cc)
   by_what (Lost j) h = absurd (cc)
 
-pub or_false : (b c : Bool) → (b || c) ≡ false → (b ≡ false) × (c ≡ false)
-or_false true c h = absurd (cc)
-or_false false c h = (refl, h)
-
 pub and_false : (b c : Bool) → (b && c) ≡ false → b ≡ true → c ≡ false
 and_false true c h e = h
 and_false false c h e = absurd (cc)
@@ -144,7 +141,7 @@ and_false false c h e = absurd (cc)
 pub no_load : (jobs : List Job) (a k n number worker since : ℕ) (job : Job) (log : List LogEntry) → load_taken jobs a k log ≡ false → n < k → state_of number (log_before (suc n) log) ≡ Held worker since → job_of jobs number ≡ Some job → job.device.raw ≡ a → loads job ≡ false
 no_load jobs a k n number worker since job [] none lt held there of = absurd (let z : Untaken ≡ Held worker since = held in cc)
 no_load jobs a k n number worker since job (e ∷ log) none lt held there of =
-    let parts = or_false (nat_lt e.at k && takes_load jobs a e.what) (load_taken jobs a k log) none in
+    let parts = or_parts (nat_lt e.at k && takes_load jobs a e.what) (load_taken jobs a k log) none in
     by_before (nat_lt e.at (suc n)) refl parts.0 (λ was. no_load jobs a k n number worker since job log parts.1 lt was there of)
   where
     in_time : nat_lt e.at (suc n) ≡ true → nat_lt e.at k ≡ true

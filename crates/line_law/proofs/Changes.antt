@@ -11,7 +11,7 @@ use Rattle.line_model.specs.Record.{Entry}
 use Rattle.line_model.specs.Tunnel.{with_gateway, after, heard as heard_by}
 use Rattle.line_model.specs.World.{World, BusAgain, DevClose, GwAgain, Cut, On, Comes, Devices, me, now, changed, heard}
 use Rattle.session_law.specs.World.{World as SessionWorld, Ind as Tells}
-use Rattle.session_law.specs.Device.{speaks, with_device, echoes, elsewhere, gets, gets_again, and_told, or_before as or_earlier}
+use Rattle.session_law.specs.Device.{with_device, gets, gets_again, and_told}
 use Rattle.session_law.specs.Device as session
 use Rattle.session_law.specs.Events as event
 use Rattle.tunnel_law.proofs.Inside.{Every}

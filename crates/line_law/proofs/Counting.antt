@@ -2,27 +2,22 @@
 use Rattle.std.proofs.Common.{◌≡◌, ℕ, suc, ◌%◌, ◌≤◌, ◌⊎◌, List, [], ◌∷◌, ◌++◌, reverse, length, Bool, true, false, ◌&&◌, cond, Option, Some, refl, sym, ◌∙◌, ap, subst, inl, inr, arith}
 use Rattle.std.proofs.lemmas.List.{reverse-append}
 use Rattle.std.proofs.lemmas.Slice.Eq.{bytes_eq-Decides}
+use Rattle.std.proofs.lemmas.Bool.{and_parts, cases_Bool}
 use Rattle.knx_model.specs.declared.connection.ClientTook.{ClientTook}
 use Rattle.knx_model.specs.declared.connection.ClientTook.TheVariants as heard
 use Rattle.knx_model.specs.declared.plan.Expect.{Expect}
 use Rattle.knx_model.specs.declared.plan.Expect.TheVariants.{AckOnly, Is, Note}
 use Rattle.knx_model.specs.ClientConnection.{ClientEnd, Asked, Up, Asking, Awaiting, Ended, client_after, client_answered}
-use Rattle.knx_model.specs.Connection.{Session, next_number}
+use Rattle.knx_model.specs.Connection.{next_number}
 use Rattle.knx_model.specs.Plans.{Plan, Asks as Operation, Suits, followed}
 use Rattle.line_model.specs.Attempts.{Attempt, awaits, with_reply, owing, heard_attempt}
 use Rattle.line_model.specs.Moments.{Number}
 use Rattle.line_model.specs.Progress.{Reaches, suits}
 use Rattle.line_law.proofs.Reaching.{Texts, too_many, answered_one, suits_next}
 use Rattle.line_law.proofs.Counts.{NumberIs, ExpectedIs, AwaitsOne, LeftIs, Spoilt, Count, CountIs, Effect, Drops, Agains, Naks, Acks, Answers, stayed_count, acked_count}
+use Rattle.line_law.proofs.Hearing.{suits_is}
 
 -- ---- an answer
-
-answered_number : (end : ClientEnd) (o : Number) (acked sent t : ℕ) → NumberIs end o acked sent → (NumberIs (client_answered end t) o acked sent) ⊎ ((p : Session) × (end ≡ Awaiting p))
-answered_number (Asked device) o acked sent t h = absurd h
-answered_number (Up p) o acked sent t h = inl h
-answered_number (Asking p q) o acked sent t h = inl h
-answered_number (Awaiting p) o acked sent t h = inl h
-answered_number Ended o acked sent t h = absurd h
 
 number_after : (end : ClientEnd) (o : Number) (acked sent t : ℕ) → NumberIs end o acked sent → NumberIs (client_answered end t) o acked sent
 number_after (Asked device) o acked sent t h = h
@@ -47,11 +42,6 @@ awaits_after (Up p) t = refl
 awaits_after (Asking p q) t = refl
 awaits_after (Awaiting p) t = refl
 awaits_after Ended t = refl
-
-suits_is : (left : Plan) (got apdu : List ℕ) (expect : Expect) (next : Option (List ℕ) → Plan) → left ≡ Operation apdu expect next → suits left got ≡ true → Suits apdu expect (Some got)
-suits_is left got apdu AckOnly next e h = absurd (let z : suits (Operation apdu AckOnly next) got ≡ true = ap (λ p. suits p got) (sym e) ∙ h in cc)
-suits_is left got apdu (Is wanted) next e h = let z : suits (Operation apdu (Is wanted) next) got ≡ true = ap (λ p. suits p got) (sym e) ∙ h in (bytes_eq-Decides got wanted).0 z
-suits_is left got apdu Note next e h = ap (λ p. suits p got) (sym e) ∙ h
 
 is_suits : (left : Plan) (got apdu : List ℕ) (expect : Expect) (next : Option (List ℕ) → Plan) → left ≡ Operation apdu expect next → Suits apdu expect (Some got) → suits left got ≡ true
 is_suits left got apdu AckOnly next e h = absurd h
@@ -93,19 +83,11 @@ one_more plan left sent ans got s h =
     (subst (λ z. Reaches plan (suc h.before) (reverse ans ++ got ∷ []) z) (sym (followed_is left got h.apdu h.expect h.next h.head))
     (answered_one plan h.before (reverse ans) h.apdu got h.expect h.next (suits_is left got h.apdu h.expect h.next h.head s) h.reaches))
 
-both_true : (a b : Bool) → (a && b) ≡ true → (a ≡ true) × (b ≡ true)
-both_true true b h = (refl, h)
-both_true false b h = absurd (cc)
-
-either : (b : Bool) → (b ≡ true) ⊎ (b ≡ false)
-either true = inl refl
-either false = inr refl
-
 answer_count : (plan : Plan) (t : Attempt) (o : Number) (acked now : ℕ) (ans : Texts) (got ack : List ℕ) (b : Bool) → (awaits t.end && suits t.left got) ≡ b → Count plan t o acked ans
     → Count plan (owing (cond {A = Attempt} b (record t { left = followed t.left got }) (record t { closing = true })) now (heard.Answer got ack) ack) o acked (got ∷ ans)
 unfolding client_after
 answer_count plan t o acked now ans got ack true e h =
-    let q = both_true (awaits t.end) (suits t.left got) e in
+    let q = and_parts (awaits t.end) (suits t.left got) e in
     record {
       sent = h.sent;
       number_is = number_after t.end o acked h.sent now h.number_is;
@@ -123,7 +105,7 @@ answer_count plan t o acked now ans got ack false e h =
       plain = h.plain;
       left_is = λ k. absurd (cc);
       spoilt = λ k. subst (Spoilt plan h.sent) (sym (last_more ans got))
-          (elim (either t.closing) [ inl was ↦ spoilt_more plan h.sent ans got (h.spoilt was) | inr isnt ↦ spoilt_now plan t.left h.sent ans got (awaits t.end) e (h.left_is isnt) ]);
+          (elim (cases_Bool t.closing) [ inl was ↦ spoilt_more plan h.sent ans got (h.spoilt was) | inr isnt ↦ spoilt_now plan t.left h.sent ans got (awaits t.end) e (h.left_is isnt) ]);
     }
 
 -- ---- whatever is heard

@@ -1,6 +1,7 @@
 -- How the record's count of a session stands beside its attempt.
 use Rattle.std.proofs.Common.{◌≡◌, ℕ, suc, ◌%◌, ◌<◌, ◌≤◌, List, ◌∷◌, ◌++◌, reverse, length, Bool, true, false, not, ◌&&◌, cond, Option, Some, refl, sym, ◌∙◌, ap, subst, arith, if◌then◌else◌}
 use Rattle.std.specs.Prelude.{◌==◌}
+use Rattle.std.proofs.lemmas.Bool.{not-false}
 use Rattle.knx_model.specs.declared.connection.ClientTook.{ClientTook}
 use Rattle.knx_model.specs.declared.connection.ClientTook.TheVariants as heard
 use Rattle.knx_model.specs.declared.connection.TransportFrame.{TransportFrame}
@@ -85,10 +86,6 @@ pub numbered_effect : (end : ClientEnd) (p : Session) (o : Number) (acked : ℕ)
 numbered_effect end p o acked ans j apdu e =
     subst (λ z. Effect end o acked ans (up_took p (Numbered j apdu)) o acked (cond {A = Texts} (j == z) (apdu ∷ ans) ans)) e (data_by end o acked ans (j == p.expected) (next_number j == p.expected) apdu _ _ _)
 
-pub not_false : (b : Bool) → not b ≡ false → b ≡ true
-not_false true h = refl
-not_false false h = absurd (cc)
-
 pub ack_dropped : (p : Session) (j : ℕ) (b : Bool) → (next_number j == p.number) ≡ b → b ≡ true → up_took p (Ack j) ≡ heard.Dropped
 ack_dropped p j true e h = rw e refl
 ack_dropped p j false e h = absurd (cc)
@@ -98,7 +95,7 @@ pub up_effect : (end : ClientEnd) (p : Session) (acked : ℕ) (ans : Texts) (y :
     → Effect end (Next p.number) acked ans (up_took p y) (number_heard (Some y) (Next p.number)) (if is_acknowledged (Some y) (Next p.number) then suc acked else acked) (answer_expected (Some y) (length ans) ans)
 up_effect end p acked ans Connect e h = Drops
 up_effect end p acked ans Disconnect e h = absurd (cc)
-up_effect end p acked ans (Ack j) e h = subst (λ z. Effect end (Next p.number) acked ans z (Next p.number) acked ans) (sym (ack_dropped p j (next_number j == p.number) refl (not_false (next_number j == p.number) h))) Drops
+up_effect end p acked ans (Ack j) e h = subst (λ z. Effect end (Next p.number) acked ans z (Next p.number) acked ans) (sym (ack_dropped p j (next_number j == p.number) refl (not-false (next_number j == p.number) h))) Drops
 up_effect end p acked ans (Nak j) e h = Drops
 up_effect end p acked ans (Numbered j apdu) e h = numbered_effect end p (Next p.number) acked ans j apdu e
 up_effect end p acked ans Other e h = Drops
@@ -107,7 +104,7 @@ up_effect end p acked ans Other e h = Drops
 pub own_ack : (p : Session) (q : Question) (acked : ℕ) (ans : Texts) (j : ℕ) (b : Bool) → (j == p.number) ≡ b → (not b && not (next_number j == p.number)) ≡ false
     → Effect (Asking p q) (Outstanding p.number) acked ans (if b then heard.Acked else up_took p (Ack j)) (if b then Next (next_number p.number) else Outstanding p.number) (if b then suc acked else acked) ans
 own_ack p q acked ans j true e h = Acks p q refl
-own_ack p q acked ans j false e h = subst (λ z. Effect (Asking p q) (Outstanding p.number) acked ans z (Outstanding p.number) acked ans) (sym (ack_dropped p j (next_number j == p.number) refl (not_false (next_number j == p.number) h))) Drops
+own_ack p q acked ans j false e h = subst (λ z. Effect (Asking p q) (Outstanding p.number) acked ans z (Outstanding p.number) acked ans) (sym (ack_dropped p j (next_number j == p.number) refl (not-false (next_number j == p.number) h))) Drops
 
 pub asking_effect : (p : Session) (q : Question) (acked : ℕ) (ans : Texts) (y : TransportFrame) → p.expected ≡ length ans % 16 → closes_by (Some y) (Outstanding p.number) ≡ false
     → Effect (Asking p q) (Outstanding p.number) acked ans (asking_took p y) (number_heard (Some y) (Outstanding p.number)) (if is_acknowledged (Some y) (Outstanding p.number) then suc acked else acked) (answer_expected (Some y) (length ans) ans)

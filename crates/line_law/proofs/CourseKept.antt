@@ -5,11 +5,11 @@ use Rattle.knx_model.specs.declared.connection.ClientTook.{ClientTook}
 use Rattle.knx_model.specs.declared.connection.ClientTook.TheVariants as heard
 use Rattle.knx_model.specs.declared.connection.TransportFrame.{TransportFrame}
 use Rattle.knx_model.specs.declared.connection.TransportFrame.TheVariants.{Connect, Disconnect, Ack, Nak, Numbered, Other}
-use Rattle.knx_model.specs.ClientConnection.{ClientEnd, Ended, client_took, client_stayed, client_expired}
+use Rattle.knx_model.specs.ClientConnection.{ClientEnd, Ended, client_took, client_stayed}
 use Rattle.knx_model.specs.Connection.{frame_in}
 use Rattle.knx_model.specs.GoodPlan.{IsSendable}
 use Rattle.knx_model.specs.Plans.{Plan, Over}
-use Rattle.line_model.specs.Attempts.{Attempt, Attempts, Resting, Running, begun, put_so, put_attempt, confirmed_so, confirmed_attempt, heard_so, heard_attempt, is_silent, attempts, attempts_after, MayPut}
+use Rattle.line_model.specs.Attempts.{Attempt, Attempts, Resting, Running, begun, put_so, put_attempt, confirmed_so, confirmed_attempt, heard_so, heard_attempt, attempts, attempts_after, MayPut}
 use Rattle.line_model.specs.Moments.{Moment, confirmation_in, put_to, heard_from, Number, Next, number_put, number_heard, number, is_disconnect, closes_by, is_loss, ends_session, is_connect, grown, stretches, Course, Unconfirmed, WithError, InSession, Left, course_from, course_after, course, is_acknowledged, acknowledged, answer_expected, answers}
 use Rattle.line_model.specs.Progress.{Reaches}
 use Rattle.line_model.specs.Told.{WentThrough}
@@ -19,7 +19,8 @@ use Rattle.line_law.proofs.Courses.{Kind, Lost, Plain, Put, Confirmed, Hears, No
 use Rattle.line_model.specs.Attempts.{first, put_other}
 use Rattle.line_law.proofs.CourseSteps.{Closes, end_closes, closed_idle, numbered_count, ended_asks}
 use Rattle.line_law.proofs.CourseEnds.{ended_confirmed, ended_took, asked_took}
-use Rattle.line_law.proofs.Landing.{confirmed_none, heard_none, con_count, begun_count, Allowed, allowed, Free, PutsSo}
+use Rattle.line_law.proofs.Landing.{con_count, begun_count, Allowed, allowed, Free, PutsSo}
+use Rattle.line_law.proofs.Requests.{heard_none, confirmed_none}
 
 module _ (a : ℕ) (device : IndAddr) (plan : Plan) (can : IsSendable plan) (m : Moment) (l : List Moment) where
   abbrev t : Attempts

@@ -1,6 +1,7 @@
 -- Each moment keeps what the record says of a session with what it says of the attempt.
 use Rattle.std.proofs.Common.{◌≡◌, ℕ, zero, suc, ◌+◌, ◌%◌, List, [], ◌∷◌, reverse, length, Bool, true, false, not, ◌&&◌, cond, Option, Some, None, refl, sym, ◌∙◌, ap, subst, inl, inr, arith, if◌then◌else◌}
 use Rattle.std.specs.Prelude.{◌==◌, nat_le, nat_lt}
+use Rattle.std.proofs.lemmas.Bool.{not-true, and_parts}
 use Rattle.knx_model.specs.declared.connection.ClientTook.{ClientTook}
 use Rattle.knx_model.specs.declared.connection.ClientTook.TheVariants as heard
 use Rattle.knx_model.specs.declared.connection.ClientExpired.TheVariants as over
@@ -29,14 +30,6 @@ closed_by : (p : Session) (j : ℕ) (b : Bool) → (next_number j == p.number) �
 closed_by p j true e h = absurd (cc)
 closed_by p j false e h = rw e refl
 
-not_true : (b : Bool) → not b ≡ true → b ≡ false
-not_true true h = absurd (cc)
-not_true false h = refl
-
-both_true : (a b : Bool) → (a && b) ≡ true → (a ≡ true) × (b ≡ true)
-both_true true b h = (refl, h)
-both_true false b h = absurd (cc)
-
 -- nothing is counted with it
 pub record Closes (o : Number) (y : TransportFrame) (acked : ℕ) (ans : List (List ℕ)) (took : ClientTook) : Type 0 where
   pub close : Option (List ℕ)
@@ -47,7 +40,7 @@ pub record Closes (o : Number) (y : TransportFrame) (acked : ℕ) (ans : List (L
 up_closes : (p : Session) (y : TransportFrame) (acked : ℕ) (ans : List (List ℕ)) → closes_by (Some y) (Next p.number) ≡ true → Closes (Next p.number) y acked ans (up_took p y)
 up_closes p Connect acked ans h = absurd (cc)
 up_closes p Disconnect acked ans h = record { close = None; is = refl; uncounted = refl; unanswered = refl }
-up_closes p (Ack j) acked ans h = record { close = Some _; is = closed_by p j (next_number j == p.number) refl (not_true (next_number j == p.number) h); uncounted = refl; unanswered = refl }
+up_closes p (Ack j) acked ans h = record { close = Some _; is = closed_by p j (next_number j == p.number) refl (not-true (next_number j == p.number) h); uncounted = refl; unanswered = refl }
 up_closes p (Nak j) acked ans h = absurd (cc)
 up_closes p (Numbered j apdu) acked ans h = absurd (cc)
 up_closes p Other acked ans h = absurd (cc)
@@ -56,11 +49,11 @@ asking_closes : (p : Session) (y : TransportFrame) (acked : ℕ) (ans : List (Li
 asking_closes p Connect acked ans h = absurd (cc)
 asking_closes p Disconnect acked ans h = record { close = None; is = refl; uncounted = refl; unanswered = refl }
 asking_closes p (Ack j) acked ans h =
-    let q = both_true (not (j == p.number)) (not (next_number j == p.number)) h in
-    let other : (j == p.number) ≡ false = not_true (j == p.number) q.0 in
+    let q = and_parts (not (j == p.number)) (not (next_number j == p.number)) h in
+    let other : (j == p.number) ≡ false = not-true (j == p.number) q.0 in
     record {
       close = Some _;
-      is = ap (λ b. cond {A = ClientTook} b heard.Acked (up_took p (Ack j))) other ∙ closed_by p j (next_number j == p.number) refl (not_true (next_number j == p.number) q.1);
+      is = ap (λ b. cond {A = ClientTook} b heard.Acked (up_took p (Ack j))) other ∙ closed_by p j (next_number j == p.number) refl (not-true (next_number j == p.number) q.1);
       uncounted = ap (λ b. cond {A = ℕ} b (suc acked) acked) other;
       unanswered = refl;
     }

@@ -1,6 +1,7 @@
 -- A device sends, closes, loses its power and has it again; and frames come again.
 use Rattle.std.proofs.Common.{◌≡◌, ℕ, List, [], ◌∷◌, ◌++◌, Bool, true, false, cond, Option, Some, None, refl, sym, ◌∙◌, ap, subst, if◌then◌else◌, append-nil}
 use Rattle.std.specs.Prelude.{◌==◌}
+use Rattle.std.proofs.lemmas.Bool.{eqb-true, eq-eqb}
 use Rattle.knx_model.specs.declared.frames.cemi.Ldata.{Ldata}
 use Rattle.knx_model.specs.DeviceState.{DeviceState}
 use Rattle.knx_model.specs.DeviceFrames.{Whole, takes}
@@ -10,13 +11,13 @@ use Rattle.line_model.specs.Record.{Entry}
 use Rattle.line_model.specs.Tunnel.{after}
 use Rattle.line_model.specs.World.{World, DevSend, DevRepeat, AtGateway, Comes, IsLost, Devices, now, frame_by, waiting_at, repeat_at, is_among, changed, all_take, others_take, or_before, heard}
 use Rattle.session_law.specs.World.{World as SessionWorld}
-use Rattle.session_law.specs.Device.{speaks, with_device, echoes, elsewhere, gets, gets_again, and_told, or_before as or_earlier}
+use Rattle.session_law.specs.Device.{speaks, elsewhere, gets}
 use Rattle.session_law.specs.Device as session
 use Rattle.session_law.specs.Events as event
 use Rattle.line_law.proofs.Queue.{is_by}
 use Rattle.line_law.proofs.Coupled.{IsOwn, IsFrameOf, Owned, Coupled, Goes}
 use Rattle.line_law.proofs.Owned.{waiting_owned, repeat_owned}
-use Rattle.line_law.proofs.Bus.{after_world, mapped_at, changed_at, eqb_is, is_eqb, eqb_sym}
+use Rattle.line_law.proofs.Bus.{after_world, mapped_at, changed_at, eqb_sym}
 use Rattle.line_law.proofs.OnBus.{goes_one}
 use Rattle.line_law.proofs.Changes.{own_its, heard_kept, apart_kept, apart_mine, apart_other}
 
@@ -34,10 +35,10 @@ sent_world w gateway f devices = record { tunnel = after w.tunnel (heard gateway
 sent_mine : (a : ℕ) (w : World) (r : List Entry) (s : SessionWorld) (gateway : AtGateway) (f : Ldata) (devices : Devices) (d : DeviceState) → IsFrameOf a f → devices a ≡ Some d → Coupled a w r s
     → Coupled a (sent_world w gateway f devices) r (speaks s d (gate gateway) (Some f))
 sent_mine a w r s Comes f devices d own at c =
-    let by : is_by a f ≡ true = is_eqb f.source a own.0 in
+    let by : is_by a f ≡ true = eq-eqb f.source a own.0 in
     heard_kept a w r s (speaks s d session.Comes (Some f)) f devices (Some f) own.1 c (record { device = at; same_me = c.by.side.same_me; same_now = c.by.side.same_now; echo = rw by refl }) (ap (λ z. s.coming ++ z) (sym (own_its a f own.1 true by))) refl refl
 sent_mine a w r s IsLost f devices d own at c =
-    let by : is_by a f ≡ true = is_eqb f.source a own.0 in
+    let by : is_by a f ≡ true = eq-eqb f.source a own.0 in
     apart_kept a w r s (speaks s d session.IsLost (Some f)) devices (Some f) c (record { device = at; same_me = c.by.side.same_me; same_now = c.by.side.same_now; echo = rw by refl }) refl refl refl
 
 -- and of another one
@@ -116,7 +117,7 @@ sends_if a w r s device gateway left_out (Some f) e own c = sends_other a w r s 
 
 pub sends_kept : (a : ℕ) (w : World) (r : List Entry) (s : SessionWorld) (device : ℕ) (gateway : AtGateway) (left_out : List ℕ) (b : Bool) → (a == device) ≡ b → Owned w → Coupled a w r s → Goes a (after_world w (DevSend device gateway left_out)) r s
 sends_kept a w r s device gateway left_out true e own c =
-    let to : a ≡ device = eqb_is a device e in
+    let to : a ≡ device = eqb-true a device e in
     let at : w.devices device ≡ Some s.device = ap w.devices (sym to) ∙ c.by.side.device in
     let frame : waiting_frame s.device ≡ waiting_at w device = sym (ap (frame_by waiting_frame) at) in
     goes_one a (after_world w (DevSend device gateway left_out)) r s (event.DevSend (gate gateway)) tt tt
@@ -152,7 +153,7 @@ can_repeat (Some x) d e h = let same : x ≡ d = cc in ap (λ z. z.unsent) (sym 
 
 pub repeats_kept : (a : ℕ) (w : World) (r : List Entry) (s : SessionWorld) (device : ℕ) (gateway : AtGateway) (b : Bool) → (a == device) ≡ b → Owned w → OfDevice CanRepeat (w.devices device) → Coupled a w r s → Goes a (after_world w (DevRepeat device gateway)) r s
 repeats_kept a w r s device gateway true e own may c =
-    let to : a ≡ device = eqb_is a device e in
+    let to : a ≡ device = eqb-true a device e in
     let at : w.devices device ≡ Some s.device = ap w.devices (sym to) ∙ c.by.side.device in
     let frame : repeat_frame s.device ≡ repeat_at w device = sym (ap (frame_by repeat_frame) at) in
     goes_one a (after_world w (DevRepeat device gateway)) r s (event.DevRepeat (gate gateway)) (can_repeat (w.devices device) s.device at may) tt

@@ -27,7 +27,7 @@ use Rattle.line_law.proofs.Logs.{after}
 use Rattle.line_law.proofs.NothingAsked.{silent_follows}
 use Rattle.line_law.proofs.Runs.{Trace, trace_legal, trace_follows}
 use Rattle.line_law.proofs.HeldJobs.{HeldJob}
-use Rattle.line_law.proofs.Told.{held_then, form_at, true_at, before_at, nothing_between, between_first, first_full, not_over}
+use Rattle.line_law.proofs.Told.{held_then, form_at, true_at, before_at, between_first, first_full, not_over, none_between}
 use Rattle.line_law.proofs.Went.{DoneBefore, stretch_at, was_at}
 
 -- ---- the earlier of a run
@@ -105,7 +105,7 @@ module _ (jobs : List Job) (turns : List GroupTurn) (log : List LogEntry) (good 
   module _ (d : DeviceState) (capacities : HasCapacities d.kept) where
     none_since : (since : ℕ) → e.at ≤ since → WentThrough job.device.raw job.plan (session_since job.device.raw since e.at (placed start events)) → ⊥
     none_since since le went =
-        let none : WentThrough job.device.raw job.plan [] = subst (λ l. WentThrough job.device.raw job.plan (session (course job.device.raw (last_stretch (stretches job.device.raw l))))) (nothing_between since e.at (moments (placed start events)) le) went in
+        let none : WentThrough job.device.raw job.plan [] = subst (λ l. WentThrough job.device.raw job.plan (session (course job.device.raw (last_stretch (stretches job.device.raw l))))) (none_between since e.at (moments (placed start events)) le) went in
         not_over job d.frames (good_job jobs number job good there) none
 
     by_first : (first : List Event) → first_events e.at events ≡ first → length first ≡ e.at → (past : List SessionEvent) → Trace jobs log job.device.raw start d first past → (h : HeldThen) → h.since < e.at → DoneAt job start d past

@@ -3,9 +3,9 @@ use Rattle.std.proofs.Common.{◌≡◌, ℕ, suc, List, [], ◌∷◌, length, 
 use Rattle.knx_model.specs.declared.frames.cemi.Ldata.{Ldata}
 use Rattle.knx_model.specs.Plans.{Plan}
 use Rattle.line_model.specs.ActedOnce.{Has}
-use Rattle.line_model.specs.ChannelLost.{confirmed, confirms, expected, delivers, is_new_request, is_lost, answer_wait, is_confirmation}
+use Rattle.line_model.specs.ChannelLost.{confirmed, confirms, expected, delivers, is_new_request, is_lost, is_confirmation}
 use Rattle.line_model.specs.ChannelLost as ChannelLost
-use Rattle.line_model.specs.ClientView.{ClientChannel, Fresh, Sought, RefusedBy, Unanswered, Open, Lost, Deed, View, or_number, view_after, channel, deed, views, after_entry, goes_on, after_fresh, after_sought, sought_got, answered}
+use Rattle.line_model.specs.ClientView.{ClientChannel, Fresh, Sought, RefusedBy, Unanswered, Open, Lost, Deed, View, or_number, view_after, channel, deed, views, after_entry, goes_on}
 use Rattle.line_model.specs.ClientView as view
 use Rattle.line_model.specs.Gateway.{number_of}
 use Rattle.line_model.specs.Reading.{ldata_in, RequestFrame, request_in}
@@ -14,7 +14,7 @@ use Rattle.line_model.specs.Tunnel.{Tunnel}
 use Rattle.line_model.specs.World.{World}
 use Rattle.session_law.specs.World.{World as SessionWorld}
 use Rattle.session_law.specs.Device.{carries, carries_lost, gets_again}
-use Rattle.session_law.specs.Events.{Event as SessionEvent, step, replay, IsLegal}
+use Rattle.session_law.specs.Events.{Event as SessionEvent, step, replay}
 use Rattle.session_law.specs.Events as event
 use Rattle.load_law.specs.Download.{MayAsk, Follows, IsSilent, AsksNothing}
 use Rattle.tunnel_law.proofs.Both.{unique}
@@ -22,8 +22,8 @@ use Rattle.tunnel_law.proofs.Fits.{Book, books, BookIs, IsUp, JoinedFits, Member
 use Rattle.tunnel_law.proofs.Law.{HeadIs, head_state}
 use Rattle.tunnel_law.proofs.Took.{InvT}
 use Rattle.line_law.proofs.Queue.{Items}
-use Rattle.line_law.proofs.Coupled.{Flight, Last, Never, Since, IsOut, IsLater, ChannelIs, is_open, CoupledBy, IsBus, AreBus}
-use Rattle.line_law.proofs.Entries.{HeadView, views_go, Moves, Outside}
+use Rattle.line_law.proofs.Coupled.{Last, Never, Since, IsOut, is_open, CoupledBy, IsBus, AreBus}
+use Rattle.line_law.proofs.Entries.{HeadView, views_go, Moves}
 use Rattle.line_law.proofs.Opened.{IsHere, here, not_out}
 
 -- ---- the events of the bus leave a session's client
@@ -194,10 +194,6 @@ pub data Turn (r : List Entry) (x : Entry) : Type 0 where
 pub not_renewed : (c : ClientChannel) (x : Entry) → is_renewal x.what ≡ false → after_entry c x ≡ goes_on c x
 unfolding after_entry
 not_renewed c x h = rw h refl
-
-from_out : {c d : ClientChannel} → ((base e present : ℕ) (makers : List ℕ) (flight : Flight) → ChannelIs base e present makers flight c → IsLater base e present makers) → ((base e present : ℕ) (makers : List ℕ) (flight : Flight) → IsLater base e present makers → ChannelIs base e present makers flight d)
-    → IsOut d → is_open c ≡ false → is_open d ≡ false → Moves c d
-from_out f g o p q = Outside f g o p q
 
 -- of an open channel
 pub deed_open : (c : ℕ) (l : List Entry) (x : Entry) → is_lost c l x ≡ false → deed (Open c l) x ≡ view.deed_in c l x

@@ -1,10 +1,11 @@
 -- The session with a device follows the line, event by event.
-use Rattle.std.proofs.Common.{◌≡◌, ℕ, suc, ◌≤◌, ◌⊎◌, List, [], ◌∷◌, Bool, true, false, ◌||◌, cond, Option, Some, None, refl, sym, ◌∙◌, ap, subst, inl, inr, arith, if◌then◌else◌}
+use Rattle.std.proofs.Common.{◌≡◌, ℕ, suc, ◌≤◌, ◌⊎◌, List, [], ◌∷◌, Bool, true, false, cond, Option, Some, None, refl, sym, ◌∙◌, ap, subst, inl, inr, arith, if◌then◌else◌}
+use Rattle.std.proofs.lemmas.Bool.{or_right, cases_eq}
 use Rattle.knx_model.specs.declared.frames.cemi.Ldata.{Ldata}
 use Rattle.line_model.specs.declared.group.GroupTurn.{GroupTurn}
 use Rattle.line_model.specs.declared.log.LogEntry.{LogEntry}
 use Rattle.line_model.specs.Attempts.{attempts}
-use Rattle.line_model.specs.ClientView.{ClientChannel, Fresh, Sought, RefusedBy, Unanswered, Open, Lost, Deed, View, unused, channel, deed, views, after_entry, goes_on, after_fresh}
+use Rattle.line_model.specs.ClientView.{ClientChannel, Fresh, Sought, RefusedBy, Unanswered, Open, Lost, channel, deed, after_entry, goes_on}
 use Rattle.line_model.specs.ClientView as view
 use Rattle.line_model.specs.Gateway.{Channel, next_put}
 use Rattle.line_model.specs.Log.{Job, Held, job_of, log_before, state_of, IsLog, SameDevice, OneDownloaderPerDevice}
@@ -16,7 +17,7 @@ use Rattle.line_model.specs.Tunnel.{Tunnel, puts, puts_next}
 use Rattle.session_law.specs.World.{Client}
 use Rattle.line_law.proofs.Coupled.{is_open}
 use Rattle.line_law.proofs.Attempting.{AttemptIs}
-use Rattle.line_law.proofs.Logs.{AreUpto, held_before, held_later, one_held, after_last, after_more, entries_of, moments_upto, upto_more}
+use Rattle.line_law.proofs.Logs.{AreUpto, held_before, held_later, one_held, after_last, after_more}
 use Rattle.line_law.proofs.Logs as logs
 use Rattle.line_law.proofs.HeldJobs.{HeldJob, Attempted, AllAttempted, AttemptedOn}
 
@@ -57,10 +58,6 @@ fresh_by : (x : Entry) (b : Bool) → is_connect_request (put_in x.what) ≡ b �
 fresh_by x true e h = e
 fresh_by x false e h = absurd h
 
-or_true : (b c : Bool) → c ≡ true → (b || c) ≡ true
-or_true true c h = refl
-or_true false c h = h
-
 goes_not_fresh : (c : ClientChannel) (x : Entry) (r : List Entry) → NotFresh (goes_on c x) → (is_connect_request (put_in x.what) ≡ true → has_renewed r ≡ true) → (NotFresh c → has_renewed r ≡ true) → has_renewed r ≡ true
 goes_not_fresh Fresh x r h f g = f (fresh_by x (is_connect_request (put_in x.what)) refl h)
 goes_not_fresh (Sought since) x r h f g = g tt
@@ -78,7 +75,7 @@ renewed_before [] a h = absurd h
 renewed_before (x ∷ r) a h = by_renewal (is_renewal x.what) refl (renewed_before r a.1) where
   by_renewal : (b : Bool) → is_renewal x.what ≡ b → (NotFresh (channel r) → has_renewed r ≡ true) → has_renewed (x ∷ r) ≡ true
   by_renewal true e f = rw e refl
-  by_renewal false e f = or_true (is_renewal x.what) (has_renewed r) (goes_not_fresh (channel r) x r (entry_not_fresh (channel r) x e h) (λ q. just_has r (a.0.connects q)) f)
+  by_renewal false e f = or_right (is_renewal x.what) (has_renewed r) (goes_not_fresh (channel r) x r (entry_not_fresh (channel r) x e h) (λ q. just_has r (a.0.connects q)) f)
 
 -- an open channel isn't left
 pub shut_by : (r : List Entry) (c : ClientChannel) → channel r ≡ c → RenewsRightly r → (has_renewed r ≡ true → MayLeave c) → is_open c ≡ false
@@ -97,12 +94,9 @@ module _ (jobs : List Job) (turns : List GroupTurn) (count : ℕ) (log : List Lo
   same_device (Some u) None j k e f x y = absurd (cc)
   same_device (Some u) (Some v) j k e f x y = let p : u ≡ j = cc in let q : v ≡ k = cc in ap (λ (z : Job). z.device.raw) p ∙ x ∙ sym y ∙ sym (ap (λ (z : Job). z.device.raw) q)
 
-  decided : (x y : ℕ) → (x ≡ y) ⊎ (x ≡ y → ⊥)
-  decided x y = grind arith
-
   pub one_job : (n : ℕ) (p q : HeldJob jobs (log_before n log) a) → (p.job ≡ q.job) × (p.since ≡ q.since)
   one_job n p q =
-      elim (decided p.number q.number) [
+      elim (cases_eq p.number q.number) [
         | inl e ↦
             (let job : Some p.job ≡ Some q.job = sym p.there ∙ ap (job_of jobs) e ∙ q.there in
             let held : Held p.worker p.since ≡ Held q.worker q.since = sym p.held ∙ ap (λ z. state_of z (log_before n log)) e ∙ q.held in

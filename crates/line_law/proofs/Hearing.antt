@@ -1,6 +1,7 @@
 -- The attempt of a job and the session's client take a frame of the device.
 use Rattle.std.proofs.Common.{◌≡◌, ℕ, List, ◌∷◌, Bool, true, false, ◌&&◌, cond, Option, Some, None, refl, sym, ◌∙◌, ap, subst}
 use Rattle.std.proofs.lemmas.Slice.Eq.{bytes_eq-Decides}
+use Rattle.std.proofs.lemmas.Bool.{and_parts}
 use Rattle.knx_model.specs.declared.address.IndAddr.{IndAddr}
 use Rattle.knx_model.specs.declared.connection.ClientTook.{ClientTook}
 use Rattle.knx_model.specs.declared.connection.ClientTook.TheVariants as heard
@@ -19,7 +20,7 @@ use Rattle.line_law.proofs.Attempting.{NotConnect, FlyFits, IsAwaited, Stands, I
 
 -- ---- an answer that suits
 
-suits_is : (left : Plan) (got apdu : List ℕ) (expect : Expect) (next : Option (List ℕ) → Plan) → left ≡ Operation apdu expect next → suits left got ≡ true → Suits apdu expect (Some got)
+pub suits_is : (left : Plan) (got apdu : List ℕ) (expect : Expect) (next : Option (List ℕ) → Plan) → left ≡ Operation apdu expect next → suits left got ≡ true → Suits apdu expect (Some got)
 suits_is left got apdu AckOnly next e h = absurd (let z : suits (Operation apdu AckOnly next) got ≡ true = ap (λ p. suits p got) (sym e) ∙ h in cc)
 suits_is left got apdu (Is wanted) next e h = let z : suits (Operation apdu (Is wanted) next) got ≡ true = ap (λ p. suits p got) (sym e) ∙ h in (bytes_eq-Decides got wanted).0 z
 suits_is left got apdu Note next e h = ap (λ p. suits p got) (sym e) ∙ h
@@ -29,22 +30,7 @@ through plan left sent accepted got s h =
     let one : Went plan (h.apdu ∷ h.older) (got ∷ accepted) (h.next (Some got)) = Answered h.apdu h.expect h.next got h.older accepted h.went (suits_is left got h.apdu h.expect h.next h.head s) in
     subst (λ z. Went plan z (got ∷ accepted) (followed left got)) (sym h.last) (subst (λ z. Went plan (h.apdu ∷ h.older) (got ∷ accepted) (followed z got)) (sym h.head) one)
 
-both_true : (a b : Bool) → (a && b) ≡ true → (a ≡ true) × (b ≡ true)
-both_true true b h = (refl, h)
-both_true false b h = absurd (cc)
-
 -- ---- what the end is then
-
-abbrev NotAsked : ClientEnd → Type 0
-NotAsked (Asked device) = ⊥
-NotAsked _ = Unit {0}
-
-plain_fits : (end : ClientEnd) (flying : Option TransportFrame) → NotAsked end → FlyFits end flying → NotConnect flying
-plain_fits (Asked device) flying n h = absurd n
-plain_fits (Up s) flying n h = h
-plain_fits (Asking s q) flying n h = h.0
-plain_fits (Awaiting s) flying n h = h
-plain_fits Ended flying n h = h
 
 stayed_fits : (end : ClientEnd) (flying : Option TransportFrame) (t : ℕ) → FlyFits end flying → FlyFits (client_stayed end t) flying
 stayed_fits (Asked device) flying t h = h
@@ -131,7 +117,7 @@ module _ (a : ℕ) (plan : Plan) (k : ℕ) (t : Attempt) (c : Client) (now : ℕ
   answer_by : (b : Bool) (got ack : List ℕ) → (awaits t.end && suits t.left got) ≡ b → Runs a plan (owing (cond {A = Attempt} b (record t { left = followed t.left got }) (record t { closing = true })) now (heard.Answer got ack) ack) (hears c now (heard.Answer got ack))
   unfolding client_after
   answer_by true got ack e =
-      let q = both_true (awaits t.end) (suits t.left got) e in
+      let q = and_parts (awaits t.end) (suits t.left got) e in
       record {
         end_is = ap (λ z. client_answered z now) h.end_is;
         owed_is = ap (λ z. with_reply z ack) h.owed_is;

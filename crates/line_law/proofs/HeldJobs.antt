@@ -1,9 +1,8 @@
 -- The job of a device that is held, and its attempts.
-use Rattle.std.proofs.Common.{◌≡◌, ℕ, ◌⊎◌, List, Bool, true, false, not, ◌&&◌, Option, Some, refl, sym, arith}
-use Rattle.std.specs.Prelude.{◌==◌}
+use Rattle.std.proofs.Common.{◌≡◌, ℕ, ◌⊎◌, List, Bool, true, false, not, ◌&&◌, Option, Some, refl, sym}
 use Rattle.knx_model.specs.Plans.{Plan}
 use Rattle.line_model.specs.declared.log.LogEntry.{LogEntry}
-use Rattle.line_model.specs.Attempts.{Attempts, Resting, Running, attempts, attempts_after}
+use Rattle.line_model.specs.Attempts.{attempts, attempts_after}
 use Rattle.line_model.specs.ClientView.{ClientChannel, Open, or_number}
 use Rattle.line_model.specs.Log.{Job, Held, job_of, state_of}
 use Rattle.line_model.specs.Moments.{Moment}
@@ -61,9 +60,6 @@ pub moves_number : {c d : ClientChannel} → Moves c d → (number : Option ℕ)
 moves_number (Outside {c} {d} f g o p q) number h = number_stays d number q
 moves_number (Goes {c} {l} {more} same) number h = sym (h c l refl)
 moves_number Stays number h = refl
-
-pub eqb_is : (x y : ℕ) → (x == y) ≡ true → x ≡ y
-eqb_is x y e = grind arith
 
 pub its_is : (g b : Bool) → (not g && b) ≡ true → b ≡ true
 its_is true b h = absurd (cc)

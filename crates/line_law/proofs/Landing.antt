@@ -6,20 +6,9 @@ use Rattle.knx_model.specs.declared.connection.TransportFrame.TheVariants.{Conne
 use Rattle.knx_model.specs.ClientConnection.{ClientEnd, Asked, Up, Asking, Awaiting, Ended, after_confirmed}
 use Rattle.knx_model.specs.Connection.{frame_in}
 use Rattle.knx_model.specs.Plans.{Plan}
-use Rattle.line_model.specs.Attempts.{Attempt, Attempts, Resting, Running, awaits, confirmed_so, confirmed_attempt, landed, heard_so, MayPut, MayAsk}
+use Rattle.line_model.specs.Attempts.{Attempt, Attempts, Resting, Running, awaits, confirmed_attempt, landed, MayPut, MayAsk}
 use Rattle.line_model.specs.Moments.{Number, Next}
 use Rattle.line_law.proofs.Counts.{NumberIs, ExpectedIs, LeftIs, NotEnd, Count, CountIs}
-use Rattle.line_law.proofs.Courses.{Begun, Idle, AtRest}
-
--- ---- the time alone
-
-pub confirmed_none : (now : ℕ) (t : Attempts) → confirmed_so now t None ≡ t
-confirmed_none now (Resting k) = refl
-confirmed_none now (Running k t) = refl
-
-pub heard_none : (now : ℕ) (t : Attempts) → heard_so now t None ≡ t
-heard_none now (Resting k) = refl
-heard_none now (Running k t) = refl
 
 -- ---- a confirmation
 

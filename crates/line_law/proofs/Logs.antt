@@ -2,13 +2,14 @@
 use Rattle.std.proofs.Common.{◌≡◌, ℕ, suc, ◌<◌, ◌≤◌, ◌⊎◌, List, [], ◌∷◌, length, Bool, true, false, ◌&&◌, cond, Option, Some, None, refl, sym, ◌∙◌, ap, subst, inl, inr, arith}
 use Rattle.std.specs.Prelude.{◌==◌, nat_lt, nat_le}
 use Rattle.std.specs.List.{filter}
+use Rattle.std.proofs.lemmas.Bool.{eqb-true}
 use Rattle.line_model.specs.declared.group.GroupTurn.{GroupTurn}
 use Rattle.line_model.specs.declared.log.LogEntry.{LogEntry}
 use Rattle.line_model.specs.declared.log.LogWhat.{LogWhat}
 use Rattle.line_model.specs.declared.log.LogWhat.TheVariants.{Took, Done, Failed, Refused, Sent, Lost}
 use Rattle.line_model.specs.Log.{Job, JobState, Untaken, Held, Over, job_of, log_before, takes_it, ends_it, state_after, state_of, latest, IsLog, IsFree, SameDevice, OneDownloaderPerDevice}
 use Rattle.line_model.specs.Moments.{Moment, moments, between}
-use Rattle.line_model.specs.Record.{Item, Entry, Placed, placed_if, placed, entries, item_at, noted, record_of}
+use Rattle.line_model.specs.Record.{Item, placed_if, placed, item_at}
 use Rattle.line_model.specs.World.{World, Event, now, replay}
 use Rattle.tunnel_law.proofs.Inside.{Every}
 
@@ -96,11 +97,8 @@ all_before jobs turns count n m (e ∷ log) h l lt =
     let first : nat_lt e.at n ≡ true = grind (arith, l, lt) in
     before_in n e log true first ∙ ap (λ z. e ∷ z) (all_before jobs turns count n e.at log h.1 h.0.later (omega (arith, l, lt)))
 
-pub same_eqb : (n m : ℕ) → (n == m) ≡ true → n ≡ m
-same_eqb n m h = grind (arith, h)
-
 taken_job : (k : ℕ) (what : LogWhat) → takes_it k what ≡ true → what ≡ Took k
-taken_job k (Took j) h = ap (λ z. Took z) (same_eqb j k h)
+taken_job k (Took j) h = ap (λ z. Took z) (eqb-true j k h)
 taken_job k (Done j) h = absurd (cc)
 taken_job k (Failed j signs) h = absurd (cc)
 taken_job k (Refused j op got expected) h = absurd (cc)
@@ -122,7 +120,7 @@ module _ (jobs : List Job) (turns : List GroupTurn) (count n : ℕ) where
     by_what : (x : LogWhat) → x ≡ Took j → (takes_it k x ≡ false) × (ends_it k x ≡ false)
     by_what x e = subst (λ (y : LogWhat). (takes_it k y ≡ false) × (ends_it k y ≡ false)) (sym e) (unlike (j == k) refl, refl) where
       unlike : (b : Bool) → (j == k) ≡ b → (j == k) ≡ false
-      unlike true q = absurd (other (same_eqb j k q))
+      unlike true q = absurd (other (eqb-true j k q))
       unlike false q = q
 
   pub one_held : (j k w s w2 s2 : ℕ) (log : List LogEntry) → IsLog jobs turns count log → OneDownloaderPerDevice jobs log → SameDevice (job_of jobs j) (job_of jobs k) → SameDevice (job_of jobs k) (job_of jobs j) → (j ≡ k → ⊥)
@@ -155,16 +153,13 @@ upto_more n [] h = tt
 upto_more n (m ∷ l) h = (omega (arith, h.0), upto_more n l h.1)
 
 -- all are up to a later place
-between_after : (since n : ℕ) (l : List Moment) → AreUpto n l → between since n l ≡ after since l
+pub between_after : (since n : ℕ) (l : List Moment) → AreUpto n l → between since n l ≡ after since l
 between_after since n [] h = refl
 between_after since n (m ∷ l) h = by_test (nat_lt since m.at) (nat_le m.at n) (grind (arith, h.0)) (between_after since n l h.1) where
   by_test : (b c : Bool) → c ≡ true → between since n l ≡ after since l → ◌≡◌ {A = List Moment} (cond (b && c) (m ∷ between since n l) (between since n l)) (cond b (m ∷ after since l) (after since l))
   by_test true true e q = ap (λ z. m ∷ z) q
   by_test true false e q = absurd (cc)
   by_test false c e q = q
-
-pub between_is : (since n : ℕ) (l : List Moment) → AreUpto n l → between since n l ≡ after since l
-between_is since n l h = between_after since n l h
 
 -- nothing is since a place that is the last
 pub after_last : (n : ℕ) (l : List Moment) → AreUpto n l → after n l ≡ []
@@ -178,13 +173,6 @@ pub after_more : (since : ℕ) (m : Moment) (l : List Moment) → since < m.at �
 after_more since m l h = let lt : nat_lt since m.at ≡ true = grind (arith, h) in rw lt refl
 
 -- ---- places
-
-pub entries_of : (start : World) (events : List Event) → entries (placed start events) ≡ record_of start events
-entries_of start [] = refl
-entries_of start (e ∷ events) = by_item (item_at (replay start events) e) (entries_of start events) where
-  by_item : (o : Option Item) → entries (placed start events) ≡ record_of start events → entries (placed_if (length (e ∷ events)) (now (replay start (e ∷ events))) o (placed start events)) ≡ noted o (now (replay start (e ∷ events))) (record_of start events)
-  by_item None q = q
-  by_item (Some what) q = ap (λ z. Rattle.line_model.specs.Record.entry what (now (replay start (e ∷ events))) ∷ z) q
 
 pub moments_upto : (start : World) (events : List Event) → AreUpto (length events) (moments (placed start events))
 moments_upto start [] = tt

@@ -91,9 +91,6 @@ put_kept a w r s c f rest t is e h =
 
 -- ---- after each event
 
-with_tunnel : World → Tunnel → World
-with_tunnel w t = record { tunnel = t; devices = w.devices; echo = w.echo }
-
 -- the session sees neither the network nor anything else of the tunnel
 pub tunnel_kept : (a : ℕ) (w : World) (r : List Entry) (s : SessionWorld) (t : Tunnel) → t.gateway ≡ w.tunnel.gateway → t.present ≡ w.tunnel.present → t.now ≡ w.tunnel.now → Coupled a w r s → Coupled a (record { tunnel = t; devices = w.devices; echo = w.echo }) r s
 tunnel_kept a w r s t g p n h =

@@ -99,19 +99,9 @@ all_inds a [] h = tt
 all_inds a (f ∷ l) h =
     inds_by f (cons l) [] (messages a l) (cond {A = List Message} (is_its a f) (Con f.error ∷ []) []) (is_con f.code) (is_ind f.code && is_by a f) h (λ e. all_inds a l e)
 
-pub none_append : (l k : List Ldata) → cons l ≡ [] → cons k ≡ [] → cons (l ++ k) ≡ []
-none_append l k h g = cons_append l k ∙ ap (λ z. z ++ cons k) h ∙ g
-
 empty_front : (l k : List Ldata) → l ++ k ≡ [] → l ≡ []
 empty_front [] k h = refl
 empty_front (x ∷ l) k h = absurd (cc)
 
-empty_back : (l k : List Ldata) → l ++ k ≡ [] → k ≡ []
-empty_back [] k h = h
-empty_back (x ∷ l) k h = absurd (cc)
-
 pub none_front : (l k : List Ldata) → cons (l ++ k) ≡ [] → cons l ≡ []
 none_front l k h = empty_front (cons l) (cons k) (sym (cons_append l k) ∙ h)
-
-pub none_back : (l k : List Ldata) → cons (l ++ k) ≡ [] → cons k ≡ []
-none_back l k h = empty_back (cons l) (cons k) (sym (cons_append l k) ∙ h)

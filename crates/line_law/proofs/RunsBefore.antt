@@ -1,9 +1,9 @@
 -- What is known of a run, and of what was before.
-use Rattle.std.proofs.Common.{◌≡◌, ℕ, List, [], ◌∷◌, length, Option, Some, None, refl}
+use Rattle.std.proofs.Common.{◌≡◌, ℕ, List, ◌∷◌, length, Option, Some, None, refl}
 use Rattle.knx_model.specs.declared.frames.cemi.Ldata.{Ldata}
 use Rattle.line_model.specs.declared.group.GroupTurn.{GroupTurn}
 use Rattle.line_model.specs.declared.log.LogEntry.{LogEntry}
-use Rattle.line_model.specs.ActedOnce.{IsActedOnce, ActedOnce}
+use Rattle.line_model.specs.ActedOnce.{ActedOnce}
 use Rattle.line_law.specs.Safe.{EachAsked}
 use Rattle.line_model.specs.Fresh.{IsFresh}
 use Rattle.line_model.specs.Legal.{IsLegal}
@@ -13,12 +13,10 @@ use Rattle.line_model.specs.Renews.{RenewsRightly}
 use Rattle.line_model.specs.Sendings.{SendsRightly}
 use Rattle.line_model.specs.Tunnel.{Commissions}
 use Rattle.line_model.specs.World as line
-use Rattle.line_model.specs.World.{World, Event, me, now, step}
+use Rattle.line_model.specs.World.{World, Event, now}
 use Rattle.tunnel_law.proofs.Law.{renews_before, sends_before}
 use Rattle.line_model.specs.Record.{item_of}
-use Rattle.line_model.specs.World.{AtGateway, Comes, IsLost, carried, heard, next_frame, waiting_at, repeat_at, Send, From, Renew, Up, UpRefused, Down, LoseUp, LoseDown, Bus, BusTorn, BusWorn, BusAgain, DevSend, DevRepeat, DevClose, GwAgain, GwRepeat, GwClose, Cut, On, Pass}
-
--- ---- the gateway's next frame leaves the rest of the tunnel
+use Rattle.line_model.specs.World.{AtGateway, Comes, IsLost, carried, heard}
 
 -- ---- what is known of a run
 
@@ -34,9 +32,6 @@ pub asks_by : (jobs : List Job) (turns : List GroupTurn) (log : List LogEntry) (
 asks_by jobs turns log n t None older h = h
 asks_by jobs turns log n t (Some item) older h = h.1
 
-pub once_by : (start : World) (e : Event) (events : List Event) → ActedOnce start (e ∷ events) → ActedOnce start events
-once_by start e events h = h.1
-
 pub run_before : (jobs : List Job) (turns : List GroupTurn) (log : List LogEntry) (start : World) (e : Event) (events : List Event) → IsRun jobs turns log start (e ∷ events) → IsRun jobs turns log start events
 run_before jobs turns log start e events h =
     let w : World = line.replay start events in
@@ -49,10 +44,6 @@ run_before jobs turns log start e events h =
       asks = asks_by jobs turns log (length (e ∷ events)) t (item_at w e) (placed start events) h.asks;
       once = h.once.1;
     }
-
-pub once_now : (start : World) (events : List Event) → ActedOnce start events → IsActedOnce (line.replay start events).tunnel.gateway (record_of start events)
-once_now start [] h = h
-once_now start (e ∷ events) h = h.0
 
 pub carried_none : (w : World) (left_out : List ℕ) (o : Option Ldata) → item_of w.tunnel (carried w left_out o) ≡ None
 carried_none w left_out None = refl

@@ -1,6 +1,7 @@
 -- A device without power, put where there is none: nothing on the line changes by it. So what is told of a device that isn't there isn't so.
 use Rattle.std.proofs.Common.{◌≡◌, ℕ, List, [], ◌∷◌, length, Bool, true, false, cond, Option, Some, None, refl, sym, ◌∙◌, ap, subst, arith, if◌then◌else◌}
 use Rattle.std.specs.Prelude.{◌==◌}
+use Rattle.std.proofs.lemmas.Bool.{eqb-true}
 use Rattle.knx_model.specs.DeviceState.{DeviceState}
 use Rattle.line_model.specs.Fresh.{IsFresh, IsAtRest}
 use Rattle.line_model.specs.Legal.{DevicesAllow, MayHappen, IsLegal}
@@ -8,7 +9,7 @@ use Rattle.line_model.specs.Record.{noted, record_of, placed_if, placed, item_at
 use Rattle.line_model.specs.Tunnel.{Commissions}
 use Rattle.line_model.specs.World.{World, Event, Devices, now, devices_after, step, replay}
 use Rattle.line_law.proofs.Told.{has_memories}
-use Rattle.line_law.proofs.Unpowered.{silent, with_devices, Beside, eqb_is, may_same, item_same, step_same, beside_step}
+use Rattle.line_law.proofs.Unpowered.{silent, with_devices, Beside, may_same, item_same, step_same, beside_step}
 
 -- ---- a whole run
 
@@ -37,7 +38,7 @@ joined_beside a f none =
 pub joined_fresh : (a : ℕ) (start : World) → IsFresh start → IsFresh (with_devices start (joined a start.devices))
 joined_fresh a start f = record { tunnel = f.tunnel; echo = f.echo; devices = λ b d e. by_bool b d (b == a) refl e } where
   by_bool : (b : ℕ) (d : DeviceState) (c : Bool) → (b == a) ≡ c → cond {A = Option DeviceState} c (Some (silent a)) (start.devices b) ≡ Some d → IsAtRest b d
-  by_bool b d true q e = (let same : silent a ≡ d = cc in subst (IsAtRest b) same (record { capacities = has_memories; named = sym (eqb_is b a q); unconnected = refl; nothing_unsent = refl; nothing_got = refl }))
+  by_bool b d true q e = (let same : silent a ≡ d = cc in subst (IsAtRest b) same (record { capacities = has_memories; named = sym (eqb-true b a q); unconnected = refl; nothing_unsent = refl; nothing_got = refl }))
   by_bool b d false q e = f.devices b d e
 
 pub same_run : (a : ℕ) (start : World) (g : Devices) → Beside a g start.devices → (events : List Event) → IsLegal Commissions start events → Same a start (with_devices start g) events

@@ -1,7 +1,8 @@
 -- From done on, up to the device's next load job, what it keeps stays; and each entry that tells done is right.
-use Rattle.std.proofs.Common.{◌≡◌, ℕ, suc, ◌<◌, ◌≤◌, ◌⊎◌, List, [], ◌∷◌, ◌++◌, length, Bool, true, false, ◌&&◌, cond, Option, Some, None, refl, sym, ◌∙◌, ap, subst, inl, inr, arith}
+use Rattle.std.proofs.Common.{◌≡◌, ℕ, suc, ◌<◌, ◌≤◌, List, [], ◌∷◌, ◌++◌, length, Bool, true, false, ◌&&◌, cond, Option, Some, None, refl, sym, ◌∙◌, ap, subst, inl, inr, arith}
 use Rattle.std.specs.Prelude.{◌==◌, nat_lt, nat_le}
 use Rattle.std.specs.List.{AllByRecursion}
+use Rattle.std.proofs.lemmas.Bool.{cases_eq, eq-eqb, eqb-true, or_parts}
 use Rattle.knx_model.specs.Device.{NonVolatile, runs}
 use Rattle.knx_model.specs.DeviceState.{DeviceState}
 use Rattle.knx_model.specs.Plans.{Plan}
@@ -23,10 +24,10 @@ use Rattle.session_law.proofs.Books.{books}
 use Rattle.session_law.proofs.Steps.{fresh_inv}
 use Rattle.load_law.specs.Download.{Follows}
 use Rattle.load_law.proofs.Checked.{unchanged_kept}
-use Rattle.line_law.proofs.Cases.{good_job, IsCheck, Unmoved, unmoved_more, taken_by, or_false, and_false}
+use Rattle.line_law.proofs.Cases.{good_job, IsCheck, Unmoved, unmoved_more, taken_by, and_false}
 use Rattle.line_law.proofs.DoneAt.{DoneAt, HeldThen, held_now, done_at}
 use Rattle.line_law.proofs.Kept.{trace_of, run_first, first_length, both_some, both_none}
-use Rattle.line_law.proofs.Logs.{IsTo, TakesIt, EndsIt, Else, is_to, ended_state, after_other, before_in, all_before, one_held, same_eqb}
+use Rattle.line_law.proofs.Logs.{IsTo, TakesIt, EndsIt, Else, is_to, ended_state, after_other, before_in, all_before, one_held}
 use Rattle.line_law.proofs.Runs.{Trace, Begins, Goes, follower_now, trace_legal, follows_map, none_always}
 use Rattle.line_law.proofs.HeldJobs.{HeldPlan}
 use Rattle.line_law.proofs.Told.{first_first}
@@ -40,18 +41,12 @@ same_device (Some u) None j k e f x = absurd (cc)
 same_device (Some u) (Some v) j k e f x = let p : u ≡ j = cc in let q : v ≡ k = cc in ap (λ (z : Job). z.device.raw) p ∙ x ∙ sym (ap (λ (z : Job). z.device.raw) q)
 
 module _ (jobs : List Job) (turns : List GroupTurn) (count : ℕ) (number : ℕ) (job : Job) (there : job_of jobs number ≡ Some job) (older : List LogEntry) (e : LogEntry) (what : e.what ≡ Done number) (worker since : ℕ) (held : state_of number older ≡ Held worker since) where
-  decided : (x y : ℕ) → (x ≡ y) ⊎ (x ≡ y → ⊥)
-  decided x y = grind arith
-
-  is_eqb : (x y : ℕ) → x ≡ y → (x == y) ≡ true
-  is_eqb x y h = grind (arith, h)
-
   -- just after the entry none of the device is held
   none_then : (form : IsLog jobs turns count (e ∷ older)) → OneDownloaderPerDevice jobs older → (k : ℕ) (j : Job) (w s : ℕ) → job_of jobs k ≡ Some j → j.device.raw ≡ job.device.raw → state_of k (e ∷ older) ≡ Held w s → ⊥
   none_then form alone k j w s is dev h =
       let no_take : takes_it k e.what ≡ false = ap (takes_it k) what in
-      elim (decided number k) [
-        | inl same ↦ ended_state k e (state_of k older) w s no_take (ap (ends_it k) what ∙ is_eqb number k same) h
+      elim (cases_eq number k) [
+        | inl same ↦ ended_state k e (state_of k older) w s no_take (ap (ends_it k) what ∙ eq-eqb number k same) h
         | inr other ↦
             (let no_end : ends_it k e.what ≡ false = ap (ends_it k) what ∙ unlike (number == k) refl other in
             let was : state_of k older ≡ Held w s = sym (after_other k e (state_of k older) no_take no_end) ∙ h in
@@ -61,7 +56,7 @@ module _ (jobs : List Job) (turns : List GroupTurn) (count : ℕ) (number : ℕ)
       ]
     where
       unlike : (b : Bool) → (number == k) ≡ b → (number ≡ k → ⊥) → (number == k) ≡ false
-      unlike true q f = absurd (f (same_eqb number k q))
+      unlike true q f = absurd (f (eqb-true number k q))
       unlike false q f = q
 
   -- and later only what was taken since
@@ -74,7 +69,7 @@ module _ (jobs : List Job) (turns : List GroupTurn) (count : ℕ) (number : ℕ)
       here : (m : ℕ) → m ≤ m
       here m = omega arith
   none_held n upto (x ∷ newer) form alone le lt none k j w s is dev h =
-      let parts = or_false (nat_lt x.at upto && takes_load jobs job.device.raw x.what) (load_taken jobs job.device.raw upto newer) none in
+      let parts = or_parts (nat_lt x.at upto && takes_load jobs job.device.raw x.what) (load_taken jobs job.device.raw upto newer) none in
       by_before (nat_lt x.at (suc n)) refl parts.0 (λ was. none_held n upto newer form.1 alone.1 le lt parts.1 k j w s is dev was)
     where
       in_time : nat_lt x.at (suc n) ≡ true → nat_lt x.at upto ≡ true

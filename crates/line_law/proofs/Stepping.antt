@@ -1,6 +1,7 @@
 -- An entry of the record that is no renewal: the session follows it, and so do the attempts of the job that is held.
 use Rattle.std.proofs.Common.{◌≡◌, ℕ, suc, ◌⊎◌, List, [], ◌∷◌, Bool, true, false, not, ◌&&◌, cond, Option, Some, None, refl, sym, ◌∙◌, ap, subst, inl, inr}
 use Rattle.std.specs.Prelude.{◌==◌, is_some}
+use Rattle.std.proofs.lemmas.Bool.{eqb-true}
 use Rattle.knx_model.specs.declared.frames.cemi.Ldata.{Ldata}
 use Rattle.knx_model.specs.Connection.{frame_in}
 use Rattle.knx_model.specs.GoodPlan.{IsSendable}
@@ -11,16 +12,16 @@ use Rattle.line_model.specs.ActedOnce.{IsActedOnce}
 use Rattle.line_model.specs.Asks.{IsRightRequest, IsRightDeed, IsOfJob, IsQuiet, HasPlace}
 use Rattle.line_model.specs.Attempts.{Attempts, Resting, Running, attempts, attempts_after, MayPut}
 use Rattle.line_model.specs.ChannelLost.{confirmed, is_new_request, is_confirmation}
-use Rattle.line_model.specs.ClientView.{ClientChannel, Open, Lost, Deed, View, or_number, channel, deed, views}
+use Rattle.line_model.specs.ClientView.{ClientChannel, Open, Lost, Deed, or_number, channel, deed, views}
 use Rattle.line_model.specs.ClientView as view
 use Rattle.line_model.specs.Log.{Job}
-use Rattle.line_model.specs.Moments.{Moment, moments, where_is, put_frame}
+use Rattle.line_model.specs.Moments.{moments, where_is, put_frame}
 use Rattle.line_model.specs.Reading.{ldata_in, is_req}
 use Rattle.line_model.specs.Record.{Entry, Placed, entries, is_renewal}
 use Rattle.line_model.specs.Told.{PutsTurn}
 use Rattle.line_model.specs.World.{World, me}
 use Rattle.session_law.specs.World.{World as SessionWorld, Client}
-use Rattle.session_law.specs.Events.{Event as SessionEvent, step, replay, IsLegal}
+use Rattle.session_law.specs.Events.{Event as SessionEvent, step, replay}
 use Rattle.session_law.specs.Events as event
 use Rattle.load_law.specs.Download.{IsSilent, AsksNothing}
 use Rattle.tunnel_law.proofs.Fits.{books}
@@ -43,16 +44,13 @@ use Rattle.line_law.proofs.Landing.{Free, PutsSo as PutsAllowed}
 use Rattle.line_law.proofs.Telling.{take_attempt, still_attempt, lost_attempt, none_runs}
 use Rattle.line_law.proofs.Asking.{asks_kept}
 use Rattle.line_law.proofs.Requests.{PutsGoes, other_step}
-use Rattle.line_law.proofs.Logs.{AreUpto, after, between_is, upto_more}
-use Rattle.line_law.proofs.HeldJobs.{HeldJob, HeldPlan, AllAttempted, AttemptedOn, EntryGoes, moves_number, eqb_is, its_is}
+use Rattle.line_law.proofs.Logs.{AreUpto, after, upto_more, between_after}
+use Rattle.line_law.proofs.HeldJobs.{HeldJob, HeldPlan, AllAttempted, AttemptedOn, EntryGoes, moves_number, its_is}
 use Rattle.line_law.proofs.NothingAsked.{silent_follows}
 
 module _ (jobs : List Job) (turns : List GroupTurn) (log : List LogEntry) (a : ℕ) (w : World) (r : List Entry) (older : List Placed) (x : Entry) (at : ℕ) (s : SessionWorld) (same : entries older ≡ r) (kept : is_renewal x.what ≡ false) (h : HeadView r w.tunnel.present)
     (inv : InvT (books (x ∷ r)) w.tunnel) (once : IsActedOnce w.tunnel.gateway (x ∷ r)) (named : s.device.address.raw ≡ a) (time : s.now ≡ x.now) (upto : AreUpto at (moments older)) (one : (p q : HeldJob jobs log a) → (p.job ≡ q.job) × (p.since ≡ q.since))
     (can : (p : HeldJob jobs log a) → IsSendable p.job.plan) (c : Coupled a w r s) (before : AllAttempted jobs log a (moments older) s.client) where
-  abbrev m : Moment
-  m = record { what = deed (channel r) x; now = x.now; at = suc at }
-
   abbrev Next : Type 0
   Next = EntryGoes jobs log a w (x ∷ r) (moments older) (record { what = deed (channel r) x; now = x.now; at = suc at }) s
 
@@ -209,9 +207,9 @@ module _ (jobs : List Job) (turns : List GroupTurn) (log : List LogEntry) (a : �
   job_next : (n : ℕ) (l : List Entry) (content : List ℕ) (f : Ldata) → PutsSo r x n l content f → IsOfJob jobs log older (record { what = view.Puts content; now = x.now; at = suc at }) f → (b : Bool) → is_its a f ≡ b → Next
   job_next n l content f p q false its = apart n l content f p its
   job_next n l content f p q true its =
-      let to : f.destination ≡ a = eqb_is f.destination a (its_is f.group (f.destination == a) its) in
+      let to : f.destination ≡ a = eqb-true f.destination a (its_is f.group (f.destination == a) its) in
       let k : HeldJob jobs log a = record { number = q.k; job = q.job; worker = q.worker; since = q.since; there = q.there; of_device = sym q.to ∙ to; held = q.held } in
-      mine n l content f p its k q.alone to (subst (λ z. MayPut (attempts q.job.device q.job.plan z) x.now f.tpdu (frame_in f.tpdu)) (between_is q.since (suc at) (moments older) (upto_more at (moments older) upto)) q.may)
+      mine n l content f p its k q.alone to (subst (λ z. MayPut (attempts q.job.device q.job.plan z) x.now f.tpdu (frame_in f.tpdu)) (between_after q.since (suc at) (moments older) (upto_more at (moments older) upto)) q.may)
 
   puts_next : (n : ℕ) (l : List Entry) (content : List ℕ) → channel r ≡ Open n l → channel (x ∷ r) ≡ Open n (x ∷ l) → deed (channel r) x ≡ view.Puts content → is_new_request n l x ≡ true
       → IsRightRequest jobs turns log older (record { what = view.Puts content; now = x.now; at = suc at }) content → Next

@@ -22,7 +22,7 @@ use Rattle.session_law.specs.Events.{Takes}
 use Rattle.line_law.proofs.Queue.{Items, is_its, is_by, message, messages, cons, back}
 use Rattle.line_law.proofs.Coupled.{IsOwn, IsTold, Waits, OnBus, Told, Gone, Flight, Landed, Flies, FlightIs, Last, Never, Since, OpenIs, InFlight, is_open, CoupledBy, Coupled}
 use Rattle.line_law.proofs.ReadBack.{IsRead, Read, Unread, own_read}
-use Rattle.line_law.proofs.Changes.{own_ind}
+use Rattle.line_law.proofs.Changes.{own_ind, own_its}
 use Rattle.line_law.proofs.GateCloses.{flight_to}
 use Rattle.line_law.proofs.Entries.{HeadView}
 use Rattle.line_law.proofs.Opened.{not_out}
@@ -33,10 +33,6 @@ use Rattle.line_law.proofs.TakesAny.{coming_is, queue, told, taken_by, client_to
 
 cons_own : (f : Ldata) (k : List Ldata) → IsOwn f → cons (f ∷ k) ≡ cons k
 cons_own f k e = rw (own_ind f e) refl
-
-message_own : (a : ℕ) (f : Ldata) → IsOwn f → (b : Bool) → is_by a f ≡ b → message a f ≡ (if b then Tells f ∷ [] else [])
-message_own a f e true k = rw (own_ind f e) (rw k refl)
-message_own a f e false k = rw (own_ind f e) (rw k refl)
 
 told_own : (a t : ℕ) (c : Client) (f : Ldata) → IsOwn f → (b : Bool) → is_by a f ≡ b → client_told a t c (Some f) ≡ (if b then hears c t (client_took c.end (frame_from (device_of c.end) f)) else c)
 told_own a t c f e b k =
@@ -108,14 +104,14 @@ module _ (a : ℕ) (w : World) (r : List Entry) (x : Entry) (s : SessionWorld) (
         legal = tt;
         silent = tt;
         coupled = taken_by a w r x s c l content items older base e v flight h p q o s flight flies_on still_flies refl refl refl refl
-            (coming_is a w r x s c l content items older base e v flight h p q o [] (message_own a o.frame own false k)) refl (fly_view a (me w) base e v (record { number = Some c; puts = v.puts; takes = content ∷ v.takes }) flight s.flying q.flying) (λ y z. in_view a base e v (record { number = Some c; puts = v.puts; takes = content ∷ v.takes }) flight (q.pending y z));
+            (coming_is a w r x s c l content items older base e v flight h p q o [] (own_its a o.frame own false k)) refl (fly_view a (me w) base e v (record { number = Some c; puts = v.puts; takes = content ∷ v.takes }) flight s.flying q.flying) (λ y z. in_view a base e v (record { number = Some c; puts = v.puts; takes = content ∷ v.takes }) flight (q.pending y z));
         client = own_client false k read;
         its = not_con read;
       }
   own_taken true k =
       let rest : List Message = messages a (back o.newer w.tunnel.gateway.waiting) in
       let n : SessionWorld = takes_oldest s (Tells o.frame ∷ rest) in
-      let at : s.coming ≡ Tells o.frame ∷ rest = coming_is a w r x s c l content items older base e v flight h p q o (Tells o.frame ∷ []) (message_own a o.frame own true k) in
+      let at : s.coming ≡ Tells o.frame ∷ rest = coming_is a w r x s c l content items older base e v flight h p q o (Tells o.frame ∷ []) (own_its a o.frame own true k) in
       record {
         more = Takes ∷ [];
         legal = (tt, tt);

@@ -1,5 +1,5 @@
 -- What an attempt makes of what is taken is what the session's client makes of it.
-use Rattle.std.proofs.Common.{◌≡◌, ℕ, List, Bool, true, false, not, ◌&&◌, ◌||◌, cond, Option, Some, None, refl, sym, ◌∙◌, ap, subst, if◌then◌else◌}
+use Rattle.std.proofs.Common.{◌≡◌, ℕ, List, Bool, true, false, not, ◌&&◌, cond, Option, Some, None, refl, sym, ◌∙◌, ap, subst, if◌then◌else◌}
 use Rattle.std.specs.Prelude.{◌==◌, is_some}
 use Rattle.knx_model.specs.declared.address.IndAddr.{IndAddr}
 use Rattle.knx_model.specs.declared.connection.ClientTook.TheVariants as heard
@@ -8,12 +8,11 @@ use Rattle.knx_model.specs.declared.connection.TransportFrame.TheVariants.{Other
 use Rattle.knx_model.specs.declared.frames.cemi.Ldata.{Ldata}
 use Rattle.knx_model.specs.declared.frames.cemi.LdataCode.{LdataCode}
 use Rattle.knx_model.specs.declared.frames.cemi.LdataCode.TheVariants.{Req, Con, Ind}
-use Rattle.knx_model.specs.ClientConnection.{ClientEnd, Asked, Up, Asking, Awaiting, Ended, device_of, client_took, up_took, asking_took, client_expired}
+use Rattle.knx_model.specs.ClientConnection.{ClientEnd, Asked, Up, Asking, Awaiting, Ended, device_of, client_took, up_took, asking_took}
 use Rattle.knx_model.specs.Connection.{frame_in}
 use Rattle.knx_model.specs.Plans.{Plan}
-use Rattle.line_model.specs.Attempts.{Attempt, Attempts, Resting, Running, is_silent, confirmed_so, confirmed_attempt, heard_so, heard_attempt, attempts_after}
+use Rattle.line_model.specs.Attempts.{Attempt, Attempts, Resting, Running, confirmed_so, confirmed_attempt, heard_so, heard_attempt, attempts_after}
 use Rattle.line_model.specs.ClientView as view
-use Rattle.line_model.specs.ClientView.{Deed}
 use Rattle.line_model.specs.Moments.{where_is, error_of, transport_of, is_from}
 use Rattle.line_model.specs.Reading.{ldata_in, is_con, is_ind}
 use Rattle.session_law.specs.World.{Client}
@@ -22,14 +21,9 @@ use Rattle.line_law.proofs.Queue.{is_its, is_by}
 use Rattle.line_law.proofs.TakesAny.{client_told}
 use Rattle.line_law.proofs.Attempting.{IsWith, Runs, AttemptIs, con_attempt}
 use Rattle.line_law.proofs.Hearing.{hears_nothing, hear_attempt}
-
--- ---- the time alone
+use Rattle.line_law.proofs.Requests.{heard_none}
 
 -- ---- what is told
-
-heard_none : (now : ℕ) (t : Attempts) → heard_so now t None ≡ t
-heard_none now (Resting k) = refl
-heard_none now (Running k t) = refl
 
 -- a confirmation
 told_con : (a : ℕ) (plan : Plan) (k : ℕ) (t : Attempt) (c : Client) (now : ℕ) (error b : Bool) (flying : Option TransportFrame) → t.flying ≡ flying → Runs a plan t c → (c.pending ≡ true → b ≡ true) → AttemptIs a plan (confirmed_attempt k t now error flying) (cond {A = Client} b (confirmed c error now) c)

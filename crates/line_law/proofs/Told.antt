@@ -13,14 +13,15 @@ use Rattle.knx_model.specs.Plans.{Over as Ended}
 use Rattle.line_model.specs.declared.group.GroupTurn.{GroupTurn}
 use Rattle.line_model.specs.declared.log.LogEntry.{LogEntry}
 use Rattle.line_model.specs.Headline.{IsGoodJob}
-use Rattle.line_model.specs.Log.{Job, Held, loads, log_before, takes_it, ends_it, state_after, state_of, latest, IsLog, OneDownloaderPerDevice}
+use Rattle.line_model.specs.Log.{Job, Held, loads, log_before, takes_it, ends_it, state_after, state_of, latest, IsLog}
 use Rattle.line_model.specs.Moments.{Moment, moments, between}
 use Rattle.line_model.specs.OldStoppedOrNew.{first_events}
 use Rattle.line_model.specs.Record.{Item, Placed, placed_if, placed, item_at}
 use Rattle.line_model.specs.Told.{ToldTruly, IsTrue}
 use Rattle.line_model.specs.World as line
 use Rattle.line_model.specs.World.{World, Event, now}
-use Rattle.line_law.proofs.Logs.{IsTo, TakesIt, EndsIt, Else, is_to, took_state, ended_state, after_other, before_in, AreUpto, after, between_is, moments_upto}
+use Rattle.line_model.proofs.Moments.{not_yet}
+use Rattle.line_law.proofs.Logs.{IsTo, TakesIt, EndsIt, Else, is_to, took_state, ended_state, after_other, before_in, AreUpto, after, moments_upto, between_after}
 
 -- ---- the job was held before the moment
 
@@ -48,10 +49,6 @@ pub form_at : (jobs : List Job) (turns : List GroupTurn) (count : ℕ) (newer re
 form_at jobs turns count [] rest h = h
 form_at jobs turns count (x ∷ newer) rest h = form_at jobs turns count newer rest h.1
 
-pub alone_at : (jobs : List Job) (newer rest : List LogEntry) → OneDownloaderPerDevice jobs (newer ++ rest) → OneDownloaderPerDevice jobs rest
-alone_at jobs [] rest h = h
-alone_at jobs (x ∷ newer) rest h = alone_at jobs newer rest h.1
-
 pub true_at : (jobs : List Job) (turns : List GroupTurn) (places : List Placed) (newer older : List LogEntry) (e : LogEntry) → ToldTruly jobs turns places (newer ++ e ∷ older) → IsTrue jobs turns places older e.at e.what
 true_at jobs turns places [] older e h = h.0
 true_at jobs turns places (x ∷ newer) older e h = true_at jobs turns places newer older e h.1
@@ -70,7 +67,7 @@ before_at jobs turns count (x ∷ newer) older e h =
 
 -- ---- the moments up to a place
 
-none_between : (since upto : ℕ) (l : List Moment) → upto ≤ since → between since upto l ≡ []
+pub none_between : (since upto : ℕ) (l : List Moment) → upto ≤ since → between since upto l ≡ []
 none_between since upto [] h = refl
 none_between since upto (m ∷ l) h = by_test (nat_lt since m.at && nat_le m.at upto) (outside (nat_lt since m.at) (nat_le m.at upto) refl refl) (none_between since upto l h) where
   outside : (b c : Bool) → nat_lt since m.at ≡ b → nat_le m.at upto ≡ c → (b && c) ≡ false
@@ -81,16 +78,6 @@ none_between since upto (m ∷ l) h = by_test (nat_lt since m.at && nat_le m.at 
   by_test : (b : Bool) → b ≡ false → between since upto l ≡ [] → ◌≡◌ {A = List Moment} (cond b (m ∷ between since upto l) (between since upto l)) []
   by_test true e q = absurd (cc)
   by_test false e q = q
-
-pub nothing_between : (since upto : ℕ) (l : List Moment) → upto ≤ since → between since upto l ≡ []
-nothing_between since upto l h = none_between since upto l h
-
-not_yet : (since upto : ℕ) (m : Moment) (l : List Moment) → upto < m.at → between since upto (m ∷ l) ≡ between since upto l
-not_yet since upto m l h = by_test (nat_lt since m.at) (nat_le m.at upto) (grind (arith, h)) where
-  by_test : (b c : Bool) → c ≡ false → ◌≡◌ {A = List Moment} (cond (b && c) (m ∷ between since upto l) (between since upto l)) (between since upto l)
-  by_test true true e = absurd (cc)
-  by_test true false e = refl
-  by_test false c e = refl
 
 upto_least : (n k : ℕ) (l : List Moment) → n ≤ k → AreUpto n l → AreUpto k l
 upto_least n k [] le h = tt
@@ -105,7 +92,7 @@ between_first since k start (e ∷ events) = by_length (nat_le (length (e ∷ ev
 
   by_length : (b : Bool) → nat_le (length (e ∷ events)) k ≡ b → between since k (moments (placed start events)) ≡ after since (moments (placed start (first_events k events)))
       → between since k (moments (placed start (e ∷ events))) ≡ after since (moments (placed start (cond {A = List Event} b (e ∷ events) (first_events k events))))
-  by_length true q f = between_is since k (moments (placed start (e ∷ events))) (upto_least (length (e ∷ events)) k (moments (placed start (e ∷ events))) (grind (arith, q)) (moments_upto start (e ∷ events)))
+  by_length true q f = between_after since k (moments (placed start (e ∷ events))) (upto_least (length (e ∷ events)) k (moments (placed start (e ∷ events))) (grind (arith, q)) (moments_upto start (e ∷ events)))
   by_length false q f = later_item (item_at (line.replay start events) e) (grind (arith, q)) ∙ f
 
 -- ---- the first so many events

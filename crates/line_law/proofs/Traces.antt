@@ -8,7 +8,7 @@ use Rattle.line_model.specs.ActedOnce.{Has, IsActedOnce}
 use Rattle.line_model.specs.Asks.{IsRightDeed}
 use Rattle.line_law.specs.Safe.{IsAsked, EachAsked}
 use Rattle.line_model.specs.Attempts.{attempts}
-use Rattle.line_model.specs.ClientView.{ClientChannel, Fresh, Sought, RefusedBy, Unanswered, Open, Lost, Deed, View, unused, channel, deed, views, after_entry, goes_on, after_fresh}
+use Rattle.line_model.specs.ClientView.{channel, deed}
 use Rattle.line_model.specs.ClientView as view
 use Rattle.line_model.specs.Log.{Job, job_of, log_before, IsLog, OneDownloaderPerDevice}
 use Rattle.knx_model.specs.declared.connection.TransportFrame.{TransportFrame}
@@ -18,7 +18,7 @@ use Rattle.line_model.specs.Record.{Item, Put, Renewed, Got, Quiet, Entry, entry
 use Rattle.line_model.specs.Renews.{RenewsRightly}
 use Rattle.line_model.specs.Tunnel.{Tunnel, sends_up, with_down}
 use Rattle.line_model.specs.World as line
-use Rattle.line_model.specs.World.{World, Event, me, now, step}
+use Rattle.line_model.specs.World.{World, Event, now, step}
 use Rattle.session_law.specs.World.{World as SessionWorld}
 use Rattle.session_law.specs.Events.{Event as SessionEvent, replay}
 use Rattle.session_law.specs.Events as event
@@ -38,12 +38,13 @@ use Rattle.line_law.proofs.Entering.{buses_client, buses_follow, buses_silent}
 use Rattle.line_law.proofs.Attempting.{IsService}
 use Rattle.line_law.proofs.Landing.{PutsSo as PutsAllowed}
 use Rattle.line_law.proofs.Telling.{still_attempt}
-use Rattle.line_law.proofs.Logs.{AreUpto, held_before, held_later, one_held, after_last, after_more, entries_of, moments_upto, upto_more}
+use Rattle.line_law.proofs.Logs.{AreUpto, moments_upto, upto_more}
 use Rattle.line_law.proofs.Logs as logs
 use Rattle.line_law.proofs.Stepping.{entry_next}
 use Rattle.line_law.proofs.HeldJobs.{HeldJob, HeldPlan, Attempted, AllAttempted, EntryGoes}
 use Rattle.line_law.proofs.RunsBefore.{IsRun, run_before, carried_none, heard_none}
-use Rattle.line_model.specs.World.{AtGateway, Comes, IsLost, carried, heard, next_frame, waiting_at, repeat_at, Send, From, Renew, Up, UpRefused, Down, LoseUp, LoseDown, Bus, BusTorn, BusWorn, BusAgain, DevSend, DevRepeat, DevClose, GwAgain, GwRepeat, GwClose, Cut, On, Pass}
+use Rattle.line_model.specs.World.{Comes, next_frame, waiting_at, repeat_at, Send, From, Renew, Up, UpRefused, Down, LoseUp, LoseDown, Bus, BusTorn, BusWorn, BusAgain, DevSend, DevRepeat, DevClose, GwAgain, GwRepeat, GwClose, Cut, On, Pass}
+use Rattle.line_model.proofs.Entries.{entries_placed}
 use Rattle.line_law.proofs.Following.{attempted_late, stays_present, renewed_fresh, renewed_nothing, shut_by, one_job, attempted_same, attempted_more}
 
 -- ---- the events of the session that follow one of the line
@@ -100,7 +101,7 @@ module _ (jobs : List Job) (turns : List GroupTurn) (count : ℕ) (log : List Lo
   entered e item z first is legal follows silent client kept present x x_is named old inv once asks c =
       let r : List Entry = record_of start events in
       let older : List Placed = placed start events in
-      let same : entries older ≡ r = entries_of start events in
+      let same : entries older ≡ r = entries_placed start events in
       let upto : AreUpto (length events) (moments older) = moments_upto start events in
       let view_ : HeadView r (step (line.replay start events) e).tunnel.present = subst (HeadView r) (sym present) (head_view r (line.replay start events).tunnel old) in
       let time : z.now ≡ x.now = c.by.side.same_now ∙ ap (λ (y : Entry). y.now) (sym x_is) in
@@ -179,7 +180,7 @@ module _ (jobs : List Job) (turns : List GroupTurn) (count : ℕ) (log : List Lo
       let r : List Entry = record_of start events in
       let t : ℕ = now (step w1 Renew) in
       let x : Entry = entry Renewed t in
-      let same : entries (placed start events) ≡ r = entries_of start events in
+      let same : entries (placed start events) ≡ r = entries_placed start events in
       let renews : RenewsRightly (x ∷ r) = run.renews in
       let shut : is_open (channel r) ≡ false = shut_by r (channel r) refl renews.1 (renews.0.leaves refl) in
       let none : (k : ℕ) → Has w1.tunnel.gateway.makers k (suc w1.tunnel.present) → ⊥ = λ k q. (let b = old.made k (suc w1.tunnel.present) q in omega (arith, b, old.endpoints)) in

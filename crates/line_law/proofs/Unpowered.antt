@@ -1,6 +1,7 @@
 -- A device without power, put where there is none, beside the devices that are there: one event.
 use Rattle.std.proofs.Common.{◌≡◌, ◌≢◌, ℕ, List, [], ◌∷◌, Bool, true, false, not, ◌&&◌, ◌||◌, cond, Option, Some, None, refl, sym, ◌∙◌, ap, subst, arith}
 use Rattle.std.specs.Prelude.{◌==◌}
+use Rattle.std.proofs.lemmas.Bool.{eqb-true}
 use Rattle.knx_model.specs.declared.frames.cemi.Ldata.{Ldata}
 use Rattle.knx_model.specs.declared.frames.cemi.LdataCode.TheVariants.{Con}
 use Rattle.knx_model.specs.ApduReading.{option_map}
@@ -10,7 +11,7 @@ use Rattle.knx_model.specs.DeviceSending.{waiting_frame, repeat_frame, pops}
 use Rattle.line_model.specs.Legal.{OfDevice, GoesSo, DevicesAllow, MayHappen}
 use Rattle.line_model.specs.Record.{item_of, item_at}
 use Rattle.line_model.specs.Tunnel as tunnel
-use Rattle.line_model.specs.Tunnel.{TunnelEvent, Commissions}
+use Rattle.line_model.specs.Tunnel.{Commissions}
 use Rattle.line_model.specs.World.{World, Event, Send, From, Renew, Up, UpRefused, Down, LoseUp, LoseDown, Bus, BusTorn, BusWorn, BusAgain, DevSend, DevRepeat, DevClose, GwAgain, GwRepeat, GwClose, Cut, On, Pass, Devices, now, next_frame, frame_by, waiting_at, is_among, takes_it, carried, heard, tunnel_event, changed, all_take, one_takes, others_take, devices_after, or_before, echo_after, step}
 use Rattle.line_law.proofs.Runs.{none_step}
 use Rattle.line_law.proofs.Told.{empty_device}
@@ -27,21 +28,18 @@ pub record Beside (a : ℕ) (g f : Devices) : Type 0 where
   pub there : g a ≡ Some (silent a)
   pub none : f a ≡ None
 
-pub eqb_is : (x y : ℕ) → (x == y) ≡ true → x ≡ y
-eqb_is x y e = grind (arith, e)
-
 module _ (a : ℕ) (w : World) (g : Devices) (h : Beside a g w.devices) where
   -- a device that is there is another one
   pub elsewhere : (P : DeviceState → Type 0) (b : ℕ) → OfDevice P (w.devices b) → (b == a) ≡ false
   elsewhere P b of = by_bool (b == a) refl where
     by_bool : (t : Bool) → (b == a) ≡ t → (b == a) ≡ false
-    by_bool true e = absurd (subst (OfDevice P) (ap w.devices (eqb_is b a e) ∙ h.none) of)
+    by_bool true e = absurd (subst (OfDevice P) (ap w.devices (eqb-true b a e) ∙ h.none) of)
     by_bool false e = e
 
   pub elsewhere_some : (b : ℕ) → w.devices b ≢ None → (b == a) ≡ false
   elsewhere_some b some = by_bool (b == a) refl where
     by_bool : (t : Bool) → (b == a) ≡ t → (b == a) ≡ false
-    by_bool true e = absurd (some (ap w.devices (eqb_is b a e) ∙ h.none))
+    by_bool true e = absurd (some (ap w.devices (eqb-true b a e) ∙ h.none))
     by_bool false e = e
 
   pub of_same : (P : DeviceState → Type 0) (b : ℕ) → OfDevice P (w.devices b) → OfDevice P (g b)
@@ -53,7 +51,7 @@ module _ (a : ℕ) (w : World) (g : Devices) (h : Beside a g w.devices) where
   pub takes_same : (f : Ldata) (b : ℕ) → takes_it f (g b) ≡ takes_it f (w.devices b)
   takes_same f b = by_bool (b == a) refl where
     by_bool : (t : Bool) → (b == a) ≡ t → takes_it f (g b) ≡ takes_it f (w.devices b)
-    by_bool true e = ap (λ z. takes_it f (g z)) (eqb_is b a e) ∙ ap (takes_it f) h.there ∙ sym (ap (λ z. takes_it f (w.devices z)) (eqb_is b a e) ∙ ap (takes_it f) h.none)
+    by_bool true e = ap (λ z. takes_it f (g z)) (eqb-true b a e) ∙ ap (takes_it f) h.there ∙ sym (ap (λ z. takes_it f (w.devices z)) (eqb-true b a e) ∙ ap (takes_it f) h.none)
     by_bool false e = ap (takes_it f) (h.others b e)
 
   pub carried_same : (left_out : List ℕ) (o : Option Ldata) → carried (with_devices w g) left_out o ≡ carried w left_out o

@@ -65,9 +65,6 @@ module _ (jobs : List Job) (turns : List GroupTurn) (count : ℕ) (log : List Lo
 
   -- ---- of each job that is held
 
-  abbrev Each : (Job → List Moment → Type 0) → ℕ → List Moment → Type 0
-  Each P n l = (h : HeldJob jobs (log_before (suc n) log) a) → P h.job (after h.since l)
-
   next_each : (P : Job → List Moment → Type 0) → ((job : Job) → P job []) → (n : ℕ) (l : List Moment) → AreUpto (suc n) l → ((h : HeldJob jobs (log_before (suc n) log) a) → P h.job (after h.since l)) → (h : HeldJob jobs (log_before (suc (suc n)) log) a) → P h.job (after h.since l)
   next_each P base n l upto f p =
       elim (later_job jobs turns count log form alone a n p) [

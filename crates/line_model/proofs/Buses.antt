@@ -1,9 +1,10 @@
 -- What a confirmation says, and what a cut of the power takes.
-use Rattle.std.proofs.Common.{◌≡◌, ℕ, List, Bool, true, false, not, ◌&&◌, ◌||◌, ◌==◌, refl, sym, ap, ◌∙◌, arith, Option, Some, None, if◌then◌else◌}
+use Rattle.std.proofs.Common.{◌≡◌, ℕ, List, [], Bool, true, false, not, ◌&&◌, ◌||◌, ◌==◌, refl, sym, ap, ◌∙◌, arith, Option, Some, None, if◌then◌else◌}
+use Rattle.std.proofs.lemmas.Bool.{or_left}
 use Rattle.knx_model.specs.declared.frames.cemi.Ldata.{Ldata}
 use Rattle.knx_model.specs.ApduReading.{option_map}
 use Rattle.knx_model.specs.DeviceConnection.{Closed}
-use Rattle.knx_model.specs.DeviceState.{DeviceState, cut}
+use Rattle.knx_model.specs.DeviceState.{DeviceState, cut, zero_values}
 use Rattle.line_model.specs.World.{World, Cut, takes_it, is_among, confirmation, step}
 
 -- ---- confirmations
@@ -20,14 +21,10 @@ error_is w left_out frame = error_of frame.group (is_among left_out frame.destin
 pub to_group : (w : World) (left_out : List ℕ) (frame : Ldata) → frame.group ≡ true → (confirmation w left_out frame).error ≡ false
 to_group w left_out frame g = error_is w left_out frame ∙ ap (λ (b : Bool). not b && (is_among left_out frame.destination || not (takes_it frame (w.devices frame.destination)))) g
 
-lost_or : (a b : Bool) → a ≡ true → (a || b) ≡ true
-lost_or true b e = refl
-lost_or false b e = cc
-
 pub lost : (w : World) (left_out : List ℕ) (frame : Ldata) → frame.group ≡ false → is_among left_out frame.destination ≡ true → (confirmation w left_out frame).error ≡ true
 lost w left_out frame g a =
     error_is w left_out frame ∙ ap (λ (b : Bool). not b && (is_among left_out frame.destination || not (takes_it frame (w.devices frame.destination)))) g
-    ∙ lost_or (is_among left_out frame.destination) (not (takes_it frame (w.devices frame.destination))) a
+    ∙ or_left (is_among left_out frame.destination) (not (takes_it frame (w.devices frame.destination))) a
 
 not_lost : (a b : Bool) → a ≡ false → (a || b) ≡ b
 not_lost true b e = cc
@@ -57,6 +54,9 @@ cut_closes w device d h = let c = cut_is w device d h in ap (λ (x : DeviceState
 
 pub cut_stops : (w : World) (device : ℕ) (d : DeviceState) → (step w (Cut device)).devices device ≡ Some d → d.power ≡ false
 cut_stops w device d h = let c = cut_is w device d h in ap (λ (x : DeviceState). x.power) (sym c.1.1)
+
+pub cut_empties : (w : World) (device : ℕ) (d : DeviceState) → (step w (Cut device)).devices device ≡ Some d → (d.values ≡ zero_values) × (d.unsent ≡ [])
+cut_empties w device d h = let c = cut_is w device d h in (ap (λ (x : DeviceState). x.values) (sym c.1.1), ap (λ (x : DeviceState). x.unsent) (sym c.1.1))
 
 same_kept : (x : Option DeviceState) (old one : DeviceState) → x ≡ Some old → x ≡ Some one → one.kept ≡ old.kept
 same_kept x old one p q = let e : one ≡ old = cc in ap (λ (y : DeviceState). y.kept) e

@@ -1,5 +1,6 @@
 -- What a gateway's channel and the client's counts keep to.
 use Rattle.std.proofs.Common.{ap, ◌∙◌, ◌≡◌, ℕ, ◌+◌, ◌<◌, ◌≤◌, Bool, true, false, ◌&&◌, ◌||◌, ◌==◌, refl, arith, List, [], ◌∷◌, Some, None}
+use Rattle.std.proofs.lemmas.Bool.{and_parts, eqb-true, eq-eqb}
 use Rattle.knx_model.specs.Connection.{has_passed}
 use Rattle.knx_model.specs.declared.frames.cemi.Ldata.{Ldata}
 use Rattle.knx_model.specs.declared.frames.ip.IpFrame.TheVariants.{ConnectResponse, DisconnectRequest, DisconnectResponse, TunnellingAck}
@@ -8,10 +9,10 @@ use Rattle.line_model.specs.Gateway.{Gateway, Channel, Request, Nothing, Closing
 use Rattle.line_model.specs.Reading.{RequestFrame, AckFrame}
 use Rattle.line_model.specs.Record.{Entry}
 use Rattle.line_model.specs.Renews.{is_acknowledged, calls_for}
-use Rattle.line_model.proofs.Tests.{both, equal, is_equal, is_left, is_right}
+use Rattle.line_model.proofs.Tests.{is_left, is_right}
 
 pub same : (g : Gateway) (c : Channel) (now : ℕ) → connects g c.endpoint now (Some c) ≡ answers (ConnectResponse c.number 0 (Some g.tunnel)) g
-same g c now = is_left (c.endpoint == c.endpoint) _ _ (is_equal c.endpoint c.endpoint refl)
+same g c now = is_left (c.endpoint == c.endpoint) _ _ (eq-eqb c.endpoint c.endpoint refl)
 
 pub one : (c : Channel) (r : Request) (frames : List Ldata) → c.outstanding ≡ Some r → next_put (Some c) frames ≡ None
 one c r [] e = refl
@@ -41,7 +42,7 @@ either true false d p q = q
 either false b d p q = cc
 
 pub again : (c : ℕ) (l : List Entry) (r : RequestFrame) → r.channel ≡ c → next_number r.number ≡ expected c l → calls_for c l (Some r) ≡ Some (TunnellingAck r.channel r.number 0)
-again c l r e n = is_left (is_acknowledged c l r) _ _ (either (r.channel == c) (r.number == expected c l) (next_number r.number == expected c l) (is_equal _ _ e) (is_equal _ _ n))
+again c l r e n = is_left (is_acknowledged c l r) _ _ (either (r.channel == c) (r.number == expected c l) (next_number r.number == expected c l) (eq-eqb _ _ e) (eq-eqb _ _ n))
 
 pub agreed : (c : ℕ) (o : Own) (ack : AckFrame) → acknowledges c o (Some ack) ≡ true → ack.status ≡ 0
-agreed c o ack e = equal _ _ (both _ _ (both _ _ e).1).0
+agreed c o ack e = eqb-true _ _ (and_parts _ _ (and_parts _ _ e).1).0

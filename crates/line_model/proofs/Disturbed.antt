@@ -1,13 +1,14 @@
 -- Runs in which something is lost, comes twice, is torn or worn, or ends: they are legal, they follow their script where it says so, and
 -- what is told of them is true.
-use Rattle.std.proofs.Common.{◌≡◌, ◌<◌, arith, ℕ, List, [], ◌∷◌, true, false, inr, refl}
+use Rattle.std.proofs.Common.{◌≡◌, ◌<◌, arith, ℕ, List, [], ◌∷◌, Some, true, false, inr, refl}
 use Rattle.knx_model.specs.declared.frames.cemi.LdataCode.TheVariants.{Con}
 use Rattle.knx_model.specs.declared.script.ScriptWhat.TheVariants.{LoseDown, LoseTo, RepeatUp, RepeatTo, Cut, Worn}
-use Rattle.knx_model.specs.ApduReading.{apdu_in, tpdu_in, service_in}
+use Rattle.knx_model.specs.ApduReading.{option_map, apdu_in, tpdu_in, service_in}
 use Rattle.knx_model.specs.Cemi.{Written as cemi_octets}
 use Rattle.knx_model.specs.ClientConnection.{after_confirmed, client_sent, after_send, client_took, client_after, client_expired, after_overdue}
 use Rattle.knx_model.specs.Connection.{frame_in}
 use Rattle.knx_model.specs.Device.{NonVolatile}
+use Rattle.knx_model.specs.DeviceState.{DeviceState}
 use Rattle.knx_model.specs.DeviceConnection.{device_took, device_after, device_answered, after_answer}
 use Rattle.line_model.specs.ActedOnce.{in_channel}
 use Rattle.line_model.specs.Attempts.{attempts, Resting}
@@ -19,7 +20,7 @@ use Rattle.line_model.specs.Moments.{Moment, moments, between}
 use Rattle.line_model.specs.Reading.{datagram_in, ldata_in}
 use Rattle.line_model.specs.Record.{Entry, placed, entries}
 use Rattle.line_model.specs.Renews.{RenewsRightly}
-use Rattle.line_model.specs.Runs.{device, begin, job, reading, unheard, told_failed, turn, telegram, nobody, telegram_sent, told_sent, unloads, torn, filling, writes, worn, response_lost, comes_twice, second, quiet_until, to_device}
+use Rattle.line_model.specs.Runs.{device, begin, job, reading, unheard, told_failed, turn, telegram, nobody, telegram_sent, told_sent, unloads, torn, filling, writes, worn, response_lost, comes_twice, second, quiet_until, to_device, acknowledged, heard_again, t_ack_heard}
 use Rattle.line_model.specs.Told.{ToldTruly}
 use Rattle.line_model.specs.Tunnel.{Commissions}
 use Rattle.line_model.specs.World.{Up, replay}
@@ -91,6 +92,24 @@ worn_legal = (record { tunnel = λ e. cc; devices = record { alone = refl; devic
 pub worn_follows : Follows (Worn device 1 ∷ []) Commissions (begin filling) worn
 unfolding datagram_in ldata_in gateway_took frame_in device_took device_after device_answered after_answer apdu_in tpdu_in service_in
 worn_follows = (refl, (record { next = record { next = refl; says = refl }; so = refl }, (tt, (record { next = record { next = refl; says = refl }; so = refl }, (tt, (record { next = refl; says = refl }, (record { next = refl; says = refl }, (refl, (record { next = record { next = refl; says = refl }; so = refl }, (tt, (record { next = refl; says = refl }, (record { next = record { next = refl; says = refl }; so = refl }, (tt, (tt, tt))))))))))))))
+
+pub worn_memory_keeps : option_map (λ (d : DeviceState). d.kept.application.memory) ((replay (begin filling) worn).devices 0x1105) ≡ Some (254 ∷ 253 ∷ [])
+unfolding datagram_in ldata_in gateway_took frame_in device_took device_after device_answered after_answer apdu_in tpdu_in service_in
+worn_memory_keeps = refl
+
+-- ---- a frame comes to the gateway again
+
+pub again_legal : (kept : NonVolatile) → IsLegal Commissions (begin kept) heard_again
+unfolding datagram_in ldata_in gateway_took frame_in device_took device_after device_answered after_answer apdu_in tpdu_in service_in
+again_legal kept = legal_by (begin kept) heard_again refl
+
+pub again_waits : (kept : NonVolatile) → (replay (begin kept) heard_again).tunnel.gateway.waiting ≡ t_ack_heard ∷ []
+unfolding datagram_in ldata_in gateway_took frame_in device_took device_after device_answered after_answer apdu_in tpdu_in service_in
+again_waits kept = refl
+
+pub first_on_its_way : (kept : NonVolatile) → (replay (begin kept) acknowledged).tunnel.gateway.waiting ≡ []
+unfolding datagram_in ldata_in gateway_took frame_in device_took device_after device_answered after_answer apdu_in tpdu_in service_in
+first_on_its_way kept = refl
 
 -- ---- a loss, and repeats
 

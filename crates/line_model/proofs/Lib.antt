@@ -5,6 +5,7 @@ mod Passes
 mod Sessions
 mod Loads
 mod Buses
+mod Concerned
 mod Disturbed
 mod Scripts
 mod Waits
@@ -15,3 +16,7 @@ pub mod Projection
 pub mod Turns
 pub mod Prints
 mod Lapses
+pub mod Deadlines
+pub mod UnderWay
+pub mod Entries
+pub mod Moments

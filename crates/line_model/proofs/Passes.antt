@@ -1,34 +1,21 @@
 -- The tests by which events are seen to be legal are what legality is said to be.
-use Rattle.std.proofs.Common.{◌≡◌, ◌≢◌, ℕ, Bool, true, false, ◌&&◌, ◌==◌, ◌<◌, not, is_some, refl, arith, List, [], ◌∷◌, Option, Some, None}
-use Rattle.std.specs.Prelude.{nat_lt, slice_get}
+use Rattle.std.proofs.Common.{◌≡◌, ◌≢◌, ℕ, Bool, true, false, ◌&&◌, ◌==◌, is_some, List, [], ◌∷◌, Option, Some, None}
+use Rattle.std.specs.Prelude.{slice_get}
+use Rattle.std.proofs.lemmas.Bool.{and_parts, eqb-true}
 use Rattle.knx_model.specs.DeviceState.{DeviceState}
-use Rattle.line_model.proofs.Tests.{both, equal}
 use Rattle.line_model.specs.Deliveries.{is_under_way}
 use Rattle.line_model.specs.Legal.{OfDevice, MayHappen, DevicesAllow, IsLegal}
 use Rattle.line_model.specs.Network.{Sent, IsUnderWay, OfSent}
 use Rattle.line_model.specs.Tunnel as tunnel
 use Rattle.line_model.specs.Tunnel.{Tunnel, TunnelEvent, Commissions, made}
 use Rattle.line_model.specs.World.{World, Event, Send, From, Renew, Up, UpRefused, Down, LoseUp, LoseDown, Bus, BusTorn, BusWorn, BusAgain, DevSend, DevRepeat, DevClose, GwAgain, GwRepeat, GwClose, Cut, On, Pass, next_frame, tunnel_event, replay}
-
-isnt : (a : Bool) → not a ≡ true → a ≡ false
-isnt false e = refl
-isnt true e = cc
-
-smaller : (a b : ℕ) → nat_lt a b ≡ true → a < b
-smaller a b e = grind arith
+use Rattle.line_model.proofs.UnderWay.{under_way}
 
 is_there : {X : Type 0} → (x : Option X) → is_some x ≡ true → x ≢ None
 is_there None e = cc
 is_there (Some x) e = λ h. cc
 
 -- ---- datagrams
-
-pub passes : (made age : ℕ) (s : Sent) → is_under_way made age s ≡ true → IsUnderWay made age s
-passes made age s e =
-    let one = both _ _ e in
-    let two = both _ _ one.0 in
-    let three = both _ _ two.0 in
-    record { kept = isnt s.lost three.0; twice = smaller _ _ three.1; young = smaller _ _ two.1; soon = smaller _ _ one.1 }
 
 abbrev pub test_of : (Sent → Bool) → Option Sent → Bool
 test_of test None = false
@@ -42,7 +29,7 @@ abbrev pub passes_here : ℕ → ℕ → ℕ → Sent → Bool
 passes_here present made age s = is_under_way made age s && (s.endpoint == present)
 
 passes_to : (present made age : ℕ) (s : Sent) → passes_here present made age s ≡ true → IsUnderWay made age s × (s.endpoint ≡ present)
-passes_to present made age s e = let parts = both _ _ e in (passes made age s parts.0, equal _ _ parts.1)
+passes_to present made age s e = let parts = and_parts _ _ e in (under_way made age s parts.0, eqb-true _ _ parts.1)
 
 -- ---- the tunnel's events
 
@@ -72,7 +59,7 @@ may_tunnel_is : (t : Tunnel) (e : TunnelEvent) → may_tunnel t e ≡ true → t
 may_tunnel_is t (tunnel.Send octets) h = tt
 may_tunnel_is t (tunnel.From endpoint octets) h = cc
 may_tunnel_is t tunnel.Renew h = tt
-may_tunnel_is t (tunnel.Up age) h = of_sent (is_under_way (made t) age) (IsUnderWay (made t) age) (passes (made t) age) (slice_get t.network.up age) h
+may_tunnel_is t (tunnel.Up age) h = of_sent (is_under_way (made t) age) (IsUnderWay (made t) age) (under_way (made t) age) (slice_get t.network.up age) h
 may_tunnel_is t (tunnel.UpRefused age status) h = cc
 may_tunnel_is t (tunnel.Down age) h =
     of_sent (passes_here t.present (made t) age) (λ s. IsUnderWay (made t) age s × (s.endpoint ≡ t.present)) (passes_to t.present (made t) age) (slice_get t.network.down age) h
@@ -142,8 +129,8 @@ are_legal start [] = true
 are_legal start (e ∷ events) = may (replay start events) e && are_legal start events
 
 may_is : (w : World) (e : Event) → may w e ≡ true → MayHappen Commissions w e
-may_is w e h = let parts = both _ _ h in record { tunnel = may_tunnel_is w.tunnel (tunnel_event w e) parts.0; devices = may_devices_is w e parts.1 }
+may_is w e h = let parts = and_parts _ _ h in record { tunnel = may_tunnel_is w.tunnel (tunnel_event w e) parts.0; devices = may_devices_is w e parts.1 }
 
 pub legal_by : (start : World) (events : List Event) → are_legal start events ≡ true → IsLegal Commissions start events
 legal_by start [] h = tt
-legal_by start (e ∷ events) h = let parts = both _ _ h in (may_is (replay start events) e parts.0, legal_by start events parts.1)
+legal_by start (e ∷ events) h = let parts = and_parts _ _ h in (may_is (replay start events) e parts.0, legal_by start events parts.1)

@@ -1,33 +1,9 @@
 -- What tests say, and what makes them true.
-use Rattle.std.proofs.Common.{◌≡◌, ◌≢◌, ℕ, ◌≤◌, Bool, true, false, ◌&&◌, ◌==◌, refl, arith, Option, Some, if◌then◌else◌}
-use Rattle.std.specs.Prelude.{nat_le}
+use Rattle.std.proofs.Common.{◌≡◌, ◌≢◌, ℕ, Bool, true, false, ◌==◌, refl, arith, Option, Some, if◌then◌else◌}
 use Rattle.knx_model.specs.ApduReading.{where_it}
-
-pub both : (a b : Bool) → (a && b) ≡ true → (a ≡ true) × (b ≡ true)
-both true b e = (refl, e)
-both false b e = cc
-
-pub together : (a b : Bool) → a ≡ true → b ≡ true → (a && b) ≡ true
-together true b p q = q
-together false b p q = cc
-
-pub equal : (a b : ℕ) → (a == b) ≡ true → a ≡ b
-equal a b e = grind arith
-
-pub is_equal : (a b : ℕ) → a ≡ b → (a == b) ≡ true
-is_equal a b e = grind arith
-
-pub unequal : (a b : ℕ) → (a == b) ≡ false → a ≢ b
-unequal a b e = λ h. grind arith
 
 pub is_unequal : (a b : ℕ) → a ≢ b → (a == b) ≡ false
 is_unequal a b e = grind arith
-
-pub at_most : (a b : ℕ) → nat_le a b ≡ true → a ≤ b
-at_most a b e = grind arith
-
-pub is_at_most : (a b : ℕ) → a ≤ b → nat_le a b ≡ true
-is_at_most a b e = grind arith
 
 pub where_is : {X : Type 0} (b : Bool) (x y : X) → where_it b x ≡ Some y → (b ≡ true) × (x ≡ y)
 where_is true x y e = (refl, cc)

@@ -2,6 +2,7 @@
 use Rattle.std.proofs.Common.{◌≡◌, ℕ, zero, suc, ◌+◌, ◌<◌, ◌≤◌, Bool, true, false, ◌==◌, List, [], ◌∷◌, Some, None, refl, ap, arith, inl, if◌then◌else◌}
 use Rattle.std.specs.List.{list_all}
 use Rattle.std.specs.Prelude.{nat_le, slice_get}
+use Rattle.std.proofs.lemmas.Bool.{and_parts, leb-true}
 use Rattle.knx_model.specs.ApduReading.{apdu_in, tpdu_in, service_in}
 use Rattle.knx_model.specs.Connection.{frame_in, has_passed}
 use Rattle.knx_model.specs.Device.{NonVolatile}
@@ -20,13 +21,12 @@ use Rattle.line_model.specs.Sendings.{SendsRightly}
 use Rattle.line_model.specs.Tunnel.{Commissions}
 use Rattle.line_model.specs.World.{replay}
 use Rattle.line_model.proofs.Begins.{of_each}
-use Rattle.line_model.proofs.Tests.{both, at_most}
 
 -- each datagram was delivered
 delivered_of : (l : List Sent) (age : ℕ) (s : Sent) → list_all (λ (x : Sent). nat_le 1 x.delivered) l ≡ true → slice_get l age ≡ Some s → 1 ≤ s.delivered
 delivered_of [] age s h e = cc
-delivered_of (x ∷ l) zero s h e = let same : x ≡ s = cc in let d : 1 ≤ x.delivered = at_most _ _ (both (nat_le 1 x.delivered) (list_all (λ (y : Sent). nat_le 1 y.delivered) l) h).0 in let n : x.delivered ≡ s.delivered = ap (λ (y : Sent). y.delivered) same in omega arith
-delivered_of (x ∷ l) (suc age) s h e = delivered_of l age s (both (nat_le 1 x.delivered) (list_all (λ (y : Sent). nat_le 1 y.delivered) l) h).1 e
+delivered_of (x ∷ l) zero s h e = let same : x ≡ s = cc in let d : 1 ≤ x.delivered = leb-true _ _ (and_parts (nat_le 1 x.delivered) (list_all (λ (y : Sent). nat_le 1 y.delivered) l) h).0 in let n : x.delivered ≡ s.delivered = ap (λ (y : Sent). y.delivered) same in omega arith
+delivered_of (x ∷ l) (suc age) s h e = delivered_of l age s (and_parts (nat_le 1 x.delivered) (list_all (λ (y : Sent). nat_le 1 y.delivered) l) h).1 e
 
 early : (t : ℕ) → t < 60000 → has_passed client_wait 0 (0 + t) ≡ false
 early t h = grind arith

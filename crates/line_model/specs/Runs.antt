@@ -4,7 +4,7 @@
 use Rattle.std.specs.Prelude.{ℕ, true, false, ◌==◌, codes, List, [], ◌∷◌, ◌++◌, Option, Some, None, if◌then◌else◌}
 use Rattle.knx_model.specs.declared.address.IndAddr.{IndAddr}
 use Rattle.knx_model.specs.declared.frames.cemi.Ldata.{Ldata}
-use Rattle.knx_model.specs.declared.frames.cemi.LdataCode.TheVariants.{Req}
+use Rattle.knx_model.specs.declared.frames.cemi.LdataCode.TheVariants.{Ind, Req}
 use Rattle.knx_model.specs.declared.frames.value.Value.TheVariants.{Short, Long}
 use Rattle.knx_model.specs.declared.frames.ip.IpFrame.TheVariants.{ConnectRequest, DisconnectResponse, StateRequest, ConnectResponse, TunnellingRequest, TunnellingAck}
 use Rattle.knx_model.specs.declared.loading.LoadState.TheVariants.{Unloaded, Loading, Loaded}
@@ -30,7 +30,7 @@ use Rattle.line_model.specs.Log.{Job}
 use Rattle.line_model.specs.Printed.{DeviceShown}
 use Rattle.line_model.specs.Record.{Entry, entry, Put, Renewed, Got, Quiet}
 use Rattle.line_model.specs.Tunnel.{fresh}
-use Rattle.line_model.specs.World.{World, Event, Comes, IsLost, Send, Renew, Up, UpRefused, Down, LoseUp, LoseDown, Bus, BusTorn, BusWorn, BusAgain, DevSend, DevClose, GwClose, On, Pass}
+use Rattle.line_model.specs.World.{World, Event, Comes, IsLost, Send, Renew, Up, UpRefused, Down, LoseUp, LoseDown, Bus, BusTorn, BusWorn, BusAgain, DevSend, DevClose, GwAgain, GwClose, On, Pass}
 
 -- ---- the line 1.1 with one device, 1.1.5, whatever it keeps
 
@@ -223,6 +223,18 @@ connection_closed = DevClose 0x1105 ∷ Bus [] ∷ Up 0 ∷ tunnelled 1 0 (0x80 
 
 abbrev pub answer_lost : List Event
 answer_lost = DevSend 0x1105 IsLost [] ∷ asked
+
+-- ---- the gateway gets the device's T_ACK, and then gets it again
+
+abbrev pub acknowledged : List Event
+acknowledged = DevSend 0x1105 Comes [] ∷ asked
+
+abbrev pub heard_again : List Event
+heard_again = GwAgain ∷ acknowledged
+
+-- the T_ACK as the bus carries it
+abbrev pub t_ack_heard : Ldata
+t_ack_heard = record { code = Ind; error = false; group = false; priority = 3; hops = 6; source = 0x1105; destination = 0x11FF; tpdu = 0xC2 ∷ [] }
 
 -- ---- the gateway closes the channel, and the client takes another
 

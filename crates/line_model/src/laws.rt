@@ -3,12 +3,13 @@
 ghost use Rattle.std.specs.Prelude.{◌≡◌, ◌≢◌, ℕ, ◌+◌, ◌<◌, ◌≤◌, ◌++◌, [], ◌∷◌, List, Some, None, length, slice_get, ◌↔◌, true, false, not};
 ghost use Rattle.knx_model.specs.Cemi.{Reads as ReadsLdata};
 ghost use Rattle.knx_model.specs.DeviceConnection.{Closed};
-ghost use Rattle.knx_model.specs.DeviceState.{DeviceState};
+ghost use Rattle.knx_model.specs.DeviceState.{DeviceState, zero_values};
 ghost use Rattle.knx_model.specs.KnxNetIp.{Reads as ReadsDatagram};
 ghost use Rattle.knx_model.specs.Meaning.{Installation};
 ghost use Rattle.knx_model.specs.declared.frames.cemi.Ldata.{Ldata};
 ghost use Rattle.knx_model.specs.declared.frames.ip.IpFrame.{IpFrame};
 ghost use Rattle.knx_model.specs.declared.frames.ip.IpFrame.TheVariants.{ConnectResponse, DisconnectRequest, DisconnectResponse, TunnellingAck};
+ghost use Rattle.line_model.specs.Concerns.{Concerns};
 ghost use Rattle.line_model.specs.ChannelLost.{Own, acknowledges, expected, is_lost};
 ghost use Rattle.line_model.specs.Lapses.{IsLostSo};
 ghost use Rattle.line_model.specs.Gateway.{Gateway, Channel, Request, Nothing, Closing, number_of, next_number, names, connects, took, answers, next_put, channel_expired, closed};
@@ -20,7 +21,7 @@ ghost use Rattle.line_model.specs.Record.{Entry, is_poll, record_of, tunnel_reco
 ghost use Rattle.line_model.specs.Renews.{calls_for};
 ghost use Rattle.line_model.specs.StartOf.{BeginsAs, frames_for};
 ghost use Rattle.line_model.specs.Tunnel.{Mode, IsLegal as IsLegalInTunnel, replay as tunnel_replay};
-ghost use Rattle.line_model.specs.World.{World, Event, Cut, takes_it, is_among, confirmation, step, replay, tunnel_events};
+ghost use Rattle.line_model.specs.World.{World, Event, AtGateway, Cut, DevClose, DevSend, On, takes_it, is_among, confirmation, step, replay, tunnel_events};
 
 /// The frame that a datagram is, and the frame of the link layer that a request's octets are, are those that the octets read as.
 pub fn frames_are_read()
@@ -60,11 +61,32 @@ pub fn confirmations_are_true()
     ensures came { (w : World) (left_out : List ℕ) (frame : Ldata) → frame.group ≡ false → is_among left_out frame.destination ≡ false → (confirmation w left_out frame).error ≡ not (takes_it frame (w.devices frame.destination)) }
 {}
 
-/// A cut takes the device's connection and its power, and leaves what it keeps.
+/// A cut takes the device's connection, its power, its objects' values and its unsent frames, and leaves what it keeps.
 pub fn a_cut_ends_the_connection()
     ensures closed { (w : World) (device : ℕ) (d : DeviceState) → (step w (Cut device)).devices device ≡ Some d → d.connection ≡ Closed }
     ensures stopped { (w : World) (device : ℕ) (d : DeviceState) → (step w (Cut device)).devices device ≡ Some d → d.power ≡ false }
     ensures kept { (w : World) (device : ℕ) (old d : DeviceState) → w.devices device ≡ Some old → (step w (Cut device)).devices device ≡ Some d → d.kept ≡ old.kept }
+    ensures emptied { (w : World) (device : ℕ) (d : DeviceState) → (step w (Cut device)).devices device ≡ Some d → (d.values ≡ zero_values) × (d.unsent ≡ []) }
+{}
+
+/// A device to which power comes back has it. Without power before, it has no connection, no values and no unsent frames, and keeps what it kept; with
+/// power it stays as it was.
+pub fn power_comes_back()
+    ensures power { (w : World) (device : ℕ) (d : DeviceState) → (step w (On device)).devices device ≡ Some d → d.power ≡ true }
+    ensures emptied { (w : World) (device : ℕ) (old d : DeviceState) → w.devices device ≡ Some old → old.power ≡ false → (step w (On device)).devices device ≡ Some d → (d.kept ≡ old.kept) × (d.connection ≡ Closed) × (d.values ≡ zero_values) × (d.unsent ≡ []) }
+    ensures same { (w : World) (device : ℕ) (old : DeviceState) → w.devices device ≡ Some old → old.power ≡ true → (step w (On device)).devices device ≡ Some old }
+{}
+
+/// A device that closes its connection has none, and keeps its values and all that it keeps without power.
+pub fn a_device_closes_its_connection()
+    ensures closed { (w : World) (device : ℕ) (d : DeviceState) → (step w (DevClose device)).devices device ≡ Some d → d.connection ≡ Closed }
+    ensures values { (w : World) (device : ℕ) (old d : DeviceState) → w.devices device ≡ Some old → (step w (DevClose device)).devices device ≡ Some d → (d.kept ≡ old.kept) × (d.values ≡ old.values) }
+{}
+
+/// A device changes only by a frame that comes to it, and by events of its own; one that sends keeps its values, and what it keeps without power.
+pub fn what_comes_to_no_device_changes_none()
+    ensures apart { (w : World) (device : ℕ) (e : Event) → ¬ Concerns w device e → (step w e).devices device ≡ w.devices device }
+    ensures sender { (w : World) (device : ℕ) (gateway : AtGateway) (left_out : List ℕ) (old d : DeviceState) → w.devices device ≡ Some old → (step w (DevSend device gateway left_out)).devices device ≡ Some d → (d.kept ≡ old.kept) × (d.values ≡ old.values) }
 {}
 
 /// A device of the simulated line begins with power but where the script switches it off, and takes extended frames but where the script says that

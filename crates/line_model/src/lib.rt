@@ -8,6 +8,7 @@ mod group;
 mod laws;
 mod log;
 mod outside;
+mod poll_wait;
 mod put_refused;
 mod runs;
 
@@ -23,6 +24,7 @@ pub use laws::{
 };
 pub use log::{LogEntry, LogWhat, Report};
 pub use outside::{DialFailed, Dialer, Gate, Link, LinkFault, Polled, Port, PortFault, PortPolled};
+pub use poll_wait::{LONGEST_POLL_MS, until};
 pub use put_refused::PutRefused;
 pub use runs::{
     a_channel_dies, a_channel_follows_another, a_job_fails_by_three_signs, a_line_begins,

@@ -1,7 +1,8 @@
 //! Laws that show what the definitions allow: runs of the line, each a function without a body whose contract says what holds of the run.
 
-ghost use Rattle.std.specs.Prelude.{◌≡◌, true, List, [], ◌∷◌, None};
+ghost use Rattle.std.specs.Prelude.{◌≡◌, true, List, [], ◌∷◌, None, Some, option_map};
 ghost use Rattle.knx_model.specs.Device.{NonVolatile, HasCapacities};
+ghost use Rattle.knx_model.specs.DeviceState.{DeviceState};
 ghost use Rattle.knx_model.specs.declared.script.ScriptWhat.TheVariants.{LoseUp, LoseDown, LoseTo, LoseFrom, RepeatUp, RepeatDown, RepeatTo, Cut, Worn, CloseAfter, Refuse, DropChannel};
 ghost use Rattle.knx_model.specs.Cemi.{Written as cemi_octets};
 ghost use Rattle.line_model.specs.ActedOnce.{in_channel};
@@ -16,7 +17,7 @@ ghost use Rattle.line_model.specs.OldStoppedOrNew.{RunsWhereDone};
 ghost use Rattle.line_model.specs.Printed.{line_report_text};
 ghost use Rattle.line_model.specs.Record.{Entry, placed, entries, record_of};
 ghost use Rattle.line_model.specs.Renews.{RenewsRightly};
-ghost use Rattle.line_model.specs.Runs.{device, begin, connecting, connected, whole, job, other_job, reading, nearly, load, loads, told_taken, told_done, told_refused, unheard, told_failed, nobody, turn, telegram_sent, told_sent, torn, filling, worn, response_lost, comes_twice, second, quiet_until, to_device, request_lost, try_refused, response_twice, confirmation_twice, channel_dropped, connection_closed, answer_lost, quiet_minute, beat_answered, report, job_words, shown, printed};
+ghost use Rattle.line_model.specs.Runs.{device, begin, connecting, connected, whole, job, other_job, reading, nearly, load, loads, told_taken, told_done, told_refused, unheard, told_failed, nobody, turn, telegram_sent, told_sent, torn, filling, worn, response_lost, comes_twice, second, quiet_until, to_device, request_lost, try_refused, response_twice, confirmation_twice, channel_dropped, connection_closed, answer_lost, acknowledged, heard_again, t_ack_heard, quiet_minute, beat_answered, report, job_words, shown, printed};
 ghost use Rattle.line_model.specs.Sendings.{SendsRightly};
 ghost use Rattle.line_model.specs.Told.{ToldTruly};
 ghost use Rattle.line_model.specs.Tunnel.{Commissions};
@@ -73,12 +74,14 @@ pub fn a_telegram_is_sent()
     ensures told { ToldTruly [] (turn ∷ []) (placed nobody telegram_sent) told_sent }
 {}
 
-/// A write in which power goes, and one over worn memory: each is legal, and is just what the script's line says.
+/// A write in which power goes, and one over worn memory: each is legal, and is just what the script's line says. Of the octets 01 and 02 worn memory
+/// keeps FE and FD.
 pub fn writes_are_torn_and_worn()
     ensures torn { (kept : NonVolatile) → IsLegal Commissions (begin kept) torn }
     ensures cut { (kept : NonVolatile) → Follows (Cut device 1 1 ∷ []) Commissions (begin kept) torn }
     ensures worn { IsLegal Commissions (begin filling) worn }
     ensures changed { Follows (Worn device 1 ∷ []) Commissions (begin filling) worn }
+    ensures complements { option_map (λ (d : DeviceState). d.kept.application.memory) ((replay (begin filling) worn).devices 0x1105) ≡ Some (254 ∷ 253 ∷ []) }
 {}
 
 /// A datagram that is lost, and a datagram and a frame that come twice: each is legal, and is just what the script's lines say; the request that
@@ -90,6 +93,13 @@ pub fn datagrams_are_lost_and_repeated()
     ensures repeated { (kept : NonVolatile) → Follows (RepeatUp 2 ∷ RepeatTo device 1 ∷ []) Commissions (begin kept) comes_twice }
     ensures thrice { (kept : NonVolatile) → ¬ MayHappen Commissions (replay (begin kept) comes_twice) (Up 0) }
     ensures once { (kept : NonVolatile) → in_channel 0 (replay (begin kept) comes_twice).tunnel.gateway.acted ≡ cemi_octets (to_device (0x80 ∷ [])) ∷ [] }
+{}
+
+/// The gateway may get the frame again that a device sent last, and it waits for the client once more.
+pub fn a_frame_comes_again_at_the_gateway()
+    ensures legal { (kept : NonVolatile) → IsLegal Commissions (begin kept) heard_again }
+    ensures waits { (kept : NonVolatile) → (replay (begin kept) heard_again).tunnel.gateway.waiting ≡ t_ack_heard ∷ [] }
+    ensures before { (kept : NonVolatile) → (replay (begin kept) acknowledged).tunnel.gateway.waiting ≡ [] }
 {}
 
 /// Each of the other lines of a script has its event: a lost request, a refused try, a response that comes twice, a channel and a connection that

@@ -1,8 +1,7 @@
 -- Bits of words, and the device parts that they stand for.
-use Rattle.std.proofs.Common.{◌≡◌, ◌≢◌, ℕ, ◌+◌, ◌-◌, ◌*◌, ◌/◌, ◌%◌, ◌^◌, ◌<◌, ◌≤◌, ◌==◌, inl, inr, min, Bool, true, false, List, length, refl, ap, sym, subst, ◌∙◌, arith, if◌then◌else◌, bit_and, slice_index}
+use Rattle.std.proofs.Common.{◌≡◌, ◌≢◌, ℕ, ◌+◌, ◌-◌, ◌*◌, ◌/◌, ◌%◌, ◌^◌, ◌<◌, ◌≤◌, ◌==◌, inl, inr, min, false, List, ap, sym, subst, ◌∙◌, arith, bit_and, slice_index}
 use Rattle.std.specs.Int.{bit_at, trailing_zeros, w64}
 use Rattle.std.proofs.Math.ListN.{set}
-use Rattle.std.proofs.lemmas.List.{get_or-set_same, get_or-set_other}
 use Rattle.std.proofs.lemmas.Bool.{cases_lt}
 use Rattle.std.proofs.lemmas.Nat.{and_le_l}
 use Rattle.std.proofs.lemmas.Nat.Bits.{bit_at_and, bit_at-lt, bit_at-zero, bit_at_mask_inside, bit_at_mask_below, bit_at-trailing_zeros, ones_shl}
@@ -65,51 +64,7 @@ first_is word from bit h small some is =
     not_before : (P : Type 0) (a b : ℕ) → (a < b → P) → (b ≤ a → P) → P
     not_before P a b this that = grind arith
 
--- ---- a word is changed
-
-abbrev one_if : Bool → ℕ
-one_if b = if b then 1 else 0
-
-is_one_if : (b : Bool) → (one_if b == 1) ≡ b
-is_one_if true = refl
-is_one_if false = refl
-
-pub set_here : (words : List ℕ) (part r : ℕ) (b : Bool) → length words ≡ 4 → part < 256 → bit_at r (part % 64) ≡ (if b then 1 else 0) → has_part (set words (part / 64) r) part ≡ b
-set_here words part r b long lt is =
-    let within : part / 64 < length words = omega (arith, long) in
-    ap (λ (x : ℕ). bit_at x (part % 64) == 1) (get_or-set_same words (part / 64) r 0 within) ∙ ap (λ (x : ℕ). x == 1) is ∙ is_one_if b
-
-pub set_others : (words : List ℕ) (part r : ℕ) → length words ≡ 4 → part < 256 → ((i : ℕ) → i < 64 → i ≢ part % 64 → bit_at r i ≡ bit_at (slice_index words (part / 64)) i)
-    → (p : ℕ) → p ≢ part → has_part (set words (part / 64) r) p ≡ has_part words p
-set_others words part r long lt same p ne = other_word (p / 64 == part / 64) refl
-  where
-    within : part / 64 < length words
-    within = omega (arith, long)
-
-    other_word : (t : Bool) → (p / 64 == part / 64) ≡ t → has_part (set words (part / 64) r) p ≡ has_part words p
-    other_word true e =
-        let one : p / 64 ≡ part / 64 = grind arith in
-        let bit : p % 64 ≢ part % 64 = omega arith in
-        let small : p % 64 < 64 = omega arith in
-        ap (λ (k : ℕ). bit_at (slice_index (set words (part / 64) r) k) (p % 64) == 1) one
-        ∙ ap (λ (x : ℕ). bit_at x (p % 64) == 1) (get_or-set_same words (part / 64) r 0 within)
-        ∙ ap (λ (x : ℕ). x == 1) (same (p % 64) small bit)
-        ∙ ap (λ (k : ℕ). bit_at (slice_index words k) (p % 64) == 1) (sym one)
-    other_word false e =
-        let other : p / 64 ≢ part / 64 = grind arith in
-        ap (λ (x : ℕ). bit_at x (p % 64) == 1) (get_or-set_other words (part / 64) (p / 64) r 0 other)
-
 -- ---- which parts a word's bits stand for
-
--- a part of this word, by its bit
-pub part_of : (words : List ℕ) (word bit : ℕ) → bit < 64 → has_part words (word * 64 + bit) ≡ (bit_at (slice_index words word) bit == 1)
-part_of words word bit h =
-    let here : (word * 64 + bit) / 64 ≡ word = omega arith in
-    let place : (word * 64 + bit) % 64 ≡ bit = omega arith in
-    ap (λ (k : ℕ). bit_at (slice_index words k) ((word * 64 + bit) % 64) == 1) here ∙ ap (λ (k : ℕ). bit_at (slice_index words word) k == 1) place
-
-pub has_bit : (words : List ℕ) (word bit : ℕ) → bit < 64 → bit_at (slice_index words word) bit ≡ 1 → has_part words (word * 64 + bit) ≡ true
-has_bit words word bit h e = part_of words word bit h ∙ ap (λ (x : ℕ). x == 1) e
 
 pub lacks_bit : (words : List ℕ) (p : ℕ) → bit_at (slice_index words (p / 64)) (p % 64) ≡ 0 → has_part words p ≡ false
 lacks_bit words p e = ap (λ (x : ℕ). x == 1) e

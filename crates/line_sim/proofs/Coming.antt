@@ -1,5 +1,5 @@
 -- For whom a frame comes: one for a device alone changes no other, and what is brought to each place comes to all.
-use Rattle.std.proofs.Common.{◌≡◌, ◌≢◌, ℕ, ◌+◌, ◌-◌, ◌*◌, ◌/◌, ◌<◌, ◌≤◌, ◌==◌, ◌⊎◌, inl, inr, Bool, true, false, not, ◌&&◌, ◌||◌, List, [], ◌∷◌, ◌++◌, length, take, Option, Some, None, refl, ap, sym, subst, ◌∙◌, arith, if◌then◌else◌, slice_index_or, option_to_list, nat_eq, Result, Ok, Err, OnOk}
+use Rattle.std.proofs.Common.{◌≡◌, ◌≢◌, ℕ, ◌+◌, ◌-◌, ◌<◌, ◌≤◌, ◌==◌, ◌⊎◌, inl, inr, Bool, true, false, not, ◌&&◌, ◌||◌, List, [], ◌∷◌, ◌++◌, length, take, Option, Some, None, refl, ap, sym, subst, ◌∙◌, arith, if◌then◌else◌, slice_index_or, option_to_list, nat_eq}
 use Rattle.std.specs.Option.{option_eq}
 use Rattle.std.proofs.lemmas.Bool.{cases_lt}
 use Rattle.std.proofs.lemmas.List.{get_or_push, take_more}
@@ -13,8 +13,8 @@ use Rattle.device_sim.proofs.Taken.{not_taken}
 use Rattle.device_sim.specs.declared.brought.Brought.{Brought}
 use Rattle.device_sim.specs.declared.brought.Brought.TheVariants.{NotTaken}
 use Rattle.line_model.specs.World.{is_among}
-use Rattle.line_sim.specs.Group.{IsBroughtAt, AreBrought, brought_there}
-use Rattle.line_sim.specs.Places.{DevicesNow, ComesTo, device_at, device_in, device_part, line_part}
+use Rattle.line_sim.specs.Group.{IsBroughtAt, brought_there}
+use Rattle.line_sim.specs.Places.{DevicesNow, ComesTo, device_at, device_in}
 
 -- ---- a frame for one device alone
 
@@ -82,28 +82,6 @@ brought_more n left_out frame part all more one is long before here k h = elim (
       subst (IsBroughtAt n left_out frame k) (sym there) (subst (λ (i : ℕ). IsBroughtAt n left_out frame i one) (sym at) here)
 ]
 
--- all places have got what was brought to them: so the frame came
-pub brought_comes : (n m : DevicesNow) (now : ℕ) (left_out : List ℕ) (frame : Ldata) (brought : List Brought) → m.line ≡ n.line → AreBrought n left_out frame brought
-    → ((k : ℕ) → k < 256 → device_in m.places k ≡ brought_there frame (device_in n.places k) (slice_index_or brought k NotTaken)) → ComesTo n now left_out frame m
-brought_comes n m now left_out frame brought same all got devices are a =
-    ap (λ (o : Option DeviceState). if is_among left_out a then o else option_map (λ (d : DeviceState). takes d frame now Whole) o) (are a) ∙ by_line (line_part a == n.line) refl
-    ∙ ap (λ (line : ℕ). if line_part a == line then device_in m.places (device_part a) else None) (sym same)
-  where
-    nothing : (t : Bool) → (if t then None else option_map (λ (d : DeviceState). takes d frame now Whole) None) ≡ None
-    nothing true = refl
-    nothing false = refl
-
-    by_line : (s : Bool) → (line_part a == n.line) ≡ s
-        → (if is_among left_out a then (if s then device_in n.places (device_part a) else None) else option_map (λ (d : DeviceState). takes d frame now Whole) (if s then device_in n.places (device_part a) else None))
-        ≡ (if s then device_in m.places (device_part a) else None)
-    by_line false e = nothing (is_among left_out a)
-    by_line true e =
-        let on : a / 256 ≡ n.line = grind arith in
-        let address : n.line * 256 + device_part a ≡ a = omega (arith, on) in
-        let within : device_part a < 256 = omega arith in
-        sym (got (device_part a) within ∙ all.each (device_part a) within now
-        ∙ ap (λ (x : ℕ). if is_among left_out x then device_in n.places (device_part a) else option_map (λ (d : DeviceState). takes d frame now Whole) (device_in n.places (device_part a))) address)
-
 -- ---- the last of those that are left
 
 pub last_left : (all left less : List Brought) (part : ℕ) (one : Brought) → 0 < part → part ≤ length all → left ≡ take part all → left ≡ less ++ one ∷ [] → (less ≡ take (part - 1) all) × (one ≡ slice_index_or all (part - 1) NotTaken)
@@ -148,7 +126,3 @@ among_one (Some b) a = or_nothing (b == a)
     or_nothing : (t : Bool) → (t || false) ≡ t
     or_nothing true = refl
     or_nothing false = refl
-
-pub on_ok : {X Y P Q : Type 0} (r : Result X Y) → (P → Q) → OnOk r P → OnOk r Q
-on_ok (Ok x) f p = f p
-on_ok (Err y) f p = p

@@ -10,7 +10,7 @@ use Rattle.line_model.specs.Legal.{IsLegal}
 use Rattle.line_model.specs.Network.{Sent, changed_at, gone, once_more}
 use Rattle.line_model.specs.Reading.{datagram_in}
 use Rattle.line_model.specs.Tunnel as tunnel
-use Rattle.line_model.specs.Tunnel.{Tunnel, TunnelEvent, Commissions, Send, From, Renew, Up, UpRefused, Down, LoseUp, LoseDown, Carried, Heard, Repeat, Close, Pass, Elsewhere, after, closes, fresh, made, puts, puts_next, refuses, repeats, repeats_request, sends_down_if, takes_frame, takes_sent, with_gateway}
+use Rattle.line_model.specs.Tunnel.{Tunnel, TunnelEvent, Commissions, Send, From, Renew, Up, UpRefused, Down, LoseUp, LoseDown, Carried, Heard, Repeat, Close, Pass, Elsewhere, after, closes, fresh, made, puts, refuses, repeats, repeats_request, sends_down_if, takes_frame, takes_sent, with_gateway}
 use Rattle.line_model.specs.World.{World, Event, me, replay, tunnel_event}
 use Rattle.line_sim.specs.Gateways.{and_one}
 use Rattle.line_sim.specs.Line.{IsCounted}
@@ -23,9 +23,6 @@ record Within (t u : Tunnel) (endpoints channels requests ups downs : ℕ) : Typ
   acted : length u.gateway.acted ≤ length t.gateway.acted + requests
   up : length u.network.up ≤ length t.network.up + ups
   down : length u.network.down ≤ length t.network.down + downs
-
-as_far : (t : Tunnel) → Within t t 0 0 0 0 0
-as_far t = record { present = omega arith; made = omega arith; acted = omega arith; up = omega arith; down = omega arith }
 
 farther : (t u v : Tunnel) (p m a x y p' m' a' x' y' : ℕ) → Within t u p m a x y → Within u v p' m' a' x' y' → Within t v (p + p') (m + m') (a + a') (x + x') (y + y')
 farther t u v p m a x y p' m' a' x' y' one more =

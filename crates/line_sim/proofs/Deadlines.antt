@@ -5,7 +5,7 @@ use Rattle.std.proofs.lemmas.Bool.{cases_lt}
 use Rattle.knx_model.specs.declared.connection.DeviceExpired.{DeviceExpired}
 use Rattle.knx_model.specs.declared.connection.DeviceExpired.TheVariants as expired
 use Rattle.knx_model.specs.declared.frames.cemi.Ldata.{Ldata}
-use Rattle.knx_model.specs.Connection.{Session, last_time, wait_end, earlier_time, idle_wait, ack_wait, most_repeats}
+use Rattle.knx_model.specs.Connection.{Session, last_time, wait_end, earlier_time, idle_wait, ack_wait, most_repeats, nearer}
 use Rattle.knx_model.specs.ConnectionLaws.{Reached}
 use Rattle.knx_model.specs.DeviceConnection.{DeviceEnd, Closed, Idle, Answering, Outstanding, device_deadline, device_expired, outstanding_deadline}
 use Rattle.knx_model.specs.DeviceSending.{due_sending, next_sending, sending_of}
@@ -16,7 +16,7 @@ use Rattle.line_model.specs.GatewayEnd.{GatewayEnd, channel_deadline, request_de
 use Rattle.line_model.specs.Tunnel.{Mode}
 use Rattle.line_model.specs.World.{World, now}
 use Rattle.transport_conn.proofs.DeviceEnd.{due, reached}
-use Rattle.line_sim.specs.Due.{IsNearest, deadline_at, nearer}
+use Rattle.line_sim.specs.Due.{IsNearest, deadline_at}
 use Rattle.line_sim.specs.Line.{LineNow, IsNow}
 use Rattle.line_sim.specs.Places.{device_at}
 use Rattle.line_sim.proofs.Nearest.{least_of_both, neither}

@@ -1,10 +1,12 @@
 -- The datagram that goes next, and one that goes once more, may come.
-use Rattle.std.proofs.Common.{◌≡◌, ℕ, zero, suc, ◌+◌, ◌-◌, Bool, true, false, not, ◌&&◌, ◌==◌, List, [], ◌∷◌, length, Option, Some, None, refl, ap, sym, subst, ◌∙◌, arith, if◌then◌else◌}
+use Rattle.std.proofs.Common.{◌≡◌, ℕ, zero, suc, ◌+◌, ◌-◌, Bool, true, false, ◌&&◌, ◌==◌, List, [], ◌∷◌, length, Option, Some, None, refl, ap, sym, subst, ◌∙◌, arith, if◌then◌else◌}
 use Rattle.std.specs.Prelude.{IfSome, nat_lt, slice_get}
+use Rattle.std.proofs.lemmas.Bool.{and_parts}
 use Rattle.line_model.specs.Deliveries.{is_under_way, oldest, or_here}
-use Rattle.line_model.specs.Network.{Sent, IsUnderWay, OfSent, oldest_age, most_deliveries, channel_numbers}
+use Rattle.line_model.specs.Network.{Sent, IsUnderWay, OfSent}
 use Rattle.line_model.specs.Owed.{goes_again, passes_again}
 use Rattle.line_model.specs.Tunnel.{Mode}
+use Rattle.line_model.proofs.UnderWay.{under_way}
 use Rattle.network_sim.specs.declared.place.Reach.{Reach}
 use Rattle.network_sim.specs.declared.place.Reach.TheVariants.{Every, To}
 use Rattle.network_sim.specs.Arriving.{MayCome, passes}
@@ -12,22 +14,6 @@ use Rattle.network_sim.specs.Window.{CanTell, Window, kept_age, window_of}
 use Rattle.network_sim.proofs.Ages.{goes_again_kept}
 
 -- ---- tests
-
-both : (a b : Bool) → (a && b) ≡ true → (a ≡ true) × (b ≡ true)
-both true true h = (refl, refl)
-both true false h = cc
-both false b h = cc
-
-under_way : (m age : ℕ) (s : Sent) → is_under_way m age s ≡ true → IsUnderWay m age s
-under_way m age s h =
-    let three = both (not s.lost && nat_lt s.delivered most_deliveries && nat_lt age oldest_age) (nat_lt m (s.made + channel_numbers)) h in
-    let two = both (not s.lost && nat_lt s.delivered most_deliveries) (nat_lt age oldest_age) three.0 in
-    let one = both (not s.lost) (nat_lt s.delivered most_deliveries) two.0 in
-    record { kept = not_lost s.lost one.0; twice = grind arith; young = grind arith; soon = grind arith }
-  where
-    not_lost : (b : Bool) → not b ≡ true → b ≡ false
-    not_lost true h = cc
-    not_lost false h = refl
 
 may_come : (reach : Reach) (m age : ℕ) (sent : List Sent) → OfSent (λ s. passes reach m age s ≡ true) (slice_get sent age) → MayCome reach m sent age
 may_come Every m age sent h = by_sent (slice_get sent age) h
@@ -39,7 +25,7 @@ may_come (To endpoint) m age sent h = by_sent (slice_get sent age) h
   where
     by_sent : (o : Option Sent) → OfSent (λ s. passes (To endpoint) m age s ≡ true) o → OfSent (λ s. IsUnderWay m age s × (s.endpoint ≡ endpoint)) o
     by_sent None h = h
-    by_sent (Some s) h = let two = both (is_under_way m age s) (s.endpoint == endpoint) h in (under_way m age s two.0, grind arith)
+    by_sent (Some s) h = let two = and_parts (is_under_way m age s) (s.endpoint == endpoint) h in (under_way m age s two.0, grind arith)
 
 -- ---- the oldest
 
@@ -51,7 +37,7 @@ here : (test : ℕ → Sent → Bool) (from : ℕ) (s : Sent) (rest : List Sent)
 here test from s rest age false e h = cc
 here test from s rest age true e h =
     let same : from ≡ age = cc in
-    let passed : test from s ≡ true = (both (test from s) (s.delivered == 0) e).0 in
+    let passed : test from s ≡ true = (and_parts (test from s) (s.delivered == 0) e).0 in
     (0, omega (arith, same), ap (λ (k : ℕ). test k s) (sym same) ∙ passed)
 
 one_more : (test : ℕ → Sent → Bool) (from : ℕ) (s : Sent) (rest : List Sent) (age : ℕ) (o : Option ℕ) → oldest test (suc from) rest ≡ o → (oldest test (suc from) rest ≡ Some age → Found test (suc from) rest age)
@@ -81,7 +67,7 @@ again_comes reach m age kept h = may_come reach m age kept (by_sent (slice_get k
   where
     by_sent : (o : Option Sent) → goes_again (passes reach m) age o ≡ true → OfSent (λ s. passes reach m age s ≡ true) o
     by_sent None h = cc
-    by_sent (Some s) h = (both (passes reach m age s) (s.delivered == 1) h).0
+    by_sent (Some s) h = (and_parts (passes reach m age s) (s.delivered == 1) h).0
 
 not_there : (xs : List Sent) (k : ℕ) → (if nat_lt k (length xs) then Some k else None) ≡ None → slice_get xs k ≡ None
 not_there xs k h = by_order (nat_lt k (length xs)) refl h

@@ -1,4 +1,3 @@
-pub mod Readings
 pub mod Taking
 pub mod Tunnels
 pub mod Bits

@@ -5,7 +5,8 @@ use Rattle.knx_model.specs.declared.frames.cemi.Ldata.{Ldata}
 use Rattle.knx_model.specs.DeviceConnection.{DeviceEnd, device_deadline, device_expired}
 use Rattle.knx_model.specs.DeviceSending.{due_sending, sending_of}
 use Rattle.knx_model.specs.DeviceState.{DeviceState}
-use Rattle.line_sim.specs.Due.{IsNearest, deadline_at, nearer}
+use Rattle.line_sim.specs.Due.{IsNearest, deadline_at}
+use Rattle.knx_model.specs.Connection.{nearer}
 use Rattle.line_sim.specs.Places.{DevicesNow, AreKept, IsQuietThere, device_at, device_in, device_part, line_part, sending_at}
 use Rattle.line_sim.specs.Parts.{has_part}
 
@@ -38,9 +39,6 @@ pub record IsNearestBefore (places : List (Option DeviceState)) (part : ℕ) (ne
   pub never : nearest ≡ None → (k : ℕ) → k < part → deadline_at (device_in places k) ≡ None
   pub least : (end : ℕ) → nearest ≡ Some end → (k t : ℕ) → k < part → deadline_at (device_in places k) ≡ Some t → end ≤ t
   pub named : (end : ℕ) → nearest ≡ Some end → (k : ℕ) × (k < part) × (deadline_at (device_in places k) ≡ Some end)
-
-pub nearest_first : (places : List (Option DeviceState)) → IsNearestBefore places 0 None
-nearest_first places = record { never = λ e k h. absurd (omega (arith, h)); least = λ end e k t h. cc; named = λ end e. cc }
 
 -- a quiet device has no time
 pub quiet_has_none : (o : Option DeviceState) → IsQuietThere o → deadline_at o ≡ None

@@ -1,13 +1,14 @@
 -- The places of a line: one device more, one that is changed, and what stays so of each.
-use Rattle.std.proofs.Common.{◌≡◌, ◌≢◌, ℕ, zero, suc, ◌+◌, ◌*◌, ◌/◌, ◌%◌, ◌<◌, ◌==◌, Bool, true, false, ◌⊎◌, inl, inr, List, [], ◌∷◌, ◌++◌, Option, Some, None, slice_index_or, length, refl, ap, sym, subst, ◌∙◌, arith, if◌then◌else◌}
+use Rattle.std.proofs.Common.{◌≡◌, ◌≢◌, ℕ, ◌+◌, ◌*◌, ◌/◌, ◌%◌, ◌<◌, ◌==◌, Bool, true, false, ◌⊎◌, inl, inr, List, Option, Some, None, slice_index_or, length, refl, ap, sym, subst, ◌∙◌, arith, if◌then◌else◌}
 use Rattle.std.proofs.Math.ListN.{set, length-set}
 use Rattle.std.proofs.lemmas.List.{get_or-set_same, get_or-set_other, get_or_default}
+use Rattle.std.proofs.lemmas.Bool.{eqb-true, eq-eqb}
 use Rattle.knx_model.specs.DeviceState.{DeviceState}
 use Rattle.device_sim.specs.Sending.{IsQuiet}
 use Rattle.knx_model.specs.ApduReading.{option_map}
 use Rattle.line_model.specs.World.{Devices, changed}
 use Rattle.line_sim.specs.Parts.{has_part}
-use Rattle.line_sim.specs.Places.{DevicesNow, AreDevices, AreKept, IsNamed, IsQuietThere, with_device, device_at, device_in, line_part, device_part}
+use Rattle.line_sim.specs.Places.{AreDevices, AreKept, IsNamed, IsQuietThere, with_device, device_at, device_in, line_part, device_part}
 
 -- ---- tests
 
@@ -22,19 +23,6 @@ choose : {X : Type 0} (t : Bool) (x y z : X) → (t ≡ true → x ≡ z) → (t
 choose true x y z this that = this refl
 choose false x y z this that = that refl
 
-decide : (P : Type 0) (t : Bool) → (t ≡ true → P) → (t ≡ false → P) → P
-decide P true this that = this refl
-decide P false this that = that refl
-
-same_number : (a b : ℕ) → (a == b) ≡ true → a ≡ b
-same_number a b e = grind arith
-
-is_same : (a b : ℕ) → a ≡ b → (a == b) ≡ true
-is_same a b e = grind arith
-
-is_other : (a b : ℕ) → a ≢ b → (a == b) ≡ false
-is_other a b e = grind arith
-
 -- ---- one device more on the line
 
 parts_name : (a b : ℕ) → a / 256 ≡ b / 256 → a % 256 ≡ b % 256 → a ≡ b
@@ -44,17 +32,17 @@ pub placed : (line : ℕ) (places : List (Option DeviceState)) (d : DeviceState)
     → (a : ℕ) → with_device d devices a ≡ device_at (record { line = line; places = set places (device_part d.address.raw) (Some d) }) a
 placed line places d devices long on are a = choose (a == d.address.raw) _ _ _
     (λ e.
-    let at : a ≡ d.address.raw = same_number a d.address.raw e in
+    let at : a ≡ d.address.raw = eqb-true a d.address.raw e in
     let part : device_part d.address.raw < length places = omega (arith, long) in
     sym (choose (line_part a == line) _ _ (Some d)
     (λ h. ap (λ (k : ℕ). slice_index_or (set places (device_part d.address.raw) (Some d)) (device_part k) None) at ∙ get_or-set_same places (device_part d.address.raw) (Some d) None part)
     (λ h. absurd (no_other (ap line_part at ∙ on) h))))
     (λ e. are a ∙ choose (line_part a == line) _ _ _
-    (λ h. sym (choose (line_part a == line) _ _ _ (λ g. get_or-set_other places (device_part d.address.raw) (device_part a) (Some d) None (apart e (same_number (line_part a) line h))) (λ g. absurd (clash h g))))
+    (λ h. sym (choose (line_part a == line) _ _ _ (λ g. get_or-set_other places (device_part d.address.raw) (device_part a) (Some d) None (apart e (eqb-true (line_part a) line h))) (λ g. absurd (clash h g))))
     (λ h. sym (choose (line_part a == line) _ _ _ (λ g. absurd (clash g h)) (λ g. refl))))
   where
     no_other : line_part a ≡ line → (line_part a == line) ≡ false → ⊥
-    no_other h g = let t = is_same (line_part a) line h in cc
+    no_other h g = let t = eq-eqb (line_part a) line h in cc
 
     clash : (line_part a == line) ≡ true → (line_part a == line) ≡ false → ⊥
     clash h g = cc
@@ -63,22 +51,11 @@ placed line places d devices long on are a = choose (a == d.address.raw) _ _ _
     apart e h same = away_from (parts_name a d.address.raw (h ∙ sym on) same) e
       where
         away_from : a ≡ d.address.raw → (a == d.address.raw) ≡ false → ⊥
-        away_from q g = let t = is_same a d.address.raw q in cc
+        away_from q g = let t = eq-eqb a d.address.raw q in cc
 
 pub place_is : (t : Bool) (k part : ℕ) → Some k ≡ (if t then Some part else None) → k ≡ part
 place_is true k part e = cc
 place_is false k part e = cc
-
--- ---- no devices
-
-pub none_more : (xs : List (Option DeviceState)) → ((k : ℕ) → slice_index_or xs k None ≡ None) → (k : ℕ) → slice_index_or (xs ++ None ∷ []) k None ≡ None
-none_more [] none zero = refl
-none_more [] none (suc k) = refl
-none_more (x ∷ xs) none zero = none zero
-none_more (x ∷ xs) none (suc k) = none_more xs (λ i. none (suc i)) k
-
-pub no_devices : (n : DevicesNow) → ((k : ℕ) → slice_index_or n.places k None ≡ None) → AreDevices n (λ address. None)
-no_devices n none a = sym (choose (line_part a == n.line) _ _ None (λ e. none (device_part a)) (λ e. refl))
 
 -- ---- a place is changed: its device keeps its address, and is marked busy unless it is quiet
 
@@ -157,15 +134,15 @@ changes line places part address o d e change devices long placed read is become
     elsewhere : (a == address) ≡ false → (s : Bool) → (line_part a == line) ≡ s → (if s then device_in places (device_part a) else None) ≡ (if s then device_in (set places part (Some e)) (device_part a) else None)
     elsewhere off false at = refl
     elsewhere off true at =
-        let apart : device_part a ≢ part = λ same. no_other off (parts_name a address (same_number (line_part a) line at ∙ sym (same_number (line_part address) line line_is)) (same ∙ part_is)) in
+        let apart : device_part a ≢ part = λ same. no_other off (parts_name a address (eqb-true (line_part a) line at ∙ sym (eqb-true (line_part address) line line_is)) (same ∙ part_is)) in
         sym (get_or-set_other places part (device_part a) (Some e) None apart)
       where
         no_other : (a == address) ≡ false → a ≡ address → ⊥
-        no_other off same = let t = is_same a address same in cc
+        no_other off same = let t = eq-eqb a address same in cc
 
     by_address : (t : Bool) → (a == address) ≡ t → (if t then option_map change (devices a) else devices a) ≡ device_at (record { line = line; places = set places part (Some e) }) a
     by_address true e_is =
-        let same : a ≡ address = same_number a address e_is in
+        let same : a ≡ address = eqb-true a address e_is in
         ap (λ (k : ℕ). option_map change (devices k)) same ∙ ap (option_map change) (are address ∙ stands line places part address o d long placed read is) ∙ ap (λ (x : DeviceState). Some x) (sym becomes) ∙ sym after
         ∙ ap (device_at (record { line = line; places = set places part (Some e) })) (sym same)
     by_address false e_is = are a ∙ elsewhere e_is (line_part a == line) refl

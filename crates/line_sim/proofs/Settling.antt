@@ -90,9 +90,6 @@ settled_exactly reach w up down bus silent of_up of_down of_bus of_silent = (
 pub settled_in_run : (w : World) → IsSettledWithin (To w.tunnel.present) w ↔ Settled Commissions w
 settled_in_run w = ((λ s. record { up = s.up; down = s.down; bus = s.bus; nothing_to_send = s.nothing_to_send }), (λ s. record { up = s.up; down = s.down; bus = s.bus; nothing_to_send = s.nothing_to_send }))
 
-pub settled_serving : (w : World) → IsSettledWithin Every w ↔ Settled Serves w
-settled_serving w = ((λ s. record { up = s.up; down = s.down; bus = s.bus; nothing_to_send = s.nothing_to_send }), (λ s. record { up = s.up; down = s.down; bus = s.bus; nothing_to_send = s.nothing_to_send }))
-
 pub both_ways : {P Q R : Type 0} → P ↔ Q → Q ↔ R → P ↔ R
 both_ways f g = ((λ p. g.0 (f.0 p)), (λ r. f.1 (g.1 r)))
 

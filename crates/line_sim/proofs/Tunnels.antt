@@ -138,10 +138,6 @@ pub answered : (n m : TunnelNow) (octets : List ℕ) (to : ℕ) (t : Tunnel) (o 
 answered n m octets to t None is e post = cc
 answered n m octets to t (Some frame) is e post = let same : octets ≡ Written frame = cc in post t frame is same
 
-pub unanswered : (n : TunnelNow) (to : ℕ) (t : Tunnel) (o : Option IpFrame) → IsTunnel n t → None ≡ option_map Written o → IsTunnel n (sends_down_if t to o)
-unanswered n to t None is e = is
-unanswered n to t (Some frame) is e = cc
-
 -- ---- a refusal
 
 pub refused : (m : TunnelNow) (from status : ℕ) (t : Tunnel) (o : Option Sent) → Some from ≡ option_map (λ (s : Sent). s.endpoint) o

@@ -1,5 +1,5 @@
 -- The nearest of the times at which the waits of a line have passed (ISO/IEC 14543-3-2, transport layer, and ISO 22510, Tunnelling).
-use Rattle.std.specs.Prelude.{◌≡◌, ℕ, ◌≤◌, min, [], Option, Some, None}
+use Rattle.std.specs.Prelude.{◌≡◌, ℕ, ◌≤◌, [], Option, Some, None}
 use Rattle.knx_model.specs.DeviceConnection.{device_deadline}
 use Rattle.knx_model.specs.DeviceState.{DeviceState}
 use Rattle.line_model.specs.Fresh.{HasNothingToSend}
@@ -19,12 +19,6 @@ pub record IsNearest (times : ℕ → Option ℕ) (nearest : Option ℕ) : Type 
   pub never : nearest ≡ None → (a : ℕ) → times a ≡ None
   pub least : (end : ℕ) → nearest ≡ Some end → (a t : ℕ) → times a ≡ Some t → end ≤ t
   pub named : (end : ℕ) → nearest ≡ Some end → (a : ℕ) × (times a ≡ Some end)
-
--- the nearer of two times
-abbrev pub nearer : Option ℕ → Option ℕ → Option ℕ
-nearer None other = other
-nearer (Some one) None = Some one
-nearer (Some one) (Some other) = Some (min one other)
 
 -- nothing but time can go on, where datagrams down arrive so
 pub record IsSettledWithin (reach : Reach) (w : World) : Type 0 where

@@ -12,7 +12,8 @@ ghost use Rattle.line_model.specs.World.{on_bus};
 ghost use Rattle.network_sim.specs.Window.{capped};
 ghost use Rattle.line_sim.specs.Gateways.{IsGateway, CanCount, gateway_now, and_one, is_another, due_of, is_left, makes_one, dropped_if, joined, put_letter, put_gateway, told_letter, farewell_letter};
 
-use crate::frames::{asked_for, octets_of, on_bus};
+use crate::frames::{asked_for, on_bus};
+use cemi_frames::octets_of;
 use knx_model::{Datagram, IndAddr, IpFrame, Ldata, NoMemory};
 use line_model::GatewayExpired;
 use std::alloc::Global;

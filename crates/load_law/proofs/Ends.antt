@@ -55,12 +55,6 @@ then_done IsJob plan w l k legal f h = record { legal = legal_more w l k h.legal
 abbrev answers_of : DeviceState → NonVolatile → List ℕ → Option (List ℕ)
 answers_of d = answer_in d.frames
 
--- the operation has an answer exactly where one is wanted
-no_more : (apdu : List ℕ) (expect : Expect) → Suits apdu expect None → expect ≡ AckOnly
-no_more apdu AckOnly s = refl
-no_more apdu (Is wanted) s = absurd s
-no_more apdu Note s = absurd s
-
 module _ (IsJob : Plan → Type 0) (plan : Plan) (job : IsJob plan) (me : IndAddr) (d : DeviceState) (t : ℕ) (can : IsSendable plan) where
   abbrev Up : NonVolatile → List (Option Value) → Option Ldata → Option Ldata → ℕ → ℕ → Texts → Texts → World
   Up = calm me d t

@@ -15,7 +15,7 @@ use Rattle.download_plan.proofs.Plans.{plan_good, load_sendable, plan_answers, c
 use Rattle.load_law.specs.Download.{Follows, IsDone, IsRight, IsGood, AllGood, IsAmong, IsOnly, IsLoad, IsLoadOrCheck, AsksNothing}
 use Rattle.load_law.specs.Undisturbed.{undisturbed}
 use Rattle.load_law.proofs.Walked.{IsGoodFor, AllGoodFor}
-use Rattle.load_law.proofs.Capacities.{kept_capacities}
+use Rattle.knx_model.proofs.Capacities.{kept_capacities}
 use Rattle.load_law.proofs.Follows.{IsRightFor, each_moment}
 use Rattle.load_law.proofs.Quiet.{done_stays}
 use Rattle.load_law.proofs.Short.{load_fits}

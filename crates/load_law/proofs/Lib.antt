@@ -6,7 +6,6 @@ pub mod Quiet
 pub mod Short
 pub mod Calm
 pub mod Ends
-pub mod Capacities
 pub mod Jobs
 pub mod Always
 pub mod Checked

@@ -1,12 +1,10 @@
 -- A datagram of more than 300 octets is a connect response with an error, or no frame. So it reads as what is kept of it.
-use Rattle.std.proofs.Common.{◌≡◌, ℕ, ◌<◌, ◌≤◌, Bool, true, false, ◌&&◌, ◌==◌, List, [], length, drop, refl, sym, arith, Option, Some, None, if◌then◌else◌, length-drop}
-use Rattle.std.specs.Prelude.{nat_le, slice_index, ◌↔◌, Result, Ok, Err, IfOk}
-use Rattle.std.specs.Result.{result_ok}
+use Rattle.std.proofs.Common.{◌≡◌, ℕ, ◌<◌, ◌≤◌, Bool, true, false, ◌&&◌, ◌==◌, List, [], length, drop, refl, arith, Option, Some, None, if◌then◌else◌, length-drop}
+use Rattle.std.specs.Prelude.{nat_le, slice_index}
 use Rattle.knx_model.specs.declared.frames.ip.IpFrame.{IpFrame}
 use Rattle.knx_model.specs.declared.frames.ip.IpFrame.TheVariants.{ConnectRequest, ConnectResponse, StateRequest, StateResponse, DisconnectRequest, DisconnectResponse, TunnellingRequest, TunnellingAck}
-use Rattle.knx_model.specs.declared.frames.ip.IpRefused.{IpRefused}
 use Rattle.knx_model.specs.ApduReading.{where_it}
-use Rattle.knx_model.specs.KnxNetIp.{Reads, Written, IsInRange}
+use Rattle.knx_model.specs.KnxNetIp.{Written, IsInRange}
 use Rattle.knx_model.specs.Octets.{word_at}
 use Rattle.line_model.specs.Reading.{has_header, asks_tunnel, has_tunnel, is_of_channel, has_request, has_acknowledgement, connect_response_in, body_in, datagram_in}
 use Rattle.network_sim.specs.Readable.{readable, shortened}
@@ -140,15 +138,3 @@ length_written (TunnellingAck channel number status) p = omega arith
 
 pub whole_written : (frame : IpFrame) → IsInRange frame → readable (Written frame) ≡ Written frame
 whole_written frame p = whole (Written frame) (length_written frame p)
-
--- ---- what is decoded
-
-none_read : (octets : List ℕ) (why : IpRefused) (o : Option IpFrame) → datagram_in octets ≡ o → ((frame : IpFrame) → (datagram_in octets ≡ Some frame) ↔ Reads octets frame)
-    → ((frame : IpFrame) → Reads octets frame → ◌≡◌ {A = Result IpFrame IpRefused} (Err why) (Ok frame)) → None ≡ datagram_in octets
-none_read octets why None e law only = sym e
-none_read octets why (Some frame) e law only = let both = only frame ((law frame).0 e) in cc
-
-pub decoded : (octets : List ℕ) (r : Result IpFrame IpRefused) → ((frame : IpFrame) → (datagram_in octets ≡ Some frame) ↔ Reads octets frame)
-    → IfOk r (Reads octets) → ((frame : IpFrame) → Reads octets frame → r ≡ Ok frame) → result_ok r ≡ datagram_in octets
-decoded octets (Ok frame) law read only = sym ((law frame).1 read)
-decoded octets (Err why) law read only = none_read octets why (datagram_in octets) refl law only

@@ -1,52 +1,31 @@
 -- When all that was sent is over: where none goes first.
-use Rattle.std.proofs.Common.{◌≡◌, ℕ, zero, suc, ◌+◌, ◌<◌, Bool, true, false, not, ◌&&◌, ◌==◌, List, [], ◌∷◌, refl, sym, subst, ◌∙◌, inl, inr, arith, Option, Some, None}
+use Rattle.std.proofs.Common.{◌≡◌, ℕ, zero, suc, ◌+◌, Bool, true, false, not, ◌&&◌, ◌==◌, List, [], ◌∷◌, refl, sym, subst, ◌∙◌, inl, inr, arith, Option, Some, None}
 use Rattle.std.specs.Prelude.{nat_lt, slice_get, is_some}
-use Rattle.std.proofs.lemmas.Bool.{cases_eq}
+use Rattle.std.proofs.lemmas.Bool.{cases_eq, and_parts, and_from, not_from_false}
 use Rattle.line_model.specs.Deliveries.{is_under_way, or_here, oldest}
 use Rattle.line_model.specs.Fresh.{IsOver}
 use Rattle.line_model.specs.Network.{Sent, IsUnderWay, OfSent}
+use Rattle.line_model.proofs.UnderWay.{under_way}
 use Rattle.network_sim.specs.declared.place.Reach.{Reach}
 use Rattle.network_sim.specs.declared.place.Reach.TheVariants.{Every, To}
 use Rattle.network_sim.specs.Arriving.{passes, MayCome, AllOver}
 use Rattle.network_sim.proofs.Deliveries.{goes, none_oldest}
 
-both : (a b : Bool) → (a && b) ≡ true → (a ≡ true) × (b ≡ true)
-both true b e = (refl, e)
-both false b e = cc
-
-together : (a b : Bool) → a ≡ true → b ≡ true → (a && b) ≡ true
-together true b p q = q
-together false b p q = cc
-
-not_lost : (b : Bool) → not b ≡ true → b ≡ false
-not_lost true e = cc
-not_lost false e = refl
-
-is_not_lost : (b : Bool) → b ≡ false → not b ≡ true
-is_not_lost b e = rw e refl
-
 -- ---- the test and what it tests
-
-under_is : (made age : ℕ) (s : Sent) → is_under_way made age s ≡ true → IsUnderWay made age s
-under_is made age s e =
-    let a = both _ _ e in let b = both _ _ a.0 in let c = both _ _ b.0 in
-    let kept : s.lost ≡ false = not_lost s.lost c.0 in let twice : s.delivered < 2 = grind (arith, c.1) in
-    let young : age < 128 = grind (arith, b.1) in let soon : made < s.made + 255 = grind (arith, a.1) in
-    record { kept = kept; twice = twice; young = young; soon = soon }
 
 is_under : (made age : ℕ) (s : Sent) → IsUnderWay made age s → is_under_way made age s ≡ true
 is_under made age s u =
     let twice : nat_lt s.delivered 2 ≡ true = grind (arith, u.twice) in let young : nat_lt age 128 ≡ true = grind (arith, u.young) in
     let soon : nat_lt made (s.made + 255) ≡ true = grind (arith, u.soon) in
-    together _ _ (together _ _ (together _ _ (is_not_lost s.lost u.kept) twice) young) soon
+    and_from _ _ (and_from _ _ (and_from _ _ (not_from_false s.lost u.kept) twice) young) soon
 
 passes_is : (reach : Reach) (made : ℕ) (sent : List Sent) (age : ℕ) (s : Sent) → slice_get sent age ≡ Some s → passes reach made age s ≡ true → MayCome reach made sent age
-passes_is Every made sent age s there e = let Q : Option Sent → Type 0 = OfSent (IsUnderWay made age) in subst Q (sym there) (under_is made age s e)
+passes_is Every made sent age s there e = let Q : Option Sent → Type 0 = OfSent (IsUnderWay made age) in subst Q (sym there) (under_way made age s e)
 passes_is (To endpoint) made sent age s there e =
-    let p = both _ _ e in
+    let p = and_parts _ _ e in
     let here : s.endpoint ≡ endpoint = grind (arith, p.1) in
     let Q : Option Sent → Type 0 = OfSent (λ t. IsUnderWay made age t × (t.endpoint ≡ endpoint)) in
-    subst Q (sym there) (under_is made age s p.0, here)
+    subst Q (sym there) (under_way made age s p.0, here)
 
 is_passed : (reach : Reach) (made : ℕ) (sent : List Sent) (age : ℕ) (s : Sent) → slice_get sent age ≡ Some s → MayCome reach made sent age → passes reach made age s ≡ true
 is_passed Every made sent age s there may = let Q : Option Sent → Type 0 = OfSent (IsUnderWay made age) in is_under made age s (subst Q there may)
@@ -54,11 +33,11 @@ is_passed (To endpoint) made sent age s there may =
     let Q : Option Sent → Type 0 = OfSent (λ t. IsUnderWay made age t × (t.endpoint ≡ endpoint)) in
     let p : IsUnderWay made age s × (s.endpoint ≡ endpoint) = subst Q there may in
     let here : (s.endpoint == endpoint) ≡ true = grind (arith, p.1) in
-    together _ _ (is_under made age s p.0) here
+    and_from _ _ (is_under made age s p.0) here
 
 passed_kept : (reach : Reach) (made age : ℕ) (s : Sent) → passes reach made age s ≡ true → s.lost ≡ false
-passed_kept Every made age s e = (under_is made age s e).kept
-passed_kept (To endpoint) made age s e = (under_is made age s (both _ _ e).0).kept
+passed_kept Every made age s e = (under_way made age s e).kept
+passed_kept (To endpoint) made age s e = (under_way made age s (and_parts _ _ e).0).kept
 
 -- ---- none goes first
 
@@ -105,7 +84,7 @@ not_over reach made sent age s there passed never (inr (inr may)) = may (passes_
 fails_over : (reach : Reach) (made : ℕ) (sent : List Sent) (age : ℕ) (s : Sent) (b : Bool) → goes (passes reach made) age s ≡ b → slice_get sent age ≡ Some s → IsOver (MayCome reach made sent age) s → b ≡ false
 fails_over reach made sent age s false e there over = refl
 fails_over reach made sent age s true e there over =
-    let p = both (passes reach made age s) (s.delivered == 0) e in
+    let p = and_parts (passes reach made age s) (s.delivered == 0) e in
     let never : s.delivered ≡ 0 = grind (arith, p.1) in
     absurd (not_over reach made sent age s there p.0 never over)
 

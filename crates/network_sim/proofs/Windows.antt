@@ -68,9 +68,6 @@ set_delivered = set_there once_more
 pub set_lost : (kept : List Sent) (age : ℕ) (s : Sent) → slice_get kept age ≡ Some s → slice_set kept age (gone s) ≡ changed_at age gone kept
 set_lost = set_there gone
 
-pub none_delivered : (kept : List Sent) (age : ℕ) → slice_get kept age ≡ None → changed_at age once_more kept ≡ kept
-none_delivered = none_there once_more
-
 pub none_lost : (kept : List Sent) (age : ℕ) → slice_get kept age ≡ None → changed_at age gone kept ≡ kept
 none_lost = none_there gone
 

@@ -3,12 +3,10 @@
 ghost use Rattle.std.specs.Prelude.{◌≡◌, None};
 ghost use Rattle.knx_model.specs.declared.frames.ip.IpFrame.{IpFrame as Frame};
 ghost use Rattle.knx_model.specs.KnxNetIp.{Written};
-ghost use Rattle.line_model.specs.Reading.{datagram_in};
 ghost use Rattle.network_sim.specs.Readable.{readable, shortened};
 
 use knx_model::{Datagram, IpFrame};
-use knxnetip_frames::decode;
-use line_model::frames_are_read;
+use line_frames::datagram_in;
 
 /// Octets that read as a datagram does: up to 300 all of them.
 pub fn readable(octets: &[u8]) -> Datagram
@@ -17,16 +15,8 @@ pub fn readable(octets: &[u8]) -> Datagram
     if octets.len() <= Datagram::CAPACITY {
         Datagram::from_slice(octets)
     } else {
-        shortened(frame_of(octets))
+        shortened(datagram_in(octets))
     }
-}
-
-/// The frame that a datagram is, if it is one.
-fn frame_of(octets: &[u8]) -> Option<IpFrame>
-    ensures { result ≡ datagram_in octets.now }
-{
-    frames_are_read();
-    decode(octets).ok()
 }
 
 /// The frame of a datagram with more octets: only a connect response with an error may have so many.

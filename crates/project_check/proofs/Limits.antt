@@ -60,7 +60,7 @@ few_devices catalogue ss e = few is_device_line 255 ss (λ i d lt is. device_bel
 
 -- ---- links
 
-link_below : (d : ℕ) (before : List Statement) (what : What) → links_device d what ≡ true → too_many_links before what ≡ false → count_lines (links_device d) before < 2047
+pub link_below : (d : ℕ) (before : List Statement) (what : What) → links_device d what ≡ true → too_many_links before what ≡ false → count_lines (links_device d) before < 2047
 link_below d before (Link device object group) is few =
     let same : device.raw ≡ d = eqb-true device.raw d is in
     leb-false 2047 (count_lines (links_device d) before) (subst (λ (r : ℕ). leb 2047 (count_lines (links_device r) before) ≡ false) same few)

@@ -2,7 +2,7 @@
 use Rattle.std.proofs.Common.{◌≡◌, ℕ, ◌+◌, ◌-◌, ◌<◌, ◌≤◌, true, false, cond, eqb, leb, ◌&&◌, List, length, get_or, take, map, Option, Some, None, refl, sym, ap, ◌∙◌, subst, inl, inr, arith}
 use Rattle.std.specs.Prelude.{min, pred, IsPermutation, Contains, IfSome}
 use Rattle.std.specs.List.{IsDistinct}
-use Rattle.std.proofs.lemmas.Bool.{eqb-true, leb-true, leb-false, cases_Bool, cases_eq, and_parts, false≢true}
+use Rattle.std.proofs.lemmas.Bool.{eqb-true, leb-true, leb-false, cases_Bool, cases_eq, and_parts, false≢true, eq-eqb}
 use Rattle.std.proofs.lemmas.Bool.Decides.{nat_tests}
 use Rattle.std.proofs.lemmas.List.{get_or-take, get_or-map, get_or_default, length-map, length-take-le}
 use Rattle.std.proofs.lemmas.List.Elements.{Contains-get_or}
@@ -19,7 +19,7 @@ use Rattle.knx_model.specs.Rules.{links_to, duplicate_link}
 use Rattle.project_check.specs.Links.{link_in, link_eq, lesser, link_lines, IsRepeat, IsLeastRepeat, IsUpTo, is_at, IsFirstRepeat}
 use Rattle.project_check.specs.declared.links.Link.{Link}
 use Rattle.project_check.specs.declared.links.LinkLine.{LinkLine}
-use Rattle.project_check.proofs.Ordered.{eqb_same, link, link_eq_same, link_eq_other, IsUpToLine, Ascend, between, places_rise}
+use Rattle.project_check.proofs.Ordered.{link, link_eq_same, link_eq_other, IsUpToLine, Ascend, between, places_rise}
 use Rattle.project_check.proofs.Placed.{placed, place_of, ArePlaced, all_placed}
 
 flip : (a b : ℕ) → eqb a b ≡ eqb b a
@@ -55,7 +55,7 @@ repeated_link before (Param d name value) e = absurd (false≢true e)
 links_same : (device : IndAddr) (object : ℕ) (group : GroupAddr) (what : What) → link_in what ≡ Some (link device.raw object group.raw) → links_to device.raw object group.raw what ≡ true
 links_same device object group (LinkStated d n g) e =
     let same = same_Some (link d.raw n g.raw) (link device.raw object group.raw) e in
-    rw (eqb_same d.raw device.raw (ap (λ (l : Link). l.device) same), eqb_same n object (ap (λ (l : Link). l.object) same), eqb_same g.raw group.raw (ap (λ (l : Link). l.group) same)) refl
+    rw (eq-eqb d.raw device.raw (ap (λ (l : Link). l.device) same), eq-eqb n object (ap (λ (l : Link). l.object) same), eq-eqb g.raw group.raw (ap (λ (l : Link). l.group) same)) refl
 links_same device object group (Title name) e = absurd (cc)
 links_same device object group (Group g name) e = absurd (cc)
 links_same device object group (Device d model) e = absurd (cc)
@@ -164,7 +164,7 @@ pair_at_place ys least i d e from lt to =
 
 up_to_itself : (first : ℕ) (least : Option ℕ) (k : ℕ) → least ≡ Some first → IsUpTo least k → first ≤ k → is_at least k ≡ true
 up_to_itself first None k e up le = absurd (cc)
-up_to_itself first (Some f) k e up le = let same : f ≡ first = same_Some f first e in eqb_same f k (omega (arith, same))
+up_to_itself first (Some f) k e up le = let same : f ≡ first = same_Some f first e in eq-eqb f k (omega (arith, same))
 
 at_found : (least : Option ℕ) (k : ℕ) → is_at least k ≡ true → least ≡ Some k
 at_found None k e = absurd (false≢true e)

@@ -2,17 +2,13 @@
 use Rattle.std.proofs.Common.{◌≡◌, ℕ, ◌<◌, ◌≤◌, true, false, eqb, ltb, ◌&&◌, List, Ordering, Less, Equal, Greater, length, get_or, refl, sym, ap, ◌∙◌, inl, inr, arith}
 use Rattle.std.specs.List.Sorted.{IsSorted}
 use Rattle.std.specs.Ordering.{is_lt, nat_cmp, ordering_then}
-use Rattle.std.proofs.lemmas.Bool.{eqb-true, ltb-false, cases_Bool, and_parts, false≢true}
-use Rattle.std.proofs.lemmas.Bool.Decides.{nat_tests}
+use Rattle.std.proofs.lemmas.Bool.{eqb-true, ltb-false, cases_Bool, and_parts, false≢true, eq-eqb}
 use Rattle.std.specs.Cmp.{IsTotalOrder}
 use Rattle.std.proofs.lemmas.Cmp.{nat_cmp_total, on_total, then_total}
 use Rattle.std.proofs.lemmas.List.Sorted.{ranks_by, sorted_far}
 use Rattle.project_check.specs.Links.{link_eq}
 use Rattle.project_check.specs.declared.links.Link.{Link}
 use Rattle.project_check.specs.declared.links.LinkLine.{LinkLine}
-
-pub eqb_same : (a b : ℕ) → a ≡ b → eqb a b ≡ true
-eqb_same a b e = grind (arith, nat_tests, e)
 
 abbrev pub link : ℕ → ℕ → ℕ → Link
 link device object group = record { device = device; object = object; group = group }
@@ -27,7 +23,7 @@ link_eq_same a b e =
     same_link a b (eqb-true a.device b.device parts.0) (eqb-true a.object b.object more.0) (eqb-true a.group b.group more.1)
 
 pub link_eq_other : (a b : Link) → link_eq a b ≡ false → a ≡ b → ⊥
-link_eq_other a b e same = false≢true (sym e ∙ rw (eqb_same a.device b.device (ap (λ (l : Link). l.device) same), eqb_same a.object b.object (ap (λ (l : Link). l.object) same), eqb_same a.group b.group (ap (λ (l : Link). l.group) same)) refl)
+link_eq_other a b e same = false≢true (sym e ∙ rw (eq-eqb a.device b.device (ap (λ (l : Link). l.device) same), eq-eqb a.object b.object (ap (λ (l : Link). l.object) same), eq-eqb a.group b.group (ap (λ (l : Link). l.group) same)) refl)
 
 -- ---- lines in ascending order
 
@@ -61,7 +57,7 @@ then_next Greater b c = refl
 first_part : (a b : ℕ) (rest : Ordering) → is_lt (ordering_then (nat_cmp b a) rest) ≡ false → (a ≤ b) × (a ≡ b → is_lt rest ≡ false)
 first_part a b rest h = elim (cases_Bool (ltb b a)) as (λ _. (a ≤ b) × (a ≡ b → is_lt rest ≡ false)) [
   | inl lt ↦ absurd (false≢true (sym h ∙ rw lt refl))
-  | inr ge ↦ (ltb-false b a ge, λ same. rw (ge, eqb_same b a (sym same)) at h)
+  | inr ge ↦ (ltb-false b a ge, λ same. rw (ge, eq-eqb b a (sym same)) at h)
 ]
 
 last_part : (a b : ℕ) → is_lt (nat_cmp b a) ≡ false → a ≤ b

@@ -3,6 +3,7 @@ use Rattle.std.proofs.Common.{◌≡◌, ◌≢◌, ℕ, Bool, true, false, ◌|
 use Rattle.std.specs.Prelude.{◌==◌}
 use native.Mathlib.Omega.{arith}
 use Rattle.std.proofs.lemmas.Bool.Decides.{eqb_tells}
+use Rattle.std.proofs.lemmas.Bool.{eqb-true, or_parts, or_from, or_left, or_right}
 use Rattle.line_model.specs.declared.group.GroupTurn.{GroupTurn}
 use Rattle.line_model.specs.declared.log.LogEntry.{LogEntry}
 use Rattle.line_model.specs.declared.log.LogWhat.{LogWhat}
@@ -12,25 +13,8 @@ use Rattle.report_text.specs.LineStatus.{is_failure, has_failure, is_done, tells
 
 -- ---- tests
 
-same : (j k : ℕ) → (j == k) ≡ true → j ≡ k
-same j k e = grind (arith, e, eqb_tells j k)
-
 itself : (k : ℕ) → (k == k) ≡ true
 itself k = grind (arith, eqb_tells k k)
-
-pub neither : (a b : Bool) → (a || b) ≡ false → (a ≡ false) × (b ≡ false)
-neither true b e = absurd (let z : true ≡ false = e in cc)
-neither false b e = (refl, e)
-
-both_not : (a b : Bool) → a ≡ false → b ≡ false → (a || b) ≡ false
-both_not a b e f = rw e f
-
-one : (a b : Bool) → a ≡ true → (a || b) ≡ true
-one a b e = rw e refl
-
-other : (a b : Bool) → b ≡ true → (a || b) ≡ true
-other true b e = refl
-other false b e = e
 
 -- ---- how far a job is
 
@@ -115,20 +99,20 @@ fails (Lost turn) f = absurd (let z : false ≡ true = f in cc)
 
 over_entry : (k : ℕ) (e : LogEntry) (l : List LogEntry) → IsTo k e → is_failure e.what ≡ false → (state_of k l ≡ Over → tells_done k l ≡ true) → state_of k (e ∷ l) ≡ Over → tells_done k (e ∷ l) ≡ true
 over_entry k e l (TakesIt t) fine older o = absurd (let z : Held e.worker e.at ≡ Over = sym (after_taking k e (state_of k l) t) ∙ o in cc)
-over_entry k e l (EndsIt t d) fine older o = one (is_done k e.what) (tells_done k l) (end_is_done k e.what d fine)
-over_entry k e l (Else t d) fine older o = other (is_done k e.what) (tells_done k l) (older (sym (after_other k e (state_of k l) t d) ∙ o))
+over_entry k e l (EndsIt t d) fine older o = or_left (is_done k e.what) (tells_done k l) (end_is_done k e.what d fine)
+over_entry k e l (Else t d) fine older o = or_right (is_done k e.what) (tells_done k l) (older (sym (after_other k e (state_of k l) t d) ∙ o))
 
 pub done_where_over : (k : ℕ) (l : List LogEntry) → has_failure l ≡ false → state_of k l ≡ Over → tells_done k l ≡ true
 done_where_over k [] fine o = absurd (let z : Untaken ≡ Over = o in cc)
 done_where_over k (e ∷ l) fine o =
-    let both : (is_failure e.what ≡ false) × (has_failure l ≡ false) = neither (is_failure e.what) (has_failure l) fine in
+    let both : (is_failure e.what ≡ false) × (has_failure l ≡ false) = or_parts (is_failure e.what) (has_failure l) fine in
     over_entry k e l (is_to k e) both.0 (done_where_over k l both.1) o
 
 -- ---- in a log of these jobs
 
 module _ (jobs : List Job) (turns : List GroupTurn) (count : ℕ) where
   pub taking : (k worker : ℕ) (l : List LogEntry) (what : LogWhat) → takes_it k what ≡ true → MayFollow jobs turns worker l what → (job_of jobs k ≢ None) × (state_of k l ≡ Untaken)
-  taking k worker l (Took j) t h = (subst (λ n. job_of jobs n ≢ None) (same j k t) h.0, subst (λ n. state_of n l ≡ Untaken) (same j k t) h.1)
+  taking k worker l (Took j) t h = (subst (λ n. job_of jobs n ≢ None) (eqb-true j k t) h.0, subst (λ n. state_of n l ≡ Untaken) (eqb-true j k t) h.1)
   taking k worker l (Done j) t h = absurd (let z : false ≡ true = t in cc)
   taking k worker l (Failed j signs) t h = absurd (let z : false ≡ true = t in cc)
   taking k worker l (Refused j op got expected) t h = absurd (let z : false ≡ true = t in cc)
@@ -137,17 +121,17 @@ module _ (jobs : List Job) (turns : List GroupTurn) (count : ℕ) where
 
   pub ending : (k worker : ℕ) (l : List LogEntry) (what : LogWhat) → ends_it k what ≡ true → MayFollow jobs turns worker l what → EndsHeld worker (state_of k l)
   ending k worker l (Took j) d h = absurd (let z : false ≡ true = d in cc)
-  ending k worker l (Done j) d h = subst (λ n. EndsHeld worker (state_of n l)) (same j k d) h
-  ending k worker l (Failed j signs) d h = subst (λ n. EndsHeld worker (state_of n l)) (same j k d) h
-  ending k worker l (Refused j op got expected) d h = subst (λ n. EndsHeld worker (state_of n l)) (same j k d) h
+  ending k worker l (Done j) d h = subst (λ n. EndsHeld worker (state_of n l)) (eqb-true j k d) h
+  ending k worker l (Failed j signs) d h = subst (λ n. EndsHeld worker (state_of n l)) (eqb-true j k d) h
+  ending k worker l (Refused j op got expected) d h = subst (λ n. EndsHeld worker (state_of n l)) (eqb-true j k d) h
   ending k worker l (Sent turn) d h = absurd (let z : false ≡ true = d in cc)
   ending k worker l (Lost turn) d h = absurd (let z : false ≡ true = d in cc)
 
   -- of a job that isn't over no done is told
   undone_entry : (k : ℕ) (e : LogEntry) (l : List LogEntry) → MayFollow jobs turns e.worker l e.what → IsTo k e → (is_over (state_of k l) ≡ false → tells_done k l ≡ false) → is_over (state_of k (e ∷ l)) ≡ false → tells_done k (e ∷ l) ≡ false
-  undone_entry k e l h (TakesIt t) older o = both_not (is_done k e.what) (tells_done k l) (taking_isnt_done k e.what t) (older (ap is_over (taking k e.worker l e.what t h).1))
+  undone_entry k e l h (TakesIt t) older o = or_from (is_done k e.what) (tells_done k l) (taking_isnt_done k e.what t) (older (ap is_over (taking k e.worker l e.what t h).1))
   undone_entry k e l h (EndsIt t d) older o = absurd (let z : true ≡ false = sym (ap is_over (after_end k e (state_of k l) t d)) ∙ o in cc)
-  undone_entry k e l h (Else t d) older o = both_not (is_done k e.what) (tells_done k l) (no_end_isnt_done k e.what d) (older (sym (ap is_over (after_other k e (state_of k l) t d)) ∙ o))
+  undone_entry k e l h (Else t d) older o = or_from (is_done k e.what) (tells_done k l) (no_end_isnt_done k e.what d) (older (sym (ap is_over (after_other k e (state_of k l) t d)) ∙ o))
 
   undone : (k : ℕ) (l : List LogEntry) → IsLog jobs turns count l → is_over (state_of k l) ≡ false → tells_done k l ≡ false
   undone k [] h o = refl
@@ -175,7 +159,7 @@ module _ (jobs : List Job) (turns : List GroupTurn) (count : ℕ) where
   stays k e l h u (Else t d) = record {
     there = u.there;
     over = ap is_over (after_other k e (state_of k l) t d) ∙ u.over;
-    untold = both_not (is_done k e.what) (tells_done k l) (no_end_isnt_done k e.what d) u.untold;
+    untold = or_from (is_done k e.what) (tells_done k l) (no_end_isnt_done k e.what d) u.untold;
   }
 
   failure_now : (e : LogEntry) (l : List LogEntry) → MayFollow jobs turns e.worker l e.what → IsLog jobs turns count l → (k : ℕ) × Fails k e.what → (k : ℕ) × Undone k (e ∷ l)
@@ -185,7 +169,7 @@ module _ (jobs : List Job) (turns : List GroupTurn) (count : ℕ) where
         record {
           there = there k l log was.0;
           over = ap is_over (after_end k e (state_of k l) it.taken_not it.ends);
-          untold = both_not (is_done k e.what) (tells_done k l) it.done_not (undone k l log was.1);
+          untold = or_from (is_done k e.what) (tells_done k l) it.done_not (undone k l log was.1);
         },
       )
 

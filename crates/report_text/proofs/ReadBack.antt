@@ -4,6 +4,7 @@ use Rattle.std.specs.Fmt.{decimal}
 use Rattle.std.specs.List.{list_any, enumerate_from, range_with_len}
 use Rattle.std.proofs.lemmas.Fmt.{decimal_injective}
 use Rattle.std.proofs.lemmas.List.Concat.{flat_map-append}
+use Rattle.std.proofs.lemmas.Bool.{or_parts}
 use Rattle.line_model.specs.declared.fault.HubFault.{HubFault}
 use Rattle.line_model.specs.declared.fault.HubFault.TheVariants.{NoMemory, LinkFailed, GatewayRefused, Flooded, WrongLine}
 use Rattle.line_model.specs.declared.log.LogEntry.{LogEntry}
@@ -11,7 +12,6 @@ use Rattle.line_model.specs.declared.log.Report.{Report}
 use Rattle.line_model.specs.Printed.{is_told_alone}
 use Rattle.report_text.specs.ReadBack.{Told, NumbersFit, FitsEntry, FitsHeard, FitsDevice, Fits, text_of, untimed_entry, TellAlike, FaultIsTold, WholeIsTold, LogIsTold}
 use Rattle.report_text.proofs.Cuts.{Words}
-use Rattle.report_text.proofs.Ends.{neither}
 use Rattle.report_text.proofs.OneEnd.{EndsInLine, end_in_line, all_both}
 use Rattle.report_text.proofs.ReadEnds.{end_same, sent_same}
 use Rattle.report_text.proofs.ReadLines.{fault_tails, fault_same, jobs_same, ends_same, turns_same, heard_same, device_same, entry_same}
@@ -31,11 +31,11 @@ faults = codes "no" ∷ codes "link" ∷ codes "gateway" ∷ codes "flooded" ∷
 
 fault_none : (p : List ℕ → Bool) → list_any p faults ≡ false → (fault : Option HubFault) → those_of p (fault_sections fault) ≡ []
 fault_none p e fault =
-    let a = neither (p (codes "no")) (list_any p (codes "link" ∷ codes "gateway" ∷ codes "flooded" ∷ codes "wrong" ∷ [])) e in
-    let b = neither (p (codes "link")) (list_any p (codes "gateway" ∷ codes "flooded" ∷ codes "wrong" ∷ [])) a.1 in
-    let c = neither (p (codes "gateway")) (list_any p (codes "flooded" ∷ codes "wrong" ∷ [])) b.1 in
-    let d = neither (p (codes "flooded")) (list_any p (codes "wrong" ∷ [])) c.1 in
-    let f = neither (p (codes "wrong")) false d.1 in
+    let a = or_parts (p (codes "no")) (list_any p (codes "link" ∷ codes "gateway" ∷ codes "flooded" ∷ codes "wrong" ∷ [])) e in
+    let b = or_parts (p (codes "link")) (list_any p (codes "gateway" ∷ codes "flooded" ∷ codes "wrong" ∷ [])) a.1 in
+    let c = or_parts (p (codes "gateway")) (list_any p (codes "flooded" ∷ codes "wrong" ∷ [])) b.1 in
+    let d = or_parts (p (codes "flooded")) (list_any p (codes "wrong" ∷ [])) c.1 in
+    let f = or_parts (p (codes "wrong")) false d.1 in
     by_fault a.0 b.0 c.0 d.0 f.0 fault
   where
     by_fault : p (codes "no") ≡ false → p (codes "link") ≡ false → p (codes "gateway") ≡ false → p (codes "flooded") ≡ false → p (codes "wrong") ≡ false → (why : Option HubFault) → those_of p (fault_sections why) ≡ []

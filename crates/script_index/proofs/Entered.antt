@@ -5,7 +5,7 @@ use Rattle.std.specs.declared.cmp.Ordering.{Ordering}
 use Rattle.std.specs.BTreeMap.{is_at}
 use Rattle.std.proofs.lemmas.Bool.{cases_order, eq-eqb, ne_eqb, lt-ltb, le-ltb}
 use Rattle.knx_model.specs.declared.script.ScriptLine.{ScriptLine}
-use Rattle.line_model.specs.Lines.{script_of, or_later, refuses, status_at}
+use Rattle.line_model.specs.Lines.{script_of, or_later}
 use Rattle.script_index.specs.declared.place.Place.{Place}
 use Rattle.script_index.specs.Places.{placed, value_in, value_at, same_place}
 use Rattle.script_index.specs.Stands.{place_cmp}
@@ -46,11 +46,3 @@ place_more ls i line q lt read =
     ap (λ ls. value_at q (script_of ls)) (drop-cons ls i line lt)
     ∙ ap (λ (l : ScriptLine). or_later (value_in q (placed l.what)) (value_at q (script_of (drop (suc i) ls)))) (sym read)
     ∙ ap (λ n. or_later (value_in q (placed line.what)) (value_at q (script_of (drop n ls)))) next
-
-pub refused_more : (ls : List ScriptLine) (i : ℕ) (line : ScriptLine) (n : ℕ) → i < length ls → line ≡ get_or ls i line
-    → refuses (script_of (drop i ls)) n ≡ or_later (status_at n line.what) (refuses (script_of (drop (i + 1) ls)) n)
-refused_more ls i line n lt read =
-    let next : suc i ≡ i + 1 = omega arith in
-    ap (λ ls. refuses (script_of ls) n) (drop-cons ls i line lt)
-    ∙ ap (λ (l : ScriptLine). or_later (status_at n l.what) (refuses (script_of (drop (suc i) ls)) n)) (sym read)
-    ∙ ap (λ k. or_later (status_at n line.what) (refuses (script_of (drop k ls)) n)) next

@@ -80,9 +80,6 @@ shut_sess asked fly coming owed waits number expected sent accepted o n ss ShCut
 
 -- ---- before the session
 
-last_plain : (s : TransportFrame) → IsntAck s → IsntData s → LastPlain (Some s)
-last_plain s a b = (a, b)
-
 isnt_data : (s : TransportFrame) (n : ℕ) (apdu : List ℕ) → IsntData s → s ≡ Numbered n apdu → ⊥
 isnt_data s n apdu h e = subst (λ (z : TransportFrame). IsntData z) e h
 

@@ -102,10 +102,6 @@ pub plain_nodata : (l : List Arrival) → Plain l → NoData l
 plain_nodata [] h = tt
 plain_nodata (x ∷ l) h = ((h.0.0, h.0.1), plain_nodata l h.1)
 
-pub plain_noconf : (l : List Arrival) → Plain l → NoConfirmation l
-plain_noconf [] h = tt
-plain_noconf (x ∷ l) h = (h.0.2, plain_noconf l h.1)
-
 -- just one confirmation, with these behind it
 abbrev pub Split : List Arrival → Bool → List Arrival → Type 0
 Split [] b newer = ⊥

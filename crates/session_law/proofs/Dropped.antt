@@ -124,9 +124,6 @@ newer_last (Frame f ∷ coming) x t newer h = newer_last coming x t newer h
 nodata_twice : (front : List Arrival) (x : TransportFrame) (newer : List Arrival) → newer ≡ front ++ Frame x ∷ [] → NoData newer → NoData (newer ++ Frame x ∷ [])
 nodata_twice front x newer e d = nodata_append newer (Frame x ∷ []) d (nodata_back front (Frame x ∷ []) (subst (λ (z : List Arrival). NoData z) e d))
 
-opened_twice : (error : Bool) (newer more : List Arrival) (asked : List (List ℕ)) (o : Seen) → (NoData newer → NoData more) → Opened error newer asked o → Opened error more asked o
-opened_twice error newer more asked o f h = opened_front error newer more asked o f h
-
 asked_twice : (asked : List (List ℕ)) (fly : Option TransportFrame) (coming : List Arrival) (x : TransportFrame) (o : Seen) → AskedIs asked fly (coming ++ Frame x ∷ []) o → AskedIs asked fly ((coming ++ Frame x ∷ []) ++ Frame x ∷ []) o
 asked_twice asked fly coming x o (inl h) = inl (h.0, noconf_append (coming ++ Frame x ∷ []) (Frame x ∷ []) h.1 (tt, tt))
 asked_twice asked fly coming x o (inr (inr h)) = inr (inr (h.0, noconf_append (coming ++ Frame x ∷ []) (Frame x ∷ []) h.1 (tt, tt)))

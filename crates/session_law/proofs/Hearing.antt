@@ -9,12 +9,9 @@ use Rattle.knx_model.specs.ClientConnection.{up_took, asking_took}
 use Rattle.session_law.proofs.Arrivals.{Arrival, Frame, IsntAck, IsntData}
 use Rattle.session_law.proofs.Invariant.{GivenAt, Acks, Answers}
 use Rattle.std.specs.Prelude.{◌==◌}
-use Rattle.std.proofs.lemmas.Bool.{eqb-true, eq-eqb}
+use Rattle.std.proofs.lemmas.Bool.{eqb-true, eqb-false}
 use Rattle.knx_model.specs.declared.connection.ClientTook.{ClientTook}
 use Rattle.knx_model.specs.Apdu.{Written}
-
-eqb_other : (a b : ℕ) → (a == b) ≡ false → a ≡ b → ⊥
-eqb_other a b e h = let t : (a == b) ≡ true = eq-eqb a b h in cc
 
 -- ---- what the client's end makes of a frame
 
@@ -41,7 +38,7 @@ number_by waits number expected n apdu true e =
     let at : n ≡ expected = eqb-true n expected e in
     let P : ℕ → Type 0 = λ k. Hearing waits number expected (Numbered n apdu) (brought.Answer apdu (Written (tpdu.Ack k))) in
     subst P (sym at) (CAnswer apdu (ap (λ (k : ℕ). Numbered k apdu) at))
-number_by waits number expected n apdu false e = past_by waits number expected n apdu (is_before n expected) (eqb_other n expected e) refl
+number_by waits number expected n apdu false e = past_by waits number expected n apdu (is_before n expected) (eqb-false n expected e) refl
 
 pub up_hearing : (waits : Bool) (s : Session) (t : TransportFrame) → Hearing waits s.number s.expected t (up_took s t)
 up_hearing waits s Connect = CDrops

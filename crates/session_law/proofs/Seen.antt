@@ -1,7 +1,7 @@
 -- What a session sees of a device, and what the device's end makes of a frame of the client.
 use Rattle.std.proofs.Common.{◌≡◌, ℕ, suc, ◌%◌, List, [], ◌∷◌, length, Bool, true, false, cond, Option, Some, None, refl, sym, ◌∙◌, ap, subst, arith}
 use Rattle.std.specs.Prelude.{◌==◌}
-use Rattle.std.proofs.lemmas.Bool.{eqb-true, eq-eqb}
+use Rattle.std.proofs.lemmas.Bool.{eqb-true, eq-eqb, eqb-false}
 use Rattle.knx_model.specs.declared.address.IndAddr.{IndAddr}
 use Rattle.knx_model.specs.declared.device.FrameSupport.{FrameSupport}
 use Rattle.knx_model.specs.declared.frames.tpdu.Tpdu.TheVariants as tpdu
@@ -52,9 +52,6 @@ pub data EndHears (me : IndAddr) (e : DeviceEnd) (ds gs : List (List ℕ)) (s : 
   ECloses : IsntConnect s → EndHears me e ds gs s (took.Closed None) Closed
   EClosesBy : IsntConnect s → EndHears me e ds gs s (took.Closed (Some disconnect)) Closed
 
-eqb_other : (a b : ℕ) → (a == b) ≡ false → a ≡ b → ⊥
-eqb_other a b e h = let t : (a == b) ≡ true = eq-eqb a b h in cc
-
 next_is : (n k : ℕ) → n ≡ k % 16 → next_number n ≡ suc k % 16
 next_is n k e = omega (arith, e)
 
@@ -95,7 +92,7 @@ module _ (me from : IndAddr) (t : Session) (ds gs : List (List ℕ)) (now : ℕ)
       let number : Numbered n apdu ≡ Numbered (length ds % 16) apdu = ap (λ k. Numbered k apdu) at in
       let next_one : next_number t.expected ≡ suc (length ds) % 16 = next_is t.expected (length ds) h.1 in
       subst (λ k. EndHears me (Idle t) ds gs (Numbered n apdu) (took.Apdu apdu (Written (tpdu.Ack k))) (Idle (advanced t now))) (sym at) (EDelivers t (advanced t now) apdu refl number (h.0, next_one, h.2))
-  idle_number n apdu false e = past_by me from (Idle t) ds gs now (left_idle from t same) n t.expected apdu h.1 (eqb_other n t.expected e) refl h (is_before n t.expected) refl
+  idle_number n apdu false e = past_by me from (Idle t) ds gs now (left_idle from t same) n t.expected apdu h.1 (eqb-false n t.expected e) refl h (is_before n t.expected) refl
 
   idle_case : (s : TransportFrame) → EndHears me (Idle t) ds gs s (idle_took t s) (device_after (Idle t) from now (idle_took t s))
   unfolding device_after
@@ -112,7 +109,7 @@ module _ (me from : IndAddr) (t : Session) (a : Outstanding) (ds gs : List (List
       (device_after (Answering t a) from now (cond b took.Dropped (cond (n == t.expected) (took.Apdu apdu (Written (tpdu.Ack n))) (cond (is_before n t.expected) (took.Again (Written (tpdu.Ack n))) (took.Nak (Written (tpdu.Nak n)))))))
   unfolding device_after
   answering_number n apdu true e = EDrops tt
-  answering_number n apdu false e = rw e (past_by me from (Answering t a) ds (v ∷ gs) now (left_answering from t a same) n t.expected apdu h.1 (eqb_other n t.expected e) refl h (is_before n t.expected) refl)
+  answering_number n apdu false e = rw e (past_by me from (Answering t a) ds (v ∷ gs) now (left_answering from t a same) n t.expected apdu h.1 (eqb-false n t.expected e) refl h (is_before n t.expected) refl)
 
   answering_ack : (m : ℕ) (b : Bool) → (m == t.number) ≡ b
       → EndHears me (Answering t a) ds (v ∷ gs) (Ack m) (cond b took.Acked (cond (is_before m t.number) took.Dropped (took.Closed (Some disconnect)))) (device_after (Answering t a) from now (cond b took.Acked (cond (is_before m t.number) took.Dropped (took.Closed (Some disconnect)))))

@@ -101,9 +101,6 @@ pub data Got (me : IndAddr) (outcome : Outcome) (s : TransportFrame) (o : Seen) 
   GWhole : (b : Bool) (n : Seen) → Hears me outcome s o b n → is_torn outcome ≡ false → Got me outcome s o b true n
   GTorn : (b : Bool) (n : Seen) → Hears me outcome s o b n → Got me outcome s o b true (torn_seen b o n)
 
-extra_is : (e c : DeviceEnd) (n : ℕ) → e ≡ c → extra c ≡ n → extra e ≡ n
-extra_is e c n h k = ap extra h ∙ k
-
 pub one_more : (l : List Ldata) (f : Ldata) (t : TransportFrame) → transport f ≡ t → unsent_arrivals (l ++ f ∷ []) ≡ unsent_arrivals l ++ Frame t ∷ []
 one_more l f t h = unsent_append l (f ∷ []) ∙ ap (λ (z : TransportFrame). unsent_arrivals l ++ Frame z ∷ []) h
 

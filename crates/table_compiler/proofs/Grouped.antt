@@ -3,7 +3,7 @@ use Rattle.std.proofs.Common.{◌≡◌, ℕ, ◌<◌, Bool, true, false, cond, 
 use Rattle.std.specs.declared.alloc.Global.{Global}
 use Rattle.std.specs.List.{AllZip}
 use Rattle.std.specs.List.Sorted.{IsStrictlyIncreasing}
-use Rattle.std.proofs.lemmas.Bool.{eqb-true, cases_eq, cases_lt}
+use Rattle.std.proofs.lemmas.Bool.{eqb-true, cases_eq, cases_lt, false_from_ne_true}
 use Rattle.std.proofs.lemmas.List.{get_or-set_same, get_or-set_other, length-set, take-append-le, take_all, length-map, get_or-map}
 use Rattle.std.proofs.lemmas.List.Kept.{AllPairs-from_increasing}
 use Rattle.knx_model.specs.declared.address.IndAddr.{IndAddr}
@@ -48,10 +48,6 @@ apart numbers i k up lt lt' ne same = elim (cases_lt i k) [
   ]
 ]
 
-is_false : (b : Bool) → (b ≡ true → ⊥) → b ≡ false
-is_false true h = absurd (h refl)
-is_false false h = refl
-
 pub grouped_more : (numbers : List ℕ) (groups : List (Vec Statement Global)) (place : ℕ) (s : Statement) (old new : Vec Statement Global) (ss : List Statement)
     → IsStrictlyIncreasing numbers → place < length numbers → names (get_or numbers place 0) s.what ≡ true → new.items ≡ (get_or groups place old).items ++ s ∷ []
     → AreGrouped numbers groups ss → AreGrouped numbers (set groups place new) (ss ++ s ∷ [])
@@ -65,7 +61,7 @@ grouped_more numbers groups place s old new ss up lt named pushed grouped = reco
         ∙ sym (lines_with (get_or numbers place 0) ss s named))
     | inr other ↦
         ap (λ (v : Vec Statement Global). v.items) (get_or-set_other groups place k new g (λ e. other (sym e))) ∙ grouped.each k g less
-        ∙ sym (lines_without (get_or numbers k 0) ss s (is_false _ (λ q. apart numbers place k up lt less other (names_one (get_or numbers place 0) (get_or numbers k 0) s.what named q))))
+        ∙ sym (lines_without (get_or numbers k 0) ss s (false_from_ne_true _ (λ q. apart numbers place k up lt less other (names_one (get_or numbers place 0) (get_or numbers k 0) s.what named q))))
   ];
 }
 

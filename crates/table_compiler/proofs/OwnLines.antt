@@ -72,9 +72,6 @@ module _ {X : Type 0} (f : What → Option X) (d : ℕ) (others : (what : What) 
   told_by_lines [] = refl
   told_by_lines (s ∷ ss) = one_told s ss (names d s.what) refl (told_by_lines ss)
 
-  after : Option X → List Statement → Option X
-  after o ss = elim o as (λ _. Option X) [ None ↦ first_some f ss | Some x ↦ Some x ]
-
   one_first : (s : Statement) (ss : List Statement) (b : Bool) → names d s.what ≡ b → first_some f (lines_of d ss) ≡ first_some f ss → first_some f (cond b (s ∷ lines_of d ss) (lines_of d ss)) ≡ first_some f (s ∷ ss)
   one_first s ss true e h = both (f s.what)
     where

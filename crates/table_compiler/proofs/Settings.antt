@@ -1,9 +1,9 @@
 -- The settings of a device, and the fields that they are laid into.
-use Rattle.std.proofs.Common.{◌≡◌, ℕ, inl, inr, Bool, true, false, ◌||◌, List, [], ◌∷◌, get_or, map, eqb, bytes_eq, ltb, All, Option, Some, None, unwrap_or, refl, ◌∙◌, subst, arith}
+use Rattle.std.proofs.Common.{◌≡◌, ℕ, inl, inr, false, List, [], ◌∷◌, get_or, map, eqb, bytes_eq, ltb, All, Option, Some, None, unwrap_or, refl, ◌∙◌, subst, arith}
 use Rattle.std.specs.Prelude.{Contains}
 use Rattle.std.specs.Option.{option_map}
 use Rattle.std.specs.List.{AllByRecursion, IsDistinct, cons_option, filter_map}
-use Rattle.std.proofs.lemmas.Bool.{eq-eqb, ne_eqb, ltb-false}
+use Rattle.std.proofs.lemmas.Bool.{eq-eqb, ne_eqb, ltb-false, or_parts}
 use Rattle.std.proofs.lemmas.List.{get_or_default}
 use Rattle.std.proofs.lemmas.List.Elements.{All-from_recursion, recursion_from_All}
 use Rattle.std.proofs.lemmas.Slice.Eq.{bytes_eq-Decides}
@@ -57,14 +57,10 @@ unfolding IsDistinct
 still_distinct f None ps apart distinct = distinct
 still_distinct f (Some v) ps apart distinct = (apart, distinct)
 
-both_false : (a b : Bool) → (a || b) ≡ false → (a ≡ false) × (b ≡ false)
-both_false false b e = (refl, e)
-both_false true b e = absurd (cc)
-
 one_setting : (m : Model) (f : ModelField) (v : Option ℕ) (ps : List ParamValue) → Contains m.parameters f → ((n : ℕ) → v ≡ Some n → is_out_of (Some f) n ≡ false) → AllByRecursion (IsSetting m) ps → AllByRecursion (IsSetting m) (cons_option (option_map (valued f) v) ps)
 one_setting m f None ps member range all = all
 one_setting m f (Some v) ps member range all =
-    let within = both_false (ltb v f.min) (ltb f.max v) (range v refl) in
+    let within = or_parts (ltb v f.min) (ltb f.max v) (range v refl) in
     (record { field = f; member = member; same = rw (eq-eqb f.bit f.bit refl, eq-eqb f.width f.width refl) refl; least = ltb-false v f.min within.0; greatest = ltb-false f.max v within.1 }, all)
 
 module _ (value : ModelField → Option ℕ) where

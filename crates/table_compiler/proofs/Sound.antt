@@ -1,13 +1,15 @@
 -- What a text keeps that breaks no rule: the links of a device are at most 2,047, no object is linked to a group twice, and each
 -- parameter is set to a value in its range.
-use Rattle.std.proofs.Common.{◌≡◌, ℕ, zero, suc, ◌+◌, ◌<◌, ◌≤◌, Bool, true, false, cond, ◌&&◌, ◌||◌, List, [], ◌∷◌, ◌++◌, length, get_or, take, eqb, leb, bytes_eq, All, Option, Some, None, refl, sym, ap, ◌∙◌, subst, arith}
+use Rattle.std.proofs.Common.{◌≡◌, ℕ, zero, suc, ◌+◌, ◌<◌, ◌≤◌, Bool, true, false, cond, ◌&&◌, List, [], ◌∷◌, ◌++◌, length, get_or, take, eqb, bytes_eq, All, Option, Some, None, refl, sym, ap, ◌∙◌, subst, arith}
 use Rattle.std.specs.List.{AllPairs, AllByRecursion, cons_option, filter_map, last_or}
-use Rattle.std.proofs.lemmas.Bool.{eqb-true, eq-eqb, leb-false, false≢true}
+use Rattle.std.proofs.lemmas.Bool.{eqb-true, eq-eqb, false≢true, or_parts}
 use Rattle.std.proofs.lemmas.List.{take_more, take_all, append-nil}
 use Rattle.std.proofs.lemmas.List.Elements.{All-from_recursion, recursion_from_All, filter_map-append}
 use Rattle.std.proofs.lemmas.Slice.Eq.{bytes_eq-Decides}
 use Rattle.std.proofs.lemmas.List.Quantifiers.{all_pairs_push}
 use Rattle.std.proofs.lemmas.List.Sums.{count_by_more_no, count_by_more_yes, sum_by-cons}
+use Rattle.project_check.proofs.Sound.{sound_at}
+use Rattle.project_check.proofs.Limits.{link_below}
 use Rattle.knx_model.specs.declared.address.GroupAddr.{GroupAddr}
 use Rattle.knx_model.specs.declared.address.IndAddr.{IndAddr}
 use Rattle.knx_model.specs.declared.catalogue.model.Model.{Model}
@@ -15,40 +17,10 @@ use Rattle.knx_model.specs.declared.catalogue.model.NamedModel.{NamedModel}
 use Rattle.knx_model.specs.declared.project.Statement.{Statement}
 use Rattle.knx_model.specs.declared.project.What.{What}
 use Rattle.knx_model.specs.declared.project.What.TheVariants.{Title, Group, Device, Object, Link, Flags, Param}
-use Rattle.knx_model.specs.declared.refusal.Refused.{Refused}
-use Rattle.knx_model.specs.declared.refusal.Why.{Why}
 use Rattle.knx_model.specs.declared.refusal.Why.TheVariants.{DuplicateDevice, DuplicateGroup, UnknownGroup, UnknownModel, DuplicateObject, UnknownObject, DuplicateLink, UnknownParameter, OutOfRange, SizeDiffers, TooMany}
 use Rattle.knx_model.specs.Meaning.{link_line, link_lines, param_line, last_value}
 use Rattle.knx_model.specs.Models.{field_in}
-use Rattle.knx_model.specs.LeastLine.{first_refused}
-use Rattle.knx_model.specs.Rules.{rule_of, broken_at, broken_from, first_broken, duplicate_device, duplicate_group, unknown_group, unknown_model, duplicate_object, unknown_object, duplicate_link, unknown_parameter, out_of_range, size_differs, too_many_devices, too_many_links, model_of, asked_of, is_out_of, links_to, links_device, some_line, count_lines}
-
--- ---- no rule is broken at any place
-
-first_none : (o : Option Refused) (rs : List Refused) → first_refused (cons_option o rs) ≡ None → (o ≡ None) × (first_refused rs ≡ None)
-first_none None rs e = (refl, e)
-first_none (Some r) rs e = absurd (cc)
-
-not_broken : (line : ℕ) (o : Option Why) → broken_at line o ≡ None → o ≡ None
-not_broken line None e = refl
-not_broken line (Some why) e = absurd (cc)
-
-sound_from : (catalogue : List NamedModel) (ss : List Statement) (k : ℕ) (rest : List Statement) (i : ℕ) (d : Statement) → first_refused (broken_from catalogue ss k rest) ≡ None → i < length rest
-    → rule_of catalogue (take (k + i) ss) ss (get_or rest i d).what ≡ None
-unfolding broken_from
-sound_from catalogue ss k [] i d e lt = absurd (omega arith)
-sound_from catalogue ss k (s ∷ rest) zero d e lt =
-    let there : k ≡ k + 0 = omega arith in
-    let rule : ℕ → Option Why = λ n. rule_of catalogue (take n ss) ss s.what in
-    subst (λ (n : ℕ). rule n ≡ None) there (not_broken s.line (rule k) (first_none (broken_at s.line (rule k)) (broken_from catalogue ss (k + 1) rest) e).0)
-sound_from catalogue ss k (s ∷ rest) (suc i) d e lt =
-    let there : k + suc i ≡ k + 1 + i = omega arith in
-    rw there (sound_from catalogue ss (k + 1) rest i d (first_none (broken_at s.line (rule_of catalogue (take k ss) ss s.what)) (broken_from catalogue ss (k + 1) rest) e).1 (omega arith))
-
-sound_at : (catalogue : List NamedModel) (ss : List Statement) (i : ℕ) (d : Statement) → first_broken catalogue ss ≡ None → i < length ss → rule_of catalogue (take i ss) ss (get_or ss i d).what ≡ None
-sound_at catalogue ss i d e lt =
-    let there : i ≡ 0 + i = omega arith in
-    subst (λ (n : ℕ). rule_of catalogue (take n ss) ss (get_or ss i d).what ≡ None) (sym there) (sound_from catalogue ss 0 ss i d e lt)
+use Rattle.knx_model.specs.Rules.{rule_of, first_broken, duplicate_device, duplicate_group, unknown_group, unknown_model, duplicate_object, unknown_object, duplicate_link, unknown_parameter, out_of_range, size_differs, too_many_devices, too_many_links, model_of, asked_of, is_out_of, links_to, links_device, some_line, count_lines}
 
 -- ---- what a kept rule says
 
@@ -79,18 +51,6 @@ kept catalogue earlier whole what e =
 
 -- ---- at most 2,047 links
 
-few_at : (d : ℕ) (earlier : List Statement) (what : What) → links_device d what ≡ true → too_many_links earlier what ≡ false → count_lines (links_device d) earlier < 2047
-few_at d earlier (Title name) is few = absurd (false≢true is)
-few_at d earlier (Group group name) is few = absurd (false≢true is)
-few_at d earlier (Device device model) is few = absurd (false≢true is)
-few_at d earlier (Object device n size flags) is few = absurd (false≢true is)
-few_at d earlier (Flags device object flags) is few = absurd (false≢true is)
-few_at d earlier (Param device name value) is few = absurd (false≢true is)
-few_at d earlier (Link device object group) is few =
-    let same : device.raw ≡ d = eqb-true _ _ is in
-    let less : leb 2047 (count_lines (links_device d) earlier) ≡ false = subst (λ (r : ℕ). leb 2047 (count_lines (links_device r) earlier) ≡ false) same few in
-    leb-false 2047 (count_lines (links_device d) earlier) less
-
 nothing : Statement
 nothing = record { line = 0; what = Title [] }
 
@@ -105,7 +65,7 @@ few_to catalogue d ss (suc i) sound le =
     few_more : (catalogue : List NamedModel) (d : ℕ) (ss : List Statement) (i : ℕ) (b : Bool) → links_device d (get_or ss i nothing).what ≡ b → first_broken catalogue ss ≡ None → i < length ss → count_lines (links_device d) (take i ss) ≤ 2047 → count_lines (links_device d) (take (i + 1) ss) ≤ 2047
     few_more catalogue d ss i false other sound lt before = rw (count_by_more_no (λ s. links_device d s.what) ss i nothing lt other) before
     few_more catalogue d ss i true this sound lt before =
-        let less : count_lines (links_device d) (take i ss) < 2047 = few_at d (take i ss) (get_or ss i nothing).what this (kept catalogue (take i ss) ss (get_or ss i nothing).what (sound_at catalogue ss i nothing sound lt)).links in
+        let less : count_lines (links_device d) (take i ss) < 2047 = link_below d (take i ss) (get_or ss i nothing).what this (kept catalogue (take i ss) ss (get_or ss i nothing).what (sound_at catalogue ss i nothing sound lt)).links in
         rw (count_by_more_yes (λ s. links_device d s.what) ss i nothing lt this) (omega arith)
 
 -- each `link` line of the device is one
@@ -137,10 +97,6 @@ few_lines catalogue device ss sound =
 
 abbrev pub Apart : ℕ × GroupAddr → ℕ × GroupAddr → Type 0
 Apart x y = x.0 ≡ y.0 → x.1.raw ≡ y.1.raw → ⊥
-
-or_parts : (a b : Bool) → (a || b) ≡ false → (a ≡ false) × (b ≡ false)
-or_parts false b e = (refl, e)
-or_parts true b e = absurd (false≢true (sym e))
 
 link_kept : (b : Bool) (y x : ℕ × GroupAddr) (ys : List (ℕ × GroupAddr)) → (b ≡ true → Apart y x) → AllByRecursion (λ y. Apart y x) ys → AllByRecursion (λ y. Apart y x) (cons_option (cond b (Some y) None) ys)
 link_kept true y x ys h all = (h refl, all)

@@ -1,5 +1,7 @@
 -- Whenever a device with power gets a group telegram, it acts right, at every event of the line.
-use Rattle.std.proofs.Common.{ℕ, ◌≡◌, List, [], ◌∷◌, Bool, true, false, ◌||◌, ◌==◌, Option, Some, None, refl, sym, ap, subst, ◌∙◌, arith, if◌then◌else◌}
+use Rattle.std.proofs.Common.{ℕ, ◌≡◌, List, [], ◌∷◌, Bool, true, false, ◌==◌, Option, Some, None, refl, sym, ap, subst, ◌∙◌, arith, if◌then◌else◌}
+use Rattle.std.proofs.lemmas.Option.{same_Some}
+use Rattle.std.proofs.lemmas.Bool.{or_left}
 use Rattle.knx_model.specs.declared.frames.cemi.Ldata.{Ldata}
 use Rattle.knx_model.specs.ApduReading.{option_map, service_in}
 use Rattle.knx_model.specs.Device.{runs}
@@ -9,13 +11,6 @@ use Rattle.knx_model.specs.DeviceState.{DeviceState}
 use Rattle.line_model.specs.Telegrams.{unless_among, for_others, ActsByImage, EventActsRight, TelegramsActRight}
 use Rattle.line_model.specs.World.{World, Event, Send, From, Renew, Up, UpRefused, Down, LoseUp, LoseDown, Bus, BusTorn, BusWorn, BusAgain, DevSend, DevRepeat, DevClose, GwAgain, GwRepeat, GwClose, Cut, On, Pass, Devices, now, next_frame, waiting_at, frame_by, is_among, all_take, others_take, changed, replay}
 use Rattle.telegram_law.proofs.Telegram.{acts_right}
-
-abbrev or_it : {A : Type 0} → A → Option A → A
-or_it x None = x
-or_it x (Some y) = y
-
-unsome : {A : Type 0} (x y : A) → Some x ≡ Some y → x ≡ y
-unsome x y e = ap (or_it x) e
 
 none_is : {P : Type 0} (frame : Ldata) → ◌≡◌ {A = Option Ldata} None (Some frame) → P
 none_is frame e = cc
@@ -29,7 +24,7 @@ came : (b : Bool) (x : Option DeviceState) (old new : DeviceState) (f frame : Ld
     → (if b then x else option_map (λ d. takes d f t Whole) x) ≡ Some new → takes old frame t Whole ≡ new
 came true x old new f frame t g o n = cc
 came false x old new f frame t g o n =
-    ap (λ (y : Ldata). takes old y t Whole) (sym (unsome f frame g)) ∙ unsome (takes old f t Whole) new (ap (option_map (λ d. takes d f t Whole)) (sym o) ∙ n)
+    ap (λ (y : Ldata). takes old y t Whole) (sym (same_Some f frame g)) ∙ same_Some (takes old f t Whole) new (ap (option_map (λ d. takes d f t Whole)) (sym o) ∙ n)
 
 none_came : {P : Type 0} (b : Bool) (frame : Ldata) → ◌≡◌ {A = Option Ldata} (if b then None else None) (Some frame) → P
 none_came true frame g = none_is frame g
@@ -49,20 +44,16 @@ again true false x old new frame t s g o n = isnt_true (s refl)
 again true true x old new frame t s g o n =
     let last : old.last ≡ Some frame = ap (frame_by (λ d. d.last)) (sym o) ∙ g in
     let comes : taken_again old t ≡ takes old frame t Whole = rw last refl in
-    sym comes ∙ unsome (taken_again old t) new (ap (option_map (λ d. taken_again d t)) (sym o) ∙ n)
+    sym comes ∙ same_Some (taken_again old t) new (ap (option_map (λ d. taken_again d t)) (sym o) ∙ n)
 
 turned : (a b : ℕ) → (a == b) ≡ true → (b == a) ≡ true
 turned a b e = grind arith
 
 -- ---- what another device sends
 
-any_first : (a b : Bool) → a ≡ true → (a || b) ≡ true
-any_first true b e = refl
-any_first false b e = isnt_true e
-
 -- the sender's own device isn't among the others
 first_among : (from device : ℕ) (left_out : List ℕ) → (device == from) ≡ true → is_among (from ∷ left_out) device ≡ true
-first_among from device left_out e = any_first (from == device) (is_among left_out device) (turned device from e)
+first_among from device left_out e = or_left (from == device) (is_among left_out device) (turned device from e)
 
 not_left_out : (b : Bool) (q : Option Ldata) (frame : Ldata) → (if b then None else q) ≡ Some frame → b ≡ false
 not_left_out true q frame g = none_is frame g

@@ -79,6 +79,13 @@ pub fn nak(number: u8) -> ApduOctets
     encode(&Tpdu::Nak(number))
 }
 
+/// T_Connect.
+pub fn connect() -> ApduOctets
+    ensures { result ≡ Written tpdu.Connect }
+{
+    encode(&Tpdu::Connect)
+}
+
 /// T_Disconnect.
 pub fn disconnect() -> ApduOctets
     ensures { result ≡ Written tpdu.Disconnect }
@@ -87,7 +94,7 @@ pub fn disconnect() -> ApduOctets
 }
 
 /// The number that follows.
-pub fn next(number: u8) -> u8
+pub fn next_number(number: u8) -> u8
     requires { number < 16 }
     ensures value { result ≡ next_number number }
     ensures fits { result < 16 }
@@ -100,5 +107,5 @@ pub fn is_before(one: u8, other: u8) -> bool
     requires { one < 16 }
     ensures { result ≡ is_before one other }
 {
-    next(one) == other
+    next_number(one) == other
 }

@@ -11,6 +11,7 @@ mod wait;
 
 pub use client::ClientConn;
 pub use device::DeviceConn;
+pub use frame::{connect, disconnect, next_number, numbered};
 pub use knx_model::{
     ApduOctets, Busy, ClientConfirmed, ClientExpired, ClientTook, DeviceExpired, DeviceTook,
     IndAddr,

@@ -3,9 +3,9 @@
 ghost use Rattle.std.specs.Prelude.{◌≡◌, ◌<◌};
 ghost use Rattle.knx_model.specs.Connection.{IsApdu, by_number, is_with, at_time, advanced, acknowledged, new_session, has_passed, wait_end, idle_wait, numbered_data};
 
-use crate::frame::{is_before, next, numbered};
-use crate::wait::{IDLE_WAIT_MS, end_of, has_passed};
-use knx_model::{ApduOctets, IndAddr};
+use crate::frame::{is_before, next_number, numbered};
+use crate::wait::IDLE_WAIT_MS;
+use knx_model::{ApduOctets, IndAddr, end_of, has_passed};
 use std::marker::Model;
 
 /// An open connection: its partner, the number of the partner's next service, the number of the own service that is outstanding or
@@ -85,7 +85,7 @@ impl Session {
         ensures { result ≡ advanced self now }
     {
         Session {
-            expected: next(self.expected),
+            expected: next_number(self.expected),
             last: now,
             ..self
         }
@@ -96,7 +96,7 @@ impl Session {
         ensures { result ≡ acknowledged self now }
     {
         Session {
-            number: next(self.number),
+            number: next_number(self.number),
             last: now,
             ..self
         }

@@ -8,8 +8,8 @@ ghost use Rattle.line_model.specs.ClientEnd.{new_channel, is_given_up, is_dead, 
 ghost use Rattle.line_model.specs.ClientFrames.{is_awaited, is_acknowledged, acknowledged, delivered, answered};
 
 use crate::request::Request;
-use crate::wait::{HEARTBEAT_PAUSE_MS, HEARTBEAT_WAIT_MS, earlier, end_of, has_passed};
-use knx_model::{Datagram, IpFrame};
+use crate::wait::{HEARTBEAT_PAUSE_MS, HEARTBEAT_WAIT_MS};
+use knx_model::{Datagram, IpFrame, earlier, end_of, has_passed};
 use knxnetip_frames::encode;
 use line_model::{ChannelExpired, PutRefused};
 use std::marker::Model;
@@ -196,11 +196,4 @@ impl Ends {
     {
         self.unanswered = 0;
     }
-}
-
-/// The request that asks to end a channel.
-pub fn disconnect_request(channel: u8) -> Datagram
-    ensures { result ≡ Written (DisconnectRequest channel) }
-{
-    encode(&IpFrame::DisconnectRequest { channel })
 }

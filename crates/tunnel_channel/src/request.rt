@@ -4,8 +4,8 @@ ghost use Rattle.std.specs.Prelude.{◌≡◌};
 ghost use Rattle.line_model.specs.ClientEnd.{is_free, is_given_up, repeat_due, request_end};
 ghost use Rattle.tunnel_channel.specs.Request.{outstanding};
 
-use crate::wait::{ACK_WAIT_MS, end_of, has_passed};
-use knx_model::Datagram;
+use crate::wait::ACK_WAIT_MS;
+use knx_model::{Datagram, end_of, has_passed};
 
 /// The client's request in its channel, of which one is outstanding at a time.
 #[derive(Drop)]

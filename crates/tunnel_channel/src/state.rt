@@ -5,10 +5,11 @@ ghost use Rattle.line_model.specs.ClientEnd.{MayConnect, open_end, put_refused, 
 ghost use Rattle.line_model.specs.ClientFrames.{channel_took, after_took, acknowledged, delivered, answered, gone, channel_given};
 ghost use Rattle.tunnel_channel.specs.Ends.{client_end, MayBeat};
 
-use crate::ends::{Ends, disconnect_request};
+use crate::ends::Ends;
 use crate::took::{leaving_took, open_took, seeking_took};
-use crate::wait::{CONNECT_WAIT_MS, end_of, has_passed};
-use knx_model::{Datagram, IpFrame};
+use crate::wait::CONNECT_WAIT_MS;
+use knx_model::{Datagram, IpFrame, end_of, has_passed};
+use knxnetip_frames::disconnect_request;
 use line_model::{ChannelExpired, ChannelTook, PutRefused};
 use std::mem;
 

@@ -1,16 +1,12 @@
 //! What the client answers to a frame of the gateway.
 
 ghost use Rattle.std.specs.Prelude.{◌≡◌};
-ghost use Rattle.knx_model.specs.KnxNetIp.{Written};
-ghost use Rattle.line_model.specs.ClientFrames.{seeking_took, open_took, leaving_took, state_took, request_took, acknowledgement};
+ghost use Rattle.line_model.specs.ClientFrames.{seeking_took, open_took, leaving_took, state_took, request_took};
 
 use crate::ends::Ends;
 use knx_model::{Datagram, IpFrame};
-use knxnetip_frames::encode;
+use knxnetip_frames::{NO_ERROR, acknowledgement, disconnect_response};
 use line_model::ChannelTook;
-
-/// The status of an answer or an acknowledgement that agrees (ISO 22510, Core).
-const NO_ERROR: u8 = 0x00;
 
 /// The answer while a channel is sought.
 pub fn seeking_took(frame: &IpFrame) -> ChannelTook
@@ -37,7 +33,7 @@ pub fn open_took(ends: &Ends, frame: &IpFrame, now: u64) -> ChannelTook
     match frame {
         IpFrame::StateResponse { channel, status } => state_took(ends, *channel, *status, now),
         IpFrame::DisconnectRequest { channel } if *channel == ends.channel => ChannelTook::Gone {
-            answer: Some(disconnect_response(*channel)),
+            answer: Some(disconnect_response(*channel, NO_ERROR)),
         },
         IpFrame::TunnellingRequest {
             channel,
@@ -94,23 +90,4 @@ fn request_took(ends: &Ends, number: u8, cemi: &Datagram) -> ChannelTook
     } else {
         ChannelTook::Dropped
     }
-}
-
-fn acknowledgement(channel: u8, number: u8) -> Datagram
-    ensures { result ≡ acknowledgement channel number }
-{
-    encode(&IpFrame::TunnellingAck {
-        channel,
-        number,
-        status: NO_ERROR,
-    })
-}
-
-fn disconnect_response(channel: u8) -> Datagram
-    ensures { result ≡ Written (IpFrame.DisconnectResponse channel 0) }
-{
-    encode(&IpFrame::DisconnectResponse {
-        channel,
-        status: NO_ERROR,
-    })
 }

@@ -4,11 +4,9 @@ ghost use Rattle.std.specs.Prelude.{◌≡◌, ◌≤◌, length, Some, None};
 ghost use Rattle.knx_model.specs.KnxNetIp.{Written};
 
 use knx_model::{Datagram, IndAddr, IpFrame};
-use knxnetip_frames::encode;
+use knxnetip_frames::{NO_ERROR, encode};
 use line_model::GatewayTook;
 
-/// E_NO_ERROR.
-pub const NO_ERROR: u8 = 0x00;
 /// E_CONNECTION_ID: there is no channel of this number.
 pub const CONNECTION_ID: u8 = 0x21;
 
@@ -53,20 +51,6 @@ pub fn state_response(channel: u8) -> Datagram
     })
 }
 
-/// DISCONNECT_REQUEST.
-pub fn disconnect_request(channel: u8) -> Datagram
-    ensures { result ≡ Written (IpFrame.DisconnectRequest channel) }
-{
-    encode(&IpFrame::DisconnectRequest { channel })
-}
-
-/// DISCONNECT_RESPONSE.
-pub fn disconnect_response(channel: u8, status: u8) -> Datagram
-    ensures { result ≡ Written (IpFrame.DisconnectResponse channel status) }
-{
-    encode(&IpFrame::DisconnectResponse { channel, status })
-}
-
 /// TUNNELLING_REQUEST.
 pub fn request(channel: u8, number: u8, cemi: Datagram) -> Datagram
     requires least { 1 ≤ length cemi }
@@ -77,16 +61,5 @@ pub fn request(channel: u8, number: u8, cemi: Datagram) -> Datagram
         channel,
         number,
         cemi,
-    })
-}
-
-/// TUNNELLING_ACK of a request that is taken.
-pub fn ack(channel: u8, number: u8) -> Datagram
-    ensures { result ≡ Written (IpFrame.TunnellingAck channel number 0) }
-{
-    encode(&IpFrame::TunnellingAck {
-        channel,
-        number,
-        status: NO_ERROR,
     })
 }

@@ -6,10 +6,11 @@ ghost use Rattle.knx_model.specs.Connection.{wait_end};
 ghost use Rattle.line_model.specs.Gateway.{Gateway, Closing, Repeat, client_wait, new_channel, names, hears, next_number, settles, request_took, request_of, channel_expired};
 ghost use Rattle.line_model.specs.GatewayEnd.{IsChannelNumber, told, told_due, channel_put, after_put, repeated_request, request_deadline};
 
-use crate::answers::{NO_ERROR, ack, answered, disconnect_request, dropped, request};
+use crate::answers::{answered, dropped, request};
 use crate::request::Request;
-use crate::wait::{CLIENT_WAIT_MS, end_of, has_passed};
-use knx_model::Datagram;
+use crate::wait::CLIENT_WAIT_MS;
+use knx_model::{Datagram, end_of, has_passed};
+use knxnetip_frames::{NO_ERROR, acknowledgement, disconnect_request};
 use line_model::{GatewayExpired, GatewayTook, PutRefused};
 use std::marker::Model;
 
@@ -92,11 +93,11 @@ impl Channel {
         if number == self.expected {
             self.expected = next(number);
             GatewayTook {
-                send: Some(ack(self.number, number)),
+                send: Some(acknowledgement(self.number, number)),
                 acted: Some(cemi.copied()),
             }
         } else if next(number) == self.expected {
-            answered(ack(self.number, number))
+            answered(acknowledgement(self.number, number))
         } else {
             dropped()
         }

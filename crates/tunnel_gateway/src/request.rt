@@ -5,8 +5,8 @@ ghost use Rattle.knx_model.specs.Connection.{has_passed, wait_end, earlier_time}
 ghost use Rattle.line_model.specs.Gateway.{acknowledgement_wait};
 ghost use Rattle.line_model.specs.GatewayEnd.{first_request};
 
-use crate::wait::{ACK_WAIT_MS, earlier, end_of, has_passed};
-use knx_model::Datagram;
+use crate::wait::ACK_WAIT_MS;
+use knx_model::{Datagram, earlier, end_of, has_passed};
 use std::marker::Model;
 
 /// A request that isn't acknowledged (ISO 22510, Tunnelling): its cEMI octets, whether it was sent again, and when it was sent last.

@@ -1,7 +1,7 @@
 -- A request that comes in its channel keeps the invariant: it is acted on, or the one before is acknowledged again.
 use Rattle.std.proofs.Common.{◌≡◌, ℕ, suc, ◌+◌, ◌-◌, ◌%◌, ◌<◌, ◌≤◌, List, [], ◌∷◌, length, Bool, true, false, cond, Option, Some, None, refl, sym, ◌∙◌, ap, subst, arith, inl, inr}
 use Rattle.std.specs.Prelude.{slice_get, ◌==◌}
-use Rattle.std.proofs.lemmas.Bool.{eq-eqb}
+use Rattle.std.proofs.lemmas.Bool.{eq-eqb, ne_eqb, eqb-false}
 use Rattle.knx_model.specs.declared.frames.ip.IpFrame.{IpFrame}
 use Rattle.knx_model.specs.declared.frames.ip.IpFrame.TheVariants.{TunnellingRequest, TunnellingAck}
 use Rattle.line_model.specs.Reading.{datagram_in}
@@ -16,7 +16,7 @@ use Rattle.tunnel_law.proofs.Read.{seen_of}
 use Rattle.tunnel_law.proofs.Inside.{CountedIn, Next, Other, near_in, again_at, every_at, has_newest, Found, has_at, tail_length, tail_by_one}
 use Rattle.tunnel_law.proofs.Fits.{Book, BookIs, IsTell, TellIs, NotTell, Member, JoinedFits, BookFits, Phase, AckIs, NotAck, ResponseIn, SentIs, Inv}
 use Rattle.tunnel_law.proofs.Takes.{same_channel}
-use Rattle.tunnel_law.proofs.Makes.{dec, eqb_other, not_eqb}
+use Rattle.tunnel_law.proofs.Makes.{dec}
 
 -- ---- a request comes in its channel
 
@@ -150,7 +150,7 @@ module _ (bs : List Book) (present : ℕ) (up down : List Sent) (owner : ℕ) (r
           | inr apart ↦
               (let same : in_channel k acted ≡ in_channel k ((length rest, p) ∷ acted) = sym (acted_other (length rest) k p acted apart) in
               subst (λ l. CountedIn (AckIs (owner ∷ rest) k) (NotAck k) (new_datagram octets s.endpoint made ∷ down) (length l)) same
-              (Other (λ i f. eqb_other (length rest) k apart (sym made_is ∙ f)) (inv.acks k)))
+              (Other (λ i f. eqb-false (length rest) k apart (sym made_is ∙ f)) (inv.acks k)))
         ]
 
     pub acts_kept : n ≡ c.expected → (c2 : Channel) → c2.endpoint ≡ owner → c2.number ≡ number_of (length rest) → c2.expected ≡ next_number c.expected
@@ -160,7 +160,7 @@ module _ (bs : List Book) (present : ℕ) (up down : List Sent) (owner : ℕ) (r
           endpoints = inv.endpoints;
           sent = inv.sent;
           made = inv.made;
-          unmade = λ k le. acted_other (length rest) k p acted (not_eqb (length rest) k (λ q. omega arith)) ∙ inv.unmade k le;
+          unmade = λ k le. acted_other (length rest) k p acted (ne_eqb (length rest) k (λ q. omega arith)) ∙ inv.unmade k le;
           each = λ a y g. let old : BookIs up (owner ∷ rest) acted a y = inv.each a y g in
               record {
                 joined = old.joined;
@@ -197,7 +197,7 @@ module _ (bs : List Book) (present : ℕ) (up down : List Sent) (owner : ℕ) (r
               let x_is : r.x + 1 ≡ length (in_channel (length rest) acted) = numbers.number_before r.x (length (in_channel (length rest) acted)) (omega arith) (omega arith) (ap (λ z. (z + 1) % 256) (sym r.number) ∙ h ∙ expects) in
               let P : ℕ → Type 0 = λ z. CountedIn (AckIs (owner ∷ rest) z) (NotAck z) (new_datagram octets s.endpoint made ∷ down) (length (in_channel z acted)) in
               subst P k_is (again_at (AckIs (owner ∷ rest) (length rest)) (NotAck (length rest)) down (new_datagram octets s.endpoint made) r.x (length (in_channel (length rest) acted)) x_is (the_ack r.x r.number) (inv.acks (length rest))))
-          | inr apart ↦ Other (λ i f. eqb_other (length rest) k apart (sym made_is ∙ f)) (inv.acks k)
+          | inr apart ↦ Other (λ i f. eqb-false (length rest) k apart (sym made_is ∙ f)) (inv.acks k)
         ]
 
     pub again_kept : next_number n ≡ c.expected → Inv bs present up (new_datagram octets s.endpoint made ∷ down) (owner ∷ rest) (Some c) acted

@@ -20,9 +20,6 @@ use Rattle.tunnel_law.proofs.Gets.{other_sent}
 use Rattle.tunnel_law.proofs.Books.{EndsOf, put_by}
 use Rattle.tunnel_law.proofs.Replies.{DnT, names_of}
 
-pred : (n : ℕ) → suc n - 1 ≡ n
-pred n = omega arith
-
 -- what the gateway's channel is, by the book of its endpoint
 record Gated (makers : List ℕ) (c : Channel) (puts : List (ℕ × List ℕ)) (nm : Names makers c) : Type 0 where
   pub settled : ℕ

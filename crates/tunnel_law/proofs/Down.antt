@@ -3,6 +3,7 @@
 use Rattle.std.proofs.Common.{◌≡◌, ℕ, suc, ◌+◌, ◌-◌, ◌%◌, ◌<◌, ◌≤◌, ◌⊎◌, List, [], ◌∷◌, length, drop, Bool, true, false, cond, ◌&&◌, Option, Some, None, refl, sym, ◌∙◌, ap, subst, arith, inl, inr}
 use Rattle.std.specs.Prelude.{slice_index, take, nat_le, ◌==◌}
 use Rattle.std.proofs.lemmas.List.{take_all, length-take}
+use Rattle.std.proofs.lemmas.Bool.{and_parts}
 use Rattle.knx_model.specs.declared.frames.ip.IpFrame.{IpFrame}
 use Rattle.knx_model.specs.declared.frames.ip.IpFrame.TheVariants.{TunnellingRequest, TunnellingAck}
 use Rattle.knx_model.specs.KnxNetIp.{Written}
@@ -13,7 +14,7 @@ use Rattle.line_model.specs.ActedOnce.{Has, in_channel, IsPrefix}
 use Rattle.tunnel_law.proofs.Numbers as numbers
 use Rattle.tunnel_law.proofs.Numbers.{Near}
 use Rattle.tunnel_law.proofs.Read.{seen_of}
-use Rattle.tunnel_law.proofs.Inside.{CountedIn, Next, again_at, has_newest, tail_length, tail_by_one, split}
+use Rattle.tunnel_law.proofs.Inside.{has_newest, tail_length, tail_by_one}
 use Rattle.tunnel_law.proofs.Fits.{IsAck, IsTell}
 
 -- ---- a request of the gateway, as the client reads it: a long one is cut off, and is no frame then
@@ -101,31 +102,6 @@ before_is makers puts takes acks settled k d expected octets made endpoint n you
     let one : length puts ≤ suc settled = b.one in
     numbers.number_before near.place (length takes) (omega arith) (omega arith) (ap next_number (sym n_is) ∙ h ∙ e)
 
--- the client acknowledges the last that it took: for the first time, or again
-pub record Sends (up : List Sent) (number : Option ℕ) (e : ℕ) (s : Sent) (takes puts : List (List ℕ)) (settled : ℕ) : Type 0 where
-  pub acks : ℕ
-  pub sent : CountedIn (AckUp number) (NotAckUp e) (s ∷ up) acks
-  pub still : Between takes puts acks settled
-
-pub ack_sent : (up : List Sent) (number : Option ℕ) (e : ℕ) (s : Sent) (takes puts : List (List ℕ)) (acks settled a channel : ℕ) → Between takes puts acks settled → CountedIn (AckUp number) (NotAckUp e) up acks
-    → a + 1 ≡ length takes → datagram_in s.octets ≡ Some (TunnellingAck channel (a % 256) 0) → number ≡ Some channel → Sends up number e s takes puts settled
-ack_sent up number e s takes puts acks settled a channel b sent len is named =
-    let acked : acks ≤ length takes = b.acked in
-    let owes : length takes ≤ suc acks = b.owes in
-    let told : settled ≤ acks = b.told in
-    let ack : AckUp number a s = record { channel = channel; is = is; named = named } in
-    elim (split acks (length takes) acked) [
-      | inl all ↦
-          record { acks = acks; sent = again_at (AckUp number) (NotAckUp e) up s a acks (len ∙ sym all) ack sent; still = b }
-      | inr less ↦
-          (let a_is : acks ≡ a = omega arith in
-          record {
-            acks = suc acks;
-            sent = Next (subst (λ z. AckUp number z s) (sym a_is) ack) sent;
-            still = record { prefix = b.prefix; acked = omega arith; owes = omega arith; told = omega arith; one = b.one };
-          })
-    ]
-
 -- an acknowledgement of the outstanding number settles it
 pub settled_by : (takes puts : List (List ℕ)) (acks settled own d : ℕ) (f : Option IpFrame) (number : Option ℕ) (channel n : ℕ) → d < 128 → Between takes puts acks settled → own ≡ settled % 256 → length puts ≡ suc settled
     → Near (λ a (g : Option IpFrame). AckUpOf number a g) acks d f → f ≡ Some (TunnellingAck channel n 0) → n ≡ own → Between takes puts acks (suc settled)
@@ -145,12 +121,8 @@ pub put_next : (takes puts : List (List ℕ)) (acks settled : ℕ) (p : List ℕ
 put_next takes puts acks settled p b none =
     record { prefix = (p ∷ b.prefix.0, ap (λ l. p ∷ l) b.prefix.1); acked = b.acked; owes = b.owes; told = b.told; one = omega arith }
 
-two : (a b : Bool) → (a && b) ≡ true → (a ≡ true) × (b ≡ true)
-two true b e = (refl, e)
-two false b e = cc
-
 pub request_this : (c n : ℕ) (p : List ℕ) → IsThis c n p (seen_of (Written (TunnellingRequest c n p)))
 unfolding datagram_in
 request_this c n p =
     let body : List ℕ = drop 6 (take 512 (Written (TunnellingRequest c n p))) in
-    this_by _ _ c n p (take 502 p) (λ h. short p (two (nat_le 5 (length body)) (nat_le (length body) 294) (two (nat_le 5 (length body) && nat_le (length body) 294) (slice_index body 0 == 4) h).0).1)
+    this_by _ _ c n p (take 502 p) (λ h. short p (and_parts (nat_le 5 (length body)) (nat_le (length body) 294) (and_parts (nat_le 5 (length body) && nat_le (length body) 294) (slice_index body 0 == 4) h).0).1)

@@ -1,13 +1,14 @@
 -- The law: an induction over the events.
-use Rattle.std.proofs.Common.{◌≡◌, ℕ, suc, ◌<◌, ◌≤◌, ◌⊎◌, List, [], ◌∷◌, length, Bool, true, false, cond, if◌then◌else◌, Option, Some, None, refl, sym, ◌∙◌, ap, subst, arith, inl, inr}
+use Rattle.std.proofs.Common.{◌≡◌, ℕ, suc, List, [], ◌∷◌, length, Bool, true, false, cond, if◌then◌else◌, Option, Some, None, refl, sym, ◌∙◌, ap, subst, inl, inr}
+use Rattle.std.proofs.lemmas.Bool.{cases_lt}
 use Rattle.knx_model.specs.declared.address.IndAddr.{IndAddr}
 use Rattle.knx_model.specs.declared.frames.ip.IpFrame.{IpFrame}
 use Rattle.knx_model.specs.declared.frames.ip.IpFrame.TheVariants.{TunnellingRequest}
 use Rattle.line_model.specs.Reading.{datagram_in}
 use Rattle.line_model.specs.Network.{Sent}
 use Rattle.line_model.specs.Gateway.{Gateway, number_of}
-use Rattle.line_model.specs.Tunnel.{Tunnel, TunnelEvent, Send, From, Renew, Up, UpRefused, Down, LoseUp, LoseDown, Carried, Heard, Repeat, Close, Pass, Elsewhere, Commissions, IsLegal, fresh, replay}
-use Rattle.line_model.specs.Record.{Item, Put, Entry, entry, noted, is_renewal, put_in, item_of, tunnel_record}
+use Rattle.line_model.specs.Tunnel.{Tunnel, TunnelEvent, Send, From, Renew, Up, UpRefused, Down, LoseUp, LoseDown, Carried, Heard, Repeat, Close, Pass, Elsewhere, fresh}
+use Rattle.line_model.specs.Record.{Item, Put, Entry, entry, noted, is_renewal, put_in, item_of}
 use Rattle.line_model.specs.ClientView.{ClientChannel, Fresh, View, unused, goes_on, after_entry, deed, channel, views, first_view_after, view_after}
 use Rattle.line_model.specs.Reading.{is_connect_request}
 use Rattle.line_model.specs.Renews.{RenewsRightly, RenewsSo, is_just_renewed}
@@ -18,7 +19,7 @@ use Rattle.tunnel_law.proofs.Fits.{Book, new_book, head_after, books, BookIs, Bo
 use Rattle.tunnel_law.proofs.Sends.{MaySend, ask_or}
 use Rattle.tunnel_law.proofs.Takes.{same_channel}
 use Rattle.tunnel_law.proofs.Took.{InvT}
-use Rattle.tunnel_law.proofs.Steps.{noted_in, MayDo, MaySendHere, step_kept}
+use Rattle.tunnel_law.proofs.Steps.{noted_in, MayDo, MaySendHere}
 
 -- ---- a renewed endpoint is fresh
 
@@ -145,25 +146,12 @@ first_each e x (inr q) = absurd q
 pub first : (me : IndAddr) → InvT (new_book ∷ []) (fresh me)
 first me = record { endpoints = refl; sent = tt; made = λ k e h. absurd h; unmade = λ k le. refl; each = first_each; serving = tt; acks = λ k. Nothing; responses = tt }
 
-always : (me : IndAddr) (events : List TunnelEvent) → IsLegal Commissions (fresh me) events → RenewsRightly (tunnel_record (fresh me) events) → SendsRightly (tunnel_record (fresh me) events)
-    → InvT (books (tunnel_record (fresh me) events)) (replay (fresh me) events)
-always me [] legal a b = first me
-always me (e ∷ events) legal a b =
-    let t : Tunnel = replay (fresh me) events in
-    let r : List Entry = tunnel_record (fresh me) events in
-    let now : ℕ = (replay (fresh me) (e ∷ events)).now in
-    let i : InvT (books r) t = always me events legal.1 (renews_before (item_of t e) now r a) (sends_before (item_of t e) now r b) in
-    books_noted (item_of t e) now r (replay (fresh me) (e ∷ events)) (step_kept (books r) t e now i legal.0 (may_do r t e now a b))
-
 -- ---- what this says
 
 -- the client's requests: those acted on are the first of those put and, in a channel that the client never got, none
 pub record IsUpOnce (g : Gateway) (r : List Entry) : Type 0 where
   pub up : (k : ℕ) (v : View) → IsChannelOf g r k v → IsPrefix (in_channel k g.acted) v.puts
   pub alone : (k : ℕ) → ((v : View) → ¬ IsChannelOf g r k v) → in_channel k g.acted ≡ []
-
-below_or : (k n : ℕ) → (k < n) ⊎ (n ≤ k)
-below_or k n = grind arith
 
 named_is : (makers : List ℕ) (acted : List (ℕ × List ℕ)) (up : List Sent) (e k : ℕ) (joined asked number : Option ℕ) (puts : List (List ℕ)) → BookFits up makers acted e joined puts asked → Named joined number → number ≡ Some (number_of k) → Has makers k e
     → IsPrefix (in_channel k acted) puts
@@ -188,7 +176,7 @@ says t r i =
           subst (λ (z : View). IsPrefix (in_channel k t.gateway.acted) z.puts) f.is
           (named_is t.gateway.makers t.gateway.acted t.network.up h.endpoint k old.joined old.asked f.book.view.number f.book.view.puts old.fits old.named (ap (λ (z : View). z.number) f.is ∙ h.number) h.made_by));
       alone = λ k none.
-          elim (below_or k (length t.gateway.makers)) [
+          elim (cases_lt k (length t.gateway.makers)) [
             | inl below ↦
                 (let m : Found t.gateway.makers k = has_at t.gateway.makers k below in
                 let f : Found (books r) m.what = has_at (books r) m.what (i.made k m.what m.at) in

@@ -1,8 +1,7 @@
 -- What the gateway sends, and the channels that it makes, keep the invariant.
 use Rattle.std.proofs.Common.{◌≡◌, ℕ, suc, ◌+◌, ◌%◌, ◌<◌, ◌≤◌, ◌⊎◌, List, ◌∷◌, length, Bool, true, false, Option, Some, None, refl, sym, ◌∙◌, ap, subst, arith, inl, inr}
 use Rattle.std.specs.Prelude.{slice_get, ◌==◌}
-use Rattle.std.proofs.lemmas.Bool.{eqb-true, eq-eqb}
-use Rattle.std.proofs.lemmas.Bool.Decides.{nat_tests}
+use Rattle.std.proofs.lemmas.Bool.{eqb-true}
 use Rattle.knx_model.specs.declared.address.IndAddr.{IndAddr}
 use Rattle.knx_model.specs.declared.frames.ip.IpFrame.{IpFrame}
 use Rattle.knx_model.specs.declared.frames.ip.IpFrame.TheVariants.{ConnectRequest, ConnectResponse, StateRequest, StateResponse, DisconnectRequest, DisconnectResponse, TunnellingRequest, TunnellingAck}
@@ -13,12 +12,6 @@ use Rattle.line_model.specs.ActedOnce.{Has}
 use Rattle.tunnel_law.proofs.Read.{IsOther, seen_of}
 use Rattle.tunnel_law.proofs.Inside.{Other, inside_map, every_map, every_at}
 use Rattle.tunnel_law.proofs.Fits.{Book, BookIs, IsAsk, AskIs, InRange, JoinedFits, AckIs, NotAck, IsAck, ResponseOf, ResponseIn, ResponseIs, Serving, SentIs, Inv, seen}
-
-pub not_eqb : (a b : ℕ) → (a ≡ b → ⊥) → (a == b) ≡ false
-not_eqb a b other = grind (arith, nat_tests)
-
-pub eqb_other : (a b : ℕ) → (a == b) ≡ false → a ≡ b → ⊥
-eqb_other a b e h = let t : (a == b) ≡ true = eq-eqb a b h in cc
 
 dec_by : (a b : ℕ) (t : Bool) → (a == b) ≡ t → (a ≡ b) ⊎ ((a == b) ≡ false)
 dec_by a b true h = inl (eqb-true a b h)

@@ -1,5 +1,6 @@
 -- The gateway puts a request, and repeats it.
 use Rattle.std.proofs.Common.{◌≡◌, ℕ, suc, ◌+◌, ◌-◌, ◌%◌, List, ◌∷◌, length, Option, Some, None, refl, sym, ◌∙◌, ap, subst, arith, inl, inr}
+use Rattle.std.proofs.lemmas.Bool.{ne_eqb, eqb-false}
 use Rattle.knx_model.specs.declared.frames.ip.IpFrame.TheVariants.{TunnellingRequest}
 use Rattle.knx_model.specs.KnxNetIp.{Written}
 use Rattle.line_model.specs.Network.{Sent, new_datagram}
@@ -8,7 +9,7 @@ use Rattle.line_model.specs.ActedOnce.{Has, in_channel}
 use Rattle.tunnel_law.proofs.Inside.{CountedIn, Next, Other, inside_map, again_at}
 use Rattle.tunnel_law.proofs.Fits.{Book}
 use Rattle.tunnel_law.proofs.Acts.{acted_same, acted_other}
-use Rattle.tunnel_law.proofs.Makes.{dec, eqb_other, not_eqb}
+use Rattle.tunnel_law.proofs.Makes.{dec}
 use Rattle.tunnel_law.proofs.Down.{ReqOf, ReqIs, NotReq, put_next}
 use Rattle.tunnel_law.proofs.Mirror.{Gate, At, Ends, Dn, Names}
 
@@ -36,7 +37,7 @@ module _ (bs : List Book) (up down : List Sent) (makers : List ℕ) (c : Channel
           | inr apart ↦
               (let same : in_channel k puts ≡ in_channel k now_put = sym (acted_other nm.k k r.frame puts apart) in
               let P : List (List ℕ) → Type 0 = λ xs. CountedIn (λ a (s : Sent). ReqOf makers xs k a s.octets s.made s.endpoint) (NotReq k) (the ∷ down) (length xs) in
-              subst P same (Other (λ i f. eqb_other nm.k k apart (sym made_is ∙ f)) (dn.requests k)))
+              subst P same (Other (λ i f. eqb-false nm.k k apart (sym made_is ∙ f)) (dn.requests k)))
         ]
 
     put_at : (number : Option ℕ) (takes : List (List ℕ)) (acks k : ℕ) → At makers (Some c) number takes (in_channel k puts) k acks → At makers (Some (record c { outstanding = Some r })) number takes (in_channel k now_put) k acks
@@ -64,7 +65,7 @@ module _ (bs : List Book) (up down : List Sent) (makers : List ℕ) (c : Channel
               let Q : List (List ℕ) → Type 0 = λ xs. At makers (Some (record c { outstanding = Some r })) number takes xs k acks in
               let newest : suc nm.k ≡ length makers = nm.newest in
               let here : Q (in_channel k puts)
-              = record { settled = a.settled; joined = a.joined; other = a.other; one = a.one; gate = λ i. absurd (eqb_other nm.k k apart (omega arith)) } in
+              = record { settled = a.settled; joined = a.joined; other = a.other; one = a.one; gate = λ i. absurd (eqb-false nm.k k apart (omega arith)) } in
               subst Q same here)
         ]
 
@@ -75,7 +76,7 @@ module _ (bs : List Book) (up down : List Sent) (makers : List ℕ) (c : Channel
           requests = put_requests;
           ends = λ e b h. let n : Ends up makers (Some c) puts e b.view.number b.view.takes b.state = dn.ends e b h in
               record { acks = n.acks; sent = n.sent; acked = n.acked; owes = n.owes; none = n.none; each = λ k g. put_at b.view.number b.view.takes n.acks k (n.each k g); expects = n.expects };
-          unmade = λ k le. acted_other nm.k k r.frame puts (not_eqb nm.k k (λ q. omega arith)) ∙ dn.unmade k le;
+          unmade = λ k le. acted_other nm.k k r.frame puts (ne_eqb nm.k k (λ q. omega arith)) ∙ dn.unmade k le;
         }
 
   -- the outstanding one again
@@ -98,7 +99,7 @@ module _ (bs : List Book) (up down : List Sent) (makers : List ℕ) (c : Channel
           | inl k_is ↦
               (let Q : ℕ → Type 0 = λ z. CountedIn (ReqIs makers puts z) (NotReq z) (s ∷ down) (length (in_channel z puts)) in
               subst Q k_is (again_at (ReqIs makers puts nm.k) (NotReq nm.k) down s settled (length (in_channel nm.k puts)) len req (dn.requests nm.k)))
-          | inr apart ↦ Other (λ i f. eqb_other nm.k k apart (sym made_is ∙ f)) (dn.requests k)
+          | inr apart ↦ Other (λ i f. eqb-false nm.k k apart (sym made_is ∙ f)) (dn.requests k)
         ];
         ends = λ e b h. let n : Ends up makers (Some c) puts e b.view.number b.view.takes b.state = dn.ends e b h in
             record {

@@ -1,7 +1,7 @@
 -- What the gateway takes keeps the mirror.
 use Rattle.std.proofs.Common.{◌≡◌, ℕ, ◌<◌, List, [], ◌∷◌, length, Bool, true, false, cond, ◌&&◌, Option, Some, None, refl, sym, ◌∙◌, ap, subst, inl}
 use Rattle.std.specs.Prelude.{slice_get, ◌==◌}
-use Rattle.std.proofs.lemmas.Bool.{eqb-true}
+use Rattle.std.proofs.lemmas.Bool.{eqb-true, and_parts}
 use Rattle.knx_model.specs.declared.frames.ip.IpFrame.{IpFrame}
 use Rattle.knx_model.specs.declared.frames.ip.IpFrame.TheVariants.{ConnectRequest, ConnectResponse, StateRequest, StateResponse, DisconnectRequest, DisconnectResponse, TunnellingRequest, TunnellingAck}
 use Rattle.knx_model.specs.KnxNetIp.{Written}
@@ -72,10 +72,6 @@ request_good bs up down g (Some c) n p dn is =
     (record { after = acts_kept bs up down g c p dn is; plain = no_ack c.number n })
     (good_by bs up down (next_number n == c.expected) (answers (TunnellingAck c.number n 0) g) (drops g) (record { after = dn; plain = no_ack c.number n }) (record { after = dn; plain = tt }))
 
-both : (a b : Bool) → (a && b) ≡ true → (a ≡ true) × (b ≡ true)
-both true b e = (refl, e)
-both false b e = cc
-
 pub names_of : (makers : List ℕ) (acted : List (ℕ × List ℕ)) (c : Channel) → Serving makers acted (Some c) → Names makers c
 names_of [] acted c h = absurd h
 names_of (owner ∷ rest) acted c h = record { k = length rest; newest = refl; maker = inl (refl, sym h.0); number = h.1 }
@@ -90,7 +86,7 @@ module _ (bs : List Book) (up down : List Sent) (makers : List ℕ) (acted puts 
   settle_by c o out dn serving m n st is from m_is false hu = dn
   settle_by c None out dn serving m n st is from m_is true hu = absurd (let z : false ≡ true = hu in cc)
   settle_by c (Some r) out dn serving m n st is from m_is true hu =
-      let e = both (n == c.own) (st == 0) hu in
+      let e = and_parts (n == c.own) (st == 0) hu in
       let n_is : n ≡ c.own = eqb-true n c.own e.0 in
       let st_is : st ≡ 0 = eqb-true st 0 e.1 in
       dn_settle bs up down makers c puts dn (names_of makers acted c serving) s d young at from r out
@@ -101,7 +97,7 @@ module _ (bs : List Book) (up down : List Sent) (makers : List ℕ) (acted puts 
       → names s.endpoint m channel ≡ true → Dn bs up down makers (settled_in channel n st) puts
   ack_by None dn serving m n st is named = dn
   ack_by (Some c) dn serving m n st is named =
-      let b = both (c.endpoint == s.endpoint) (c.number == m) named in
+      let b = and_parts (c.endpoint == s.endpoint) (c.number == m) named in
       settle_by c c.outstanding refl dn serving m n st is (eqb-true c.endpoint s.endpoint b.0) (eqb-true c.number m b.1) (is_put c.outstanding && (n == c.own) && (st == 0)) refl
 
 -- the whole

@@ -1,7 +1,7 @@
 -- What the client gets keeps the book of its endpoint.
-use Rattle.std.proofs.Common.{◌≡◌, ℕ, suc, ◌+◌, ◌%◌, ◌<◌, ◌≤◌, List, [], ◌∷◌, length, Bool, true, false, cond, ◌&&◌, not, Option, Some, None, refl, sym, ◌∙◌, ap, subst, arith}
+use Rattle.std.proofs.Common.{◌≡◌, ℕ, suc, ◌+◌, ◌%◌, ◌<◌, ◌≤◌, List, [], ◌∷◌, length, Bool, true, false, cond, Option, Some, None, refl, sym, ◌∙◌, ap, subst, arith}
 use Rattle.std.specs.Prelude.{◌==◌}
-use Rattle.std.proofs.lemmas.Bool.{eqb-true}
+use Rattle.std.proofs.lemmas.Bool.{eqb-true, and_parts, not-true}
 use Rattle.knx_model.specs.declared.frames.ip.IpFrame.{IpFrame}
 use Rattle.knx_model.specs.declared.frames.ip.IpFrame.TheVariants.{ConnectRequest, ConnectResponse, StateRequest, StateResponse, DisconnectRequest, DisconnectResponse, TunnellingRequest, TunnellingAck}
 use Rattle.knx_model.specs.Connection.{has_passed}
@@ -38,14 +38,6 @@ pub record Counts (c : ℕ) (o : Own) (g : Option IpFrame) : Type 0 where
   pub is : g ≡ Some (TunnellingAck c o.number status)
   pub waits : is_none o.sent ≡ false
 
-both : (a b : Bool) → (a && b) ≡ true → (a ≡ true) × (b ≡ true)
-both true b e = (refl, e)
-both false b e = cc
-
-isnt : (a : Bool) → not a ≡ true → a ≡ false
-isnt false e = refl
-isnt true e = cc
-
 counts : (c : ℕ) (o : Own) (g : Option IpFrame) → acknowledges c o (ack_in g) ≡ true → Counts c o g
 counts c o None h = cc
 counts c o (Some ConnectRequest) h = cc
@@ -56,12 +48,12 @@ counts c o (Some (DisconnectRequest d)) h = cc
 counts c o (Some (DisconnectResponse d s)) h = cc
 counts c o (Some (TunnellingRequest d n p)) h = cc
 counts c o (Some (TunnellingAck d n s)) h =
-    let one = both _ _ h in
-    let two = both _ _ one.0 in
-    let three = both _ _ one.1 in
+    let one = and_parts _ _ h in
+    let two = and_parts _ _ one.0 in
+    let three = and_parts _ _ one.1 in
     let d_is : d ≡ c = eqb-true d c two.0 in
     let n_is : n ≡ o.number = eqb-true n o.number two.1 in
-    record { status = s; is = ap (λ z. Some (TunnellingAck z n s)) d_is ∙ ap (λ z. Some (TunnellingAck c z s)) n_is; waits = isnt _ three.1 }
+    record { status = s; is = ap (λ z. Some (TunnellingAck z n s)) d_is ∙ ap (λ z. Some (TunnellingAck c z s)) n_is; waits = not-true _ three.1 }
 
 ack_is : (g : Option IpFrame) (c n s : ℕ) → g ≡ Some (TunnellingAck c n s) → IsAck g
 ack_is g c n s e = subst IsAck (sym e) tt

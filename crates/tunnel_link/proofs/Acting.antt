@@ -3,6 +3,7 @@ use Rattle.std.proofs.Common.{◌≡◌, ◌≢◌, ℕ, ◌≤◌, List, [], �
 use Rattle.std.proofs.lemmas.List.{append_assoc, length-append}
 use Rattle.std.specs.Prelude.{◌||◌}
 use Rattle.std.specs.List.{list_any}
+use Rattle.std.proofs.lemmas.Bool.{or_parts}
 use Rattle.line_model.specs.declared.fault.HubFault.{HubFault}
 use Rattle.line_model.specs.Record.{Placed, entries, is_poll}
 use Rattle.line_model.specs.LinkStory.{Story, Untold, Recorded, Full, places_in, newest_time}
@@ -59,13 +60,9 @@ pub nothing_two : (old one two : List Placed) → AllNothing old one → AllNoth
 nothing_two old one [] x y = x
 nothing_two old one (p ∷ two) x y = (subst (λ (l : List Placed). deed (channel (entries l)) p.what ≡ Nothing) (sym (append_assoc two one old)) y.0, nothing_two old one two x y.1)
 
-or_false : (a b : Bool) → (a || b) ≡ false → (a ≡ false) × (b ≡ false)
-or_false true b h = absurd (cc)
-or_false false b h = (refl, h)
-
 none_two : (f : Placed → Bool) (two one : List Placed) → list_any f two ≡ false → list_any f one ≡ false → list_any f (two ++ one) ≡ false
 none_two f [] one x y = y
-none_two f (p ∷ two) one x y = let h = or_false (f p) (list_any f two) x in rw h.0 (none_two f two one h.1 y)
+none_two f (p ∷ two) one x y = let h = or_parts (f p) (list_any f two) x in rw h.0 (none_two f two one h.1 y)
 
 -- the request again, and the heartbeat
 pub record TwoDue (again beat : Bool) (old added : List Placed) : Type 0 where
@@ -132,7 +129,7 @@ module _ (lapse : Result Loss HubFault) (s0 s1 : Story) (still : WhereTold (λ p
       t.nothing,
       record {
         loss = refl;
-        unsent = λ h. t.unsent (or_false (again || beat) false h).0;
+        unsent = λ h. t.unsent (or_parts (again || beat) false h).0;
         sent = λ h. t.sent (told_not again beat h);
         only_sends = t.only_sends;
         asks_no_end = t.asks_no_end;

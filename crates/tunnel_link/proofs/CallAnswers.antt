@@ -22,11 +22,10 @@ use Rattle.tunnel_link.specs.Calls.{SendsSo, AnswersSo, Stands, Unsent, Connects
 use Rattle.tunnel_link.proofs.MaySend.{Sending, not_over, not_late}
 use Rattle.tunnel_link.proofs.Steps.{left_asks, asks_read, expires}
 use Rattle.tunnel_link.proofs.DueLate.{due_late}
-use Rattle.tunnel_link.proofs.Seeks.{unsought}
 use Rattle.tunnel_link.proofs.Places.{where_after, unmoved, sent_grows, one_sent}
 use Rattle.tunnel_link.proofs.Stories.{sends_goes, sends_or_goes}
 use Rattle.tunnel_link.proofs.Lapses.{Gives, lapsed_none}
-use Rattle.tunnel_link.proofs.CallsKept.{time_is, due_may, due_keeps, put_may, unput_keeps, leave_may, unleft_keeps, open_is, put_adds, sends_keeps, nothing_adds}
+use Rattle.tunnel_link.proofs.CallsKept.{time_is, due_may, due_keeps, put_may, leave_may, open_is, put_adds, sends_keeps, nothing_adds}
 use Rattle.tunnel_link.proofs.SeekKept.{grows_as, SeekAdds, are_polls, seek_adds}
 use Rattle.tunnel_link.proofs.PollKept.{answers_go}
 
@@ -115,21 +114,11 @@ module _ (k : Known) (before : Story) (all : KeepsAll k before) (calm : k.fault 
   pub due_none_keeps : (next : Known) (now : ℕ) → IsTime now before → sent_by (channel_expired k.channel now) ≡ None → next ≡ with_due k now → KeepsAll next before
   due_none_keeps next now t q n = subst (λ (x : Known). KeepsAll x before) (sym n) (due_keeps k before all calm now t q)
 
-  pub leave_none_keeps : (next : Known) → channel_left k.channel ≡ None → next ≡ with_leave k → KeepsAll next before
-  leave_none_keeps next q n = subst (λ (x : Known). KeepsAll x before) (sym n) (unleft_keeps k before all calm q)
-
-  pub put_none_keeps : (next : Known) (now : ℕ) (cemi : List ℕ) → channel_put k.channel cemi ≡ None → next ≡ with_put k cemi now → KeepsAll next before
-  put_none_keeps next now cemi q n = subst (λ (x : Known). KeepsAll x before) (sym n) (unput_keeps k before all calm now cemi q)
-
   pub unleft_adds : channel_left k.channel ≡ None → Growing (Leaves (Ok false)) before before
   unleft_adds q old p = unmoved (Leaves (Ok false)) before before old refl p (record { nothing = tt; so = (unasked, refl, refl, (λ h. refl)) })
     where
       unasked : false ≡ is_open (channel (entries old))
       unasked = subst (λ (o : Option (List ℕ)). is_some o ≡ is_open (channel (entries old))) q (open_is k before all calm old p)
-
-  pub unsought_adds : ¬ MayConnect k.channel → Growing (Seeks (Ok false)) before before
-  unsought_adds m old p = unmoved (Seeks (Ok false)) before before old refl p
-      (record { nothing = tt; so = (refl, unsought k.channel (channel (entries old)) ((all.kept old p).fits calm).end m) })
 
 -- ---- a new endpoint
 

@@ -16,7 +16,7 @@ use Rattle.tunnel_link.specs.Adds.{place_of, Growing, PutsOne}
 use Rattle.tunnel_link.specs.Calls.{SendsSo}
 use Rattle.tunnel_link.proofs.Clock.{newest_is_now, newest_counted}
 use Rattle.tunnel_link.proofs.MaySend.{Sending}
-use Rattle.tunnel_link.proofs.Steps.{due_sends, due_rests, put_sends, put_rests, place_puts, leave_sends, leave_rests, is_left_open}
+use Rattle.tunnel_link.proofs.Steps.{due_sends, due_rests, put_sends, place_puts, leave_sends, is_left_open}
 use Rattle.tunnel_link.proofs.Places.{some_is, sent_grows, sent_or_grows, unmoved, after_sent, after_failed}
 use Rattle.tunnel_link.proofs.Stories.{sends_goes, sends_or_goes}
 
@@ -58,9 +58,6 @@ module _ (k : Known) (before : Story) (all : KeepsAll k before) (calm : k.fault 
       let same : (now ≡ newest_time (entries old)) = time_is now before old all.legal t p in
       subst (λ (n : ℕ). Sending (with_put k cemi n) octets (Puts cemi) (entries old)) (sym same) (put_sends k (entries old) cemi octets (fits old p) (right old p) i h)
 
-  pub unput_keeps : (now : ℕ) (cemi : List ℕ) → channel_put k.channel cemi ≡ None → KeepsAll (with_put k cemi now) before
-  unput_keeps now cemi h = subst (λ (x : Known). KeepsAll x before) (sym (put_rests k cemi now h)) all
-
   pub unput_adds : {X : Type 0} (x : X) (cemi : List ℕ) → channel_put k.channel cemi ≡ None → Growing (PutsOne (Ok x) cemi (place_of before)) before before
   unput_adds x cemi h old p =
       unmoved (PutsOne (Ok x) cemi (place_of before)) before before old refl p (λ place. absurd (place_puts k.channel (channel (entries old)) cemi (fits old p).end place h))
@@ -69,12 +66,6 @@ module _ (k : Known) (before : Story) (all : KeepsAll k before) (calm : k.fault 
 
   pub leave_may : (octets : List ℕ) → channel_left k.channel ≡ Some octets → WhereTold (λ old. Sending (with_leave k) octets Nothing (entries old)) before
   leave_may octets h old p = leave_sends k (entries old) octets (fits old p) (right old p) h
-
-  pub unleft_keeps : channel_left k.channel ≡ None → KeepsAll (with_leave k) before
-  unleft_keeps h = record {
-    legal = all.legal;
-    kept = λ old p. (subst (λ (x : Known). IsKept x (entries old)) (sym (leave_rests k (entries old) (fits old p) h)) (all.kept old p));
-  }
 
   pub open_is : (old : List Placed) → places_in before ≡ Some old → is_some (channel_left k.channel) ≡ is_open (channel (entries old))
   open_is old p = is_left_open k.channel (channel (entries old)) (fits old p).end

@@ -107,7 +107,3 @@ newest_is_now start (e ∷ events) fresh = by_item start e events (newest_is_now
 pub newest_counted : (r : List Entry) → newest_time (entries (counted r)) ≡ newest_time r
 newest_counted [] = refl
 newest_counted (x ∷ r) = refl
-
-pub entries_counted : (r : List Entry) → entries (counted r) ≡ r
-entries_counted [] = refl
-entries_counted (x ∷ r) = ap (λ (l : List Entry). x ∷ l) (entries_counted r)

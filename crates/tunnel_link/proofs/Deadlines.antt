@@ -2,9 +2,10 @@
 use Rattle.std.proofs.Common.{◌≡◌, ◌≢◌, ℕ, ◌<◌, ◌≤◌, List, Bool, true, false, Option, Some, None, refl, sym, ◌∙◌, arith}
 use Rattle.std.specs.Prelude.{◌||◌, is_some, nat_lt, IfSome}
 use Rattle.std.proofs.lemmas.Bool.Decides.{nat_tests}
+use Rattle.std.proofs.lemmas.Bool.{or_parts}
 use Rattle.knx_model.specs.KnxNetIp.{Written}
 use Rattle.knx_model.specs.declared.frames.ip.IpFrame.TheVariants.{StateRequest}
-use Rattle.knx_model.specs.Connection.{has_passed, wait_end, last_time}
+use Rattle.knx_model.specs.Connection.{has_passed, wait_end, last_time, nearer}
 use Rattle.knx_model.specs.ConnectionLaws.{Reached}
 use Rattle.line_model.specs.declared.client_end.ChannelExpired.{ChannelExpired}
 use Rattle.line_model.specs.declared.client_end.ChannelExpired.TheVariants as due
@@ -17,12 +18,11 @@ use Rattle.line_model.specs.ClientEnd.{ClientEnd, Idle, Seeking, Open, Leaving, 
 use Rattle.tunnel_channel.proofs.Deadline.{nearest}
 use Rattle.tunnel_link.specs.declared.known.Known.{Known}
 use Rattle.tunnel_link.specs.Kept as kept
-use Rattle.tunnel_link.specs.Kept.{confirmation_end, nearer, next_due, is_over_for}
+use Rattle.tunnel_link.specs.Kept.{confirmation_end, next_due, is_over_for}
 use Rattle.tunnel_link.specs.Rights.{FitsRecord}
 use Rattle.tunnel_link.specs.Adds.{IsBefore, TimelyBefore}
 use Rattle.tunnel_link.proofs.Late.{late_open, late_end, late_same}
 use Rattle.tunnel_link.proofs.MaySend.{not_over, not_late}
-use Rattle.tunnel_link.proofs.Waited.{or_neither}
 
 -- ---- nothing is due exactly where nothing is over and nothing late
 
@@ -41,8 +41,8 @@ module _ (e : OpenEnd) (now : ℕ) where
 
   open_nothing : (is_given_up e.request now || is_dead e now) ≡ false → late_open (Some e) now ≡ false → open_expired e now ≡ due.Nothing
   open_nothing over late =
-      let o = or_neither (is_given_up e.request now) (is_dead e now) over in
-      let l = or_neither (is_some (repeat_due e.request now)) (has_passed heartbeat_pause e.beat now) late in
+      let o = or_parts (is_given_up e.request now) (is_dead e now) over in
+      let l = or_parts (is_some (repeat_due e.request now)) (has_passed heartbeat_pause e.beat now) late in
       let none : (repeat_due e.request now ≡ None) = none_of (repeat_due e.request now) l.0 in
       rw (o.0, o.1, none, l.1) refl
 

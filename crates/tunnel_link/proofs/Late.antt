@@ -2,6 +2,7 @@
 use Rattle.std.proofs.Common.{◌≡◌, ℕ, ◌<◌, ◌≤◌, List, [], ◌∷◌, Bool, true, false, cond, Option, Some, None, refl, arith}
 use Rattle.std.specs.Prelude.{◌||◌, is_some}
 use Rattle.std.proofs.lemmas.Bool.Decides.{nat_tests}
+use Rattle.std.proofs.lemmas.Bool.{or_parts}
 use Rattle.knx_model.specs.KnxNetIp.{Written}
 use Rattle.knx_model.specs.declared.frames.ip.IpFrame.TheVariants.{StateRequest}
 use Rattle.knx_model.specs.Connection.{has_passed}
@@ -16,7 +17,6 @@ use Rattle.line_model.specs.Renews.{is_repeat_due, is_beat_due, is_late}
 use Rattle.line_model.specs.ClientEnd.{ClientEnd, Idle, Seeking, Open, Leaving, JustLost, OpenEnd, open_end, is_given_up, is_dead, repeat_due, open_expired, channel_expired, after_expired, repeated, beaten}
 use Rattle.tunnel_channel.specs.Fits.{HasNone, KnowsOpen, outstanding_of}
 use Rattle.tunnel_link.specs.Rights.{FitsNow}
-use Rattle.tunnel_link.proofs.Waited.{or_neither}
 
 -- the outstanding request is to be sent again
 abbrev pub repeats_open : Option OpenEnd → ℕ → Bool
@@ -76,7 +76,7 @@ late_before (seen.Sought since) t now le h = refl
 late_before (seen.RefusedBy status) t now le h = refl
 late_before seen.Unanswered t now le h = refl
 late_before (seen.Open c l) t now le h =
-    let both = or_neither (is_repeat_due (own c l).sent now) (is_beat_due c l now) h in
+    let both = or_parts (is_repeat_due (own c l).sent now) (is_beat_due c l now) h in
     let again : (is_repeat_due (own c l).sent t ≡ false) = repeat_before (own c l).sent t now le both.0 in
     let beat : (is_beat_due c l t ≡ false) = passed_before heartbeat_pause _ t now le both.1 in
     rw again beat
@@ -92,7 +92,7 @@ quiet_beat c (y ∷ l) at t le h = h
 quiet_open : (c : ℕ) (l : List Entry) (at t : ℕ) → t ≤ at → is_late (seen.Open c l) t ≡ false → (b : Bool) → is_late (cond b (seen.Lost c) (seen.Open c (entry Quiet at ∷ l))) t ≡ false
 quiet_open c l at t le h true = refl
 quiet_open c l at t le h false =
-    let both = or_neither (is_repeat_due (own c l).sent t) (is_beat_due c l t) h in
+    let both = or_parts (is_repeat_due (own c l).sent t) (is_beat_due c l t) h in
     rw both.0 (quiet_beat c l at t le both.1)
 
 quiet_sought : (since t : ℕ) (b : Bool) → is_late (cond b seen.Unanswered (seen.Sought since)) t ≡ false

@@ -28,7 +28,6 @@ pub mod Polls
 pub mod Prompting
 pub mod Prompts
 pub mod Quiet
-pub mod Read
 pub mod Results
 pub mod SeekKept
 pub mod Seeks
@@ -37,7 +36,6 @@ pub mod Stories
 pub mod Takes
 pub mod TakesRows
 pub mod TakesSends
-pub mod Timeless
 pub mod Times
 pub mod Waited
 pub mod Nearest

@@ -5,7 +5,7 @@ use Rattle.line_model.specs.declared.fault.HubFault.{HubFault}
 use Rattle.line_model.specs.Record.{Put, Entry, entry}
 use Rattle.line_model.specs.LinkStory.{newest_time}
 use Rattle.line_model.specs.ClientView as seen
-use Rattle.line_model.specs.ClientView.{ClientChannel, channel, Deed, Nothing, deed}
+use Rattle.line_model.specs.ClientView.{ClientChannel, channel, Deed, deed}
 use Rattle.line_model.specs.ChannelLost.{own, acknowledged, confirmed, beats, is_given_up, is_unconfirmed, is_dead, has_lapsed}
 use Rattle.line_model.specs.Renews.{RenewsSo, IsOwed, owed}
 use Rattle.line_model.specs.Sendings.{IsRightItem}
@@ -18,7 +18,7 @@ use Rattle.tunnel_channel.proofs.Current.{sendings_stay_current}
 use Rattle.tunnel_channel.proofs.Puts.{opened_put, lost_put}
 use Rattle.tunnel_channel.proofs.Take.{lapsed_alike}
 use Rattle.tunnel_link.specs.declared.known.Known.{Known}
-use Rattle.tunnel_link.specs.Kept.{none_in_flight, is_late, is_over_for}
+use Rattle.tunnel_link.specs.Kept.{none_in_flight, is_late}
 use Rattle.tunnel_link.specs.Rights.{IsRight, FitsNow, FitsRecord, IsKept, IsntRefusal, tries_of}
 use Rattle.tunnel_link.proofs.Entries.{put_tries, put_owes, put_right, failed_right}
 use Rattle.tunnel_link.proofs.Partings.{put_parted}
@@ -77,9 +77,6 @@ not_over k r f = current_over k.channel (channel r) (newest_time r) f.end f.curr
 
 pub not_late : (k : Known) (r : List Entry) → FitsRecord k r → is_late k.flight (newest_time r) ≡ false
 not_late k r f = same_late k r (newest_time r) f ∙ current_late (channel r) (newest_time r) f.current
-
-pub not_over_for : (k : Known) (r : List Entry) → FitsRecord k r → is_over_for k (newest_time r) ≡ false
-not_over_for k r f = rw (not_late k r f) (not_over k r f)
 
 -- ---- where a channel is open this end isn't behind
 

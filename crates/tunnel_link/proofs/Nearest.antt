@@ -3,7 +3,7 @@ use Rattle.std.proofs.Common.{◌≡◌, ◌⊎◌, inl, inr, ℕ, zero, suc, �
 use Rattle.std.specs.Prelude.{Contains, nat_le, if◌then◌else◌, IfSome}
 use Rattle.std.proofs.lemmas.Bool.Decides.{nat_tests}
 use Rattle.std.proofs.lemmas.List.Elements.{Contains-append_left, Contains-append_right, Contains-append_cases}
-use Rattle.knx_model.specs.Connection.{wait_end, last_time, earlier_time}
+use Rattle.knx_model.specs.Connection.{wait_end, last_time, earlier_time, nearer}
 use Rattle.line_model.specs.Gateway.{acknowledgement_wait}
 use Rattle.line_model.specs.Record.{Entry}
 use Rattle.line_model.specs.LinkStory.{newest_time}
@@ -17,7 +17,7 @@ use Rattle.line_model.specs.Waiting.{request_deadlines, confirmation_deadlines, 
 use Rattle.tunnel_channel.specs.Fits.{HasNone, Knows, IsBeatenRightly, outstanding_of, acknowledged_in, confirmed_in}
 use Rattle.tunnel_link.specs.declared.known.Known.{Known}
 use Rattle.tunnel_link.specs.Adds.{IsBefore}
-use Rattle.tunnel_link.specs.Kept.{confirmation_end, nearer, next_due}
+use Rattle.tunnel_link.specs.Kept.{confirmation_end, next_due}
 use Rattle.tunnel_link.specs.Rights.{FitsNow, FitsRecord}
 use Rattle.tunnel_link.proofs.Deadlines.{before_now}
 

@@ -14,9 +14,9 @@ use Rattle.tunnel_link.specs.declared.came.Loss.TheVariants as loss
 use Rattle.tunnel_link.specs.declared.came.What.{What}
 use Rattle.tunnel_link.specs.declared.came.What.TheVariants as came
 use Rattle.tunnel_link.specs.declared.known.Known.{Known}
-use Rattle.tunnel_link.specs.Goes.{Goes, Keeps, KeepsAll}
+use Rattle.tunnel_link.specs.Goes.{Keeps}
 use Rattle.tunnel_link.specs.Rights.{IsRight, IsKept}
-use Rattle.tunnel_link.specs.Adds.{place_of, Grows, Growing, IsNothing, PutsNone, One, DoesSo, OrLoses, PollAdds, moments_on, is_told}
+use Rattle.tunnel_link.specs.Adds.{place_of, Grows, IsNothing, PutsNone, One, DoesSo, OrLoses, PollAdds, moments_on, is_told}
 use Rattle.tunnel_link.specs.Alone.{Each, LeavesAlone}
 use Rattle.tunnel_link.specs.Calls.{AnswersSo, is_there}
 use Rattle.tunnel_link.proofs.Alone.{is_alone, waits_alone, answer_alone}
@@ -120,11 +120,6 @@ module _ (result : Result Came HubFault) (next : Known) (a : Answer) (old ws : L
   adds_one (Err fault) octets at g tells n = ((λ o h. absurd (let e : (Nothing ≡ Puts o) = sym n ∙ h in cc)), does_puts a.what a.loss _ (moments_on old (p ∷ ws)) c.answers.does)
 
 -- ---- after it
-
-pub record PollCall (result : Result Came HubFault) (k new : Known) (before after : Story) : Type 0 where
-  pub goes : Goes before after
-  pub keeps : KeepsAll k before → k.fault ≡ None → KeepsAll new after
-  pub adds : KeepsAll k before → k.fault ≡ None → Growing (PollAdds result) before after
 
 -- of old places
 pub record PollOf (result : Result Came HubFault) (wait : ℕ) (new : Known) (before after : Story) (old : List Placed) : Type 0 where

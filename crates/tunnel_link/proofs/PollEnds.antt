@@ -1,5 +1,6 @@
 -- What this end knows and answers after a poll, by its last entry.
 use Rattle.std.proofs.Common.{◌≡◌, inl, inr, ℕ, ◌≤◌, List, ◌∷◌, ◌++◌, Bool, true, false, Option, Some, None, refl, sym, subst, ap, ◌∙◌}
+use Rattle.std.proofs.lemmas.Bool.{or_parts}
 use Rattle.knx_model.specs.declared.frames.ip.IpFrame.{IpFrame}
 use Rattle.line_model.specs.declared.client_end.ChannelTook.{ChannelTook}
 use Rattle.line_model.specs.declared.client_end.ChannelTook.TheVariants as took
@@ -8,7 +9,6 @@ use Rattle.line_model.specs.Record.{Item, Put, Renewed, Got, Quiet, Entry, entry
 use Rattle.line_model.specs.LinkStory.{newest_time, AreWaits}
 use Rattle.line_model.specs.ClientView as seen
 use Rattle.line_model.specs.ClientView.{ClientChannel, channel}
-use Rattle.line_model.specs.Faults.{is_counted, datagrams_taken}
 use Rattle.line_model.specs.Faults as fault
 use Rattle.line_model.specs.ClientEnd.{ClientEnd, Idle, Seeking, Open, Leaving, JustLost, is_over}
 use Rattle.line_model.specs.ClientFrames.{HasTunnelIfUp, channel_took, after_took}
@@ -24,7 +24,7 @@ use Rattle.tunnel_link.specs.Rights.{IsRight, FitsNow, FitsRecord}
 use Rattle.tunnel_link.specs.Adds.{GotSo, moments_on}
 use Rattle.tunnel_link.proofs.Entries.{poll_right}
 use Rattle.tunnel_link.proofs.MaySend.{fits_of}
-use Rattle.tunnel_link.proofs.Waited.{Waited, InTime, Lapsed, Unheard, waited_more, or_neither, late_is, open_timely, over_for_later}
+use Rattle.tunnel_link.proofs.Waited.{Waited, InTime, Lapsed, Unheard, waited_more, late_is, open_timely, over_for_later}
 use Rattle.tunnel_link.proofs.Lapses.{Answers, lapse_answers, lapse_what}
 use Rattle.tunnel_link.proofs.Heard.{drops_one, drops_none, takes_one, takes_none}
 use Rattle.tunnel_link.proofs.Beats.{InTimeAt, beat_told}
@@ -37,13 +37,10 @@ use Rattle.tunnel_channel.proofs.Times.{passed_later}
 
 module _ (k : Known) (r : List Entry) (f : FitsRecord k r) (right : IsRight k r) (calm : k.fault ≡ None) (octets : List ℕ) (frame : IpFrame) (now : ℕ) (is : datagram_in octets ≡ Some frame) (le : newest_time r ≤ now) (over : is_over_for k now ≡ false) (tunnel : HasTunnelIfUp frame) where
   late : is_late k.flight now ≡ false
-  late = (or_neither (is_late k.flight now) (is_over k.channel now) over).0
+  late = (or_parts (is_late k.flight now) (is_over k.channel now) over).0
 
   in_time : is_over k.channel now ≡ false
-  in_time = (or_neither (is_late k.flight now) (is_over k.channel now) over).1
-
-  told : ChannelTook
-  told = channel_took k.channel frame now
+  in_time = (or_parts (is_late k.flight now) (is_over k.channel now) over).1
 
   timely : (end : ClientEnd) → k.channel ≡ end → FitsNow end (channel r) → InTimeAt (channel r) now
   timely Idle at g = none_timely (channel r) g
@@ -146,7 +143,7 @@ module _ (k : Known) (old ws : List Placed) (calm : k.fault ≡ None) (f : FitsR
       }
   got_unread octets over n (Lapsed h one) = absurd (let o : (is_over_for k now ≡ true) = h.over in cc)
   got_unread octets over n (Unheard h a) =
-      absurd (let o : (is_over k.channel now ≡ true) = ap (λ (end : ClientEnd). is_over end now) h.is ∙ h.over in let p : (is_over k.channel now ≡ false) = (or_neither (is_late k.flight now) (is_over k.channel now) over).1 in cc)
+      absurd (let o : (is_over k.channel now ≡ true) = ap (λ (end : ClientEnd). is_over end now) h.is ∙ h.over in let p : (is_over k.channel now ≡ false) = (or_parts (is_late k.flight now) (is_over k.channel now) over).1 in cc)
 
   got_frame : (octets : List ℕ) (frame : IpFrame) → is_over_for k now ≡ false → datagram_in octets ≡ Some frame → HasTunnelIfUp frame → Waited k old ws → Comes (taken k frame now) (take_answer k frame now) old ws (last (Got octets))
   got_frame octets frame over is tunnel (InTime g a) =
@@ -158,7 +155,7 @@ module _ (k : Known) (old ws : List Placed) (calm : k.fault ≡ None) (f : FitsR
   got_frame octets frame over is tunnel (Lapsed h one) =
       absurd (let o : (is_over_for k now ≡ true) = over_for_later k h.e (newest_time (entries (ws ++ old))) now h.is le h.over in cc)
   got_frame octets frame over is tunnel (Unheard h a) =
-      absurd (let o : (is_over k.channel now ≡ true) = ap (λ (end : ClientEnd). is_over end now) h.is ∙ passed_later 10000 h.since (newest_time (entries (ws ++ old))) now le h.over in let p : (is_over k.channel now ≡ false) = (or_neither (is_late k.flight now) (is_over k.channel now) over).1 in cc)
+      absurd (let o : (is_over k.channel now ≡ true) = ap (λ (end : ClientEnd). is_over end now) h.is ∙ passed_later 10000 h.since (newest_time (entries (ws ++ old))) now le h.over in let p : (is_over k.channel now ≡ false) = (or_parts (is_late k.flight now) (is_over k.channel now) over).1 in cc)
 
   by_frame : (octets : List ℕ) (o : Option IpFrame) → datagram_in octets ≡ o → is_over_for k now ≡ false → ((frame : IpFrame) → o ≡ Some frame → HasTunnelIfUp frame) → Comes (read_or_dropped k now o) (read_answer k now o) old ws (last (Got octets))
   by_frame octets None n over h = got_unread octets over n (waited_more (dropped_as_unread k) old ws (last (Got octets)) refl le (inl n) waited_unread)

@@ -1,6 +1,7 @@
 -- Within one poll no deadline is passed over: no wait goes on past it.
 use Rattle.std.proofs.Common.{◌≡◌, ℕ, ◌+◌, ◌<◌, ◌≤◌, List, [], ◌∷◌, ◌++◌, Bool, true, false, refl, subst, ap, ◌∙◌, arith}
 use Rattle.std.specs.Prelude.{◌&&◌}
+use Rattle.std.proofs.lemmas.Bool.{or_parts}
 use Rattle.line_model.specs.Record.{Item, Quiet, Entry, entry, Placed, entries}
 use Rattle.line_model.specs.LinkStory.{newest_time, AreWaits}
 use Rattle.line_model.specs.ClientView.{ClientChannel, channel, after_entry}
@@ -17,7 +18,7 @@ use Rattle.tunnel_link.proofs.Late.{late_same, late_before, quiet_late}
 use Rattle.tunnel_link.proofs.PollParts.{PollsOnce, NoPoll, Polls, PollsAndSends, IsPolling}
 use Rattle.tunnel_link.proofs.Polls.{newest_last, waits_all}
 use Rattle.tunnel_link.proofs.Times.{last_poll_time, poll_before_time, waits_rise, waits_move, first_wait}
-use Rattle.tunnel_link.proofs.Waited.{Waited, InTime, Lapsed, Unheard, or_neither, none_stays}
+use Rattle.tunnel_link.proofs.Waited.{Waited, InTime, Lapsed, Unheard, none_stays}
 
 -- ---- while the wait goes on
 
@@ -25,7 +26,7 @@ in_time_of : (k : Known) (old ws : List Placed) → Waited k old ws → is_over_
 in_time_of k old ws (InTime f a) o = f
 in_time_of k old ws (Lapsed h one) o = absurd (let over : (is_over_for k (newest_time (entries (ws ++ old))) ≡ true) = h.over in cc)
 in_time_of k old ws (Unheard h a) o =
-    let both = or_neither (kept.is_late k.flight (newest_time (entries (ws ++ old)))) (is_over k.channel (newest_time (entries (ws ++ old)))) o in
+    let both = or_parts (kept.is_late k.flight (newest_time (entries (ws ++ old)))) (is_over k.channel (newest_time (entries (ws ++ old)))) o in
     absurd (let over : (is_over k.channel (newest_time (entries (ws ++ old))) ≡ true) = ap (λ (end : ClientEnd). is_over end (newest_time (entries (ws ++ old)))) h.is ∙ h.over in let none : (is_over k.channel (newest_time (entries (ws ++ old))) ≡ false) = both.1 in cc)
 
 stays_here : (end : ClientEnd) (ch : ClientChannel) (at : ℕ) → FitsNow end ch → FitsNow end (after_entry ch (entry Quiet at)) → is_left ch ≡ false → is_left (after_entry ch (entry Quiet at)) ≡ false

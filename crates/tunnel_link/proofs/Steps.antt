@@ -15,7 +15,7 @@ use Rattle.line_model.specs.ChannelLost.{answer_wait}
 use Rattle.line_model.specs.Renews.{is_left}
 use Rattle.line_model.specs.Asks.{HasPlace}
 use Rattle.line_model.specs.Closing.{is_open}
-use Rattle.line_model.specs.ClientEnd.{ClientEnd, Idle, Seeking, Open, Leaving, JustLost, OpenEnd, IsCemi, request_of, is_free, put_octets, channel_put, after_put, channel_expired, after_expired, channel_left, after_leave}
+use Rattle.line_model.specs.ClientEnd.{ClientEnd, Idle, Seeking, Open, Leaving, JustLost, OpenEnd, IsCemi, request_of, is_free, put_octets, channel_put, channel_expired, after_expired, channel_left, after_leave}
 use Rattle.tunnel_channel.specs.Fits.{HasNone, KnowsOpen, end_of}
 use Rattle.tunnel_channel.specs.Follows.{Expires, PutsRequest, Sends, sent_by, is_told_over, is_up_or_sought}
 use Rattle.tunnel_channel.proofs.Frames.{leave_read}
@@ -114,20 +114,6 @@ put_open (Open e) ch cemi octets f h = opened e false ch f
 put_open (Leaving e) ch cemi octets f h = opened e true ch f
 put_open (JustLost c) ch cemi octets f h = absurd f
 
-busy : (e : OpenEnd) (cemi : List ℕ) (now : ℕ) (t : Bool) → is_free e.request ≡ t → put_octets (Some e) cemi ≡ None → (after_put (Open e) cemi now ≡ Open e) × (after_put (Leaving e) cemi now ≡ Leaving e)
-busy e cemi now true q h = absurd (let g : (put_octets (Some e) cemi ≡ Some (Written (request_of e cemi))) = rw q refl in cc)
-busy e cemi now false q h = (rw q refl, rw q refl)
-
-unput : (end : ClientEnd) (cemi : List ℕ) (now : ℕ) → channel_put end cemi ≡ None → after_put end cemi now ≡ end
-unput Idle cemi now h = refl
-unput (Seeking since) cemi now h = refl
-unput (Open e) cemi now h = (busy e cemi now (is_free e.request) refl h).0
-unput (Leaving e) cemi now h = (busy e cemi now (is_free e.request) refl h).1
-unput (JustLost c) cemi now h = refl
-
-pub put_rests : (k : Known) (cemi : List ℕ) (now : ℕ) → channel_put k.channel cemi ≡ None → with_put k cemi now ≡ k
-put_rests k cemi now h = rw (h, unput k.channel cemi now h) refl
-
 pub put_sends : (k : Known) (r : List Entry) (cemi octets : List ℕ) → FitsRecord k r → IsRight k r → IsCemi cemi → channel_put k.channel cemi ≡ Some octets → Sending (with_put k cemi (newest_time r)) octets (Puts cemi) r
 put_sends k r cemi octets f right i h =
     let now : ℕ = newest_time r in
@@ -183,16 +169,6 @@ is_left_open (Seeking since) ch f = rw f refl
 is_left_open (Open e) ch f = rw f.is refl
 is_left_open (Leaving e) ch f = rw f.is refl
 is_left_open (JustLost c) ch f = absurd f
-
-pub leave_rests : (k : Known) (r : List Entry) → FitsRecord k r → channel_left k.channel ≡ None → with_leave k ≡ k
-leave_rests k r f h = rw (stays k.channel f.end h) refl
-  where
-    stays : (end : ClientEnd) → FitsNow end (channel r) → channel_left end ≡ None → after_leave end ≡ end
-    stays Idle f h = refl
-    stays (Seeking since) f h = refl
-    stays (Open e) f h = absurd (cc)
-    stays (Leaving e) f h = absurd (cc)
-    stays (JustLost c) f h = absurd f
 
 -- the datagram asks to end that channel
 pub record AsksEnd (octets : List ℕ) : Type 0 where

@@ -5,8 +5,8 @@ use Rattle.line_model.specs.World.{World, Event, Send, Renew, replay}
 use Rattle.line_model.specs.Legal.{MayHappen}
 use Rattle.line_model.specs.Record.{Item, Put, Renewed, Entry, entry, is_poll}
 use Rattle.line_model.specs.LinkStory as told
-use Rattle.line_model.specs.LinkStory.{Story, Untold, Recorded, Full, Adds, Sends, Renews, SendsOrNot, RenewsOrNot, Polls, PollsNothing, FailsFull, PollsFull, PollsRecord, Same, More, IsNewLink, AreWaits, last_wait}
-use Rattle.tunnel_link.specs.Goes.{GoesOn, Goes, MovesSo, TimesMove, Keeps, IsLegalRun}
+use Rattle.line_model.specs.LinkStory.{Story, Untold, Recorded, Full, Adds, Sends, Renews, SendsOrNot, RenewsOrNot, Polls, PollsNothing, PollsFull, Same, More, AreWaits, last_wait}
+use Rattle.tunnel_link.specs.Goes.{GoesOn, Goes, MovesSo, TimesMove, IsLegalRun}
 
 -- ---- one after another
 
@@ -109,10 +109,3 @@ nothing_goes wait before (Recorded r) h = stays before (Recorded r) (sym h)
 nothing_goes wait before (Full start events) h =
     let P : Story → Type 0 = λ s. Goes s (Full start events) in
     subst P (sym h.1) (foreign_goes start h.0 events h.2.foreign)
-
-pub new_keeps : (s : Story) → IsNewLink s → Keeps s
-new_keeps Untold h = tt
-new_keeps (Recorded r) h = subst TimesMove (sym h) tt
-new_keeps (Full start events) h =
-    let P : List Event → Type 0 = λ es. IsLegalRun start es in
-    subst P (sym h.0) (record { fresh = h.1; legal = tt })

@@ -1,19 +1,19 @@
 -- A frame of the gateway that came in time: what is known then is what the record says, and what is sent may be sent.
 use Rattle.std.proofs.Common.{◌≡◌, ℕ, List, Bool, true, false, Option, Some, None, refl}
 use Rattle.std.specs.Prelude.{◌||◌, option_map}
+use Rattle.std.proofs.lemmas.Bool.{or_parts}
 use Rattle.knx_model.specs.declared.frames.ip.IpFrame.{IpFrame}
 use Rattle.knx_model.specs.declared.frames.ip.IpFrame.TheVariants.{ConnectRequest, ConnectResponse, StateRequest, StateResponse, DisconnectRequest, DisconnectResponse, TunnellingRequest, TunnellingAck}
 use Rattle.knx_model.specs.KnxNetIp.{Written}
 use Rattle.line_model.specs.Record.{Entry}
 use Rattle.line_model.specs.ClientView as seen
-use Rattle.line_model.specs.ClientView.{ClientChannel, channel, Takes, Loses, Nothing, deed}
+use Rattle.line_model.specs.ClientView.{ClientChannel}
 use Rattle.line_model.specs.Renews.{owed_in}
 use Rattle.line_model.specs.ClientEnd.{ClientEnd, Idle, Seeking, Open, Leaving, JustLost, OpenEnd, with_channel, is_over, is_given_up, is_dead, lost}
-use Rattle.line_model.specs.ClientFrames.{acknowledged, delivered, answered, channel_given, gone}
+use Rattle.line_model.specs.ClientFrames.{acknowledged, answered, channel_given, gone}
 use Rattle.tunnel_channel.specs.Follows.{Ends, change}
 use Rattle.tunnel_link.specs.Rights.{FitsNow}
 use Rattle.tunnel_link.proofs.Steps.{IsOpenAt}
-use Rattle.tunnel_link.proofs.Waited.{or_neither}
 
 -- ---- the end after it: the time has still ended nothing
 
@@ -57,13 +57,10 @@ given_in (TunnellingRequest ch number cemi) now = record { over = refl; up = tt 
 given_in (TunnellingAck ch number status) now = record { over = refl; up = tt }
 
 pub acked_in : (now : ℕ) (end : ClientEnd) → IsIn end now → IsIn (with_channel acknowledged end) now
-acked_in now end i = with_in acknowledged now (λ e h. (or_neither (is_given_up e.request now) (is_dead e now) h).1) end i
-
-pub taken_in_time : (now : ℕ) (end : ClientEnd) → IsIn end now → IsIn (with_channel delivered end) now
-taken_in_time now end i = with_in delivered now (λ e h. h) end i
+acked_in now end i = with_in acknowledged now (λ e h. (or_parts (is_given_up e.request now) (is_dead e now) h).1) end i
 
 pub alive_in : (now : ℕ) (end : ClientEnd) → IsIn end now → IsIn (with_channel answered end) now
-alive_in now end i = with_in answered now (λ e h. or_false (is_given_up e.request now) (or_neither (is_given_up e.request now) (is_dead e now) h).0) end i
+alive_in now end i = with_in answered now (λ e h. or_false (is_given_up e.request now) (or_parts (is_given_up e.request now) (is_dead e now) h).0) end i
 
 -- an end without a channel that is open
 abbrev pub IsDown : ClientEnd → Type 0

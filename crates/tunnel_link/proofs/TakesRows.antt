@@ -1,17 +1,15 @@
 -- Each answer of the channel to a frame that came in time: what is known then is what the record says, and what is sent may be sent.
-use Rattle.std.proofs.Common.{◌≡◌, ◌≢◌, ◌⊎◌, inl, inr, ℕ, ◌<◌, List, [], ◌∷◌, length, Bool, true, false, Some, None, refl, sym, ap, ◌∙◌, arith}
+use Rattle.std.proofs.Common.{◌≡◌, ◌≢◌, ◌⊎◌, inl, inr, ℕ, ◌<◌, List, [], ◌∷◌, length, true, false, Some, None, refl, sym, ap, ◌∙◌, arith}
 use Rattle.knx_model.specs.declared.address.IndAddr.{IndAddr}
 use Rattle.knx_model.specs.declared.frames.ip.IpFrame.{IpFrame}
-use Rattle.knx_model.specs.declared.frames.ip.IpFrame.TheVariants.{DisconnectRequest}
-use Rattle.knx_model.specs.KnxNetIp.{Written}
 use Rattle.line_model.specs.declared.client_end.ChannelTook.{ChannelTook}
 use Rattle.line_model.specs.declared.client_end.ChannelTook.TheVariants as took
 use Rattle.line_model.specs.declared.fault.Try.{Try}
 use Rattle.line_model.specs.declared.fault.Try.TheVariants as try
-use Rattle.line_model.specs.Reading.{datagram_in, disconnect_request_in}
+use Rattle.line_model.specs.Reading.{datagram_in}
 use Rattle.line_model.specs.Record.{Put, Got, Entry, entry}
 use Rattle.line_model.specs.ClientView.{channel, Deed, Takes, Loses, Nothing, deed}
-use Rattle.line_model.specs.Dropped.{is_dropped, dropped}
+use Rattle.line_model.specs.Dropped.{dropped}
 use Rattle.line_model.specs.Faults.{tries, datagrams_taken, opens}
 use Rattle.line_model.specs.Moments.{Moment}
 use Rattle.line_model.specs.Renews.{owed}
@@ -22,7 +20,6 @@ use Rattle.line_model.specs.ClientFrames.{channel_took, after_took}
 use Rattle.tunnel_channel.specs.Fits.{FitsChannel, acknowledged_in, confirmed_in}
 use Rattle.tunnel_channel.specs.Follows.{TakesFrame, Opens, Ends, Stays, change, change_told, cemi_in, taken_in, answer_in, is_told_dropped, acknowledgement_in}
 use Rattle.tunnel_channel.proofs.Current.{polls_are_current}
-use Rattle.tunnel_channel.proofs.Frames.{leave_read}
 use Rattle.tunnel_link.specs.declared.came.Answer.{Answer}
 use Rattle.tunnel_link.specs.declared.known.Known.{Known}
 use Rattle.tunnel_link.specs.declared.tries.Tries.TheVariants.{Zero}
@@ -51,9 +48,6 @@ pub record IsCounted (k counted : Known) (end : ClientEnd) (r : List Entry) : Ty
   pub fault_is : counted.fault ≡ k.fault
   pub drops_is : counted.dropped ≡ k.dropped
   pub takes_is : counted.taken ≡ at_most_64_bits (datagrams_taken r)
-
-none_dropped : (c : ℕ) → disconnect_request_in (datagram_in (Written (DisconnectRequest c))) ≡ Some c
-none_dropped c = rw (leave_read c) refl
 
 module _ (k : Known) (r : List Entry) (f : FitsRecord k r) (right : IsRight k r) (calm : k.fault ≡ None) (octets : List ℕ) (frame : IpFrame) (now : ℕ) (is : datagram_in octets ≡ Some frame) (over : is_over k.channel now ≡ false) where
   abbrev pub x : Entry
@@ -170,9 +164,6 @@ module _ (k : Known) (r : List Entry) (f : FitsRecord k r) (right : IsRight k r)
 
     pub opens_nothing : change_told told ≢ Opens → opens (channel r) (channel (x ∷ r)) x ≡ None
     opens_nothing n = opens_none (channel r) (channel (x ∷ r)) x (λ h. n (sym changes ∙ h))
-
-    got_one : (b : Bool) → is_told_dropped told ≡ b → is_dropped r x ≡ b
-    got_one b h = t.drops ∙ h
 
   pub all_nothing : (m : Moment) (l : List Moment) (d : Deed) → d ≡ Nothing → m.what ≡ d → Every IsNothing l → Every IsNothing (m ∷ l)
   all_nothing m l d n h a = (h ∙ n, a)

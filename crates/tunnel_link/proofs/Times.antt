@@ -14,8 +14,9 @@ use Rattle.line_model.specs.ClientView as seen
 use Rattle.line_model.specs.ClientView.{ClientChannel, channel, after_entry}
 use Rattle.line_model.specs.ChannelLost.{answer_wait}
 use Rattle.line_model.specs.Renews.{is_left, to_last_poll, to_poll_before}
+use Rattle.line_model.proofs.Entries.{entries_counted}
 use Rattle.tunnel_link.specs.Goes.{MovesSo, TimesMove, Keeps}
-use Rattle.tunnel_link.proofs.Clock.{next_now, never_falls, newest_is_now, entries_counted}
+use Rattle.tunnel_link.proofs.Clock.{next_now, never_falls, newest_is_now}
 use Rattle.tunnel_link.proofs.Growth.{same_places}
 use Rattle.tunnel_link.proofs.Polls.{newest_last}
 

@@ -2,6 +2,7 @@
 -- that its try failed.
 use Rattle.std.proofs.Common.{◌≡◌, ◌≢◌, ◌⊎◌, inl, inr, ℕ, ◌<◌, ◌≤◌, List, [], ◌∷◌, ◌++◌, length, Bool, true, false, Option, Some, None, refl, sym, subst, ap, ◌∙◌}
 use Rattle.std.specs.Prelude.{◌||◌}
+use Rattle.std.proofs.lemmas.Bool.{or_parts}
 use Rattle.knx_model.specs.declared.frames.ip.IpFrame.TheVariants.{DisconnectRequest}
 use Rattle.knx_model.specs.Connection.{has_passed}
 use Rattle.line_model.specs.declared.fault.Try.{Try}
@@ -144,10 +145,6 @@ or_second true u b h = refl
 or_second false true b h = refl
 or_second false false b h = absurd (cc)
 
-pub or_neither : (a b : Bool) → (a || b) ≡ false → (a ≡ false) × (b ≡ false)
-or_neither true b h = absurd (cc)
-or_neither false b h = (refl, h)
-
 pub late_or_over : (a b : Bool) → (a || b) ≡ true → a ≡ false → b ≡ true
 late_or_over true b h n = absurd (cc)
 late_or_over false b h n = h
@@ -182,7 +179,7 @@ module _ (k : Known) (r : List Entry) (f : FitsRecord k r) (what : Item) (now : 
 
   stays_fit : got_in what ≡ None → is_over_for k now ≡ false → FitsRecord k (entry what now ∷ r) × (deed (channel r) (entry what now) ≡ Nothing)
   stays_fit n o =
-      let both = or_neither (is_late k.flight now) (is_over k.channel now) o in
+      let both = or_parts (is_late k.flight now) (is_over k.channel now) o in
       let rests = rests_so k.channel f.end n both.0 both.1 in
       let fits : Fits k.channel (entry what now ∷ r) = quiet_follows k.channel r what now (fits_of k.channel (newest_time r) (channel r) f.end) le (sym late_is ∙ both.0) poll n in
       let end : FitsNow k.channel (channel (entry what now ∷ r)) = over_now k.channel now (channel (entry what now ∷ r)) (channel r) f.end fits both.1 in (

@@ -4,7 +4,7 @@ use Rattle.std.specs.Prelude.{ℕ, ◌+◌, ◌-◌, ◌^◌, min, Bool, true, f
 use Rattle.knx_model.specs.declared.frames.cemi.Ldata.{Ldata}
 use Rattle.knx_model.specs.declared.frames.ip.IpFrame.{IpFrame}
 use Rattle.knx_model.specs.declared.frames.ip.IpFrame.TheVariants.{StateResponse}
-use Rattle.knx_model.specs.Connection.{wait_end}
+use Rattle.knx_model.specs.Connection.{wait_end, nearer}
 use Rattle.line_model.specs.declared.client_end.ChannelExpired.{ChannelExpired}
 use Rattle.line_model.specs.declared.client_end.ChannelExpired.TheVariants as due
 use Rattle.line_model.specs.declared.client_end.ChannelTook.{ChannelTook}
@@ -134,12 +134,6 @@ expiry_answer what due.Lost end = loss_answer what end
 expiry_answer what due.NoAnswer end = only what
 expiry_answer what (due.Beat octets) end = loss_answer what end
 expiry_answer what due.Dead end = loss_answer what end
-
--- the nearer of two times
-abbrev pub nearer : Option ℕ → Option ℕ → Option ℕ
-nearer None other = other
-nearer (Some one) None = Some one
-nearer (Some one) (Some other) = Some (min one other)
 
 -- the nearest time at which something becomes due
 abbrev pub next_due : Known → Option ℕ

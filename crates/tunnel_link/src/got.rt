@@ -7,10 +7,10 @@ ghost use Rattle.tunnel_link.specs.Kept.{after_got, got_answer, taken, take_answ
 
 use crate::came::{Answer, Loss, What};
 use crate::flight::Flight;
-use crate::frames::{frame_in, ldata_in};
 use crate::known::Known;
 use crate::tries::Tries;
 use knx_model::{Datagram, IpFrame, LdataCode};
+use line_frames::{datagram_in, ldata_in};
 use line_model::{ChannelTook, Try};
 
 impl Known {
@@ -24,7 +24,7 @@ impl Known {
             self.drops();
             return self.lapse(What::Dropped, now);
         }
-        match frame_in(octets) {
+        match datagram_in(octets) {
             Some(frame) => self.takes(&frame, now),
             None => {
                 self.counts();

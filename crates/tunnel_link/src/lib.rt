@@ -6,14 +6,12 @@
 mod acted;
 mod came;
 mod flight;
-mod frames;
 mod got;
 mod known;
 mod lapse;
 mod sending;
 mod tries;
 mod tunnel;
-mod wait;
 
 pub use acted::Acted;
 pub use came::{Answer, Came, Loss, What};
@@ -22,4 +20,3 @@ pub use known::Known;
 pub use line_model::{HubFault, Link, LinkFault, Polled, Try};
 pub use tries::Tries;
 pub use tunnel::Tunnel;
-pub use wait::until;

@@ -43,7 +43,7 @@ fn op_at<P: PlanSource>(plan: &P, k: u32) -> Option<Op> {
 fn sent(apdu: &[u8], expect: Expect) -> Option<Op>
     requires { length apdu.now ≤ 64 }
 {
-    Some(Op::Send {
+    Some(Op {
         apdu: ApduOctets::from_slice(apdu),
         expect,
     })

@@ -6,7 +6,7 @@ mod pump;
 mod taking;
 mod turn;
 
-ghost use Rattle.std.specs.Prelude.{◌≡◌, ◌≤◌, ◌<◌, ◌+◌, ◌^◌, ◌-◌, min, length, map, reverse, List, [], IfOk, IfErr, Some, None};
+ghost use Rattle.std.specs.Prelude.{◌≡◌, ◌≤◌, ◌<◌, ◌+◌, ◌^◌, ◌-◌, min, length, map, replicate, reverse, List, [], IfOk, IfErr, Some, None};
 ghost use Rattle.std.specs.List.{AllByRecursion};
 ghost use Rattle.line_model.specs.Headline.{Keeps, IsGoodJob};
 ghost use Rattle.line_model.specs.LinkStory.{IsNewLink, IsPlace, record_in};
@@ -80,6 +80,7 @@ impl<L: Link> Hub<L> {
         ensures jobs { IfOk result (λ hub. tasks_seen hub.jobs ≡ tasks_seen jobs) }
         ensures devices { IfOk result (λ hub. hub.devices ≡ map (λ (j : JobOfHub). j.device) jobs) }
         ensures turns { IfOk result (λ hub. hub.turns ≡ groups) }
+        ensures crew { IfOk result (λ hub. hub.crew ≡ replicate workers None) }
         ensures log { IfOk result (λ hub. hub.log ≡ []) }
         ensures fault { IfOk result (λ hub. hub.fault ≡ None) }
         ensures missed { IfOk result (λ hub. hub.missed ≡ 0) }

@@ -9,6 +9,7 @@ ghost use Rattle.hub_driver.specs.Closed.{HasClosed};
 ghost use Rattle.hub_driver.specs.Drives.{AllDone, CausedSince, HasEndedSo, TellsFault};
 ghost use Rattle.hub_driver.specs.Heard.{HeardAll};
 ghost use Rattle.hub_driver.specs.Leaving.{LeavesOver};
+ghost use Rattle.hub_driver.specs.Seats.{IsOfWorkers};
 ghost use Rattle.hub_work.specs.Books.{AreJobsOf};
 ghost use Rattle.line_model.specs.Headline.{Keeps, IsGoodJob};
 ghost use Rattle.line_model.specs.LinkStory.{record_in};
@@ -35,6 +36,7 @@ impl<L: Link> Driver<L> {
     /// Hands the link back, and what is told of a run that was broken off for this, or wasn't.
     pub(super) fn close(self, broken_off: Option<HubFault>) -> (L, Report)
         requires done { broken_off ≡ None → AllDone self.hub }
+        requires seats { IsOfWorkers 1 self.hub.log }
         requires closed { broken_off ≡ None → WhereTold (HasClosed self.hub.log) (L.story self.hub.link) }
         requires heard { broken_off ≡ None → HeardAll self.heard (record_in (L.story self.hub.link)) }
         requires cause { IfSome broken_off (HasEndedSo self.hub.fault) }
@@ -52,6 +54,7 @@ impl<L: Link> Driver<L> {
         ensures over { result.1.fault ≡ None → (all : List Job) → AreJobsOf self.hub.devices all → AllOver all (reverse result.1.log) }
         ensures told { result.1.fault ≡ None → ¬ TurnUnfinished self.hub.turns (reverse result.1.log) }
         ensures closed { result.1.fault ≡ None → WhereTold (HasClosed (reverse result.1.log)) (L.story result.0) }
+        ensures seats { IsOfWorkers 1 (reverse result.1.log) }
         ensures heard { result.1.fault ≡ None → HeardAll result.1.heard (record_in (L.story result.0)) }
         ensures missed { result.1.missed ≡ self.hub.missed }
         ensures caused { (before : ℕ) → CausedSince before self.hub.fault (L.faults self.hub.link) → CausedSince before result.1.fault (L.faults result.0) }

@@ -12,6 +12,7 @@ ghost use Rattle.hub_driver.specs.Closed.{HasClosed};
 ghost use Rattle.hub_driver.specs.Drives.{ends, LeavesOpen, AllDone, CausedSince, IsNoMemory, HasEndedSo};
 ghost use Rattle.hub_driver.specs.Heard.{HeardAll};
 ghost use Rattle.hub_driver.specs.Leaving.{GoesThrough, IsLeft, LeavesOver};
+ghost use Rattle.hub_driver.specs.Seats.{IsOfWorkers};
 ghost use Rattle.hub_work.specs.Books.{AreJobsOf};
 ghost use Rattle.line_model.specs.Headline.{Keeps, IsGoodJob};
 ghost use Rattle.line_model.specs.LinkStory.{record_in};
@@ -59,6 +60,7 @@ impl<L: Link> Driver<L> {
     /// Goes through all jobs and group telegrams, and then through the closing. It gives the link back, and what is told.
     pub fn drives<R: Wait, G: Gate>(self, rt: &R, gate: &G) -> (L, Report)
         requires open { LeavesOpen self.hub self.unfinished }
+        requires seats { IsOfWorkers 1 self.hub.log }
         requires through { GoesThrough self.hub (L.story self.hub.link) }
         requires heard { HeardAll self.heard (record_in (L.story self.hub.link)) }
         ensures grows { GoesOn (L.story self.hub.link) (L.story result.0) }
@@ -75,6 +77,7 @@ impl<L: Link> Driver<L> {
         ensures over { result.1.fault ≡ None → (all : List Job) → AreJobsOf self.hub.devices all → AllOver all (reverse result.1.log) }
         ensures told { result.1.fault ≡ None → ¬ TurnUnfinished self.hub.turns (reverse result.1.log) }
         ensures closed { result.1.fault ≡ None → WhereTold (HasClosed (reverse result.1.log)) (L.story result.0) }
+        ensures seats { IsOfWorkers 1 (reverse result.1.log) }
         ensures heard { result.1.fault ≡ None → HeardAll result.1.heard (record_in (L.story result.0)) }
         ensures missed { result.1.missed ≡ self.hub.missed }
         ensures caused { (before : ℕ) → CausedSince before self.hub.fault (L.faults self.hub.link) → CausedSince before result.1.fault (L.faults result.0) }
@@ -87,6 +90,7 @@ impl<L: Link> Driver<L> {
     /// Goes through all jobs and group telegrams, and then through the closing.
     fn runs<R: Wait, G: Gate>(&mut self, rt: &R, gate: &G) -> Result<(), HubFault>
         requires open { LeavesOpen self.old.hub self.old.unfinished }
+        requires seats { IsOfWorkers 1 self.old.hub.log }
         requires through { GoesThrough self.old.hub (L.story self.old.hub.link) }
         requires heard { HeardAll self.old.heard (record_in (L.story self.old.hub.link)) }
         ensures grows { GoesOn (L.story self.old.hub.link) (L.story self.new.hub.link) }
@@ -94,6 +98,7 @@ impl<L: Link> Driver<L> {
         ensures caused { (before : ℕ) → CausedSince before self.old.hub.fault (L.faults self.old.hub.link) → CausedSince before self.new.hub.fault (L.faults self.new.hub.link) }
         ensures leaves { (all : List Job) → AreJobsOf self.new.hub.devices all → LeavesOver all self.new.hub.turns (L.story self.new.hub.link) self.new.hub.log }
         ensures run { SameRun self.old.hub self.new.hub }
+        ensures seats { IsOfWorkers 1 self.new.hub.log }
         ensures done { OnOk result (AllDone self.new.hub) }
         ensures closed { OnOk result (WhereTold (HasClosed self.new.hub.log) (L.story self.new.hub.link)) }
         ensures heard { OnOk result (HeardAll self.new.heard (record_in (L.story self.new.hub.link))) }
@@ -106,6 +111,7 @@ impl<L: Link> Driver<L> {
     /// Goes through all jobs and group telegrams.
     fn commissions<R: Wait, G: Gate>(&mut self, rt: &R, gate: &G) -> Result<(), HubFault>
         requires open { LeavesOpen self.old.hub self.old.unfinished }
+        requires seats { IsOfWorkers 1 self.old.hub.log }
         requires through { GoesThrough self.old.hub (L.story self.old.hub.link) }
         requires heard { HeardAll self.old.heard (record_in (L.story self.old.hub.link)) }
         ensures grows { GoesOn (L.story self.old.hub.link) (L.story self.new.hub.link) }
@@ -113,6 +119,7 @@ impl<L: Link> Driver<L> {
         ensures caused { (before : ℕ) → CausedSince before self.old.hub.fault (L.faults self.old.hub.link) → CausedSince before self.new.hub.fault (L.faults self.new.hub.link) }
         ensures through { GoesThrough self.new.hub (L.story self.new.hub.link) }
         ensures run { SameRun self.old.hub self.new.hub }
+        ensures seats { IsOfWorkers 1 self.new.hub.log }
         ensures done { OnOk result (AllDone self.new.hub) }
         ensures heard { OnOk result (HeardAll self.new.heard (record_in (L.story self.new.hub.link))) }
         ensures cause { IfErr result (HasEndedSo self.new.hub.fault) }
@@ -140,6 +147,7 @@ impl<L: Link> Driver<L> {
     /// One turn of the worker, and a poll where it waits.
     fn works<G: Gate>(&mut self, gate: &G) -> Result<(), HubFault>
         requires open { LeavesOpen self.old.hub self.old.unfinished }
+        requires seats { IsOfWorkers 1 self.old.hub.log }
         requires through { GoesThrough self.old.hub (L.story self.old.hub.link) }
         requires left { IsLeft self.old.hub }
         requires heard { HeardAll self.old.heard (record_in (L.story self.old.hub.link)) }
@@ -148,6 +156,7 @@ impl<L: Link> Driver<L> {
         ensures caused { (before : ℕ) → CausedSince before self.old.hub.fault (L.faults self.old.hub.link) → CausedSince before self.new.hub.fault (L.faults self.new.hub.link) }
         ensures through { GoesThrough self.new.hub (L.story self.new.hub.link) }
         ensures run { SameRun self.old.hub self.new.hub }
+        ensures seats { IsOfWorkers 1 self.new.hub.log }
         ensures open { LeavesOpen self.new.hub self.new.unfinished }
         ensures heard { OnOk result (HeardAll self.new.heard (record_in (L.story self.new.hub.link))) }
         ensures cause { IfErr result (HasEndedSo self.new.hub.fault) }
@@ -177,6 +186,7 @@ impl<L: Link> Driver<L> {
     #[tactic(auto, using(crate::proofs::Telling::no_end_told))]
     fn tells(&mut self) -> Result<(), HubFault>
         requires open { LeavesOpen self.old.hub self.old.unfinished }
+        requires seats { IsOfWorkers 1 self.old.hub.log }
         requires through { GoesThrough self.old.hub (L.story self.old.hub.link) }
         requires heard { HeardAll self.old.heard (record_in (L.story self.old.hub.link)) }
         ensures grows { GoesOn (L.story self.old.hub.link) (L.story self.new.hub.link) }
@@ -184,6 +194,7 @@ impl<L: Link> Driver<L> {
         ensures caused { (before : ℕ) → CausedSince before self.old.hub.fault (L.faults self.old.hub.link) → CausedSince before self.new.hub.fault (L.faults self.new.hub.link) }
         ensures through { GoesThrough self.new.hub (L.story self.new.hub.link) }
         ensures run { SameRun self.old.hub self.new.hub }
+        ensures seats { IsOfWorkers 1 self.new.hub.log }
         ensures open { LeavesOpen self.new.hub self.new.unfinished }
         ensures heard { OnOk result (HeardAll self.new.heard (record_in (L.story self.new.hub.link))) }
         ensures cause { IfErr result (HasEndedSo self.new.hub.fault) }

@@ -26,11 +26,10 @@ use crate::job::HubJob;
 use crate::journal::Journal;
 use crate::laws::of_a_downloader;
 use crate::telegrams::{Stage, Telegrams};
-use crate::wait::{LONGEST_POLL_MS, until};
 use device_reservation::Jobs;
 use download_core::{Did, each_operation_can_be_sent};
 use knx_model::{Datagram, IndAddr, List, NoMemory};
-use line_model::{GroupTurn, LogEntry, LogWhat};
+use line_model::{GroupTurn, LONGEST_POLL_MS, LogEntry, LogWhat, until};
 use std::alloc::Global;
 pub use turn::Turn;
 
@@ -57,7 +56,7 @@ pub struct Work {
 }
 
 impl Work {
-    /// These jobs and telegrams, of which nothing is done.
+    /// These jobs and telegrams, of which nothing is done, for so many workers.
     pub fn new(
         alloc: Global,
         jobs: List<HubJob>,
@@ -67,7 +66,7 @@ impl Work {
         requires few_jobs { length jobs < 4294967296 }
         requires few_groups { length groups < 4294967296 }
         requires sendable { AllByRecursion IsTurnInRange groups }
-        ensures begins { IfOk result (λ work. BeginsWith (map (λ (j : Job). j.device) jobs) groups work) }
+        ensures begins { IfOk result (λ work. BeginsWith workers (map (λ (j : Job). j.device) jobs) groups work) }
         ensures books { IfOk result (λ work. (at : ℕ) → KeepsBooks at work) }
         ensures unbegun { IfOk result (λ work. work.closing ≡ None) }
         ensures tasks { IfOk result (λ work. tasks work ≡ map task_of_hub_job jobs) }

@@ -9,5 +9,5 @@ mod value;
 pub use cemi::{CemiRefused, Ldata, LdataCode};
 pub use ip::{IpFrame, IpRefused};
 pub use octets::{ApduOctets, Datagram, LongValue};
-pub use tpdu::{Apdu, MOST_MEMORY_OCTETS, MOST_STANDARD_MEMORY_OCTETS, Tpdu, TpduRefused};
+pub use tpdu::{Apdu, MOST_MEMORY_OCTETS, Tpdu, TpduRefused};
 pub use value::Value;

@@ -9,9 +9,6 @@ use crate::frames::{ApduOctets, Value};
 /// How many octets of memory one service carries at most.
 pub const MOST_MEMORY_OCTETS: usize = 60;
 
-/// How many of them one service in a standard frame carries at most.
-pub const MOST_STANDARD_MEMORY_OCTETS: usize = 12;
-
 /// A service of the application layer. Memory addresses are those of the device; counts of memory are 1 to 60 octets, of a response
 /// 0 to 60; a property's count has 4 bits, its start 12, and its value at most 10 octets.
 #[derive(Debug, Drop, PartialEq, Eq)]

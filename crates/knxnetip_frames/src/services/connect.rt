@@ -4,11 +4,9 @@ ghost use Rattle.std.specs.Prelude.{◌≡◌, ◌≢◌, Some, None, IfSome, If
 ghost use Rattle.knx_model.specs.Octets.{word_at};
 ghost use Rattle.knx_model.specs.KnxNetIp.{ReadsBody, IsBody, HasTunnel, Written};
 
-use crate::{endpoint, header, service};
+use crate::{NO_ERROR, endpoint, header, service};
 use knx_model::{Datagram, IndAddr, IpFrame};
 
-/// The status of a connect that went well, E_NO_ERROR.
-const NO_ERROR: u8 = 0x00;
 /// The length of what a request and a response say of the connection.
 const INFORMATION_LENGTH: u8 = 0x04;
 /// TUNNEL_CONNECTION.

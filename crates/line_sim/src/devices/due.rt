@@ -1,11 +1,11 @@
 //! What the devices have to send, and when: only the busy ones are looked at.
 
 ghost use Rattle.std.specs.Prelude.{◌≡◌, ℕ, ◌*◌, ◌+◌, ◌<◌, None, Some, IfNone, IfSome};
-ghost use Rattle.line_sim.specs.Due.{IsNearest, deadline_at, nearer};
+ghost use Rattle.line_sim.specs.Due.{IsNearest, deadline_at};
 ghost use Rattle.line_sim.specs.Places.{device_at, device_in, sending_at};
 
 use super::Devices;
-use knx_model::Sending;
+use knx_model::{Sending, nearer};
 
 impl Devices {
     /// The device with the least address that has something to send at this time, and what; None exactly where none has.
@@ -51,16 +51,5 @@ impl Devices {
         ensures { result ≡ deadline_at (device_in self.now.places part) }
     {
         self.places[part].as_ref()?.deadline()
-    }
-}
-
-/// The nearer of two times.
-pub fn nearer(one: Option<u64>, other: Option<u64>) -> Option<u64>
-    ensures { result ≡ nearer one other }
-{
-    match (one, other) {
-        (Some(one), Some(other)) => Some(one.min(other)),
-        (Some(time), None) | (None, Some(time)) => Some(time),
-        (None, None) => None,
     }
 }

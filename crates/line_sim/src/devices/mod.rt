@@ -14,7 +14,6 @@ mod taking;
 
 use crate::parts::Parts;
 use device_sim::Device;
-pub use due::nearer;
 use knx_model::{IndAddr, Ldata, NoMemory};
 use std::alloc::Global;
 use std::marker::Model;

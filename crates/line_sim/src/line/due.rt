@@ -5,7 +5,7 @@ ghost use Rattle.knx_model.specs.declared.device.Sending.TheVariants.{Repeat};
 ghost use Rattle.knx_model.specs.Connection.{last_time};
 ghost use Rattle.line_model.specs.Fresh.{HasNothingToSend, Settled, SettledFor};
 ghost use Rattle.line_model.specs.Gateway.{gateway_expired};
-ghost use Rattle.line_model.specs.Tunnel.{Mode, Commissions, Serves};
+ghost use Rattle.line_model.specs.Tunnel.{Mode, Commissions};
 ghost use Rattle.line_model.specs.World.{World, now};
 ghost use Rattle.line_sim.specs.Gateways.{due_of};
 ghost use Rattle.line_sim.specs.Line.{IsNow};
@@ -13,9 +13,8 @@ ghost use Rattle.line_sim.specs.Due.{IsSettledWithin};
 ghost use Rattle.line_sim.specs.Places.{IsDue, sending_at};
 
 use super::Line;
-use crate::devices::nearer;
 use crate::gateway::Due;
-use knx_model::Sending;
+use knx_model::{Sending, nearer};
 use network_sim::Reach;
 use tunnel_gateway::deadline_is_nearest;
 
@@ -64,13 +63,6 @@ impl Line {
         ensures { (w : World) → IsNow self.now w → (IsTrue result ↔ Settled Commissions w) }
     {
         self.is_settled_within(Reach::To(self.tunnel.present))
-    }
-
-    /// The same for a serving gateway: no datagram is under way down to any client.
-    pub fn is_settled_serving(&self) -> bool
-        ensures { (w : World) → IsNow self.now w → (IsTrue result ↔ Settled Serves w) }
-    {
-        self.is_settled_within(Reach::Every)
     }
 
     fn is_settled_within(&self, reach: Reach) -> bool

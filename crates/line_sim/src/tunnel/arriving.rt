@@ -10,9 +10,9 @@ ghost use Rattle.line_sim.specs.Tunnels.{IsTunnel, arrival_of, tunnel_now};
 ghost use Rattle.network_sim.specs.Window.{IsDeliverable};
 
 use super::Tunnel;
-use crate::frames::datagram_in;
 use knx_model::{Datagram, IpFrame, NoMemory};
 use knxnetip_frames::encode;
+use line_frames::datagram_in;
 use network_sim::what_is_kept_reads_alike;
 
 impl Tunnel {

@@ -4,9 +4,9 @@ ghost use Rattle.std.specs.Prelude.{◌≡◌, ◌<◌};
 ghost use Rattle.knx_model.specs.Connection.{most_repeats, ack_wait};
 ghost use Rattle.knx_model.specs.ClientConnection.{has_answer, first_question, question_confirmed, question_answered, question_again, question_expired, question_overdue, wait_end_if};
 
-use crate::wait::{ACK_WAIT_MS, MOST_REPEATS, end_of, has_passed};
+use crate::wait::{ACK_WAIT_MS, MOST_REPEATS};
 use apdu_frames::decode;
-use knx_model::{Apdu, ApduOctets, ClientExpired, Tpdu};
+use knx_model::{Apdu, ApduOctets, ClientExpired, Tpdu, end_of, has_passed};
 use std::marker::Model;
 
 /// A service that isn't acknowledged: its octets, whether its answer is still to come, how often it was sent again, and when its

@@ -4,8 +4,8 @@ ghost use Rattle.std.specs.Prelude.{◌≡◌, ◌<◌};
 ghost use Rattle.knx_model.specs.Connection.{most_repeats};
 ghost use Rattle.knx_model.specs.DeviceConnection.{first_answer, is_due, answer_again, outstanding_deadline};
 
-use crate::wait::{ACK_WAIT_MS, MOST_REPEATS, earlier, end_of, has_passed};
-use knx_model::ApduOctets;
+use crate::wait::{ACK_WAIT_MS, MOST_REPEATS};
+use knx_model::{ApduOctets, earlier, end_of, has_passed};
 use std::marker::Model;
 
 /// An answer that isn't acknowledged: its octets, how often it was sent again, and when it was sent last.

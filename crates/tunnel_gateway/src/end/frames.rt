@@ -6,12 +6,10 @@ ghost use Rattle.line_model.specs.Gateway.{hears, names, connects, took};
 ghost use Rattle.line_model.specs.GatewayEnd.{IsChannelNumber, TookAs, gateway_of};
 
 use super::GatewayEnd;
-use crate::answers::{
-    CONNECTION_ID, NO_ERROR, answered, connect_response, disconnect_response, dropped,
-    state_response,
-};
+use crate::answers::{CONNECTION_ID, answered, connect_response, dropped, state_response};
 use crate::channel::Channel;
 use knx_model::{Datagram, IpFrame};
+use knxnetip_frames::{NO_ERROR, disconnect_response};
 use line_model::GatewayTook;
 
 impl GatewayEnd {

@@ -26,9 +26,9 @@ ghost use Rattle.line_model.specs.Tunnel.{HasOutstanding};
 
 mod frames;
 
-use crate::answers::disconnect_request;
 use crate::channel::Channel;
 use knx_model::{Datagram, IndAddr, IpFrame};
+use knxnetip_frames::disconnect_request;
 use line_model::{GatewayExpired, GatewayTook, PutRefused};
 use std::marker::Model;
 

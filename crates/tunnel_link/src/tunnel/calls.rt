@@ -15,9 +15,8 @@ use super::Tunnel;
 use crate::acted::Acted;
 use crate::came::{Answer, Came, Loss, What};
 use crate::sending::{answered, connected, listened, sent};
-use crate::wait::{LONGEST_POLL_MS, until};
 use knx_model::Datagram;
-use line_model::{HubFault, Link, frames_are_read};
+use line_model::{HubFault, LONGEST_POLL_MS, Link, frames_are_read, until};
 
 impl<L: Link> Tunnel<L> {
     /// Takes a new endpoint and asks for a channel there, where none is open or sought. Tells whether it did.

@@ -10,10 +10,11 @@ ghost use Rattle.line_model.specs.LinkStory.{IsNewLink, IsTime, IsPlace, newest_
 ghost use Rattle.line_model.specs.Record.{entries};
 ghost use Rattle.tunnel_link.specs.Adds.{TimelyBefore};
 ghost use Rattle.tunnel_link.specs.Goes.{Keeps, new_known};
-ghost use Rattle.tunnel_link.specs.Kept.{nearer, next_due};
+ghost use Rattle.tunnel_link.specs.Kept.{next_due};
 ghost use Rattle.tunnel_link.specs.Rights.{IsntRefusal, KeepsRecord, WhereTold, WhileFits};
 
 use crate::known::Known;
+use knx_model::nearer;
 use line_model::{HubFault, Link};
 use std::marker::Model;
 
@@ -118,7 +119,7 @@ impl<L: Link> Tunnel<L> {
         ensures value { result ≡ next_due self.now.known }
         ensures told { WhileFits (TimelyBefore result) self.now.known (L.story self.now.link) }
     {
-        earlier(self.known.channel.deadline(), self.known.flight.deadline())
+        nearer(self.known.channel.deadline(), self.known.flight.deadline())
     }
 
     /// Nothing more is done on the link.
@@ -138,16 +139,5 @@ impl<L: Link> Tunnel<L> {
         ensures record { KeepsRecord self.now.known (L.story self.now.link) }
     {
         let _link = &self.link;
-    }
-}
-
-/// The earlier of two times.
-pub fn earlier(one: Option<u64>, other: Option<u64>) -> Option<u64>
-    ensures { result ≡ nearer one other }
-{
-    match (one, other) {
-        (Some(one), Some(other)) => Some(one.min(other)),
-        (Some(time), None) | (None, Some(time)) => Some(time),
-        (None, None) => None,
     }
 }

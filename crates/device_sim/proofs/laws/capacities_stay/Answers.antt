@@ -1,5 +1,5 @@
-use Rattle.device_sim.proofs.Capacities.{kept_capacities}
 use Rattle.device_sim.proofs.laws.capacities_stay.Goals as goal
+use Rattle.knx_model.proofs.Capacities.{kept_capacities}
 
 pub returns : goal.returns
 returns c = kept_capacities

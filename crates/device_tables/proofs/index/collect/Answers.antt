@@ -1,7 +1,8 @@
 use Rattle.std.proofs.Common.{◌≡◌, ◌∙◌, sym, refl, Some, arith}
 use Rattle.std.specs.Prelude.{slice_get}
+use Rattle.std.proofs.lemmas.Option.{slice_get_within}
 use Rattle.knx_model.specs.Acts.{addresses, pairs, is_pair_of, is_object_number}
-use Rattle.device_tables.proofs.Counting.{any_more, there, all_taken, shared}
+use Rattle.device_tables.proofs.Counting.{any_more, all_taken, shared}
 use Rattle.device_tables.proofs.Sorting.{table_few}
 use Rattle.device_tables.proofs.index.collect.Goals as goal
 
@@ -13,13 +14,13 @@ put-requires c =
 pub loop-pair-smaller : goal.loop-pair-smaller
 loop-pair-smaller c =
     let here : slice_get (pairs c.args.assoc.now) c.loop-pair.at ≡ Some c.in-Some.pair = sym c.pair_at.ensures.pair ∙ c.in-Some.is in
-    omega (arith, there (pairs c.args.assoc.now) c.loop-pair.at c.in-Some.pair here)
+    omega (arith, slice_get_within (pairs c.args.assoc.now) c.loop-pair.at c.in-Some.pair here)
 
 pub loop-pair-preserved : goal.loop-pair-preserved
 loop-pair-preserved c =
     let here : slice_get (pairs c.args.assoc.now) c.loop-pair.at ≡ Some c.in-Some.pair = sym c.pair_at.ensures.pair ∙ c.in-Some.is in
     record {
-      within = omega (arith, there (pairs c.args.assoc.now) c.loop-pair.at c.in-Some.pair here);
+      within = omega (arith, slice_get_within (pairs c.args.assoc.now) c.loop-pair.at c.in-Some.pair here);
       few = omega (arith, c.put.ensures.len, c.loop-pair.invariant.few);
       room = omega (arith, c.put.ensures.capacity, c.loop-pair.invariant.room);
       noted = λ group object. c.put.ensures.pairs group object ∙ rw (c.loop-pair.invariant.noted group object, any_more (is_pair_of (addresses c.args.addr.now) group object) (pairs c.args.assoc.now) c.loop-pair.at c.in-Some.pair here) (shared (is_object_number object) _ _);

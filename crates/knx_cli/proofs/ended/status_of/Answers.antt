@@ -30,6 +30,9 @@ returns-in-Ok-clause-over g c = rw (c.in-Ok.is, ← c.as_slice.ensures.value) c.
 pub returns-in-Ok-clause-closed : goal.returns-in-Ok-clause-closed
 returns-in-Ok-clause-closed g c = rw (c.in-Ok.is, ← c.as_slice.ensures.value) c.ended.ensures.closed
 
+pub returns-in-Ok-clause-seats : goal.returns-in-Ok-clause-seats
+returns-in-Ok-clause-seats g c = rw (c.in-Ok.is, ← c.as_slice.ensures.value) c.ended.ensures.seats
+
 pub returns-in-Ok-clause-link : goal.returns-in-Ok-clause-link
 returns-in-Ok-clause-link g c = rw (c.in-Ok.is, ← c.as_slice.ensures.value) c.ended.ensures.link
 
@@ -44,3 +47,15 @@ returns-in-Ok-clause-leaves g c = rw (c.in-Ok.is, ← c.as_slice.ensures.value) 
 
 pub returns-in-Ok-clause-gateway : goal.returns-in-Ok-clause-gateway
 returns-in-Ok-clause-gateway g c = rw (c.in-Ok.is, ← c.as_slice.ensures.value) c.ended.ensures.gateway
+
+pub returns-in-Ok-clause-line : goal.returns-in-Ok-clause-line
+returns-in-Ok-clause-line g c = rw (c.in-Ok.is, ← c.as_slice.ensures.value) c.ended.ensures.line
+
+pub returns-in-Ok-clause-undialled : goal.returns-in-Ok-clause-undialled
+returns-in-Ok-clause-undialled g c = rw (c.in-Ok.is, ← c.as_slice.ensures.value) c.ended.ensures.undialled
+
+pub returns-in-Ok-clause-no_run : goal.returns-in-Ok-clause-no_run
+returns-in-Ok-clause-no_run g c = rw (c.in-Ok.is, ← c.as_slice.ensures.value) c.ended.ensures.no_run
+
+pub returns-in-Ok-clause-faults : goal.returns-in-Ok-clause-faults
+returns-in-Ok-clause-faults g c = rw c.in-Ok.is c.ended.ensures.faults

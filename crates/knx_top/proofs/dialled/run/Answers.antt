@@ -10,7 +10,7 @@ returns-clause-told g c = rw c.hang.ensures.told
     (c.commission-line.ensures.headline _ (jobs_seen c.args.plans)) (c.commission-line.ensures.right _ (jobs_seen c.args.plans) c.requires.good)
     (c.commission-line.ensures.thorough _ (jobs_seen c.args.plans)) (c.commission-line.ensures.leaves _ (devices_seen c.args.plans)) (c.commission-line.ensures.fault _ (jobs_seen c.args.plans))
     (λ none. c.commission-line.ensures.over none _ (devices_seen c.args.plans)) c.commission-line.ensures.closed (c.commission-line.ensures.form _ (devices_seen c.args.plans)) (c.commission-line.ensures.alone _ (devices_seen c.args.plans))
-    c.commission-line.ensures.heard c.commission-line.ensures.missed c.commission-line.ensures.dropped)
+    c.commission-line.ensures.seats c.commission-line.ensures.heard c.commission-line.ensures.missed c.commission-line.ensures.dropped)
 
 pub returns-clause-cause : goal.returns-clause-cause
 returns-clause-cause g c = caused c.commission-line.result.1 _ _ _ _ c.requires.sound c.commission-line.ensures.cause c.hang.ensures.count

@@ -1,5 +1,5 @@
 use Rattle.line_model.proofs.runs.writes_are_torn_and_worn.Goals as goal
-use Rattle.line_model.proofs.Disturbed.{torn_legal, torn_follows, worn_legal, worn_follows}
+use Rattle.line_model.proofs.Disturbed.{torn_legal, torn_follows, worn_legal, worn_follows, worn_memory_keeps}
 
 pub returns-clause-torn : goal.returns-clause-torn
 returns-clause-torn c = torn_legal
@@ -12,3 +12,6 @@ returns-clause-worn c = worn_legal
 
 pub returns-clause-changed : goal.returns-clause-changed
 returns-clause-changed c = worn_follows
+
+pub returns-clause-complements : goal.returns-clause-complements
+returns-clause-complements c = worn_memory_keeps

@@ -35,3 +35,8 @@ pub returns-clause-leaves : goal.returns-clause-leaves
 returns-clause-leaves g c = λ all are.
     let log_is : reverse c.close-link.result.log ≡ c.args.self.hub.log = ap reverse c.close-link.ensures.log ∙ reverse-reverse c.args.self.hub.log in
     rw (log_is, c.close-link.ensures.link) (c.requires.leaves all are)
+
+pub returns-clause-seats : goal.returns-clause-seats
+returns-clause-seats g c =
+    let log_is : reverse c.close-link.result.log ≡ c.args.self.hub.log = ap reverse c.close-link.ensures.log ∙ reverse-reverse c.args.self.hub.log in
+    rw log_is c.requires.seats

@@ -22,6 +22,7 @@ loop-preserved g c = record {
   script = c.tells.ensures.script ∙ (c.works.ensures.script ∙ c.loop.invariant.script);
   caused = λ before was. c.tells.ensures.caused before (c.works.ensures.caused before (c.loop.invariant.caused before was));
   run = search rules;
+  seats = c.tells.ensures.seats;
   open_jobs = c.tells.ensures.open;
   through = c.tells.ensures.through;
   heard = c.in_ok-tells.ensures.heard;

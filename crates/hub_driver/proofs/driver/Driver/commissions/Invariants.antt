@@ -5,6 +5,7 @@ use Rattle.tunnel_link.specs.Goes.{GoesOn}
 use Rattle.hub_driver.specs.Drives.{LeavesOpen, CausedSince}
 use Rattle.hub_driver.specs.Heard.{HeardAll}
 use Rattle.hub_driver.specs.Leaving.{GoesThrough}
+use Rattle.hub_driver.specs.Seats.{IsOfWorkers}
 use Rattle.hub_driver.proofs.driver.Driver.commissions.Given as goal
 
 -- the link's story goes on, so many jobs have no end yet, and all that was taken is told
@@ -16,6 +17,7 @@ invariant-loop g l = record {
   script : g.L.Link.script l.self.hub.link ≡ g.L.Link.script l.fn.self.hub.link;
   caused : (before : ℕ) → CausedSince before l.fn.self.hub.fault (g.L.Link.faults l.fn.self.hub.link) → CausedSince before l.self.hub.fault (g.L.Link.faults l.self.hub.link);
   run : SameRun l.fn.self.hub l.self.hub;
+  seats : IsOfWorkers 1 l.self.hub.log;
   open_jobs : LeavesOpen l.self.hub l.self.unfinished;
   through : GoesThrough l.self.hub (g.L.Link.story l.self.hub.link);
   heard : HeardAll l.self.heard (record_in (g.L.Link.story l.self.hub.link));

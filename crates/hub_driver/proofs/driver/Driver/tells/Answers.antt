@@ -1,7 +1,9 @@
-use Rattle.std.proofs.Common.{None, refl, ap}
+use Rattle.std.proofs.Common.{None, refl, sym, ap, subst}
 use Rattle.tunnel_link.proofs.Stories.{goes_again}
 use Rattle.hub_driver.proofs.Causes.{call_caused}
 use Rattle.hub_driver.proofs.Hearing.{hears_none}
+use Rattle.hub_driver.specs.Seats.{IsOfWorkers}
+use Rattle.hub_driver.proofs.Seats.{group_seats}
 use Rattle.hub_driver.proofs.Leaving.{through_group, left_same, waits_told, next_left}
 use Rattle.hub_driver.proofs.driver.Driver.tells.Goals as goal
 
@@ -32,3 +34,12 @@ returns-in_err-send_group-clause-through g c = through_group c.args.self.now.hub
 
 pub returns-in-Put-clause-through : goal.returns-in-Put-clause-through
 returns-in-Put-clause-through g c = through_group c.args.self.now.hub c.send_group.new.self c.send_group.ensures.run.devices c.send_group.ensures.run.turns c.send_group.ensures.closing c.send_group.result _ _ (g.L.Link.story c.args.self.now.hub.link) (g.L.Link.story c.send_group.new.self.link) c.send_group.ensures.grows c.send_group.ensures.alone _ (ap g.L.Link.story) c.send_group.ensures.still c.send_group.ensures.told c.send_group.ensures.untold c.keeps.ensures.place (next_left c.args.self.now.hub _ c.in-Some.ensures.next) c.requires.through
+
+pub returns-in_err-send_group-clause-seats : goal.returns-in_err-send_group-clause-seats
+returns-in_err-send_group-clause-seats g c = group_seats 1 c.args.self.now.hub.log c.send_group.new.self.log c.requires.seats c.send_group.result _ _ c.send_group.ensures.told c.send_group.ensures.untold
+
+pub returns-in-Wait-clause-seats : goal.returns-in-Wait-clause-seats
+returns-in-Wait-clause-seats g c = subst (IsOfWorkers 1) (sym c.pumps.ensures.log) (group_seats 1 c.args.self.now.hub.log c.send_group.new.self.log c.requires.seats c.send_group.result _ _ c.send_group.ensures.told c.send_group.ensures.untold)
+
+pub returns-in-Put-clause-seats : goal.returns-in-Put-clause-seats
+returns-in-Put-clause-seats g c = group_seats 1 c.args.self.now.hub.log c.send_group.new.self.log c.requires.seats c.send_group.result _ _ c.send_group.ensures.told c.send_group.ensures.untold

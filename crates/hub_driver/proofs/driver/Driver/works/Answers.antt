@@ -1,4 +1,4 @@
-use Rattle.std.proofs.Common.{None, refl, sym, ap, subst, ◌∙◌}
+use Rattle.std.proofs.Common.{None, refl, sym, ap, subst, ◌∙◌, arith}
 use Rattle.line_model.specs.LinkStory.{record_in}
 use Rattle.tunnel_link.specs.Goes.{GoesOn}
 use Rattle.tunnel_link.proofs.Stories.{goes_again}
@@ -7,6 +7,8 @@ use Rattle.hub_driver.specs.Heard.{HeardAll}
 use Rattle.hub_driver.proofs.Causes.{call_caused}
 use Rattle.hub_driver.proofs.Hearing.{hears_none}
 use Rattle.hub_driver.specs.Leaving.{GoesThrough}
+use Rattle.hub_driver.specs.Seats.{IsOfWorkers}
+use Rattle.hub_driver.proofs.Seats.{turn_seats}
 use Rattle.hub_driver.proofs.Leaving.{through_turn, left_same, waits_same}
 use Rattle.hub_driver.proofs.driver.Driver.works.Goals.{in-Took, in-Wait+in_ok-pumps-in-Wait, in-Done, in-Moved}
 use Rattle.hub_driver.proofs.driver.Driver.works.Goals as goal
@@ -68,4 +70,20 @@ returns-clause-through g c =
       | in-Wait+in_ok-pumps-in-Wait w ↦ subst (λ s. GoesThrough s.hub (g.L.Link.story s.hub.link)) (sym w.self-is) w.pumps.ensures.through
       | in-Done w ↦ subst (λ h. GoesThrough h (g.L.Link.story h.link)) (sym (ap (λ s. s.hub) w.self-is ∙ w.ended.ensures.hub)) through
       | in-Moved w ↦ subst (λ s. GoesThrough s.hub (g.L.Link.story s.hub.link)) (sym w.self-is) through
+    ]
+
+pub returns-in_err-job-clause-seats : goal.returns-in_err-job-clause-seats
+returns-in_err-job-clause-seats g c = turn_seats 1 c.args.self.now.hub.log c.turn.new.self.log c.requires.seats c.turn.result _ _ (omega arith) c.turn.ensures.told c.turn.ensures.untold
+
+pub returns-in_err-pumps-in-Wait-clause-seats : goal.returns-in_err-pumps-in-Wait-clause-seats
+returns-in_err-pumps-in-Wait-clause-seats g c = subst (IsOfWorkers 1) (sym c.pumps.ensures.log) (turn_seats 1 c.args.self.now.hub.log c.turn.new.self.log c.requires.seats c.turn.result _ _ (omega arith) c.turn.ensures.told c.turn.ensures.untold)
+
+pub returns-clause-seats : goal.returns-clause-seats
+returns-clause-seats g c =
+    let seats : IsOfWorkers 1 c.turn.new.self.log = turn_seats 1 c.args.self.now.hub.log c.turn.new.self.log c.requires.seats c.turn.result _ _ (omega arith) c.turn.ensures.told c.turn.ensures.untold in
+    elim c.match-branch-2.branch [
+      | in-Took w ↦ subst (λ s. IsOfWorkers 1 s.hub.log) (sym w.self-is) seats
+      | in-Wait+in_ok-pumps-in-Wait w ↦ subst (λ s. IsOfWorkers 1 s.hub.log) (sym w.self-is) (subst (IsOfWorkers 1) (sym w.pumps.ensures.log) seats)
+      | in-Done w ↦ subst (λ h. IsOfWorkers 1 h.log) (sym (ap (λ s. s.hub) w.self-is ∙ w.ended.ensures.hub)) seats
+      | in-Moved w ↦ subst (λ s. IsOfWorkers 1 s.hub.log) (sym w.self-is) seats
     ]

@@ -17,8 +17,7 @@ returns-clause-fits c =
     (ap (λ (t : Telling). t.stage) c.new-4.ensures) refl c.in_ok-journal.ensures.empty
 
 pub returns-clause-books : goal.returns-clause-books
-returns-clause-books c = λ at. begins_books (map (λ (j : HubJob). j.device) c.args.jobs) c.args.groups _ at (record {
-  workers = c.args.workers;
+returns-clause-books c = λ at. begins_books c.args.workers (map (λ (j : HubJob). j.device) c.args.jobs) c.args.groups _ at (record {
   reservation = c.in_ok-reservation.ensures ∙ ap none_taken (c.deref.ensures.value ∙ (c.in_ok-devices.ensures ∙ ap (map (λ (j : HubJob). j.device)) c.as_slice.ensures));
   turns_are = ap (λ (t : Telling). t.turns) c.new-4.ensures;
   none_told = ap (λ (t : Telling). t.told) c.new-4.ensures;

@@ -1,5 +1,6 @@
 use Rattle.std.proofs.Common.{option_to_list, sym, ◌∙◌}
-use Rattle.line_sim.proofs.Coming.{among_one, comes_to_it, comes_to_none, on_ok}
+use Rattle.std.proofs.lemmas.Result.{on_ok_weaker}
+use Rattle.line_sim.proofs.Coming.{among_one, comes_to_it, comes_to_none}
 use Rattle.line_sim.proofs.devices.Devices.take.Goals as goal
 
 pub returns-then-eq-clause-next : goal.returns-then-eq-clause-next
@@ -8,5 +9,5 @@ returns-then-eq-clause-next c =
 
 pub returns-clause-next : goal.returns-clause-next
 returns-clause-next c =
-    on_ok c.take_alone.result (comes_to_it c.args.self.now c.take_alone.new.self c.args.now (option_to_list c.args.without) c.args.frame.now c.names.ensures c.if-frame.false
+    on_ok_weaker c.take_alone.result (comes_to_it c.args.self.now c.take_alone.new.self c.args.now (option_to_list c.args.without) c.args.frame.now c.names.ensures c.if-frame.false
     (among_one c.args.without c.args.frame.now.destination ∙ sym c.eq.ensures ∙ c.if-eq.false)) c.take_alone.ensures.next

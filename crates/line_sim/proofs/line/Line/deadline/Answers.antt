@@ -1,5 +1,5 @@
 use Rattle.std.proofs.Common.{◌≡◌, refl, ap, subst, ◌∙◌}
-use Rattle.line_sim.specs.Due.{nearer}
+use Rattle.knx_model.specs.Connection.{nearer}
 use Rattle.line_sim.specs.Line.{LineNow}
 use Rattle.line_sim.specs.Tunnels.{tunnel_now}
 use Rattle.line_sim.proofs.Deadlines.{IsDeadline, always_settled, later_than_now, never, not_from_then, settled_until, until}

@@ -3,12 +3,13 @@ use Rattle.std.specs.Prelude.{IfSome}
 use Rattle.tunnel_link.specs.Kept.{next_due}
 use Rattle.tunnel_link.proofs.Deadlines.{WaitsUntil}
 use Rattle.tunnel_link.proofs.PollKept.{listens_go, poll_keeps, poll_adds}
-use Rattle.tunnel_link.proofs.Read.{has_tunnels}
+use Rattle.line_frames.proofs.Read.{has_tunnels}
 use Rattle.tunnel_link.proofs.Faulted.{listens_of}
 use Rattle.tunnel_link.proofs.Prompts.{poll_prompt}
 use Rattle.tunnel_link.proofs.AloneCalls.{poll_alone}
 use Rattle.tunnel_link.proofs.Lasting.{poll_lasts}
 use Rattle.line_model.specs.Waiting.{PollEnds}
+use Rattle.line_model.proofs.Deadlines.{upto_deadline}
 use Rattle.tunnel_link.proofs.tunnel.Tunnel.poll.Goals as goal
 
 pub invariant_of-self : goal.invariant_of-self
@@ -27,7 +28,7 @@ pub returns-clause-prompt : goal.returns-clause-prompt
 returns-clause-prompt g c =
     let same : (c.deadline.result ≡ next_due c.self.inside.known) = c.deadline.ensures.value ∙ ap (λ v. next_due v.known) (sym c.self.view_is) in
     let w : WaitsUntil (next_due c.self.inside.known) c.now-now.result (c.now-now.result + c.until-wait_ms.result) = record {
-      in_time = subst (λ (d : Option ℕ). IfSome d (λ time. c.now-now.result < time → c.now-now.result + c.until-wait_ms.result ≤ time)) same c.until-wait_ms.ensures.in_time;
+      in_time = subst (λ (d : Option ℕ). IfSome d (λ time. c.now-now.result < time → c.now-now.result + c.until-wait_ms.result ≤ time)) same (upto_deadline _ _ _ _ c.until-wait_ms.ensures);
       in_range = c.until-wait_ms.ensures.in_range;
     } in
     rw (← c.self.view_is) (λ ready. (poll_prompt _ c.until-wait_ms.result c.now-now.result _ _ _ _ (has_tunnels c.frames_are_read.ensures.datagrams) c.self.invariant c.in_ok-standing.ensures.stands c.listened.ensures.so c.now-now.ensures.told (omega arith) w ready))
@@ -39,5 +40,5 @@ pub returns-clause-lasts : goal.returns-clause-lasts
 returns-clause-lasts g c =
     let same : (c.deadline.result ≡ next_due c.self.inside.known) = c.deadline.ensures.value ∙ ap (λ v. next_due v.known) (sym c.self.view_is) in
     rw (← c.self.view_is) (λ acted. (poll_lasts _ c.args.longest_ms c.until-wait_ms.result c.now-now.result _ _ _ _ c.self.invariant c.in_ok-standing.ensures.stands c.listened.ensures.so c.now-now.ensures.told (omega arith)
-    (subst (λ (d : Option ℕ). IfSome d (λ time. c.now-now.result < time → c.now-now.result + c.until-wait_ms.result ≤ time)) same c.until-wait_ms.ensures.in_time) c.until-wait_ms.ensures.in_range
+    (subst (λ (d : Option ℕ). IfSome d (λ time. c.now-now.result < time → c.now-now.result + c.until-wait_ms.result ≤ time)) same (upto_deadline _ _ _ _ c.until-wait_ms.ensures)) c.until-wait_ms.ensures.in_range
     (subst (λ (m : ℕ). PollEnds m (λ time. next_due c.self.inside.known ≡ Some time) c.now-now.result c.until-wait_ms.result) c.min.ensures (subst (λ (d : Option ℕ). PollEnds c.min.result (λ time. d ≡ Some time) c.now-now.result c.until-wait_ms.result) same c.until-wait_ms.ensures.as_long)) acted))

@@ -1,0 +1,8 @@
+use Rattle.std.proofs.Common.{sym, subst}
+use Rattle.bus_sim.specs.Loaded.{BusNow}
+use Rattle.bus_sim.specs.RunNow.{story}
+use Rattle.line_model.specs.LinkStory.{IsNewLink}
+use Rattle.hub_runs.proofs.tests.failing.run.Goals as goal
+
+pub commission-requires-clause-new : goal.commission-requires-clause-new
+commission-requires-clause-new g c = subst (λ (line : BusNow). IsNewLink (story line.run)) (sym c.new-link.ensures.given.0) c.in_ok-line.ensures
