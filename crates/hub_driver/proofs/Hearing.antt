@@ -1,7 +1,7 @@
 -- What is told heard after a call: what was told before it and what the call heard.
-use Rattle.std.proofs.Common.{◌≡◌, List, [], ◌∷◌, ◌++◌, Option, Some, None, reverse, refl, sym, ap, subst, ◌∙◌}
+use Rattle.std.proofs.Common.{◌≡◌, ◌+◌, arith, length, List, [], ◌∷◌, ◌++◌, Option, Some, None, reverse, refl, sym, ap, subst, ◌∙◌}
 use Rattle.std.specs.List.{cons_option}
-use Rattle.std.proofs.lemmas.List.{reverse-append}
+use Rattle.std.proofs.lemmas.List.{length-append, reverse-append}
 use Rattle.line_model.specs.declared.group.Indication.{Indication}
 use Rattle.line_model.specs.ClientView.{indications}
 use Rattle.line_model.specs.LinkStory.{Story, Untold, Recorded, Full, record_in, places_in}
@@ -36,3 +36,10 @@ hears_none told heard s t none = by_story heard told told (λ is e. rw none e) s
 -- one more
 pub hears_one : (told : List Indication) (one : Indication) (heard : Option Indication) (s t : Story) → heard ≡ Some one → GoesOn s t → HearsSo heard s t → HeardAll told (record_in s) → HeardAll (told ++ one ∷ []) (record_in t)
 hears_one told one heard s t some = by_story heard told (told ++ one ∷ []) (λ is e. rw some (ap (λ x. x ++ one ∷ []) e ∙ sym (reverse-append (one ∷ []) is))) s t
+
+-- then it is no longer the same
+pub no_longer : (told : List Indication) (one : Indication) → told ++ one ∷ [] ≡ told → ⊥
+no_longer told one e =
+    let longer : length (told ++ one ∷ []) ≡ length told + 1 = length-append told (one ∷ []) in
+    let same : length (told ++ one ∷ []) ≡ length told = ap length e in
+    omega (arith, longer, same)

@@ -1,6 +1,7 @@
 //! The closing.
 
-ghost use Rattle.std.specs.Prelude.{◌≡◌, ℕ, true, List, IfErr, IfOk, OnOk};
+ghost use Rattle.std.specs.Prelude.{◌≡◌, ℕ, false, true, List, IfErr, IfOk, OnOk};
+ghost use Rattle.hub_core.specs.Closes.{IsOver};
 ghost use Rattle.hub_core.specs.Seen.{SameRun};
 ghost use Rattle.hub_driver.specs.Closed.{HasClosed};
 ghost use Rattle.hub_driver.specs.Drives.{AllDone, CausedSince, HasEndedSo};
@@ -9,6 +10,7 @@ ghost use Rattle.hub_driver.specs.Leaving.{ClosesSo, GoesThrough, KnowsHowFar, L
 ghost use Rattle.hub_work.specs.Books.{AreJobsOf};
 ghost use Rattle.line_model.specs.LinkStory.{record_in};
 ghost use Rattle.line_model.specs.Log.{Job};
+ghost use Rattle.line_model.specs.Record.{entries};
 ghost use Rattle.tunnel_link.specs.Goes.{GoesOn};
 ghost use Rattle.tunnel_link.specs.Rights.{WhereTold};
 
@@ -57,6 +59,8 @@ impl<L: Link> Driver<L> {
         ensures log { self.new.hub.log ≡ self.old.hub.log }
         ensures done { OnOk result (AllDone self.new.hub) }
         ensures closed { IfOk result (λ over. over ≡ true → WhereTold (HasClosed self.new.hub.log) (L.story self.new.hub.link)) }
+        // it isn't told over just where it isn't, or where something was heard, which counts first
+        ensures goes_on { IfOk result (λ over. over ≡ false → self.new.heard ≡ self.old.heard → WhereTold (λ places. ¬ IsOver self.new.hub.closing (entries places)) (L.story self.new.hub.link)) }
         ensures heard { OnOk result (HeardAll self.new.heard (record_in (L.story self.new.hub.link))) }
         ensures cause { IfErr result (HasEndedSo self.new.hub.fault) }
     {

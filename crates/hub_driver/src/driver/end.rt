@@ -56,6 +56,8 @@ impl<L: Link> Driver<L> {
         ensures closed { result.1.fault ≡ None → WhereTold (HasClosed (reverse result.1.log)) (L.story result.0) }
         ensures seats { IsOfWorkers 1 (reverse result.1.log) }
         ensures heard { result.1.fault ≡ None → HeardAll result.1.heard (record_in (L.story result.0)) }
+        // of a run that was broken off too
+        ensures kept { result.1.heard ≡ self.heard }
         ensures missed { result.1.missed ≡ self.hub.missed }
         ensures caused { (before : ℕ) → CausedSince before self.hub.fault (L.faults self.hub.link) → CausedSince before result.1.fault (L.faults result.0) }
     {

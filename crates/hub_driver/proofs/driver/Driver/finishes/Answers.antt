@@ -1,10 +1,10 @@
-use Rattle.std.proofs.Common.{ap, subst}
+use Rattle.std.proofs.Common.{sym, ap, subst, ◌∙◌}
 use Rattle.hub_work.specs.declared.answers.Finished.{Finished}
 use Rattle.hub_core.specs.Closes.{EndsAs}
 use Rattle.hub_core.specs.Hears.{heard_at_end}
 use Rattle.hub_driver.proofs.Causes.{call_caused}
 use Rattle.hub_driver.proofs.Closed.{over_closed}
-use Rattle.hub_driver.proofs.Hearing.{hears_none, hears_one}
+use Rattle.hub_driver.proofs.Hearing.{hears_none, hears_one, no_longer}
 use Rattle.hub_driver.proofs.Telling.{stays_done}
 use Rattle.hub_driver.proofs.Leaving.{closes_step, how_far_step}
 use Rattle.hub_driver.proofs.driver.Driver.finishes.Goals as goal
@@ -75,3 +75,12 @@ pub returns-in-Over-clause-closed : goal.returns-in-Over-clause-closed
 returns-in-Over-clause-closed g c = λ over. over_closed c.finish.new.self (g.L.Link.story c.finish.new.self.link)
     (how_far_step c.args.self.now.hub c.finish.new.self (g.L.Link.story c.args.self.now.hub.link) (g.L.Link.story c.finish.new.self.link) c.finish.ensures.grows c.finish.ensures.rightly c.finish.ensures.log c.requires.closes c.requires.far c.in_ok-indication.ensures.closes)
     (subst (λ (done : Finished). EndsAs done c.finish.new.self.closing (g.L.Link.story c.finish.new.self.link)) c.in-Over.is c.in_ok-indication.ensures.ends)
+
+pub returns-in_ok-hears-in-Heard-clause-goes_on : goal.returns-in_ok-hears-in-Heard-clause-goes_on
+returns-in_ok-hears-in-Heard-clause-goes_on g c = λ going same. absurd (no_longer c.args.self.now.heard c.in-Heard.indication (sym c.in_ok-hears-in-Heard.ensures.heard ∙ same))
+
+pub returns-in-Going-clause-goes_on : goal.returns-in-Going-clause-goes_on
+returns-in-Going-clause-goes_on g c = λ going same. subst (λ (done : Finished). EndsAs done c.finish.new.self.closing (g.L.Link.story c.finish.new.self.link)) c.in-Going.is c.in_ok-indication.ensures.ends
+
+pub returns-in-Over-clause-goes_on : goal.returns-in-Over-clause-goes_on
+returns-in-Over-clause-goes_on g c = λ going. cc
