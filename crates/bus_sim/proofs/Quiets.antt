@@ -77,10 +77,10 @@ one_up n q few h = omega (arith, few, h)
 one_down : (n q : ℕ) → suc n ≤ min (q + 1) 10 → n ≤ q
 one_down n q h = omega (arith, h)
 
-pub counts_quiet : (q : ℕ) (items : List PortItem) → CountsQuiet q items → CountsQuiet (min (q + 1) 10) (Quiet ∷ items)
-counts_quiet q items h = record { most = up_to q; counts = by_number }
+pub counts_quiet : (q ms : ℕ) (items : List PortItem) → CountsQuiet q items → CountsQuiet (min (q + 1) 10) (Quiet ms ∷ items)
+counts_quiet q ms items h = record { most = up_to q; counts = by_number }
   where
-    by_number : (n : ℕ) → n ≤ 10 → (WereQuiet n (Quiet ∷ items) ↔ n ≤ min (q + 1) 10)
+    by_number : (n : ℕ) → n ≤ 10 → (WereQuiet n (Quiet ms ∷ items) ↔ n ≤ min (q + 1) 10)
     by_number zero few = (λ k. none_least _, λ k. tt)
     by_number (suc n) few = (λ k. one_up n q few ((h.counts n (below n few)).0 k), λ k. (h.counts n (below n few)).1 (one_down n q k))
 

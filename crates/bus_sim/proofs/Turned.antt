@@ -93,41 +93,41 @@ not_taken old new s t from octets taken same = record {
 
 -- ---- a quiet wait
 
-module _ (old new : RunState) (s t u : PortStory) (waited : Adds Quiet s t) where
+module _ (old new : RunState) (s t u : PortStory) (waited : Adds (Quiet quiet_ms) s t) where
   pub quiet_turn : (quiet : ℕ) → PlaysFor quiet_ms old new t u → Turned quiet (min (quiet + 1) 10) old new s u
   quiet_turn quiet h = record {
     same = h.plays.same;
-    added = h.plays.added ++ (Quiet ∷ []);
-    told = adds_more (Quiet ∷ []) h.plays.added s t u (adds_one Quiet s t waited) h.plays.told;
-    turn = λ items. subst (Turn (start (seen old)) old.events items new.events) (sym (with_first h.plays.added Quiet items)) (record {
+    added = h.plays.added ++ (Quiet quiet_ms ∷ []);
+    told = adds_more (Quiet quiet_ms ∷ []) h.plays.added s t u (adds_one (Quiet quiet_ms) s t waited) h.plays.told;
+    turn = λ items. subst (Turn (start (seen old)) old.events items new.events) (sym (with_first h.plays.added (Quiet quiet_ms) items)) (record {
       ms = quiet_ms;
       first_events = old.events;
-      first_items = Quiet ∷ items;
+      first_items = Quiet quiet_ms ∷ items;
       begins = Waits;
-      goes = h.plays.goes (Quiet ∷ items);
+      goes = h.plays.goes (Quiet quiet_ms ∷ items);
       settled = h.settled;
       lasts = subst (λ (b : Beginning). now (replay (start_of b) new.events) ≡ time (seen old) + quiet_ms) h.plays.same h.lasts;
     });
-    one = λ items. ap turns (with_first h.plays.added Quiet items) ∙ no_turns (start (seen old)) old.events (Quiet ∷ items) new.events _ (h.plays.goes (Quiet ∷ items));
-    counts = λ items k. subst (CountsQuiet (min (quiet + 1) 10)) (sym (with_first h.plays.added Quiet items))
-        (counts_as (start (seen old)) old.events (Quiet ∷ items) new.events _ (min (quiet + 1) 10) (h.plays.goes (Quiet ∷ items)) (counts_quiet quiet items k));
+    one = λ items. ap turns (with_first h.plays.added (Quiet quiet_ms) items) ∙ no_turns (start (seen old)) old.events (Quiet quiet_ms ∷ items) new.events _ (h.plays.goes (Quiet quiet_ms ∷ items));
+    counts = λ items k. subst (CountsQuiet (min (quiet + 1) 10)) (sym (with_first h.plays.added (Quiet quiet_ms) items))
+        (counts_as (start (seen old)) old.events (Quiet quiet_ms ∷ items) new.events _ (min (quiet + 1) 10) (h.plays.goes (Quiet quiet_ms ∷ items)) (counts_quiet quiet quiet_ms items k));
   }
 
   pub quiet_stops : StopsPlaying old new t u → StopsTurn old new s u
   quiet_stops (inl h) = record {
     same = h.same;
-    added = h.added ++ (Quiet ∷ []);
-    told = adds_more (Quiet ∷ []) h.added s t u (adds_one Quiet s t waited) h.told;
-    breaks = λ items. subst (Breaks (start (seen old)) old.events items new.events) (sym (with_first h.added Quiet items)) (InTurn Waits (h.goes (Quiet ∷ items)));
-    few = λ items. one_at_most _ (turns items) (ap turns (with_first h.added Quiet items) ∙ no_turns (start (seen old)) old.events (Quiet ∷ items) new.events _ (h.goes (Quiet ∷ items)));
+    added = h.added ++ (Quiet quiet_ms ∷ []);
+    told = adds_more (Quiet quiet_ms ∷ []) h.added s t u (adds_one (Quiet quiet_ms) s t waited) h.told;
+    breaks = λ items. subst (Breaks (start (seen old)) old.events items new.events) (sym (with_first h.added (Quiet quiet_ms) items)) (InTurn Waits (h.goes (Quiet quiet_ms ∷ items)));
+    few = λ items. one_at_most _ (turns items) (ap turns (with_first h.added (Quiet quiet_ms) items) ∙ no_turns (start (seen old)) old.events (Quiet quiet_ms ∷ items) new.events _ (h.goes (Quiet quiet_ms ∷ items)));
   }
   quiet_stops (inr h) = record {
     same = h.same;
-    added = h.added ++ (Quiet ∷ []);
-    told = adds_more (Quiet ∷ []) h.added s t u (adds_one Quiet s t waited) h.told;
-    breaks = λ items. subst (λ l. Breaks (start (seen old)) old.events items l ((h.added ++ (Quiet ∷ [])) ++ items)) (sym h.last)
-        (subst (Breaks (start (seen old)) old.events items (Down h.age ∷ h.events)) (sym (with_first h.added Quiet items)) (NotGiven h.age Waits (h.goes (Quiet ∷ items))));
-    few = λ items. one_at_most _ (turns items) (ap turns (with_first h.added Quiet items) ∙ no_turns (start (seen old)) old.events (Quiet ∷ items) h.events _ (h.goes (Quiet ∷ items)));
+    added = h.added ++ (Quiet quiet_ms ∷ []);
+    told = adds_more (Quiet quiet_ms ∷ []) h.added s t u (adds_one (Quiet quiet_ms) s t waited) h.told;
+    breaks = λ items. subst (λ l. Breaks (start (seen old)) old.events items l ((h.added ++ (Quiet quiet_ms ∷ [])) ++ items)) (sym h.last)
+        (subst (Breaks (start (seen old)) old.events items (Down h.age ∷ h.events)) (sym (with_first h.added (Quiet quiet_ms) items)) (NotGiven h.age Waits (h.goes (Quiet quiet_ms ∷ items))));
+    few = λ items. one_at_most _ (turns items) (ap turns (with_first h.added (Quiet quiet_ms) items) ∙ no_turns (start (seen old)) old.events (Quiet quiet_ms ∷ items) h.events _ (h.goes (Quiet quiet_ms ∷ items)));
   }
 
 -- ---- nothing is taken

@@ -1,5 +1,5 @@
 -- A line that serves clients at a port, turn by turn (this project's own). A turn takes one datagram, which a client at its endpoint sends then,
--- and no time passes on the line; or it is a quiet wait, and 100 ms pass there. In each turn the line goes on until nothing but time can go on,
+-- and no time passes on the line; or it is a quiet wait of 100 ms at the port, and 100 ms pass there. In each turn the line goes on until nothing but time can go on,
 -- and what a client gets, the port is given, each datagram to its own endpoint. The serving ends where a channel was made, none is open and the
 -- last ten turns were quiet, or with its last turn.
 use Rattle.std.specs.Prelude.{◌≡◌, ◌⊎◌, ℕ, ◌+◌, ◌≤◌, false, List, [], ◌∷◌, ◌++◌, Option, Some, None, slice_get}
@@ -58,7 +58,7 @@ given w e = []
 -- how it begins: with a datagram that is taken, or a quiet wait; and so long it lasts on the line
 pub data Begins (events : List Event) (items : List PortItem) : ℕ → List Event → List PortItem → Type 0 where
   Takes : (from : ℕ) (octets : List ℕ) → Begins events items 0 (From from octets ∷ events) (Took from octets ∷ items)
-  Waits : Begins events items quiet_ms events (Quiet ∷ items)
+  Waits : Begins events items quiet_ms events (Quiet quiet_ms ∷ items)
 
 -- the line goes on by itself, and the port is given what its clients get
 pub data GoesOn (start : World) (events0 : List Event) (items0 : List PortItem) : List Event → List PortItem → Type 0 where

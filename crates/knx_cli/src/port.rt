@@ -45,7 +45,7 @@ impl<S: Datagrams> UdpPort<S> {
     /// Waits for a datagram.
     fn receive(&mut self, into: &mut [u8; LONGEST], wait_ms: u32) -> io::Result<PortPolled>
         ensures brings { IfOk result (λ polled. PortBrings polled into.new self.new.clients (S.coming self.old.socket) (S.coming self.new.socket)) }
-        ensures taken { IfOk result (λ polled. TakesSo (Ok polled) into.new Untold Untold) }
+        ensures taken { IfOk result (λ polled. TakesSo (Ok polled) into.new wait_ms Untold Untold) }
         ensures clients { NamesOn self.old.clients self.new.clients }
         ensures others { self.new.faults ≡ self.old.faults }
     {
@@ -96,7 +96,7 @@ impl<S: Datagrams> Port for UdpPort<S> {
     ghost faults = { λ p. p.faults };
 
     fn take(&mut self, into: &mut [u8; LONGEST], wait_ms: u32) -> Result<PortPolled, PortFault>
-        ensures taken { TakesSo result into.new Untold Untold }
+        ensures taken { TakesSo result into.new wait_ms Untold Untold }
         ensures brings { IfOk result (λ polled. PortBrings polled into.new self.new.clients (S.coming self.old.socket) (S.coming self.new.socket)) }
         ensures clients { NamesOn self.old.clients self.new.clients }
         ensures still { OnOk result (self.new.faults ≡ self.old.faults) }
@@ -126,21 +126,21 @@ mod tests {
     use super::*;
     use crate::dial::UdpDialer;
     use line_model::{Dialer, Link, Polled};
-    use std::net::UdpSocket;
+    use std::net::{IpAddr, Ipv4Addr, UdpSocket};
     use std::test::Fail;
     use std::time::Clock;
 
     const HOST: [u8; 4] = [127, 0, 0, 1];
 
-    /// A port, and its number.
+    /// A port, and its address.
     fn bind<R: Net + Clock + Sync>(
         dialer: &mut UdpDialer<'_, R>,
-    ) -> io::Result<(UdpPort<UdpSocket>, u16)> {
+    ) -> io::Result<(UdpPort<UdpSocket>, SocketAddr)> {
         let Ok(door) = dialer.bind(HOST, 0) else {
             return Err(io::Error::from(ErrorKind::AddrInUse));
         };
-        let number = door.socket.local_addr()?.port();
-        Ok((door, number))
+        let at = door.socket.local_addr()?;
+        Ok((door, at))
     }
 
     /// What comes to a port: how many octets, from whom, and the first of them.
@@ -164,8 +164,9 @@ mod tests {
     #[test]
     fn datagrams_go_there_and_back(rt: HostRuntime) -> Result<(), Fail> {
         let mut dialer = UdpDialer::new(&rt, rt.alloc());
-        let (mut door, number) = bind(&mut dialer)?;
-        let mut line = dialer.dial(HOST, number).ok().ok_or("no link")?;
+        let (mut door, at) = bind(&mut dialer)?;
+        let mut line = dialer.dial(HOST, at.port()).ok().ok_or("no link")?;
+        assert!(rt; at.ip() == IpAddr::V4(Ipv4Addr::LOCALHOST));
         assert!(rt; came(&mut door, 0).is_none());
         for (len, got) in [(1, 1), (512, 512), (513, 512), (1400, 512)] {
             assert!(rt; line.send(&[7; 1400][..len]).is_ok());
@@ -181,8 +182,8 @@ mod tests {
     #[test]
     fn a_new_endpoint_is_a_new_client(rt: HostRuntime) -> Result<(), Fail> {
         let mut dialer = UdpDialer::new(&rt, rt.alloc());
-        let (mut door, number) = bind(&mut dialer)?;
-        let mut line = dialer.dial(HOST, number).ok().ok_or("no link")?;
+        let (mut door, at) = bind(&mut dialer)?;
+        let mut line = dialer.dial(HOST, at.port()).ok().ok_or("no link")?;
         for client in 0..3 {
             for _ in 0..2 {
                 assert!(rt; line.send(b"asks").is_ok());

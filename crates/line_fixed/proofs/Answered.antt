@@ -20,10 +20,10 @@ polled_so link_answer.Quiet into None wait old a = (old, refl, record { waits = 
 polled_so (link_answer.Got n) into None wait old a = absurd a
 polled_so link_answer.Quiet into (Some octets) wait old a = absurd a
 
-pub taken_so : (polled : PortPolled) (into : List ℕ) (next : Option (ℕ × List ℕ)) (old : List PortItem) → AnswersPort polled into next →
-    TakesAs polled into (of_port.Recorded old) (of_port.Recorded (took next ∷ old))
-taken_so (port_answer.Got n from) into (Some given) old a =
+pub taken_so : (polled : PortPolled) (into : List ℕ) (next : Option (ℕ × List ℕ)) (wait : ℕ) (old : List PortItem) → AnswersPort polled into next →
+    TakesAs polled into wait (of_port.Recorded old) (of_port.Recorded (took next wait ∷ old))
+taken_so (port_answer.Got n from) into (Some given) wait old a =
     (omega (arith, a.1), (old, refl, rw (a.0, a.2) refl))
-taken_so port_answer.Quiet into None old a = (old, refl, refl)
-taken_so (port_answer.Got n from) into None old a = absurd a
-taken_so port_answer.Quiet into (Some given) old a = absurd a
+taken_so port_answer.Quiet into None wait old a = (old, refl, refl)
+taken_so (port_answer.Got n from) into None wait old a = absurd a
+taken_so port_answer.Quiet into (Some given) wait old a = absurd a

@@ -62,9 +62,10 @@ Fails listed call entries time = Contains listed call ⊎ ((length entries ≡ g
 
 -- ---- a port
 
-abbrev pub took : Option (ℕ × List ℕ) → PortItem
-took (Some given) = of_port.Took given.0 (take longest_got given.1)
-took None = of_port.Quiet
+-- the item of a taking, as the entry of a poll
+abbrev pub took : Option (ℕ × List ℕ) → ℕ → PortItem
+took (Some given) wait = of_port.Took given.0 (take longest_got given.1)
+took None wait = of_port.Quiet wait
 
 abbrev pub AnswersPort : PortPolled → List ℕ → Option (ℕ × List ℕ) → Type 0
 AnswersPort (port_answer.Got n from) into (Some given) = (from ≡ given.0) × (n ≡ min longest_got (length given.1)) × (take n into ≡ take longest_got given.1)

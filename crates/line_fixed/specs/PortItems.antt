@@ -6,7 +6,7 @@ use Rattle.line_fixed.specs.declared.port_items.PortItem.TheVariants as kept
 
 abbrev pub told : PortItem → of_port.PortItem
 told (kept.Took from octets) = of_port.Took from octets
-told kept.Quiet = of_port.Quiet
+told (kept.Quiet ms) = of_port.Quiet ms
 told (kept.Gave to octets) = of_port.Gave to octets
 
 abbrev pub newest_first : List PortItem → List of_port.PortItem

@@ -68,8 +68,9 @@ fn taken(
     gives: &[(u32, Octets)],
     answered: usize,
     into: &mut [u8; LONGEST_GOT],
+    wait_ms: u32,
 ) -> Result<(PortItem, PortPolled), NoMemory>
-    ensures item { IfOk result (λ r. told r.0 ≡ took (slice_get gives.now answered)) }
+    ensures item { IfOk result (λ r. told r.0 ≡ took (slice_get gives.now answered) wait_ms) }
     ensures answer { IfOk result (λ r. AnswersPort r.1 into.new (slice_get gives.now answered)) }
 {
     match gives.get(answered) {
@@ -82,7 +83,7 @@ fn taken(
                 PortPolled::Got { len, from },
             ))
         }
-        None => Ok((PortItem::Quiet, PortPolled::Quiet)),
+        None => Ok((PortItem::Quiet { ms: wait_ms }, PortPolled::Quiet)),
     }
 }
 
@@ -94,16 +95,22 @@ impl Port for FixedPort {
     ghost faults = { λ p. p.faults };
 
     fn take(&mut self, into: &mut [u8; LONGEST_GOT], wait_ms: u32) -> Result<PortPolled, PortFault>
-        ensures taken { TakesSo result into.new (Recorded self.old.items) (Recorded self.new.items) }
+        ensures taken { TakesSo result into.new wait_ms (Recorded self.old.items) (Recorded self.new.items) }
         ensures cause { FailsWhere result self.old.faults self.new.faults }
         ensures count { self.old.faults ≤ self.new.faults }
         // a call takes the next datagram or waits quietly, or it fails and does nothing
-        ensures after { self.new ≡ record self.old { calls = one_more self.old.calls; faults = with_port_fault result self.old.faults; answered = with_answer result self.old.answered; items = with_entry result (took (slice_get self.old.gives self.old.answered)) self.old.items } }
+        ensures after { self.new ≡ record self.old { calls = one_more self.old.calls; faults = with_port_fault result self.old.faults; answered = with_answer result self.old.answered; items = with_entry result (took (slice_get self.old.gives self.old.answered) wait_ms) self.old.items } }
         ensures fails { (result ≡ Err Failed) ↔ Contains self.old.fails self.new.calls }
         ensures answer { IfOk result (λ polled. AnswersPort polled into.new (slice_get self.old.gives self.old.answered)) }
     {
         self.begin()?;
-        let (item, polled) = taken(self.alloc, self.gives.as_slice(), self.answered, into)?;
+        let (item, polled) = taken(
+            self.alloc,
+            self.gives.as_slice(),
+            self.answered,
+            into,
+            wait_ms,
+        )?;
         self.items.add(item)?;
         self.answered = self.answered.saturating_add(1);
         Ok(polled)

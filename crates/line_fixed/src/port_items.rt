@@ -13,8 +13,8 @@ use std::marker::Model;
 pub enum PortItem {
     /// A datagram of a client was taken.
     Took { from: u32, octets: Octets },
-    /// A wait ended without a datagram.
-    Quiet,
+    /// No datagram came in so many milliseconds.
+    Quiet { ms: u32 },
     /// A datagram was given to a client.
     Gave { to: u32, octets: Octets },
 }

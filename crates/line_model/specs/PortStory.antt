@@ -1,4 +1,4 @@
--- What a port tells of itself: nothing, as a socket, or its record: what was taken, and from whom, the quiet waits, and what was given, and to
+-- What a port tells of itself: nothing, as a socket, or its record: what was taken, and from whom, the quiet waits and how long each was, and what was given, and to
 -- whom, in order, the newest first. A port serves clients that it doesn't know; each is named by a number.
 use Rattle.std.specs.Prelude.{◌≡◌, ℕ, ◌≤◌, ◌⊎◌, List, [], ◌∷◌, take, Result, Ok, Err}
 use Rattle.knx_model.specs.Outside.{Rose}
@@ -10,7 +10,7 @@ use Rattle.line_model.specs.Record.{longest_got}
 
 pub data PortItem : Type 0 where
   Took : ℕ → List ℕ → PortItem  -- a datagram of this client
-  Quiet : PortItem
+  Quiet : ℕ → PortItem  -- none came in so many milliseconds
   Gave : ℕ → List ℕ → PortItem  -- a datagram to this client
 
 pub data PortStory : Type 0 where
@@ -28,13 +28,14 @@ Adds item before (Recorded items) = (older : List PortItem) × (before ≡ Recor
 
 -- ---- what the answers say
 
-abbrev pub TakesAs : PortPolled → List ℕ → PortStory → PortStory → Type 0
-TakesAs (answer.Got n from) into before after = (n ≤ longest_got) × Adds (Took from (take n into)) before after
-TakesAs answer.Quiet into before after = Adds Quiet before after
+-- a call that waits at most so many milliseconds: a quiet one has waited them all
+abbrev pub TakesAs : PortPolled → List ℕ → ℕ → PortStory → PortStory → Type 0
+TakesAs (answer.Got n from) into wait before after = (n ≤ longest_got) × Adds (Took from (take n into)) before after
+TakesAs answer.Quiet into wait before after = Adds (Quiet wait) before after
 
-abbrev pub TakesSo : Result PortPolled PortFault → List ℕ → PortStory → PortStory → Type 0
-TakesSo (Ok polled) into before after = TakesAs polled into before after
-TakesSo (Err fault) into before after = after ≡ before
+abbrev pub TakesSo : Result PortPolled PortFault → List ℕ → ℕ → PortStory → PortStory → Type 0
+TakesSo (Ok polled) into wait before after = TakesAs polled into wait before after
+TakesSo (Err fault) into wait before after = after ≡ before
 
 abbrev pub GivesOrNot : ℕ → List ℕ → PortStory → PortStory → Type 0
 GivesOrNot to octets before after = Adds (Gave to octets) before after ⊎ (after ≡ before)

@@ -9,13 +9,13 @@ abbrev pub WereQuiet : ℕ → List PortItem → Type 0
 WereQuiet zero items = Unit {0}
 WereQuiet (suc n) [] = ⊥
 WereQuiet (suc n) (Took from octets ∷ items) = ⊥
-WereQuiet (suc n) (Quiet ∷ items) = WereQuiet n items
+WereQuiet (suc n) (Quiet ms ∷ items) = WereQuiet n items
 WereQuiet (suc n) (Gave to octets ∷ items) = WereQuiet (suc n) items
 
 abbrev pub turns : List PortItem → ℕ
 turns [] = 0
 turns (Took from octets ∷ items) = suc (turns items)
-turns (Quiet ∷ items) = suc (turns items)
+turns (Quiet ms ∷ items) = suc (turns items)
 turns (Gave to octets ∷ items) = turns items
 
 abbrev pub quiet_turns : ℕ

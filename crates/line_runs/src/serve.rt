@@ -54,7 +54,7 @@ fn fails_of(alloc: Global, call: u64) -> Result<List<u64>, Fault> {
 fn tell_item(alloc: Global, item: &PortItem, told: &mut String) -> Result<(), Fault> {
     match item {
         PortItem::Took { .. } => told.push_str(" took")?,
-        PortItem::Quiet => told.push_str(" quiet")?,
+        PortItem::Quiet { ms } => told.push_str(format!(in alloc; " quiet {ms}")?.as_str())?,
         PortItem::Gave { to, octets } => {
             let service = octets.as_slice().get(3).copied().unwrap_or(0);
             told.push_str(format!(in alloc; " gave {to} {service:02x}")?.as_str())?;

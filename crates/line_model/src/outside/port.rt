@@ -45,9 +45,9 @@ pub trait Port: Drop {
     /// How many calls failed; it never falls.
     ghost faults: { Self → ℕ };
 
-    /// Waits for a datagram.
+    /// Waits for a datagram, at most so many milliseconds.
     fn take(&mut self, into: &mut [u8; 512], wait_ms: u32) -> Result<PortPolled, PortFault>
-        ensures taken { TakesSo result into.new (story self.old) (story self.new) }
+        ensures taken { TakesSo result into.new wait_ms (story self.old) (story self.new) }
         ensures cause { FailsWhere result (faults self.old) (faults self.new) }
         ensures count { faults self.old ≤ faults self.new };
 

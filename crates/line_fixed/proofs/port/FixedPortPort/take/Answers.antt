@@ -10,5 +10,5 @@ returns-clause-taken c =
     let port = c.args.self.now in
     let next = slice_get port.gives port.answered in
     let answer : AnswersPort c.in_ok-item.polled c.taken.new.into next = grind (arith, common_steps) in
-    let is : c.add.new.self ≡ took next ∷ port.items = grind (arith, common_steps) in
-    rw is (taken_so _ _ next port.items answer)
+    let is : c.add.new.self ≡ took next c.args.wait_ms ∷ port.items = grind (arith, common_steps) in
+    rw is (taken_so _ _ next c.args.wait_ms port.items answer)
