@@ -22,6 +22,7 @@ use Rattle.tunnel_link.proofs.Stories.{goes_again}
 use Rattle.hub_work.specs.declared.answers.Finished.{Finished}
 use Rattle.hub_work.specs.declared.answers.Pumped.{Pumped}
 use Rattle.hub_core.specs.Hears.{HearsSo, heard_of, heard_at_end}
+use Rattle.hub_core.specs.Puts.{PutsRequest}
 use Rattle.hub_core.specs.Taking.{HeardIn}
 use Rattle.hub_core.proofs.Counting.{some_is, told_before}
 use Rattle.hub_core.proofs.Hearing.{heard_in, heard_is, nothings, one_heard, takes_heard, loses_heard}
@@ -65,6 +66,11 @@ hears_put s t x cemi at grows place =
     hears_by None s t (PutsIt cemi at) put (λ old added h. ap (λ (l : List Moment). heard_in (l ++ moments old)) h) where
       put : Growing (PutsIt cemi at) s t
       put old es = let g : Grows (PutsOne {X = Unit {0}} (Ok x) cemi at) (place_of s) (place_of t) old t = grows old es in record { new = g.new; told = g.told; added = g.added; grown = g.grown; is = g.is (place old es) }
+
+pub puts_request : (s t : Story) (x : Unit {0}) (cemi : List ℕ) (at : ℕ) → Growing (PutsOne {X = Unit {0}} (Ok x) cemi at) s t → WhereTold (λ places. HasPlace (channel (entries places))) s → PutsRequest s t
+puts_request s t x cemi at grows place old es =
+    let g : Grows (PutsOne {X = Unit {0}} (Ok x) cemi at) (place_of s) (place_of t) old t = grows old es in
+    record { new = g.new; told = g.told; added = g.added; grown = g.grown; is = (cemi, at, g.is (place old es)) }
 
 -- after a call that took none
 pub hears_then : (a b c : Story) (heard : Option Indication) → GoesOn b c → HearsSo None a b → HearsSo heard b c → HearsSo heard a c

@@ -1,5 +1,5 @@
 -- A step of the next group telegram waits exactly where the record says so, and so does a worker's turn.
-use Rattle.std.proofs.Common.{◌≡◌, ◌↔◌, ◌⊎◌, inl, inr, ℕ, Bool, true, false, List, map, Option, Some, None, refl, sym, subst, ap, ◌∙◌}
+use Rattle.std.proofs.Common.{◌≡◌, ◌≢◌, ◌↔◌, ◌⊎◌, inl, inr, ℕ, Bool, true, false, List, map, Option, Some, None, refl, sym, subst, ap, ◌∙◌}
 use Rattle.line_model.specs.declared.fault.HubFault.{HubFault}
 use Rattle.line_model.specs.declared.group.GroupTurn.{GroupTurn}
 use Rattle.line_model.specs.Asks.{HasPlace}
@@ -15,12 +15,14 @@ use Rattle.hub_work.specs.declared.answers.GroupDid.{GroupDid}
 use Rattle.hub_work.specs.declared.answers.GroupDid.TheVariants as did
 use Rattle.hub_work.specs.declared.answers.Turned.{Turned}
 use Rattle.hub_work.specs.declared.answers.Turned.TheVariants as answer
+use Rattle.hub_work.specs.declared.crew.Held.{Held}
 use Rattle.hub_work.specs.declared.work.turn.Turn.{Turn}
 use Rattle.hub_work.specs.declared.work.turn.Turn.TheVariants as turn
 use Rattle.hub_work.specs.declared.telegrams.Stage.TheVariants as stage
 use Rattle.hub_work.specs.declared.work.Work.{Work}
 use Rattle.hub_work.specs.Downloaders.{Task, AreJobsWith}
 use Rattle.hub_work.specs.Fits.{Fits}
+use Rattle.hub_work.specs.Turns.{Suits}
 use Rattle.hub_work.specs.Waits.{HoldsBack, WaitsExactly as WaitsExactlyOf}
 use Rattle.hub_work.proofs.GroupWaits.{k_is, under_way_waits, unput_waits, confirmed_waits_not, unput_waits_not}
 use Rattle.hub_work.proofs.GroupWaits as group
@@ -93,6 +95,20 @@ did_is a b e = cc
 
 pub did_same : (result : Turn) (turned : Turned) → result ≡ turn.Did turned → (result ≡ turn.Did answer.Wait) ↔ (turned ≡ answer.Wait)
 did_same result turned is = ((λ e. did_is turned answer.Wait (sym is ∙ e)), (λ e. is ∙ ap turn.Did e))
+
+-- a turn's answer as its worker's work gave it
+pub did_takes_in : (P : Type 0) (turned : Turned) → (P ↔ (turn.Did turned ≡ turn.Did answer.Moved)) → P → turned ≡ answer.Moved
+did_takes_in P turned is p = did_is turned answer.Moved (is.0 p)
+
+pub did_moves : (P : Type 0) (turned : Turned) → (P ↔ (turn.Did turned ≡ turn.Did answer.Moved)) → turned ≡ answer.Moved → P
+did_moves P turned is e = is.1 (ap turn.Did e)
+
+pub puts_takes_none_in : {X : Type 0} (P : Type 0) (cemi : List ℕ) → (P ↔ (turn.Puts cemi ≡ turn.Did answer.Moved)) → P → X
+puts_takes_none_in P cemi is p = absurd (let isnt : turn.Puts cemi ≡ turn.Did answer.Moved = is.0 p in cc)
+
+pub holder_moves : (held : Option Held) → held ≢ None → Suits held answer.Moved
+holder_moves None some = absurd (some refl)
+holder_moves (Some held) some = tt
 
 pub puts_same : (result : Turn) (cemi : List ℕ) → result ≡ turn.Puts cemi → (result ≡ turn.Did answer.Wait) ↔ (answer.Moved ≡ answer.Wait)
 puts_same result cemi is = ((λ e. absurd (let isnt : turn.Puts cemi ≡ turn.Did answer.Wait = sym is ∙ e in cc)), (λ e. absurd (cc)))

@@ -27,7 +27,8 @@ use Rattle.hub_work.specs.Books.{held_at}
 use Rattle.hub_work.specs.Downloaders.{states, downloader_of}
 use Rattle.hub_work.specs.Fits.{Fits, FitsJob}
 use Rattle.hub_work.specs.Laws.{Laws}
-use Rattle.hub_work.specs.Turns.{IsEnd}
+use Rattle.hub_work.specs.Came.{waiting_at, waiting_in}
+use Rattle.hub_work.specs.Turns.{IsEnd, TurnSuits}
 use Rattle.hub_work.specs.Waits.{WaitsFor, WaitsExactly}
 use Rattle.hub_work.specs.Works.{KeepsBooks}
 use Rattle.hub_work.proofs.Crews.{IsHeldSo, held_so}
@@ -132,6 +133,16 @@ something_came old worker now at has_place held result holds came moves h e jobs
 pub all_taken : (old : Work) (worker now at : ℕ) (has_place : Bool) (held : Holds) (result : Turn) → Some held ≡ held_at old.crew (worker - 1) → held.came ≡ 0 → WaitsFor now at has_place old held 0 result → WaitsExactly now at has_place worker old result
 all_taken old worker now at has_place held result holds came waits h e =
     subst (λ (x : Holds). WaitsFor now at has_place old x x.came result) (same_Some held h (holds ∙ sym e)) (subst (λ n. WaitsFor now at has_place old held n result) (sym came) waits)
+
+-- whether it takes something in: where it holds no job, where something came, and where nothing did
+pub none_taken_in : (crew : List (Option Holds)) (place : ℕ) (result : Turn) → None ≡ held_at crew place → TurnSuits result None → (1 ≤ waiting_at crew place) ↔ (result ≡ turn.Did answer.Moved)
+none_taken_in crew place result none suits = (λ h. let nothing : waiting_at crew place ≡ 0 = ap waiting_in (sym none) in absurd (omega (arith, h, nothing)), λ is. absurd (subst (λ (r : Turn). TurnSuits r None) is suits))
+
+pub one_taken_in : (crew : List (Option Holds)) (place : ℕ) (h : Holds) → Some h ≡ held_at crew place → 0 < h.came → (1 ≤ waiting_at crew place) ↔ (turn.Did answer.Moved ≡ turn.Did answer.Moved)
+one_taken_in crew place h holds some = (λ k. refl, λ e. let here : waiting_at crew place ≡ h.came = ap waiting_in (sym holds) in omega (arith, some, here))
+
+pub nothing_taken_in : (crew : List (Option Holds)) (place : ℕ) (h : Holds) (result : Turn) → Some h ≡ held_at crew place → h.came ≤ 0 → result ≢ turn.Did answer.Moved → (1 ≤ waiting_at crew place) ↔ (result ≡ turn.Did answer.Moved)
+nothing_taken_in crew place h result holds none moves_not = (λ k. let here : waiting_at crew place ≡ h.came = ap waiting_in (sym holds) in absurd (omega (arith, k, none, here)), λ is. absurd (moves_not is))
 
 pub is_some_number : (n : ℕ) → 0 < n → n ≢ 0
 is_some_number n lt e = omega (arith, lt, e)

@@ -1,5 +1,5 @@
 -- What a worker's turn comes to, and which entries of the log end a job.
-use Rattle.std.specs.Prelude.{◌≡◌, ℕ, Bool, true, List, ◌∷◌}
+use Rattle.std.specs.Prelude.{◌≡◌, ◌≢◌, ℕ, Bool, true, List, ◌∷◌, Option, Some, None}
 use Rattle.knx_model.specs.declared.log.Sign.{Sign}
 use Rattle.line_model.specs.declared.log.LogEntry.{LogEntry}
 use Rattle.line_model.specs.declared.log.LogWhat.{LogWhat}
@@ -14,6 +14,7 @@ use Rattle.hub_work.specs.declared.answers.GroupDid.{GroupDid}
 use Rattle.hub_work.specs.declared.answers.GroupDid.TheVariants as did
 use Rattle.hub_work.specs.declared.answers.Turned.{Turned}
 use Rattle.hub_work.specs.declared.answers.Turned.TheVariants as answer
+use Rattle.hub_work.specs.declared.crew.Held.{Held}
 use Rattle.hub_work.specs.declared.work.turn.Turn.{Turn}
 use Rattle.hub_work.specs.declared.work.turn.Turn.TheVariants.{Did, Puts}
 
@@ -71,6 +72,39 @@ GroupTells at k did.Put old new = new ≡ old
 GroupTells at k did.Wait old new = new ≡ old
 GroupTells at k did.Sent old new = Adds at 0 (Sent k) old new
 GroupTells at k did.Lost old new = Adds at 0 (Lost k) old new
+
+-- ---- which answers go with what a worker holds
+
+-- without a job it takes one, or is told that it gets none
+abbrev pub SuitsFree : Turned → Type 0
+SuitsFree (answer.Took job) = Unit {0}
+SuitsFree answer.Moved = ⊥
+SuitsFree answer.Wait = ⊥
+SuitsFree (answer.Done job) = ⊥
+SuitsFree (answer.Failed job) = ⊥
+SuitsFree (answer.Refused job) = ⊥
+SuitsFree answer.Later = Unit {0}
+SuitsFree answer.NoMore = Unit {0}
+
+-- with this job it goes on with it, waits, or is told of its end, and of no other job's
+abbrev pub SuitsHolder : ℕ → Turned → Type 0
+SuitsHolder job (answer.Took k) = ⊥
+SuitsHolder job answer.Moved = Unit {0}
+SuitsHolder job answer.Wait = Unit {0}
+SuitsHolder job (answer.Done k) = k ≡ job
+SuitsHolder job (answer.Failed k) = k ≡ job
+SuitsHolder job (answer.Refused k) = k ≡ job
+SuitsHolder job answer.Later = ⊥
+SuitsHolder job answer.NoMore = ⊥
+
+abbrev pub Suits : Option Held → Turned → Type 0
+Suits None turned = SuitsFree turned
+Suits (Some held) turned = SuitsHolder held.job turned
+
+-- and only one with a job puts something
+abbrev pub TurnSuits : Turn → Option Held → Type 0
+TurnSuits (Did turned) held = Suits held turned
+TurnSuits (Puts cemi) held = held ≢ None
 
 -- ---- why a worker gets no job
 

@@ -9,6 +9,7 @@ ghost use Rattle.line_model.specs.Log.{IsNextTurn, TurnUnfinished};
 ghost use Rattle.hub_work.specs.Turns.{GroupTells};
 ghost use Rattle.hub_work.specs.declared.answers.GroupDid.TheVariants as step;
 ghost use Rattle.hub_core.specs.Hears.{HearsSo};
+ghost use Rattle.hub_core.specs.Puts.{PutsRequest};
 ghost use Rattle.hub_core.specs.Waits.{WaitsExactly};
 ghost use Rattle.hub_core.specs.Seen.{SameRun, StaysEnded};
 
@@ -39,6 +40,7 @@ impl<L: Link> Hub<L> {
         ensures untold { OnErr result (self.new.log ≡ self.old.log) }
         ensures alone { Growing (Each LeavesAlone) (L.story self.old.link) (L.story self.new.link) }
         ensures still { IfOk result (λ did. did ≢ step.Put → self.new.link ≡ self.old.link) }
+        ensures puts { IfOk result (λ did. did ≡ step.Put → PutsRequest (L.story self.old.link) (L.story self.new.link)) }
         ensures crew { self.new.crew ≡ self.old.crew }
         ensures run { SameRun self.old self.new }
         ensures closing { self.new.closing ≡ self.old.closing }

@@ -1,14 +1,16 @@
 //! A worker's turn.
 
-ghost use Rattle.std.specs.Prelude.{◌≡◌, ◌≢◌, ◌≤◌, IfErr, IfOk, OnErr, OnOk, Some, None};
-ghost use Rattle.hub_work.specs.Came.{TakesOneIn};
-ghost use Rattle.hub_work.specs.Turns.{TurnTells, WhyFreeByLog};
+ghost use Rattle.std.specs.Prelude.{◌≡◌, ◌≢◌, ◌≤◌, ◌-◌, IfErr, IfOk, OnErr, OnOk, Some, None};
+ghost use Rattle.hub_work.specs.Books.{held_at};
+ghost use Rattle.hub_work.specs.Came.{TakesOneIn, waiting_at};
+ghost use Rattle.hub_work.specs.Turns.{Suits, TurnTells, WhyFreeByLog};
 ghost use Rattle.tunnel_link.specs.Adds.{Growing};
 ghost use Rattle.tunnel_link.specs.Alone.{Each, LeavesAlone};
 ghost use Rattle.tunnel_link.specs.Goes.{GoesOn};
 ghost use Rattle.tunnel_link.specs.Rights.{FailsWhere};
 ghost use Rattle.hub_work.specs.declared.answers.Turned.TheVariants as answer;
 ghost use Rattle.hub_core.specs.Hears.{HearsSo};
+ghost use Rattle.hub_core.specs.Puts.{PutsRequest};
 ghost use Rattle.hub_core.specs.Waits.{TurnWaitsExactly};
 ghost use Rattle.hub_core.specs.Seen.{SameRun, StaysEnded};
 
@@ -28,8 +30,12 @@ impl<L: Link> Hub<L> {
         ensures heard { OnOk result (HearsSo None (L.story self.old.link) (L.story self.new.link)) }
         ensures told { IfOk result (λ turned. TurnTells (L.place self.old.link) worker turned self.old.log self.new.log) }
         ensures waits { IfOk result (λ turned. TurnWaitsExactly self.old.jobs self.old.turns self.old.log self.old.crew (L.place self.old.link) worker turned (L.story self.old.link)) }
+        ensures suits { IfOk result (Suits (held_at self.old.crew (worker - 1))) }
         ensures free { IfOk result (WhyFreeByLog self.old.devices self.old.log) }
         ensures came { OnOk result (TakesOneIn worker self.old.crew self.new.crew) }
+        // where something came for its job, it takes one thing in, and sends nothing; else it moves only where it sends a request
+        ensures takes_in { IfOk result (λ turned. 1 ≤ waiting_at self.old.crew (worker - 1) → (turned ≡ answer.Moved) × (self.new.link ≡ self.old.link)) }
+        ensures puts { IfOk result (λ turned. turned ≡ answer.Moved → waiting_at self.old.crew (worker - 1) ≡ 0 → PutsRequest (L.story self.old.link) (L.story self.new.link)) }
         ensures untold { OnErr result (self.new.log ≡ self.old.log) }
         ensures alone { Growing (Each LeavesAlone) (L.story self.old.link) (L.story self.new.link) }
         ensures still { IfOk result (λ turned. turned ≢ answer.Moved → self.new.link ≡ self.old.link) }

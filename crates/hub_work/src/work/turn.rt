@@ -1,6 +1,6 @@
 //! A worker's turn.
 
-ghost use Rattle.std.specs.Prelude.{◌≡◌, ℕ, Bool, ◌-◌, ◌≤◌, false, length, Some, None};
+ghost use Rattle.std.specs.Prelude.{◌≡◌, ◌≢◌, ◌↔◌, ℕ, Bool, ◌-◌, ◌≤◌, false, length, Some, None};
 ghost use Rattle.download_core.specs.Attempt.{DownloaderState};
 ghost use Rattle.download_core.specs.Steps.{stepped};
 ghost use Rattle.line_model.specs.Reading.{ldata_in};
@@ -11,7 +11,7 @@ ghost use Rattle.hub_work.specs.Comes.{TookFollows, EndFollows, after_end};
 ghost use Rattle.hub_work.specs.Downloaders.{changed, states};
 ghost use Rattle.hub_work.specs.Requests.{request_with};
 ghost use Rattle.line_model.specs.ClientEnd.{IsCemi};
-ghost use Rattle.hub_work.specs.Turns.{Adds, IsEnd, WaitsFree, PutsCemi, PutsWhere, EndsJob, TurnTold};
+ghost use Rattle.hub_work.specs.Turns.{Adds, IsEnd, WaitsFree, PutsCemi, PutsWhere, EndsJob, TurnSuits, TurnTold};
 ghost use Rattle.hub_work.specs.Follows.{TurnFollows};
 ghost use Rattle.hub_work.specs.Waits.{WaitsFor, WaitsExactly};
 ghost use Rattle.hub_work.specs.Works.{KeepsBooks, SameRun, SameBooks, IsHolder, IsTaking};
@@ -40,6 +40,8 @@ impl Work {
     pub fn turn(&mut self, worker: u8, now: u64, at: u64, has_place: bool) -> Turn
         requires worker { 1 ≤ worker }
         requires books { KeepsBooks at self.old }
+        ensures suits { TurnSuits result (held_at self.old.crew (worker - 1)) }
+        ensures takes_in { (1 ≤ waiting_at self.old.crew (worker - 1)) ↔ (result ≡ Turn.Did Turned.Moved) }
         ensures free { WaitsFree self.old.reservation result }
         ensures placed { PutsWhere has_place result }
         ensures cemi { PutsCemi result }
@@ -65,6 +67,7 @@ impl Work {
         requires worker { 1 ≤ worker }
         requires empty { None ≡ held_at self.old.crew (worker - 1) }
         requires books { KeepsBooks at self.old }
+        ensures suits { TurnSuits result None }
         ensures free { WaitsFree self.old.reservation result }
         ensures cemi { PutsCemi result }
         ensures placed { (b : Bool) → PutsWhere b result }
@@ -107,6 +110,8 @@ impl Work {
         requires holder { IsHolder self.old worker held }
         requires taken_in { held.came ≡ 0 }
         requires books { KeepsBooks at self.old }
+        ensures suits { TurnSuits result (Some held) }
+        ensures takes_none_in { result ≢ Turn.Did Turned.Moved }
         ensures free { WaitsFree self.old.reservation result }
         ensures placed { PutsWhere has_place result }
         ensures cemi { PutsCemi result }

@@ -10,7 +10,7 @@ use Rattle.hub_core.proofs.Prompting.{prompts_told}
 use Rattle.hub_core.proofs.Putting.{telegram_so, put_done, put_failed}
 use Rattle.hub_core.proofs.View.{same_run, work_run}
 use Rattle.hub_core.proofs.Written.{written, told_writes}
-use Rattle.hub_core.proofs.Hears.{hears_put}
+use Rattle.hub_core.proofs.Hears.{hears_put, puts_request}
 use Rattle.hub_core.proofs.Waits.{waits_under_way, waits_unplaced, waits_held, sent_waits_not, lost_waits_not, put_waits_not}
 use Rattle.std.specs.Prelude.{is_none}
 use Rattle.line_model.specs.LinkStory.{IsPlace}
@@ -120,3 +120,8 @@ returns-in-Confirmed-clause-alone g c = rw (← c.self.view_is) (none_each Leave
 
 pub returns-in-Lost-clause-alone : goal.returns-in-Lost-clause-alone
 returns-in-Lost-clause-alone g c = rw (← c.self.view_is) (none_each LeavesAlone (g.L.Link.story c.self.inside.tunnel.link))
+
+pub returns-in_ok-put-in-Unput-clause-puts : goal.returns-in_ok-put-in-Unput-clause-puts
+returns-in_ok-put-in-Unput-clause-puts g c =
+    let none : c.self.inside.tunnel.known.fault ≡ None = sym c.fault.ensures ∙ c.in_default.is in
+    rw (← c.self.view_is) (λ put. puts_request _ _ _ _ _ c.in_ok-put-in-Unput.ensures.adds (λ old es. (c.has_place.ensures.told none old es).0 c.if-not-has_place.false))

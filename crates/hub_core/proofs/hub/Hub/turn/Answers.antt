@@ -1,4 +1,4 @@
-use Rattle.std.proofs.Common.{◌≡◌, ℕ, None, sym, ap, subst, ◌∙◌}
+use Rattle.std.proofs.Common.{◌≡◌, ℕ, ◌-◌, ◌≤◌, None, refl, sym, ap, subst, ◌∙◌, arith}
 use Rattle.std.specs.Prelude.{is_some}
 use Rattle.line_model.specs.Asks.{HasPlace}
 use Rattle.line_model.specs.ClientView.{channel}
@@ -7,11 +7,12 @@ use Rattle.hub_core.proofs.Prompting.{prompts_told}
 use Rattle.hub_core.proofs.Putting.{turn_so, turn_did, put_done, put_failed}
 use Rattle.hub_core.proofs.View.{work_run}
 use Rattle.hub_core.proofs.Written.{written, turn_writes}
-use Rattle.hub_core.proofs.Hears.{hears_put}
+use Rattle.hub_core.proofs.Hears.{hears_put, puts_request}
 use Rattle.line_model.specs.LinkStory.{IsPlace}
 use Rattle.hub_work.specs.declared.answers.Turned.TheVariants as answer
 use Rattle.hub_work.specs.Waits.{WaitsExactly}
-use Rattle.hub_core.proofs.Waits.{turn_waits, did_same, puts_same}
+use Rattle.hub_work.specs.Came.{waiting_at}
+use Rattle.hub_core.proofs.Waits.{turn_waits, did_same, puts_same, did_takes_in, did_moves, puts_takes_none_in, holder_moves}
 use Rattle.tunnel_link.specs.Alone.{LeavesAlone}
 use Rattle.tunnel_link.proofs.Alone.{none_each}
 use Rattle.hub_core.proofs.hub.Hub.turn.Goals as goal
@@ -76,3 +77,24 @@ returns-in-Did-clause-alone g c = rw (← c.self.view_is) (none_each LeavesAlone
 
 pub returns-in_ok-put-in-Puts-clause-alone : goal.returns-in_ok-put-in-Puts-clause-alone
 returns-in_ok-put-in-Puts-clause-alone g c = rw (← c.self.view_is) c.put.ensures.alone
+
+pub returns-in-Did-clause-suits : goal.returns-in-Did-clause-suits
+returns-in-Did-clause-suits g c = rw (← c.self.view_is) c.in-Did.ensures.suits
+
+pub returns-in_ok-put-in-Puts-clause-suits : goal.returns-in_ok-put-in-Puts-clause-suits
+returns-in_ok-put-in-Puts-clause-suits g c = rw (← c.self.view_is) (holder_moves _ c.in-Puts.ensures.suits)
+
+pub returns-in-Did-clause-takes_in : goal.returns-in-Did-clause-takes_in
+returns-in-Did-clause-takes_in g c = rw (← c.self.view_is) (λ came. (did_takes_in _ c.in-Did.turned c.in-Did.ensures.takes_in came, refl))
+
+pub returns-in_ok-put-in-Puts-clause-takes_in : goal.returns-in_ok-put-in-Puts-clause-takes_in
+returns-in_ok-put-in-Puts-clause-takes_in g c = rw (← c.self.view_is) (λ came. puts_takes_none_in _ c.in-Puts.cemi c.in-Puts.ensures.takes_in came)
+
+pub returns-in-Did-clause-puts : goal.returns-in-Did-clause-puts
+returns-in-Did-clause-puts g c = rw (← c.self.view_is) (λ moved none.
+    let came : 1 ≤ waiting_at c.self.inside.work.crew (c.args.worker - 1) = did_moves _ c.in-Did.turned c.in-Did.ensures.takes_in moved in absurd (omega (arith, came, none)))
+
+pub returns-in_ok-put-in-Puts-clause-puts : goal.returns-in_ok-put-in-Puts-clause-puts
+returns-in_ok-put-in-Puts-clause-puts g c =
+    let none : c.self.inside.tunnel.known.fault ≡ None = sym c.fault.ensures ∙ c.in_default.is in
+    rw (← c.self.view_is) (λ moved nothing. puts_request _ _ _ _ _ c.in_ok-put-in-Puts.ensures.adds (λ old es. (c.has_place-has_place.ensures.told none old es).0 c.in-Puts.ensures.placed))
