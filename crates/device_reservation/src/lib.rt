@@ -8,8 +8,6 @@ mod jobs;
 mod laws;
 mod stage;
 mod taken;
-#[cfg(test)]
-mod tests;
 
 pub use jobs::Jobs;
 pub use knx_model::{IndAddr, NoMemory};

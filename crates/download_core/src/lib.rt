@@ -16,8 +16,6 @@ mod run;
 mod sending;
 mod signs;
 mod suits;
-#[cfg(test)]
-mod tests;
 
 pub use did::Did;
 pub use download_plan::{CheckPlan, LoadPlan};

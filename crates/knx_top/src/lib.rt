@@ -25,6 +25,3 @@ pub use complete::valid_input_is_told;
 pub use knx_model::Status;
 pub use line_model::Report;
 pub use report_text::NO_MEMORY;
-
-#[cfg(test)]
-mod tests;

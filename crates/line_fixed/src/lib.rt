@@ -10,8 +10,6 @@ mod link;
 mod next;
 mod port;
 mod port_items;
-#[cfg(test)]
-mod tests;
 
 pub use dialer::{Address, FixedDialer};
 pub use entries::Entries;

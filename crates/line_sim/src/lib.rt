@@ -9,8 +9,6 @@ mod gateway;
 mod laws;
 mod line;
 mod parts;
-#[cfg(test)]
-mod tests;
 mod tunnel;
 
 pub use device_sim::Device;

@@ -9,8 +9,6 @@ mod oldest;
 mod place;
 mod readable;
 mod sender;
-#[cfg(test)]
-mod tests;
 
 pub use kept::Sending;
 pub use knx_model::NoMemory;

@@ -4,8 +4,6 @@
 
 mod index;
 mod place;
-#[cfg(test)]
-mod tests;
 
 pub use index::ScriptIndex;
 pub use knx_model::{IndAddr, NoMemory, ScriptLine, ScriptWhat};

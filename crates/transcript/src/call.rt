@@ -1,7 +1,7 @@
-//! One call of `knx` over files in memory, and with a dialer that reaches no gateway.
+//! One call of `knx` over files in memory, and over a link and a port of fixed data.
 
-use crate::door::{dialer_of, put_given};
 use crate::fault::Fault;
+use crate::outside::{Outside, put_back};
 use crate::text::TextFile;
 use knx_model::{MemoryFile, MemoryFiles, MemorySink, NoMemory};
 use knx_top::{SimBus, knx};
@@ -60,13 +60,13 @@ fn status_of<R: Wait>(
     knx(rt, alloc, words, files, sink, &mut sim, dial, &mut last).number()
 }
 
-/// Adds what a call with these words gives at the port, where it has one, what it writes, and its status.
+/// Adds what a call with these words hands back, where it dials or binds, what it writes, and its status.
 pub fn put_call<R: Wait>(
     rt: &R,
     alloc: Global,
     out: &mut String,
     texts: &[TextFile],
-    port: Option<&str>,
+    outside: &Outside,
     line: &str,
 ) -> Result<(), Fault> {
     let mut words = Vec::new(alloc);
@@ -74,8 +74,10 @@ pub fn put_call<R: Wait>(
         words.push(String::from_str(alloc, word)?)?;
     }
     let mut files = files_of(alloc, texts)?;
+    outside.fail_reads(&mut files)?;
     let mut sink = MemorySink::new(alloc);
-    let mut dial = dialer_of(alloc, port)?;
+    outside.fail_writes(&mut sink)?;
+    let mut dial = outside.dialer(alloc)?;
     let status = status_of(
         rt,
         alloc,
@@ -84,7 +86,7 @@ pub fn put_call<R: Wait>(
         &mut sink,
         &mut dial,
     );
-    put_given(alloc, out, &dial)?;
+    put_back(alloc, out, &dial)?;
     put_output(alloc, out, sink.taken.as_slice())?;
     out.push_str(format!(in alloc; "status {status}\n")?.as_str())?;
     Ok(())

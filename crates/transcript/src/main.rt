@@ -8,32 +8,36 @@
 //! - `port WORDS` is the port that the next call of either kind can bind: a word in hexadecimal is a datagram that comes from client 0, in
 //!   order, before quiet waits; `fail:N` lets its N-th call fail. What it was given is told before what the call writes, as `gave CLIENT HEX`.
 //!   Without the line no port can be bound.
+//! - `link WORDS` is the link that the next call can dial: a word in hexadecimal is the datagram that it gives for ever; `fail:N` lets its N-th
+//!   call fail. Where it is handed back, `link back` is told. Without the line no gateway can be dialled.
+//! - `failing reads N ..` and `failing writes N ..` let the next call's reads of files and its writes with these numbers fail.
 //! - Every other line is copied.
 #![tactic(auto)]
 
 mod call;
-mod door;
 mod fault;
+mod outside;
 mod text;
 
 use crate::call::put_call;
 use crate::fault::Fault;
+use crate::outside::Outside;
 use crate::text::{TextFile, unescaped};
 use std::alloc::Global;
-use std::io;
 use std::sync::Wait;
+use std::{io, mem};
 
 /// The file that a `>` line states.
 const STATED: &str = "s";
 
-/// What was read so far: the files that ended, the one that is open, the words of the `>` lines, those of the `port` line of the next
-/// call, and the transcript.
+/// What was read so far: the files that ended, the one that is open, the words of the `>` lines, what the next call meets
+/// outside, and the transcript.
 #[derive(Drop)]
 struct Transcript {
     files: Vec<TextFile>,
     open: Option<TextFile>,
     words: String,
-    port: Option<String>,
+    outside: Outside,
     out: String,
 }
 
@@ -43,7 +47,7 @@ impl Transcript {
             files: Vec::new(alloc),
             open: None,
             words: String::new(alloc),
-            port: None,
+            outside: Outside::new(alloc),
             out: String::new(alloc),
         }
     }
@@ -75,9 +79,15 @@ impl Transcript {
 
     /// A call with these words.
     fn call<R: Wait>(&mut self, rt: &R, alloc: Global, words: &str) -> Result<(), Fault> {
-        let port = self.port.take();
-        let port = port.as_ref().map(|words| words.as_str());
-        put_call(rt, alloc, &mut self.out, self.files.as_slice(), port, words)
+        let outside = mem::replace(&mut self.outside, Outside::new(alloc));
+        put_call(
+            rt,
+            alloc,
+            &mut self.out,
+            self.files.as_slice(),
+            &outside,
+            words,
+        )
     }
 
     /// A line outside of all files.
@@ -89,8 +99,6 @@ impl Transcript {
         self.put_line(line)?;
         if let Some(words) = line.strip_prefix("$ ") {
             self.call(rt, alloc, words)?;
-        } else if let Some(words) = line.strip_prefix("port") {
-            self.port = Some(String::from_str(alloc, words)?);
         } else if let Some(words) = line.strip_prefix("with ") {
             self.words = String::from_str(alloc, words)?;
         } else if let Some(text) = line.strip_prefix("> ") {
@@ -99,6 +107,8 @@ impl Transcript {
             self.put_file(TextFile { name, content })?;
             let words = String::from_str(alloc, self.words.as_str())?;
             self.call(rt, alloc, words.as_str())?;
+        } else {
+            self.outside.take_in(alloc, line)?;
         }
         Ok(())
     }

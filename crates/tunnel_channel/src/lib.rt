@@ -7,8 +7,6 @@ mod ends;
 mod laws;
 mod request;
 mod state;
-#[cfg(test)]
-mod tests;
 mod took;
 mod wait;
 

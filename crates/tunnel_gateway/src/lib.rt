@@ -7,8 +7,6 @@ mod channel;
 mod end;
 mod laws;
 mod request;
-#[cfg(test)]
-mod tests;
 mod wait;
 
 pub use end::GatewayEnd;

@@ -4,8 +4,8 @@ ghost use Rattle.std.specs.Prelude.{◌≡◌, ◌≤◌, true, is_some};
 ghost use Rattle.line_model.specs.ClientEnd.{open_end};
 ghost use Rattle.line_model.specs.ClientFrames.{HasTunnelIfUp};
 
-use crate::{Channel, ChannelTook};
 use knx_model::{Datagram, IndAddr, IpFrame};
+use tunnel_channel::{Channel, ChannelTook};
 
 mod states;
 mod waits;

@@ -1,9 +1,7 @@
 //! A whole load, with the device's answers written by hand from the standard's frames.
 
 use super::{CONNECT, DEVICE, DISCONNECT, Row, Shows, image, is_shown, takes};
-use crate::did::Did;
-use crate::downloader::Downloader;
-use crate::job_plan::JobPlan;
+use download_core::{Did, Downloader, JobPlan};
 use download_plan::LoadPlan;
 use knx_model::ApduOctets;
 use std::process::Abort;

@@ -4,8 +4,8 @@ use super::{
     At, CEMI, From, TUNNEL, again, channel, closed, disconnect_request, frame, given, gone,
     heartbeat, request,
 };
-use crate::{ChannelExpired, ChannelTook, PutRefused};
 use knx_model::Datagram;
+use tunnel_channel::{ChannelExpired, ChannelTook, PutRefused};
 
 #[test]
 fn each_state_answers_each_frame(rt: HostRuntime) {

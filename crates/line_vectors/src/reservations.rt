@@ -1,7 +1,6 @@
 //! Orders in which jobs are given.
 
-use crate::jobs::Jobs;
-use crate::taken::Taken;
+use device_reservation::{Jobs, Taken};
 use knx_model::{IndAddr, NoMemory};
 use std::alloc::Global;
 use std::process::Abort;

@@ -1,6 +1,6 @@
 //! Each call of each type, what fails where it is told to, and where datagrams are cut off.
 
-use crate::{
+use line_fixed::{
     Dialer, FailingLink, FixedDialer, FixedLink, FixedPort, Item, Link, List, NoMemory, Octets,
     Polled, Port, PortPolled,
 };

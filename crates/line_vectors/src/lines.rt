@@ -3,9 +3,9 @@
 ghost use Rattle.std.specs.Prelude.{◌≡◌, ◌+◌, ◌≤◌, length};
 ghost use Rattle.knx_model.specs.KnxNetIp.{IsInRange};
 
-use crate::{AtGateway, Datagram, Device, Devices, Due, IndAddr, Line, Sending, WriteKind};
 use knx_model::{IpFrame, NoMemory};
 use knxnetip_frames::encode;
+use line_sim::{AtGateway, Datagram, Device, Devices, Due, IndAddr, Line, Sending, WriteKind};
 use std::alloc::Global;
 use std::test::Fail;
 

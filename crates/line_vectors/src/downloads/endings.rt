@@ -1,8 +1,7 @@
 //! Each ending of an attempt, and of a job.
 
 use super::{CONNECT, DEVICE, DISCONNECT, Row, Shows, image, takes};
-use crate::downloader::Downloader;
-use crate::job_plan::JobPlan;
+use download_core::{Downloader, JobPlan};
 use download_plan::{CheckPlan, LoadPlan};
 use knx_model::Sign;
 use std::process::Abort;

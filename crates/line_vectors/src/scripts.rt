@@ -1,7 +1,7 @@
 //! What is said of a place.
 
-use crate::index::ScriptIndex;
 use knx_model::{IndAddr, ScriptLine, ScriptWhat};
+use script_index::ScriptIndex;
 use std::test::Fail;
 
 /// Of two equal lines the earlier holds.

@@ -3,7 +3,9 @@
 ghost use Rattle.std.specs.Prelude.{◌≤◌};
 
 use self::At::{Closed, Idle, Waiting};
-use crate::{Datagram, GatewayEnd, GatewayExpired, GatewayTook, IndAddr, IpFrame, PutRefused};
+use tunnel_gateway::{
+    Datagram, GatewayEnd, GatewayExpired, GatewayTook, IndAddr, IpFrame, PutRefused,
+};
 
 const TUNNEL: IndAddr = IndAddr { raw: 0x11FF };
 

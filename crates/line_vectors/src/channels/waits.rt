@@ -3,8 +3,8 @@
 use super::{
     At, CEMI, From, again, channel, disconnect_request, frame, given, heartbeat, open, request,
 };
-use crate::{Channel, ChannelExpired, ChannelTook};
 use std::process::Abort;
+use tunnel_channel::{Channel, ChannelExpired, ChannelTook};
 
 /// What becomes due at these times, in turn.
 fn assert_due(rt: &impl Abort, channel: &mut Channel, rows: &[(u64, ChannelExpired)]) {

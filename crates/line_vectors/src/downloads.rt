@@ -3,8 +3,7 @@
 ghost use Rattle.std.specs.Prelude.{IfOk};
 ghost use Rattle.knx_model.specs.Device.{Fits};
 
-use crate::did::Did;
-use crate::downloader::Downloader;
+use download_core::{Did, Downloader};
 use knx_model::{Image, IndAddr, NoMemory, Octets, Sign};
 use std::alloc::Global;
 

@@ -1,6 +1,6 @@
 //! What arrives of the datagrams of one sender.
 
-use crate::{NoMemory, Reach, Sendings};
+use network_sim::{NoMemory, Reach, Sendings};
 use std::alloc::Global;
 use std::test::Fail;
 
