@@ -1,7 +1,7 @@
 -- Datagrams at a socket: those that it was given and those that come to it, where it tells them; and the faults that its errors are.
-use Rattle.std.specs.Prelude.{◌≡◌, ℕ, List, [], ◌∷◌, take, slice_get, IfSome, Option, Some, None}
+use Rattle.std.specs.Prelude.{◌≡◌, ℕ, Bool, true, false, List, [], ◌∷◌, take, slice_get, IfSome, Option, Some, None}
 use Rattle.std.specs.declared.io.ErrorKind.{ErrorKind}
-use Rattle.std.specs.declared.io.ErrorKind.TheVariants.{OutOfMemory}
+use Rattle.std.specs.declared.io.ErrorKind.TheVariants.{OutOfMemory, WouldBlock, TimedOut, Interrupted}
 use Rattle.std.specs.declared.net.ipv4_addr.Ipv4Addr.{Ipv4Addr}
 use Rattle.std.specs.declared.net.ip_addr.IpAddr.TheVariants.{V4}
 use Rattle.std.specs.declared.net.socket_addr.SocketAddr.{SocketAddr}
@@ -63,6 +63,14 @@ PortBrings port_answer.Quiet into clients before after = Brings None into before
 -- each number that named a client names it still
 abbrev pub NamesOn : List SocketAddr → List SocketAddr → Type 0
 NamesOn old new = (number : ℕ) → IfSome (slice_get old number) (λ client. slice_get new number ≡ Some client)
+
+-- ---- which error is a wait that its time or a signal ended
+
+abbrev pub is_wait_over : ErrorKind → Bool
+is_wait_over WouldBlock = true
+is_wait_over TimedOut = true
+is_wait_over Interrupted = true
+is_wait_over _ = false
 
 -- ---- which fault an error is: want of memory is told as itself, and isn't counted
 

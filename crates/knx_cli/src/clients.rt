@@ -1,6 +1,6 @@
 //! The clients of a port, each by a number: the first is 0, and each new one has the next number. A number names its client for ever.
 
-ghost use Rattle.std.specs.Prelude.{◌≡◌, ◌<◌, [], Contains, IfNone, IfOk, IfSome, Some, length, slice_get};
+ghost use Rattle.std.specs.Prelude.{◌≡◌, ◌<◌, ◌≤◌, ◌⊎◌, ◌++◌, ◌∷◌, [], Contains, IfNone, IfOk, IfSome, IsOk, Some, length, slice_get};
 ghost use Rattle.std.specs.List.{HoldsAt};
 ghost use Rattle.knx_cli.specs.Datagrams.{NamesOn};
 
@@ -35,7 +35,8 @@ fn position_of(addresses: &[SocketAddr], address: SocketAddr) -> Option<usize>
 
 /// The number of a place; clients have no further ones.
 fn number_of(at: usize) -> io::Result<u32>
-    ensures { IfOk result (λ number. number ≡ at) }
+    ensures number { IfOk result (λ number. number ≡ at) }
+    ensures few { at ≤ 4294967295 → IsOk result }
 {
     match u32::try_from(at) {
         Ok(number) => Ok(number),
@@ -65,6 +66,7 @@ impl Clients {
         ensures named { IfOk result (λ number. slice_get self.new number ≡ Some address) }
         ensures kept { NamesOn self.old self.new }
         ensures known { Contains self.old address → self.new ≡ self.old }
+        ensures next { IfOk result (λ number. (self.new ≡ self.old) ⊎ ((number ≡ length self.old) × (self.new ≡ self.old ++ address ∷ []))) }
     {
         if let Some(at) = position_of(&self.addresses, address) {
             return number_of(at);

@@ -232,6 +232,7 @@ mod tests {
         assert!(rt; link.send(b"lost").is_err());
         assert!(rt; !is_quiet(&mut link, 0));
         assert!(rt; link.renew().is_ok());
+        assert!(rt; link.socket.local_addr()?.ip() == IpAddr::V4(Ipv4Addr::UNSPECIFIED));
         assert_eq!(rt; link.faults(), 2);
         Ok(())
     }

@@ -1,7 +1,8 @@
 //! Sockets for datagrams (UDP). They aren't connected: each datagram has its own address.
 
-ghost use Rattle.std.specs.Prelude.{◌≡◌, ◌≤◌, IfOk, IfSome, None, OnOk, length, take};
-ghost use Rattle.knx_cli.specs.Datagrams.{Brings, Gives, IsAt, IsUnused};
+ghost use Rattle.std.specs.IoError.{error_kind};
+ghost use Rattle.std.specs.Prelude.{◌≡◌, ◌≤◌, IfOk, IfSome, None, OnErr, OnOk, false, length, take, true};
+ghost use Rattle.knx_cli.specs.Datagrams.{Brings, Gives, IsAt, IsUnused, is_wait_over};
 
 use std::io::{self, ErrorKind};
 use std::net::{IpAddr, Ipv4Addr, Net, SocketAddr, UdpSocket};
@@ -44,7 +45,9 @@ pub trait Datagrams: Drop {
 
 /// A wait that its time or a signal ended is no failure.
 fn unless_over(error: io::Error) -> io::Result<Option<(usize, SocketAddr)>>
-    ensures { IfOk result (λ got. got ≡ None) }
+    ensures none { IfOk result (λ got. got ≡ None) }
+    ensures over { OnOk result (is_wait_over (error_kind error) ≡ true) }
+    ensures failed { OnErr result (is_wait_over (error_kind error) ≡ false) }
 {
     match error.kind() {
         ErrorKind::WouldBlock | ErrorKind::TimedOut | ErrorKind::Interrupted => Ok(None),
