@@ -191,24 +191,26 @@ pub const COMPLETED: &[u8] = b"\x03\xD7\x01\x05\x10\x01\x02\x00\x00\x00\x00\x00\
 pub const UNLOAD_APPLICATION: &[u8] =
     b"\x03\xD7\x04\x05\x10\x01\x04\x00\x00\x00\x00\x00\x00\x00\x00\x00";
 
-/// A device that is loaded with these tables and this parameter memory.
+/// The octets of a small table, and none of a larger one.
+fn few(octets: &[u8]) -> &[u8]
+    ensures { length result.now ≤ 20 }
+{
+    if octets.len() <= 20 { octets } else { &[] }
+}
+
+/// A device that is loaded with these tables and this parameter memory, each of at most 20 octets.
 pub fn loaded(
     alloc: Global,
     addr: &[u8],
     assoc: &[u8],
     objs: &[u8],
     params: &[u8],
-) -> Result<Device, NoMemory>
-    requires addr { length addr.now ≤ 20 }
-    requires assoc { length assoc.now ≤ 20 }
-    requires objs { length objs.now ≤ 20 }
-    requires params { length params.now ≤ 20 }
-{
+) -> Result<Device, NoMemory> {
     let image = Image {
-        addr: Octets::from_slice(alloc, addr)?,
-        assoc: Octets::from_slice(alloc, assoc)?,
-        objs: Octets::from_slice(alloc, objs)?,
-        params: Octets::from_slice(alloc, params)?,
+        addr: Octets::from_slice(alloc, few(addr))?,
+        assoc: Octets::from_slice(alloc, few(assoc))?,
+        objs: Octets::from_slice(alloc, few(objs))?,
+        params: Octets::from_slice(alloc, few(params))?,
     };
     Device::loaded(alloc, ADDRESS, &image)
 }

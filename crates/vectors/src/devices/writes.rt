@@ -5,17 +5,21 @@ use crate::devices::deeds::{
     to_device,
 };
 use device_sim::{Device, Took, written_front};
-use knx_model::NoMemory;
+use knx_model::{Image, NoMemory};
 use std::alloc::Global;
 use std::test::Fail;
 
+fn has_params(image: Option<&Image>, params: &[u8]) -> bool {
+    match image {
+        Some(image) => image.params.as_slice() == params,
+        None => false,
+    }
+}
+
 /// Whether it is the device of this address, and runs with this parameter memory.
 fn is_loaded(alloc: Global, device: &Device, params: &[u8]) -> Result<bool, NoMemory> {
-    let address = device.address();
-    match device.image(alloc)? {
-        Some(image) => Ok(address == ADDRESS && image.params.as_slice() == params),
-        None => Ok(false),
-    }
+    let image = device.image(alloc)?;
+    Ok(device.address() == ADDRESS && has_params(image.as_ref(), params))
 }
 
 #[test]
