@@ -1,5 +1,5 @@
 -- A poll that brings the next datagram, or none, is one that a link and a port may answer.
-use Rattle.std.proofs.Common.{◌≡◌, ◌≤◌, ℕ, ◌+◌, List, [], ◌∷◌, take, length, min, refl, ap, sym, arith}
+use Rattle.std.proofs.Common.{ℕ, List, [], ◌∷◌, refl, ap, sym, arith}
 use Rattle.std.specs.Prelude.{Option, Some, None}
 use Rattle.line_model.specs.declared.outside.link.Polled.{Polled}
 use Rattle.line_model.specs.declared.outside.link.Polled.TheVariants as link_answer
@@ -9,7 +9,7 @@ use Rattle.line_model.specs.LinkStory.{Recorded, newest_time}
 use Rattle.line_model.specs.Polled.{PollsAs}
 use Rattle.line_model.specs.PortStory as of_port
 use Rattle.line_model.specs.PortStory.{PortItem, TakesAs}
-use Rattle.line_model.specs.Record.{Entry, Got, Quiet, entry}
+use Rattle.line_model.specs.Record.{Entry, Got, entry}
 use Rattle.line_fixed.specs.Fixed.{Answers, AnswersPort, brought, took}
 
 pub polled_so : (polled : Polled) (into : List ℕ) (next : Option (List ℕ)) (wait : ℕ) (old : List Entry) → Answers polled into next →

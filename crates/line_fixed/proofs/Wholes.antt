@@ -1,5 +1,5 @@
 -- Stretches that are added to, and the record that they stand for.
-use Rattle.std.proofs.Common.{◌≡◌, ◌<◌, ◌≤◌, ℕ, suc, zero, ◌+◌, ◌-◌, List, [], ◌∷◌, ◌++◌, length, take, add-one, append_assoc, refl, ap, sym, ◌∙◌, slice_set, slice_index_or, slice_get, arith, length-append}
+use Rattle.std.proofs.Common.{◌≡◌, ◌<◌, ℕ, suc, zero, ◌+◌, List, [], ◌∷◌, ◌++◌, length, take, add-one, append_assoc, refl, ap, sym, ◌∙◌, slice_set, slice_index_or, slice_get, arith, length-append}
 use Rattle.std.proofs.lemmas.List.{append-nil, length-replicate}
 use Rattle.std.specs.Prelude.{replicate, Some}
 use Rattle.line_model.specs.LinkStory.{newest_time}

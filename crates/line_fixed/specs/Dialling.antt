@@ -1,6 +1,6 @@
 -- A dialer of fixed data as contracts see it: the link and the port that it has to hand out, those that came back last, the host and the
 -- port number that it was given last, and its counts.
-use Rattle.std.specs.Prelude.{◌≡◌, ℕ, zero, suc, [], Option, None, Some, option_map, IfSome}
+use Rattle.std.specs.Prelude.{◌≡◌, ℕ, zero, suc, [], Option, None, Some}
 use Rattle.knx_model.specs.Outside.{one_more}
 use Rattle.line_model.specs.Dialled.{Address}
 use Rattle.line_model.specs.LinkStory as of_link

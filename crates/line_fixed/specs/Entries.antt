@@ -1,6 +1,6 @@
 -- The record of a link as it is kept: equal entries in a row stand once, with how many more there are; the oldest stretch first. The record
 -- that it stands for has each entry, the newest first.
-use Rattle.std.specs.Prelude.{ℕ, List, [], ◌∷◌, ◌++◌, replicate}
+use Rattle.std.specs.Prelude.{List, [], ◌∷◌, ◌++◌, replicate}
 use Rattle.line_model.specs.Record as record_of_link
 use Rattle.line_model.specs.Record.{Entry, entry}
 use Rattle.line_fixed.specs.declared.item.Item.{Item}

@@ -11,7 +11,6 @@ use Rattle.line_model.specs.declared.outside.port.PortFault.{PortFault}
 use Rattle.line_model.specs.declared.outside.port.PortFault.TheVariants as port_fault
 use Rattle.line_model.specs.declared.outside.port.PortPolled.{PortPolled}
 use Rattle.line_model.specs.declared.outside.port.PortPolled.TheVariants as port_answer
-use Rattle.line_model.specs.LinkStory.{newest_time}
 use Rattle.line_model.specs.PortStory as of_port
 use Rattle.line_model.specs.PortStory.{PortItem}
 use Rattle.line_model.specs.Record.{Entry, Got, Quiet, entry, longest_got}

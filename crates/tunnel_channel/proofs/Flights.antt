@@ -1,12 +1,11 @@
 -- What came of the request put last, as this end tells it of a frame, is what the record says.
-use Rattle.std.proofs.Common.{◌≡◌, ℕ, List, [], ◌∷◌, Bool, true, false, cond, Option, Some, None, refl, sym, ◌∙◌, ap}
+use Rattle.std.proofs.Common.{◌≡◌, ℕ, List, ◌∷◌, Bool, true, false, cond, Some, refl, sym}
 use Rattle.std.specs.Prelude.{not, ◌&&◌, ◌==◌}
-use Rattle.knx_model.specs.declared.address.IndAddr.{IndAddr}
 use Rattle.knx_model.specs.declared.frames.ip.IpFrame.{IpFrame}
 use Rattle.knx_model.specs.declared.frames.ip.IpFrame.TheVariants.{ConnectRequest, ConnectResponse, StateRequest, StateResponse, DisconnectRequest, DisconnectResponse, TunnellingRequest, TunnellingAck}
 use Rattle.line_model.specs.declared.client_end.ChannelTook.{ChannelTook}
 use Rattle.line_model.specs.Gateway.{next_number}
-use Rattle.line_model.specs.Reading.{datagram_in, ldata_in}
+use Rattle.line_model.specs.Reading.{datagram_in}
 use Rattle.line_model.specs.Record.{Got, Entry, entry}
 use Rattle.line_model.specs.ChannelLost as lapse
 use Rattle.line_model.specs.ChannelLost.{expected, own, acknowledged, confirmed, is_confirmation, beats, has_left, is_none}

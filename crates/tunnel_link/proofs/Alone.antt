@@ -1,20 +1,19 @@
 -- Which entries leave the open channel alone, and seek none.
-use Rattle.std.proofs.Common.{◌≡◌, inl, inr, ℕ, List, [], ◌∷◌, ◌++◌, Bool, true, false, Option, Some, None, Result, Ok, Err, refl, sym, subst, ap, ◌∙◌, append_assoc}
+use Rattle.std.proofs.Common.{◌≡◌, inl, inr, ℕ, List, [], ◌∷◌, ◌++◌, Bool, true, false, Some, None, Result, Ok, Err, refl, sym, subst, ap, ◌∙◌, append_assoc}
 use Rattle.std.specs.Prelude.{is_some}
 use Rattle.knx_model.specs.declared.frames.ip.IpFrame.TheVariants.{TunnellingRequest}
 use Rattle.knx_model.specs.KnxNetIp.{Written}
 use Rattle.line_model.specs.declared.fault.HubFault.{HubFault}
 use Rattle.line_model.specs.Reading.{datagram_in, is_connect_request, disconnect_request_in}
-use Rattle.line_model.specs.Record.{Item, Put, Renewed, Got, Quiet, Entry, entry, put_in, is_poll, is_renewal, Placed, entries}
+use Rattle.line_model.specs.Record.{Item, Put, Renewed, Got, Quiet, Entry, entry, is_poll, is_renewal, Placed, entries}
 use Rattle.line_model.specs.LinkStory.{Story, places_in, newest_time, AreWaits}
 use Rattle.line_model.specs.ChannelLost as lose
 use Rattle.line_model.specs.ClientView as seen
 use Rattle.line_model.specs.ClientView.{ClientChannel, channel, after_entry, Deed, Loses, Nothing, deed}
 use Rattle.line_model.specs.Moments.{Moment}
 use Rattle.line_model.specs.Renews.{RenewsSo, has_renewed, is_just_renewed}
-use Rattle.line_model.specs.Closing.{asks_to_end, is_open}
+use Rattle.line_model.specs.Closing.{is_open}
 use Rattle.line_model.specs.ClientEnd.{ClientEnd, Idle, Seeking, Open, Leaving, JustLost, OpenEnd, IsCemi, is_free, request_of, put_octets, channel_put}
-use Rattle.tunnel_channel.specs.Follows.{Ends}
 use Rattle.tunnel_channel.proofs.Frames.{request_read}
 use Rattle.tunnel_link.specs.declared.came.Loss.{Loss}
 use Rattle.tunnel_link.specs.declared.came.Loss.TheVariants as loss
@@ -23,7 +22,7 @@ use Rattle.tunnel_link.specs.declared.came.What.TheVariants as came
 use Rattle.tunnel_link.specs.declared.known.Known.{Known}
 use Rattle.tunnel_link.specs.Goes.{GoesOn, Keeps}
 use Rattle.tunnel_link.specs.Rights.{FitsRecord}
-use Rattle.tunnel_link.specs.Adds.{place_of, Growing, One, DoesSo, OrLoses, moments_on, is_told}
+use Rattle.tunnel_link.specs.Adds.{Growing, One, DoesSo, moments_on, is_told}
 use Rattle.tunnel_link.specs.Alone.{Each, EndsNone, SeeksNone, LeavesAlone}
 use Rattle.tunnel_link.specs.Calls.{SendsSo}
 use Rattle.tunnel_link.proofs.Acting.{grows_then}

@@ -5,7 +5,7 @@ use Rattle.knx_model.specs.declared.frames.ip.IpFrame.{IpFrame}
 use Rattle.knx_model.specs.declared.frames.ip.IpFrame.TheVariants.{ConnectRequest, ConnectResponse, StateRequest, StateResponse, DisconnectRequest, DisconnectResponse, TunnellingRequest, TunnellingAck}
 use Rattle.knx_model.specs.KnxNetIp.{Written}
 use Rattle.line_model.specs.declared.client_end.ChannelTook.TheVariants as took
-use Rattle.line_model.specs.Reading.{datagram_in, is_connect_request, StateFrame, disconnect_request_in}
+use Rattle.line_model.specs.Reading.{datagram_in, is_connect_request, disconnect_request_in}
 use Rattle.line_model.specs.Record.{Item, Put, Renewed, Got, Quiet, Entry, entry, is_poll}
 use Rattle.line_model.specs.ChannelLost.{beats, has_left, has_lapsed, tells_bad, is_lost}
 use Rattle.line_model.specs.ClientView as seen
@@ -14,7 +14,7 @@ use Rattle.line_model.specs.Renews.{owed}
 use Rattle.line_model.specs.Sendings.{IsRightFrame, OwnsChannel, OfOpen, end_got}
 use Rattle.line_model.specs.Closing.{asks_to_end, is_open}
 use Rattle.line_model.specs.Leaves.{parting, parting_in, parting_of, IsSentNext, PartsSo}
-use Rattle.line_model.specs.ClientEnd.{ClientEnd, Idle, Seeking, Open, Leaving, JustLost, OpenEnd, is_over, lost}
+use Rattle.line_model.specs.ClientEnd.{ClientEnd, Idle, Seeking, Open, Leaving, JustLost, is_over, lost}
 use Rattle.line_model.specs.ClientFrames.{channel_took}
 use Rattle.tunnel_channel.specs.Follows.{Ends, Stays, change}
 

@@ -1,4 +1,4 @@
-use Rattle.std.proofs.Common.{◌≡◌, ◌-◌, ◌<◌, suc, length, ap, ◌∙◌, sym, arith, slice_index_or, IfSome, slice_set}
+use Rattle.std.proofs.Common.{◌≡◌, ◌-◌, ◌<◌, suc, length, arith, slice_index_or}
 use Rattle.std.specs.Vec.{vec_len}
 use Rattle.line_fixed.specs.Entries.{whole}
 use Rattle.std.proofs.lemmas.Grind.{common_steps}

@@ -1,4 +1,4 @@
-use Rattle.std.proofs.Common.{◌≡◌, ◌≤◌, rules, length, min, arith, length-take, take_all, ap, ◌∙◌}
+use Rattle.std.proofs.Common.{◌≡◌, ◌≤◌, rules, length, min, arith, length-take, ap, ◌∙◌}
 use Rattle.line_fixed.proofs.next.copy_into.Goals as goal
 
 pub slice_bounds-copy_from_slice-end : goal.slice_bounds-copy_from_slice-end
