@@ -22,7 +22,7 @@ enum At {
     Closed,
     /// Channel 1 of the client, which expects number 1.
     Idle,
-    /// The same, with request 0 outstanding since 0.
+    /// The same, with its first tunnelling request, whose number is 0, outstanding since time 0.
     Waiting,
 }
 
