@@ -27,11 +27,11 @@ counting now (line.Leaving since n) = line.Leaving since (suc n)
 abbrev pub poll_after : Bool → Loss → ℕ → line.Closing → line.Closing
 poll_after got loss now s = if is_told loss then line.Leaving now 0 else (if got then counting now s else s)
 
-quiet_after : (x : Entry) (s : line.Closing) → x.what ≡ Quiet → line.after_entry x s ≡ s
+pub quiet_after : (x : Entry) (s : line.Closing) → x.what ≡ Quiet → line.after_entry x s ≡ s
 quiet_after x (line.Listening since n) e = rw e refl
 quiet_after x (line.Leaving since n) e = rw e refl
 
-poll_not_got : (what : Item) → is_poll what ≡ false → is_got what ≡ false
+pub poll_not_got : (what : Item) → is_poll what ≡ false → is_got what ≡ false
 poll_not_got (Put octets) h = refl
 poll_not_got Renewed h = refl
 poll_not_got (Got octets) h = h
@@ -77,7 +77,7 @@ resumed_quiet s (p ∷ waits) h = quiet_after p.what (resumed s (entries waits))
 abbrev polls_in : List Placed → Bool
 polls_in added = list_any (λ (p : Placed). is_poll p.what.what) added
 
-or_false : (a b : Bool) → (a || b) ≡ false → (a ≡ false) × (b ≡ false)
+pub or_false : (a b : Bool) → (a || b) ≡ false → (a ≡ false) × (b ≡ false)
 or_false true b e = absurd (cc)
 or_false false b e = (refl, e)
 

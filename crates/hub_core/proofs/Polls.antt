@@ -81,24 +81,28 @@ sends_two a b c g h f e = grows_then SendsOnly SendsOnly SendsOnly a b c g h (λ
 
 module _ (p : ℕ) (s t : Story) (w : Work) (met : Bool) (f : Option HubFault) (none : f ≡ None) (keeps : Keeps p s w met f) (goes : GoesOn s t) (law : StaysFitting) (now : ℕ) (then : WhereTold (λ places. now ≡ newest_time (entries places)) s)
     (has_place : Bool) (placed : WhereTold (λ places. (has_place ≡ true) ↔ HasPlace (channel (entries places))) s) (longest : ℕ) (rightly : PollsRightly now has_place w longest) where
-  one_poll : (jobs : List Job) → AreJobs (map hub_job_of w.downloaders) jobs → (old added : List Placed) → places_in s ≡ Some old → LastsRightly longest old added → PollsOnce jobs w.telegrams.turns w.journal.entries w.crew (closing_so_far w.closing) (place_of t) old added
-  one_poll jobs of old added e h =
+  pub polls_so : (jobs : List Job) → AreJobs (map hub_job_of w.downloaders) jobs → (old added : List Placed) → places_in s ≡ Some old → (h : LastsRightly longest old added)
+      → PollsSo jobs w.telegrams.turns w.journal.entries old (place_of t) (newest_time (entries old)) (closing_so_far w.closing) (came_for w.crew) h.wait
+  polls_so jobs of old added e h =
       let k = keeps.told jobs (subst (λ (ts : List Task). AreJobsWith ts jobs) (seen_tasks w) of) old e in
       let same : now ≡ newest_time (entries old) = then old e in
       let up : place_of s ≤ place_of t = place_grows s t goes in
       let fits : Fits jobs w (time (moments old)) (place_of s) (moments old) = (k.runs none).fits in
       let here : Fits jobs w now (place_of s) (moments old) = subst (λ n. Fits jobs w n (place_of s) (moments old)) (sym (same ∙ newest old)) fits in
-      record {
-        sent = [];
-        polled = added;
-        parts = sym (append-nil added);
-        sends = refl;
-        wait = h.wait;
-        rightly = subst (λ n. PollsSo jobs w.telegrams.turns w.journal.entries old (place_of t) n (closing_so_far w.closing) (came_for w.crew) h.wait) same
-            (rightly jobs old (place_of t) h.wait (books_later (place_of s) (place_of t) w up k.books) (law jobs w now (place_of s) (place_of t) (moments old) k.books here up) (placed old e)
-            (subst (λ n. LastsUntil (min longest longest_poll) (Contains (channel_deadlines (channel (entries old)))) n h.wait) (sym same) h.until));
-        polls = h.polls;
-      }
+      subst (λ n. PollsSo jobs w.telegrams.turns w.journal.entries old (place_of t) n (closing_so_far w.closing) (came_for w.crew) h.wait) same
+      (rightly jobs old (place_of t) h.wait (books_later (place_of s) (place_of t) w up k.books) (law jobs w now (place_of s) (place_of t) (moments old) k.books here up) (placed old e)
+      (subst (λ n. LastsUntil (min longest longest_poll) (Contains (channel_deadlines (channel (entries old)))) n h.wait) (sym same) h.until))
+
+  one_poll : (jobs : List Job) → AreJobs (map hub_job_of w.downloaders) jobs → (old added : List Placed) → places_in s ≡ Some old → LastsRightly longest old added → PollsOnce jobs w.telegrams.turns w.journal.entries w.crew (closing_so_far w.closing) (place_of t) old added
+  one_poll jobs of old added e h = record {
+    sent = [];
+    polled = added;
+    parts = sym (append-nil added);
+    sends = refl;
+    wait = h.wait;
+    rightly = polls_so jobs of old added e h;
+    polls = h.polls;
+  }
 
   pub polls_once : Growing (LastsRightly longest) s t → Polls (map hub_job_of w.downloaders) w.telegrams.turns w.journal.entries w.crew w.closing s t
   polls_once g jobs of old e = let x = g old e in record { new = x.new; told = x.told; added = x.added; grown = x.grown; is = one_poll jobs of old x.added e x.is }

@@ -1,5 +1,5 @@
 -- How a hub closes, by the record: how far its closing is after a call, what each answer of a closing says, and when the closing is over.
-use Rattle.std.specs.Prelude.{◌≡◌, ◌↔◌, ℕ, Bool, true, false, ◌&&◌, ◌||◌, min, List, [], ◌∷◌, Option, Some, None, if◌then◌else◌}
+use Rattle.std.specs.Prelude.{◌≡◌, ◌↔◌, ℕ, Bool, true, false, not, ◌&&◌, ◌||◌, min, List, [], ◌∷◌, Option, Some, None, if◌then◌else◌}
 use Rattle.std.specs.List.{list_any}
 use Rattle.line_model.specs.Record.{Entry, entries, is_poll}
 use Rattle.line_model.specs.LinkStory.{Story, newest_time}
@@ -69,6 +69,22 @@ HasListened (Some c) now = (line.is_listening (closing_of c) && line.has_waited 
 
 abbrev pub AsksNow : Option Closing → Story → Type 0
 AsksNow closing story = WhereTold (λ places. HasListened closing (newest_time (entries places))) story
+
+-- it has begun and hasn't waited enough yet
+abbrev pub HasntWaited : Option Closing → ℕ → Type 0
+HasntWaited None now = ⊥
+HasntWaited (Some c) now = line.has_waited (closing_of c) now ≡ false
+
+abbrev pub WaitsNow : Option Closing → Story → Type 0
+WaitsNow closing story = WhereTold (λ places. HasntWaited closing (newest_time (entries places))) story
+
+-- where it asked to end the channel it hasn't waited enough for the answer
+abbrev pub MayAwait : Option Closing → ℕ → Type 0
+MayAwait None now = Unit {0}
+MayAwait (Some c) now = (not (line.is_listening (closing_of c)) && line.has_waited (closing_of c) now) ≡ false
+
+abbrev pub MayAwaitNow : Option Closing → Story → Type 0
+MayAwaitNow closing story = WhereTold (λ places. MayAwait closing (newest_time (entries places))) story
 
 -- ---- the answers of a step of the closing: over exactly where it is over and no group telegram was heard
 

@@ -1,6 +1,6 @@
 -- A hub with one caller leaves its channel rightly: while something is left no call asks the open channel to end, and each step of the closing goes on
 -- from the last entry of the log.
-use Rattle.std.proofs.Common.{◌≡◌, ◌≢◌, ◌⊎◌, inl, inr, ℕ, ◌<◌, ◌≤◌, Bool, true, false, List, [], ◌∷◌, ◌++◌, map, Option, Some, None, Result, Ok, Err, IfOk, OnErr, OnOk, refl, sym, ap, subst, ◌∙◌, arith}
+use Rattle.std.proofs.Common.{◌≡◌, ◌≢◌, ◌⊎◌, inl, inr, ℕ, ◌<◌, ◌≤◌, Bool, true, false, List, [], ◌∷◌, ◌++◌, map, Option, Some, None, Result, Ok, Err, IfOk, OnErr, refl, sym, ap, subst, ◌∙◌, arith}
 use Rattle.std.proofs.lemmas.Bool.Decides.{nat_tests}
 use Rattle.std.proofs.lemmas.List.{append-nil, append_assoc, append_cancel_right}
 use Rattle.std.specs.Prelude.{nat_lt, nat_le, is_some, IfSome}
@@ -29,13 +29,14 @@ use Rattle.hub_work.specs.Turns.{TurnTells, GroupTells}
 use Rattle.hub_work.proofs.Growing.{AreUpto}
 use Rattle.hub_core.specs.Closes as hub
 use Rattle.hub_core.specs.Closes.{HasCome, resumed}
-use Rattle.hub_core.specs.Leaving.{RightFrom, ClosesOn}
+use Rattle.hub_core.specs.Leaving.{EachFrom, EachOn, ClosesOn, WaitsOn}
 use Rattle.hub_core.specs.Pumps.{AddsSo}
 use Rattle.hub_core.specs.Seen.{Seen}
 use Rattle.hub_core.proofs.Closes.{resumed_both, closing_is}
 use Rattle.hub_core.proofs.Counting.{some_is, told_before, place_counts, place_grows, places_upto}
-use Rattle.hub_core.proofs.Leaving.{ends_none_of, right_closes, closes_right, right_then}
+use Rattle.hub_core.proofs.Leaving.{ends_none_of, since_from, from_since, from_then}
 use Rattle.hub_core.proofs.Written.{Writes, Same, More, turn_writes, told_writes}
+use Rattle.hub_driver.specs.Closed.{WaitsSince}
 use Rattle.hub_driver.specs.Drives.{AllDone}
 use Rattle.hub_driver.specs.Leaving.{LeavesOver, GoesThrough, IsLeft, ClosesSo, IsAt, KnowsHowFar}
 use Rattle.hub_driver.proofs.Ends.{some_job, some_jobs}
@@ -180,6 +181,9 @@ closes_at log places none stays = record {
   closes = subst (λ (l : List Placed). line.ClosesRightly (newest_time (entries (up_to_last log places))) (entries (up_to_last log places)) (entries l)) (sym none) tt;
 }
 
+waits_at : (log : List LogEntry) (places : List Placed) → since_last log places ≡ [] → WaitsSince log places
+waits_at log places none = subst (λ (l : List Placed). line.WaitsRightly (newest_time (entries (up_to_last log places))) (entries (up_to_last log places)) (entries l)) (sym none) tt
+
 at_none : (c : Option Closing) (log : List LogEntry) (places : List Placed) → c ≡ None → since_last log places ≡ [] → IsAt c log places
 at_none c log places e none = subst (λ (o : Option Closing). IsAt o log places) (sym e) none
 
@@ -195,7 +199,7 @@ module _ {L : Type 0} (hub : Seen L) (s : Story) (done : AllDone hub) (g : GoesT
   }
 
   pub how_far_first : KnowsHowFar hub s
-  how_far_first places e = at_none hub.closing hub.log places g.unbegun (nothing_since places e)
+  how_far_first places e = (at_none hub.closing hub.log places g.unbegun (nothing_since places e), waits_at hub.log places (nothing_since places e))
 
 -- ---- a step of the closing
 
@@ -212,25 +216,34 @@ module _ (log : List LogEntry) (old added : List Placed) (above : AllByRecursion
   since_is : entries (since_last log (added ++ old)) ≡ entries added ++ since
   since_is = ap entries (since_more log added old above) ∙ entries_append added (since_last log old)
 
-  step_closes : (c : Option Closing) → ClosesOn c old added → IsAt c log old → line.ClosesRightly (newest_time before) before since → line.ClosesRightly (newest_time before) before (entries added ++ since)
-  step_closes None on none h =
-      subst (λ (l : List Placed). line.ClosesRightly (newest_time before) before (entries added ++ entries l)) (sym none)
-      (subst (λ (l : List Entry). line.ClosesRightly (newest_time before) before l) (sym (append-nil (entries added)))
-      (subst (λ (l : List Placed). line.ClosesRightly (newest_time (entries l)) (entries l) (entries added)) (sym (all_up log old none)) on))
-  step_closes (Some c) on come h =
-      let right : RightFrom (line.closing (newest_time before) since) (entries old) (entries added) = on (line.closing (newest_time before) since) come in
-      right_closes (newest_time before) before (entries added ++ since)
-      (right_then (line.Listening (newest_time before) 0) before since (entries added) (closes_right (newest_time before) before since h)
-      (subst (λ (r : List Entry). RightFrom (resumed (line.Listening (newest_time before) 0) since) r (entries added)) old_is
-      (subst (λ (z : line.Closing). RightFrom z (entries old) (entries added)) (closing_is (newest_time before) since) right)))
+  -- what holds of each entry of the closing so far, and of those of a step
+  module _ (P : List Entry → line.Closing → Entry → Type 0) where
+    step_on : (c : Option Closing) → EachOn P c old added → IsAt c log old → line.EachSince P (newest_time before) before since → line.EachSince P (newest_time before) before (entries added ++ since)
+    step_on None on none h =
+        subst (λ (l : List Placed). line.EachSince P (newest_time before) before (entries added ++ entries l)) (sym none)
+        (subst (λ (l : List Entry). line.EachSince P (newest_time before) before l) (sym (append-nil (entries added)))
+        (subst (λ (l : List Placed). line.EachSince P (newest_time (entries l)) (entries l) (entries added)) (sym (all_up log old none)) on))
+    step_on (Some c) on come h =
+        let right : EachFrom P (line.closing (newest_time before) since) (entries old) (entries added) = on (line.closing (newest_time before) since) come in
+        since_from P (newest_time before) before (entries added ++ since)
+        (from_then P (line.Listening (newest_time before) 0) before since (entries added) (from_since P (newest_time before) before since h)
+        (subst (λ (r : List Entry). EachFrom P (resumed (line.Listening (newest_time before) 0) since) r (entries added)) old_is
+        (subst (λ (z : line.Closing). EachFrom P z (entries old) (entries added)) (closing_is (newest_time before) since) right)))
+
+    each_more : (c : Option Closing) → EachOn P c old added → IsAt c log old → line.EachSince P (newest_time before) before since
+        → line.EachSince P (newest_time (entries (up_to_last log (added ++ old)))) (entries (up_to_last log (added ++ old))) (entries (since_last log (added ++ old)))
+    each_more c on at h =
+        subst (λ (l : List Placed). line.EachSince P (newest_time (entries l)) (entries l) (entries (since_last log (added ++ old)))) (sym (up_more log added old above))
+        (subst (λ (l : List Entry). line.EachSince P (newest_time before) before l) (sym since_is) (step_on c on at h))
 
   pub closes_more : (c : Option Closing) → ClosesOn c old added → IsAt c log old → Closes log old → Closes log (added ++ old)
   closes_more c on at h = record {
     stays = subst (λ (l : List Placed). StaysOpen (entries l)) (sym (up_more log added old above)) h.stays;
-    closes =
-        subst (λ (l : List Placed). line.ClosesRightly (newest_time (entries l)) (entries l) (entries (since_last log (added ++ old)))) (sym (up_more log added old above))
-        (subst (λ (l : List Entry). line.ClosesRightly (newest_time before) before l) (sym since_is) (step_closes c on at h.closes));
+    closes = each_more line.ClosesSo c on at h.closes;
   }
+
+  pub waits_more : (c : Option Closing) → WaitsOn c old added → IsAt c log old → WaitsSince log old → WaitsSince log (added ++ old)
+  waits_more c on at h = each_more line.WaitsSo c on at h
 
   pub parts_more : added ++ old ≡ since_last log (added ++ old) ++ up_to_last log (added ++ old)
   parts_more =
@@ -271,19 +284,18 @@ module _ {L : Type 0} (old new : Seen L) (s t : Story) (goes : GoesOn s t) (grow
     parts = grown_told (ClosesOn old.closing) (λ places. places ≡ since_last new.log places ++ up_to_last new.log places) s t goes grows (λ was es x.
         subst (λ (l : List LogEntry). x.added ++ was ≡ since_last l (x.added ++ was) ++ up_to_last l (x.added ++ was)) (sym log) (parts_more old.log was x.added (above_of was es x) (c.parts was es)));
     closes = grown_told (ClosesOn old.closing) (Closes new.log) s t goes grows (λ was es x.
-        subst (λ (l : List LogEntry). Closes l (x.added ++ was)) (sym log) (closes_more old.log was x.added (above_of was es x) (c.parts was es) old.closing x.is (at was es) (c.closes was es)));
+        subst (λ (l : List LogEntry). Closes l (x.added ++ was)) (sym log) (closes_more old.log was x.added (above_of was es x) (c.parts was es) old.closing x.is (at was es).0 (c.closes was es)));
   }
 
-  pub how_far_step : AddsSo (hub.Closes old.closing new.closing) s t → KnowsHowFar new t
-  how_far_step adds = grown_told (ClosesOn old.closing) (IsAt new.closing new.log) s t goes grows (λ was es x.
+  pub how_far_step : AddsSo (hub.Closes old.closing new.closing) s t → Growing (WaitsOn old.closing) s t → KnowsHowFar new t
+  how_far_step adds waits = grown_told (WaitsOn old.closing) (λ places. IsAt new.closing new.log places × WaitsSince new.log places) s t goes waits (λ was es x.
       let y = adds was x.new es x.told in
       let same : y.0 ≡ entries x.added = append_cancel_right y.0 (entries x.added) (entries was) (sym y.1.all ∙ x.grown.entries_grow) in
-      subst (λ (l : List LogEntry). IsAt new.closing l (x.added ++ was)) (sym log)
-      (at_more old.log was x.added (above_of was es x) (c.parts was es) old.closing new.closing (subst (λ (l : List Entry). hub.Closes old.closing new.closing (entries was) l) same y.2) (at was es)))
-
-pub how_far_ok : {L X : Type 0} (result : Result X HubFault) (old new : Seen L) (s t : Story) → GoesOn s t → Growing (ClosesOn old.closing) s t → new.log ≡ old.log → ClosesSo old s → KnowsHowFar old s → OnOk result (AddsSo (hub.Closes old.closing new.closing) s t) → OnOk result (KnowsHowFar new t)
-how_far_ok (Ok x) old new s t goes grows log c at adds = how_far_step old new s t goes grows log c at adds
-how_far_ok (Err fault) old new s t goes grows log c at adds = tt
+      let above : AllByRecursion (λ (p : Placed). latest old.log < p.at) x.added = higher (latest old.log) (place_of s) x.added (c.placed was es) x.grown.above in
+      subst (λ (l : List LogEntry). IsAt new.closing l (x.added ++ was) × WaitsSince l (x.added ++ was)) (sym log) (
+        at_more old.log was x.added above (c.parts was es) old.closing new.closing (subst (λ (l : List Entry). hub.Closes old.closing new.closing (entries was) l) same y.2) (at was es).0,
+        waits_more old.log was x.added above (c.parts was es) old.closing x.is (at was es).0 (at was es).1,
+      ))
 
 -- ---- in the end
 

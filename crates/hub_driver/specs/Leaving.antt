@@ -14,6 +14,7 @@ use Rattle.hub_work.specs.declared.closing.Closing.{Closing}
 use Rattle.hub_work.specs.Books.{AreJobsOf}
 use Rattle.hub_core.specs.Closes.{HasCome}
 use Rattle.hub_core.specs.Seen.{Seen}
+use Rattle.hub_driver.specs.Closed.{WaitsSince}
 
 -- where the link tells something
 abbrev pub LeavesOver : List Job → List GroupTurn → Story → List LogEntry → Type 0
@@ -42,10 +43,10 @@ pub record ClosesSo {L : Type 0} (hub : Seen L) (story : Story) : Type 0 where
   pub parts : WhereTold (λ places. places ≡ since_last hub.log places ++ up_to_last hub.log places) story
   pub closes : WhereTold (Closes hub.log) story
 
--- and the hub knows how far it is
+-- and the hub knows how far it is, and has waited no longer than it should
 abbrev pub IsAt : Option Closing → List LogEntry → List Placed → Type 0
 IsAt None log places = since_last log places ≡ []
 IsAt (Some c) log places = HasCome (Some c) (line.closing (newest_time (entries (up_to_last log places))) (entries (since_last log places)))
 
 abbrev pub KnowsHowFar : {L : Type 0} → Seen L → Story → Type 0
-KnowsHowFar hub story = WhereTold (IsAt hub.closing hub.log) story
+KnowsHowFar hub story = WhereTold (λ places. IsAt hub.closing hub.log places × WaitsSince hub.log places) story

@@ -9,8 +9,8 @@ ghost use Rattle.hub_work.specs.Books.{AreJobsOf};
 ghost use Rattle.line_model.specs.LinkStory.{newest_time};
 ghost use Rattle.line_model.specs.Record.{entries};
 ghost use Rattle.hub_core.specs.Came.{Comes};
-ghost use Rattle.hub_core.specs.Closes.{AsksNow, Begins, Closes, EndsAs, FinishesSo, GoesSo, OverExactly, Resumes};
-ghost use Rattle.hub_core.specs.Leaving.{ClosesOn};
+ghost use Rattle.hub_core.specs.Closes.{AsksNow, Begins, Closes, EndsAs, FinishesSo, GoesSo, MayAwaitNow, OverExactly, Resumes, WaitsNow};
+ghost use Rattle.hub_core.specs.Leaving.{ClosesOn, WaitsOn};
 ghost use Rattle.hub_core.specs.Hears.{HearsSo, heard_at_end};
 ghost use Rattle.hub_core.specs.Keeps.{IsAllDone};
 ghost use Rattle.hub_core.specs.Polls.{Polls, PollsInClosing, SendsOnly};
@@ -36,6 +36,7 @@ impl<L: Link> Hub<L> {
         ensures ends { IfOk result (λ done. EndsAs done self.new.closing (L.story self.new.link)) }
         ensures goes { IfOk result (λ done. GoesSo done (L.story self.old.link) (L.story self.new.link)) }
         ensures rightly { Growing (ClosesOn self.old.closing) (L.story self.old.link) (L.story self.new.link) }
+        ensures waits { OnOk result (Growing (WaitsOn self.old.closing) (L.story self.old.link) (L.story self.new.link)) }
         ensures polls { OnOk result (PollsInClosing self.old.jobs self.old.turns self.old.log self.old.crew self.old.closing (L.story self.old.link) (L.story self.new.link)) }
         ensures came { OnOk result (Comes self.old.jobs self.old.log self.old.crew self.new.crew (L.story self.old.link) (L.story self.new.link)) }
         ensures run { SameRun self.old self.new }
@@ -58,6 +59,7 @@ impl<L: Link> Hub<L> {
         requires stands { self.old.fault ≡ None }
         requires acted { HasActed self.old.known (L.story self.old.link) }
         requires over { IsAllDone self.old.devices self.old.turns self.old.log }
+        requires awaits { MayAwaitNow self.old.closing (L.story self.old.link) }
         ensures grows { GoesOn (L.story self.old.link) (L.story self.new.link) }
         ensures script { L.script self.new.link ≡ L.script self.old.link }
         ensures count { L.faults self.old.link ≤ L.faults self.new.link }
@@ -71,6 +73,7 @@ impl<L: Link> Hub<L> {
         ensures fault { IfErr result (λ fault. self.new.fault ≡ Some fault) }
         ensures stands { OnOk result (self.new.fault ≡ None) }
         ensures rightly { Growing (ClosesOn self.old.closing) (L.story self.old.link) (L.story self.new.link) }
+        ensures waits { OnOk result (Growing (WaitsOn self.old.closing) (L.story self.old.link) (L.story self.new.link)) }
         ensures run { SameRun self.old self.new }
         ensures log { self.new.log ≡ self.old.log }
     {
@@ -122,6 +125,7 @@ impl<L: Link> Hub<L> {
         requires begun { self.old.closing ≢ None }
         requires acted { HasActed self.old.known (L.story self.old.link) }
         requires over { IsAllDone self.old.devices self.old.turns self.old.log }
+        requires waits { WaitsNow self.old.closing (L.story self.old.link) }
         ensures grows { GoesOn (L.story self.old.link) (L.story self.new.link) }
         ensures script { L.script self.new.link ≡ L.script self.old.link }
         ensures count { L.faults self.old.link ≤ L.faults self.new.link }
@@ -135,6 +139,7 @@ impl<L: Link> Hub<L> {
         ensures fault { IfErr result (λ fault. self.new.fault ≡ Some fault) }
         ensures stands { OnOk result (self.new.fault ≡ None) }
         ensures rightly { Growing (ClosesOn self.old.closing) (L.story self.old.link) (L.story self.new.link) }
+        ensures waits { OnOk result (Growing (WaitsOn self.old.closing) (L.story self.old.link) (L.story self.new.link)) }
         ensures run { SameRun self.old self.new }
         ensures log { self.new.log ≡ self.old.log }
     {

@@ -6,7 +6,8 @@ ghost use Rattle.tunnel_link.specs.Alone.{Each, EndsNone, LeavesAlone};
 ghost use Rattle.tunnel_link.specs.Goes.{GoesOn};
 ghost use Rattle.tunnel_link.specs.Rights.{FailsWhere, WhereTold};
 ghost use Rattle.hub_core.specs.Came.{Comes};
-ghost use Rattle.hub_core.specs.Closes.{HasDone, Resumes};
+ghost use Rattle.hub_core.specs.Closes.{HasDone, MayAwaitNow, Resumes, WaitsNow};
+ghost use Rattle.hub_core.specs.Leaving.{WaitsOn};
 ghost use Rattle.hub_core.specs.Hears.{HearsSo, heard_of};
 ghost use Rattle.hub_core.specs.Polls.{Polls, SendsOnly};
 ghost use Rattle.hub_core.specs.Pumps.{AddsSo, AnswersSo, PumpsSo, Does, is_late_now, is_left_now, Moves};
@@ -58,6 +59,7 @@ impl<L: Link> Hub<L> {
         ensures sends { OnOk result (Growing SendsOnly (L.story self.old.link) (L.story self.new.link)) }
         ensures nothing { OnOk result (Growing AllNothing (L.story self.old.link) (L.story self.new.link)) }
         ensures still { OnOk result (WhereTold (λ places. (self.new.crew ≡ self.old.crew) × (self.new.closing ≡ self.old.closing)) (L.story self.old.link)) }
+        ensures awaits { OnOk result (MayAwaitNow self.old.closing (L.story self.old.link) → MayAwaitNow self.new.closing (L.story self.new.link)) }
         ensures resumes { OnOk result (AddsSo (Resumes self.old.closing self.new.closing) (L.story self.old.link) (L.story self.new.link)) }
         ensures begun { is_some self.new.closing ≡ is_some self.old.closing }
         ensures fault { IfErr result (λ fault. self.new.fault ≡ Some fault) }
@@ -122,6 +124,7 @@ impl<L: Link> Hub<L> {
         ensures polls { OnOk result (Polls self.old.jobs self.old.turns self.old.log self.old.crew self.old.closing (L.story self.old.link) (L.story self.new.link)) }
         ensures came { OnOk result (Comes self.old.jobs self.old.log self.old.crew self.new.crew (L.story self.old.link) (L.story self.new.link)) }
         ensures resumes { OnOk result (AddsSo (Resumes self.old.closing self.new.closing) (L.story self.old.link) (L.story self.new.link)) }
+        ensures waits { WaitsNow self.old.closing (L.story self.old.link) → OnOk result (Growing (WaitsOn self.old.closing) (L.story self.old.link) (L.story self.new.link)) }
         ensures done { OnOk result (AddsSo HasDone (L.story self.old.link) (L.story self.new.link)) }
         ensures fault { IfErr result (λ fault. self.new.fault ≡ Some fault) }
         ensures stands { OnOk result (self.new.fault ≡ None) }

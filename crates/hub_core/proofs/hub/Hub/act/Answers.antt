@@ -8,6 +8,7 @@ use Rattle.hub_core.proofs.Pumping.{acts_so}
 use Rattle.hub_core.proofs.Endings.{acts_resume}
 use Rattle.hub_core.proofs.Polls.{acts_send, acts_stay}
 use Rattle.hub_core.proofs.Came.{acts_nothing}
+use Rattle.hub_core.proofs.InTime.{awaits_on}
 use Rattle.hub_core.proofs.hub.Hub.act.Goals as goal
 
 pub invariant_of-self : goal.invariant_of-self
@@ -52,3 +53,7 @@ returns-clause-still g c =
 
 pub returns-clause-nothing : goal.returns-clause-nothing
 returns-clause-nothing g c = rw (← c.self.view_is) (acts_nothing _ _ c.in_ok-acted.acted c.in_ok-acted.ensures.adds)
+
+pub returns-clause-awaits : goal.returns-clause-awaits
+returns-clause-awaits g c =
+    rw (← c.self.view_is) (awaits_on _ _ _ _ c.act.ensures.grows c.keeps.ensures.legal (acts_send _ _ c.in_ok-acted.acted c.in_ok-acted.ensures.adds) (λ old e. c.lose.ensures.closing (acts_stay _ _ c.in_ok-acted.acted c.in_ok-acted.ensures.adds old e) refl))

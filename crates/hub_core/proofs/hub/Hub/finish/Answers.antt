@@ -8,8 +8,11 @@ use Rattle.line_model.specs.LinkStory.{newest_time}
 use Rattle.line_model.specs.Record.{entries}
 use Rattle.tunnel_link.specs.Adds.{AllNothing, Growing}
 use Rattle.tunnel_link.specs.Rights.{WhereTold}
-use Rattle.hub_core.specs.Leaving.{ClosesOn}
-use Rattle.hub_core.proofs.Leaving.{closes_none, closes_alone, closes_with}
+use Rattle.hub_core.specs.Leaving.{ClosesOn, WaitsOn}
+use Rattle.line_model.specs.Closing as line
+use Rattle.tunnel_link.specs.Alone.{Each, LeavesAlone}
+use Rattle.hub_core.proofs.Leaving.{alone_right, on_none, closes_alone, on_with}
+use Rattle.hub_core.proofs.InTime.{sends_right}
 use Rattle.std.proofs.Common.{◌∙◌, ap}
 use Rattle.hub_core.proofs.Polls.{goes_once, closes_unpolled, none_sent, runs_on, ok_as}
 use Rattle.hub_core.specs.Polls.{SendsOnly}
@@ -38,7 +41,7 @@ returns-clause-goes g c =
 
 pub returns-then-is_over-clause-rightly : goal.returns-then-is_over-clause-rightly
 returns-then-is_over-clause-rightly g c =
-    subst (λ l. Growing (ClosesOn c.args.self.now.closing) (g.L.Link.story c.args.self.now.link) (g.L.Link.story l)) (sym c.is_over.ensures.link) (closes_none c.args.self.now.closing (g.L.Link.story c.args.self.now.link))
+    subst (λ l. Growing (ClosesOn c.args.self.now.closing) (g.L.Link.story c.args.self.now.link) (g.L.Link.story l)) (sym c.is_over.ensures.link) (on_none line.ClosesSo c.args.self.now.closing (g.L.Link.story c.args.self.now.link))
 
 pub returns-in_err-act-clause-rightly : goal.returns-in_err-act-clause-rightly
 returns-in_err-act-clause-rightly g c =
@@ -47,7 +50,7 @@ returns-in_err-act-clause-rightly g c =
 pub returns-clause-rightly : goal.returns-clause-rightly
 returns-clause-rightly g c =
     subst (λ l. Growing (ClosesOn c.args.self.now.closing) (g.L.Link.story l) (g.L.Link.story c.goes_on.new.self.link)) c.is_over.ensures.link
-    (closes_with c.args.self.now.closing c.is_over.new.self.closing c.act.new.self.closing (g.L.Link.story c.is_over.new.self.link) (g.L.Link.story c.act.new.self.link) (g.L.Link.story c.goes_on.new.self.link) c.act.ensures.grows c.goes_on.ensures.grows
+    (on_with line.ClosesSo (Each LeavesAlone) alone_right c.args.self.now.closing c.is_over.new.self.closing c.act.new.self.closing (g.L.Link.story c.is_over.new.self.link) (g.L.Link.story c.act.new.self.link) (g.L.Link.story c.goes_on.new.self.link) c.act.ensures.grows c.goes_on.ensures.grows
     (subst (λ l. WhereTold (λ places. Begins (newest_time (entries places)) c.args.self.now.closing c.is_over.new.self.closing) (g.L.Link.story l)) (sym c.is_over.ensures.link) c.is_over.ensures.begins)
     c.act.ensures.alone c.in_ok-act.ensures.resumes c.goes_on.ensures.rightly)
 
@@ -73,3 +76,14 @@ returns-clause-came g c =
     (g.L.Link.story c.args.self.now.link) (g.L.Link.story c.act.new.self.link) (g.L.Link.story c.goes_on.new.self.link) (rw (← c.is_over.ensures.link) c.act.ensures.grows) c.goes_on.ensures.grows
     (subst (λ l. Growing AllNothing (g.L.Link.story l) (g.L.Link.story c.act.new.self.link)) c.is_over.ensures.link c.in_ok-act.ensures.nothing)
     (λ old e. (c.in_ok-act.ensures.still old (rw c.is_over.ensures.link e)).0 ∙ c.is_over.ensures.crew)) c.goes_on.ensures.came
+
+pub returns-then-is_over-clause-waits : goal.returns-then-is_over-clause-waits
+returns-then-is_over-clause-waits g c =
+    subst (λ l. Growing (WaitsOn c.args.self.now.closing) (g.L.Link.story c.args.self.now.link) (g.L.Link.story l)) (sym c.is_over.ensures.link) (on_none line.WaitsSo c.args.self.now.closing (g.L.Link.story c.args.self.now.link))
+
+pub returns-clause-waits : goal.returns-clause-waits
+returns-clause-waits g c =
+    ok_as c.goes_on.result (λ h. subst (λ l. Growing (WaitsOn c.args.self.now.closing) (g.L.Link.story l) (g.L.Link.story c.goes_on.new.self.link)) c.is_over.ensures.link
+    (on_with line.WaitsSo SendsOnly sends_right c.args.self.now.closing c.is_over.new.self.closing c.act.new.self.closing (g.L.Link.story c.is_over.new.self.link) (g.L.Link.story c.act.new.self.link) (g.L.Link.story c.goes_on.new.self.link) c.act.ensures.grows c.goes_on.ensures.grows
+    (subst (λ l. WhereTold (λ places. Begins (newest_time (entries places)) c.args.self.now.closing c.is_over.new.self.closing) (g.L.Link.story l)) (sym c.is_over.ensures.link) c.is_over.ensures.begins)
+    c.in_ok-act.ensures.sends c.in_ok-act.ensures.resumes h)) c.goes_on.ensures.waits

@@ -4,7 +4,7 @@ use Rattle.hub_core.specs.Hears.{HearsSo, heard_at_end}
 use Rattle.hub_core.specs.Pumps.{AddsSo}
 use Rattle.hub_core.proofs.Endings.{resumes_stays}
 use Rattle.tunnel_link.specs.Adds.{Growing}
-use Rattle.hub_core.specs.Leaving.{ClosesOn}
+use Rattle.hub_core.specs.Leaving.{ClosesOn, WaitsOn}
 use Rattle.hub_core.proofs.Leaving.{closes_alone}
 use Rattle.hub_core.specs.Polls.{Polls}
 use Rattle.hub_core.specs.Came.{Comes}
@@ -35,3 +35,7 @@ pub returns-clause-came : goal.returns-clause-came
 returns-clause-came g c =
     subst (λ l. Comes c.args.self.now.jobs c.args.self.now.log c.args.self.now.crew c.is_over-is_over.new.self.crew (g.L.Link.story c.args.self.now.link) (g.L.Link.story l)) (sym c.is_over-is_over.ensures.link)
     (subst (λ w. Comes c.args.self.now.jobs c.args.self.now.log c.args.self.now.crew w (g.L.Link.story c.args.self.now.link) (g.L.Link.story c.poll.new.self.link)) (sym c.is_over-is_over.ensures.crew) c.in_ok-polled.ensures.came)
+
+pub returns-clause-waits : goal.returns-clause-waits
+returns-clause-waits g c =
+    subst (λ l. Growing (WaitsOn c.args.self.now.closing) (g.L.Link.story c.args.self.now.link) (g.L.Link.story l)) (sym c.is_over-is_over.ensures.link) (c.in_ok-polled.ensures.waits c.requires.waits)

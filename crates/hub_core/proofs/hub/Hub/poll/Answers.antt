@@ -13,6 +13,7 @@ use Rattle.hub_core.proofs.Pumping.{polls_so}
 use Rattle.hub_core.proofs.Endings.{polls_resume, polls_done}
 use Rattle.tunnel_link.specs.Adds.{HasActed}
 use Rattle.hub_core.proofs.Polls.{polls_once}
+use Rattle.hub_core.proofs.InTime.{polls_wait}
 use Rattle.hub_core.proofs.Came.{polls_come}
 use Rattle.hub_core.proofs.hub.Hub.poll.Goals as goal
 
@@ -64,3 +65,9 @@ pub returns-in-None-clause-came : goal.returns-in-None-clause-came
 returns-in-None-clause-came g c =
     let none : c.self.inside.tunnel.known.fault ≡ None = none_inside _ _ c.self.view_is c.requires.stands in
     rw (← c.self.view_is) (polls_come _ _ _ c.self.inside.work c.take_in-polled.new.work _ _ none c.self.invariant c.moments_go_on.ensures.aside c.in_ok-came.came c.now-now-2.result c.in_ok-came.ensures.adds c.take_in-polled.ensures.came)
+
+pub returns-in-None-clause-waits : goal.returns-in-None-clause-waits
+returns-in-None-clause-waits g c =
+    let none : c.self.inside.tunnel.known.fault ≡ None = none_inside _ _ c.self.view_is c.requires.stands in
+    rw (← c.self.view_is) (polls_wait _ _ _ c.self.inside.work _ _ none c.self.invariant c.poll.ensures.grows c.moments_go_on.ensures.later c.now-now.result c.now-now.ensures.newest c.has_place-has_place.result (c.has_place-has_place.ensures.told none)
+    c.wait_ms-longest_ms.result c.wait_ms-longest_ms.ensures.rightly (c.in_ok-came.ensures.lasts (subst (λ v. HasActed v.known (g.L.Link.story v.link)) (sym c.self.view_is) c.requires.acted)))

@@ -63,17 +63,17 @@ pub returns-in-Over-clause-closes : goal.returns-in-Over-clause-closes
 returns-in-Over-clause-closes g c = closes_step c.args.self.now.hub c.finish.new.self (g.L.Link.story c.args.self.now.hub.link) (g.L.Link.story c.finish.new.self.link) c.finish.ensures.grows c.finish.ensures.rightly c.finish.ensures.log c.requires.closes c.requires.far
 
 pub returns-in_ok-hears-in-Heard-clause-far : goal.returns-in_ok-hears-in-Heard-clause-far
-returns-in_ok-hears-in-Heard-clause-far g c = rw c.hears.ensures.hub (how_far_step c.args.self.now.hub c.finish.new.self (g.L.Link.story c.args.self.now.hub.link) (g.L.Link.story c.finish.new.self.link) c.finish.ensures.grows c.finish.ensures.rightly c.finish.ensures.log c.requires.closes c.requires.far c.in_ok-indication.ensures.closes)
+returns-in_ok-hears-in-Heard-clause-far g c = rw c.hears.ensures.hub (how_far_step c.args.self.now.hub c.finish.new.self (g.L.Link.story c.args.self.now.hub.link) (g.L.Link.story c.finish.new.self.link) c.finish.ensures.grows c.finish.ensures.rightly c.finish.ensures.log c.requires.closes c.requires.far c.in_ok-indication.ensures.closes c.in_ok-indication.ensures.waits)
 
 pub returns-in-Going-clause-far : goal.returns-in-Going-clause-far
-returns-in-Going-clause-far g c = how_far_step c.args.self.now.hub c.finish.new.self (g.L.Link.story c.args.self.now.hub.link) (g.L.Link.story c.finish.new.self.link) c.finish.ensures.grows c.finish.ensures.rightly c.finish.ensures.log c.requires.closes c.requires.far c.in_ok-indication.ensures.closes
+returns-in-Going-clause-far g c = how_far_step c.args.self.now.hub c.finish.new.self (g.L.Link.story c.args.self.now.hub.link) (g.L.Link.story c.finish.new.self.link) c.finish.ensures.grows c.finish.ensures.rightly c.finish.ensures.log c.requires.closes c.requires.far c.in_ok-indication.ensures.closes c.in_ok-indication.ensures.waits
 
 pub returns-in-Over-clause-far : goal.returns-in-Over-clause-far
-returns-in-Over-clause-far g c = how_far_step c.args.self.now.hub c.finish.new.self (g.L.Link.story c.args.self.now.hub.link) (g.L.Link.story c.finish.new.self.link) c.finish.ensures.grows c.finish.ensures.rightly c.finish.ensures.log c.requires.closes c.requires.far c.in_ok-indication.ensures.closes
+returns-in-Over-clause-far g c = how_far_step c.args.self.now.hub c.finish.new.self (g.L.Link.story c.args.self.now.hub.link) (g.L.Link.story c.finish.new.self.link) c.finish.ensures.grows c.finish.ensures.rightly c.finish.ensures.log c.requires.closes c.requires.far c.in_ok-indication.ensures.closes c.in_ok-indication.ensures.waits
 
 pub returns-in-Over-clause-closed : goal.returns-in-Over-clause-closed
 returns-in-Over-clause-closed g c = λ over. over_closed c.finish.new.self (g.L.Link.story c.finish.new.self.link)
-    (how_far_step c.args.self.now.hub c.finish.new.self (g.L.Link.story c.args.self.now.hub.link) (g.L.Link.story c.finish.new.self.link) c.finish.ensures.grows c.finish.ensures.rightly c.finish.ensures.log c.requires.closes c.requires.far c.in_ok-indication.ensures.closes)
+    (how_far_step c.args.self.now.hub c.finish.new.self (g.L.Link.story c.args.self.now.hub.link) (g.L.Link.story c.finish.new.self.link) c.finish.ensures.grows c.finish.ensures.rightly c.finish.ensures.log c.requires.closes c.requires.far c.in_ok-indication.ensures.closes c.in_ok-indication.ensures.waits)
     (subst (λ (done : Finished). EndsAs done c.finish.new.self.closing (g.L.Link.story c.finish.new.self.link)) c.in-Over.is c.in_ok-indication.ensures.ends)
 
 pub returns-in_ok-hears-in-Heard-clause-goes_on : goal.returns-in_ok-hears-in-Heard-clause-goes_on
