@@ -1,6 +1,6 @@
 -- The text of a datagram of KNXnet/IP, in up to three lines: the frame of KNXnet/IP, the frame of the link layer in a tunnelling
 -- request, and the TPDU in that one. Where octets are no frame, the last line has the number and the word of the least rule that
--- they break. Numbers are decimal; octets are two hexadecimal digits each, with capital letters.
+-- they break. Numbers are decimal, but a memory address is four hexadecimal digits; octets are two each, with capital letters.
 use Rattle.std.specs.Prelude.{◌≡◌, ℕ, Bool, ◌&&◌, ◌⊎◌, nat_le, codes, List, [], ◌∷◌, ◌++◌, length, Option, Some, None, if◌then◌else◌}
 use Rattle.std.specs.Fmt.{decimal}
 use Rattle.knx_model.specs.declared.address.IndAddr.{IndAddr}

@@ -1,7 +1,7 @@
 //! Dials gateways and binds ports over UDP. It tells nothing of what it was given, nor of what came back.
 
 ghost use Rattle.std.specs.Prelude.{◌≡◌, ◌≤◌, IfErr, IfOk, IsErr, None, Ok, OnErr, OnOk};
-ghost use Rattle.knx_model.specs.Outside.{Rose};
+ghost use Rattle.knx_model.specs.Outside.{Rose, one_more};
 ghost use Rattle.line_model.specs.Dialled.{TakesBack, Tells};
 ghost use Rattle.line_model.specs.LinkStory as link_story;
 ghost use Rattle.line_model.specs.LinkStory.{IsNewLink};
@@ -23,17 +23,19 @@ use std::time::Clock;
 pub struct UdpDialer<'a, R> {
     rt: &'a R,
     alloc: Global,
+    dials: u64,
     faults: u64,
 }
 
 impl<'a, R: Net + Clock> UdpDialer<'a, R> {
     /// A dialer of which no call was made yet.
     pub fn new(rt: &'a R, alloc: Global) -> Self
-        ensures { result.faults ≡ 0 }
+        ensures { (result.dials ≡ 0) × (result.faults ≡ 0) }
     {
         UdpDialer {
             rt,
             alloc,
+            dials: 0,
             faults: 0,
         }
     }
@@ -44,6 +46,7 @@ impl<'a, R: Net + Clock> UdpDialer<'a, R> {
         ensures error { IfErr opened (λ _. IsErr result) }
         ensures failed { OnErr result (Rose self.old.faults self.new.faults) }
         ensures count { self.old.faults ≤ self.new.faults }
+        ensures dials { self.new.dials ≡ self.old.dials }
     {
         match opened {
             Ok(opened) => Ok(opened),
@@ -56,7 +59,8 @@ impl<'a, R: Net + Clock> UdpDialer<'a, R> {
 
     /// Counts a fault where what comes back had one.
     fn take_back(&mut self, faults: u64)
-        ensures { TakesBack faults self.old.faults self.new.faults }
+        ensures count { TakesBack faults self.old.faults self.new.faults }
+        ensures dials { self.new.dials ≡ self.old.dials }
     {
         if faults != 0 {
             self.faults = self.faults.saturating_add(1);
@@ -70,6 +74,8 @@ impl<'a, R: Net + Clock + Sync> Dialer for UdpDialer<'a, R> {
     type P = UdpPort<UdpSocket>;
 
     ghost faults = { λ d. d.faults };
+
+    ghost dials = { λ d. d.dials };
 
     ghost given = { λ d. None };
 
@@ -85,7 +91,9 @@ impl<'a, R: Net + Clock + Sync> Dialer for UdpDialer<'a, R> {
         ensures failed { OnErr result (Rose self.old.faults self.new.faults) }
         ensures still { OnOk result (self.new.faults ≡ self.old.faults) }
         ensures count { self.old.faults ≤ self.new.faults }
+        ensures dials { self.new.dials ≡ one_more self.old.dials }
     {
+        self.dials = self.dials.saturating_add(1);
         let opened = UdpLink::open(self.rt, address_of(host, port));
         self.answer(opened)
     }
@@ -97,7 +105,9 @@ impl<'a, R: Net + Clock + Sync> Dialer for UdpDialer<'a, R> {
         ensures failed { OnErr result (Rose self.old.faults self.new.faults) }
         ensures still { OnOk result (self.new.faults ≡ self.old.faults) }
         ensures count { self.old.faults ≤ self.new.faults }
+        ensures dials { self.new.dials ≡ one_more self.old.dials }
     {
+        self.dials = self.dials.saturating_add(1);
         let opened = UdpPort::open(self.rt, self.alloc, address_of(host, port));
         self.answer(opened)
     }

@@ -13,7 +13,7 @@
 --  | Ended |                    +------------------- | Awaiting |
 --  +-------+                                         +----------+
 --
--- This project's own is how an ignored T_NAK is treated; that the T_ACK of the number before is ignored; that unnumbered data of the
+-- This project's own is that a T_NAK is ignored; that the T_ACK of the number before is ignored; that unnumbered data of the
 -- device is ignored; and that this end closes after 6,000 ms only while it awaits an answer.
 use Rattle.std.specs.Prelude.{ℕ, ◌+◌, Bool, true, false, not, ◌==◌, nat_lt, List, Option, Some, None, if◌then◌else◌}
 use Rattle.knx_model.specs.declared.address.IndAddr.{IndAddr}

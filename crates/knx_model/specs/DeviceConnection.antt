@@ -10,7 +10,7 @@
 --      |   6,000 ms idle                                     |
 --      +-----------------------------------------------------+
 --
--- This project's own is how an ignored T_NAK, an unacknowledged answer and a T_Connect of another sender are treated; that the T_ACK of
+-- This project's own is that a T_NAK is ignored; how an unacknowledged answer and a T_Connect of another sender are treated; that the T_ACK of
 -- the number before is ignored; that unnumbered data to one device is ignored; that a T_Connect of the present partner begins the
 -- connection anew and drops the device's unsent frames; and that a closed device answers numbered data by T_Disconnect.
 use Rattle.std.specs.Prelude.{ℕ, ◌+◌, Bool, ◌&&◌, ◌==◌, nat_lt, List, Option, Some, None, if◌then◌else◌}

@@ -34,7 +34,7 @@ pub enum DeviceTook {
     Nak(ApduOctets),
     /// The T_ACK of the outstanding answer.
     Acked,
-    /// There is no connection with the sender, or no longer; the answer is the T_Disconnect that tells it.
+    /// There is no connection with the sender, or no longer; the answer is the T_Disconnect that tells it, None where the sender sent one.
     Closed { answer: Option<ApduOctets> },
 }
 
@@ -72,7 +72,7 @@ pub enum ClientTook {
     Again { ack: ApduOctets },
     /// The T_NAK of another number.
     Nak(ApduOctets),
-    /// The connection is closed; the answer is the T_Disconnect that tells it.
+    /// The connection is closed; the answer is the T_Disconnect that tells it, None where the device sent one.
     Closed { answer: Option<ApduOctets> },
 }
 

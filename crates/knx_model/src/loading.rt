@@ -10,7 +10,7 @@ pub const LOAD_CONTROL: u8 = 5;
 /// The property of a loadable object that answers the base of its segment.
 pub const TABLE_REFERENCE: u8 = 7;
 
-/// The device descriptor of type 0: the mask of a System B device.
+/// The device descriptor of type 0: mask version 07B0, System B on TP1.
 pub const DEVICE_DESCRIPTOR: u16 = 0x07B0;
 
 /// The type of a descriptor response that tells that there is no descriptor of the asked type.

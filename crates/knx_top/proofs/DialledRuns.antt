@@ -9,7 +9,7 @@ use Rattle.hub_driver.specs.Heard.{HeardAll}
 use Rattle.hub_driver.specs.Leaving.{LeavesOver}
 use Rattle.knx_model.specs.declared.command.Stop.{Stop}
 use Rattle.knx_model.specs.declared.log.JobWord.{JobWord}
-use Rattle.knx_model.specs.Outside.{FileContent}
+use Rattle.knx_model.specs.Outside.{FileContent, one_more}
 use Rattle.knx_model.specs.Meaning.{Installation}
 use Rattle.line_model.specs.declared.log.LogEntry.{LogEntry}
 use Rattle.line_model.specs.declared.log.Report.{Report}
@@ -78,10 +78,11 @@ told_over jobs groups began after place report none new goes keeps right thoroug
 pub to_address : (one other : Address) (given : Option Address) → one ≡ other → Tells other.host other.port given → Tells one.host one.port given
 to_address one other given same tells = subst (λ (at : Address). Tells at.host at.port given) (sym same) tells
 
-dialled : (d : Download) (ready : Ready) (before after : DialerNow) (report : Report) → IsReady d.project d.options.jobs ready → Tells d.at.host d.at.port after.given → IsToldOver (map seen_job ready.plans) after.link_back report
+dialled : (d : Download) (ready : Ready) (before after : DialerNow) (report : Report) → IsReady d.project d.options.jobs ready → Tells d.at.host d.at.port after.given → after.dials ≡ one_more before.dials → IsToldOver (map seen_job ready.plans) after.link_back report
     → (since : ℕ) → before.faults ≤ since → HasItsCause report since after.faults → DialledRun d before after report ready.jobs
-dialled d ready before after report is given told since count cause = record {
+dialled d ready before after report is given once told since count cause = record {
   given = given;
+  once = once;
   words_are = is.jobs;
   jobs = map seen_job ready.plans;
   planned = is.plans;
@@ -94,10 +95,10 @@ dialled d ready before after report is given told since count cause = record {
 
 -- the gateway was reached: a dial gave a link, and the run over it told this
 pub reached : (d : Download) (ready : Ready) (at : Address) (faults : ℕ) (given : Option Address) (before after : DialerNow) (report : Report) (log : Bool) → IsReady d.project d.options.jobs ready → d.at ≡ at → log ≡ d.options.log
-    → before.faults ≤ faults → Tells at.host at.port given → after.given ≡ given → IsToldOver (map seen_job ready.plans) after.link_back report → HasItsCause report faults after.faults
+    → before.faults ≤ faults → Tells at.host at.port given → after.given ≡ given → after.dials ≡ one_more before.dials → IsToldOver (map seen_job ready.plans) after.link_back report → HasItsCause report faults after.faults
     → Dials d before after (Shown report ready.jobs log)
-reached d ready at faults given before after report log is same logs count tells stays told cause = (
-  dialled d ready before after report is (subst (λ (told : Option Address). Tells d.at.host d.at.port told) (sym stays) (to_address d.at at given same tells)) told faults count cause,
+reached d ready at faults given before after report log is same logs count tells stays once told cause = (
+  dialled d ready before after report is (subst (λ (told : Option Address). Tells d.at.host d.at.port told) (sym stays) (to_address d.at at given same tells)) once told faults count cause,
   logs,
 )
 

@@ -13,7 +13,7 @@ use Rattle.knx_model.specs.declared.command.Stop.TheVariants as stop
 use Rattle.knx_model.specs.declared.no_memory.NoMemory.{NoMemory}
 use Rattle.knx_model.specs.declared.status.Status.{Status}
 use Rattle.knx_model.specs.declared.status.Status.TheVariants as status
-use Rattle.knx_model.specs.Outside.{FileContent}
+use Rattle.knx_model.specs.Outside.{FileContent, one_more}
 use Rattle.knx_model.specs.ReportText.{stop_text}
 use Rattle.line_model.specs.declared.outside.port.PortFault.{PortFault}
 use Rattle.line_model.specs.declared.outside.port.PortFault.TheVariants as fault
@@ -130,10 +130,11 @@ serves_run s before after line line' Unserved run = run
 serves_run s before after line line' Unshown run = run
 
 -- a bind gave a port, and the serving there told this
-pub bound : (s : Service) (at : Address) (faults : ℕ) (given : Option Address) (before after : DialerNow) (line line' : BusNow) (ending : GatewayEnd) → s.at ≡ at → before.faults ≤ faults → Tells at.host at.port given → after.given ≡ given
+pub bound : (s : Service) (at : Address) (faults : ℕ) (given : Option Address) (before after : DialerNow) (line line' : BusNow) (ending : GatewayEnd) → s.at ≡ at → before.faults ≤ faults → Tells at.host at.port given → after.given ≡ given → after.dials ≡ one_more before.dials
     → Serving s line' after.port_back faults after.faults ending → Serves s before after line line' ending
-bound s at faults given before after line line' ending same count tells stays told = serves_run s before after line line' ending (record {
+bound s at faults given before after line line' ending same count tells stays once told = serves_run s before after line line' ending (record {
   given = subst (λ (address : Option Address). Tells s.at.host s.at.port address) (sym stays) (to_address s.at at given same tells);
+  once = once;
   since = faults;
   count = count;
   serving = told;
@@ -167,7 +168,7 @@ serves_wants : (s : Service) (before after : DialerNow) (line line' : BusNow) (e
 serves_wants s before after line line' (Stopped told) h = (refl, h.1, h.2)
 serves_wants s before after line line' NotBound h = h
 serves_wants s before after line line' Ended h = h
-serves_wants s before after line line' (OpenTurns turns) h = record { given = h.given; since = h.since; count = h.count; serving = serving_wants s line' after.port_back h.since after.faults turns h.serving }
+serves_wants s before after line line' (OpenTurns turns) h = record { given = h.given; once = h.once; since = h.since; count = h.count; serving = serving_wants s line' after.port_back h.since after.faults turns h.serving }
 serves_wants s before after line line' Failed h = h
 serves_wants s before after line line' Unserved h = h
 serves_wants s before after line line' Unshown h = h

@@ -16,7 +16,7 @@ use Rattle.knx_model.specs.declared.status.Status.{Status}
 use Rattle.knx_model.specs.declared.status.Status.TheVariants as status
 use Rattle.knx_model.specs.Answers.{◌>>=◌}
 use Rattle.knx_model.specs.Meaning.{Installation}
-use Rattle.knx_model.specs.Outside.{FileContent, Rose}
+use Rattle.knx_model.specs.Outside.{FileContent, Rose, one_more}
 use Rattle.knx_model.specs.ReportText.{stop_text, stop_status}
 use Rattle.line_model.specs.declared.fault.HubFault.TheVariants.{LinkFailed}
 use Rattle.line_model.specs.declared.log.LogEntry.{LogEntry}
@@ -62,6 +62,7 @@ download_tests words texts = project_tests (project_named words) texts ++ (unles
 
 pub record DialerNow : Type 0 where
   pub faults : ℕ
+  pub dials : ℕ
   pub given : Option Address
   pub link_back : Story
   pub port_back : PortStory
@@ -127,8 +128,9 @@ pub record HasItsCause (report : Report) (since after : ℕ) : Type 0 where
 
 -- a run of a download, its jobs as their words and with their plans, and its report, where the dialer told `before` and tells `after`
 pub record DialledRun (d : Download) (before after : DialerNow) (report : Report) (words : List JobWord) : Type 0 where
-  -- the dialer was given just the host and the port number of the words
+  -- there was one call of `dial`, with just the host and the port number of the words
   pub given : Tells d.at.host d.at.port after.given
+  pub once : after.dials ≡ one_more before.dials
   pub words_are : AreJobs d.options.jobs d.project words
   pub jobs : List Job
   pub planned : ArePlanned d.project jobs words
@@ -142,6 +144,14 @@ pub record DialledRun (d : Download) (before after : DialerNow) (report : Report
 
 -- ---- what comes of a download
 
+-- one call of `dial` or `bind`, with just this host and port number, failed: nothing was opened, and so nothing was handed back
+pub record FailsToOpen (at : Address) (before after : DialerNow) : Type 0 where
+  pub given : Tells at.host at.port after.given
+  pub once : after.dials ≡ one_more before.dials
+  pub rose : Rose before.faults after.faults
+  pub link_back : after.link_back ≡ before.link_back
+  pub port_back : after.port_back ≡ before.port_back
+
 abbrev pub StopsFor : Stop → DialEnd → Type 0
 StopsFor why (Stopped told) = (told ≡ why) ⊎ (told ≡ stop.NoMemory tt)
 StopsFor why ending = ⊥
@@ -150,7 +160,7 @@ StopsFor why ending = ⊥
 -- written or memory is wanting for it
 abbrev pub Dials : Download → DialerNow → DialerNow → DialEnd → Type 0
 Dials d before after (Stopped told) = (told ≡ stop.NoMemory tt) × (after ≡ before)
-Dials d before after NotReached = Tells d.at.host d.at.port after.given × Rose before.faults after.faults
+Dials d before after NotReached = FailsToOpen d.at before after
 Dials d before after (Unshown report) = (words : List JobWord) × DialledRun d before after report words
 Dials d before after (Shown report words log) = DialledRun d before after report words × (log ≡ d.options.log)
 

@@ -17,7 +17,7 @@ use Rattle.knx_model.specs.declared.status.Status.{Status}
 use Rattle.knx_model.specs.declared.status.Status.TheVariants as status
 use Rattle.knx_model.specs.Answers.{◌>>=◌}
 use Rattle.knx_model.specs.Meaning.{Installation}
-use Rattle.knx_model.specs.Outside.{FileContent, Rose}
+use Rattle.knx_model.specs.Outside.{FileContent, one_more}
 use Rattle.knx_model.specs.ReportText.{line, stop_text, stop_status}
 use Rattle.knx_model.specs.ScriptText.{script_reading, first_stranger}
 use Rattle.knx_model.specs.Statements.{reading}
@@ -35,7 +35,7 @@ use Rattle.line_model.specs.Tunnel as tunnel
 use Rattle.knx_top.specs.Begun.{BeginsLine}
 use Rattle.knx_top.specs.Call.{Writes}
 use Rattle.knx_top.specs.Command.{GatewayWords}
-use Rattle.knx_top.specs.Dialled.{DialerNow}
+use Rattle.knx_top.specs.Dialled.{DialerNow, FailsToOpen}
 use Rattle.knx_top.specs.Input.{GatewayIsRead, OnlyRose, failed_of_gateway, fault_in, first_some, octets_of}
 use Rattle.knx_top.specs.Judged.{installed, models_of, read_of, sound, unless_refused, unless_strange}
 use Rattle.knx_top.specs.OnLine.{on_bus}
@@ -125,8 +125,9 @@ pub record Serving (s : Service) (line : BusNow) (port : PortStory) (since after
 
 -- a port was bound, the line served there, and the port handed back, where the dialer told `before` and tells `after`
 pub record ServedRun (s : Service) (before after : DialerNow) (line : BusNow) (ending : GatewayEnd) : Type 0 where
-  -- the dialer was given just the host and the port number of the words
+  -- there was one call of `bind`, with just the host and the port number of the words
   pub given : Tells s.at.host s.at.port after.given
+  pub once : after.dials ≡ one_more before.dials
   -- the dialer's count once the port was bound
   pub since : ℕ
   pub count : before.faults ≤ since
@@ -141,7 +142,7 @@ StopsFor why ending = ⊥
 -- memory is wanting before a port is bound; or the port isn't bound, and the line is as it was; or the line is the one that was served
 abbrev pub Serves : Service → DialerNow → DialerNow → BusNow → BusNow → GatewayEnd → Type 0
 Serves s before after line line' (Stopped told) = (told ≡ stop.NoMemory tt) × (after ≡ before) × (line' ≡ line)
-Serves s before after line line' NotBound = Tells s.at.host s.at.port after.given × Rose before.faults after.faults × (line' ≡ line)
+Serves s before after line line' NotBound = FailsToOpen s.at before after × (line' ≡ line)
 Serves s before after line line' ending = ServedRun s before after line' ending
 
 -- ---- what is written

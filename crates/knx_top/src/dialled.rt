@@ -125,6 +125,7 @@ fn run<R: Wait, D: Dialer>(
     requires good { AllByRecursion IsGoodJob (map seen_job plans) }
     ensures told { IsToldOver (map seen_job plans) (D.link_back dial.new) result }
     ensures given { D.given dial.new ≡ D.given dial.old }
+    ensures dials { D.dials dial.new ≡ D.dials dial.old }
     ensures cause { HasItsCause result (D.faults dial.old) (D.faults dial.new) }
 {
     let (line, report) = commission(rt, alloc, plans, List::new(alloc), line, &Open);
@@ -143,7 +144,7 @@ fn dial_and_run<R: Wait, D: Dialer>(
 ) -> Ending
     requires few { length ready.plans < 4294967296 }
     requires good { AllByRecursion IsGoodJob (map seen_job ready.plans) }
-    ensures { (d : Download) → IsReady d.project d.options.jobs ready → d.at ≡ address_of at → log ≡ d.options.log → Dials d (record { faults = D.faults dial.old; given = D.given dial.old; link_back = D.link_back dial.old; port_back = D.port_back dial.old }) (record { faults = D.faults dial.new; given = D.given dial.new; link_back = D.link_back dial.new; port_back = D.port_back dial.new }) (end_of result) }
+    ensures { (d : Download) → IsReady d.project d.options.jobs ready → d.at ≡ address_of at → log ≡ d.options.log → Dials d (record { faults = D.faults dial.old; dials = D.dials dial.old; given = D.given dial.old; link_back = D.link_back dial.old; port_back = D.port_back dial.old }) (record { faults = D.faults dial.new; dials = D.dials dial.new; given = D.given dial.new; link_back = D.link_back dial.new; port_back = D.port_back dial.new }) (end_of result) }
 {
     match dial.dial(at.host, at.port) {
         Ok(line) => {
@@ -167,7 +168,7 @@ fn download<R: Wait, D: Dialer>(
     dial: &mut D,
 ) -> Ending
     requires { HasFewJobs (options_of names.options) }
-    ensures { DialsOr (judged_download (download_words_of names.entry) texts.now) (record { faults = D.faults dial.old; given = D.given dial.old; link_back = D.link_back dial.old; port_back = D.port_back dial.old }) (record { faults = D.faults dial.new; given = D.given dial.new; link_back = D.link_back dial.new; port_back = D.port_back dial.new }) (end_of result) }
+    ensures { DialsOr (judged_download (download_words_of names.entry) texts.now) (record { faults = D.faults dial.old; dials = D.dials dial.old; given = D.given dial.old; link_back = D.link_back dial.old; port_back = D.port_back dial.old }) (record { faults = D.faults dial.new; dials = D.dials dial.new; given = D.given dial.new; link_back = D.link_back dial.new; port_back = D.port_back dial.new }) (end_of result) }
 {
     match judge(alloc, names, texts) {
         Ok(ready) => dial_and_run(rt, alloc, names.at, ready, names.options.log, dial),
@@ -209,7 +210,7 @@ pub fn tell_download<R: Wait, F: Files, K: Sink, D: Dialer>(
     last: &mut Option<Report>,
 ) -> Status
     requires { HasFewJobs (options_of names.options) }
-    ensures told { RunsDialled (download_words_of names.entry) (F.file files.old) (F.faults files.old) (F.faults files.new) (record { faults = D.faults dial.old; given = D.given dial.old; link_back = D.link_back dial.old; port_back = D.port_back dial.old }) (record { faults = D.faults dial.new; given = D.given dial.new; link_back = D.link_back dial.new; port_back = D.port_back dial.new }) last.new (RepliesEnd (K.faults out.old) (K.faults out.new) (K.taken out.old) (K.taken out.new) result) }
+    ensures told { RunsDialled (download_words_of names.entry) (F.file files.old) (F.faults files.old) (F.faults files.new) (record { faults = D.faults dial.old; dials = D.dials dial.old; given = D.given dial.old; link_back = D.link_back dial.old; port_back = D.port_back dial.old }) (record { faults = D.faults dial.new; dials = D.dials dial.new; given = D.given dial.new; link_back = D.link_back dial.new; port_back = D.port_back dial.new }) last.new (RepliesEnd (K.faults out.old) (K.faults out.new) (K.taken out.old) (K.taken out.new) result) }
     ensures stays { (other : Seq ℕ) → F.file files.new other ≡ F.file files.old other }
     ensures written { K.writes out.new ≡ one_more (K.writes out.old) }
 {

@@ -110,6 +110,7 @@ fn serve<D: Dialer>(
     requires sound { line.faults ≡ 0 }
     ensures serving { (s : Service) → BeginsLine s.before s.before s.script line.run → s.turns ≡ turns → Serving s sim.new (D.port_back dial.new) (D.faults dial.old) (D.faults dial.new) (end_of result) }
     ensures given { D.given dial.new ≡ D.given dial.old }
+    ensures dials { D.dials dial.new ≡ D.dials dial.old }
 {
     let mut line = line;
     let mut door = door;
@@ -129,7 +130,7 @@ fn bind_and_serve<D: Dialer>(
     dial: &mut D,
 ) -> ServiceEnd
     requires sound { line.faults ≡ 0 }
-    ensures { (s : Service) → BeginsLine s.before s.before s.script line.run → s.at ≡ address_of names.entry.at → s.turns ≡ names.entry.turns → Serves s (record { faults = D.faults dial.old; given = D.given dial.old; link_back = D.link_back dial.old; port_back = D.port_back dial.old }) (record { faults = D.faults dial.new; given = D.given dial.new; link_back = D.link_back dial.new; port_back = D.port_back dial.new }) sim.old sim.new (end_of result) }
+    ensures { (s : Service) → BeginsLine s.before s.before s.script line.run → s.at ≡ address_of names.entry.at → s.turns ≡ names.entry.turns → Serves s (record { faults = D.faults dial.old; dials = D.dials dial.old; given = D.given dial.old; link_back = D.link_back dial.old; port_back = D.port_back dial.old }) (record { faults = D.faults dial.new; dials = D.dials dial.new; given = D.given dial.new; link_back = D.link_back dial.new; port_back = D.port_back dial.new }) sim.old sim.new (end_of result) }
 {
     match dial.bind(names.at.host, names.at.port) {
         Ok(door) => serve(alloc, names.turns, line, door, sim, dial),
@@ -145,7 +146,7 @@ fn gateway<D: Dialer>(
     sim: &mut SimBus,
     dial: &mut D,
 ) -> ServiceEnd
-    ensures { ServesOr (judged_gateway (gateway_words_of names.entry) texts.now) (record { faults = D.faults dial.old; given = D.given dial.old; link_back = D.link_back dial.old; port_back = D.port_back dial.old }) (record { faults = D.faults dial.new; given = D.given dial.new; link_back = D.link_back dial.new; port_back = D.port_back dial.new }) sim.old sim.new (end_of result) }
+    ensures { ServesOr (judged_gateway (gateway_words_of names.entry) texts.now) (record { faults = D.faults dial.old; dials = D.dials dial.old; given = D.given dial.old; link_back = D.link_back dial.old; port_back = D.port_back dial.old }) (record { faults = D.faults dial.new; dials = D.dials dial.new; given = D.given dial.new; link_back = D.link_back dial.new; port_back = D.port_back dial.new }) sim.old sim.new (end_of result) }
 {
     match judge(alloc, names, texts) {
         Ok(line) => bind_and_serve(alloc, names, line, sim, dial),
@@ -197,7 +198,7 @@ pub fn tell_gateway<F: Files, K: Sink, D: Dialer>(
     sim: &mut SimBus,
     dial: &mut D,
 ) -> Status
-    ensures told { RunsGateway (gateway_words_of names.entry) (F.file files.old) (F.faults files.old) (F.faults files.new) (record { faults = D.faults dial.old; given = D.given dial.old; link_back = D.link_back dial.old; port_back = D.port_back dial.old }) (record { faults = D.faults dial.new; given = D.given dial.new; link_back = D.link_back dial.new; port_back = D.port_back dial.new }) sim.old sim.new (RepliesServed (K.faults out.old) (K.faults out.new) (K.taken out.old) (K.taken out.new) result) }
+    ensures told { RunsGateway (gateway_words_of names.entry) (F.file files.old) (F.faults files.old) (F.faults files.new) (record { faults = D.faults dial.old; dials = D.dials dial.old; given = D.given dial.old; link_back = D.link_back dial.old; port_back = D.port_back dial.old }) (record { faults = D.faults dial.new; dials = D.dials dial.new; given = D.given dial.new; link_back = D.link_back dial.new; port_back = D.port_back dial.new }) sim.old sim.new (RepliesServed (K.faults out.old) (K.faults out.new) (K.taken out.old) (K.taken out.new) result) }
     ensures stays { (other : Seq ℕ) → F.file files.new other ≡ F.file files.old other }
     ensures written { K.writes out.new ≡ one_more (K.writes out.old) }
 {

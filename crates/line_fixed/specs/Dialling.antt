@@ -15,7 +15,7 @@ pub record Dialling : Type 0 where
   pub link_back : Option FixedLink
   pub port_back : Option FixedPort
   pub given : Option Address
-  pub calls : ℕ
+  pub dials : ℕ
   pub faults : ℕ
 
 abbrev pub address_of : kept.Address → Address

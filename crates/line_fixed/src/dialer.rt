@@ -28,7 +28,7 @@ pub struct FixedDialer {
     link_back: Option<FixedLink>,
     port_back: Option<FixedPort>,
     given: Option<Address>,
-    calls: u64,
+    dials: u64,
     faults: u64,
 }
 
@@ -38,7 +38,7 @@ impl Model for FixedDialer {
 
     ghost Value = { Dialling };
 
-    ghost view = { λ d. record { link = d.link; port = d.port; link_back = d.link_back; port_back = d.port_back; given = option_map address_of d.given; calls = d.calls; faults = d.faults } };
+    ghost view = { λ d. record { link = d.link; port = d.port; link_back = d.link_back; port_back = d.port_back; given = option_map address_of d.given; dials = d.dials; faults = d.faults } };
 
     ghost invariant = { λ d. IfSome d.link IsUnusedLink × IfSome d.port IsUnusedPort };
 }
@@ -48,7 +48,7 @@ impl FixedDialer {
     pub fn new(link: Option<FixedLink>, port: Option<FixedPort>) -> FixedDialer
         requires link { IfSome link IsUnusedLink }
         requires port { IfSome port IsUnusedPort }
-        ensures { result ≡ record { link = link; port = port; link_back = None; port_back = None; given = None; calls = 0; faults = 0 } }
+        ensures { result ≡ record { link = link; port = port; link_back = None; port_back = None; given = None; dials = 0; faults = 0 } }
     {
         FixedDialer {
             link,
@@ -56,7 +56,7 @@ impl FixedDialer {
             link_back: None,
             port_back: None,
             given: None,
-            calls: 0,
+            dials: 0,
             faults: 0,
         }
     }
@@ -82,6 +82,13 @@ impl FixedDialer {
         self.given
     }
 
+    /// How many calls of `dial` and `bind` there were.
+    pub fn dials(&self) -> u64
+        ensures { result ≡ self.now.dials }
+    {
+        self.dials
+    }
+
     /// How many calls failed, those of what was taken back counted as one.
     pub fn faults(&self) -> u64
         ensures { result ≡ self.now.faults }
@@ -99,6 +106,8 @@ impl Dialer for FixedDialer {
 
     ghost faults = { λ d. d.faults };
 
+    ghost dials = { λ d. d.dials };
+
     ghost given = { λ d. d.given };
 
     ghost link_back = { λ d. link_told d.link_back };
@@ -111,11 +120,14 @@ impl Dialer for FixedDialer {
         ensures failed { OnErr result (Rose self.old.faults self.new.faults) }
         ensures count { self.old.faults ≤ self.new.faults }
         ensures tells { Tells host port self.new.given }
+        ensures dials { self.new.dials ≡ one_more self.old.dials }
+        ensures link_stays { link_told self.new.link_back ≡ link_told self.old.link_back }
+        ensures port_stays { port_told self.new.port_back ≡ port_told self.old.port_back }
         // the link is handed out, where there is one
         ensures answer { MatchOption self.old.link (IsErr result) (λ l. result ≡ Ok l) }
-        ensures after { self.new ≡ record self.old { link = None; given = Some (record { host = host; port = port }); calls = one_more self.old.calls; faults = handing self.old.link self.old.faults } }
+        ensures after { self.new ≡ record self.old { link = None; given = Some (record { host = host; port = port }); dials = one_more self.old.dials; faults = handing self.old.link self.old.faults } }
     {
-        self.calls = self.calls.saturating_add(1);
+        self.dials = self.dials.saturating_add(1);
         self.given = Some(Address { host, port });
         match self.link.take() {
             Some(link) => Ok(link),
@@ -132,10 +144,13 @@ impl Dialer for FixedDialer {
         ensures failed { OnErr result (Rose self.old.faults self.new.faults) }
         ensures count { self.old.faults ≤ self.new.faults }
         ensures tells { Tells host port self.new.given }
+        ensures dials { self.new.dials ≡ one_more self.old.dials }
+        ensures link_stays { link_told self.new.link_back ≡ link_told self.old.link_back }
+        ensures port_stays { port_told self.new.port_back ≡ port_told self.old.port_back }
         ensures answer { MatchOption self.old.port (IsErr result) (λ p. result ≡ Ok p) }
-        ensures after { self.new ≡ record self.old { port = None; given = Some (record { host = host; port = port }); calls = one_more self.old.calls; faults = handing self.old.port self.old.faults } }
+        ensures after { self.new ≡ record self.old { port = None; given = Some (record { host = host; port = port }); dials = one_more self.old.dials; faults = handing self.old.port self.old.faults } }
     {
-        self.calls = self.calls.saturating_add(1);
+        self.dials = self.dials.saturating_add(1);
         self.given = Some(Address { host, port });
         match self.port.take() {
             Some(door) => Ok(door),
@@ -150,9 +165,9 @@ impl Dialer for FixedDialer {
         ensures count { TakesBack line.faults self.old.faults self.new.faults }
         ensures told { link_told self.new.link_back ≡ LinkTold line.entries }
         ensures given { self.new.given ≡ self.old.given }
-        ensures after { self.new ≡ record self.old { link_back = Some line; calls = one_more self.old.calls; faults = taking_back line.faults self.old.faults } }
+        ensures dials { self.new.dials ≡ self.old.dials }
+        ensures after { self.new ≡ record self.old { link_back = Some line; faults = taking_back line.faults self.old.faults } }
     {
-        self.calls = self.calls.saturating_add(1);
         if line.faults != 0 {
             self.faults = self.faults.saturating_add(1);
         }
@@ -163,9 +178,9 @@ impl Dialer for FixedDialer {
         ensures count { TakesBack door.faults self.old.faults self.new.faults }
         ensures told { port_told self.new.port_back ≡ PortTold door.items }
         ensures given { self.new.given ≡ self.old.given }
-        ensures after { self.new ≡ record self.old { port_back = Some door; calls = one_more self.old.calls; faults = taking_back door.faults self.old.faults } }
+        ensures dials { self.new.dials ≡ self.old.dials }
+        ensures after { self.new ≡ record self.old { port_back = Some door; faults = taking_back door.faults self.old.faults } }
     {
-        self.calls = self.calls.saturating_add(1);
         if door.faults != 0 {
             self.faults = self.faults.saturating_add(1);
         }

@@ -137,7 +137,7 @@ second_legal kept = legal_by (begin kept) second refl
 
 pub second_renews : (kept : NonVolatile) → RenewsRightly (entries (placed (begin kept) second))
 unfolding datagram_in ldata_in gateway_took frame_in device_took device_after device_answered after_answer apdu_in tpdu_in service_in after_entry deed
-second_renews kept = (record { connects = λ e. cc; leaves = λ e h. cc }, (record { connects = λ e. cc; leaves = λ e h. cc }, (record { connects = λ e. refl; leaves = λ e h. cc }, (record { connects = λ e. cc; leaves = λ e h. tt }, (record { connects = λ e. cc; leaves = λ e h. cc }, (record { connects = λ e. cc; leaves = λ e h. cc }, (record { connects = λ e. cc; leaves = λ e h. cc }, (record { connects = λ e. cc; leaves = λ e h. cc }, (record { connects = λ e. cc; leaves = λ e h. cc }, (record { connects = λ e. cc; leaves = λ e h. cc }, (record { connects = λ e. cc; leaves = λ e h. cc }, (record { connects = λ e. refl; leaves = λ e h. cc }, (record { connects = λ e. cc; leaves = λ e h. cc }, tt)))))))))))))
+second_renews kept = (record { connects = λ e. cc; leaves = λ e h. cc; tries_left = λ e. cc }, (record { connects = λ e. cc; leaves = λ e h. cc; tries_left = λ e. cc }, (record { connects = λ e. refl; leaves = λ e h. cc; tries_left = λ e. cc }, (record { connects = λ e. cc; leaves = λ e h. tt; tries_left = λ e. omega arith }, (record { connects = λ e. cc; leaves = λ e h. cc; tries_left = λ e. cc }, (record { connects = λ e. cc; leaves = λ e h. cc; tries_left = λ e. cc }, (record { connects = λ e. cc; leaves = λ e h. cc; tries_left = λ e. cc }, (record { connects = λ e. cc; leaves = λ e h. cc; tries_left = λ e. cc }, (record { connects = λ e. cc; leaves = λ e h. cc; tries_left = λ e. cc }, (record { connects = λ e. cc; leaves = λ e h. cc; tries_left = λ e. cc }, (record { connects = λ e. cc; leaves = λ e h. cc; tries_left = λ e. cc }, (record { connects = λ e. refl; leaves = λ e h. cc; tries_left = λ e. cc }, (record { connects = λ e. cc; leaves = λ e h. cc; tries_left = λ e. omega arith }, tt)))))))))))))
 
 -- ---- three heartbeats without answer
 

@@ -55,7 +55,7 @@ never e = cc
 
 renews : RenewsRightly (entries (placed (begin nearly) loads))
 unfolding datagram_in ldata_in gateway_took frame_in device_took device_after device_answered after_answer apdu_in tpdu_in service_in after_entry deed
-renews = (record { connects = λ e. never e; leaves = λ e h. never e }, (record { connects = λ e. never e; leaves = λ e h. never e }, (record { connects = λ e. never e; leaves = λ e h. never e }, (record { connects = λ e. never e; leaves = λ e h. never e }, (record { connects = λ e. never e; leaves = λ e h. never e }, (record { connects = λ e. never e; leaves = λ e h. never e }, (record { connects = λ e. never e; leaves = λ e h. never e }, (record { connects = λ e. never e; leaves = λ e h. never e }, (record { connects = λ e. never e; leaves = λ e h. never e }, (record { connects = λ e. never e; leaves = λ e h. never e }, (record { connects = λ e. never e; leaves = λ e h. never e }, (record { connects = λ e. never e; leaves = λ e h. never e }, (record { connects = λ e. never e; leaves = λ e h. never e }, (record { connects = λ e. never e; leaves = λ e h. never e }, (record { connects = λ e. never e; leaves = λ e h. never e }, (record { connects = λ e. never e; leaves = λ e h. never e }, (record { connects = λ e. never e; leaves = λ e h. never e }, (record { connects = λ e. refl; leaves = λ e h. never e }, (record { connects = λ e. never e; leaves = λ e h. never h }, tt)))))))))))))))))))
+renews = (record { connects = λ e. never e; leaves = λ e h. never e; tries_left = λ e. never e }, (record { connects = λ e. never e; leaves = λ e h. never e; tries_left = λ e. never e }, (record { connects = λ e. never e; leaves = λ e h. never e; tries_left = λ e. never e }, (record { connects = λ e. never e; leaves = λ e h. never e; tries_left = λ e. never e }, (record { connects = λ e. never e; leaves = λ e h. never e; tries_left = λ e. never e }, (record { connects = λ e. never e; leaves = λ e h. never e; tries_left = λ e. never e }, (record { connects = λ e. never e; leaves = λ e h. never e; tries_left = λ e. never e }, (record { connects = λ e. never e; leaves = λ e h. never e; tries_left = λ e. never e }, (record { connects = λ e. never e; leaves = λ e h. never e; tries_left = λ e. never e }, (record { connects = λ e. never e; leaves = λ e h. never e; tries_left = λ e. never e }, (record { connects = λ e. never e; leaves = λ e h. never e; tries_left = λ e. never e }, (record { connects = λ e. never e; leaves = λ e h. never e; tries_left = λ e. never e }, (record { connects = λ e. never e; leaves = λ e h. never e; tries_left = λ e. never e }, (record { connects = λ e. never e; leaves = λ e h. never e; tries_left = λ e. never e }, (record { connects = λ e. never e; leaves = λ e h. never e; tries_left = λ e. never e }, (record { connects = λ e. never e; leaves = λ e h. never e; tries_left = λ e. never e }, (record { connects = λ e. never e; leaves = λ e h. never e; tries_left = λ e. never e }, (record { connects = λ e. refl; leaves = λ e h. never e; tries_left = λ e. never e }, (record { connects = λ e. never e; leaves = λ e h. never h; tries_left = λ e. omega arith }, tt)))))))))))))))))))
 
 acknowledges : AcknowledgesRightly (entries (placed (begin nearly) loads))
 unfolding datagram_in ldata_in gateway_took frame_in device_took device_after device_answered after_answer apdu_in tpdu_in service_in after_entry deed

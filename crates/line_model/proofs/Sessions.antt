@@ -54,7 +54,7 @@ refused kept = (record { n = 1; judged = refl; later = []; before = []; taken = 
 
 renews : (kept : NonVolatile) → RenewsRightly (entries (placed (begin kept) whole))
 unfolding datagram_in ldata_in gateway_took frame_in device_took device_after device_answered after_answer apdu_in tpdu_in service_in after_entry deed
-renews kept = (record { connects = λ e. cc; leaves = λ e h. cc }, (record { connects = λ e. cc; leaves = λ e h. cc }, (record { connects = λ e. cc; leaves = λ e h. cc }, (record { connects = λ e. cc; leaves = λ e h. cc }, (record { connects = λ e. cc; leaves = λ e h. cc }, (record { connects = λ e. cc; leaves = λ e h. cc }, (record { connects = λ e. cc; leaves = λ e h. cc }, (record { connects = λ e. cc; leaves = λ e h. cc }, (record { connects = λ e. cc; leaves = λ e h. cc }, (record { connects = λ e. cc; leaves = λ e h. cc }, (record { connects = λ e. cc; leaves = λ e h. cc }, (record { connects = λ e. cc; leaves = λ e h. cc }, (record { connects = λ e. cc; leaves = λ e h. cc }, (record { connects = λ e. cc; leaves = λ e h. cc }, (record { connects = λ e. cc; leaves = λ e h. cc }, (record { connects = λ e. cc; leaves = λ e h. cc }, (record { connects = λ e. cc; leaves = λ e h. cc }, (record { connects = λ e. refl; leaves = λ e h. cc }, (record { connects = λ e. cc; leaves = λ e h. cc }, tt)))))))))))))))))))
+renews kept = (record { connects = λ e. cc; leaves = λ e h. cc; tries_left = λ e. cc }, (record { connects = λ e. cc; leaves = λ e h. cc; tries_left = λ e. cc }, (record { connects = λ e. cc; leaves = λ e h. cc; tries_left = λ e. cc }, (record { connects = λ e. cc; leaves = λ e h. cc; tries_left = λ e. cc }, (record { connects = λ e. cc; leaves = λ e h. cc; tries_left = λ e. cc }, (record { connects = λ e. cc; leaves = λ e h. cc; tries_left = λ e. cc }, (record { connects = λ e. cc; leaves = λ e h. cc; tries_left = λ e. cc }, (record { connects = λ e. cc; leaves = λ e h. cc; tries_left = λ e. cc }, (record { connects = λ e. cc; leaves = λ e h. cc; tries_left = λ e. cc }, (record { connects = λ e. cc; leaves = λ e h. cc; tries_left = λ e. cc }, (record { connects = λ e. cc; leaves = λ e h. cc; tries_left = λ e. cc }, (record { connects = λ e. cc; leaves = λ e h. cc; tries_left = λ e. cc }, (record { connects = λ e. cc; leaves = λ e h. cc; tries_left = λ e. cc }, (record { connects = λ e. cc; leaves = λ e h. cc; tries_left = λ e. cc }, (record { connects = λ e. cc; leaves = λ e h. cc; tries_left = λ e. cc }, (record { connects = λ e. cc; leaves = λ e h. cc; tries_left = λ e. cc }, (record { connects = λ e. cc; leaves = λ e h. cc; tries_left = λ e. cc }, (record { connects = λ e. refl; leaves = λ e h. cc; tries_left = λ e. cc }, (record { connects = λ e. cc; leaves = λ e h. cc; tries_left = λ e. omega arith }, tt)))))))))))))))))))
 
 acknowledges : (kept : NonVolatile) → AcknowledgesRightly (entries (placed (begin kept) whole))
 unfolding datagram_in ldata_in gateway_took frame_in device_took device_after device_answered after_answer apdu_in tpdu_in service_in after_entry deed

@@ -2,7 +2,8 @@
 -- was got; an awaited state response with a status other than 0 was got; a request was sent twice, 1,000 ms passed after each, and no
 -- acknowledgement with status 0 was got; 3,000 ms passed after a request's acknowledgement without its confirmation; three heartbeats in
 -- turn had 10,000 ms each without answer. The response to a disconnect request of the client ends it too. That a missing confirmation, and a
--- state response with another status, lose it is this project's own. A channel is read from its own entries alone, from its connect response
+-- state response with another status, lose it, and that a heartbeat without answer isn't repeated at once but with the next pause of 60,000 ms,
+-- is this project's own. A channel is read from its own entries alone, from its connect response
 -- on, the newest first; the time of an entry counts before what was got in it.
 use Rattle.std.specs.Prelude.{ℕ, List, [], ◌∷◌, Bool, true, false, not, ◌&&◌, ◌||◌, ◌==◌, if◌then◌else◌, Option, Some, None}
 use Rattle.knx_model.specs.declared.frames.cemi.Ldata.{Ldata}

@@ -1,7 +1,7 @@
 -- The gateway's end of a tunnel (ISO 22510, Core and Tunnelling): its one channel, what waits for the bus and what waits for the client, and
 -- one case for each service that says what it answers, on which request it acts, and what it knows then. The k-th channel that it makes has
--- the number 1 + (k - 1) mod 255. That a channel closes after 120,000 ms without a datagram of its client, that a connect request of another
--- endpoint closes it, and that a disconnect request of no open channel is answered with status 21 (hexadecimal) is this project's own.
+-- the number 1 + (k - 1) mod 255. That any datagram of its client keeps a channel open (CONNECTION_ALIVE_TIME, 120,000 ms), that a connect
+-- request of another endpoint closes it, and that a state request of no open channel isn't answered is this project's own.
 use Rattle.std.specs.Prelude.{ℕ, ◌+◌, ◌%◌, Bool, true, false, ◌&&◌, ◌==◌, List, [], ◌∷◌, ◌++◌, length, Option, Some, None, if◌then◌else◌}
 use Rattle.knx_model.specs.declared.address.IndAddr.{IndAddr}
 use Rattle.knx_model.specs.declared.frames.cemi.Ldata.{Ldata}

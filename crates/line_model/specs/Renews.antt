@@ -1,7 +1,7 @@
 -- How the client keeps its channel, by the record alone (ISO 22510, Core and Tunnelling): a connect request is sent only directly after a new
 -- endpoint was taken; each request of the gateway is acknowledged at once; and while there is something to do, a deadline of the channel that
 -- is reached is acted on before the second poll after it.
-use Rattle.std.specs.Prelude.{◌≡◌, ℕ, Bool, true, false, ◌&&◌, ◌||◌, ◌==◌, List, [], ◌∷◌, if◌then◌else◌, Option, Some, None}
+use Rattle.std.specs.Prelude.{◌≡◌, ℕ, ◌<◌, Bool, true, false, ◌&&◌, ◌||◌, ◌==◌, List, [], ◌∷◌, length, if◌then◌else◌, Option, Some, None}
 use Rattle.std.specs.List.{list_any}
 use Rattle.knx_model.specs.declared.frames.ip.IpFrame.{IpFrame}
 use Rattle.knx_model.specs.declared.frames.ip.IpFrame.TheVariants.{TunnellingAck}
@@ -11,6 +11,7 @@ use Rattle.line_model.specs.Reading.{is_connect_request, RequestFrame, request_i
 use Rattle.line_model.specs.Record.{Entry, put_in, got_in, is_renewal, is_poll}
 use Rattle.line_model.specs.ChannelLost.{heartbeat_pause, expected, own, is_beat}
 use Rattle.line_model.specs.ClientView.{ClientChannel, Fresh, Sought, RefusedBy, Unanswered, Open, Lost, channel}
+use Rattle.line_model.specs.Faults.{tries}
 
 -- ---- a new endpoint: after the first one only where the channel was lost, or the last try got a status other than 0, or 10,000 ms passed
 -- without a response
@@ -30,9 +31,11 @@ MayLeave Unanswered = Unit {0}
 MayLeave (Open c l) = ⊥
 MayLeave (Lost c) = Unit {0}
 
+-- and not after three failed tries in turn
 pub record RenewsSo (r : List Entry) (x : Entry) : Type 0 where
   pub connects : is_connect_request (put_in x.what) ≡ true → is_just_renewed r ≡ true
   pub leaves : is_renewal x.what ≡ true → has_renewed r ≡ true → MayLeave (channel r)
+  pub tries_left : is_renewal x.what ≡ true → length (tries r) < 3
 
 abbrev pub RenewsRightly : List Entry → Type 0
 RenewsRightly [] = Unit {0}

@@ -17,7 +17,8 @@ pub enum ChannelTook {
     Cemi { octets: Datagram, ack: Datagram },
     /// The request before once more, and its acknowledgement.
     Again { ack: Datagram },
-    /// There is no channel any longer; the answer is the disconnect response that the gateway awaits.
+    /// There is no channel any longer. The answer is the disconnect response that the gateway awaits where it asked to end the channel;
+    /// None where it answered that the channel isn't open, or the client's own request to end it.
     Gone { answer: Option<Datagram> },
     /// The answer to a heartbeat.
     Alive,

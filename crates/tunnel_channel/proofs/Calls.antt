@@ -54,7 +54,7 @@ may_leave (JustLost c) r m fits f = rw fits tt
 pub connect_follows : (end : ClientEnd) (now : ℕ) → MayConnect end → ConnectFollows end now
 connect_follows end now m r = record {
   sends = λ h. connect_sends r now (renewed r h);
-  right = λ h. record { connects = λ c. h; leaves = λ c n. absurd (cc) };
+  right = λ h. record { connects = λ c. h; leaves = λ c n. absurd (cc); tries_left = λ c. absurd (cc) };
   leaves = λ fits f. may_leave end r m fits f;
 }
 

@@ -85,6 +85,7 @@ pub renews_other : (r : List Entry) (octets : List ℕ) (frame : IpFrame) (now :
 renews_other r octets frame now is n = record {
   connects = λ h. absurd (let e : (is_connect_request (datagram_in octets) ≡ false) = rw is n in cc);
   leaves = λ h m. absurd (cc);
+  tries_left = λ h. absurd (cc);
 }
 
 pub put_none : (ch : ClientChannel) (octets : List ℕ) (frame : IpFrame) (now : ℕ) → datagram_in octets ≡ Some frame → request_in (Some frame) ≡ None → deed ch (entry (Put octets) now) ≡ Nothing

@@ -118,8 +118,8 @@ renewed_right k r now right paid parted renews = record {
 pub poll_renews : (r : List Entry) (what : Item) (now : ℕ) → is_poll what ≡ true → RenewsSo r (entry what now)
 poll_renews r (Put octets) now p = absurd (cc)
 poll_renews r Renewed now p = absurd (cc)
-poll_renews r (Got octets) now p = record { connects = λ h. absurd (cc); leaves = λ h n. absurd (cc) }
-poll_renews r Quiet now p = record { connects = λ h. absurd (cc); leaves = λ h n. absurd (cc) }
+poll_renews r (Got octets) now p = record { connects = λ h. absurd (cc); leaves = λ h n. absurd (cc); tries_left = λ h. absurd (cc) }
+poll_renews r Quiet now p = record { connects = λ h. absurd (cc); leaves = λ h n. absurd (cc); tries_left = λ h. absurd (cc) }
 
 poll_may : (r : List Entry) (what : Item) (now : ℕ) → is_poll what ≡ true → IsRightItem r (entry what now) what
 poll_may r (Put octets) now p = absurd (cc)

@@ -74,6 +74,7 @@ module _ (k : Known) (r : List Entry) (f : FitsRecord k r) (right : IsRight k r)
       record {
         connects = λ h. absurd (cc);
         leaves = λ h renewed. c.leaves (fits_of k.channel (newest_time r) (channel r) f.end) (λ fresh. absurd (let e : (has_renewed r ≡ false) = f.first fresh in cc));
+        tries_left = λ h. f.few;
       }
 
   pub renewed_so : IsRight k (entry Renewed (newest_time r) ∷ r)

@@ -6,7 +6,7 @@ ghost use Rattle.knx_model.specs.KnxNetIp.{refusal_number, refusal_word};
 use crate::address::IndAddr;
 use crate::frames::Datagram;
 
-/// A frame of a client or of a gateway.
+/// A frame of a client or of a gateway. A status is one of Core's codes, 00 for no error (hexadecimal); sequence counters go from 0 to 255.
 #[derive(Debug, Drop, PartialEq, Eq)]
 pub enum IpFrame {
     /// Asks for a tunnel on the link layer.
@@ -17,17 +17,20 @@ pub enum IpFrame {
         status: u8,
         tunnel: Option<IndAddr>,
     },
-    /// The heartbeat of a channel.
+    /// The heartbeat of a channel (CONNECTIONSTATE_REQUEST).
     StateRequest {
         channel: u8,
     },
+    /// Whether the channel is open: status 00, or 21, 26 or 27 where it isn't or doesn't reach the line.
     StateResponse {
         channel: u8,
         status: u8,
     },
+    /// Either end ends the channel.
     DisconnectRequest {
         channel: u8,
     },
+    /// It has ended: status 00, or 21 where it wasn't open.
     DisconnectResponse {
         channel: u8,
         status: u8,
@@ -38,6 +41,7 @@ pub enum IpFrame {
         number: u8,
         cemi: Datagram,
     },
+    /// The tunnelling request with this number came, now or before; with another status than 00 it counts as none.
     TunnellingAck {
         channel: u8,
         number: u8,
