@@ -57,8 +57,8 @@ def lines_told(line):
 
 
 def stored():
-    """The calls of the stored transcript, each with what it answers; None also where it has a port."""
-    files, words, name, calls, has_port = {}, [], None, [], False
+    """The calls of the stored transcript, each with what it answers; None also where it has a port, a link or calls that fail."""
+    files, words, name, calls, has_outside = {}, [], None, [], False
     for line in (CRATE / "stdin").read_text(encoding="utf-8").split("\n"):
         if name is not None:
             if line == "end":
@@ -69,14 +69,14 @@ def stored():
             name, said = line[5:], []
         elif line.startswith("with "):
             words = line[5:].split()
-        elif line.startswith("port"):
-            has_port = True
+        elif line.startswith(("port", "link", "failing")):
+            has_outside = True
         elif line.startswith(("$ ", "> ")):
             if line[0] == ">":
                 files["s"] = unescaped(line[2:])
-            calls.append((words if line[0] == ">" else line[2:].split(), dict(files), has_port))
-            has_port = False
+            calls.append((words if line[0] == ">" else line[2:].split(), dict(files), has_outside))
+            has_outside = False
     answers = answers_in((CRATE / "stdout").read_text(encoding="utf-8"))
     if len(answers) != len(calls):
         raise SystemExit(f"{len(calls)} calls stand in the transcript, and {len(answers)} answers")
-    return [((words, files), None if has_port else answer) for (words, files, has_port), answer in zip(calls, answers)]
+    return [((words, files), None if has_outside else answer) for (words, files, has_outside), answer in zip(calls, answers)]

@@ -22,7 +22,7 @@ use crate::run::Run;
 use knx_model::{IndAddr, Ldata, NoMemory, WriteKind};
 
 /// How the client's frame goes over the bus.
-#[derive(Clone, Copy, Debug, Drop, PartialEq, Eq)]
+#[derive(Clone, Copy, Drop)]
 pub enum Carriage {
     /// Whole, lost for one device or for none.
     Whole(Option<u16>),

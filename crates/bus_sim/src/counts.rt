@@ -13,7 +13,7 @@ const PLACES: usize = 256;
 
 /// What was counted of a device: frames on the bus for it alone, frames that it sent, frames for it alone that it took, and its writes. Each count
 /// stands still at the greatest number of 64 bits.
-#[derive(Clone, Copy, Debug, Drop, PartialEq, Eq)]
+#[derive(Clone, Copy, Drop)]
 pub struct DeviceCounts {
     pub to: u64,
     pub from: u64,
@@ -22,7 +22,7 @@ pub struct DeviceCounts {
 }
 
 /// What of a device an event is.
-#[derive(Clone, Copy, Debug, Drop, PartialEq, Eq)]
+#[derive(Clone, Copy, Drop)]
 pub struct Met {
     pub to: bool,
     pub from: bool,

@@ -17,7 +17,7 @@ use crate::turn::Letter;
 use knx_model::NoMemory;
 
 /// How the client's datagram is delivered.
-#[derive(Clone, Copy, Debug, Drop, PartialEq, Eq)]
+#[derive(Clone, Copy, Drop)]
 pub enum Delivery {
     /// The gateway takes it.
     Taken,

@@ -3,7 +3,7 @@
 use line_sim::AtGateway;
 
 /// An event of the line, in 16 octets. The octets that it has are kept apart: here is only how many they are.
-#[derive(Clone, Copy, Debug, Drop, PartialEq, Eq)]
+#[derive(Clone, Copy, Drop)]
 pub enum Happened {
     /// The client sent a datagram of so many octets.
     Send(u64),

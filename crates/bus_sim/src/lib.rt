@@ -1,5 +1,5 @@
 //! The simulated line: a whole line in memory, gateway, bus and devices, that loses, repeats, tears, wears, closes and cuts just where a script says
-//! so, and that is driven as a link.
+//! so. It is driven as a link, or serves at a port.
 #![tactic(auto)]
 
 mod again;

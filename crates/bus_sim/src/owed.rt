@@ -16,7 +16,7 @@ use std::alloc::Global;
 use std::marker::Model;
 
 /// What the script calls for.
-#[derive(Clone, Copy, Debug, Drop, PartialEq, Eq)]
+#[derive(Clone, Copy, Drop)]
 pub enum Owed {
     /// The client's datagram of this number comes to the gateway again.
     DeliverAgain(u64),
@@ -33,7 +33,7 @@ pub enum Owed {
 }
 
 /// What an event calls for: at most three things, in this order.
-#[derive(Clone, Copy, Debug, Drop, PartialEq, Eq)]
+#[derive(Clone, Copy, Drop)]
 pub struct Caused {
     pub first: Option<Owed>,
     pub second: Option<Owed>,

@@ -10,7 +10,7 @@ use line_model::{Port, PortFault};
 use std::alloc::Global;
 
 /// How a serving ended.
-#[derive(Clone, Copy, Debug, Drop, PartialEq, Eq)]
+#[derive(Clone, Copy, Drop)]
 pub enum Served {
     /// A channel was made, none is open, and the last ten turns were quiet.
     Ended,

@@ -4,7 +4,7 @@ use knx_model::NoMemory;
 use line_model::PortFault;
 
 /// Why a call of a run that is driven as a link stops.
-#[derive(Debug, Drop)]
+#[derive(Drop)]
 pub enum Stopped {
     /// There was no memory.
     NoMemory(NoMemory),

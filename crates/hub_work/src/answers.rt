@@ -3,7 +3,7 @@
 use line_model::Indication;
 
 /// What a worker's turn did. Jobs are numbered from 1.
-#[derive(Clone, Copy, Debug, Drop, PartialEq, Eq)]
+#[derive(Clone, Copy, Drop)]
 pub enum Turned {
     /// The worker holds this job from now on.
     Took(u32),
@@ -31,7 +31,7 @@ pub enum Pumped {
 }
 
 /// What a call for a group telegram did.
-#[derive(Clone, Copy, Debug, Drop, PartialEq, Eq)]
+#[derive(Clone, Copy, Drop)]
 pub enum GroupDid {
     /// Its request was put.
     Put,

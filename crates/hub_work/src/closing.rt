@@ -14,7 +14,7 @@ const LEAVING_MS: u64 = 10_000;
 const MOST_DATAGRAMS: u32 = 64;
 
 /// How far the closing is: how long, and how many datagrams came.
-#[derive(Clone, Copy, Debug, Drop, PartialEq, Eq)]
+#[derive(Clone, Copy, Drop)]
 pub enum Closing {
     /// Nothing was got since this time.
     Listening { since: u64, came: u32 },

@@ -17,7 +17,7 @@ use std::marker::Model;
 ///   Unput ---> UnderWay ---> Confirmed ---> told, and the next one is Unput
 ///                  +-------> Lost --------> told, and the next one is Unput
 /// ```
-#[derive(Clone, Copy, Debug, Drop, PartialEq, Eq)]
+#[derive(Clone, Copy, Drop)]
 pub enum Stage {
     Unput,
     /// It was put, and neither its confirmation came nor was its channel lost.

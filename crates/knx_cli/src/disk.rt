@@ -15,6 +15,7 @@ use std::rt;
 #[derive(Drop)]
 pub struct Disk<'a, R> {
     rt: &'a R,
+    reads: u64,
     /// The names of the reads that failed.
     failed: Vec<Octets>,
 }
@@ -22,10 +23,11 @@ pub struct Disk<'a, R> {
 impl<'a, R: rt::Files> Disk<'a, R> {
     /// The files of the system, of which no read failed yet.
     pub fn new(alloc: Global, rt: &'a R) -> Self
-        ensures { result.failed.items ≡ [] }
+        ensures { (result.reads ≡ 0) × (result.failed.items ≡ []) }
     {
         Disk {
             rt,
+            reads: 0,
             failed: Vec::new(alloc),
         }
     }
@@ -103,9 +105,12 @@ impl<R: rt::Files> Files for Disk<'_, R> {
 
     ghost faults = { λ d name. faults_of d.failed.items name };
 
+    ghost reads = { λ d. d.reads };
+
     ghost file = { λ d name. Untold };
 
     fn read(&mut self, alloc: Global, name: &str, limit: usize) -> Result<Octets, FileFault> {
+        self.reads = self.reads.saturating_add(1);
         match read_opened(alloc, File::open(self.rt, name), limit) {
             Ok(octets) => Ok(octets),
             Err(FileFault::Failed) => {

@@ -1,6 +1,6 @@
 //! How the program ends.
 
-ghost use Rattle.std.specs.Prelude.{◌≡◌, ◌≢◌, ℕ, IfErr, IfOk, List, None, Some, map, string_bytes};
+ghost use Rattle.std.specs.Prelude.{◌≡◌, ◌≢◌, ◌≤◌, ◌+◌, ℕ, IfErr, IfOk, List, None, Some, length, map, string_bytes};
 ghost use Rattle.knx_model.specs.declared.command.Stop.TheVariants.{Usage, NoMemory as Wanting};
 ghost use Rattle.knx_model.specs.Outside.{one_more};
 ghost use Rattle.knx_model.specs.Refusal.{status_number};
@@ -9,6 +9,7 @@ ghost use Rattle.knx_top.specs.Command.{DownloadWords, GatewayWords, ProjectWord
 ghost use Rattle.knx_top.specs.Dialled.{RepliesEnd, RunsDialled};
 ghost use Rattle.knx_top.specs.Gateway.{RepliesServed, RunsGateway};
 ghost use Rattle.knx_top.specs.Headline.{ActsOnce, BeganRightly, ClosesToItsEnd, EndsEveryJob, EndsThoroughly, HasFaultRight, HasOldStoppedOrNew, HasTelegramsRight, IsOfOneWorker, IsToldRightly, LeavesItsChannel, RunsWhereDone};
+ghost use Rattle.knx_top.specs.Input.{files_of};
 ghost use Rattle.knx_top.specs.Ran.{FaultsOfLine, Stops};
 ghost use Rattle.knx_cli.specs.Exit.{status_of};
 
@@ -18,51 +19,8 @@ use line_model::Dialer;
 use std::alloc::Global;
 use std::sync::Wait;
 
-/// The exit status of a call: its status by its number.
-fn ended<R: Wait, F: Files, K: Sink, D: Dialer>(
-    rt: &R,
-    alloc: Global,
-    words: &[String],
-    files: &mut F,
-    out: &mut K,
-    sim: &mut SimBus,
-    dial: &mut D,
-    last: &mut Option<Report>,
-) -> u8
-    ensures numbered { result ≡ status_number (status_of result) }
-    // what the top call promises of its status
-    ensures usage { asked (map string_bytes words.now) ≡ None → Replies (K.faults out.old) (K.faults out.new) (K.taken out.old) (K.taken out.new) (status_of result) (Stops Usage) }
-    ensures check { (names : ProjectWords) → asked (map string_bytes words.now) ≡ Some (AskedCheck names) → TellsOfProject IsCountsText names (F.file files.old) (F.faults files.old) (F.faults files.new) (Replies (K.faults out.old) (K.faults out.new) (K.taken out.old) (K.taken out.new) (status_of result)) }
-    ensures tables { (names : ProjectWords) → asked (map string_bytes words.now) ≡ Some (AskedTables names) → TellsOfProject IsTablesText names (F.file files.old) (F.faults files.old) (F.faults files.new) (Replies (K.faults out.old) (K.faults out.new) (K.taken out.old) (K.taken out.new) (status_of result)) }
-    ensures decode { (word : List ℕ) → asked (map string_bytes words.now) ≡ Some (AskedDecode word) → TellsOfFrame word (Replies (K.faults out.old) (K.faults out.new) (K.taken out.old) (K.taken out.new) (status_of result)) }
-    ensures sim { (names : SimWords) → asked (map string_bytes words.now) ≡ Some (AskedSim names) → RunsScript names (F.file files.old) (F.faults files.old) (F.faults files.new) sim.old (record { line = sim.new; report = last.new }) (Replies (K.faults out.old) (K.faults out.new) (K.taken out.old) (K.taken out.new) (status_of result)) }
-    ensures download { (names : DownloadWords) → asked (map string_bytes words.now) ≡ Some (AskedDownload names) → RunsDialled names (F.file files.old) (F.faults files.old) (F.faults files.new) (record { faults = D.faults dial.old; dials = D.dials dial.old; given = D.given dial.old; link_back = D.link_back dial.old; port_back = D.port_back dial.old }) (record { faults = D.faults dial.new; dials = D.dials dial.new; given = D.given dial.new; link_back = D.link_back dial.new; port_back = D.port_back dial.new }) last.new (RepliesEnd (K.faults out.old) (K.faults out.new) (K.taken out.old) (K.taken out.new) (status_of result)) }
-    ensures gateway { (names : GatewayWords) → asked (map string_bytes words.now) ≡ Some (AskedGateway names) → RunsGateway names (F.file files.old) (F.faults files.old) (F.faults files.new) (record { faults = D.faults dial.old; dials = D.dials dial.old; given = D.given dial.old; link_back = D.link_back dial.old; port_back = D.port_back dial.old }) (record { faults = D.faults dial.new; dials = D.dials dial.new; given = D.given dial.new; link_back = D.link_back dial.new; port_back = D.port_back dial.new }) sim.old sim.new (RepliesServed (K.faults out.old) (K.faults out.new) (K.taken out.old) (K.taken out.new) (status_of result)) }
-    ensures begins { HasRunOf BeganRightly (map string_bytes words.now) (F.file files.old) sim.old (record { line = sim.new; report = last.new }) }
-    ensures old_stopped_or_new { HasRunOf HasOldStoppedOrNew (map string_bytes words.now) (F.file files.old) sim.old (record { line = sim.new; report = last.new }) }
-    ensures telegrams { HasRunOf HasTelegramsRight (map string_bytes words.now) (F.file files.old) sim.old (record { line = sim.new; report = last.new }) }
-    ensures done { HasRunOf RunsWhereDone (map string_bytes words.now) (F.file files.old) sim.old (record { line = sim.new; report = last.new }) }
-    ensures once { HasRunOf ActsOnce (map string_bytes words.now) (F.file files.old) sim.old (record { line = sim.new; report = last.new }) }
-    ensures told { HasRunOf IsToldRightly (map string_bytes words.now) (F.file files.old) sim.old (record { line = sim.new; report = last.new }) }
-    ensures thorough { HasRunOf EndsThoroughly (map string_bytes words.now) (F.file files.old) sim.old (record { line = sim.new; report = last.new }) }
-    ensures leaves { HasRunOf LeavesItsChannel (map string_bytes words.now) (F.file files.old) sim.old (record { line = sim.new; report = last.new }) }
-    ensures fault { HasRunOf HasFaultRight (map string_bytes words.now) (F.file files.old) sim.old (record { line = sim.new; report = last.new }) }
-    ensures over { HasRunOf EndsEveryJob (map string_bytes words.now) (F.file files.old) sim.old (record { line = sim.new; report = last.new }) }
-    ensures closed { HasRunOf ClosesToItsEnd (map string_bytes words.now) (F.file files.old) sim.old (record { line = sim.new; report = last.new }) }
-    ensures seats { HasRunOf IsOfOneWorker (map string_bytes words.now) (F.file files.old) sim.old (record { line = sim.new; report = last.new }) }
-    ensures link { (names : SimWords) → asked (map string_bytes words.now) ≡ Some (AskedSim names) → FaultsOfLine last.new sim.new }
-    ensures line { ((names : SimWords) → asked (map string_bytes words.now) ≢ Some (AskedSim names)) → ((names : GatewayWords) → asked (map string_bytes words.now) ≢ Some (AskedGateway names)) → sim.new ≡ sim.old }
-    ensures undialled { ((names : DownloadWords) → asked (map string_bytes words.now) ≢ Some (AskedDownload names)) → ((names : GatewayWords) → asked (map string_bytes words.now) ≢ Some (AskedGateway names)) → dial.new ≡ dial.old }
-    ensures no_run { ((names : SimWords) → asked (map string_bytes words.now) ≢ Some (AskedSim names)) → ((names : DownloadWords) → asked (map string_bytes words.now) ≢ Some (AskedDownload names)) → last.new ≡ None }
-    ensures files { (name : List ℕ) → F.file files.new name ≡ F.file files.old name }
-    ensures faults { AtMostOneRose (F.faults files.old) (F.faults files.new) }
-    ensures written { K.writes out.new ≡ one_more (K.writes out.old) }
-{
-    knx(rt, alloc, words, files, out, sim, dial, last).number()
-}
-
 /// The exit status where memory is wanting for the words.
-fn ended_without_words<K: Sink>(want: NoMemory, out: &mut K) -> u8
+fn without_words<K: Sink>(want: NoMemory, out: &mut K) -> u8
     ensures numbered { result ≡ status_number (status_of result) }
     ensures told { Replies (K.faults out.old) (K.faults out.new) (K.taken out.old) (K.taken out.new) (status_of result) (Stops (Wanting tt)) }
     ensures written { K.writes out.new ≡ one_more (K.writes out.old) }
@@ -109,6 +67,7 @@ pub fn status_of<R: Wait, F: Files, K: Sink, D: Dialer>(
     ensures undialled { IfOk words.now (λ words. ((names : DownloadWords) → asked (map string_bytes words.items) ≢ Some (AskedDownload names)) → ((names : GatewayWords) → asked (map string_bytes words.items) ≢ Some (AskedGateway names)) → dial.new ≡ dial.old) }
     ensures no_run { IfOk words.now (λ words. ((names : SimWords) → asked (map string_bytes words.items) ≢ Some (AskedSim names)) → ((names : DownloadWords) → asked (map string_bytes words.items) ≢ Some (AskedDownload names)) → last.new ≡ None) }
     ensures files { (name : List ℕ) → F.file files.new name ≡ F.file files.old name }
+    ensures reads { IfOk words.now (λ words. F.reads files.new ≤ F.reads files.old + length (files_of (asked (map string_bytes words.items)))) }
     ensures faults { IfOk words.now (λ _. AtMostOneRose (F.faults files.old) (F.faults files.new)) }
     // where memory is wanting for the words, that is told, and nothing else is done
     ensures untouched { IfErr words.now (λ _. (files.new ≡ files.old) × (sim.new ≡ sim.old) × (dial.new ≡ dial.old) × (last.new ≡ last.old)) }
@@ -116,7 +75,7 @@ pub fn status_of<R: Wait, F: Files, K: Sink, D: Dialer>(
     ensures written { K.writes out.new ≡ one_more (K.writes out.old) }
 {
     match words {
-        Ok(words) => ended(rt, alloc, words.as_slice(), files, out, sim, dial, last),
-        Err(want) => ended_without_words(*want, out),
+        Ok(words) => knx(rt, alloc, words.as_slice(), files, out, sim, dial, last).number(),
+        Err(want) => without_words(*want, out),
     }
 }

@@ -1,11 +1,11 @@
 -- What a call reads: the files of its words in the order catalogue, NEW or P, OLD, SCRIPT, up to the first read that is refused.
-use Rattle.std.specs.Prelude.{ℕ, ◌≡◌, ◌≢◌, Bool, true, false, List, [], ◌∷◌, Option, Some, None, unwrap_or, Ok, Err}
+use Rattle.std.specs.Prelude.{ℕ, ◌≡◌, ◌≢◌, Bool, true, false, List, [], ◌∷◌, ◌++◌, Option, Some, None, option_to_list, unwrap_or, Ok, Err}
 use Rattle.knx_model.specs.declared.command.Stop.{Stop}
 use Rattle.knx_model.specs.declared.command.Stop.TheVariants as stop
 use Rattle.knx_model.specs.declared.outside.files.FileFault.{FileFault}
 use Rattle.knx_model.specs.declared.outside.files.FileFault.TheVariants as fault
 use Rattle.knx_model.specs.Outside.{FileContent, MayRead, Rose}
-use Rattle.knx_top.specs.Command.{GatewayWords, ProjectWords, SimWords}
+use Rattle.knx_top.specs.Command.{Command, Check, Tables, Sim, Decode, Download, Gateway, DownloadWords, GatewayWords, ProjectWords, SimWords}
 use Rattle.knx_top.specs.declared.input.GatewayTexts.{GatewayTexts}
 use Rattle.knx_top.specs.declared.input.ProjectTexts.{ProjectTexts}
 use Rattle.knx_top.specs.declared.input.Reading.{Reading}
@@ -48,6 +48,29 @@ pub record GatewayIsRead (file : List ℕ → FileContent) (words : GatewayWords
   pub catalogue : IsRead file true words.catalogue texts.catalogue
   pub old : IsRead file (goes_on texts.catalogue) (Some words.old) texts.old
   pub script : IsRead file (goes_on texts.old) (Some words.script) texts.script
+
+-- ---- the files that words name, in the order in which they are read; each is read once at most
+
+abbrev pub files_of_project : ProjectWords → List (List ℕ)
+files_of_project words = option_to_list words.catalogue ++ words.project ∷ []
+
+abbrev pub files_of_sim : SimWords → List (List ℕ)
+files_of_sim words = option_to_list words.options.catalogue ++ words.new ∷ words.old ∷ words.script ∷ []
+
+abbrev pub files_of_gateway : GatewayWords → List (List ℕ)
+files_of_gateway words = option_to_list words.catalogue ++ words.old ∷ words.script ∷ []
+
+abbrev pub files_of_download : DownloadWords → List (List ℕ)
+files_of_download words = option_to_list words.options.catalogue ++ words.new ∷ []
+
+abbrev pub files_of : Option Command → List (List ℕ)
+files_of None = []
+files_of (Some (Check words)) = files_of_project words
+files_of (Some (Tables words)) = files_of_project words
+files_of (Some (Sim words)) = files_of_sim words
+files_of (Some (Decode word)) = []
+files_of (Some (Download words)) = files_of_download words
+files_of (Some (Gateway words)) = files_of_gateway words
 
 -- ---- the counts of faults
 

@@ -1,6 +1,6 @@
 //! The top call.
 
-ghost use Rattle.std.specs.Prelude.{◌≡◌, ◌≢◌, ℕ, List, None, Some, map, string_bytes, IfOk};
+ghost use Rattle.std.specs.Prelude.{◌≡◌, ◌≢◌, ◌≤◌, ◌+◌, ℕ, List, None, Some, length, map, string_bytes, IfOk};
 ghost use Rattle.knx_model.specs.declared.command.Stop.TheVariants.{Usage};
 ghost use Rattle.knx_model.specs.Outside.{one_more};
 ghost use Rattle.knx_top.specs.Call.{AtMostOneRose, Does, HasRunOf, IsCountsText, IsTablesText, Replies, RunsScript, TellsOfFrame, TellsOfProject};
@@ -9,6 +9,7 @@ ghost use Rattle.knx_top.specs.Dialled.{RepliesEnd, RunsDialled};
 ghost use Rattle.knx_top.specs.Ended.{IsTextOf, outcome_of, told_outcome};
 ghost use Rattle.knx_top.specs.Gateway.{RepliesServed, RunsGateway};
 ghost use Rattle.knx_top.specs.Headline.{ActsOnce, BeganRightly, ClosesToItsEnd, EndsEveryJob, EndsThoroughly, HasFaultRight, HasOldStoppedOrNew, HasTelegramsRight, IsOfOneWorker, IsToldRightly, LeavesItsChannel, RunsWhereDone};
+ghost use Rattle.knx_top.specs.Input.{files_of, files_of_project, files_of_sim};
 ghost use Rattle.knx_top.specs.Names.{command_of, options_of, project_words_of, sim_words_of};
 ghost use Rattle.knx_top.specs.Ran.{FaultsOfLine, Stops};
 
@@ -77,6 +78,7 @@ fn tell_check<F: Files, K: Sink>(
 ) -> Status
     ensures told { TellsOfProject IsCountsText (project_words_of names.entry) (F.file files.old) (F.faults files.old) (F.faults files.new) (Replies (K.faults out.old) (K.faults out.new) (K.taken out.old) (K.taken out.new) result) }
     ensures stays { (other : List ℕ) → F.file files.new other ≡ F.file files.old other }
+    ensures reads { F.reads files.new ≤ F.reads files.old + length (files_of_project (project_words_of names.entry)) }
     ensures written { K.writes out.new ≡ one_more (K.writes out.old) }
 {
     let texts = read_project_texts(alloc, files, names);
@@ -93,6 +95,7 @@ fn tell_tables<F: Files, K: Sink>(
 ) -> Status
     ensures told { TellsOfProject IsTablesText (project_words_of names.entry) (F.file files.old) (F.faults files.old) (F.faults files.new) (Replies (K.faults out.old) (K.faults out.new) (K.taken out.old) (K.taken out.new) result) }
     ensures stays { (other : List ℕ) → F.file files.new other ≡ F.file files.old other }
+    ensures reads { F.reads files.new ≤ F.reads files.old + length (files_of_project (project_words_of names.entry)) }
     ensures written { K.writes out.new ≡ one_more (K.writes out.old) }
 {
     let texts = read_project_texts(alloc, files, names);
@@ -123,6 +126,7 @@ fn tell_sim<R: Wait, F: Files, K: Sink>(
     ensures told { RunsScript (sim_words_of names.entry) (F.file files.old) (F.faults files.old) (F.faults files.new) sim.old (record { line = sim.new; report = last.new }) (Replies (K.faults out.old) (K.faults out.new) (K.taken out.old) (K.taken out.new) result) }
     ensures link { FaultsOfLine last.new sim.new }
     ensures stays { (other : List ℕ) → F.file files.new other ≡ F.file files.old other }
+    ensures reads { F.reads files.new ≤ F.reads files.old + length (files_of_sim (sim_words_of names.entry)) }
     ensures written { K.writes out.new ≡ one_more (K.writes out.old) }
 {
     let texts = read_sim_texts(alloc, files, names);
@@ -151,6 +155,7 @@ fn run<R: Wait, F: Files, K: Sink, D: Dialer>(
     ensures gateway { (names : GatewayWords) → command_of command.entry ≡ AskedGateway names → RunsGateway names (F.file files.old) (F.faults files.old) (F.faults files.new) (record { faults = D.faults dial.old; dials = D.dials dial.old; given = D.given dial.old; link_back = D.link_back dial.old; port_back = D.port_back dial.old }) (record { faults = D.faults dial.new; dials = D.dials dial.new; given = D.given dial.new; link_back = D.link_back dial.new; port_back = D.port_back dial.new }) sim.old sim.new (RepliesServed (K.faults out.old) (K.faults out.new) (K.taken out.old) (K.taken out.new) result) }
     ensures undialled { ((names : DownloadWords) → command_of command.entry ≢ AskedDownload names) → ((names : GatewayWords) → command_of command.entry ≢ AskedGateway names) → dial.new ≡ dial.old }
     ensures stays { (other : List ℕ) → F.file files.new other ≡ F.file files.old other }
+    ensures reads { F.reads files.new ≤ F.reads files.old + length (files_of (Some (command_of command.entry))) }
     ensures written { K.writes out.new ≡ one_more (K.writes out.old) }
 {
     match command {
@@ -181,6 +186,7 @@ fn answer<R: Wait, F: Files, K: Sink, D: Dialer>(
     ensures gateway { (names : GatewayWords) → asked (map string_bytes words.now) ≡ Some (AskedGateway names) → RunsGateway names (F.file files.old) (F.faults files.old) (F.faults files.new) (record { faults = D.faults dial.old; dials = D.dials dial.old; given = D.given dial.old; link_back = D.link_back dial.old; port_back = D.port_back dial.old }) (record { faults = D.faults dial.new; dials = D.dials dial.new; given = D.given dial.new; link_back = D.link_back dial.new; port_back = D.port_back dial.new }) sim.old sim.new (RepliesServed (K.faults out.old) (K.faults out.new) (K.taken out.old) (K.taken out.new) result) }
     ensures undialled { ((names : DownloadWords) → asked (map string_bytes words.now) ≢ Some (AskedDownload names)) → ((names : GatewayWords) → asked (map string_bytes words.now) ≢ Some (AskedGateway names)) → dial.new ≡ dial.old }
     ensures stays { (other : List ℕ) → F.file files.new other ≡ F.file files.old other }
+    ensures reads { F.reads files.new ≤ F.reads files.old + length (files_of (asked (map string_bytes words.now))) }
     ensures written { K.writes out.new ≡ one_more (K.writes out.old) }
 {
     match asked(words) {
@@ -226,7 +232,7 @@ pub fn knx<R: Wait, F: Files, K: Sink, D: Dialer>(
     ensures thorough { HasRunOf EndsThoroughly (map string_bytes words.now) (F.file files.old) sim.old (record { line = sim.new; report = last.new }) }
     // it asks the gateway to end the open channel only when all jobs are over: then once, after the listening
     ensures leaves { HasRunOf LeavesItsChannel (map string_bytes words.now) (F.file files.old) sim.old (record { line = sim.new; report = last.new }) }
-    // a run ends without its end exactly at a cause, and else every job has its end and the closing is over
+    // a run that breaks off has its cause in the record; else there is none in the end, every job has its end and the closing is over
     ensures fault { HasRunOf HasFaultRight (map string_bytes words.now) (F.file files.old) sim.old (record { line = sim.new; report = last.new }) }
     ensures over { HasRunOf EndsEveryJob (map string_bytes words.now) (F.file files.old) sim.old (record { line = sim.new; report = last.new }) }
     ensures closed { HasRunOf ClosesToItsEnd (map string_bytes words.now) (F.file files.old) sim.old (record { line = sim.new; report = last.new }) }
@@ -238,8 +244,9 @@ pub fn knx<R: Wait, F: Files, K: Sink, D: Dialer>(
     ensures line { ((names : SimWords) → asked (map string_bytes words.now) ≢ Some (AskedSim names)) → ((names : GatewayWords) → asked (map string_bytes words.now) ≢ Some (AskedGateway names)) → sim.new ≡ sim.old }
     ensures undialled { ((names : DownloadWords) → asked (map string_bytes words.now) ≢ Some (AskedDownload names)) → ((names : GatewayWords) → asked (map string_bytes words.now) ≢ Some (AskedGateway names)) → dial.new ≡ dial.old }
     ensures no_run { ((names : SimWords) → asked (map string_bytes words.now) ≢ Some (AskedSim names)) → ((names : DownloadWords) → asked (map string_bytes words.now) ≢ Some (AskedDownload names)) → last.new ≡ None }
-    // what the files tell stays, the count of one file rose at most, and there is just one write
+    // what the files tell stays, there are at most as many reads as the words name files, the count of one file rose at most, and there is just one write
     ensures files { (name : List ℕ) → F.file files.new name ≡ F.file files.old name }
+    ensures reads { F.reads files.new ≤ F.reads files.old + length (files_of (asked (map string_bytes words.now))) }
     ensures faults { AtMostOneRose (F.faults files.old) (F.faults files.new) }
     ensures written { K.writes out.new ≡ one_more (K.writes out.old) }
 {

@@ -1,6 +1,6 @@
 //! `download`: the jobs of a project over a dialled link, which is handed back to the dialer before the call answers.
 
-ghost use Rattle.std.specs.Prelude.{◌≡◌, ◌≢◌, ◌≤◌, ◌<◌, ℕ, Some, Err, IfErr, IfOk, List as Seq, length, map};
+ghost use Rattle.std.specs.Prelude.{◌≡◌, ◌≢◌, ◌≤◌, ◌<◌, ◌+◌, ℕ, Some, Err, IfErr, IfOk, List as Seq, length, map};
 ghost use Rattle.std.specs.List.{AllByRecursion};
 ghost use Rattle.knx_model.specs.declared.command.Stop.TheVariants.{NoMemory as OutOfMemory};
 ghost use Rattle.knx_model.specs.Outside.{one_more};
@@ -8,6 +8,7 @@ ghost use Rattle.line_model.specs.Headline.{IsGoodJob};
 ghost use Rattle.line_model.specs.LinkStory.{IsNewLink};
 ghost use Rattle.knx_top.specs.Command.{HasFewJobs, most_jobs};
 ghost use Rattle.knx_top.specs.Dialled.{DialEnd, Dials, DialsOr, Download, HasItsCause, IsToldOver, RepliesEnd, RunsDialled, judged_download, report_of, with_project};
+ghost use Rattle.knx_top.specs.Input.{files_of_download};
 ghost use Rattle.knx_top.specs.Jobs.{seen_job};
 ghost use Rattle.knx_top.specs.Names.{address_of, download_words_of, options_of};
 ghost use Rattle.knx_top.specs.Ready.{IsReady, IsTextOfEnd, ReadyFor, RepliesEndOf, end_of};
@@ -212,6 +213,7 @@ pub fn tell_download<R: Wait, F: Files, K: Sink, D: Dialer>(
     requires { HasFewJobs (options_of names.options) }
     ensures told { RunsDialled (download_words_of names.entry) (F.file files.old) (F.faults files.old) (F.faults files.new) (record { faults = D.faults dial.old; dials = D.dials dial.old; given = D.given dial.old; link_back = D.link_back dial.old; port_back = D.port_back dial.old }) (record { faults = D.faults dial.new; dials = D.dials dial.new; given = D.given dial.new; link_back = D.link_back dial.new; port_back = D.port_back dial.new }) last.new (RepliesEnd (K.faults out.old) (K.faults out.new) (K.taken out.old) (K.taken out.new) result) }
     ensures stays { (other : Seq ℕ) → F.file files.new other ≡ F.file files.old other }
+    ensures reads { F.reads files.new ≤ F.reads files.old + length (files_of_download (download_words_of names.entry)) }
     ensures written { K.writes out.new ≡ one_more (K.writes out.old) }
 {
     let texts = read_project_texts(alloc, files, names.project());

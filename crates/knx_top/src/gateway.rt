@@ -1,12 +1,13 @@
 //! `gateway`: the simulated line served at a port, which is handed back to the dialer before the call answers.
 
-ghost use Rattle.std.specs.Prelude.{◌≡◌, ◌≢◌, ℕ, Err, IfErr, IfOk, List as Seq};
+ghost use Rattle.std.specs.Prelude.{◌≡◌, ◌≢◌, ◌≤◌, ◌+◌, ℕ, Err, IfErr, IfOk, List as Seq, length};
 ghost use Rattle.knx_model.specs.declared.command.Stop.TheVariants.{NoMemory as OutOfMemory};
 ghost use Rattle.knx_model.specs.Outside.{one_more};
 ghost use Rattle.line_model.specs.PortStory.{IsNewPort};
 ghost use Rattle.knx_top.specs.Begun.{BeginsLine};
 ghost use Rattle.knx_top.specs.Bound.{IsTextOfEnd, LineFor, RepliesServedOf, end_of, end_of_fault, end_of_serving};
 ghost use Rattle.knx_top.specs.Gateway.{GatewayEnd, RepliesServed, RunsGateway, Serves, ServesOr, Service, Serving, judged_gateway, open_line, with_lines};
+ghost use Rattle.knx_top.specs.Input.{files_of_gateway};
 ghost use Rattle.knx_top.specs.Names.{address_of, gateway_words_of};
 
 use crate::command::GatewayNames;
@@ -200,6 +201,7 @@ pub fn tell_gateway<F: Files, K: Sink, D: Dialer>(
 ) -> Status
     ensures told { RunsGateway (gateway_words_of names.entry) (F.file files.old) (F.faults files.old) (F.faults files.new) (record { faults = D.faults dial.old; dials = D.dials dial.old; given = D.given dial.old; link_back = D.link_back dial.old; port_back = D.port_back dial.old }) (record { faults = D.faults dial.new; dials = D.dials dial.new; given = D.given dial.new; link_back = D.link_back dial.new; port_back = D.port_back dial.new }) sim.old sim.new (RepliesServed (K.faults out.old) (K.faults out.new) (K.taken out.old) (K.taken out.new) result) }
     ensures stays { (other : Seq ℕ) → F.file files.new other ≡ F.file files.old other }
+    ensures reads { F.reads files.new ≤ F.reads files.old + length (files_of_gateway (gateway_words_of names.entry)) }
     ensures written { K.writes out.new ≡ one_more (K.writes out.old) }
 {
     let texts = read_gateway_texts(alloc, files, names);

@@ -1,7 +1,7 @@
 //! The files of a call are read, up to the first read that is refused.
 
-ghost use Rattle.std.specs.Prelude.{◌≡◌, ℕ, List, Some, true};
-ghost use Rattle.knx_top.specs.Input.{GatewayIsRead, IsRead, OnlyRose, ProjectIsRead, SimIsRead, failed, failed_of_gateway, failed_of_project, failed_of_sim, goes_on};
+ghost use Rattle.std.specs.Prelude.{◌≡◌, ◌≤◌, ◌+◌, ℕ, List, Some, length, option_to_list, true};
+ghost use Rattle.knx_top.specs.Input.{GatewayIsRead, IsRead, OnlyRose, ProjectIsRead, SimIsRead, failed, failed_of_gateway, failed_of_project, failed_of_sim, files_of_gateway, files_of_project, files_of_sim, goes_on};
 ghost use Rattle.knx_top.specs.Names.{gateway_words_of, named, project_words_of, sim_words_of};
 
 use crate::command::{GatewayNames, ProjectNames, SimNames};
@@ -63,6 +63,7 @@ fn read<F: Files>(alloc: Global, files: &mut F, name: &str) -> Reading
     ensures read { IsRead (F.file files.old) true (Some name.now) result }
     ensures counts { OnlyRose (failed (Some name.now) result) (F.faults files.old) (F.faults files.new) }
     ensures stays { (other : List ℕ) → F.file files.new other ≡ F.file files.old other }
+    ensures reads { F.reads files.new ≤ F.reads files.old + 1 }
 {
     match files.read(alloc, name, LIMIT) {
         Ok(octets) => Reading::Whole(octets),
@@ -75,6 +76,7 @@ fn read_named<F: Files>(alloc: Global, files: &mut F, name: Option<&str>) -> Rea
     ensures read { IsRead (F.file files.old) true (named name.entry) result }
     ensures counts { OnlyRose (failed (named name.entry) result) (F.faults files.old) (F.faults files.new) }
     ensures stays { (other : List ℕ) → F.file files.new other ≡ F.file files.old other }
+    ensures reads { F.reads files.new ≤ F.reads files.old + length (option_to_list (named name.entry)) }
 {
     match name {
         None => Reading::Unnamed,
@@ -87,6 +89,7 @@ fn read_after<F: Files>(alloc: Global, files: &mut F, before: &Reading, name: &s
     ensures read { IsRead (F.file files.old) (goes_on before.now) (Some name.now) result }
     ensures counts { OnlyRose (failed (Some name.now) result) (F.faults files.old) (F.faults files.new) }
     ensures stays { (other : List ℕ) → F.file files.new other ≡ F.file files.old other }
+    ensures reads { F.reads files.new ≤ F.reads files.old + 1 }
 {
     if goes_on(before) {
         read(alloc, files, name)
@@ -104,6 +107,7 @@ pub fn read_project_texts<F: Files>(
     ensures read { ProjectIsRead (F.file files.old) (project_words_of names.entry) result }
     ensures counts { OnlyRose (failed_of_project (project_words_of names.entry) result) (F.faults files.old) (F.faults files.new) }
     ensures stays { (other : List ℕ) → F.file files.new other ≡ F.file files.old other }
+    ensures reads { F.reads files.new ≤ F.reads files.old + length (files_of_project (project_words_of names.entry)) }
 {
     let catalogue = read_named(alloc, files, names.catalogue);
     let project = read_after(alloc, files, &catalogue, names.project);
@@ -115,6 +119,7 @@ pub fn read_sim_texts<F: Files>(alloc: Global, files: &mut F, names: SimNames<'_
     ensures read { SimIsRead (F.file files.old) (sim_words_of names.entry) result }
     ensures counts { OnlyRose (failed_of_sim (sim_words_of names.entry) result) (F.faults files.old) (F.faults files.new) }
     ensures stays { (other : List ℕ) → F.file files.new other ≡ F.file files.old other }
+    ensures reads { F.reads files.new ≤ F.reads files.old + length (files_of_sim (sim_words_of names.entry)) }
 {
     let catalogue = read_named(alloc, files, names.options.catalogue);
     let new = read_after(alloc, files, &catalogue, names.new);
@@ -137,6 +142,7 @@ pub fn read_gateway_texts<F: Files>(
     ensures read { GatewayIsRead (F.file files.old) (gateway_words_of names.entry) result }
     ensures counts { OnlyRose (failed_of_gateway (gateway_words_of names.entry) result) (F.faults files.old) (F.faults files.new) }
     ensures stays { (other : List ℕ) → F.file files.new other ≡ F.file files.old other }
+    ensures reads { F.reads files.new ≤ F.reads files.old + length (files_of_gateway (gateway_words_of names.entry)) }
 {
     let catalogue = read_named(alloc, files, names.catalogue);
     let old = read_after(alloc, files, &catalogue, names.old);

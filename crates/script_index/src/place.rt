@@ -24,7 +24,7 @@ pub enum Kind {
 }
 
 /// A place: what happens there, at which device, and at its n-th datagram, frame or write; 0 where the kind has none.
-#[derive(Clone, Copy, Debug, PartialEq, Eq, PartialOrd, Ord)]
+#[derive(Clone, Copy, PartialEq, Eq, PartialOrd, Ord)]
 pub struct Place {
     /// The `Kind` as a number, by which places are sorted.
     kind: u8,

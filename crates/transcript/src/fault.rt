@@ -4,11 +4,12 @@ use knx_model::NoMemory;
 use std::alloc::{AllocError, AllocFailed};
 use std::io;
 
-/// There was no memory, or the input or the output failed.
+/// There was no memory, the input or the output failed, or a word of a line that sets up a call isn't what it has to be.
 #[derive(Debug, Drop)]
 pub enum Fault {
     NoMemory(NoMemory),
     Io(io::Error),
+    Words,
 }
 
 impl From<NoMemory> for Fault {

@@ -67,10 +67,15 @@ impl Outside {
     }
 }
 
+/// The number of a word.
+fn number_of(word: &str) -> Result<u64, Fault> {
+    word.parse::<u64>().ok().ok_or(Fault::Words)
+}
+
 /// Adds the numbers that stand between spaces.
 fn put_numbers(words: &str, numbers: &mut Vec<u64>) -> Result<(), Fault> {
     for word in words.split_whitespace() {
-        numbers.push(word.parse::<u64>().unwrap_or(0))?;
+        numbers.push(number_of(word)?)?;
     }
     Ok(())
 }
@@ -83,7 +88,7 @@ fn link_of(alloc: Global, words: &str) -> Result<FixedLink, Fault>
     let mut fails = List::new(alloc);
     for word in words.split_whitespace() {
         match word.strip_prefix("fail:") {
-            Some(number) => fails.push(number.parse::<u64>().unwrap_or(0))?,
+            Some(number) => fails.push(number_of(number)?)?,
             None => last = Some(hex_octets(alloc, word)?),
         }
     }
@@ -98,7 +103,7 @@ fn port_of(alloc: Global, words: &str) -> Result<FixedPort, Fault>
     let mut fails = List::new(alloc);
     for word in words.split_whitespace() {
         match word.strip_prefix("fail:") {
-            Some(number) => fails.push(number.parse::<u64>().unwrap_or(0))?,
+            Some(number) => fails.push(number_of(number)?)?,
             None => gives.push((0, hex_octets(alloc, word)?))?,
         }
     }

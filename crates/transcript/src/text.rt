@@ -67,18 +67,20 @@ fn hex_octet(octets: &[u8]) -> Option<(u8, &[u8])> {
     Some(((high * 16 + low) as u8, rest))
 }
 
-/// The octets of a word of hexadecimal digits, two each, up to where it isn't one.
+/// The octets of a word of hexadecimal digits, two each.
 pub fn hex_octets(alloc: Global, word: &str) -> Result<Octets, Fault> {
     let mut out = Octets::new(alloc);
     let mut rest = word.as_bytes();
-    for _ in 0..word.len() {
-        let Some((octet, after)) = hex_octet(rest) else {
-            break;
-        };
+    for _ in 0..word.len() / 2 {
+        let (octet, after) = hex_octet(rest).ok_or(Fault::Words)?;
         out.push(octet)?;
         rest = after;
     }
-    Ok(out)
+    if rest.is_empty() {
+        Ok(out)
+    } else {
+        Err(Fault::Words)
+    }
 }
 
 /// The next octet of a text with escapes, and what follows it.

@@ -6,7 +6,7 @@ ghost use Rattle.tunnel_link.specs.Adds.{is_told};
 use crate::came::Loss;
 
 /// What was done where a wait had passed.
-#[derive(Clone, Copy, Debug, Drop, PartialEq, Eq)]
+#[derive(Clone, Copy, Drop)]
 pub struct Acted {
     /// Something was sent.
     pub sent: bool,

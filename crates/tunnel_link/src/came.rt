@@ -6,7 +6,7 @@ ghost use Rattle.tunnel_link.specs.Kept.{only, with_datagram};
 use knx_model::{Datagram, IndAddr, Ldata};
 
 /// What became of the channel.
-#[derive(Clone, Copy, Debug, Drop, PartialEq, Eq)]
+#[derive(Clone, Copy, Drop)]
 pub enum Loss {
     /// It wasn't lost.
     Stays,

@@ -8,7 +8,7 @@ const CONFIRMATION_WAIT_MS: u64 = 3_000;
 
 /// What the client knows of the request that it put last in its channel: when it was acknowledged, and whether it is confirmed. Before
 /// the first one all is confirmed.
-#[derive(Clone, Copy, Debug, Drop, PartialEq, Eq)]
+#[derive(Clone, Copy, Drop)]
 pub struct Flight {
     pub acknowledged: Option<u64>,
     pub confirmed: bool,

@@ -34,7 +34,7 @@ use std::alloc::Global;
 pub use turn::Turn;
 
 /// Who put the request that isn't confirmed.
-#[derive(Clone, Copy, Debug, Drop, PartialEq, Eq)]
+#[derive(Clone, Copy, Drop, PartialEq, Eq)]
 pub enum Sender {
     Nobody,
     Worker(u8),

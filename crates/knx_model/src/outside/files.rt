@@ -1,7 +1,7 @@
 //! Files that are read by their names.
 
 ghost use Rattle.std.specs.Prelude.{◌≡◌, ◌≢◌, ℕ, List, Err};
-ghost use Rattle.knx_model.specs.Outside.{FileContent, MayRead, Rose};
+ghost use Rattle.knx_model.specs.Outside.{FileContent, MayRead, Rose, one_more};
 ghost use Rattle.knx_model.specs.declared.outside.files.FileFault.TheVariants.{Failed};
 
 use crate::lists::Octets;
@@ -34,6 +34,9 @@ pub trait Files: Drop {
     /// How many reads of the file of a name failed; it never falls.
     ghost faults: { Self → List ℕ → ℕ };
 
+    /// How many reads there were.
+    ghost reads: { Self → ℕ };
+
     /// What is told of the file of a name.
     ghost file: { Self → List ℕ → FileContent };
 
@@ -43,5 +46,6 @@ pub trait Files: Drop {
         ensures failed { result ≡ Err Failed → Rose (faults self.old name.now) (faults self.new name.now) }
         ensures still { result ≢ Err Failed → (other : List ℕ) → faults self.new other ≡ faults self.old other }
         ensures others { (other : List ℕ) → other ≢ name.now → faults self.new other ≡ faults self.old other }
-        ensures stays { (other : List ℕ) → file self.new other ≡ file self.old other };
+        ensures stays { (other : List ℕ) → file self.new other ≡ file self.old other }
+        ensures counted { reads self.new ≡ one_more (reads self.old) };
 }

@@ -87,6 +87,8 @@ impl Files for MemoryFiles {
 
     ghost faults = { λ f name. faults_of f.files.items name };
 
+    ghost reads = { λ f. f.calls };
+
     ghost file = { λ f name. content_of f.files.items name };
 
     fn read(&mut self, alloc: Global, name: &str, limit: usize) -> Result<Octets, FileFault>
@@ -95,8 +97,8 @@ impl Files for MemoryFiles {
         ensures still { result ≢ Err Failed → (other : List ℕ) → faults_of self.new.files.items other ≡ faults_of self.old.files.items other }
         ensures others { (other : List ℕ) → other ≢ name.now → faults_of self.new.files.items other ≡ faults_of self.old.files.items other }
         ensures stays { (other : List ℕ) → content_of self.new.files.items other ≡ content_of self.old.files.items other }
+        ensures counted { self.new.calls ≡ one_more self.old.calls }
         // the calls in the list are those that fail, where there is such a file
-        ensures calls { self.new.calls ≡ one_more self.old.calls }
         ensures listed { self.new.failing.items ≡ self.old.failing.items }
         ensures fails { (result ≡ Err Failed) ↔ (Contains self.old.failing.items self.new.calls × (content_of self.old.files.items name.now ≢ Absent)) }
         ensures counts { result ≡ Err Failed → self.new.files.items ≡ with_fault name.now self.old.files.items }

@@ -1,61 +1,77 @@
+use Rattle.knx_cli.proofs.Exit.{told, numbered}
 use Rattle.knx_cli.proofs.ended.status_of.Goals as goal
 
 pub returns-in-Ok-clause-usage : goal.returns-in-Ok-clause-usage
-returns-in-Ok-clause-usage g c = rw (c.in-Ok.is, ← c.as_slice.ensures.value) c.ended.ensures.usage
+returns-in-Ok-clause-usage g c = rw (c.in-Ok.is, ← c.as_slice.ensures.value, told c.knx.result c.number.result c.number.ensures) c.knx.ensures.usage
 
 pub returns-in-Ok-clause-old_stopped_or_new : goal.returns-in-Ok-clause-old_stopped_or_new
-returns-in-Ok-clause-old_stopped_or_new g c = rw (c.in-Ok.is, ← c.as_slice.ensures.value) c.ended.ensures.old_stopped_or_new
+returns-in-Ok-clause-old_stopped_or_new g c = rw (c.in-Ok.is, ← c.as_slice.ensures.value) c.knx.ensures.old_stopped_or_new
 
 pub returns-in-Ok-clause-begins : goal.returns-in-Ok-clause-begins
-returns-in-Ok-clause-begins g c = rw (c.in-Ok.is, ← c.as_slice.ensures.value) c.ended.ensures.begins
+returns-in-Ok-clause-begins g c = rw (c.in-Ok.is, ← c.as_slice.ensures.value) c.knx.ensures.begins
 
 pub returns-in-Ok-clause-telegrams : goal.returns-in-Ok-clause-telegrams
-returns-in-Ok-clause-telegrams g c = rw (c.in-Ok.is, ← c.as_slice.ensures.value) c.ended.ensures.telegrams
+returns-in-Ok-clause-telegrams g c = rw (c.in-Ok.is, ← c.as_slice.ensures.value) c.knx.ensures.telegrams
 
 pub returns-in-Ok-clause-done : goal.returns-in-Ok-clause-done
-returns-in-Ok-clause-done g c = rw (c.in-Ok.is, ← c.as_slice.ensures.value) c.ended.ensures.done
+returns-in-Ok-clause-done g c = rw (c.in-Ok.is, ← c.as_slice.ensures.value) c.knx.ensures.done
 
 pub returns-in-Ok-clause-once : goal.returns-in-Ok-clause-once
-returns-in-Ok-clause-once g c = rw (c.in-Ok.is, ← c.as_slice.ensures.value) c.ended.ensures.once
+returns-in-Ok-clause-once g c = rw (c.in-Ok.is, ← c.as_slice.ensures.value) c.knx.ensures.once
 
 pub returns-in-Ok-clause-told : goal.returns-in-Ok-clause-told
-returns-in-Ok-clause-told g c = rw (c.in-Ok.is, ← c.as_slice.ensures.value) c.ended.ensures.told
+returns-in-Ok-clause-told g c = rw (c.in-Ok.is, ← c.as_slice.ensures.value) c.knx.ensures.told
 
 pub returns-in-Ok-clause-fault : goal.returns-in-Ok-clause-fault
-returns-in-Ok-clause-fault g c = rw (c.in-Ok.is, ← c.as_slice.ensures.value) c.ended.ensures.fault
+returns-in-Ok-clause-fault g c = rw (c.in-Ok.is, ← c.as_slice.ensures.value) c.knx.ensures.fault
 
 pub returns-in-Ok-clause-over : goal.returns-in-Ok-clause-over
-returns-in-Ok-clause-over g c = rw (c.in-Ok.is, ← c.as_slice.ensures.value) c.ended.ensures.over
+returns-in-Ok-clause-over g c = rw (c.in-Ok.is, ← c.as_slice.ensures.value) c.knx.ensures.over
 
 pub returns-in-Ok-clause-closed : goal.returns-in-Ok-clause-closed
-returns-in-Ok-clause-closed g c = rw (c.in-Ok.is, ← c.as_slice.ensures.value) c.ended.ensures.closed
+returns-in-Ok-clause-closed g c = rw (c.in-Ok.is, ← c.as_slice.ensures.value) c.knx.ensures.closed
 
 pub returns-in-Ok-clause-seats : goal.returns-in-Ok-clause-seats
-returns-in-Ok-clause-seats g c = rw (c.in-Ok.is, ← c.as_slice.ensures.value) c.ended.ensures.seats
+returns-in-Ok-clause-seats g c = rw (c.in-Ok.is, ← c.as_slice.ensures.value) c.knx.ensures.seats
 
 pub returns-in-Ok-clause-link : goal.returns-in-Ok-clause-link
-returns-in-Ok-clause-link g c = rw (c.in-Ok.is, ← c.as_slice.ensures.value) c.ended.ensures.link
+returns-in-Ok-clause-link g c = rw (c.in-Ok.is, ← c.as_slice.ensures.value) c.knx.ensures.link
 
 pub returns-in-Ok-clause-download : goal.returns-in-Ok-clause-download
-returns-in-Ok-clause-download g c = rw (c.in-Ok.is, ← c.as_slice.ensures.value) c.ended.ensures.download
+returns-in-Ok-clause-download g c = rw (c.in-Ok.is, ← c.as_slice.ensures.value, told c.knx.result c.number.result c.number.ensures) c.knx.ensures.download
 
 pub returns-in-Ok-clause-thorough : goal.returns-in-Ok-clause-thorough
-returns-in-Ok-clause-thorough g c = rw (c.in-Ok.is, ← c.as_slice.ensures.value) c.ended.ensures.thorough
+returns-in-Ok-clause-thorough g c = rw (c.in-Ok.is, ← c.as_slice.ensures.value) c.knx.ensures.thorough
 
 pub returns-in-Ok-clause-leaves : goal.returns-in-Ok-clause-leaves
-returns-in-Ok-clause-leaves g c = rw (c.in-Ok.is, ← c.as_slice.ensures.value) c.ended.ensures.leaves
+returns-in-Ok-clause-leaves g c = rw (c.in-Ok.is, ← c.as_slice.ensures.value) c.knx.ensures.leaves
 
 pub returns-in-Ok-clause-gateway : goal.returns-in-Ok-clause-gateway
-returns-in-Ok-clause-gateway g c = rw (c.in-Ok.is, ← c.as_slice.ensures.value) c.ended.ensures.gateway
+returns-in-Ok-clause-gateway g c = rw (c.in-Ok.is, ← c.as_slice.ensures.value, told c.knx.result c.number.result c.number.ensures) c.knx.ensures.gateway
 
 pub returns-in-Ok-clause-line : goal.returns-in-Ok-clause-line
-returns-in-Ok-clause-line g c = rw (c.in-Ok.is, ← c.as_slice.ensures.value) c.ended.ensures.line
+returns-in-Ok-clause-line g c = rw (c.in-Ok.is, ← c.as_slice.ensures.value) c.knx.ensures.line
 
 pub returns-in-Ok-clause-undialled : goal.returns-in-Ok-clause-undialled
-returns-in-Ok-clause-undialled g c = rw (c.in-Ok.is, ← c.as_slice.ensures.value) c.ended.ensures.undialled
+returns-in-Ok-clause-undialled g c = rw (c.in-Ok.is, ← c.as_slice.ensures.value) c.knx.ensures.undialled
 
 pub returns-in-Ok-clause-no_run : goal.returns-in-Ok-clause-no_run
-returns-in-Ok-clause-no_run g c = rw (c.in-Ok.is, ← c.as_slice.ensures.value) c.ended.ensures.no_run
+returns-in-Ok-clause-no_run g c = rw (c.in-Ok.is, ← c.as_slice.ensures.value) c.knx.ensures.no_run
 
 pub returns-in-Ok-clause-faults : goal.returns-in-Ok-clause-faults
-returns-in-Ok-clause-faults g c = rw c.in-Ok.is c.ended.ensures.faults
+returns-in-Ok-clause-faults g c = rw c.in-Ok.is c.knx.ensures.faults
+
+pub returns-in-Ok-clause-check : goal.returns-in-Ok-clause-check
+returns-in-Ok-clause-check g c = rw (c.in-Ok.is, ← c.as_slice.ensures.value, told c.knx.result c.number.result c.number.ensures) c.knx.ensures.check
+
+pub returns-in-Ok-clause-tables : goal.returns-in-Ok-clause-tables
+returns-in-Ok-clause-tables g c = rw (c.in-Ok.is, ← c.as_slice.ensures.value, told c.knx.result c.number.result c.number.ensures) c.knx.ensures.tables
+
+pub returns-in-Ok-clause-decode : goal.returns-in-Ok-clause-decode
+returns-in-Ok-clause-decode g c = rw (c.in-Ok.is, ← c.as_slice.ensures.value, told c.knx.result c.number.result c.number.ensures) c.knx.ensures.decode
+
+pub returns-in-Ok-clause-sim : goal.returns-in-Ok-clause-sim
+returns-in-Ok-clause-sim g c = rw (c.in-Ok.is, ← c.as_slice.ensures.value, told c.knx.result c.number.result c.number.ensures) c.knx.ensures.sim
+
+pub returns-in-Ok-clause-numbered : goal.returns-in-Ok-clause-numbered
+returns-in-Ok-clause-numbered g c = numbered c.knx.result c.number.result c.number.ensures
