@@ -49,7 +49,7 @@ pub record GatewayIsRead (file : List ℕ → FileContent) (words : GatewayWords
   pub old : IsRead file (goes_on texts.catalogue) (Some words.old) texts.old
   pub script : IsRead file (goes_on texts.old) (Some words.script) texts.script
 
--- ---- the files that words name, in the order in which they are read; each is read once at most
+-- ---- the files that words name, in the order in which they are read
 
 abbrev pub files_of_project : ProjectWords → List (List ℕ)
 files_of_project words = option_to_list words.catalogue ++ words.project ∷ []
