@@ -12,6 +12,7 @@ use std::alloc::Global;
 
 mod begin;
 mod datagrams;
+mod examples;
 mod failing;
 mod line;
 mod polls;
