@@ -1,5 +1,18 @@
 //! The simulated line: a whole line in memory, gateway, bus and devices, that loses, repeats, tears, wears, closes and cuts just where a script says
 //! so. It is driven as a link, or serves at a port.
+//!
+//! ```
+//! /// A line with one blank device, on which nothing goes wrong.
+//! fn blank_line(alloc: Global) -> Result<SimBus, Refused> {
+//!     let script = Script {
+//!         lines: List::new(alloc),
+//!     };
+//!     let mut line = SimBus::empty(alloc);
+//!     line.load(alloc, TUNNEL, &[(DEVICE, None)], &script)?;
+//!     line.keeps(); // what each run keeps, for the proofs of its caller
+//!     Ok(line)
+//! }
+//! ```
 #![tactic(auto)]
 
 mod again;

@@ -1,5 +1,17 @@
 //! The downloader of one job: three attempts, each over a numbered connection (ISO/IEC 14543-3-2, transport layer), and each through the
 //! job's plan from its first operation on. It is a value that is told frames, confirmations and times, and that answers what is to be sent.
+//!
+//! ```
+//! /// A load goes on until a frame is to be sent: with T_Connect at 0 ms, and when that is confirmed at 20 ms, with the first operation of the plan.
+//! fn first_frames(device: IndAddr, image: Image) -> (Did, Did)
+//!     requires { Fits image }
+//! {
+//!     let mut downloader = Downloader::new(device, JobPlan::Load(LoadPlan::of(image)));
+//!     let connect = downloader.step(0);
+//!     downloader.confirmed(false, 20);
+//!     (connect, downloader.step(20))
+//! }
+//! ```
 #![tactic(auto)]
 
 mod did;

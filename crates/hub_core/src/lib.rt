@@ -1,5 +1,21 @@
 //! The hub: all jobs of a line and its group telegrams over one tunnel, call by call, from whichever worker, with nothing on the wire but
 //! what the jobs ask for.
+//!
+//! ```
+//! /// Does all jobs as the hub's only worker, in so many turns at most: it polls where a turn has nothing to do.
+//! fn work<L: Link>(hub: &mut Hub<L>, turns: u32) -> Result<bool, HubFault> {
+//!     for _ in 0..turns {
+//!         match hub.turn(1)? {
+//!             Turned::NoMore => return Ok(true),
+//!             Turned::Wait | Turned::Later => {
+//!                 hub.pump()?;
+//!             }
+//!             _ => {}
+//!         }
+//!     }
+//!     Ok(false)
+//! }
+//! ```
 #![tactic(auto)]
 
 mod end;

@@ -9,6 +9,8 @@ mod channels;
 #[cfg(test)]
 mod downloads;
 #[cfg(test)]
+mod examples;
+#[cfg(test)]
 mod fixed;
 #[cfg(test)]
 mod gateways;

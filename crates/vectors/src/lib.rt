@@ -9,6 +9,8 @@ mod datagrams;
 #[cfg(test)]
 mod devices;
 #[cfg(test)]
+mod examples;
+#[cfg(test)]
 mod field_words;
 #[cfg(test)]
 mod line_reports;
