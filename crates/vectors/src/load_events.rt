@@ -1,7 +1,7 @@
 //! Each load event in each load state.
 
 use LoadState::{Error, Loaded, Loading, Unloaded};
-use load_machine::{LoadMachine, LoadState, LoadableObject, load_event};
+use load_machine::{LoadState, LoadableObject, Loads};
 use std::process::Abort;
 
 const NONE: [u8; 10] = [0; 10];
@@ -29,28 +29,21 @@ const OTHER_MARK: [u8; 10] = [3, 0x0B, 0, 0, 0, 1, 0, 0, 0, 0];
 
 const OTHER_END: [u8; 10] = [3, 0x0B, 0, 0, 0, 1, 1, 0, 0, 1];
 
-/// The load machine of the group objects takes the load event that these octets ask for.
-fn take(machine: &mut LoadMachine, octets: &[u8; 10]) {
-    machine.load(
-        load_event(octets.as_slice()),
-        LoadableObject::GroupObjects.capacity(),
-    );
-}
-
 /// The group objects with four octets in their segment, Loaded, Loading and in Error, and with none, Unloaded.
-fn in_state(state: LoadState) -> LoadMachine {
-    let mut machine = LoadMachine::unloaded();
+fn in_state(state: LoadState) -> Loads {
+    let mut loads = Loads::blank();
+    let object = LoadableObject::GroupObjects;
     if state != Unloaded {
-        take(&mut machine, &START);
-        take(&mut machine, &FOUR);
+        loads.event(object, &START);
+        loads.event(object, &FOUR);
     }
     if state == Loaded {
-        take(&mut machine, &COMPLETED);
+        loads.event(object, &COMPLETED);
     }
     if state == Error {
-        take(&mut machine, &OTHER);
+        loads.event(object, &OTHER);
     }
-    machine
+    loads
 }
 
 /// The four states, and the lengths of the segments in them.
@@ -60,12 +53,15 @@ const LENGTHS: [u16; 4] = [0, 4, 4, 4];
 
 /// Fails where the event doesn't leave these states and lengths of the four states.
 fn assert_leaves(rt: &impl Abort, event: &[u8; 10], states: [LoadState; 4], lengths: [u16; 4]) {
+    let object = LoadableObject::GroupObjects;
     for at in 0..4 {
         let before = STATES[at];
-        let mut machine = in_state(before);
-        take(&mut machine, event);
-        let left = (machine.state(), machine.len());
+        let mut loads = in_state(before);
+        loads.event(object, event);
+        let left = (loads.state(object), loads.segment(object).len);
         assert_eq!(rt; left, (states[at], lengths[at]), "{before:?} at {event:?}");
+        assert_eq!(rt; loads.segment(object).base, 0x7000);
+        assert_eq!(rt; loads.state(LoadableObject::Application), Unloaded);
     }
 }
 
