@@ -9,7 +9,7 @@ use Rattle.hub_driver.specs.Heard.{HeardAll}
 use Rattle.hub_driver.specs.Leaving.{LeavesOver}
 use Rattle.call_words.specs.declared.stop.Stop.{Stop}
 use Rattle.call_words.specs.declared.job_word.JobWord.{JobWord}
-use Rattle.knx_model.specs.Outside.{FileContent, one_more}
+use Rattle.knx_model.specs.Outside.{FilesNow, one_more}
 use Rattle.knx_model.specs.Meaning.{Installation}
 use Rattle.line_model.specs.declared.log.LogEntry.{LogEntry}
 use Rattle.line_model.specs.declared.log.Report.{Report}
@@ -128,10 +128,10 @@ report_wants (Shown report words log) = refl
 
 -- ---- the whole of it
 
-from_end : (words : DownloadWords) (file : List ℕ → FileContent) (faults faults' : List ℕ → ℕ) (before after : DialerNow) (report : Option Report) (Replied : DialEnd → Type 0) (texts : ProjectTexts) (ending : DialEnd)
-    → ProjectIsRead file (project_named words) texts → OnlyRose (failed_of_project (project_named words) texts) faults faults' → DialsOr (judged_download words texts) before after ending → report ≡ report_of ending → Replied ending
-    → RunsDialled words file faults faults' before after report Replied
-from_end words file faults faults' before after report Replied texts ending is counts comes report_is replied =
+from_end : (words : DownloadWords) (files files' : FilesNow) (before after : DialerNow) (report : Option Report) (Replied : DialEnd → Type 0) (texts : ProjectTexts) (ending : DialEnd)
+    → ProjectIsRead files.file (project_named words) texts → OnlyRose (failed_of_project (project_named words) texts) files.faults files'.faults → DialsOr (judged_download words texts) before after ending → report ≡ report_of ending → Replied ending
+    → RunsDialled words files files' before after report Replied
+from_end words files files' before after report Replied texts ending is counts comes report_is replied =
     let came : DialsOr (unless_stopped (download_tests words texts) (download_told words texts)) before after ending = subst (λ (j : Result Download Stop). DialsOr j before after ending) (judged_download_is words texts) comes in
     record {
       texts = texts;
@@ -144,33 +144,33 @@ from_end words file faults faults' before after report Replied texts ending is c
       replied = replied;
     }
 
-end_or_wanting : (words : DownloadWords) (file : List ℕ → FileContent) (faults faults' : List ℕ → ℕ) (before after : DialerNow) (report : Option Report) (Replied : DialEnd → Type 0) (texts : ProjectTexts) (ending : DialEnd)
-    → ProjectIsRead file (project_named words) texts → OnlyRose (failed_of_project (project_named words) texts) faults faults' → DialsOr (judged_download words texts) before after ending → report ≡ report_of ending
-    → Replied ending ⊎ Replied (wanting_end ending) → RunsDialled words file faults faults' before after report Replied
-end_or_wanting words file faults faults' before after report Replied texts ending is counts comes report_is (inl replied) = from_end words file faults faults' before after report Replied texts ending is counts comes report_is replied
-end_or_wanting words file faults faults' before after report Replied texts ending is counts comes report_is (inr replied) =
-    from_end words file faults faults' before after report Replied texts (wanting_end ending) is counts (comes_wanting _ before after ending comes) (report_is ∙ sym (report_wants ending)) replied
+end_or_wanting : (words : DownloadWords) (files files' : FilesNow) (before after : DialerNow) (report : Option Report) (Replied : DialEnd → Type 0) (texts : ProjectTexts) (ending : DialEnd)
+    → ProjectIsRead files.file (project_named words) texts → OnlyRose (failed_of_project (project_named words) texts) files.faults files'.faults → DialsOr (judged_download words texts) before after ending → report ≡ report_of ending
+    → Replied ending ⊎ Replied (wanting_end ending) → RunsDialled words files files' before after report Replied
+end_or_wanting words files files' before after report Replied texts ending is counts comes report_is (inl replied) = from_end words files files' before after report Replied texts ending is counts comes report_is replied
+end_or_wanting words files files' before after report Replied texts ending is counts comes report_is (inr replied) =
+    from_end words files files' before after report Replied texts (wanting_end ending) is counts (comes_wanting _ before after ending comes) (report_is ∙ sym (report_wants ending)) replied
 
 -- where these files were read
-pub runs_dialled : (words : DownloadWords) (named : ProjectWords) (file : List ℕ → FileContent) (faults faults' : List ℕ → ℕ) (before after : DialerNow) (report : Option Report) (Replied : DialEnd → Type 0) (texts : ProjectTexts) (ending : DialEnd)
-    → named ≡ project_named words → ProjectIsRead file named texts → OnlyRose (failed_of_project named texts) faults faults' → DialsOr (judged_download words texts) before after ending → report ≡ report_of ending
-    → Replied ending ⊎ Replied (wanting_end ending) → RunsDialled words file faults faults' before after report Replied
-runs_dialled words named file faults faults' before after report Replied texts ending same is counts comes report_is replied =
-    end_or_wanting words file faults faults' before after report Replied texts ending (subst (λ (these : ProjectWords). ProjectIsRead file these texts) same is)
-    (subst (λ (these : ProjectWords). OnlyRose (failed_of_project these texts) faults faults') same counts) comes report_is replied
+pub runs_dialled : (words : DownloadWords) (named : ProjectWords) (files files' : FilesNow) (before after : DialerNow) (report : Option Report) (Replied : DialEnd → Type 0) (texts : ProjectTexts) (ending : DialEnd)
+    → named ≡ project_named words → ProjectIsRead files.file named texts → OnlyRose (failed_of_project named texts) files.faults files'.faults → DialsOr (judged_download words texts) before after ending → report ≡ report_of ending
+    → Replied ending ⊎ Replied (wanting_end ending) → RunsDialled words files files' before after report Replied
+runs_dialled words named files files' before after report Replied texts ending same is counts comes report_is replied =
+    end_or_wanting words files files' before after report Replied texts ending (subst (λ (these : ProjectWords). ProjectIsRead files.file these texts) same is)
+    (subst (λ (these : ProjectWords). OnlyRose (failed_of_project these texts) files.faults files'.faults) same counts) comes report_is replied
 
 -- ---- which command it is
 
-pub rose_at_most : (words : DownloadWords) (file : List ℕ → FileContent) (faults faults' : List ℕ → ℕ) (before after : DialerNow) (report : Option Report) (Replied : DialEnd → Type 0) → RunsDialled words file faults faults' before after report Replied → AtMostOneRose faults faults'
-rose_at_most words file faults faults' before after report Replied run = (failed_of_project (project_named words) run.texts, run.counts)
+pub rose_at_most : (words : DownloadWords) (files files' : FilesNow) (before after : DialerNow) (report : Option Report) (Replied : DialEnd → Type 0) → RunsDialled words files files' before after report Replied → AtMostOneRose files.faults files'.faults
+rose_at_most words files files' before after report Replied run = (failed_of_project (project_named words) run.texts, run.counts)
 
 same_words : (one other : DownloadWords) → AskedDownload one ≡ AskedDownload other → one ≡ other
 same_words one other e = cc
 
 -- the run is of the words that were asked
-pub of_words : (command : Command) (told names : DownloadWords) (file : List ℕ → FileContent) (faults faults' : List ℕ → ℕ) (before after : DialerNow) (report : Option Report) (Replied : DialEnd → Type 0) → command ≡ AskedDownload told → command ≡ AskedDownload names
-    → RunsDialled told file faults faults' before after report Replied → RunsDialled names file faults faults' before after report Replied
-of_words command told names file faults faults' before after report Replied is e run = subst (λ (words : DownloadWords). RunsDialled words file faults faults' before after report Replied) (same_words told names (sym is ∙ e)) run
+pub of_words : (command : Command) (told names : DownloadWords) (files files' : FilesNow) (before after : DialerNow) (report : Option Report) (Replied : DialEnd → Type 0) → command ≡ AskedDownload told → command ≡ AskedDownload names
+    → RunsDialled told files files' before after report Replied → RunsDialled names files files' before after report Replied
+of_words command told names files files' before after report Replied is e run = subst (λ (words : DownloadWords). RunsDialled words files files' before after report Replied) (same_words told names (sym is ∙ e)) run
 
 pub same_command : (one other : Command) → Some one ≡ Some other → one ≡ other
 same_command one other e = cc

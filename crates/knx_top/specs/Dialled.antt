@@ -16,17 +16,16 @@ use Rattle.call_words.specs.declared.status.Status.{Status}
 use Rattle.call_words.specs.declared.status.Status.TheVariants as status
 use Rattle.knx_model.specs.Answers.{◌>>=◌}
 use Rattle.knx_model.specs.Meaning.{Installation}
-use Rattle.knx_model.specs.Outside.{FileContent, Rose, one_more}
+use Rattle.knx_model.specs.Outside.{FilesNow, Rose, SinkNow, one_more}
 use Rattle.call_words.specs.ReportText.{stop_text, stop_status}
 use Rattle.line_model.specs.declared.fault.HubFault.TheVariants.{LinkFailed}
 use Rattle.line_model.specs.declared.log.LogEntry.{LogEntry}
 use Rattle.line_model.specs.declared.log.Report.{Report}
-use Rattle.line_model.specs.Dialled.{Address, TakesBack, Tells}
+use Rattle.line_model.specs.Dialled.{Address, DialerNow, TakesBack, Tells}
 use Rattle.line_model.specs.Headline.{Keeps}
 use Rattle.line_model.specs.LinkStory.{Story, Untold, Recorded, Full, IsNewLink, record_in}
 use Rattle.line_model.specs.Log.{Job, IsLog, OneDownloaderPerDevice, AllOver}
 use Rattle.line_model.specs.OldStoppedOrNew.{OldStoppedOrNew, RunsMeaning, MeansWhereDone}
-use Rattle.line_model.specs.PortStory.{PortStory}
 use Rattle.call_words.specs.Printed.{fault_line, line_report_text}
 use Rattle.report_text.specs.LineStatus.{line_status}
 use Rattle.tunnel_link.specs.Goes.{GoesOn}
@@ -57,15 +56,6 @@ download_told words texts = record { at = words.at; project = project_told texts
 
 abbrev pub download_tests : DownloadWords → ProjectTexts → List (Option Stop)
 download_tests words texts = project_tests (project_named words) texts ++ (unless_known (list_all (is_known (project_told texts)) words.options.jobs) ∷ [])
-
--- ---- what a dialer tells
-
-pub record DialerNow : Type 0 where
-  pub faults : ℕ
-  pub dials : ℕ
-  pub given : Option Address
-  pub link_back : Story
-  pub port_back : PortStory
 
 -- ---- how the call ends: it stops before it dials, the gateway isn't reached, memory is wanting for the text of a run, or it reports the run and its jobs,
 -- with the log or without
@@ -180,15 +170,15 @@ end_status (Unshown report) = status.NoMemory tt
 end_status (Shown report words log) = line_status report
 
 -- an end was to be written, with its status
-abbrev pub RepliesEnd : ℕ → ℕ → Option (List ℕ) → Option (List ℕ) → Status → DialEnd → Type 0
-RepliesEnd faults faults' taken taken' told ending = Writes (end_text ending) (end_status ending) faults faults' taken taken' told
+abbrev pub RepliesEnd : SinkNow → SinkNow → Status → DialEnd → Type 0
+RepliesEnd out out' told ending = Writes (end_text ending) (end_status ending) out out' told
 
 -- `download ADDR NEW` with options and jobs
-pub record RunsDialled (words : DownloadWords) (file : List ℕ → FileContent) (faults faults' : List ℕ → ℕ) (before after : DialerNow) (report : Option Report) (Replied : DialEnd → Type 0) : Type 0 where
+pub record RunsDialled (words : DownloadWords) (files files' : FilesNow) (before after : DialerNow) (report : Option Report) (Replied : DialEnd → Type 0) : Type 0 where
   -- what was read, in order, up to the first read that was refused
   pub texts : ProjectTexts
-  pub is_read : ProjectIsRead file (project_named words) texts
-  pub counts : OnlyRose (failed_of_project (project_named words) texts) faults faults'
+  pub is_read : ProjectIsRead files.file (project_named words) texts
+  pub counts : OnlyRose (failed_of_project (project_named words) texts) files.faults files'.faults
   pub ending : DialEnd
   -- the first test that fails is told, and nothing is dialled
   pub stops : (why : Stop) → first_some (download_tests words texts) ≡ Some why → StopsFor why ending × (after ≡ before)

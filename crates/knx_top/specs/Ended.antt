@@ -5,6 +5,7 @@ use Rattle.knx_model.specs.declared.address.IndAddr.{IndAddr}
 use Rattle.call_words.specs.declared.stop.Stop.{Stop}
 use Rattle.call_words.specs.declared.stop.Stop.TheVariants as stop
 use Rattle.knx_model.specs.declared.config.Image.{Image}
+use Rattle.knx_model.specs.Outside.{SinkNow}
 use Rattle.call_words.specs.declared.job_word.JobWord.{JobWord}
 use Rattle.call_words.specs.declared.status.Status.{Status}
 use Rattle.line_model.specs.declared.log.Report.{Report}
@@ -47,5 +48,5 @@ wanting (BreaksOff report) = BreaksOff report
 wanting (Reports report jobs devices log) = BreaksOff report
 
 -- an outcome was written, or that there was no memory for its text
-abbrev pub RepliesOf : ℕ → ℕ → Option (List ℕ) → Option (List ℕ) → Status → Outcome → Type 0
-RepliesOf faults faults' taken taken' told outcome = Replies faults faults' taken taken' told outcome ⊎ Replies faults faults' taken taken' told (wanting outcome)
+abbrev pub RepliesOf : SinkNow → SinkNow → Status → Outcome → Type 0
+RepliesOf out out' told outcome = Replies out out' told outcome ⊎ Replies out out' told (wanting outcome)

@@ -1,11 +1,12 @@
 -- What a download is begun with in the code, and how it ends there.
-use Rattle.std.specs.Prelude.{ℕ, ◌≡◌, ◌⊎◌, ◌<◌, ◌^◌, List, length, map, Option, Result, Ok, Err}
+use Rattle.std.specs.Prelude.{ℕ, ◌≡◌, ◌⊎◌, ◌<◌, ◌^◌, List, length, map, Result, Ok, Err}
 use Rattle.std.specs.List.{AllByRecursion}
 use Rattle.call_words.specs.declared.stop.Stop.{Stop}
 use Rattle.call_words.specs.declared.stop.Stop.TheVariants as stop
 use Rattle.call_words.specs.declared.job_word.JobWord.{JobWord}
 use Rattle.call_words.specs.declared.status.Status.{Status}
 use Rattle.knx_model.specs.Meaning.{Installation}
+use Rattle.knx_model.specs.Outside.{SinkNow}
 use Rattle.line_model.specs.Headline.{IsGoodJob}
 use Rattle.knx_top.specs.Dialled.{Download, DialEnd, Stopped, NotReached, Unshown, Shown, RepliesEnd, end_status, end_text}
 use Rattle.knx_top.specs.Jobs.{AreJobs, ArePlanned, seen_job}
@@ -43,5 +44,5 @@ wanting_end (Unshown report) = Unshown report
 wanting_end (Shown report words log) = Unshown report
 
 -- an end was written, or that there was no memory for its text
-abbrev pub RepliesEndOf : ℕ → ℕ → Option (List ℕ) → Option (List ℕ) → Status → DialEnd → Type 0
-RepliesEndOf faults faults' taken taken' told ending = RepliesEnd faults faults' taken taken' told ending ⊎ RepliesEnd faults faults' taken taken' told (wanting_end ending)
+abbrev pub RepliesEndOf : SinkNow → SinkNow → Status → DialEnd → Type 0
+RepliesEndOf out out' told ending = RepliesEnd out out' told ending ⊎ RepliesEnd out out' told (wanting_end ending)

@@ -125,10 +125,10 @@ fn run<R: Wait, D: Dialer>(
     requires sound { D.L.faults line ≡ 0 }
     requires few { length plans < 4294967296 }
     requires good { AllByRecursion IsGoodJob (map seen_job plans) }
-    ensures told { IsToldOver (map seen_job plans) (D.link_back dial.new) result }
-    ensures given { D.given dial.new ≡ D.given dial.old }
-    ensures dials { D.dials dial.new ≡ D.dials dial.old }
-    ensures cause { HasItsCause result (D.faults dial.old) (D.faults dial.new) }
+    ensures told { IsToldOver (map seen_job plans) (D.now dial.new).link_back result }
+    ensures given { (D.now dial.new).given ≡ (D.now dial.old).given }
+    ensures dials { (D.now dial.new).dials ≡ (D.now dial.old).dials }
+    ensures cause { HasItsCause result (D.now dial.old).faults (D.now dial.new).faults }
 {
     let (line, report) = commission(rt, alloc, plans, List::new(alloc), line, &Open);
     dial.hang(line);
@@ -146,7 +146,7 @@ fn dial_and_run<R: Wait, D: Dialer>(
 ) -> Ending
     requires few { length ready.plans < 4294967296 }
     requires good { AllByRecursion IsGoodJob (map seen_job ready.plans) }
-    ensures { (d : Download) → IsReady d.project d.options.jobs ready → d.at ≡ address_of at → log ≡ d.options.log → Dials d (record { faults = D.faults dial.old; dials = D.dials dial.old; given = D.given dial.old; link_back = D.link_back dial.old; port_back = D.port_back dial.old }) (record { faults = D.faults dial.new; dials = D.dials dial.new; given = D.given dial.new; link_back = D.link_back dial.new; port_back = D.port_back dial.new }) (end_of result) }
+    ensures { (d : Download) → IsReady d.project d.options.jobs ready → d.at ≡ address_of at → log ≡ d.options.log → Dials d (D.now dial.old) (D.now dial.new) (end_of result) }
 {
     match dial.dial(at.host, at.port) {
         Ok(line) => {
@@ -170,7 +170,7 @@ fn download<R: Wait, D: Dialer>(
     dial: &mut D,
 ) -> Ending
     requires { HasFewJobs (options_of names.options) }
-    ensures { DialsOr (judged_download (download_words_of names.entry) texts.now) (record { faults = D.faults dial.old; dials = D.dials dial.old; given = D.given dial.old; link_back = D.link_back dial.old; port_back = D.port_back dial.old }) (record { faults = D.faults dial.new; dials = D.dials dial.new; given = D.given dial.new; link_back = D.link_back dial.new; port_back = D.port_back dial.new }) (end_of result) }
+    ensures { DialsOr (judged_download (download_words_of names.entry) texts.now) (D.now dial.old) (D.now dial.new) (end_of result) }
 {
     match judge(alloc, names, texts) {
         Ok(ready) => dial_and_run(rt, alloc, names.at, ready, names.options.log, dial),
@@ -191,8 +191,8 @@ fn text_of_report(alloc: Global, told: &DialledReport) -> Result<Text, NoMemory>
 
 /// Writes what is printed of `download`.
 fn tell_end<K: Sink>(alloc: Global, out: &mut K, ending: &Ending) -> Status
-    ensures told { RepliesEndOf (K.faults out.old) (K.faults out.new) (K.taken out.old) (K.taken out.new) result (end_of ending.now) }
-    ensures written { K.writes out.new ≡ one_more (K.writes out.old) }
+    ensures told { RepliesEndOf (K.now out.old) (K.now out.new) result (end_of ending.now) }
+    ensures written { (K.now out.new).writes ≡ one_more (K.now out.old).writes }
 {
     match ending {
         Ending::Stopped(stop) => tell_or_want(out, text_of_stop(alloc, stop)),
@@ -212,10 +212,10 @@ pub fn tell_download<R: Wait, F: Files, K: Sink, D: Dialer>(
     last: &mut Option<Report>,
 ) -> Status
     requires { HasFewJobs (options_of names.options) }
-    ensures told { RunsDialled (download_words_of names.entry) (F.file files.old) (F.faults files.old) (F.faults files.new) (record { faults = D.faults dial.old; dials = D.dials dial.old; given = D.given dial.old; link_back = D.link_back dial.old; port_back = D.port_back dial.old }) (record { faults = D.faults dial.new; dials = D.dials dial.new; given = D.given dial.new; link_back = D.link_back dial.new; port_back = D.port_back dial.new }) last.new (RepliesEnd (K.faults out.old) (K.faults out.new) (K.taken out.old) (K.taken out.new) result) }
-    ensures stays { (other : Seq ℕ) → F.file files.new other ≡ F.file files.old other }
-    ensures reads { F.reads files.new ≤ F.reads files.old + length (files_of_download (download_words_of names.entry)) }
-    ensures written { K.writes out.new ≡ one_more (K.writes out.old) }
+    ensures told { RunsDialled (download_words_of names.entry) (F.now files.old) (F.now files.new) (D.now dial.old) (D.now dial.new) last.new (RepliesEnd (K.now out.old) (K.now out.new) result) }
+    ensures stays { (other : Seq ℕ) → (F.now files.new).file other ≡ (F.now files.old).file other }
+    ensures reads { (F.now files.new).reads ≤ (F.now files.old).reads + length (files_of_download (download_words_of names.entry)) }
+    ensures written { (K.now out.new).writes ≡ one_more (K.now out.old).writes }
 {
     let texts = read_project_texts(alloc, files, names.project());
     let ending = download(rt, alloc, names, &texts, dial);
