@@ -1,6 +1,6 @@
 //! How the program ends.
 
-ghost use Rattle.std.specs.Prelude.{◌≡◌, ◌≢◌, ◌≤◌, ◌+◌, ℕ, IfErr, IfOk, List, None, Some, length, map, string_bytes};
+ghost use Rattle.std.specs.Prelude.{◌≡◌, ◌≤◌, ◌+◌, ℕ, IfErr, IfOk, List, None, Some, false, length, map, string_bytes};
 ghost use Rattle.call_words.specs.declared.stop.Stop.TheVariants.{Usage, NoMemory as Wanting};
 ghost use Rattle.knx_model.specs.Outside.{one_more};
 ghost use Rattle.call_words.specs.Statuses.{status_number};
@@ -11,6 +11,7 @@ ghost use Rattle.knx_top.specs.Gateway.{RepliesServed, RunsGateway};
 ghost use Rattle.knx_top.specs.Headline.{ActsOnce, BeganRightly, ClosesToItsEnd, EndsEveryJob, EndsThoroughly, HasFaultRight, HasOldStoppedOrNew, HasTelegramsRight, IsOfOneWorker, IsToldRightly, LeavesItsChannel, RunsWhereDone};
 ghost use Rattle.knx_top.specs.Input.{files_of};
 ghost use Rattle.knx_top.specs.Ran.{FaultsOfLine, Stops};
+ghost use Rattle.knx_top.specs.Touches.{touches};
 ghost use Rattle.knx_cli.specs.Exit.{status_of};
 
 use call_words::Status;
@@ -64,9 +65,9 @@ pub fn status_of<R: Wait, F: Files, K: Sink, D: Dialer>(
     ensures closed { IfOk words.now (λ words. HasRunOf ClosesToItsEnd (map string_bytes words.items) (F.now files.old) sim.old (record { line = sim.new; report = last.new })) }
     ensures seats { IfOk words.now (λ words. HasRunOf IsOfOneWorker (map string_bytes words.items) (F.now files.old) sim.old (record { line = sim.new; report = last.new })) }
     ensures link { IfOk words.now (λ words. (names : SimWords) → asked (map string_bytes words.items) ≡ Some (AskedSim names) → FaultsOfLine last.new sim.new) }
-    ensures line { IfOk words.now (λ words. ((names : SimWords) → asked (map string_bytes words.items) ≢ Some (AskedSim names)) → ((names : GatewayWords) → asked (map string_bytes words.items) ≢ Some (AskedGateway names)) → sim.new ≡ sim.old) }
-    ensures undialled { IfOk words.now (λ words. ((names : DownloadWords) → asked (map string_bytes words.items) ≢ Some (AskedDownload names)) → ((names : GatewayWords) → asked (map string_bytes words.items) ≢ Some (AskedGateway names)) → dial.new ≡ dial.old) }
-    ensures no_run { IfOk words.now (λ words. ((names : SimWords) → asked (map string_bytes words.items) ≢ Some (AskedSim names)) → ((names : DownloadWords) → asked (map string_bytes words.items) ≢ Some (AskedDownload names)) → last.new ≡ None) }
+    ensures line { IfOk words.now (λ words. (touches (asked (map string_bytes words.items))).line ≡ false → sim.new ≡ sim.old) }
+    ensures undialled { IfOk words.now (λ words. (touches (asked (map string_bytes words.items))).network ≡ false → dial.new ≡ dial.old) }
+    ensures no_run { IfOk words.now (λ words. (touches (asked (map string_bytes words.items))).run ≡ false → last.new ≡ None) }
     ensures files { (name : List ℕ) → (F.now files.new).file name ≡ (F.now files.old).file name }
     ensures reads { IfOk words.now (λ words. (F.now files.new).reads ≤ (F.now files.old).reads + length (files_of (asked (map string_bytes words.items)))) }
     ensures faults { IfOk words.now (λ _. AtMostOneRose (F.now files.old).faults (F.now files.new).faults) }

@@ -1,5 +1,5 @@
 -- A whole call, from what was read to what was written.
-use Rattle.std.proofs.Common.{ℕ, ◌≡◌, ◌≢◌, List, Option, Some, None, Result, Ok, Err, ◌⊎◌, refl, sym, ◌∙◌, subst, inl, inr}
+use Rattle.std.proofs.Common.{ℕ, ◌≡◌, true, false, List, Option, Some, None, Result, Ok, Err, ◌⊎◌, refl, sym, ◌∙◌, subst, inl, inr}
 use Rattle.frame_text.specs.FrameText.{IsFrameText, hex_word}
 use Rattle.std.specs.Prelude.{IfErr, IfOk}
 use Rattle.call_words.specs.declared.stop.Stop.{Stop}
@@ -14,13 +14,14 @@ use Rattle.bus_sim.specs.RunNow.{RunNow}
 use Rattle.knx_model.specs.Meaning.{Installation}
 use Rattle.knx_model.specs.Outside.{FilesNow, SinkNow}
 use Rattle.line_model.specs.declared.log.Report.{Report}
-use Rattle.knx_top.specs.Command.{Command, Check, Tables, Sim, Decode, Download, DownloadWords, Gateway, GatewayWords, ProjectWords, SimWords, asked}
+use Rattle.knx_top.specs.Command.{Command, Check, Tables, Sim, Decode, Download, Gateway, ProjectWords, SimWords, asked}
 use Rattle.knx_top.specs.Call.{Does, TellsText, TellsOf, TellsOfProject, TellsOfFrame, Left, RunsScript, HasRunOf, NoRun, Elsewhere, AtPort, HasRun, IsCountsText, IsTablesText, AtMostOneRose, Replies, Writes, octets_or_usage, outcome_status}
 use Rattle.knx_top.specs.Ended.{IsTextOf, RepliesOf, wanting}
 use Rattle.knx_top.specs.Input.{ProjectIsRead, SimIsRead, OnlyRose, failed_of_project, failed_of_sim, first_some}
 use Rattle.knx_top.specs.Judged.{judged, judged_project}
 use Rattle.knx_top.specs.Ran.{Outcome, Stops, Tells, BreaksOff, Reports, StopsFor, Ran, Runs, Comes, report_in}
 use Rattle.knx_top.specs.Stops.{Commission, project_tests, project_told, sim_tests, commission_told}
+use Rattle.knx_top.specs.Touches.{touches}
 use Rattle.knx_top.specs.declared.input.ProjectTexts.{ProjectTexts}
 use Rattle.knx_top.specs.declared.input.SimTexts.{SimTexts}
 use Rattle.knx_top.specs.declared.tell.Text.{Text}
@@ -139,23 +140,24 @@ decode_of command files files' before after Replied word does e = (subst (λ (o 
 pub sim_of : (command : Option Command) (files files' : FilesNow) (before : BusNow) (after : Left) (Replied : Outcome → Type 0) (words : SimWords) → Does command files files' before after Replied → command ≡ Some (Sim words) → RunsScript words files files' before after Replied
 sim_of command files files' before after Replied words does e = subst (λ (o : Option Command). Does o files files' before after Replied) e does
 
-pub line_of : (command : Option Command) (files files' : FilesNow) (before : BusNow) (after : Left) (Replied : Outcome → Type 0) → Does command files files' before after Replied → ((words : SimWords) → command ≢ Some (Sim words)) → ((words : GatewayWords) → command ≢ Some (Gateway words)) → after.line ≡ before
-line_of None files files' before after Replied does sim gateway = does.2.line
-line_of (Some (Check words)) files files' before after Replied does sim gateway = does.1.line
-line_of (Some (Tables words)) files files' before after Replied does sim gateway = does.1.line
-line_of (Some (Sim words)) files files' before after Replied does sim gateway = absurd (sim words refl)
-line_of (Some (Decode word)) files files' before after Replied does sim gateway = does.2.line
-line_of (Some (Download words)) files files' before after Replied does sim gateway = does.0
-line_of (Some (Gateway words)) files files' before after Replied does sim gateway = absurd (gateway words refl)
+-- what a command doesn't touch
+pub line_of : (command : Option Command) (files files' : FilesNow) (before : BusNow) (after : Left) (Replied : Outcome → Type 0) → Does command files files' before after Replied → (touches command).line ≡ false → after.line ≡ before
+line_of None files files' before after Replied does untouched = does.2.line
+line_of (Some (Check words)) files files' before after Replied does untouched = does.1.line
+line_of (Some (Tables words)) files files' before after Replied does untouched = does.1.line
+line_of (Some (Sim words)) files files' before after Replied does untouched = absurd (let e : true ≡ false = untouched in cc)
+line_of (Some (Decode word)) files files' before after Replied does untouched = does.2.line
+line_of (Some (Download words)) files files' before after Replied does untouched = does.0
+line_of (Some (Gateway words)) files files' before after Replied does untouched = absurd (let e : true ≡ false = untouched in cc)
 
-pub no_run_of : (command : Option Command) (files files' : FilesNow) (before : BusNow) (after : Left) (Replied : Outcome → Type 0) → Does command files files' before after Replied → ((words : SimWords) → command ≢ Some (Sim words)) → ((words : DownloadWords) → command ≢ Some (Download words)) → after.report ≡ None
-no_run_of None files files' before after Replied does sim download = does.2.report
-no_run_of (Some (Check words)) files files' before after Replied does sim download = does.1.report
-no_run_of (Some (Tables words)) files files' before after Replied does sim download = does.1.report
-no_run_of (Some (Sim words)) files files' before after Replied does sim download = absurd (sim words refl)
-no_run_of (Some (Decode word)) files files' before after Replied does sim download = does.2.report
-no_run_of (Some (Download words)) files files' before after Replied does sim download = absurd (download words refl)
-no_run_of (Some (Gateway words)) files files' before after Replied does sim download = does.0
+pub no_run_of : (command : Option Command) (files files' : FilesNow) (before : BusNow) (after : Left) (Replied : Outcome → Type 0) → Does command files files' before after Replied → (touches command).run ≡ false → after.report ≡ None
+no_run_of None files files' before after Replied does untouched = does.2.report
+no_run_of (Some (Check words)) files files' before after Replied does untouched = does.1.report
+no_run_of (Some (Tables words)) files files' before after Replied does untouched = does.1.report
+no_run_of (Some (Sim words)) files files' before after Replied does untouched = absurd (let e : true ≡ false = untouched in cc)
+no_run_of (Some (Decode word)) files files' before after Replied does untouched = does.2.report
+no_run_of (Some (Download words)) files files' before after Replied does untouched = absurd (let e : true ≡ false = untouched in cc)
+no_run_of (Some (Gateway words)) files files' before after Replied does untouched = does.0
 
 pub faults_in : (command : Option Command) (files files' : FilesNow) (before : BusNow) (after : Left) (Replied : Outcome → Type 0) → Does command files files' before after Replied → AtMostOneRose files.faults files'.faults
 faults_in None files files' before after Replied does = (None, does.1)

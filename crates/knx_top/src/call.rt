@@ -1,6 +1,6 @@
 //! The top call.
 
-ghost use Rattle.std.specs.Prelude.{◌≡◌, ◌≢◌, ◌≤◌, ◌+◌, ℕ, List, None, Some, length, map, string_bytes, IfOk};
+ghost use Rattle.std.specs.Prelude.{◌≡◌, ◌≤◌, ◌+◌, ℕ, List, None, Some, false, length, map, string_bytes, IfOk};
 ghost use Rattle.call_words.specs.declared.stop.Stop.TheVariants.{Usage};
 ghost use Rattle.knx_model.specs.Outside.{one_more};
 ghost use Rattle.knx_top.specs.Call.{AtMostOneRose, Does, HasRunOf, IsCountsText, IsTablesText, Replies, RunsScript, TellsOfFrame, TellsOfProject};
@@ -12,6 +12,7 @@ ghost use Rattle.knx_top.specs.Headline.{ActsOnce, BeganRightly, ClosesToItsEnd,
 ghost use Rattle.knx_top.specs.Input.{files_of, files_of_project, files_of_sim};
 ghost use Rattle.knx_top.specs.Names.{command_of, options_of, project_words_of, sim_words_of};
 ghost use Rattle.knx_top.specs.Ran.{FaultsOfLine, Stops};
+ghost use Rattle.knx_top.specs.Touches.{touches};
 
 use crate::command::{Command, ProjectNames, SimNames, asked};
 use crate::commission::{Reported, SimEnd, commission};
@@ -154,7 +155,7 @@ fn run<R: Wait, F: Files, K: Sink, D: Dialer>(
     ensures link { (names : SimWords) → command_of command.entry ≡ AskedSim names → FaultsOfLine last.new sim.new }
     ensures download { (names : DownloadWords) → command_of command.entry ≡ AskedDownload names → RunsDialled names (F.now files.old) (F.now files.new) (D.now dial.old) (D.now dial.new) last.new (RepliesEnd (K.now out.old) (K.now out.new) result) }
     ensures gateway { (names : GatewayWords) → command_of command.entry ≡ AskedGateway names → RunsGateway names (F.now files.old) (F.now files.new) (D.now dial.old) (D.now dial.new) sim.old sim.new (RepliesServed (K.now out.old) (K.now out.new) result) }
-    ensures undialled { ((names : DownloadWords) → command_of command.entry ≢ AskedDownload names) → ((names : GatewayWords) → command_of command.entry ≢ AskedGateway names) → dial.new ≡ dial.old }
+    ensures undialled { (touches (Some (command_of command.entry))).network ≡ false → dial.new ≡ dial.old }
     ensures stays { (other : List ℕ) → (F.now files.new).file other ≡ (F.now files.old).file other }
     ensures reads { (F.now files.new).reads ≤ (F.now files.old).reads + length (files_of (Some (command_of command.entry))) }
     ensures written { (K.now out.new).writes ≡ one_more (K.now out.old).writes }
@@ -185,7 +186,7 @@ fn answer<R: Wait, F: Files, K: Sink, D: Dialer>(
     ensures link { (names : SimWords) → asked (map string_bytes words.now) ≡ Some (AskedSim names) → FaultsOfLine last.new sim.new }
     ensures download { (names : DownloadWords) → asked (map string_bytes words.now) ≡ Some (AskedDownload names) → RunsDialled names (F.now files.old) (F.now files.new) (D.now dial.old) (D.now dial.new) last.new (RepliesEnd (K.now out.old) (K.now out.new) result) }
     ensures gateway { (names : GatewayWords) → asked (map string_bytes words.now) ≡ Some (AskedGateway names) → RunsGateway names (F.now files.old) (F.now files.new) (D.now dial.old) (D.now dial.new) sim.old sim.new (RepliesServed (K.now out.old) (K.now out.new) result) }
-    ensures undialled { ((names : DownloadWords) → asked (map string_bytes words.now) ≢ Some (AskedDownload names)) → ((names : GatewayWords) → asked (map string_bytes words.now) ≢ Some (AskedGateway names)) → dial.new ≡ dial.old }
+    ensures undialled { (touches (asked (map string_bytes words.now))).network ≡ false → dial.new ≡ dial.old }
     ensures stays { (other : List ℕ) → (F.now files.new).file other ≡ (F.now files.old).file other }
     ensures reads { (F.now files.new).reads ≤ (F.now files.old).reads + length (files_of (asked (map string_bytes words.now))) }
     ensures written { (K.now out.new).writes ≡ one_more (K.now out.old).writes }
@@ -241,10 +242,10 @@ pub fn knx<R: Wait, F: Files, K: Sink, D: Dialer>(
     ensures seats { HasRunOf IsOfOneWorker (map string_bytes words.now) (F.now files.old) sim.old (record { line = sim.new; report = last.new }) }
     // that the link failed is told of `sim` only at the last time of 64 bits, where a call of the simulated line failed
     ensures link { (names : SimWords) → asked (map string_bytes words.now) ≡ Some (AskedSim names) → FaultsOfLine last.new sim.new }
-    // only `sim` and `gateway` begin the simulated line anew, only `download` and `gateway` reach a network, and only `sim` and `download` begin a run
-    ensures line { ((names : SimWords) → asked (map string_bytes words.now) ≢ Some (AskedSim names)) → ((names : GatewayWords) → asked (map string_bytes words.now) ≢ Some (AskedGateway names)) → sim.new ≡ sim.old }
-    ensures undialled { ((names : DownloadWords) → asked (map string_bytes words.now) ≢ Some (AskedDownload names)) → ((names : GatewayWords) → asked (map string_bytes words.now) ≢ Some (AskedGateway names)) → dial.new ≡ dial.old }
-    ensures no_run { ((names : SimWords) → asked (map string_bytes words.now) ≢ Some (AskedSim names)) → ((names : DownloadWords) → asked (map string_bytes words.now) ≢ Some (AskedDownload names)) → last.new ≡ None }
+    // what its command doesn't touch stays: the simulated line, the network, and that there is no run
+    ensures line { (touches (asked (map string_bytes words.now))).line ≡ false → sim.new ≡ sim.old }
+    ensures undialled { (touches (asked (map string_bytes words.now))).network ≡ false → dial.new ≡ dial.old }
+    ensures no_run { (touches (asked (map string_bytes words.now))).run ≡ false → last.new ≡ None }
     // what the files tell stays, there are at most as many reads as the words name files, the count of one file rose at most, and there is just one write
     ensures files { (name : List ℕ) → (F.now files.new).file name ≡ (F.now files.old).file name }
     ensures reads { (F.now files.new).reads ≤ (F.now files.old).reads + length (files_of (asked (map string_bytes words.now))) }
