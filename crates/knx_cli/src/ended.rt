@@ -8,7 +8,7 @@ ghost use Rattle.knx_top.specs.Call.{AtMostOneRose, HasRunOf, IsCountsText, IsTa
 ghost use Rattle.knx_top.specs.Command.{DownloadWords, GatewayWords, ProjectWords, SimWords, asked, Check as AskedCheck, Decode as AskedDecode, Download as AskedDownload, Gateway as AskedGateway, Sim as AskedSim, Tables as AskedTables};
 ghost use Rattle.knx_top.specs.Dialled.{RepliesEnd, RunsDialled};
 ghost use Rattle.knx_top.specs.Gateway.{RepliesServed, RunsGateway};
-ghost use Rattle.knx_top.specs.Headline.{ActsOnce, BeganRightly, ClosesToItsEnd, EndsEveryJob, EndsThoroughly, HasFaultRight, HasOldStoppedOrNew, HasTelegramsRight, IsOfOneWorker, IsToldRightly, LeavesItsChannel, RunsWhereDone};
+ghost use Rattle.knx_top.specs.Headline.{ActsOnce, BeganRightly, ClosesToItsEnd, EndsEveryJob, EndsThoroughly, HasFaultRight, HasOldStoppedOrNew, HasTelegramsRight, IsOfItsWorkers, IsToldRightly, LeavesItsChannel, RunsWhereDone};
 ghost use Rattle.knx_top.specs.Input.{files_of};
 ghost use Rattle.knx_top.specs.Ran.{FaultsOfLine, Stops};
 ghost use Rattle.knx_top.specs.Touches.{touches};
@@ -63,7 +63,7 @@ pub fn status_of<R: Wait, F: Files, K: Sink, D: Dialer>(
     ensures fault { IfOk words.now (λ words. HasRunOf HasFaultRight (map string_bytes words.items) (F.now files.old) sim.old (record { line = sim.new; report = last.new })) }
     ensures over { IfOk words.now (λ words. HasRunOf EndsEveryJob (map string_bytes words.items) (F.now files.old) sim.old (record { line = sim.new; report = last.new })) }
     ensures closed { IfOk words.now (λ words. HasRunOf ClosesToItsEnd (map string_bytes words.items) (F.now files.old) sim.old (record { line = sim.new; report = last.new })) }
-    ensures seats { IfOk words.now (λ words. HasRunOf IsOfOneWorker (map string_bytes words.items) (F.now files.old) sim.old (record { line = sim.new; report = last.new })) }
+    ensures seats { IfOk words.now (λ words. HasRunOf IsOfItsWorkers (map string_bytes words.items) (F.now files.old) sim.old (record { line = sim.new; report = last.new })) }
     ensures link { IfOk words.now (λ words. (names : SimWords) → asked (map string_bytes words.items) ≡ Some (AskedSim names) → FaultsOfLine last.new sim.new) }
     ensures line { IfOk words.now (λ words. (touches (asked (map string_bytes words.items))).line ≡ false → sim.new ≡ sim.old) }
     ensures undialled { IfOk words.now (λ words. (touches (asked (map string_bytes words.items))).network ≡ false → dial.new ≡ dial.old) }

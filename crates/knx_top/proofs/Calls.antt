@@ -33,13 +33,13 @@ stop_wants : (why : Stop) (outcome : Outcome) → StopsFor why outcome → Stops
 stop_wants why (Stops told) h = inr refl
 stop_wants why (Tells text) h = absurd h
 stop_wants why (BreaksOff report) h = absurd h
-stop_wants why (Reports report jobs devices log) h = absurd h
+stop_wants why (Reports report jobs turns devices log) h = absurd h
 
 text_wants : (IsText : List ℕ → Type 0) (outcome : Outcome) → TellsText IsText outcome → TellsText IsText (wanting outcome)
 text_wants IsText (Stops told) h = refl
 text_wants IsText (Tells text) h = refl
 text_wants IsText (BreaksOff report) h = absurd h
-text_wants IsText (Reports report jobs devices log) h = absurd h
+text_wants IsText (Reports report jobs turns devices log) h = absurd h
 
 told_wants : {A : Type 0} (IsText : A → List ℕ → Type 0) (found : Result A Stop) (outcome : Outcome) → TellsOf IsText found outcome → TellsOf IsText found (wanting outcome)
 told_wants IsText (Err why) outcome h = stop_wants why outcome h
@@ -49,7 +49,7 @@ run_wants : (c : Commission) (before after : BusNow) (outcome : Outcome) → Run
 run_wants c before after (Stops told) h = (refl, h.1)
 run_wants c before after (Tells text) h = absurd h
 run_wants c before after (BreaksOff report) h = h
-run_wants c before after (Reports report jobs devices log) h = (jobs, h.ran)
+run_wants c before after (Reports report jobs turns devices log) h = (jobs, h.ran)
 
 comes_wanting : (j : Result Commission Stop) (before after : BusNow) (outcome : Outcome) → Comes j before after outcome → Comes j before after (wanting outcome)
 comes_wanting (Err why) before after outcome h = (stop_wants why outcome h.0, h.1)
@@ -60,14 +60,14 @@ report_wants : (outcome : Outcome) → report_in (wanting outcome) ≡ report_in
 report_wants (Stops told) = refl
 report_wants (Tells text) = refl
 report_wants (BreaksOff report) = refl
-report_wants (Reports report jobs devices log) = refl
+report_wants (Reports report jobs turns devices log) = refl
 
 -- what is written where memory is wanting for a text is the text of the outcome that wants it
 replied_wanting : (outcome : Outcome) (out out' : SinkNow) (told : Status) → Writes (stop_text (stop.NoMemory tt)) (status.NoMemory tt) out out' told → Replies out out' told (wanting outcome)
 replied_wanting (Stops why) out out' told h = h
 replied_wanting (Tells text) out out' told h = h
 replied_wanting (BreaksOff report) out out' told h = h
-replied_wanting (Reports report jobs devices log) out out' told h = h
+replied_wanting (Reports report jobs turns devices log) out out' told h = h
 
 -- a text is written, or that there was no memory for it
 pub text_replied : (outcome : Outcome) (text : Result Text NoMemory) (out out' : SinkNow) (told : Status) → IfOk text (λ p. IsTextOf outcome p.octets p.status)
@@ -176,14 +176,14 @@ begun_of : (P : Commission → RunNow → Report → Type 0) → ((c : Commissio
 begun_of P get words names files before after texts (Stops told) report e is passes runs = NoRun (record { line = runs.1; report = report })
 begun_of P get words names files before after texts (Tells text) report e is passes runs = absurd runs
 begun_of P get words names files before after texts (BreaksOff told) report e is passes runs = HasRun names texts told e is passes report (get (commission_told names texts) after.line.run told runs.0 runs.1)
-begun_of P get words names files before after texts (Reports told jobs devices log) report e is passes runs = HasRun names texts told e is passes report (get (commission_told names texts) after.line.run told jobs runs.ran)
+begun_of P get words names files before after texts (Reports told jobs turns devices log) report e is passes runs = HasRun names texts told e is passes report (get (commission_told names texts) after.line.run told jobs runs.ran)
 
 -- where a test fails there is no run
 stopped_of : (why : Stop) (outcome : Outcome) → StopsFor why outcome → report_in outcome ≡ None
 stopped_of why (Stops told) h = refl
 stopped_of why (Tells text) h = refl
 stopped_of why (BreaksOff report) h = absurd h
-stopped_of why (Reports report jobs devices log) h = absurd h
+stopped_of why (Reports report jobs turns devices log) h = absurd h
 
 tested : (P : Commission → RunNow → Report → Type 0) → ((c : Commission) (r : RunNow) (report : Report) (jobs : List JobWord) → Ran c r report jobs → P c r report)
     → (tests : Option Stop) (words : List (List ℕ)) (names : SimWords) (files files' : FilesNow) (before : BusNow) (after : Left) (Replied : Outcome → Type 0) (run : RunsScript names files files' before after Replied)

@@ -90,7 +90,7 @@ memory_told (Stops told) (inl e) = ap stop_status e
 memory_told (Stops told) (inr e) = ap stop_status e
 memory_told (Tells text) h = absurd h
 memory_told (BreaksOff report) h = absurd h
-memory_told (Reports report jobs devices log) h = absurd h
+memory_told (Reports report jobs turns devices log) h = absurd h
 
 ended : (outcome : Outcome) (out out' : SinkNow) (ending : Status) → ¬ Rose out.faults out'.faults → Replies out out' ending outcome → ending ≡ outcome_status outcome
 ended outcome out out' ending still (inl wrote) = wrote.0
@@ -101,7 +101,7 @@ told_whole IsText (Stops told) out out' ending still h replied = inl (ended (Sto
 told_whole IsText (Tells text) out out' ending still h (inl wrote) = inr (wrote.0, (text, (h, wrote.1)))
 told_whole IsText (Tells text) out out' ending still h (inr refused) = absurd (still refused.2)
 told_whole IsText (BreaksOff report) out out' ending still h replied = absurd h
-told_whole IsText (Reports report jobs devices log) out out' ending still h replied = absurd h
+told_whole IsText (Reports report jobs turns devices log) out out' ending still h replied = absurd h
 
 -- by what came of both files
 by_readings : (IsText : Installation → List ℕ → Type 0) (words : ProjectWords) (files files' : FilesNow) (out out' : SinkNow) (ending : Status)

@@ -17,7 +17,7 @@ use Rattle.knx_model.specs.Outside.{FilesNow, SinkNow, one_more}
 use Rattle.call_words.specs.ReportText.{stop_text}
 use Rattle.line_model.specs.declared.outside.port.PortFault.{PortFault}
 use Rattle.line_model.specs.declared.outside.port.PortFault.TheVariants as fault
-use Rattle.line_model.specs.Dialled.{Address, TakesBack, Tells}
+use Rattle.line_model.specs.Dialled.{Address, DialerNow, TakesBack, Tells}
 use Rattle.line_model.specs.Follows.{Follows}
 use Rattle.line_model.specs.Fresh.{IsFresh}
 use Rattle.line_model.specs.Legal.{IsLegal}
@@ -30,7 +30,6 @@ use Rattle.knx_top.specs.Begun.{BeginsLine}
 use Rattle.knx_top.specs.Bound.{IsTextOfEnd, RepliesServedOf, end_of_serving, wanting_end}
 use Rattle.knx_top.specs.Call.{AtMostOneRose, Writes}
 use Rattle.knx_top.specs.Command.{Command, Gateway as AskedGateway, GatewayWords}
-use Rattle.knx_top.specs.Dialled.{DialerNow}
 use Rattle.knx_top.specs.Gateway.{GatewayEnd, Stopped, NotBound, Ended, OpenTurns, Failed, Unserved, Unshown, HasCause, IsServed, RunsGateway, Service, Serves, ServesOr, ServesTo, ServedRun, Serving, StopsFor, gateway_tests, gateway_told, judged_gateway}
 use Rattle.knx_top.specs.Input.{GatewayIsRead, OnlyRose, failed_of_gateway}
 use Rattle.knx_top.specs.declared.input.GatewayTexts.{GatewayTexts}

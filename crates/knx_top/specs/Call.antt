@@ -64,14 +64,14 @@ abbrev pub outcome_status : Outcome → Status
 outcome_status (Stops why) = stop_status why
 outcome_status (Tells text) = status.Done
 outcome_status (BreaksOff report) = status.NoMemory tt
-outcome_status (Reports report jobs devices log) = line_status report
+outcome_status (Reports report jobs turns devices log) = line_status report
 
--- the text of an outcome; a script has no group telegrams
+-- the text of an outcome
 abbrev pub outcome_text : Outcome → List ℕ
 outcome_text (Stops why) = stop_text why
 outcome_text (Tells text) = text
 outcome_text (BreaksOff report) = stop_text (stop.NoMemory tt)
-outcome_text (Reports report jobs devices log) = line_report_text report jobs 0 devices log
+outcome_text (Reports report jobs turns devices log) = line_report_text report jobs turns devices log
 
 -- A text was to be written, where the sink told `out` and tells `out'`: it was written whole and the status is its own; or the write failed, a front of
 -- the text was taken, and the status tells that.

@@ -19,15 +19,15 @@ use Rattle.knx_top.specs.declared.commission.SimEnd.TheVariants.{Stopped, Broken
 abbrev pub outcome_of : SimEnd → Outcome
 outcome_of (Stopped why) = Stops why
 outcome_of (BrokenOff report want) = BreaksOff report
-outcome_of (Reported told) = Reports told.report told.jobs told.devices told.log
+outcome_of (Reported told) = Reports told.report told.jobs told.turns told.devices told.log
 
 -- a run of which this is reported, or memory is wanting for that
-abbrev pub ShowsRun : RunNow → Report → List JobWord → List (IndAddr × Option Image) → Bool → Outcome → Type 0
-ShowsRun r report jobs devices log (Stops why) = ⊥
-ShowsRun r report jobs devices log (Tells text) = ⊥
-ShowsRun r report jobs devices log (BreaksOff told) = told ≡ report
-ShowsRun r report jobs devices log (Reports told words shown with_log) =
-    (told ≡ report) × (words ≡ jobs) × AreShownOf (world r) shown devices × (with_log ≡ log)
+abbrev pub ShowsRun : RunNow → Report → List JobWord → ℕ → List (IndAddr × Option Image) → Bool → Outcome → Type 0
+ShowsRun r report jobs turns devices log (Stops why) = ⊥
+ShowsRun r report jobs turns devices log (Tells text) = ⊥
+ShowsRun r report jobs turns devices log (BreaksOff told) = told ≡ report
+ShowsRun r report jobs turns devices log (Reports told words sent shown with_log) =
+    (told ≡ report) × (words ≡ jobs) × (sent ≡ turns) × AreShownOf (world r) shown devices × (with_log ≡ log)
 
 -- how another command ends
 abbrev pub told_outcome : Result (List ℕ) Stop → Outcome
@@ -45,7 +45,7 @@ abbrev pub wanting : Outcome → Outcome
 wanting (Stops why) = Stops (stop.NoMemory tt)
 wanting (Tells text) = Stops (stop.NoMemory tt)
 wanting (BreaksOff report) = BreaksOff report
-wanting (Reports report jobs devices log) = BreaksOff report
+wanting (Reports report jobs turns devices log) = BreaksOff report
 
 -- an outcome was written, or that there was no memory for its text
 abbrev pub RepliesOf : SinkNow → SinkNow → Status → Outcome → Type 0

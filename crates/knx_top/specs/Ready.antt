@@ -1,5 +1,5 @@
 -- What a download is begun with in the code, and how it ends there.
-use Rattle.std.specs.Prelude.{ℕ, ◌≡◌, ◌⊎◌, ◌<◌, ◌^◌, List, length, map, Result, Ok, Err}
+use Rattle.std.specs.Prelude.{ℕ, ◌≡◌, ◌⊎◌, ◌<◌, ◌^◌, List, [], length, map, Result, Ok, Err}
 use Rattle.std.specs.List.{AllByRecursion}
 use Rattle.call_words.specs.declared.stop.Stop.{Stop}
 use Rattle.call_words.specs.declared.stop.Stop.TheVariants as stop
@@ -21,15 +21,21 @@ pub record IsReady (project : Installation) (named : List JobWord) (ready : Read
   pub plans : ArePlanned project (map seen_job ready.plans) ready.jobs
   pub good : AllByRecursion IsGoodJob (map seen_job ready.plans)
 
+-- a download with its jobs, which one caller drives, and which sends no group telegrams
+pub record IsReadyFor (d : Download) (ready : Ready) : Type 0 where
+  pub prepared : IsReady d.project d.options.jobs ready
+  pub workers : d.workers ≡ 1
+  pub turns : d.turns ≡ []
+
 -- what was judged has its jobs
 abbrev pub ReadyFor : Result Download Stop → Ready → Type 0
-ReadyFor (Ok d) ready = IsReady d.project d.options.jobs ready
+ReadyFor (Ok d) ready = IsReadyFor d ready
 ReadyFor (Err why) ready = ⊥
 
 abbrev pub end_of : Ending → DialEnd
 end_of (ended.Stopped why) = Stopped why
 end_of ended.NotReached = NotReached
-end_of (ended.Ran told) = Shown told.report told.jobs told.log
+end_of (ended.Ran told) = Shown told.report told.jobs told.turns told.log
 
 -- ---- what is written of it
 
@@ -41,7 +47,7 @@ abbrev pub wanting_end : DialEnd → DialEnd
 wanting_end (Stopped why) = Stopped (stop.NoMemory tt)
 wanting_end NotReached = NotReached
 wanting_end (Unshown report) = Unshown report
-wanting_end (Shown report words log) = Unshown report
+wanting_end (Shown report words turns log) = Unshown report
 
 -- an end was written, or that there was no memory for its text
 abbrev pub RepliesEndOf : SinkNow → SinkNow → Status → DialEnd → Type 0

@@ -8,7 +8,7 @@ ghost use Rattle.knx_top.specs.Command.{HasFewJobs, NamesFewJobs, ProjectWords, 
 ghost use Rattle.knx_top.specs.Dialled.{RepliesEnd, RunsDialled};
 ghost use Rattle.knx_top.specs.Ended.{IsTextOf, outcome_of, told_outcome};
 ghost use Rattle.knx_top.specs.Gateway.{RepliesServed, RunsGateway};
-ghost use Rattle.knx_top.specs.Headline.{ActsOnce, BeganRightly, ClosesToItsEnd, EndsEveryJob, EndsThoroughly, HasFaultRight, HasOldStoppedOrNew, HasTelegramsRight, IsOfOneWorker, IsToldRightly, LeavesItsChannel, RunsWhereDone};
+ghost use Rattle.knx_top.specs.Headline.{ActsOnce, BeganRightly, ClosesToItsEnd, EndsEveryJob, EndsThoroughly, HasFaultRight, HasOldStoppedOrNew, HasTelegramsRight, IsOfItsWorkers, IsToldRightly, LeavesItsChannel, RunsWhereDone};
 ghost use Rattle.knx_top.specs.Input.{files_of, files_of_project, files_of_sim};
 ghost use Rattle.knx_top.specs.Names.{command_of, options_of, project_words_of, sim_words_of};
 ghost use Rattle.knx_top.specs.Ran.{FaultsOfLine, Stops};
@@ -42,7 +42,7 @@ fn text_of_told(alloc: Global, told: Result<Octets, Stop>) -> Result<Text, NoMem
     }
 }
 
-/// What is printed of a run, in which no group telegrams are sent.
+/// What is printed of a run.
 fn text_of_report(alloc: Global, reported: &Reported) -> Result<Text, NoMemory>
     ensures { IfOk result (λ p. IsTextOf (outcome_of (SimEnd.Reported reported.now)) p.octets p.status) }
 {
@@ -50,7 +50,7 @@ fn text_of_report(alloc: Global, reported: &Reported) -> Result<Text, NoMemory>
         alloc,
         &reported.report,
         reported.jobs.as_slice(),
-        0,
+        reported.turns,
         reported.devices.as_slice(),
         reported.log,
     )?;
@@ -238,8 +238,8 @@ pub fn knx<R: Wait, F: Files, K: Sink, D: Dialer>(
     ensures fault { HasRunOf HasFaultRight (map string_bytes words.now) (F.now files.old) sim.old (record { line = sim.new; report = last.new }) }
     ensures over { HasRunOf EndsEveryJob (map string_bytes words.now) (F.now files.old) sim.old (record { line = sim.new; report = last.new }) }
     ensures closed { HasRunOf ClosesToItsEnd (map string_bytes words.now) (F.now files.old) sim.old (record { line = sim.new; report = last.new }) }
-    // one caller drives the hub: what the log tells was done by worker 1, or by the group thread
-    ensures seats { HasRunOf IsOfOneWorker (map string_bytes words.now) (F.now files.old) sim.old (record { line = sim.new; report = last.new }) }
+    // what the log tells was done by one of the run's workers, which is worker 1, or by the group thread
+    ensures seats { HasRunOf IsOfItsWorkers (map string_bytes words.now) (F.now files.old) sim.old (record { line = sim.new; report = last.new }) }
     // that the link failed is told of `sim` only at the last time of 64 bits, where a call of the simulated line failed
     ensures link { (names : SimWords) → asked (map string_bytes words.now) ≡ Some (AskedSim names) → FaultsOfLine last.new sim.new }
     // what its command doesn't touch stays: the simulated line, the network, and that there is no run

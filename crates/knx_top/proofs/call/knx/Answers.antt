@@ -1,4 +1,4 @@
-use Rattle.knx_top.specs.Headline.{BeganRightly, HasOldStoppedOrNew, HasTelegramsRight, RunsWhereDone, ActsOnce, IsToldRightly, EndsThoroughly, LeavesItsChannel, HasFaultRight, EndsEveryJob, ClosesToItsEnd, IsOfOneWorker}
+use Rattle.knx_top.specs.Headline.{BeganRightly, HasOldStoppedOrNew, HasTelegramsRight, RunsWhereDone, ActsOnce, IsToldRightly, EndsThoroughly, LeavesItsChannel, HasFaultRight, EndsEveryJob, ClosesToItsEnd, IsOfItsWorkers}
 use Rattle.knx_top.proofs.Calls.{usage_of, check_of, tables_of, decode_of, sim_of, line_of, no_run_of, faults_in, ran_of}
 use Rattle.knx_top.proofs.Promised as promised
 use Rattle.knx_top.proofs.call.knx.Goals as goal
@@ -61,4 +61,4 @@ pub returns-clause-closed : goal.returns-clause-closed
 returns-clause-closed g c = ran_of ClosesToItsEnd promised.closes_to_its_end _ _ _ _ _ _ c.answer.ensures.does
 
 pub returns-clause-seats : goal.returns-clause-seats
-returns-clause-seats g c = ran_of IsOfOneWorker promised.of_one_worker _ _ _ _ _ _ c.answer.ensures.does
+returns-clause-seats g c = ran_of IsOfItsWorkers promised.of_its_workers _ _ _ _ _ _ c.answer.ensures.does
