@@ -73,15 +73,7 @@ impl<'a, R: Net + Clock + Sync> Dialer for UdpDialer<'a, R> {
 
     type P = UdpPort<UdpSocket>;
 
-    ghost faults = { λ d. d.faults };
-
-    ghost dials = { λ d. d.dials };
-
-    ghost given = { λ d. None };
-
-    ghost link_back = { λ d. link_story.Untold };
-
-    ghost port_back = { λ d. port_story.Untold };
+    ghost now = { λ d. record { faults = d.faults; dials = d.dials; given = None; link_back = link_story.Untold; port_back = port_story.Untold } };
 
     fn dial(&mut self, host: [u8; 4], port: u16) -> Result<UdpLink<'a, R, UdpSocket>, DialFailed>
         ensures fresh { OnOk result (IsNewLink link_story.Untold) }

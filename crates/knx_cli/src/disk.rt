@@ -103,11 +103,7 @@ impl<R: rt::Files> Files for Disk<'_, R> {
     ghost use Rattle.knx_model.specs.Outside.{Untold};
     ghost use Rattle.knx_cli.specs.Disk.{faults_of};
 
-    ghost faults = { λ d name. faults_of d.failed.items name };
-
-    ghost reads = { λ d. d.reads };
-
-    ghost file = { λ d name. Untold };
+    ghost now = { λ d. record { file = λ name. Untold; faults = faults_of d.failed.items; reads = d.reads } };
 
     fn read(&mut self, alloc: Global, name: &str, limit: usize) -> Result<Octets, FileFault> {
         self.reads = self.reads.saturating_add(1);

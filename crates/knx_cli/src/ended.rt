@@ -1,6 +1,6 @@
 //! How the program ends.
 
-ghost use Rattle.std.specs.Prelude.{◌≡◌, ◌≢◌, ◌≤◌, ◌+◌, ℕ, IfErr, IfOk, List, None, Some, length, map, string_bytes};
+ghost use Rattle.std.specs.Prelude.{◌≡◌, ◌≤◌, ◌+◌, ℕ, IfErr, IfOk, List, None, Some, false, length, map, string_bytes};
 ghost use Rattle.call_words.specs.declared.stop.Stop.TheVariants.{Usage, NoMemory as Wanting};
 ghost use Rattle.knx_model.specs.Outside.{one_more};
 ghost use Rattle.call_words.specs.Statuses.{status_number};
@@ -8,9 +8,10 @@ ghost use Rattle.knx_top.specs.Call.{AtMostOneRose, HasRunOf, IsCountsText, IsTa
 ghost use Rattle.knx_top.specs.Command.{DownloadWords, GatewayWords, ProjectWords, SimWords, asked, Check as AskedCheck, Decode as AskedDecode, Download as AskedDownload, Gateway as AskedGateway, Sim as AskedSim, Tables as AskedTables};
 ghost use Rattle.knx_top.specs.Dialled.{RepliesEnd, RunsDialled};
 ghost use Rattle.knx_top.specs.Gateway.{RepliesServed, RunsGateway};
-ghost use Rattle.knx_top.specs.Headline.{ActsOnce, BeganRightly, ClosesToItsEnd, EndsEveryJob, EndsThoroughly, HasFaultRight, HasOldStoppedOrNew, HasTelegramsRight, IsOfOneWorker, IsToldRightly, LeavesItsChannel, RunsWhereDone};
+ghost use Rattle.knx_top.specs.Headline.{ActsOnce, BeganRightly, ClosesToItsEnd, EndsEveryJob, EndsThoroughly, HasFaultRight, HasOldStoppedOrNew, HasTelegramsRight, IsOfItsWorkers, IsToldRightly, LeavesItsChannel, RunsWhereDone};
 ghost use Rattle.knx_top.specs.Input.{files_of};
 ghost use Rattle.knx_top.specs.Ran.{FaultsOfLine, Stops};
+ghost use Rattle.knx_top.specs.Touches.{touches};
 ghost use Rattle.knx_cli.specs.Exit.{status_of};
 
 use call_words::Status;
@@ -23,8 +24,8 @@ use std::sync::Wait;
 /// The exit status where memory is wanting for the words.
 fn without_words<K: Sink>(want: NoMemory, out: &mut K) -> u8
     ensures numbered { result ≡ status_number (status_of result) }
-    ensures told { Replies (K.faults out.old) (K.faults out.new) (K.taken out.old) (K.taken out.new) (status_of result) (Stops (Wanting tt)) }
-    ensures written { K.writes out.new ≡ one_more (K.writes out.old) }
+    ensures told { Replies (K.now out.old) (K.now out.new) (status_of result) (Stops (Wanting tt)) }
+    ensures written { (K.now out.new).writes ≡ one_more (K.now out.old).writes }
 {
     match out.write(NO_MEMORY) {
         Ok(()) => Status::NoMemory(want).number(),
@@ -44,36 +45,36 @@ pub fn status_of<R: Wait, F: Files, K: Sink, D: Dialer>(
     last: &mut Option<Report>,
 ) -> u8
     ensures numbered { result ≡ status_number (status_of result) }
-    ensures usage { IfOk words.now (λ words. asked (map string_bytes words.items) ≡ None → Replies (K.faults out.old) (K.faults out.new) (K.taken out.old) (K.taken out.new) (status_of result) (Stops Usage)) }
-    ensures check { IfOk words.now (λ words. (names : ProjectWords) → asked (map string_bytes words.items) ≡ Some (AskedCheck names) → TellsOfProject IsCountsText names (F.file files.old) (F.faults files.old) (F.faults files.new) (Replies (K.faults out.old) (K.faults out.new) (K.taken out.old) (K.taken out.new) (status_of result))) }
-    ensures tables { IfOk words.now (λ words. (names : ProjectWords) → asked (map string_bytes words.items) ≡ Some (AskedTables names) → TellsOfProject IsTablesText names (F.file files.old) (F.faults files.old) (F.faults files.new) (Replies (K.faults out.old) (K.faults out.new) (K.taken out.old) (K.taken out.new) (status_of result))) }
-    ensures decode { IfOk words.now (λ words. (word : List ℕ) → asked (map string_bytes words.items) ≡ Some (AskedDecode word) → TellsOfFrame word (Replies (K.faults out.old) (K.faults out.new) (K.taken out.old) (K.taken out.new) (status_of result))) }
-    ensures sim { IfOk words.now (λ words. (names : SimWords) → asked (map string_bytes words.items) ≡ Some (AskedSim names) → RunsScript names (F.file files.old) (F.faults files.old) (F.faults files.new) sim.old (record { line = sim.new; report = last.new }) (Replies (K.faults out.old) (K.faults out.new) (K.taken out.old) (K.taken out.new) (status_of result))) }
-    ensures download { IfOk words.now (λ words. (names : DownloadWords) → asked (map string_bytes words.items) ≡ Some (AskedDownload names) → RunsDialled names (F.file files.old) (F.faults files.old) (F.faults files.new) (record { faults = D.faults dial.old; dials = D.dials dial.old; given = D.given dial.old; link_back = D.link_back dial.old; port_back = D.port_back dial.old }) (record { faults = D.faults dial.new; dials = D.dials dial.new; given = D.given dial.new; link_back = D.link_back dial.new; port_back = D.port_back dial.new }) last.new (RepliesEnd (K.faults out.old) (K.faults out.new) (K.taken out.old) (K.taken out.new) (status_of result))) }
-    ensures gateway { IfOk words.now (λ words. (names : GatewayWords) → asked (map string_bytes words.items) ≡ Some (AskedGateway names) → RunsGateway names (F.file files.old) (F.faults files.old) (F.faults files.new) (record { faults = D.faults dial.old; dials = D.dials dial.old; given = D.given dial.old; link_back = D.link_back dial.old; port_back = D.port_back dial.old }) (record { faults = D.faults dial.new; dials = D.dials dial.new; given = D.given dial.new; link_back = D.link_back dial.new; port_back = D.port_back dial.new }) sim.old sim.new (RepliesServed (K.faults out.old) (K.faults out.new) (K.taken out.old) (K.taken out.new) (status_of result))) }
-    ensures begins { IfOk words.now (λ words. HasRunOf BeganRightly (map string_bytes words.items) (F.file files.old) sim.old (record { line = sim.new; report = last.new })) }
-    ensures old_stopped_or_new { IfOk words.now (λ words. HasRunOf HasOldStoppedOrNew (map string_bytes words.items) (F.file files.old) sim.old (record { line = sim.new; report = last.new })) }
-    ensures telegrams { IfOk words.now (λ words. HasRunOf HasTelegramsRight (map string_bytes words.items) (F.file files.old) sim.old (record { line = sim.new; report = last.new })) }
-    ensures done { IfOk words.now (λ words. HasRunOf RunsWhereDone (map string_bytes words.items) (F.file files.old) sim.old (record { line = sim.new; report = last.new })) }
-    ensures once { IfOk words.now (λ words. HasRunOf ActsOnce (map string_bytes words.items) (F.file files.old) sim.old (record { line = sim.new; report = last.new })) }
-    ensures told { IfOk words.now (λ words. HasRunOf IsToldRightly (map string_bytes words.items) (F.file files.old) sim.old (record { line = sim.new; report = last.new })) }
-    ensures thorough { IfOk words.now (λ words. HasRunOf EndsThoroughly (map string_bytes words.items) (F.file files.old) sim.old (record { line = sim.new; report = last.new })) }
-    ensures leaves { IfOk words.now (λ words. HasRunOf LeavesItsChannel (map string_bytes words.items) (F.file files.old) sim.old (record { line = sim.new; report = last.new })) }
-    ensures fault { IfOk words.now (λ words. HasRunOf HasFaultRight (map string_bytes words.items) (F.file files.old) sim.old (record { line = sim.new; report = last.new })) }
-    ensures over { IfOk words.now (λ words. HasRunOf EndsEveryJob (map string_bytes words.items) (F.file files.old) sim.old (record { line = sim.new; report = last.new })) }
-    ensures closed { IfOk words.now (λ words. HasRunOf ClosesToItsEnd (map string_bytes words.items) (F.file files.old) sim.old (record { line = sim.new; report = last.new })) }
-    ensures seats { IfOk words.now (λ words. HasRunOf IsOfOneWorker (map string_bytes words.items) (F.file files.old) sim.old (record { line = sim.new; report = last.new })) }
+    ensures usage { IfOk words.now (λ words. asked (map string_bytes words.items) ≡ None → Replies (K.now out.old) (K.now out.new) (status_of result) (Stops Usage)) }
+    ensures check { IfOk words.now (λ words. (names : ProjectWords) → asked (map string_bytes words.items) ≡ Some (AskedCheck names) → TellsOfProject IsCountsText names (F.now files.old) (F.now files.new) (Replies (K.now out.old) (K.now out.new) (status_of result))) }
+    ensures tables { IfOk words.now (λ words. (names : ProjectWords) → asked (map string_bytes words.items) ≡ Some (AskedTables names) → TellsOfProject IsTablesText names (F.now files.old) (F.now files.new) (Replies (K.now out.old) (K.now out.new) (status_of result))) }
+    ensures decode { IfOk words.now (λ words. (word : List ℕ) → asked (map string_bytes words.items) ≡ Some (AskedDecode word) → TellsOfFrame word (Replies (K.now out.old) (K.now out.new) (status_of result))) }
+    ensures sim { IfOk words.now (λ words. (names : SimWords) → asked (map string_bytes words.items) ≡ Some (AskedSim names) → RunsScript names (F.now files.old) (F.now files.new) sim.old (record { line = sim.new; report = last.new }) (Replies (K.now out.old) (K.now out.new) (status_of result))) }
+    ensures download { IfOk words.now (λ words. (names : DownloadWords) → asked (map string_bytes words.items) ≡ Some (AskedDownload names) → RunsDialled names (F.now files.old) (F.now files.new) (D.now dial.old) (D.now dial.new) last.new (RepliesEnd (K.now out.old) (K.now out.new) (status_of result))) }
+    ensures gateway { IfOk words.now (λ words. (names : GatewayWords) → asked (map string_bytes words.items) ≡ Some (AskedGateway names) → RunsGateway names (F.now files.old) (F.now files.new) (D.now dial.old) (D.now dial.new) sim.old sim.new (RepliesServed (K.now out.old) (K.now out.new) (status_of result))) }
+    ensures begins { IfOk words.now (λ words. HasRunOf BeganRightly (map string_bytes words.items) (F.now files.old) sim.old (record { line = sim.new; report = last.new })) }
+    ensures old_stopped_or_new { IfOk words.now (λ words. HasRunOf HasOldStoppedOrNew (map string_bytes words.items) (F.now files.old) sim.old (record { line = sim.new; report = last.new })) }
+    ensures telegrams { IfOk words.now (λ words. HasRunOf HasTelegramsRight (map string_bytes words.items) (F.now files.old) sim.old (record { line = sim.new; report = last.new })) }
+    ensures done { IfOk words.now (λ words. HasRunOf RunsWhereDone (map string_bytes words.items) (F.now files.old) sim.old (record { line = sim.new; report = last.new })) }
+    ensures once { IfOk words.now (λ words. HasRunOf ActsOnce (map string_bytes words.items) (F.now files.old) sim.old (record { line = sim.new; report = last.new })) }
+    ensures told { IfOk words.now (λ words. HasRunOf IsToldRightly (map string_bytes words.items) (F.now files.old) sim.old (record { line = sim.new; report = last.new })) }
+    ensures thorough { IfOk words.now (λ words. HasRunOf EndsThoroughly (map string_bytes words.items) (F.now files.old) sim.old (record { line = sim.new; report = last.new })) }
+    ensures leaves { IfOk words.now (λ words. HasRunOf LeavesItsChannel (map string_bytes words.items) (F.now files.old) sim.old (record { line = sim.new; report = last.new })) }
+    ensures fault { IfOk words.now (λ words. HasRunOf HasFaultRight (map string_bytes words.items) (F.now files.old) sim.old (record { line = sim.new; report = last.new })) }
+    ensures over { IfOk words.now (λ words. HasRunOf EndsEveryJob (map string_bytes words.items) (F.now files.old) sim.old (record { line = sim.new; report = last.new })) }
+    ensures closed { IfOk words.now (λ words. HasRunOf ClosesToItsEnd (map string_bytes words.items) (F.now files.old) sim.old (record { line = sim.new; report = last.new })) }
+    ensures seats { IfOk words.now (λ words. HasRunOf IsOfItsWorkers (map string_bytes words.items) (F.now files.old) sim.old (record { line = sim.new; report = last.new })) }
     ensures link { IfOk words.now (λ words. (names : SimWords) → asked (map string_bytes words.items) ≡ Some (AskedSim names) → FaultsOfLine last.new sim.new) }
-    ensures line { IfOk words.now (λ words. ((names : SimWords) → asked (map string_bytes words.items) ≢ Some (AskedSim names)) → ((names : GatewayWords) → asked (map string_bytes words.items) ≢ Some (AskedGateway names)) → sim.new ≡ sim.old) }
-    ensures undialled { IfOk words.now (λ words. ((names : DownloadWords) → asked (map string_bytes words.items) ≢ Some (AskedDownload names)) → ((names : GatewayWords) → asked (map string_bytes words.items) ≢ Some (AskedGateway names)) → dial.new ≡ dial.old) }
-    ensures no_run { IfOk words.now (λ words. ((names : SimWords) → asked (map string_bytes words.items) ≢ Some (AskedSim names)) → ((names : DownloadWords) → asked (map string_bytes words.items) ≢ Some (AskedDownload names)) → last.new ≡ None) }
-    ensures files { (name : List ℕ) → F.file files.new name ≡ F.file files.old name }
-    ensures reads { IfOk words.now (λ words. F.reads files.new ≤ F.reads files.old + length (files_of (asked (map string_bytes words.items)))) }
-    ensures faults { IfOk words.now (λ _. AtMostOneRose (F.faults files.old) (F.faults files.new)) }
+    ensures line { IfOk words.now (λ words. (touches (asked (map string_bytes words.items))).line ≡ false → sim.new ≡ sim.old) }
+    ensures undialled { IfOk words.now (λ words. (touches (asked (map string_bytes words.items))).network ≡ false → dial.new ≡ dial.old) }
+    ensures no_run { IfOk words.now (λ words. (touches (asked (map string_bytes words.items))).run ≡ false → last.new ≡ None) }
+    ensures files { (name : List ℕ) → (F.now files.new).file name ≡ (F.now files.old).file name }
+    ensures reads { IfOk words.now (λ words. (F.now files.new).reads ≤ (F.now files.old).reads + length (files_of (asked (map string_bytes words.items)))) }
+    ensures faults { IfOk words.now (λ _. AtMostOneRose (F.now files.old).faults (F.now files.new).faults) }
     // where memory is wanting for the words, that is told, and nothing else is done
     ensures untouched { IfErr words.now (λ _. (files.new ≡ files.old) × (sim.new ≡ sim.old) × (dial.new ≡ dial.old) × (last.new ≡ last.old)) }
-    ensures wanting { IfErr words.now (λ _. Replies (K.faults out.old) (K.faults out.new) (K.taken out.old) (K.taken out.new) (status_of result) (Stops (Wanting tt))) }
-    ensures written { K.writes out.new ≡ one_more (K.writes out.old) }
+    ensures wanting { IfErr words.now (λ _. Replies (K.now out.old) (K.now out.new) (status_of result) (Stops (Wanting tt))) }
+    ensures written { (K.now out.new).writes ≡ one_more (K.now out.old).writes }
 {
     match words {
         Ok(words) => knx(rt, alloc, words.as_slice(), files, out, sim, dial, last).number(),

@@ -80,11 +80,7 @@ fn write_out<W: Write>(writer: &mut W, octets: &[u8]) -> Result<(), SinkFailed>
 }
 
 impl<W: Steady> Sink for Output<W> {
-    ghost faults = { λ o. o.faults };
-
-    ghost writes = { λ o. o.writes };
-
-    ghost taken = { λ o. W.contents o.writer };
+    ghost now = { λ o. record { faults = o.faults; writes = o.writes; taken = W.contents o.writer } };
 
     fn write(&mut self, octets: &[u8]) -> Result<(), SinkFailed> {
         self.writes = self.writes.saturating_add(1);

@@ -23,6 +23,12 @@ pub data FileContent : Type 0 where
   Absent : FileContent
   Holds : List ℕ → FileContent
 
+-- what files tell: of each name what its file holds, and how many reads of it failed; and how many reads there were
+pub record FilesNow : Type 0 where
+  pub file : List ℕ → FileContent
+  pub faults : List ℕ → ℕ
+  pub reads : ℕ
+
 -- What a read of at most `limit` octets may answer: the front of the file that is told, or that it isn't there just where it is absent.
 -- Where nothing is told, at most so many octets are read.
 abbrev pub MayRead : FileContent → ℕ → Result (List ℕ) FileFault → Type 0
@@ -38,6 +44,12 @@ MayRead (Holds content) limit (Err Failed) = Unit {0}
 MayRead (Holds content) limit (Err (NoMemory want)) = Unit {0}
 
 -- ---- a sink
+
+-- what a sink tells: how many writes failed, how many writes there were, and all that was taken, where it tells that
+pub record SinkNow : Type 0 where
+  pub faults : ℕ
+  pub writes : ℕ
+  pub taken : Option (List ℕ)
 
 -- these octets were written behind all that was written before, where a sink tells it
 abbrev pub Wrote : List ℕ → Option (List ℕ) → Option (List ℕ) → Type 0

@@ -7,7 +7,7 @@ use Rattle.knx_model.specs.declared.outside.files.FileFault.TheVariants as fault
 use Rattle.call_words.specs.declared.status.Status.{Status}
 use Rattle.call_words.specs.declared.status.Status.TheVariants as status
 use Rattle.knx_model.specs.Meaning.{Installation}
-use Rattle.knx_model.specs.Outside.{FileContent, Untold, Absent, Holds, MayRead, Rose}
+use Rattle.knx_model.specs.Outside.{FileContent, FilesNow, SinkNow, Untold, Absent, Holds, MayRead, Rose}
 use Rattle.call_words.specs.ReportText.{stop_status}
 use Rattle.knx_top.specs.Command.{ProjectWords}
 use Rattle.knx_top.specs.Input.{limit, goes_on, IsRead, failed, first_some, OnlyRose, failed_of_project, fault_in}
@@ -90,53 +90,53 @@ memory_told (Stops told) (inl e) = ap stop_status e
 memory_told (Stops told) (inr e) = ap stop_status e
 memory_told (Tells text) h = absurd h
 memory_told (BreaksOff report) h = absurd h
-memory_told (Reports report jobs devices log) h = absurd h
+memory_told (Reports report jobs turns devices log) h = absurd h
 
-ended : (outcome : Outcome) (sink sink' : ℕ) (taken taken' : Option (List ℕ)) (ending : Status) → ¬ Rose sink sink' → Replies sink sink' taken taken' ending outcome → ending ≡ outcome_status outcome
-ended outcome sink sink' taken taken' ending still (inl wrote) = wrote.0
-ended outcome sink sink' taken taken' ending still (inr refused) = absurd (still refused.2)
+ended : (outcome : Outcome) (out out' : SinkNow) (ending : Status) → ¬ Rose out.faults out'.faults → Replies out out' ending outcome → ending ≡ outcome_status outcome
+ended outcome out out' ending still (inl wrote) = wrote.0
+ended outcome out out' ending still (inr refused) = absurd (still refused.2)
 
-told_whole : (IsText : List ℕ → Type 0) (outcome : Outcome) (sink sink' : ℕ) (taken taken' : Option (List ℕ)) (ending : Status) → ¬ Rose sink sink' → TellsText IsText outcome → Replies sink sink' taken taken' ending outcome → IsToldWhole IsText taken taken' ending
-told_whole IsText (Stops told) sink sink' taken taken' ending still h replied = inl (ended (Stops told) sink sink' taken taken' ending still replied ∙ ap stop_status h)
-told_whole IsText (Tells text) sink sink' taken taken' ending still h (inl wrote) = inr (wrote.0, (text, (h, wrote.1)))
-told_whole IsText (Tells text) sink sink' taken taken' ending still h (inr refused) = absurd (still refused.2)
-told_whole IsText (BreaksOff report) sink sink' taken taken' ending still h replied = absurd h
-told_whole IsText (Reports report jobs devices log) sink sink' taken taken' ending still h replied = absurd h
+told_whole : (IsText : List ℕ → Type 0) (outcome : Outcome) (out out' : SinkNow) (ending : Status) → ¬ Rose out.faults out'.faults → TellsText IsText outcome → Replies out out' ending outcome → IsToldWhole IsText out out' ending
+told_whole IsText (Stops told) out out' ending still h replied = inl (ended (Stops told) out out' ending still replied ∙ ap stop_status h)
+told_whole IsText (Tells text) out out' ending still h (inl wrote) = inr (wrote.0, (text, (h, wrote.1)))
+told_whole IsText (Tells text) out out' ending still h (inr refused) = absurd (still refused.2)
+told_whole IsText (BreaksOff report) out out' ending still h replied = absurd h
+told_whole IsText (Reports report jobs turns devices log) out out' ending still h replied = absurd h
 
 -- by what came of both files
-by_readings : (IsText : Installation → List ℕ → Type 0) (words : ProjectWords) (file : List ℕ → FileContent) (faults faults' : List ℕ → ℕ) (sink sink' : ℕ) (taken taken' : Option (List ℕ)) (ending : Status)
-    → (valid : IsValid file words) → ¬ Rose sink sink' → (t : TellsOfProject IsText words file faults faults' (Replies sink sink' taken taken' ending))
-    → (t.texts.catalogue ≡ named_told file words.catalogue) ⊎ (t.texts.catalogue ≡ wanting)
-    → (goes_on t.texts.catalogue ≡ true → (t.texts.project ≡ reading_told (file words.project)) ⊎ (t.texts.project ≡ wanting))
-    → IsToldWhole (IsText (project_told (texts_told file words))) taken taken' ending
-by_readings IsText words file faults faults' sink sink' taken taken' ending valid still t (inr none) project =
-    inl (ended t.outcome sink sink' taken taken' ending still t.replied ∙ memory_told t.outcome (t.stops (stop.NoMemory tt) (first_wants words t.texts.catalogue t.texts.project none)))
-by_readings IsText words file faults faults' sink sink' taken taken' ending valid still t (inl read) project =
+by_readings : (IsText : Installation → List ℕ → Type 0) (words : ProjectWords) (files files' : FilesNow) (out out' : SinkNow) (ending : Status)
+    → (valid : IsValid files.file words) → ¬ Rose out.faults out'.faults → (t : TellsOfProject IsText words files files' (Replies out out' ending))
+    → (t.texts.catalogue ≡ named_told files.file words.catalogue) ⊎ (t.texts.catalogue ≡ wanting)
+    → (goes_on t.texts.catalogue ≡ true → (t.texts.project ≡ reading_told (files.file words.project)) ⊎ (t.texts.project ≡ wanting))
+    → IsToldWhole (IsText (project_told (texts_told files.file words))) out out' ending
+by_readings IsText words files files' out out' ending valid still t (inr none) project =
+    inl (ended t.outcome out out' ending still t.replied ∙ memory_told t.outcome (t.stops (stop.NoMemory tt) (first_wants words t.texts.catalogue t.texts.project none)))
+by_readings IsText words files files' out out' ending valid still t (inl read) project =
     let on : goes_on t.texts.catalogue ≡ true = ap goes_on read ∙ valid.catalogue in
     by_project (project on)
   where
     both : (a b c d : Reading) → a ≡ b → c ≡ d → (let one : ProjectTexts = record { catalogue = a; project = c } in let other : ProjectTexts = record { catalogue = b; project = d } in one ≡ other)
     both a b c d e f = rw (e, f) refl
 
-    by_project : (t.texts.project ≡ reading_told (file words.project)) ⊎ (t.texts.project ≡ wanting) → IsToldWhole (IsText (project_told (texts_told file words))) taken taken' ending
+    by_project : (t.texts.project ≡ reading_told (files.file words.project)) ⊎ (t.texts.project ≡ wanting) → IsToldWhole (IsText (project_told (texts_told files.file words))) out out' ending
     by_project (inr none) =
-        inl (ended t.outcome sink sink' taken taken' ending still t.replied ∙ memory_told t.outcome (t.stops (stop.NoMemory tt) (second_wants words t.texts.catalogue t.texts.project (ap goes_on read ∙ valid.catalogue) none)))
+        inl (ended t.outcome out out' ending still t.replied ∙ memory_told t.outcome (t.stops (stop.NoMemory tt) (second_wants words t.texts.catalogue t.texts.project (ap goes_on read ∙ valid.catalogue) none)))
     by_project (inl whole) =
-        let same : texts_told file words ≡ t.texts = sym (both t.texts.catalogue (named_told file words.catalogue) t.texts.project (reading_told (file words.project)) read whole) in
+        let same : texts_told files.file words ≡ t.texts = sym (both t.texts.catalogue (named_told files.file words.catalogue) t.texts.project (reading_told (files.file words.project)) read whole) in
         let passes : first_some (project_tests words t.texts) ≡ None = subst (λ (x : ProjectTexts). first_some (project_tests words x) ≡ None) same valid.passes in
-        let told : TellsText (IsText (project_told (texts_told file words))) t.outcome = subst (λ (x : ProjectTexts). TellsText (IsText (project_told x)) t.outcome) (sym same) (t.tells passes) in
-        told_whole (IsText (project_told (texts_told file words))) t.outcome sink sink' taken taken' ending still told t.replied
+        let told : TellsText (IsText (project_told (texts_told files.file words))) t.outcome = subst (λ (x : ProjectTexts). TellsText (IsText (project_told x)) t.outcome) (sym same) (t.tells passes) in
+        told_whole (IsText (project_told (texts_told files.file words))) t.outcome out out' ending still told t.replied
 
-pub complete : (IsText : Installation → List ℕ → Type 0) (words : ProjectWords) (file : List ℕ → FileContent) (faults faults' : List ℕ → ℕ) (sink sink' : ℕ) (taken taken' : Option (List ℕ)) (ending : Status)
-    → IsValid file words → NoneRose faults faults' sink sink' → TellsOfProject IsText words file faults faults' (Replies sink sink' taken taken' ending) → IsToldWhole (IsText (project_told (texts_told file words))) taken taken' ending
-complete IsText words file faults faults' sink sink' taken taken' ending valid still t =
-    let none : failed_of_project words t.texts ≡ None = none_failed _ faults faults' still.files t.counts in
-    by_readings IsText words file faults faults' sink sink' taken taken' ending valid still.out t
-    (named_read file words.catalogue t.texts.catalogue valid.catalogue t.is_read.catalogue (first_none _ _ none))
-    (λ on. one_read file (goes_on t.texts.catalogue) words.project t.texts.project on valid.project t.is_read.project (second_none _ _ none))
+pub complete : (IsText : Installation → List ℕ → Type 0) (words : ProjectWords) (files files' : FilesNow) (out out' : SinkNow) (ending : Status)
+    → IsValid files.file words → NoneRose files files' out out' → TellsOfProject IsText words files files' (Replies out out' ending) → IsToldWhole (IsText (project_told (texts_told files.file words))) out out' ending
+complete IsText words files files' out out' ending valid still t =
+    let none : failed_of_project words t.texts ≡ None = none_failed _ files.faults files'.faults still.reads t.counts in
+    by_readings IsText words files files' out out' ending valid still.writes t
+    (named_read files.file words.catalogue t.texts.catalogue valid.catalogue t.is_read.catalogue (first_none _ _ none))
+    (λ on. one_read files.file (goes_on t.texts.catalogue) words.project t.texts.project on valid.project t.is_read.project (second_none _ _ none))
 
 -- ---- `decode`
 
-pub decoded : (word octets : List ℕ) (sink sink' : ℕ) (taken taken' : Option (List ℕ)) (ending : Status) → hex_word word ≡ Some octets → ¬ Rose sink sink' → TellsOfFrame word (Replies sink sink' taken taken' ending) → IsToldWhole (IsFrameText octets) taken taken' ending
-decoded word octets sink sink' taken taken' ending is still t =
-    told_whole (IsFrameText octets) t.outcome sink sink' taken taken' ending still (subst (λ (found : Option (List ℕ)). TellsOf IsFrameText (octets_or_usage found) t.outcome) is t.tells) t.replied
+pub decoded : (word octets : List ℕ) (out out' : SinkNow) (ending : Status) → hex_word word ≡ Some octets → ¬ Rose out.faults out'.faults → TellsOfFrame word (Replies out out' ending) → IsToldWhole (IsFrameText octets) out out' ending
+decoded word octets out out' ending is still t =
+    told_whole (IsFrameText octets) t.outcome out out' ending still (subst (λ (found : Option (List ℕ)). TellsOf IsFrameText (octets_or_usage found) t.outcome) is t.tells) t.replied

@@ -9,12 +9,12 @@ use Rattle.hub_driver.specs.Heard.{HeardAll}
 use Rattle.hub_driver.specs.Leaving.{LeavesOver}
 use Rattle.call_words.specs.declared.stop.Stop.{Stop}
 use Rattle.call_words.specs.declared.job_word.JobWord.{JobWord}
-use Rattle.knx_model.specs.Outside.{FileContent, one_more}
+use Rattle.knx_model.specs.Outside.{FilesNow, one_more}
 use Rattle.knx_model.specs.Meaning.{Installation}
 use Rattle.line_model.specs.declared.log.LogEntry.{LogEntry}
 use Rattle.line_model.specs.declared.log.Report.{Report}
 use Rattle.line_model.specs.declared.group.GroupTurn.{GroupTurn}
-use Rattle.line_model.specs.Dialled.{Address, TakesBack, Tells}
+use Rattle.line_model.specs.Dialled.{Address, DialerNow, TakesBack, Tells}
 use Rattle.line_model.specs.Headline.{Keeps}
 use Rattle.line_model.specs.LinkStory.{Story, Untold, Recorded, Full, IsNewLink, record_in}
 use Rattle.line_model.specs.Log.{Job, IsLog, OneDownloaderPerDevice, AllOver}
@@ -22,11 +22,11 @@ use Rattle.tunnel_link.specs.Goes.{GoesOn}
 use Rattle.tunnel_link.specs.Rights.{FailsWhere, WhereTold}
 use Rattle.knx_top.specs.Call.{AtMostOneRose}
 use Rattle.knx_top.specs.Command.{Command, Download as AskedDownload, DownloadWords, ProjectWords}
-use Rattle.knx_top.specs.Dialled.{DialEnd, DialerNow, DialledRun, Dials, DialsOr, Download, HasItsCause, IsToldOver, MeansOver, NotReached, RunsDialled, Shown, Stopped, StopsFor, Unshown, download_tests, download_told, judged_download, project_named, report_of}
+use Rattle.knx_top.specs.Dialled.{DialEnd, DialledRun, Dials, DialsOr, Download, HasItsCause, IsToldOver, MeansOver, NotReached, RunsDialled, Shown, Stopped, StopsFor, Unshown, download_tests, download_told, judged_download, project_named, report_of}
 use Rattle.knx_top.specs.Input.{ProjectIsRead, OnlyRose, failed_of_project}
 use Rattle.knx_top.specs.Jobs.{ArePlanned, seen_job}
 use Rattle.knx_top.specs.Ran.{log_in}
-use Rattle.knx_top.specs.Ready.{IsReady, wanting_end}
+use Rattle.knx_top.specs.Ready.{IsReadyFor, wanting_end}
 use Rattle.knx_top.specs.declared.dialled.Ready.{Ready}
 use Rattle.knx_top.specs.declared.input.ProjectTexts.{ProjectTexts}
 use Rattle.knx_top.proofs.Dialling.{judged_download_is}
@@ -54,7 +54,7 @@ means_over project jobs words (Full start events) log planned right = (devices_m
 pub told_over : (jobs : List Job) (groups : List GroupTurn) (began after : Story) (place : ℕ) (report : Report) → groups ≡ [] → IsNewLink began → GoesOn began after → Keeps jobs groups after (log_in report) → IsRightOver jobs after (log_in report)
     → IsThoroughOver jobs after (log_in report) → LeavesOver jobs groups after (log_in report)
     → FaultRightIn jobs (log_in report) report.fault (record_in after) → (report.fault ≡ None → AllOver jobs (log_in report)) → (report.fault ≡ None → WhereTold (HasClosed (log_in report)) after) → IsLog jobs groups place (log_in report) → OneDownloaderPerDevice jobs (log_in report) → IsOfWorkers 1 (log_in report)
-    → (report.fault ≡ None → HeardAll report.heard (record_in after)) → report.missed ≡ 0 → DropsIn report.dropped (record_in after) → IsToldOver jobs after report
+    → (report.fault ≡ None → HeardAll report.heard (record_in after)) → report.missed ≡ 0 → DropsIn report.dropped (record_in after) → IsToldOver 1 [] jobs after report
 told_over jobs groups began after place report none new goes keeps right thorough leaves fault ended closed form alone seats heard missed dropped = record {
   began = began;
   new = new;
@@ -78,27 +78,28 @@ told_over jobs groups began after place report none new goes keeps right thoroug
 pub to_address : (one other : Address) (given : Option Address) → one ≡ other → Tells other.host other.port given → Tells one.host one.port given
 to_address one other given same tells = subst (λ (at : Address). Tells at.host at.port given) (sym same) tells
 
-dialled : (d : Download) (ready : Ready) (before after : DialerNow) (report : Report) → IsReady d.project d.options.jobs ready → Tells d.at.host d.at.port after.given → after.dials ≡ one_more before.dials → IsToldOver (map seen_job ready.plans) after.link_back report
+dialled : (d : Download) (ready : Ready) (before after : DialerNow) (report : Report) → IsReadyFor d ready → Tells d.at.host d.at.port after.given → after.dials ≡ one_more before.dials → IsToldOver 1 [] (map seen_job ready.plans) after.link_back report
     → (since : ℕ) → before.faults ≤ since → HasItsCause report since after.faults → DialledRun d before after report ready.jobs
 dialled d ready before after report is given once told since count cause = record {
   given = given;
   once = once;
-  words_are = is.jobs;
+  words_are = is.prepared.jobs;
   jobs = map seen_job ready.plans;
-  planned = is.plans;
-  told = told;
-  means = means_over d.project (map seen_job ready.plans) ready.jobs after.link_back (log_in report) is.plans told.right;
+  planned = is.prepared.plans;
+  told = rw (is.workers, is.turns) told;
+  means = means_over d.project (map seen_job ready.plans) ready.jobs after.link_back (log_in report) is.prepared.plans told.right;
   since = since;
   count = count;
   cause = cause;
 }
 
 -- the gateway was reached: a dial gave a link, and the run over it told this
-pub reached : (d : Download) (ready : Ready) (at : Address) (faults : ℕ) (given : Option Address) (before after : DialerNow) (report : Report) (log : Bool) → IsReady d.project d.options.jobs ready → d.at ≡ at → log ≡ d.options.log
-    → before.faults ≤ faults → Tells at.host at.port given → after.given ≡ given → after.dials ≡ one_more before.dials → IsToldOver (map seen_job ready.plans) after.link_back report → HasItsCause report faults after.faults
-    → Dials d before after (Shown report ready.jobs log)
+pub reached : (d : Download) (ready : Ready) (at : Address) (faults : ℕ) (given : Option Address) (before after : DialerNow) (report : Report) (log : Bool) → IsReadyFor d ready → d.at ≡ at → log ≡ d.options.log
+    → before.faults ≤ faults → Tells at.host at.port given → after.given ≡ given → after.dials ≡ one_more before.dials → IsToldOver 1 [] (map seen_job ready.plans) after.link_back report → HasItsCause report faults after.faults
+    → Dials d before after (Shown report ready.jobs 0 log)
 reached d ready at faults given before after report log is same logs count tells stays once told cause = (
   dialled d ready before after report is (subst (λ (told : Option Address). Tells d.at.host d.at.port told) (sym stays) (to_address d.at at given same tells)) once told faults count cause,
+  rw is.turns refl,
   logs,
 )
 
@@ -108,13 +109,13 @@ stop_wants : (why : Stop) (ending : DialEnd) → StopsFor why ending → StopsFo
 stop_wants why (Stopped told) h = inr refl
 stop_wants why NotReached h = absurd h
 stop_wants why (Unshown report) h = absurd h
-stop_wants why (Shown report words log) h = absurd h
+stop_wants why (Shown report words turns log) h = absurd h
 
 dials_wants : (d : Download) (before after : DialerNow) (ending : DialEnd) → Dials d before after ending → Dials d before after (wanting_end ending)
 dials_wants d before after (Stopped told) h = (refl, h.1)
 dials_wants d before after NotReached h = h
 dials_wants d before after (Unshown report) h = h
-dials_wants d before after (Shown report words log) h = (words, h.0)
+dials_wants d before after (Shown report words turns log) h = (words, h.0)
 
 comes_wanting : (j : Result Download Stop) (before after : DialerNow) (ending : DialEnd) → DialsOr j before after ending → DialsOr j before after (wanting_end ending)
 comes_wanting (Err why) before after ending h = (stop_wants why ending h.0, h.1)
@@ -124,14 +125,14 @@ report_wants : (ending : DialEnd) → report_of (wanting_end ending) ≡ report_
 report_wants (Stopped told) = refl
 report_wants NotReached = refl
 report_wants (Unshown report) = refl
-report_wants (Shown report words log) = refl
+report_wants (Shown report words turns log) = refl
 
 -- ---- the whole of it
 
-from_end : (words : DownloadWords) (file : List ℕ → FileContent) (faults faults' : List ℕ → ℕ) (before after : DialerNow) (report : Option Report) (Replied : DialEnd → Type 0) (texts : ProjectTexts) (ending : DialEnd)
-    → ProjectIsRead file (project_named words) texts → OnlyRose (failed_of_project (project_named words) texts) faults faults' → DialsOr (judged_download words texts) before after ending → report ≡ report_of ending → Replied ending
-    → RunsDialled words file faults faults' before after report Replied
-from_end words file faults faults' before after report Replied texts ending is counts comes report_is replied =
+from_end : (words : DownloadWords) (files files' : FilesNow) (before after : DialerNow) (report : Option Report) (Replied : DialEnd → Type 0) (texts : ProjectTexts) (ending : DialEnd)
+    → ProjectIsRead files.file (project_named words) texts → OnlyRose (failed_of_project (project_named words) texts) files.faults files'.faults → DialsOr (judged_download words texts) before after ending → report ≡ report_of ending → Replied ending
+    → RunsDialled words files files' before after report Replied
+from_end words files files' before after report Replied texts ending is counts comes report_is replied =
     let came : DialsOr (unless_stopped (download_tests words texts) (download_told words texts)) before after ending = subst (λ (j : Result Download Stop). DialsOr j before after ending) (judged_download_is words texts) comes in
     record {
       texts = texts;
@@ -144,33 +145,33 @@ from_end words file faults faults' before after report Replied texts ending is c
       replied = replied;
     }
 
-end_or_wanting : (words : DownloadWords) (file : List ℕ → FileContent) (faults faults' : List ℕ → ℕ) (before after : DialerNow) (report : Option Report) (Replied : DialEnd → Type 0) (texts : ProjectTexts) (ending : DialEnd)
-    → ProjectIsRead file (project_named words) texts → OnlyRose (failed_of_project (project_named words) texts) faults faults' → DialsOr (judged_download words texts) before after ending → report ≡ report_of ending
-    → Replied ending ⊎ Replied (wanting_end ending) → RunsDialled words file faults faults' before after report Replied
-end_or_wanting words file faults faults' before after report Replied texts ending is counts comes report_is (inl replied) = from_end words file faults faults' before after report Replied texts ending is counts comes report_is replied
-end_or_wanting words file faults faults' before after report Replied texts ending is counts comes report_is (inr replied) =
-    from_end words file faults faults' before after report Replied texts (wanting_end ending) is counts (comes_wanting _ before after ending comes) (report_is ∙ sym (report_wants ending)) replied
+end_or_wanting : (words : DownloadWords) (files files' : FilesNow) (before after : DialerNow) (report : Option Report) (Replied : DialEnd → Type 0) (texts : ProjectTexts) (ending : DialEnd)
+    → ProjectIsRead files.file (project_named words) texts → OnlyRose (failed_of_project (project_named words) texts) files.faults files'.faults → DialsOr (judged_download words texts) before after ending → report ≡ report_of ending
+    → Replied ending ⊎ Replied (wanting_end ending) → RunsDialled words files files' before after report Replied
+end_or_wanting words files files' before after report Replied texts ending is counts comes report_is (inl replied) = from_end words files files' before after report Replied texts ending is counts comes report_is replied
+end_or_wanting words files files' before after report Replied texts ending is counts comes report_is (inr replied) =
+    from_end words files files' before after report Replied texts (wanting_end ending) is counts (comes_wanting _ before after ending comes) (report_is ∙ sym (report_wants ending)) replied
 
 -- where these files were read
-pub runs_dialled : (words : DownloadWords) (named : ProjectWords) (file : List ℕ → FileContent) (faults faults' : List ℕ → ℕ) (before after : DialerNow) (report : Option Report) (Replied : DialEnd → Type 0) (texts : ProjectTexts) (ending : DialEnd)
-    → named ≡ project_named words → ProjectIsRead file named texts → OnlyRose (failed_of_project named texts) faults faults' → DialsOr (judged_download words texts) before after ending → report ≡ report_of ending
-    → Replied ending ⊎ Replied (wanting_end ending) → RunsDialled words file faults faults' before after report Replied
-runs_dialled words named file faults faults' before after report Replied texts ending same is counts comes report_is replied =
-    end_or_wanting words file faults faults' before after report Replied texts ending (subst (λ (these : ProjectWords). ProjectIsRead file these texts) same is)
-    (subst (λ (these : ProjectWords). OnlyRose (failed_of_project these texts) faults faults') same counts) comes report_is replied
+pub runs_dialled : (words : DownloadWords) (named : ProjectWords) (files files' : FilesNow) (before after : DialerNow) (report : Option Report) (Replied : DialEnd → Type 0) (texts : ProjectTexts) (ending : DialEnd)
+    → named ≡ project_named words → ProjectIsRead files.file named texts → OnlyRose (failed_of_project named texts) files.faults files'.faults → DialsOr (judged_download words texts) before after ending → report ≡ report_of ending
+    → Replied ending ⊎ Replied (wanting_end ending) → RunsDialled words files files' before after report Replied
+runs_dialled words named files files' before after report Replied texts ending same is counts comes report_is replied =
+    end_or_wanting words files files' before after report Replied texts ending (subst (λ (these : ProjectWords). ProjectIsRead files.file these texts) same is)
+    (subst (λ (these : ProjectWords). OnlyRose (failed_of_project these texts) files.faults files'.faults) same counts) comes report_is replied
 
 -- ---- which command it is
 
-pub rose_at_most : (words : DownloadWords) (file : List ℕ → FileContent) (faults faults' : List ℕ → ℕ) (before after : DialerNow) (report : Option Report) (Replied : DialEnd → Type 0) → RunsDialled words file faults faults' before after report Replied → AtMostOneRose faults faults'
-rose_at_most words file faults faults' before after report Replied run = (failed_of_project (project_named words) run.texts, run.counts)
+pub rose_at_most : (words : DownloadWords) (files files' : FilesNow) (before after : DialerNow) (report : Option Report) (Replied : DialEnd → Type 0) → RunsDialled words files files' before after report Replied → AtMostOneRose files.faults files'.faults
+rose_at_most words files files' before after report Replied run = (failed_of_project (project_named words) run.texts, run.counts)
 
 same_words : (one other : DownloadWords) → AskedDownload one ≡ AskedDownload other → one ≡ other
 same_words one other e = cc
 
 -- the run is of the words that were asked
-pub of_words : (command : Command) (told names : DownloadWords) (file : List ℕ → FileContent) (faults faults' : List ℕ → ℕ) (before after : DialerNow) (report : Option Report) (Replied : DialEnd → Type 0) → command ≡ AskedDownload told → command ≡ AskedDownload names
-    → RunsDialled told file faults faults' before after report Replied → RunsDialled names file faults faults' before after report Replied
-of_words command told names file faults faults' before after report Replied is e run = subst (λ (words : DownloadWords). RunsDialled words file faults faults' before after report Replied) (same_words told names (sym is ∙ e)) run
+pub of_words : (command : Command) (told names : DownloadWords) (files files' : FilesNow) (before after : DialerNow) (report : Option Report) (Replied : DialEnd → Type 0) → command ≡ AskedDownload told → command ≡ AskedDownload names
+    → RunsDialled told files files' before after report Replied → RunsDialled names files files' before after report Replied
+of_words command told names files files' before after report Replied is e run = subst (λ (words : DownloadWords). RunsDialled words files files' before after report Replied) (same_words told names (sym is ∙ e)) run
 
 pub same_command : (one other : Command) → Some one ≡ Some other → one ≡ other
 same_command one other e = cc

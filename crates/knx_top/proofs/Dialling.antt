@@ -5,10 +5,11 @@ use Rattle.call_words.specs.declared.stop.Stop.{Stop}
 use Rattle.call_words.specs.declared.stop.Stop.TheVariants as stop
 use Rattle.call_words.specs.declared.job_word.JobWord.{JobWord}
 use Rattle.knx_model.specs.Meaning.{Installation}
+use Rattle.line_model.specs.Dialled.{DialerNow}
 use Rattle.knx_top.specs.Command.{DownloadWords, SimOptions}
-use Rattle.knx_top.specs.Dialled.{DialEnd, DialerNow, Dials, DialsOr, Download, Stopped, download_tests, download_told, judged_download, project_named, with_project}
+use Rattle.knx_top.specs.Dialled.{DialEnd, Dials, DialsOr, Download, Stopped, download_of, download_tests, download_told, judged_download, project_named, with_project}
 use Rattle.knx_top.specs.Judged.{judged_project, known_jobs}
-use Rattle.knx_top.specs.Ready.{IsReady, ReadyFor}
+use Rattle.knx_top.specs.Ready.{IsReady, IsReadyFor, ReadyFor}
 use Rattle.knx_top.specs.Stops.{is_known, project_tests, project_told, unknown_job, unless_known}
 use Rattle.knx_top.specs.declared.dialled.Ready.{Ready}
 use Rattle.knx_top.specs.declared.input.ProjectTexts.{ProjectTexts}
@@ -16,9 +17,9 @@ use Rattle.knx_top.proofs.Stops.{failed_step, judged_project_is, passed, step, u
 
 -- ---- the tests
 
-known_step : (words : DownloadWords) (project : Installation) → with_project words project ≡ unless_stopped (unless_known (list_all (is_known project) words.options.jobs) ∷ []) (let d : Download = record { at = words.at; project = project; options = words.options } in d)
+known_step : (words : DownloadWords) (project : Installation) → with_project words project ≡ unless_stopped (unless_known (list_all (is_known project) words.options.jobs) ∷ []) (download_of words project)
 known_step words project =
-    let d : Download = record { at = words.at; project = project; options = words.options } in
+    let d : Download = download_of words project in
     let known : Option Stop = unless_known (list_all (is_known project) words.options.jobs) in
     step (known ∷ []) [] (known_jobs project words.options.jobs) words.options.jobs (λ (jobs : List JobWord). Ok d) d (failed_step known words.options.jobs) refl
 
@@ -37,7 +38,7 @@ unknown_stops words project named are all =
 pub known_ready : (words : DownloadWords) (project : Installation) (named : List JobWord) (ready : Ready) → named ≡ words.options.jobs → list_all (is_known project) named ≡ true → IsReady project named ready → ReadyFor (with_project words project) ready
 known_ready words project named ready are all is =
     let these : list_all (is_known project) words.options.jobs ≡ true = subst (λ (jobs : List JobWord). list_all (is_known project) jobs ≡ true) are all in
-    rw these (subst (λ (jobs : List JobWord). IsReady project jobs ready) are is)
+    rw these (record { prepared = subst (λ (jobs : List JobWord). IsReady project jobs ready) are is; workers = refl; turns = refl })
 
 -- ---- where the call stops before it dials
 
@@ -68,12 +69,12 @@ dialled_stop (Ok d) told now h = elim (is_memory told) [
 -- ---- where it dials
 
 -- of what the jobs are for
-pub of_ready : (P : Type 0) (j : Result Download Stop) (ready : Ready) → ReadyFor j ready → ((d : Download) → IsReady d.project d.options.jobs ready → P) → P
+pub of_ready : (P : Type 0) (j : Result Download Stop) (ready : Ready) → ReadyFor j ready → ((d : Download) → IsReadyFor d ready → P) → P
 of_ready P (Err why) ready r h = absurd r
 of_ready P (Ok d) ready r h = h d r
 
 decided : (j : Result Download Stop) (words : DownloadWords) (ready : Ready) (before after : DialerNow) (ending : DialEnd) → ((d : Download) → j ≡ Ok d → (d.at ≡ words.at) × (d.options ≡ words.options)) → ReadyFor j ready
-    → ((d : Download) → IsReady d.project d.options.jobs ready → d.at ≡ words.at → words.options.log ≡ d.options.log → Dials d before after ending) → DialsOr j before after ending
+    → ((d : Download) → IsReadyFor d ready → d.at ≡ words.at → words.options.log ≡ d.options.log → Dials d before after ending) → DialsOr j before after ending
 decided (Err why) words ready before after ending has r dials = absurd r
 decided (Ok d) words ready before after ending has r dials = let h = has d refl in dials d r h.0 (sym (ap (λ (these : SimOptions). these.log) h.1))
 
@@ -83,5 +84,5 @@ its_words words texts d e =
     (ap (λ (told : Download). told.at) same, ap (λ (told : Download). told.options) same)
 
 pub dialled_run : (words : DownloadWords) (texts : ProjectTexts) (ready : Ready) (before after : DialerNow) (ending : DialEnd) → ReadyFor (judged_download words texts) ready
-    → ((d : Download) → IsReady d.project d.options.jobs ready → d.at ≡ words.at → words.options.log ≡ d.options.log → Dials d before after ending) → DialsOr (judged_download words texts) before after ending
+    → ((d : Download) → IsReadyFor d ready → d.at ≡ words.at → words.options.log ≡ d.options.log → Dials d before after ending) → DialsOr (judged_download words texts) before after ending
 dialled_run words texts ready before after ending r dials = decided (judged_download words texts) words ready before after ending (its_words words texts) r dials

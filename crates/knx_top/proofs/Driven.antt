@@ -145,6 +145,7 @@ driven c order line report is one goes says fresh legal follows keeps thorough l
     let in_run : mode line.run ≡ Commissions = ap mode_of (still_one order.line.run line.run one goes) in
     let now_right : IsRight jobs (start line.run) line.run.events (log_in report) = subst (λ s. IsRightOver jobs s (log_in report)) whole right in
     let kept : Keeps jobs [] (Full (start line.run) line.run.events) (log_in report) = subst (λ s. Keeps jobs [] s (log_in report)) whole keeps in
+    let left : LeavesOver jobs [] (Full (start line.run) line.run.events) (log_in report) = subst (λ s. LeavesOver jobs [] s (log_in report)) whole leaves in
     let run : IsRunOf c line.run = is_run c order line.run is (same_start order.line.run line.run one goes) says fresh
     (subst (λ m. IsLegal m (start line.run) line.run.events) in_run legal) (subst (λ m. Follows (script line.run) m (start line.run) line.run.events) in_run follows) in
     record {
@@ -154,14 +155,14 @@ driven c order line report is one goes says fresh legal follows keeps thorough l
       planned = is.prepared.plans;
       promises = keeps_promises c order line.run (log_in report) is run now_right;
       told = record {
-        disciplined = kept.disciplined;
+        disciplined = rw is.turns kept.disciplined;
         thorough = subst (λ s. IsThoroughOver jobs s (log_in report)) whole thorough;
-        leaves = subst (λ s. LeavesOver jobs [] s (log_in report)) whole leaves;
+        leaves = rw is.turns left;
         fault = subst (λ s. FaultRightIn jobs (log_in report) report.fault (record_in s)) whole fault;
         ended = over;
         closed = λ none. subst (λ s. WhereTold (HasClosed (log_in report)) s) whole (closed none) (placed (start line.run) line.run.events) refl;
         heard = λ none. subst (λ s. HeardAll report.heard (record_in s)) whole (heard none);
-        seats = seats;
+        seats = rw is.workers seats;
         missed = missed;
         dropped = subst (λ s. DropsIn report.dropped (record_in s)) whole dropped;
       };

@@ -36,4 +36,6 @@ ordered o new old lines named line order begins are all groups sound is prepared
       line = subst (λ (l : BusNow). BeginsLine new old lines l.run) (sym is) begins;
       sound = ap (λ (l : BusNow). l.faults) is ∙ sound;
       prepared = subst (λ (jobs : List JobWord). IsPrepared new old jobs order) are prepared;
+      workers = refl;
+      turns = refl;
     })

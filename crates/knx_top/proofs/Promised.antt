@@ -4,7 +4,7 @@ use Rattle.bus_sim.specs.RunNow.{RunNow}
 use Rattle.call_words.specs.declared.job_word.JobWord.{JobWord}
 use Rattle.line_model.specs.declared.log.Report.{Report}
 use Rattle.line_model.specs.Log.{Job}
-use Rattle.knx_top.specs.Headline.{OfItsJobs, BeganRightly, HasOldStoppedOrNew, HasTelegramsRight, RunsWhereDone, ActsOnce, IsToldRightly, EndsThoroughly, LeavesItsChannel, HasFaultRight, EndsEveryJob, ClosesToItsEnd, IsOfOneWorker}
+use Rattle.knx_top.specs.Headline.{OfItsJobs, BeganRightly, HasOldStoppedOrNew, HasTelegramsRight, RunsWhereDone, ActsOnce, IsToldRightly, EndsThoroughly, LeavesItsChannel, HasFaultRight, EndsEveryJob, ClosesToItsEnd, IsOfItsWorkers}
 use Rattle.knx_top.specs.Ran.{Ran}
 use Rattle.knx_top.specs.Stops.{Commission}
 
@@ -44,5 +44,5 @@ ends_every_job c r report words ran = of_its_jobs c r report words _ ran ran.tol
 pub closes_to_its_end : (c : Commission) (r : RunNow) (report : Report) (words : List JobWord) → Ran c r report words → ClosesToItsEnd c r report
 closes_to_its_end c r report words ran = ran.told.closed
 
-pub of_one_worker : (c : Commission) (r : RunNow) (report : Report) (words : List JobWord) → Ran c r report words → IsOfOneWorker c r report
-of_one_worker c r report words ran = ran.told.seats
+pub of_its_workers : (c : Commission) (r : RunNow) (report : Report) (words : List JobWord) → Ran c r report words → IsOfItsWorkers c r report
+of_its_workers c r report words ran = ran.told.seats

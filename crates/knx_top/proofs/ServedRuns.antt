@@ -13,11 +13,11 @@ use Rattle.call_words.specs.declared.stop.Stop.TheVariants as stop
 use Rattle.knx_model.specs.declared.no_memory.NoMemory.{NoMemory}
 use Rattle.call_words.specs.declared.status.Status.{Status}
 use Rattle.call_words.specs.declared.status.Status.TheVariants as status
-use Rattle.knx_model.specs.Outside.{FileContent, one_more}
+use Rattle.knx_model.specs.Outside.{FilesNow, SinkNow, one_more}
 use Rattle.call_words.specs.ReportText.{stop_text}
 use Rattle.line_model.specs.declared.outside.port.PortFault.{PortFault}
 use Rattle.line_model.specs.declared.outside.port.PortFault.TheVariants as fault
-use Rattle.line_model.specs.Dialled.{Address, TakesBack, Tells}
+use Rattle.line_model.specs.Dialled.{Address, DialerNow, TakesBack, Tells}
 use Rattle.line_model.specs.Follows.{Follows}
 use Rattle.line_model.specs.Fresh.{IsFresh}
 use Rattle.line_model.specs.Legal.{IsLegal}
@@ -30,7 +30,6 @@ use Rattle.knx_top.specs.Begun.{BeginsLine}
 use Rattle.knx_top.specs.Bound.{IsTextOfEnd, RepliesServedOf, end_of_serving, wanting_end}
 use Rattle.knx_top.specs.Call.{AtMostOneRose, Writes}
 use Rattle.knx_top.specs.Command.{Command, Gateway as AskedGateway, GatewayWords}
-use Rattle.knx_top.specs.Dialled.{DialerNow}
 use Rattle.knx_top.specs.Gateway.{GatewayEnd, Stopped, NotBound, Ended, OpenTurns, Failed, Unserved, Unshown, HasCause, IsServed, RunsGateway, Service, Serves, ServesOr, ServesTo, ServedRun, Serving, StopsFor, gateway_tests, gateway_told, judged_gateway}
 use Rattle.knx_top.specs.Input.{GatewayIsRead, OnlyRose, failed_of_gateway}
 use Rattle.knx_top.specs.declared.input.GatewayTexts.{GatewayTexts}
@@ -180,19 +179,19 @@ comes_wanting (Ok s) before after line line' ending h = serves_wants s before af
 -- ---- what is written
 
 -- that all turns were used is written, or that there was no memory for it
-pub turns_told : (turns : ℕ) (text : Result Text NoMemory) (faults faults' : ℕ) (taken taken' : Option (List ℕ)) (told : Status) → IfOk text (λ p. IsTextOfEnd (OpenTurns turns) p.octets p.status)
-    → IfOk text (λ p. Writes p.octets p.status faults faults' taken taken' told) → IfErr text (λ _. Writes (stop_text (stop.NoMemory tt)) (status.NoMemory tt) faults faults' taken taken' told)
-    → RepliesServedOf faults faults' taken taken' told (OpenTurns turns)
-turns_told turns (Ok text) faults faults' taken taken' told is writes wants =
-    inl (subst (λ (t : List ℕ). Writes t status.OpenTurns faults faults' taken taken' told) is.0 (subst (λ (s : Status). Writes text.octets s faults faults' taken taken' told) is.1 writes))
-turns_told turns (Err want) faults faults' taken taken' told is writes wants = inr wants
+pub turns_told : (turns : ℕ) (text : Result Text NoMemory) (out out' : SinkNow) (told : Status) → IfOk text (λ p. IsTextOfEnd (OpenTurns turns) p.octets p.status)
+    → IfOk text (λ p. Writes p.octets p.status out out' told) → IfErr text (λ _. Writes (stop_text (stop.NoMemory tt)) (status.NoMemory tt) out out' told)
+    → RepliesServedOf out out' told (OpenTurns turns)
+turns_told turns (Ok text) out out' told is writes wants =
+    inl (subst (λ (t : List ℕ). Writes t status.OpenTurns out out' told) is.0 (subst (λ (s : Status). Writes text.octets s out out' told) is.1 writes))
+turns_told turns (Err want) out out' told is writes wants = inr wants
 
 -- ---- the whole of it
 
-from_end : (words : GatewayWords) (file : List ℕ → FileContent) (faults faults' : List ℕ → ℕ) (before after : DialerNow) (line line' : BusNow) (Replied : GatewayEnd → Type 0) (texts : GatewayTexts) (ending : GatewayEnd)
-    → GatewayIsRead file words texts → OnlyRose (failed_of_gateway words texts) faults faults' → ServesOr (judged_gateway words texts) before after line line' ending → Replied ending
-    → RunsGateway words file faults faults' before after line line' Replied
-from_end words file faults faults' before after line line' Replied texts ending is counts comes replied =
+from_end : (words : GatewayWords) (files files' : FilesNow) (before after : DialerNow) (line line' : BusNow) (Replied : GatewayEnd → Type 0) (texts : GatewayTexts) (ending : GatewayEnd)
+    → GatewayIsRead files.file words texts → OnlyRose (failed_of_gateway words texts) files.faults files'.faults → ServesOr (judged_gateway words texts) before after line line' ending → Replied ending
+    → RunsGateway words files files' before after line line' Replied
+from_end words files files' before after line line' Replied texts ending is counts comes replied =
     let came : ServesOr (unless_stopped (gateway_tests words texts) (gateway_told words texts)) before after line line' ending =
     subst (λ (j : Result Service Stop). ServesOr j before after line line' ending) (judged_gateway_is words texts) comes in
     record {
@@ -206,24 +205,24 @@ from_end words file faults faults' before after line line' Replied texts ending 
     }
 
 -- where these files were read
-pub runs_gateway : (words : GatewayWords) (file : List ℕ → FileContent) (faults faults' : List ℕ → ℕ) (before after : DialerNow) (line line' : BusNow) (Replied : GatewayEnd → Type 0) (texts : GatewayTexts) (ending : GatewayEnd)
-    → GatewayIsRead file words texts → OnlyRose (failed_of_gateway words texts) faults faults' → ServesOr (judged_gateway words texts) before after line line' ending → Replied ending ⊎ Replied (wanting_end ending)
-    → RunsGateway words file faults faults' before after line line' Replied
-runs_gateway words file faults faults' before after line line' Replied texts ending is counts comes (inl replied) = from_end words file faults faults' before after line line' Replied texts ending is counts comes replied
-runs_gateway words file faults faults' before after line line' Replied texts ending is counts comes (inr replied) =
-    from_end words file faults faults' before after line line' Replied texts (wanting_end ending) is counts (comes_wanting _ before after line line' ending comes) replied
+pub runs_gateway : (words : GatewayWords) (files files' : FilesNow) (before after : DialerNow) (line line' : BusNow) (Replied : GatewayEnd → Type 0) (texts : GatewayTexts) (ending : GatewayEnd)
+    → GatewayIsRead files.file words texts → OnlyRose (failed_of_gateway words texts) files.faults files'.faults → ServesOr (judged_gateway words texts) before after line line' ending → Replied ending ⊎ Replied (wanting_end ending)
+    → RunsGateway words files files' before after line line' Replied
+runs_gateway words files files' before after line line' Replied texts ending is counts comes (inl replied) = from_end words files files' before after line line' Replied texts ending is counts comes replied
+runs_gateway words files files' before after line line' Replied texts ending is counts comes (inr replied) =
+    from_end words files files' before after line line' Replied texts (wanting_end ending) is counts (comes_wanting _ before after line line' ending comes) replied
 
 -- ---- which command it is
 
-pub gateway_rose : (words : GatewayWords) (file : List ℕ → FileContent) (faults faults' : List ℕ → ℕ) (before after : DialerNow) (line line' : BusNow) (Replied : GatewayEnd → Type 0) → RunsGateway words file faults faults' before after line line' Replied
-    → AtMostOneRose faults faults'
-gateway_rose words file faults faults' before after line line' Replied run = (failed_of_gateway words run.texts, run.counts)
+pub gateway_rose : (words : GatewayWords) (files files' : FilesNow) (before after : DialerNow) (line line' : BusNow) (Replied : GatewayEnd → Type 0) → RunsGateway words files files' before after line line' Replied
+    → AtMostOneRose files.faults files'.faults
+gateway_rose words files files' before after line line' Replied run = (failed_of_gateway words run.texts, run.counts)
 
 same_words : (one other : GatewayWords) → AskedGateway one ≡ AskedGateway other → one ≡ other
 same_words one other e = cc
 
 -- what was served is of the words that were asked
-pub gateway_of_words : (command : Command) (told names : GatewayWords) (file : List ℕ → FileContent) (faults faults' : List ℕ → ℕ) (before after : DialerNow) (line line' : BusNow) (Replied : GatewayEnd → Type 0) → command ≡ AskedGateway told
-    → command ≡ AskedGateway names → RunsGateway told file faults faults' before after line line' Replied → RunsGateway names file faults faults' before after line line' Replied
-gateway_of_words command told names file faults faults' before after line line' Replied is e run =
-    subst (λ (words : GatewayWords). RunsGateway words file faults faults' before after line line' Replied) (same_words told names (sym is ∙ e)) run
+pub gateway_of_words : (command : Command) (told names : GatewayWords) (files files' : FilesNow) (before after : DialerNow) (line line' : BusNow) (Replied : GatewayEnd → Type 0) → command ≡ AskedGateway told
+    → command ≡ AskedGateway names → RunsGateway told files files' before after line line' Replied → RunsGateway names files files' before after line line' Replied
+gateway_of_words command told names files files' before after line line' Replied is e run =
+    subst (λ (words : GatewayWords). RunsGateway words files files' before after line line' Replied) (same_words told names (sym is ∙ e)) run

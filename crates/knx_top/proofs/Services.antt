@@ -10,10 +10,10 @@ use Rattle.knx_model.specs.Meaning.{Installation}
 use Rattle.knx_model.specs.Rules.{first_broken}
 use Rattle.knx_model.specs.ScriptText.{script_reading, first_stranger}
 use Rattle.knx_model.specs.Statements.{reading}
+use Rattle.line_model.specs.Dialled.{DialerNow}
 use Rattle.knx_top.specs.Begun.{BeginsLine}
 use Rattle.knx_top.specs.Bound.{IsLineOf, LineFor}
 use Rattle.knx_top.specs.Command.{GatewayWords}
-use Rattle.knx_top.specs.Dialled.{DialerNow}
 use Rattle.knx_top.specs.Gateway.{GatewayEnd, Service, Serves, ServesOr, Stopped, after_catalogue, after_old, after_script, gateway_tests, gateway_told, judged_gateway, service, with_before, with_lines, with_models, with_old}
 use Rattle.knx_top.specs.Input.{fault_in, octets_of}
 use Rattle.knx_top.specs.Judged.{models_of, read_of, sound, unless_refused, unless_strange}

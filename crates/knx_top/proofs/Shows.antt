@@ -1,5 +1,5 @@
 -- What is shown of the devices of the line when a run has ended: each is there still, and its case is told by what the project says of it.
-use Rattle.std.proofs.Common.{◌≡◌, List, [], ◌∷◌, Option, Some, None, All, refl, sym, ap, ◌∙◌, subst}
+use Rattle.std.proofs.Common.{◌≡◌, ℕ, List, [], ◌∷◌, length, Option, Some, None, All, refl, sym, ap, ◌∙◌, subst}
 use Rattle.std.specs.Prelude.{Bool, IsSome}
 use Rattle.std.proofs.lemmas.List.Elements.{All-weaker}
 use Rattle.bus_sim.specs.declared.clients.Clients.TheVariants.{One}
@@ -72,21 +72,22 @@ are_shown project w (s ∷ shown) (d ∷ devices) (a ∷ listed) of compiled = (
 
 -- ---- the end of a run, as it is reported or as memory was wanting for that
 
-pub runs_so : (c : Commission) (before after : BusNow) (report : Report) (jobs : List JobWord) (devices : List (IndAddr × Option Image)) (log : Bool) (outcome : Outcome) → Ran c after.run report jobs → AreCompiled c.project devices (on_bus c.project c.before)
-    → log ≡ c.options.log → ShowsRun after.run report jobs devices log outcome → Runs c before after outcome
-runs_so c before after report jobs devices log (Stops why) ran compiled logs shows = absurd shows
-runs_so c before after report jobs devices log (Tells text) ran compiled logs shows = absurd shows
-runs_so c before after report jobs devices log (BreaksOff told) ran compiled logs shows = (jobs, subst (λ (r : Report). Ran c after.run r jobs) (sym shows) ran)
-runs_so c before after report jobs devices log (Reports told words shown with_log) ran compiled logs shows = record {
+pub runs_so : (c : Commission) (before after : BusNow) (report : Report) (jobs : List JobWord) (turns : ℕ) (devices : List (IndAddr × Option Image)) (log : Bool) (outcome : Outcome) → Ran c after.run report jobs → AreCompiled c.project devices (on_bus c.project c.before)
+    → turns ≡ length c.turns → log ≡ c.options.log → ShowsRun after.run report jobs turns devices log outcome → Runs c before after outcome
+runs_so c before after report jobs turns devices log (Stops why) ran compiled many logs shows = absurd shows
+runs_so c before after report jobs turns devices log (Tells text) ran compiled many logs shows = absurd shows
+runs_so c before after report jobs turns devices log (BreaksOff told) ran compiled many logs shows = (jobs, subst (λ (r : Report). Ran c after.run r jobs) (sym shows) ran)
+runs_so c before after report jobs turns devices log (Reports told words sent shown with_log) ran compiled many logs shows = record {
   ran = subst (λ (r : Report). Ran c after.run r words) (sym shows.0) (subst (λ (ws : List JobWord). Ran c after.run report ws) (sym shows.1) ran);
-  shown = are_shown c.project (world after.run) shown devices (on_bus c.project c.before) shows.2 compiled;
-  with_log = shows.3 ∙ logs;
+  with_turns = shows.2 ∙ many;
+  shown = are_shown c.project (world after.run) shown devices (on_bus c.project c.before) shows.3 compiled;
+  with_log = shows.4 ∙ logs;
 }
 
 -- it is told with the same fault
-pub fault_so : (r : RunNow) (report : Report) (jobs : List JobWord) (devices : List (IndAddr × Option Image)) (log : Bool) (outcome : Outcome) (after : BusNow) → ShowsRun r report jobs devices log outcome
+pub fault_so : (r : RunNow) (report : Report) (jobs : List JobWord) (turns : ℕ) (devices : List (IndAddr × Option Image)) (log : Bool) (outcome : Outcome) (after : BusNow) → ShowsRun r report jobs turns devices log outcome
     → FaultsOfLine (Some report) after → FaultsOfLine (report_in outcome) after
-fault_so r report jobs devices log (Stops why) after shows cause = absurd shows
-fault_so r report jobs devices log (Tells text) after shows cause = absurd shows
-fault_so r report jobs devices log (BreaksOff told) after shows cause = subst (λ (told : Report). FaultsOfLine (Some told) after) (sym shows) cause
-fault_so r report jobs devices log (Reports told words shown with_log) after shows cause = subst (λ (told : Report). FaultsOfLine (Some told) after) (sym shows.0) cause
+fault_so r report jobs turns devices log (Stops why) after shows cause = absurd shows
+fault_so r report jobs turns devices log (Tells text) after shows cause = absurd shows
+fault_so r report jobs turns devices log (BreaksOff told) after shows cause = subst (λ (told : Report). FaultsOfLine (Some told) after) (sym shows) cause
+fault_so r report jobs turns devices log (Reports told words sent shown with_log) after shows cause = subst (λ (told : Report). FaultsOfLine (Some told) after) (sym shows.0) cause

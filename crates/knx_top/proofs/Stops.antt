@@ -21,7 +21,7 @@ use Rattle.knx_top.specs.Command.{ProjectWords, SimOptions, SimWords}
 use Rattle.knx_top.specs.Input.{fault_in, octets_of, first_some}
 use Rattle.knx_top.specs.Judged.{read_of, models_or, models_of, unless_refused, unless_broken, unless_failed, sound, installed, project_of_models, project_of_text, project_of_catalogue, project_of, judged_project, unless_grouped, unless_strange, known_jobs, with_jobs, with_script, with_known, with_lines, with_before, with_old, with_project, with_new, with_models, after_script, after_old, after_new, after_catalogue, judged}
 use Rattle.knx_top.specs.OnLine.{on_bus}
-use Rattle.knx_top.specs.Stops.{refusal_of, given_or, catalogue_refused, models_in, text_refused, rule_broken, project_told, project_tests, Commission, is_group_line, is_known, stranger_named, unless_built, unless_known, commission_told, sim_tests}
+use Rattle.knx_top.specs.Stops.{refusal_of, given_or, catalogue_refused, models_in, text_refused, rule_broken, project_told, project_tests, Commission, commission_of, is_group_line, is_known, stranger_named, unless_built, unless_known, commission_told, sim_tests}
 use Rattle.knx_top.specs.declared.input.ProjectTexts.{ProjectTexts}
 use Rattle.knx_top.specs.declared.input.Reading.{Reading}
 use Rattle.knx_top.specs.declared.input.Reading.TheVariants as read
@@ -117,9 +117,9 @@ judged_project_is words texts =
 -- the tests of a script and of the devices that it and the jobs name
 pub script_is : (options : SimOptions) (project before : Installation) (ls : List ScriptLine)
     → with_lines options project before ls ≡ unless_stopped (stranger_named (first_stranger (on_bus project before) ls) ∷ unless_known (list_all (is_known project) options.jobs) ∷ unless_built file.Script (not (list_any is_group_line ls)) ∷ [])
-    (let c : Commission = record { project = project; before = before; script = ls; options = options } in c)
+    (commission_of project before ls options)
 script_is options project before ls =
-    let c : Commission = record { project = project; before = before; script = ls; options = options } in
+    let c : Commission = commission_of project before ls options in
     let t1 : Option Stop = stranger_named (first_stranger (on_bus project before) ls) in
     let t2 : Option Stop = unless_known (list_all (is_known project) options.jobs) in
     let t3 : Option Stop = unless_built file.Script (not (list_any is_group_line ls)) in

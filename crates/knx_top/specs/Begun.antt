@@ -44,6 +44,9 @@ pub record IsOrder (c : Commission) (order : Order) : Type 0 where
   -- no call of the line has failed
   pub sound : order.line.faults ≡ 0
   pub prepared : IsPrepared c.project c.before c.options.jobs order
+  -- one caller drives it, and no group telegrams are sent
+  pub workers : c.workers ≡ 1
+  pub turns : c.turns ≡ []
 
 -- what was judged was compiled, and a line with its devices has begun
 abbrev pub OrderFor : Result Commission Stop → Order → Type 0

@@ -1,11 +1,12 @@
 -- What a gateway is begun with in the code, and how it ends there.
-use Rattle.std.specs.Prelude.{ℕ, ◌≡◌, ◌⊎◌, List, Option, Result, Ok, Err}
+use Rattle.std.specs.Prelude.{ℕ, ◌≡◌, ◌⊎◌, List, Result, Ok, Err}
 use Rattle.bus_sim.specs.declared.serve.Served.{Served}
 use Rattle.bus_sim.specs.declared.serve.Served.TheVariants as served
 use Rattle.bus_sim.specs.Loaded.{BusNow}
 use Rattle.call_words.specs.declared.stop.Stop.{Stop}
 use Rattle.call_words.specs.declared.stop.Stop.TheVariants as stop
 use Rattle.call_words.specs.declared.status.Status.{Status}
+use Rattle.knx_model.specs.Outside.{SinkNow}
 use Rattle.line_model.specs.declared.outside.port.PortFault.{PortFault}
 use Rattle.line_model.specs.declared.outside.port.PortFault.TheVariants as fault
 use Rattle.knx_top.specs.Begun.{BeginsLine}
@@ -54,5 +55,5 @@ wanting_end (OpenTurns turns) = Unshown
 wanting_end ending = ending
 
 -- an end was written, or that there was no memory for its text
-abbrev pub RepliesServedOf : ℕ → ℕ → Option (List ℕ) → Option (List ℕ) → Status → GatewayEnd → Type 0
-RepliesServedOf faults faults' taken taken' told ending = RepliesServed faults faults' taken taken' told ending ⊎ RepliesServed faults faults' taken taken' told (wanting_end ending)
+abbrev pub RepliesServedOf : SinkNow → SinkNow → Status → GatewayEnd → Type 0
+RepliesServedOf out out' told ending = RepliesServed out out' told ending ⊎ RepliesServed out out' told (wanting_end ending)

@@ -12,7 +12,7 @@ use Rattle.knx_model.specs.declared.config.Image.{Image}
 use Rattle.call_words.specs.declared.status.Status.{Status}
 use Rattle.call_words.specs.declared.status.Status.TheVariants as status
 use Rattle.knx_model.specs.Meaning.{Installation, meaning}
-use Rattle.knx_model.specs.Outside.{FileContent, Rose, Wrote, WroteFront}
+use Rattle.knx_model.specs.Outside.{FilesNow, Rose, SinkNow, Wrote, WroteFront}
 use Rattle.call_words.specs.ReportText.{counts_line, tables_lines, stop_text, stop_status}
 use Rattle.knx_model.specs.Counts.{counts_of}
 use Rattle.knx_model.specs.Rules.{devices_of}
@@ -64,35 +64,35 @@ abbrev pub outcome_status : Outcome → Status
 outcome_status (Stops why) = stop_status why
 outcome_status (Tells text) = status.Done
 outcome_status (BreaksOff report) = status.NoMemory tt
-outcome_status (Reports report jobs devices log) = line_status report
+outcome_status (Reports report jobs turns devices log) = line_status report
 
--- the text of an outcome; a script has no group telegrams
+-- the text of an outcome
 abbrev pub outcome_text : Outcome → List ℕ
 outcome_text (Stops why) = stop_text why
 outcome_text (Tells text) = text
 outcome_text (BreaksOff report) = stop_text (stop.NoMemory tt)
-outcome_text (Reports report jobs devices log) = line_report_text report jobs 0 devices log
+outcome_text (Reports report jobs turns devices log) = line_report_text report jobs turns devices log
 
--- A text was to be written, where the sink's count of faults was `faults` and is `faults'` and it had taken `taken` and has taken `taken'`: it
--- was written whole and the status is its own; or the write failed, a front of the text was taken, and the status tells that.
-abbrev pub Writes : List ℕ → Status → ℕ → ℕ → Option (List ℕ) → Option (List ℕ) → Status → Type 0
-Writes text ending faults faults' taken taken' told =
-    ((told ≡ ending) × Wrote text taken taken' × (faults' ≡ faults))
-    ⊎ ((told ≡ status.Write) × WroteFront text taken taken' × Rose faults faults')
+-- A text was to be written, where the sink told `out` and tells `out'`: it was written whole and the status is its own; or the write failed, a front of
+-- the text was taken, and the status tells that.
+abbrev pub Writes : List ℕ → Status → SinkNow → SinkNow → Status → Type 0
+Writes text ending out out' told =
+    ((told ≡ ending) × Wrote text out.taken out'.taken × (out'.faults ≡ out.faults))
+    ⊎ ((told ≡ status.Write) × WroteFront text out.taken out'.taken × Rose out.faults out'.faults)
 
 -- an outcome was to be written, with its status
-abbrev pub Replies : ℕ → ℕ → Option (List ℕ) → Option (List ℕ) → Status → Outcome → Type 0
-Replies faults faults' taken taken' told outcome = Writes (outcome_text outcome) (outcome_status outcome) faults faults' taken taken' told
+abbrev pub Replies : SinkNow → SinkNow → Status → Outcome → Type 0
+Replies out out' told outcome = Writes (outcome_text outcome) (outcome_status outcome) out out' told
 
--- ---- the commands, where the files tell `file`, their counts of faults were `faults` and are `faults'`, and `Replied` says what was written
+-- ---- the commands, where the files told `files` and tell `files'`, and `Replied` says what was written
 
 -- `check P` and `tables P`
-pub record TellsOfProject (IsText : Installation → List ℕ → Type 0) (words : ProjectWords) (file : List ℕ → FileContent) (faults faults' : List ℕ → ℕ) (Replied : Outcome → Type 0) : Type 0 where
+pub record TellsOfProject (IsText : Installation → List ℕ → Type 0) (words : ProjectWords) (files files' : FilesNow) (Replied : Outcome → Type 0) : Type 0 where
   -- what was read, in order, up to the first read that was refused
   pub texts : ProjectTexts
-  pub is_read : ProjectIsRead file words texts
+  pub is_read : ProjectIsRead files.file words texts
   -- the count of no file rose but of the one whose read failed
-  pub counts : OnlyRose (failed_of_project words texts) faults faults'
+  pub counts : OnlyRose (failed_of_project words texts) files.faults files'.faults
   pub outcome : Outcome
   -- the first test that fails is told
   pub stops : (why : Stop) → first_some (project_tests words texts) ≡ Some why → StopsFor why outcome
@@ -117,10 +117,10 @@ pub record HasNoRun (before : BusNow) (after : Left) : Type 0 where
   pub report : after.report ≡ None
 
 -- `sim NEW OLD SCRIPT` with options and jobs
-pub record RunsScript (words : SimWords) (file : List ℕ → FileContent) (faults faults' : List ℕ → ℕ) (before : BusNow) (after : Left) (Replied : Outcome → Type 0) : Type 0 where
+pub record RunsScript (words : SimWords) (files files' : FilesNow) (before : BusNow) (after : Left) (Replied : Outcome → Type 0) : Type 0 where
   pub texts : SimTexts
-  pub is_read : SimIsRead file words texts
-  pub counts : OnlyRose (failed_of_sim words texts) faults faults'
+  pub is_read : SimIsRead files.file words texts
+  pub counts : OnlyRose (failed_of_sim words texts) files.faults files'.faults
   pub outcome : Outcome
   -- the first test that fails is told, and no run is begun
   pub stops : (why : Stop) → first_some (sim_tests words texts) ≡ Some why → StopsFor why outcome × (after.line ≡ before)
@@ -135,20 +135,20 @@ AtMostOneRose faults faults' = (one : Option (List ℕ)) × OnlyRose one faults 
 
 -- ---- a call, by what its words ask for; what `download` does besides is in Dialled.antt, and what `gateway` does in Gateway.antt
 
-abbrev pub Does : Option Command → (List ℕ → FileContent) → (List ℕ → ℕ) → (List ℕ → ℕ) → BusNow → Left → (Outcome → Type 0) → Type 0
-Does None file faults faults' before after Replied = Replied (Stops stop.Usage) × OnlyRose None faults faults' × HasNoRun before after
-Does (Some (Check words)) file faults faults' before after Replied = TellsOfProject IsCountsText words file faults faults' Replied × HasNoRun before after
-Does (Some (Tables words)) file faults faults' before after Replied = TellsOfProject IsTablesText words file faults faults' Replied × HasNoRun before after
-Does (Some (Sim words)) file faults faults' before after Replied = RunsScript words file faults faults' before after Replied
-Does (Some (Decode word)) file faults faults' before after Replied = TellsOfFrame word Replied × OnlyRose None faults faults' × HasNoRun before after
-Does (Some (Download words)) file faults faults' before after Replied = (after.line ≡ before) × AtMostOneRose faults faults'
-Does (Some (Gateway words)) file faults faults' before after Replied = (after.report ≡ None) × AtMostOneRose faults faults'
+abbrev pub Does : Option Command → FilesNow → FilesNow → BusNow → Left → (Outcome → Type 0) → Type 0
+Does None files files' before after Replied = Replied (Stops stop.Usage) × OnlyRose None files.faults files'.faults × HasNoRun before after
+Does (Some (Check words)) files files' before after Replied = TellsOfProject IsCountsText words files files' Replied × HasNoRun before after
+Does (Some (Tables words)) files files' before after Replied = TellsOfProject IsTablesText words files files' Replied × HasNoRun before after
+Does (Some (Sim words)) files files' before after Replied = RunsScript words files files' before after Replied
+Does (Some (Decode word)) files files' before after Replied = TellsOfFrame word Replied × OnlyRose None files.faults files'.faults × HasNoRun before after
+Does (Some (Download words)) files files' before after Replied = (after.line ≡ before) × AtMostOneRose files.faults files'.faults
+Does (Some (Gateway words)) files files' before after Replied = (after.report ≡ None) × AtMostOneRose files.faults files'.faults
 
 -- no run was begun, or only one over a dialled link, or the simulated line was for a port; or it has a run of what the words ask for and the files gave, in which
 -- no test fails, of which P holds, and its report is left
-pub data HasRunOf (P : Commission → RunNow → Report → Type 0) (words : List (List ℕ)) (file : List ℕ → FileContent) (before : BusNow) (after : Left) : Type 0 where
-  NoRun : HasNoRun before after → HasRunOf P words file before after
-  Elsewhere : (names : DownloadWords) → asked words ≡ Some (Download names) → after.line ≡ before → HasRunOf P words file before after
-  AtPort : (names : GatewayWords) → asked words ≡ Some (Gateway names) → after.report ≡ None → HasRunOf P words file before after
-  HasRun : (names : SimWords) (texts : SimTexts) (report : Report) → asked words ≡ Some (Sim names) → SimIsRead file names texts → first_some (sim_tests names texts) ≡ None → after.report ≡ Some report
-      → P (commission_told names texts) after.line.run report → HasRunOf P words file before after
+pub data HasRunOf (P : Commission → RunNow → Report → Type 0) (words : List (List ℕ)) (files : FilesNow) (before : BusNow) (after : Left) : Type 0 where
+  NoRun : HasNoRun before after → HasRunOf P words files before after
+  Elsewhere : (names : DownloadWords) → asked words ≡ Some (Download names) → after.line ≡ before → HasRunOf P words files before after
+  AtPort : (names : GatewayWords) → asked words ≡ Some (Gateway names) → after.report ≡ None → HasRunOf P words files before after
+  HasRun : (names : SimWords) (texts : SimTexts) (report : Report) → asked words ≡ Some (Sim names) → SimIsRead files.file names texts → first_some (sim_tests names texts) ≡ None → after.report ≡ Some report
+      → P (commission_told names texts) after.line.run report → HasRunOf P words files before after

@@ -3,7 +3,7 @@
 use Rattle.std.specs.Prelude.{ℕ, ◌≡◌, ◌⊎◌, true, List, take, Option, Some, None}
 use Rattle.call_words.specs.declared.status.Status.{Status}
 use Rattle.call_words.specs.declared.status.Status.TheVariants as status
-use Rattle.knx_model.specs.Outside.{FileContent, Untold, Absent, Holds, Rose, Wrote}
+use Rattle.knx_model.specs.Outside.{FileContent, FilesNow, SinkNow, Untold, Absent, Holds, Rose, Wrote}
 use Rattle.knx_top.specs.Command.{ProjectWords}
 use Rattle.knx_top.specs.Input.{limit, goes_on, first_some}
 use Rattle.knx_top.specs.Stops.{project_tests}
@@ -30,10 +30,10 @@ pub record IsValid (file : List ℕ → FileContent) (words : ProjectWords) : Ty
   pub project : goes_on (reading_told (file words.project)) ≡ true
   pub passes : first_some (project_tests words (texts_told file words)) ≡ None
 
-pub record NoneRose (faults faults' : List ℕ → ℕ) (sink sink' : ℕ) : Type 0 where
-  pub files : (name : List ℕ) → ¬ Rose (faults name) (faults' name)
-  pub out : ¬ Rose sink sink'
+pub record NoneRose (files files' : FilesNow) (out out' : SinkNow) : Type 0 where
+  pub reads : (name : List ℕ) → ¬ Rose (files.faults name) (files'.faults name)
+  pub writes : ¬ Rose out.faults out'.faults
 
 -- a whole text of the kind was written and the status is 0, or there was no memory
-abbrev pub IsToldWhole : (List ℕ → Type 0) → Option (List ℕ) → Option (List ℕ) → Status → Type 0
-IsToldWhole IsText taken taken' ending = (ending ≡ status.NoMemory tt) ⊎ ((ending ≡ status.Done) × ((text : List ℕ) × (IsText text × Wrote text taken taken')))
+abbrev pub IsToldWhole : (List ℕ → Type 0) → SinkNow → SinkNow → Status → Type 0
+IsToldWhole IsText out out' ending = (ending ≡ status.NoMemory tt) ⊎ ((ending ≡ status.Done) × ((text : List ℕ) × (IsText text × Wrote text out.taken out'.taken)))

@@ -5,6 +5,7 @@ use Rattle.knx_model.specs.declared.address.IndAddr.{IndAddr}
 use Rattle.call_words.specs.declared.stop.Stop.{Stop}
 use Rattle.call_words.specs.declared.stop.Stop.TheVariants as stop
 use Rattle.knx_model.specs.declared.config.Image.{Image}
+use Rattle.knx_model.specs.Outside.{SinkNow}
 use Rattle.call_words.specs.declared.job_word.JobWord.{JobWord}
 use Rattle.call_words.specs.declared.status.Status.{Status}
 use Rattle.line_model.specs.declared.log.Report.{Report}
@@ -18,15 +19,15 @@ use Rattle.knx_top.specs.declared.commission.SimEnd.TheVariants.{Stopped, Broken
 abbrev pub outcome_of : SimEnd → Outcome
 outcome_of (Stopped why) = Stops why
 outcome_of (BrokenOff report want) = BreaksOff report
-outcome_of (Reported told) = Reports told.report told.jobs told.devices told.log
+outcome_of (Reported told) = Reports told.report told.jobs told.turns told.devices told.log
 
 -- a run of which this is reported, or memory is wanting for that
-abbrev pub ShowsRun : RunNow → Report → List JobWord → List (IndAddr × Option Image) → Bool → Outcome → Type 0
-ShowsRun r report jobs devices log (Stops why) = ⊥
-ShowsRun r report jobs devices log (Tells text) = ⊥
-ShowsRun r report jobs devices log (BreaksOff told) = told ≡ report
-ShowsRun r report jobs devices log (Reports told words shown with_log) =
-    (told ≡ report) × (words ≡ jobs) × AreShownOf (world r) shown devices × (with_log ≡ log)
+abbrev pub ShowsRun : RunNow → Report → List JobWord → ℕ → List (IndAddr × Option Image) → Bool → Outcome → Type 0
+ShowsRun r report jobs turns devices log (Stops why) = ⊥
+ShowsRun r report jobs turns devices log (Tells text) = ⊥
+ShowsRun r report jobs turns devices log (BreaksOff told) = told ≡ report
+ShowsRun r report jobs turns devices log (Reports told words sent shown with_log) =
+    (told ≡ report) × (words ≡ jobs) × (sent ≡ turns) × AreShownOf (world r) shown devices × (with_log ≡ log)
 
 -- how another command ends
 abbrev pub told_outcome : Result (List ℕ) Stop → Outcome
@@ -44,8 +45,8 @@ abbrev pub wanting : Outcome → Outcome
 wanting (Stops why) = Stops (stop.NoMemory tt)
 wanting (Tells text) = Stops (stop.NoMemory tt)
 wanting (BreaksOff report) = BreaksOff report
-wanting (Reports report jobs devices log) = BreaksOff report
+wanting (Reports report jobs turns devices log) = BreaksOff report
 
 -- an outcome was written, or that there was no memory for its text
-abbrev pub RepliesOf : ℕ → ℕ → Option (List ℕ) → Option (List ℕ) → Status → Outcome → Type 0
-RepliesOf faults faults' taken taken' told outcome = Replies faults faults' taken taken' told outcome ⊎ Replies faults faults' taken taken' told (wanting outcome)
+abbrev pub RepliesOf : SinkNow → SinkNow → Status → Outcome → Type 0
+RepliesOf out out' told outcome = Replies out out' told outcome ⊎ Replies out out' told (wanting outcome)

@@ -17,14 +17,14 @@ use Rattle.call_words.specs.declared.status.Status.{Status}
 use Rattle.call_words.specs.declared.status.Status.TheVariants as status
 use Rattle.knx_model.specs.Answers.{◌>>=◌}
 use Rattle.knx_model.specs.Meaning.{Installation}
-use Rattle.knx_model.specs.Outside.{FileContent, one_more}
+use Rattle.knx_model.specs.Outside.{FilesNow, SinkNow, one_more}
 use Rattle.call_words.specs.ReportText.{stop_text, stop_status}
 use Rattle.knx_model.specs.TextLines.{line}
 use Rattle.knx_model.specs.ScriptText.{script_reading, first_stranger}
 use Rattle.knx_model.specs.Statements.{reading}
 use Rattle.line_model.specs.declared.fault.HubFault.TheVariants.{LinkFailed}
 use Rattle.line_model.specs.declared.outside.port.PortFault.TheVariants as fault
-use Rattle.line_model.specs.Dialled.{Address, TakesBack, Tells}
+use Rattle.line_model.specs.Dialled.{Address, DialerNow, TakesBack, Tells}
 use Rattle.line_model.specs.Follows.{Follows}
 use Rattle.line_model.specs.Fresh.{IsFresh}
 use Rattle.line_model.specs.Legal.{IsLegal}
@@ -36,7 +36,7 @@ use Rattle.line_model.specs.Tunnel as tunnel
 use Rattle.knx_top.specs.Begun.{BeginsLine}
 use Rattle.knx_top.specs.Call.{Writes}
 use Rattle.knx_top.specs.Command.{GatewayWords}
-use Rattle.knx_top.specs.Dialled.{DialerNow, FailsToOpen}
+use Rattle.knx_top.specs.Dialled.{FailsToOpen}
 use Rattle.knx_top.specs.Input.{GatewayIsRead, OnlyRose, failed_of_gateway, fault_in, first_some, octets_of}
 use Rattle.knx_top.specs.Judged.{installed, models_of, read_of, sound, unless_refused, unless_strange}
 use Rattle.knx_top.specs.OnLine.{on_bus}
@@ -170,15 +170,15 @@ end_status Unserved = status.NoMemory tt
 end_status Unshown = status.NoMemory tt
 
 -- an end was to be written, with its status
-abbrev pub RepliesServed : ℕ → ℕ → Option (List ℕ) → Option (List ℕ) → Status → GatewayEnd → Type 0
-RepliesServed faults faults' taken taken' told ending = Writes (end_text ending) (end_status ending) faults faults' taken taken' told
+abbrev pub RepliesServed : SinkNow → SinkNow → Status → GatewayEnd → Type 0
+RepliesServed out out' told ending = Writes (end_text ending) (end_status ending) out out' told
 
 -- `gateway ADDR OLD SCRIPT turns=N` with its option, where the simulated line was `line` and is `line'`
-pub record RunsGateway (words : GatewayWords) (file : List ℕ → FileContent) (faults faults' : List ℕ → ℕ) (before after : DialerNow) (line line' : BusNow) (Replied : GatewayEnd → Type 0) : Type 0 where
+pub record RunsGateway (words : GatewayWords) (files files' : FilesNow) (before after : DialerNow) (line line' : BusNow) (Replied : GatewayEnd → Type 0) : Type 0 where
   -- what was read, in order, up to the first read that was refused
   pub texts : GatewayTexts
-  pub is_read : GatewayIsRead file words texts
-  pub counts : OnlyRose (failed_of_gateway words texts) faults faults'
+  pub is_read : GatewayIsRead files.file words texts
+  pub counts : OnlyRose (failed_of_gateway words texts) files.faults files'.faults
   pub ending : GatewayEnd
   -- the first test that fails is told, and no port is bound
   pub stops : (why : Stop) → first_some (gateway_tests words texts) ≡ Some why → StopsFor why ending × (after ≡ before) × (line' ≡ line)

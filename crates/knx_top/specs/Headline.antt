@@ -1,5 +1,5 @@
 -- The sentences of the headline, each of a run that the words and the texts ask for, of the line with its events, and of the run's report.
-use Rattle.std.specs.Prelude.{◌≡◌, List, [], length, None}
+use Rattle.std.specs.Prelude.{◌≡◌, List, length, None}
 use Rattle.bus_sim.specs.RunNow.{RunNow, start}
 use Rattle.call_words.specs.declared.job_word.JobWord.{JobWord}
 use Rattle.line_model.specs.declared.log.Report.{Report}
@@ -48,7 +48,7 @@ ActsOnce c r report = ActedOnce (start r) r.events
 
 -- no device has two downloaders at once, all that the log tells is told truly, and all that is sent is right, by the record alone
 abbrev pub IsToldRightly : Commission → RunNow → Report → Type 0
-IsToldRightly c r report = OfItsJobs c (λ jobs. IsDisciplined jobs [] (length r.events) (placed (start r) r.events) (log_in report))
+IsToldRightly c r report = OfItsJobs c (λ jobs. IsDisciplined jobs c.turns (length r.events) (placed (start r) r.events) (log_in report))
 
 -- an end is told only where no attempt of its job runs, no attempt begins once the last one has decided the job, and each loss of the channel is
 -- followed by what is due to the gateway then, and by nothing more
@@ -57,7 +57,7 @@ EndsThoroughly c r report = OfItsJobs c (λ jobs. IsThorough jobs (placed (start
 
 -- the open channel isn't asked to end before all jobs are over, and then once, after the listening
 abbrev pub LeavesItsChannel : Commission → RunNow → Report → Type 0
-LeavesItsChannel c r report = OfItsJobs c (λ jobs. LeavesRightly jobs [] (log_in report) (placed (start r) r.events))
+LeavesItsChannel c r report = OfItsJobs c (λ jobs. LeavesRightly jobs c.turns (log_in report) (placed (start r) r.events))
 
 -- a fault has its cause in the record, and without one there is none in the end
 abbrev pub HasFaultRight : Commission → RunNow → Report → Type 0
@@ -71,6 +71,6 @@ EndsEveryJob c r report = OfItsJobs c (λ jobs. report.fault ≡ None → AllOve
 abbrev pub ClosesToItsEnd : Commission → RunNow → Report → Type 0
 ClosesToItsEnd c r report = report.fault ≡ None → HasClosed (log_in report) (placed (start r) r.events)
 
--- one caller drives the hub: what its log tells was done by worker 1, or by the group thread
-abbrev pub IsOfOneWorker : Commission → RunNow → Report → Type 0
-IsOfOneWorker c r report = IsOfWorkers 1 (log_in report)
+-- what the log tells was done by one of its workers, or by the group thread
+abbrev pub IsOfItsWorkers : Commission → RunNow → Report → Type 0
+IsOfItsWorkers c r report = IsOfWorkers c.workers (log_in report)

@@ -20,7 +20,7 @@ use Rattle.knx_model.specs.Statements.{reading}
 use Rattle.knx_top.specs.Command.{ProjectWords, SimOptions, SimWords}
 use Rattle.knx_top.specs.Input.{fault_told}
 use Rattle.knx_top.specs.OnLine.{on_bus}
-use Rattle.knx_top.specs.Stops.{Commission, is_group_line, is_known, stranger_named, unless_built, unless_known}
+use Rattle.knx_top.specs.Stops.{Commission, commission_of, is_group_line, is_known, stranger_named, unless_built, unless_known}
 use Rattle.knx_top.specs.declared.input.ProjectTexts.{ProjectTexts}
 use Rattle.knx_top.specs.declared.input.Reading.{Reading}
 use Rattle.knx_top.specs.declared.input.Reading.TheVariants as read
@@ -94,7 +94,7 @@ abbrev pub known_jobs : Installation → List JobWord → Result (List JobWord) 
 known_jobs project jobs = unless_failed (unless_known (list_all (is_known project) jobs)) jobs
 
 abbrev pub with_script : SimOptions → Installation → Installation → List ScriptLine → Result Commission Stop
-with_script options project before script = Ok (record { project = project; before = before; script = script; options = options })
+with_script options project before script = Ok (commission_of project before script options)
 
 abbrev pub with_jobs : SimOptions → Installation → Installation → List ScriptLine → List JobWord → Result Commission Stop
 with_jobs options project before ls jobs = unless_grouped ls >>= with_script options project before

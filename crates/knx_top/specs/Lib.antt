@@ -4,6 +4,7 @@ pub mod Input
 pub mod OnLine
 pub mod Jobs
 pub mod Stops
+pub mod Touches
 pub mod Shown
 pub mod Ran
 pub mod Headline

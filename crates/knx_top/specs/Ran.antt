@@ -2,7 +2,7 @@
 -- at every moment, whatever is lost, repeated or cut, each device has its starting content, or is stopped, or runs what the new project says; each
 -- group telegram acts on exactly the objects that the running configuration links; `done` is told only where the new project's runs; no device has
 -- two downloaders at once, and no tunnelling request acts twice.
-use Rattle.std.specs.Prelude.{◌≡◌, ◌⊎◌, ℕ, ◌-◌, ◌^◌, min, Bool, List, [], length, reverse, IfSome, Option, Some, None, Result, Ok, Err}
+use Rattle.std.specs.Prelude.{◌≡◌, ◌⊎◌, ℕ, ◌-◌, ◌^◌, min, Bool, List, length, reverse, IfSome, Option, Some, None, Result, Ok, Err}
 use Rattle.bus_sim.specs.Ended.{IsAtEnd}
 use Rattle.bus_sim.specs.Loaded.{BusNow}
 use Rattle.bus_sim.specs.RunNow.{RunNow, start, world}
@@ -59,18 +59,18 @@ pub record KeepsPromises (c : Commission) (jobs : List Job) (r : RunNow) (log : 
   pub done : MeansWhereDone c.project jobs (start r) r.events log
   pub once : ActedOnce (start r) r.events
 
--- ---- what is told: by record and log alone. The script has no group telegrams.
+-- ---- what is told: by record and log alone
 
-pub record IsTold (jobs : List Job) (r : RunNow) (report : Report) : Type 0 where
-  pub disciplined : IsDisciplined jobs [] (length r.events) (placed (start r) r.events) (log_in report)
+pub record IsTold (c : Commission) (jobs : List Job) (r : RunNow) (report : Report) : Type 0 where
+  pub disciplined : IsDisciplined jobs c.turns (length r.events) (placed (start r) r.events) (log_in report)
   pub thorough : IsThorough jobs (placed (start r) r.events) (log_in report)
-  pub leaves : LeavesRightly jobs [] (log_in report) (placed (start r) r.events)
+  pub leaves : LeavesRightly jobs c.turns (log_in report) (placed (start r) r.events)
   pub fault : FaultRight jobs (log_in report) (record_of (start r) r.events) report.fault
   pub ended : report.fault ≡ None → AllOver jobs (log_in report)
   pub closed : report.fault ≡ None → HasClosed (log_in report) (placed (start r) r.events)
   pub heard : report.fault ≡ None → report.heard ≡ reverse (indications (record_of (start r) r.events))
-  -- one caller drives the hub, as worker 1
-  pub seats : IsOfWorkers 1 (log_in report)
+  -- what was done was done by one of the workers, or by the group thread
+  pub seats : IsOfWorkers c.workers (log_in report)
   pub missed : report.missed ≡ 0
   -- a number of 64 bits, which stands still at its greatest
   pub dropped : report.dropped ≡ min (dropped (record_of (start r) r.events)) (2 ^ 64 - 1)
@@ -82,23 +82,23 @@ pub record Ran (c : Commission) (r : RunNow) (report : Report) (words : List Job
   pub jobs : List Job
   pub planned : ArePlanned c.project jobs words
   pub promises : KeepsPromises c jobs r (log_in report)
-  pub told : IsTold jobs r report
+  pub told : IsTold c jobs r report
 
--- ---- how a call ends: it stops, it tells a text, memory is wanting for the text of a run, or it reports the run, its jobs and devices, with the log
--- or without
+-- ---- how a call ends: it stops, it tells a text, memory is wanting for the text of a run, or it reports the run, its jobs, how many group telegrams
+-- were to be sent, and the devices, with the log or without
 
 pub data Outcome : Type 0 where
   Stops : Stop → Outcome
   Tells : List ℕ → Outcome
   BreaksOff : Report → Outcome
-  Reports : Report → List JobWord → List DeviceShown → Bool → Outcome
+  Reports : Report → List JobWord → ℕ → List DeviceShown → Bool → Outcome
 
 -- the report of the run, where one began
 abbrev pub report_in : Outcome → Option Report
 report_in (Stops why) = None
 report_in (Tells text) = None
 report_in (BreaksOff report) = Some report
-report_in (Reports report jobs devices log) = Some report
+report_in (Reports report jobs turns devices log) = Some report
 
 -- That the link failed is told only at the end of a run, which is the last time of 64 bits, 2^64 - 1 ms after it began. There a call of the simulated
 -- line failed, and their count, which is 0 where a run begins, rose.
@@ -116,8 +116,9 @@ StopsFor why (Stops told) = (told ≡ why) ⊎ (told ≡ stop.NoMemory tt)
 StopsFor why outcome = ⊥
 
 -- what is reported of a run: its jobs, and what the devices have come to
-pub record IsReported (c : Commission) (r : RunNow) (report : Report) (jobs : List JobWord) (devices : List DeviceShown) (log : Bool) : Type 0 where
+pub record IsReported (c : Commission) (r : RunNow) (report : Report) (jobs : List JobWord) (turns : ℕ) (devices : List DeviceShown) (log : Bool) : Type 0 where
   pub ran : Ran c r report jobs
+  pub with_turns : turns ≡ length c.turns
   pub shown : AreShown c.project (world r) devices (on_bus c.project c.before)
   pub with_log : log ≡ c.options.log
 
@@ -127,7 +128,7 @@ abbrev pub Runs : Commission → BusNow → BusNow → Outcome → Type 0
 Runs c before after (Stops told) = (told ≡ stop.NoMemory tt) × (after ≡ before)
 Runs c before after (Tells text) = ⊥
 Runs c before after (BreaksOff report) = (jobs : List JobWord) × Ran c after.run report jobs
-Runs c before after (Reports report jobs devices log) = IsReported c after.run report jobs devices log
+Runs c before after (Reports report jobs turns devices log) = IsReported c after.run report jobs turns devices log
 
 -- `sim`: it stops where it must, and the line is as it was, or else it runs
 abbrev pub Comes : Result Commission Stop → BusNow → BusNow → Outcome → Type 0

@@ -1,11 +1,12 @@
 -- What a download is begun with in the code, and how it ends there.
-use Rattle.std.specs.Prelude.{ℕ, ◌≡◌, ◌⊎◌, ◌<◌, ◌^◌, List, length, map, Option, Result, Ok, Err}
+use Rattle.std.specs.Prelude.{ℕ, ◌≡◌, ◌⊎◌, ◌<◌, ◌^◌, List, [], length, map, Result, Ok, Err}
 use Rattle.std.specs.List.{AllByRecursion}
 use Rattle.call_words.specs.declared.stop.Stop.{Stop}
 use Rattle.call_words.specs.declared.stop.Stop.TheVariants as stop
 use Rattle.call_words.specs.declared.job_word.JobWord.{JobWord}
 use Rattle.call_words.specs.declared.status.Status.{Status}
 use Rattle.knx_model.specs.Meaning.{Installation}
+use Rattle.knx_model.specs.Outside.{SinkNow}
 use Rattle.line_model.specs.Headline.{IsGoodJob}
 use Rattle.knx_top.specs.Dialled.{Download, DialEnd, Stopped, NotReached, Unshown, Shown, RepliesEnd, end_status, end_text}
 use Rattle.knx_top.specs.Jobs.{AreJobs, ArePlanned, seen_job}
@@ -20,15 +21,21 @@ pub record IsReady (project : Installation) (named : List JobWord) (ready : Read
   pub plans : ArePlanned project (map seen_job ready.plans) ready.jobs
   pub good : AllByRecursion IsGoodJob (map seen_job ready.plans)
 
+-- a download with its jobs, which one caller drives, and which sends no group telegrams
+pub record IsReadyFor (d : Download) (ready : Ready) : Type 0 where
+  pub prepared : IsReady d.project d.options.jobs ready
+  pub workers : d.workers ≡ 1
+  pub turns : d.turns ≡ []
+
 -- what was judged has its jobs
 abbrev pub ReadyFor : Result Download Stop → Ready → Type 0
-ReadyFor (Ok d) ready = IsReady d.project d.options.jobs ready
+ReadyFor (Ok d) ready = IsReadyFor d ready
 ReadyFor (Err why) ready = ⊥
 
 abbrev pub end_of : Ending → DialEnd
 end_of (ended.Stopped why) = Stopped why
 end_of ended.NotReached = NotReached
-end_of (ended.Ran told) = Shown told.report told.jobs told.log
+end_of (ended.Ran told) = Shown told.report told.jobs told.turns told.log
 
 -- ---- what is written of it
 
@@ -40,8 +47,8 @@ abbrev pub wanting_end : DialEnd → DialEnd
 wanting_end (Stopped why) = Stopped (stop.NoMemory tt)
 wanting_end NotReached = NotReached
 wanting_end (Unshown report) = Unshown report
-wanting_end (Shown report words log) = Unshown report
+wanting_end (Shown report words turns log) = Unshown report
 
 -- an end was written, or that there was no memory for its text
-abbrev pub RepliesEndOf : ℕ → ℕ → Option (List ℕ) → Option (List ℕ) → Status → DialEnd → Type 0
-RepliesEndOf faults faults' taken taken' told ending = RepliesEnd faults faults' taken taken' told ending ⊎ RepliesEnd faults faults' taken taken' told (wanting_end ending)
+abbrev pub RepliesEndOf : SinkNow → SinkNow → Status → DialEnd → Type 0
+RepliesEndOf out out' told ending = RepliesEnd out out' told ending ⊎ RepliesEnd out out' told (wanting_end ending)

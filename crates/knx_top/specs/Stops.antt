@@ -1,5 +1,5 @@
 -- Where a call stops: a list of tests, in the order in which they are made. The first that fails is told.
-use Rattle.std.specs.Prelude.{Bool, true, false, not, List, [], ◌∷◌, Option, Some, None, Result, Ok, Err}
+use Rattle.std.specs.Prelude.{ℕ, Bool, true, false, not, List, [], ◌∷◌, Option, Some, None, Result, Ok, Err}
 use Rattle.std.specs.List.{list_all, list_any}
 use Rattle.std.specs.Option.{option_map}
 use Rattle.catalogue.specs.Catalogue.{catalogue_of}
@@ -18,6 +18,7 @@ use Rattle.knx_model.specs.Meaning.{Installation}
 use Rattle.knx_model.specs.Rules.{first_broken, has_device}
 use Rattle.knx_model.specs.ScriptText.{script_reading, first_stranger}
 use Rattle.knx_model.specs.Statements.{reading}
+use Rattle.line_model.specs.declared.group.GroupTurn.{GroupTurn}
 use Rattle.knx_top.specs.Command.{ProjectWords, SimOptions, SimWords}
 use Rattle.knx_top.specs.Input.{fault_in, octets_of}
 use Rattle.knx_top.specs.OnLine.{on_bus}
@@ -76,12 +77,19 @@ project_tests words texts =
 
 -- ---- `sim`
 
--- what a run is begun with: NEW, OLD, the lines of the script, and the options and jobs of the words
+-- what a run is begun with: NEW, OLD, the lines of the script, and the options and jobs of the words; and how many workers drive the hub, and which group
+-- telegrams are sent
 pub record Commission : Type 0 where
   pub project : Installation
   pub before : Installation
   pub script : List ScriptLine
   pub options : SimOptions
+  pub workers : ℕ
+  pub turns : List GroupTurn
+
+-- one worker drives the hub, and no group telegrams are sent
+abbrev pub commission_of : Installation → Installation → List ScriptLine → SimOptions → Commission
+commission_of project before script options = record { project = project; before = before; script = script; options = options; workers = 1; turns = [] }
 
 -- a line with a group telegram
 abbrev pub is_group : ScriptWhat → Bool
@@ -120,12 +128,7 @@ stranger_named stranger = option_map (λ refused. let s : Stop = stop.Refused fi
 
 -- what the words and the texts of `sim` ask for
 abbrev pub commission_told : SimWords → SimTexts → Commission
-commission_told words texts = record {
-  project = project_in texts.catalogue texts.new;
-  before = project_in texts.catalogue texts.old;
-  script = lines_in texts.script;
-  options = words.options;
-}
+commission_told words texts = commission_of (project_in texts.catalogue texts.new) (project_in texts.catalogue texts.old) (lines_in texts.script) words.options
 
 abbrev pub sim_tests : SimWords → SimTexts → List (Option Stop)
 sim_tests words texts =

@@ -1,6 +1,6 @@
 //! The top call.
 
-ghost use Rattle.std.specs.Prelude.{◌≡◌, ◌≢◌, ◌≤◌, ◌+◌, ℕ, List, None, Some, length, map, string_bytes, IfOk};
+ghost use Rattle.std.specs.Prelude.{◌≡◌, ◌≤◌, ◌+◌, ℕ, List, None, Some, false, length, map, string_bytes, IfOk};
 ghost use Rattle.call_words.specs.declared.stop.Stop.TheVariants.{Usage};
 ghost use Rattle.knx_model.specs.Outside.{one_more};
 ghost use Rattle.knx_top.specs.Call.{AtMostOneRose, Does, HasRunOf, IsCountsText, IsTablesText, Replies, RunsScript, TellsOfFrame, TellsOfProject};
@@ -8,10 +8,11 @@ ghost use Rattle.knx_top.specs.Command.{HasFewJobs, NamesFewJobs, ProjectWords, 
 ghost use Rattle.knx_top.specs.Dialled.{RepliesEnd, RunsDialled};
 ghost use Rattle.knx_top.specs.Ended.{IsTextOf, outcome_of, told_outcome};
 ghost use Rattle.knx_top.specs.Gateway.{RepliesServed, RunsGateway};
-ghost use Rattle.knx_top.specs.Headline.{ActsOnce, BeganRightly, ClosesToItsEnd, EndsEveryJob, EndsThoroughly, HasFaultRight, HasOldStoppedOrNew, HasTelegramsRight, IsOfOneWorker, IsToldRightly, LeavesItsChannel, RunsWhereDone};
+ghost use Rattle.knx_top.specs.Headline.{ActsOnce, BeganRightly, ClosesToItsEnd, EndsEveryJob, EndsThoroughly, HasFaultRight, HasOldStoppedOrNew, HasTelegramsRight, IsOfItsWorkers, IsToldRightly, LeavesItsChannel, RunsWhereDone};
 ghost use Rattle.knx_top.specs.Input.{files_of, files_of_project, files_of_sim};
 ghost use Rattle.knx_top.specs.Names.{command_of, options_of, project_words_of, sim_words_of};
 ghost use Rattle.knx_top.specs.Ran.{FaultsOfLine, Stops};
+ghost use Rattle.knx_top.specs.Touches.{touches};
 
 use crate::command::{Command, ProjectNames, SimNames, asked};
 use crate::commission::{Reported, SimEnd, commission};
@@ -41,7 +42,7 @@ fn text_of_told(alloc: Global, told: Result<Octets, Stop>) -> Result<Text, NoMem
     }
 }
 
-/// What is printed of a run, in which no group telegrams are sent.
+/// What is printed of a run.
 fn text_of_report(alloc: Global, reported: &Reported) -> Result<Text, NoMemory>
     ensures { IfOk result (λ p. IsTextOf (outcome_of (SimEnd.Reported reported.now)) p.octets p.status) }
 {
@@ -49,7 +50,7 @@ fn text_of_report(alloc: Global, reported: &Reported) -> Result<Text, NoMemory>
         alloc,
         &reported.report,
         reported.jobs.as_slice(),
-        0,
+        reported.turns,
         reported.devices.as_slice(),
         reported.log,
     )?;
@@ -77,10 +78,10 @@ fn tell_check<F: Files, K: Sink>(
     files: &mut F,
     out: &mut K,
 ) -> Status
-    ensures told { TellsOfProject IsCountsText (project_words_of names.entry) (F.file files.old) (F.faults files.old) (F.faults files.new) (Replies (K.faults out.old) (K.faults out.new) (K.taken out.old) (K.taken out.new) result) }
-    ensures stays { (other : List ℕ) → F.file files.new other ≡ F.file files.old other }
-    ensures reads { F.reads files.new ≤ F.reads files.old + length (files_of_project (project_words_of names.entry)) }
-    ensures written { K.writes out.new ≡ one_more (K.writes out.old) }
+    ensures told { TellsOfProject IsCountsText (project_words_of names.entry) (F.now files.old) (F.now files.new) (Replies (K.now out.old) (K.now out.new) result) }
+    ensures stays { (other : List ℕ) → (F.now files.new).file other ≡ (F.now files.old).file other }
+    ensures reads { (F.now files.new).reads ≤ (F.now files.old).reads + length (files_of_project (project_words_of names.entry)) }
+    ensures written { (K.now out.new).writes ≡ one_more (K.now out.old).writes }
 {
     let texts = read_project_texts(alloc, files, names);
     let told = check_told(alloc, names, &texts);
@@ -94,10 +95,10 @@ fn tell_tables<F: Files, K: Sink>(
     files: &mut F,
     out: &mut K,
 ) -> Status
-    ensures told { TellsOfProject IsTablesText (project_words_of names.entry) (F.file files.old) (F.faults files.old) (F.faults files.new) (Replies (K.faults out.old) (K.faults out.new) (K.taken out.old) (K.taken out.new) result) }
-    ensures stays { (other : List ℕ) → F.file files.new other ≡ F.file files.old other }
-    ensures reads { F.reads files.new ≤ F.reads files.old + length (files_of_project (project_words_of names.entry)) }
-    ensures written { K.writes out.new ≡ one_more (K.writes out.old) }
+    ensures told { TellsOfProject IsTablesText (project_words_of names.entry) (F.now files.old) (F.now files.new) (Replies (K.now out.old) (K.now out.new) result) }
+    ensures stays { (other : List ℕ) → (F.now files.new).file other ≡ (F.now files.old).file other }
+    ensures reads { (F.now files.new).reads ≤ (F.now files.old).reads + length (files_of_project (project_words_of names.entry)) }
+    ensures written { (K.now out.new).writes ≡ one_more (K.now out.old).writes }
 {
     let texts = read_project_texts(alloc, files, names);
     let told = tables_told(alloc, names, &texts);
@@ -106,8 +107,8 @@ fn tell_tables<F: Files, K: Sink>(
 
 /// `decode`: the frame of octets.
 fn tell_decode<K: Sink>(alloc: Global, word: &str, out: &mut K) -> Status
-    ensures told { TellsOfFrame word.now (Replies (K.faults out.old) (K.faults out.new) (K.taken out.old) (K.taken out.new) result) }
-    ensures written { K.writes out.new ≡ one_more (K.writes out.old) }
+    ensures told { TellsOfFrame word.now (Replies (K.now out.old) (K.now out.new) result) }
+    ensures written { (K.now out.new).writes ≡ one_more (K.now out.old).writes }
 {
     let told = decode_told(alloc, word);
     tell_or_want(out, text_of_told(alloc, told))
@@ -124,11 +125,11 @@ fn tell_sim<R: Wait, F: Files, K: Sink>(
     last: &mut Option<Report>,
 ) -> Status
     requires { HasFewJobs (options_of names.options) }
-    ensures told { RunsScript (sim_words_of names.entry) (F.file files.old) (F.faults files.old) (F.faults files.new) sim.old (record { line = sim.new; report = last.new }) (Replies (K.faults out.old) (K.faults out.new) (K.taken out.old) (K.taken out.new) result) }
+    ensures told { RunsScript (sim_words_of names.entry) (F.now files.old) (F.now files.new) sim.old (record { line = sim.new; report = last.new }) (Replies (K.now out.old) (K.now out.new) result) }
     ensures link { FaultsOfLine last.new sim.new }
-    ensures stays { (other : List ℕ) → F.file files.new other ≡ F.file files.old other }
-    ensures reads { F.reads files.new ≤ F.reads files.old + length (files_of_sim (sim_words_of names.entry)) }
-    ensures written { K.writes out.new ≡ one_more (K.writes out.old) }
+    ensures stays { (other : List ℕ) → (F.now files.new).file other ≡ (F.now files.old).file other }
+    ensures reads { (F.now files.new).reads ≤ (F.now files.old).reads + length (files_of_sim (sim_words_of names.entry)) }
+    ensures written { (K.now out.new).writes ≡ one_more (K.now out.old).writes }
 {
     let texts = read_sim_texts(alloc, files, names);
     let end = commission(rt, alloc, names, &texts, sim);
@@ -150,14 +151,14 @@ fn run<R: Wait, F: Files, K: Sink, D: Dialer>(
 ) -> Status
     requires none { last.old ≡ None }
     requires few { NamesFewJobs (command_of command) }
-    ensures does { Does (Some (command_of command.entry)) (F.file files.old) (F.faults files.old) (F.faults files.new) sim.old (record { line = sim.new; report = last.new }) (Replies (K.faults out.old) (K.faults out.new) (K.taken out.old) (K.taken out.new) result) }
+    ensures does { Does (Some (command_of command.entry)) (F.now files.old) (F.now files.new) sim.old (record { line = sim.new; report = last.new }) (Replies (K.now out.old) (K.now out.new) result) }
     ensures link { (names : SimWords) → command_of command.entry ≡ AskedSim names → FaultsOfLine last.new sim.new }
-    ensures download { (names : DownloadWords) → command_of command.entry ≡ AskedDownload names → RunsDialled names (F.file files.old) (F.faults files.old) (F.faults files.new) (record { faults = D.faults dial.old; dials = D.dials dial.old; given = D.given dial.old; link_back = D.link_back dial.old; port_back = D.port_back dial.old }) (record { faults = D.faults dial.new; dials = D.dials dial.new; given = D.given dial.new; link_back = D.link_back dial.new; port_back = D.port_back dial.new }) last.new (RepliesEnd (K.faults out.old) (K.faults out.new) (K.taken out.old) (K.taken out.new) result) }
-    ensures gateway { (names : GatewayWords) → command_of command.entry ≡ AskedGateway names → RunsGateway names (F.file files.old) (F.faults files.old) (F.faults files.new) (record { faults = D.faults dial.old; dials = D.dials dial.old; given = D.given dial.old; link_back = D.link_back dial.old; port_back = D.port_back dial.old }) (record { faults = D.faults dial.new; dials = D.dials dial.new; given = D.given dial.new; link_back = D.link_back dial.new; port_back = D.port_back dial.new }) sim.old sim.new (RepliesServed (K.faults out.old) (K.faults out.new) (K.taken out.old) (K.taken out.new) result) }
-    ensures undialled { ((names : DownloadWords) → command_of command.entry ≢ AskedDownload names) → ((names : GatewayWords) → command_of command.entry ≢ AskedGateway names) → dial.new ≡ dial.old }
-    ensures stays { (other : List ℕ) → F.file files.new other ≡ F.file files.old other }
-    ensures reads { F.reads files.new ≤ F.reads files.old + length (files_of (Some (command_of command.entry))) }
-    ensures written { K.writes out.new ≡ one_more (K.writes out.old) }
+    ensures download { (names : DownloadWords) → command_of command.entry ≡ AskedDownload names → RunsDialled names (F.now files.old) (F.now files.new) (D.now dial.old) (D.now dial.new) last.new (RepliesEnd (K.now out.old) (K.now out.new) result) }
+    ensures gateway { (names : GatewayWords) → command_of command.entry ≡ AskedGateway names → RunsGateway names (F.now files.old) (F.now files.new) (D.now dial.old) (D.now dial.new) sim.old sim.new (RepliesServed (K.now out.old) (K.now out.new) result) }
+    ensures undialled { (touches (Some (command_of command.entry))).network ≡ false → dial.new ≡ dial.old }
+    ensures stays { (other : List ℕ) → (F.now files.new).file other ≡ (F.now files.old).file other }
+    ensures reads { (F.now files.new).reads ≤ (F.now files.old).reads + length (files_of (Some (command_of command.entry))) }
+    ensures written { (K.now out.new).writes ≡ one_more (K.now out.old).writes }
 {
     match command {
         Command::Check(names) => tell_check(alloc, names, files, out),
@@ -181,14 +182,14 @@ fn answer<R: Wait, F: Files, K: Sink, D: Dialer>(
     last: &mut Option<Report>,
 ) -> Status
     requires { last.old ≡ None }
-    ensures does { Does (asked (map string_bytes words.now)) (F.file files.old) (F.faults files.old) (F.faults files.new) sim.old (record { line = sim.new; report = last.new }) (Replies (K.faults out.old) (K.faults out.new) (K.taken out.old) (K.taken out.new) result) }
+    ensures does { Does (asked (map string_bytes words.now)) (F.now files.old) (F.now files.new) sim.old (record { line = sim.new; report = last.new }) (Replies (K.now out.old) (K.now out.new) result) }
     ensures link { (names : SimWords) → asked (map string_bytes words.now) ≡ Some (AskedSim names) → FaultsOfLine last.new sim.new }
-    ensures download { (names : DownloadWords) → asked (map string_bytes words.now) ≡ Some (AskedDownload names) → RunsDialled names (F.file files.old) (F.faults files.old) (F.faults files.new) (record { faults = D.faults dial.old; dials = D.dials dial.old; given = D.given dial.old; link_back = D.link_back dial.old; port_back = D.port_back dial.old }) (record { faults = D.faults dial.new; dials = D.dials dial.new; given = D.given dial.new; link_back = D.link_back dial.new; port_back = D.port_back dial.new }) last.new (RepliesEnd (K.faults out.old) (K.faults out.new) (K.taken out.old) (K.taken out.new) result) }
-    ensures gateway { (names : GatewayWords) → asked (map string_bytes words.now) ≡ Some (AskedGateway names) → RunsGateway names (F.file files.old) (F.faults files.old) (F.faults files.new) (record { faults = D.faults dial.old; dials = D.dials dial.old; given = D.given dial.old; link_back = D.link_back dial.old; port_back = D.port_back dial.old }) (record { faults = D.faults dial.new; dials = D.dials dial.new; given = D.given dial.new; link_back = D.link_back dial.new; port_back = D.port_back dial.new }) sim.old sim.new (RepliesServed (K.faults out.old) (K.faults out.new) (K.taken out.old) (K.taken out.new) result) }
-    ensures undialled { ((names : DownloadWords) → asked (map string_bytes words.now) ≢ Some (AskedDownload names)) → ((names : GatewayWords) → asked (map string_bytes words.now) ≢ Some (AskedGateway names)) → dial.new ≡ dial.old }
-    ensures stays { (other : List ℕ) → F.file files.new other ≡ F.file files.old other }
-    ensures reads { F.reads files.new ≤ F.reads files.old + length (files_of (asked (map string_bytes words.now))) }
-    ensures written { K.writes out.new ≡ one_more (K.writes out.old) }
+    ensures download { (names : DownloadWords) → asked (map string_bytes words.now) ≡ Some (AskedDownload names) → RunsDialled names (F.now files.old) (F.now files.new) (D.now dial.old) (D.now dial.new) last.new (RepliesEnd (K.now out.old) (K.now out.new) result) }
+    ensures gateway { (names : GatewayWords) → asked (map string_bytes words.now) ≡ Some (AskedGateway names) → RunsGateway names (F.now files.old) (F.now files.new) (D.now dial.old) (D.now dial.new) sim.old sim.new (RepliesServed (K.now out.old) (K.now out.new) result) }
+    ensures undialled { (touches (asked (map string_bytes words.now))).network ≡ false → dial.new ≡ dial.old }
+    ensures stays { (other : List ℕ) → (F.now files.new).file other ≡ (F.now files.old).file other }
+    ensures reads { (F.now files.new).reads ≤ (F.now files.old).reads + length (files_of (asked (map string_bytes words.now))) }
+    ensures written { (K.now out.new).writes ≡ one_more (K.now out.old).writes }
 {
     match asked(words) {
         Some(command) => run(rt, alloc, command, files, out, sim, dial, last),
@@ -209,47 +210,47 @@ pub fn knx<R: Wait, F: Files, K: Sink, D: Dialer>(
     last: &mut Option<Report>,
 ) -> Status
     // other words than a command's are told so
-    ensures usage { asked (map string_bytes words.now) ≡ None → Replies (K.faults out.old) (K.faults out.new) (K.taken out.old) (K.taken out.new) result (Stops Usage) }
+    ensures usage { asked (map string_bytes words.now) ≡ None → Replies (K.now out.old) (K.now out.new) result (Stops Usage) }
     // what each command tells: the first test that fails, or exactly the text that the definitions give for what was read
-    ensures check { (names : ProjectWords) → asked (map string_bytes words.now) ≡ Some (AskedCheck names) → TellsOfProject IsCountsText names (F.file files.old) (F.faults files.old) (F.faults files.new) (Replies (K.faults out.old) (K.faults out.new) (K.taken out.old) (K.taken out.new) result) }
-    ensures tables { (names : ProjectWords) → asked (map string_bytes words.now) ≡ Some (AskedTables names) → TellsOfProject IsTablesText names (F.file files.old) (F.faults files.old) (F.faults files.new) (Replies (K.faults out.old) (K.faults out.new) (K.taken out.old) (K.taken out.new) result) }
-    ensures decode { (word : List ℕ) → asked (map string_bytes words.now) ≡ Some (AskedDecode word) → TellsOfFrame word (Replies (K.faults out.old) (K.faults out.new) (K.taken out.old) (K.taken out.new) result) }
-    ensures sim { (names : SimWords) → asked (map string_bytes words.now) ≡ Some (AskedSim names) → RunsScript names (F.file files.old) (F.faults files.old) (F.faults files.new) sim.old (record { line = sim.new; report = last.new }) (Replies (K.faults out.old) (K.faults out.new) (K.taken out.old) (K.taken out.new) result) }
-    ensures download { (names : DownloadWords) → asked (map string_bytes words.now) ≡ Some (AskedDownload names) → RunsDialled names (F.file files.old) (F.faults files.old) (F.faults files.new) (record { faults = D.faults dial.old; dials = D.dials dial.old; given = D.given dial.old; link_back = D.link_back dial.old; port_back = D.port_back dial.old }) (record { faults = D.faults dial.new; dials = D.dials dial.new; given = D.given dial.new; link_back = D.link_back dial.new; port_back = D.port_back dial.new }) last.new (RepliesEnd (K.faults out.old) (K.faults out.new) (K.taken out.old) (K.taken out.new) result) }
-    ensures gateway { (names : GatewayWords) → asked (map string_bytes words.now) ≡ Some (AskedGateway names) → RunsGateway names (F.file files.old) (F.faults files.old) (F.faults files.new) (record { faults = D.faults dial.old; dials = D.dials dial.old; given = D.given dial.old; link_back = D.link_back dial.old; port_back = D.port_back dial.old }) (record { faults = D.faults dial.new; dials = D.dials dial.new; given = D.given dial.new; link_back = D.link_back dial.new; port_back = D.port_back dial.new }) sim.old sim.new (RepliesServed (K.faults out.old) (K.faults out.new) (K.taken out.old) (K.taken out.new) result) }
+    ensures check { (names : ProjectWords) → asked (map string_bytes words.now) ≡ Some (AskedCheck names) → TellsOfProject IsCountsText names (F.now files.old) (F.now files.new) (Replies (K.now out.old) (K.now out.new) result) }
+    ensures tables { (names : ProjectWords) → asked (map string_bytes words.now) ≡ Some (AskedTables names) → TellsOfProject IsTablesText names (F.now files.old) (F.now files.new) (Replies (K.now out.old) (K.now out.new) result) }
+    ensures decode { (word : List ℕ) → asked (map string_bytes words.now) ≡ Some (AskedDecode word) → TellsOfFrame word (Replies (K.now out.old) (K.now out.new) result) }
+    ensures sim { (names : SimWords) → asked (map string_bytes words.now) ≡ Some (AskedSim names) → RunsScript names (F.now files.old) (F.now files.new) sim.old (record { line = sim.new; report = last.new }) (Replies (K.now out.old) (K.now out.new) result) }
+    ensures download { (names : DownloadWords) → asked (map string_bytes words.now) ≡ Some (AskedDownload names) → RunsDialled names (F.now files.old) (F.now files.new) (D.now dial.old) (D.now dial.new) last.new (RepliesEnd (K.now out.old) (K.now out.new) result) }
+    ensures gateway { (names : GatewayWords) → asked (map string_bytes words.now) ≡ Some (AskedGateway names) → RunsGateway names (F.now files.old) (F.now files.new) (D.now dial.old) (D.now dial.new) sim.old sim.new (RepliesServed (K.now out.old) (K.now out.new) result) }
     // a run begins as it is stated, and what happens on the line is legal and follows the script
-    ensures begins { HasRunOf BeganRightly (map string_bytes words.now) (F.file files.old) sim.old (record { line = sim.new; report = last.new }) }
+    ensures begins { HasRunOf BeganRightly (map string_bytes words.now) (F.now files.old) sim.old (record { line = sim.new; report = last.new }) }
     // whatever is lost, repeated or cut, at every moment of a run each device keeps its starting content, or is stopped, or runs what the project says
-    ensures old_stopped_or_new { HasRunOf HasOldStoppedOrNew (map string_bytes words.now) (F.file files.old) sim.old (record { line = sim.new; report = last.new }) }
+    ensures old_stopped_or_new { HasRunOf HasOldStoppedOrNew (map string_bytes words.now) (F.now files.old) sim.old (record { line = sim.new; report = last.new }) }
     // each group telegram acts on exactly the objects that the running configuration links
-    ensures telegrams { HasRunOf HasTelegramsRight (map string_bytes words.now) (F.file files.old) sim.old (record { line = sim.new; report = last.new }) }
+    ensures telegrams { HasRunOf HasTelegramsRight (map string_bytes words.now) (F.now files.old) sim.old (record { line = sim.new; report = last.new }) }
     // done is told only where what the project says runs
-    ensures done { HasRunOf RunsWhereDone (map string_bytes words.now) (F.file files.old) sim.old (record { line = sim.new; report = last.new }) }
+    ensures done { HasRunOf RunsWhereDone (map string_bytes words.now) (F.now files.old) sim.old (record { line = sim.new; report = last.new }) }
     // no tunnelling request acts twice
-    ensures once { HasRunOf ActsOnce (map string_bytes words.now) (F.file files.old) sim.old (record { line = sim.new; report = last.new }) }
+    ensures once { HasRunOf ActsOnce (map string_bytes words.now) (F.now files.old) sim.old (record { line = sim.new; report = last.new }) }
     // no device has two downloaders at once, the log tells nothing that the record doesn't show, and all that is sent is right
-    ensures told { HasRunOf IsToldRightly (map string_bytes words.now) (F.file files.old) sim.old (record { line = sim.new; report = last.new }) }
+    ensures told { HasRunOf IsToldRightly (map string_bytes words.now) (F.now files.old) sim.old (record { line = sim.new; report = last.new }) }
     // an end is told at rest, no attempt begins once its job is decided, and the gateway is told of each loss that it doesn't know of, once
-    ensures thorough { HasRunOf EndsThoroughly (map string_bytes words.now) (F.file files.old) sim.old (record { line = sim.new; report = last.new }) }
+    ensures thorough { HasRunOf EndsThoroughly (map string_bytes words.now) (F.now files.old) sim.old (record { line = sim.new; report = last.new }) }
     // it asks the gateway to end the open channel only when all jobs are over: then once, after the listening
-    ensures leaves { HasRunOf LeavesItsChannel (map string_bytes words.now) (F.file files.old) sim.old (record { line = sim.new; report = last.new }) }
+    ensures leaves { HasRunOf LeavesItsChannel (map string_bytes words.now) (F.now files.old) sim.old (record { line = sim.new; report = last.new }) }
     // a run that breaks off has its cause in the record; else there is none in the end, every job has its end and the closing is over
-    ensures fault { HasRunOf HasFaultRight (map string_bytes words.now) (F.file files.old) sim.old (record { line = sim.new; report = last.new }) }
-    ensures over { HasRunOf EndsEveryJob (map string_bytes words.now) (F.file files.old) sim.old (record { line = sim.new; report = last.new }) }
-    ensures closed { HasRunOf ClosesToItsEnd (map string_bytes words.now) (F.file files.old) sim.old (record { line = sim.new; report = last.new }) }
-    // one caller drives the hub: what the log tells was done by worker 1, or by the group thread
-    ensures seats { HasRunOf IsOfOneWorker (map string_bytes words.now) (F.file files.old) sim.old (record { line = sim.new; report = last.new }) }
+    ensures fault { HasRunOf HasFaultRight (map string_bytes words.now) (F.now files.old) sim.old (record { line = sim.new; report = last.new }) }
+    ensures over { HasRunOf EndsEveryJob (map string_bytes words.now) (F.now files.old) sim.old (record { line = sim.new; report = last.new }) }
+    ensures closed { HasRunOf ClosesToItsEnd (map string_bytes words.now) (F.now files.old) sim.old (record { line = sim.new; report = last.new }) }
+    // what the log tells was done by one of the run's workers, which is worker 1, or by the group thread
+    ensures seats { HasRunOf IsOfItsWorkers (map string_bytes words.now) (F.now files.old) sim.old (record { line = sim.new; report = last.new }) }
     // that the link failed is told of `sim` only at the last time of 64 bits, where a call of the simulated line failed
     ensures link { (names : SimWords) → asked (map string_bytes words.now) ≡ Some (AskedSim names) → FaultsOfLine last.new sim.new }
-    // only `sim` and `gateway` begin the simulated line anew, only `download` and `gateway` reach a network, and only `sim` and `download` begin a run
-    ensures line { ((names : SimWords) → asked (map string_bytes words.now) ≢ Some (AskedSim names)) → ((names : GatewayWords) → asked (map string_bytes words.now) ≢ Some (AskedGateway names)) → sim.new ≡ sim.old }
-    ensures undialled { ((names : DownloadWords) → asked (map string_bytes words.now) ≢ Some (AskedDownload names)) → ((names : GatewayWords) → asked (map string_bytes words.now) ≢ Some (AskedGateway names)) → dial.new ≡ dial.old }
-    ensures no_run { ((names : SimWords) → asked (map string_bytes words.now) ≢ Some (AskedSim names)) → ((names : DownloadWords) → asked (map string_bytes words.now) ≢ Some (AskedDownload names)) → last.new ≡ None }
+    // what its command doesn't touch stays: the simulated line, the network, and that there is no run
+    ensures line { (touches (asked (map string_bytes words.now))).line ≡ false → sim.new ≡ sim.old }
+    ensures undialled { (touches (asked (map string_bytes words.now))).network ≡ false → dial.new ≡ dial.old }
+    ensures no_run { (touches (asked (map string_bytes words.now))).run ≡ false → last.new ≡ None }
     // what the files tell stays, there are at most as many reads as the words name files, the count of one file rose at most, and there is just one write
-    ensures files { (name : List ℕ) → F.file files.new name ≡ F.file files.old name }
-    ensures reads { F.reads files.new ≤ F.reads files.old + length (files_of (asked (map string_bytes words.now))) }
-    ensures faults { AtMostOneRose (F.faults files.old) (F.faults files.new) }
-    ensures written { K.writes out.new ≡ one_more (K.writes out.old) }
+    ensures files { (name : List ℕ) → (F.now files.new).file name ≡ (F.now files.old).file name }
+    ensures reads { (F.now files.new).reads ≤ (F.now files.old).reads + length (files_of (asked (map string_bytes words.now))) }
+    ensures faults { AtMostOneRose (F.now files.old).faults (F.now files.new).faults }
+    ensures written { (K.now out.new).writes ≡ one_more (K.now out.old).writes }
 {
     *last = None;
     answer(rt, alloc, words, files, out, sim, dial, last)

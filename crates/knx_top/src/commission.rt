@@ -34,6 +34,8 @@ use std::sync::Wait;
 pub struct Reported {
     pub report: Report,
     pub jobs: List<JobWord>,
+    /// How many group telegrams were to be sent.
+    pub turns: u32,
     pub devices: List<DeviceShown>,
     pub log: bool,
 }
@@ -68,7 +70,7 @@ impl Gate for Open {
     fn pass(&self, _job: u32) {}
 }
 
-/// What is shown of a run that is over.
+/// What is shown of a run that is over, in which no group telegrams are sent.
 fn end_of_run(
     alloc: Global,
     line: &SimBus,
@@ -78,12 +80,13 @@ fn end_of_run(
     log: bool,
 ) -> SimEnd
     requires { All (λ (d : Address × Option Compiled). IsSome ((world line.now.run).devices d.0.raw)) devices.now }
-    ensures { ShowsRun line.now.run report jobs devices.now log (outcome_of result) }
+    ensures { ShowsRun line.now.run report jobs 0 devices.now log (outcome_of result) }
 {
     match all_shown(alloc, line, devices) {
         Ok(devices) => SimEnd::Reported(Reported {
             report,
             jobs,
+            turns: 0,
             devices,
             log,
         }),

@@ -1,6 +1,6 @@
 //! `download`: the jobs of a project over a dialled link, which is handed back to the dialer before the call answers.
 
-ghost use Rattle.std.specs.Prelude.{◌≡◌, ◌≢◌, ◌≤◌, ◌<◌, ◌+◌, ℕ, Some, Err, IfErr, IfOk, List as Seq, length, map};
+ghost use Rattle.std.specs.Prelude.{◌≡◌, ◌≢◌, ◌≤◌, ◌<◌, ◌+◌, ℕ, [], Some, Err, IfErr, IfOk, List as Seq, length, map};
 ghost use Rattle.std.specs.List.{AllByRecursion};
 ghost use Rattle.call_words.specs.declared.stop.Stop.TheVariants.{NoMemory as OutOfMemory};
 ghost use Rattle.knx_model.specs.Outside.{one_more};
@@ -11,7 +11,7 @@ ghost use Rattle.knx_top.specs.Dialled.{DialEnd, Dials, DialsOr, Download, HasIt
 ghost use Rattle.knx_top.specs.Input.{files_of_download};
 ghost use Rattle.knx_top.specs.Jobs.{seen_job};
 ghost use Rattle.knx_top.specs.Names.{address_of, download_words_of, options_of};
-ghost use Rattle.knx_top.specs.Ready.{IsReady, IsTextOfEnd, ReadyFor, RepliesEndOf, end_of};
+ghost use Rattle.knx_top.specs.Ready.{IsReady, IsReadyFor, IsTextOfEnd, ReadyFor, RepliesEndOf, end_of};
 
 use crate::command::{DownloadNames, ProjectNames};
 use crate::commission::Open;
@@ -46,6 +46,8 @@ pub struct Ready {
 pub struct DialledReport {
     pub report: Report,
     pub jobs: List<JobWord>,
+    /// How many group telegrams were to be sent.
+    pub turns: u32,
     /// Whether the log is printed.
     pub log: bool,
 }
@@ -125,17 +127,17 @@ fn run<R: Wait, D: Dialer>(
     requires sound { D.L.faults line ≡ 0 }
     requires few { length plans < 4294967296 }
     requires good { AllByRecursion IsGoodJob (map seen_job plans) }
-    ensures told { IsToldOver (map seen_job plans) (D.link_back dial.new) result }
-    ensures given { D.given dial.new ≡ D.given dial.old }
-    ensures dials { D.dials dial.new ≡ D.dials dial.old }
-    ensures cause { HasItsCause result (D.faults dial.old) (D.faults dial.new) }
+    ensures told { IsToldOver 1 [] (map seen_job plans) (D.now dial.new).link_back result }
+    ensures given { (D.now dial.new).given ≡ (D.now dial.old).given }
+    ensures dials { (D.now dial.new).dials ≡ (D.now dial.old).dials }
+    ensures cause { HasItsCause result (D.now dial.old).faults (D.now dial.new).faults }
 {
     let (line, report) = commission(rt, alloc, plans, List::new(alloc), line, &Open);
     dial.hang(line);
     report
 }
 
-/// Dials the gateway, and goes through the jobs over the link.
+/// Dials the gateway, and goes through the jobs over the link. No group telegrams are sent.
 fn dial_and_run<R: Wait, D: Dialer>(
     rt: &R,
     alloc: Global,
@@ -146,7 +148,7 @@ fn dial_and_run<R: Wait, D: Dialer>(
 ) -> Ending
     requires few { length ready.plans < 4294967296 }
     requires good { AllByRecursion IsGoodJob (map seen_job ready.plans) }
-    ensures { (d : Download) → IsReady d.project d.options.jobs ready → d.at ≡ address_of at → log ≡ d.options.log → Dials d (record { faults = D.faults dial.old; dials = D.dials dial.old; given = D.given dial.old; link_back = D.link_back dial.old; port_back = D.port_back dial.old }) (record { faults = D.faults dial.new; dials = D.dials dial.new; given = D.given dial.new; link_back = D.link_back dial.new; port_back = D.port_back dial.new }) (end_of result) }
+    ensures { (d : Download) → IsReadyFor d ready → d.at ≡ address_of at → log ≡ d.options.log → Dials d (D.now dial.old) (D.now dial.new) (end_of result) }
 {
     match dial.dial(at.host, at.port) {
         Ok(line) => {
@@ -154,6 +156,7 @@ fn dial_and_run<R: Wait, D: Dialer>(
             Ending::Ran(DialledReport {
                 report,
                 jobs: ready.jobs,
+                turns: 0,
                 log,
             })
         }
@@ -170,7 +173,7 @@ fn download<R: Wait, D: Dialer>(
     dial: &mut D,
 ) -> Ending
     requires { HasFewJobs (options_of names.options) }
-    ensures { DialsOr (judged_download (download_words_of names.entry) texts.now) (record { faults = D.faults dial.old; dials = D.dials dial.old; given = D.given dial.old; link_back = D.link_back dial.old; port_back = D.port_back dial.old }) (record { faults = D.faults dial.new; dials = D.dials dial.new; given = D.given dial.new; link_back = D.link_back dial.new; port_back = D.port_back dial.new }) (end_of result) }
+    ensures { DialsOr (judged_download (download_words_of names.entry) texts.now) (D.now dial.old) (D.now dial.new) (end_of result) }
 {
     match judge(alloc, names, texts) {
         Ok(ready) => dial_and_run(rt, alloc, names.at, ready, names.options.log, dial),
@@ -178,11 +181,18 @@ fn download<R: Wait, D: Dialer>(
     }
 }
 
-/// What is printed of a run, in which no group telegrams are sent and of which no devices are shown.
+/// What is printed of a run, of which no devices are shown.
 fn text_of_report(alloc: Global, told: &DialledReport) -> Result<Text, NoMemory>
-    ensures { IfOk result (λ p. IsTextOfEnd (DialEnd.Shown told.now.report told.now.jobs told.now.log) p.octets p.status) }
+    ensures { IfOk result (λ p. IsTextOfEnd (DialEnd.Shown told.now.report told.now.jobs told.now.turns told.now.log) p.octets p.status) }
 {
-    let octets = line_report_of(alloc, &told.report, told.jobs.as_slice(), 0, &[], told.log)?;
+    let octets = line_report_of(
+        alloc,
+        &told.report,
+        told.jobs.as_slice(),
+        told.turns,
+        &[],
+        told.log,
+    )?;
     Ok(Text {
         status: line_status(&told.report),
         octets,
@@ -191,8 +201,8 @@ fn text_of_report(alloc: Global, told: &DialledReport) -> Result<Text, NoMemory>
 
 /// Writes what is printed of `download`.
 fn tell_end<K: Sink>(alloc: Global, out: &mut K, ending: &Ending) -> Status
-    ensures told { RepliesEndOf (K.faults out.old) (K.faults out.new) (K.taken out.old) (K.taken out.new) result (end_of ending.now) }
-    ensures written { K.writes out.new ≡ one_more (K.writes out.old) }
+    ensures told { RepliesEndOf (K.now out.old) (K.now out.new) result (end_of ending.now) }
+    ensures written { (K.now out.new).writes ≡ one_more (K.now out.old).writes }
 {
     match ending {
         Ending::Stopped(stop) => tell_or_want(out, text_of_stop(alloc, stop)),
@@ -212,10 +222,10 @@ pub fn tell_download<R: Wait, F: Files, K: Sink, D: Dialer>(
     last: &mut Option<Report>,
 ) -> Status
     requires { HasFewJobs (options_of names.options) }
-    ensures told { RunsDialled (download_words_of names.entry) (F.file files.old) (F.faults files.old) (F.faults files.new) (record { faults = D.faults dial.old; dials = D.dials dial.old; given = D.given dial.old; link_back = D.link_back dial.old; port_back = D.port_back dial.old }) (record { faults = D.faults dial.new; dials = D.dials dial.new; given = D.given dial.new; link_back = D.link_back dial.new; port_back = D.port_back dial.new }) last.new (RepliesEnd (K.faults out.old) (K.faults out.new) (K.taken out.old) (K.taken out.new) result) }
-    ensures stays { (other : Seq ℕ) → F.file files.new other ≡ F.file files.old other }
-    ensures reads { F.reads files.new ≤ F.reads files.old + length (files_of_download (download_words_of names.entry)) }
-    ensures written { K.writes out.new ≡ one_more (K.writes out.old) }
+    ensures told { RunsDialled (download_words_of names.entry) (F.now files.old) (F.now files.new) (D.now dial.old) (D.now dial.new) last.new (RepliesEnd (K.now out.old) (K.now out.new) result) }
+    ensures stays { (other : Seq ℕ) → (F.now files.new).file other ≡ (F.now files.old).file other }
+    ensures reads { (F.now files.new).reads ≤ (F.now files.old).reads + length (files_of_download (download_words_of names.entry)) }
+    ensures written { (K.now out.new).writes ≡ one_more (K.now out.old).writes }
 {
     let texts = read_project_texts(alloc, files, names.project());
     let ending = download(rt, alloc, names, &texts, dial);

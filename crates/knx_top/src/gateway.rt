@@ -108,9 +108,9 @@ fn serve<D: Dialer>(
     requires new { IsNewPort (D.P.story door) }
     requires unfailed { D.P.faults door ≡ 0 }
     requires sound { line.faults ≡ 0 }
-    ensures serving { (s : Service) → BeginsLine s.before s.before s.script line.run → s.turns ≡ turns → Serving s sim.new (D.port_back dial.new) (D.faults dial.old) (D.faults dial.new) (end_of result) }
-    ensures given { D.given dial.new ≡ D.given dial.old }
-    ensures dials { D.dials dial.new ≡ D.dials dial.old }
+    ensures serving { (s : Service) → BeginsLine s.before s.before s.script line.run → s.turns ≡ turns → Serving s sim.new (D.now dial.new).port_back (D.now dial.old).faults (D.now dial.new).faults (end_of result) }
+    ensures given { (D.now dial.new).given ≡ (D.now dial.old).given }
+    ensures dials { (D.now dial.new).dials ≡ (D.now dial.old).dials }
 {
     let mut line = line;
     let mut door = door;
@@ -130,7 +130,7 @@ fn bind_and_serve<D: Dialer>(
     dial: &mut D,
 ) -> ServiceEnd
     requires sound { line.faults ≡ 0 }
-    ensures { (s : Service) → BeginsLine s.before s.before s.script line.run → s.at ≡ address_of names.entry.at → s.turns ≡ names.entry.turns → Serves s (record { faults = D.faults dial.old; dials = D.dials dial.old; given = D.given dial.old; link_back = D.link_back dial.old; port_back = D.port_back dial.old }) (record { faults = D.faults dial.new; dials = D.dials dial.new; given = D.given dial.new; link_back = D.link_back dial.new; port_back = D.port_back dial.new }) sim.old sim.new (end_of result) }
+    ensures { (s : Service) → BeginsLine s.before s.before s.script line.run → s.at ≡ address_of names.entry.at → s.turns ≡ names.entry.turns → Serves s (D.now dial.old) (D.now dial.new) sim.old sim.new (end_of result) }
 {
     match dial.bind(names.at.host, names.at.port) {
         Ok(door) => serve(alloc, names.turns, line, door, sim, dial),
@@ -146,7 +146,7 @@ fn gateway<D: Dialer>(
     sim: &mut SimBus,
     dial: &mut D,
 ) -> ServiceEnd
-    ensures { ServesOr (judged_gateway (gateway_words_of names.entry) texts.now) (record { faults = D.faults dial.old; dials = D.dials dial.old; given = D.given dial.old; link_back = D.link_back dial.old; port_back = D.port_back dial.old }) (record { faults = D.faults dial.new; dials = D.dials dial.new; given = D.given dial.new; link_back = D.link_back dial.new; port_back = D.port_back dial.new }) sim.old sim.new (end_of result) }
+    ensures { ServesOr (judged_gateway (gateway_words_of names.entry) texts.now) (D.now dial.old) (D.now dial.new) sim.old sim.new (end_of result) }
 {
     match judge(alloc, names, texts) {
         Ok(line) => bind_and_serve(alloc, names, line, sim, dial),
@@ -177,8 +177,8 @@ fn text_of_turns(alloc: Global, turns: u32) -> Result<Text, NoMemory>
 
 /// Writes what is printed of `gateway`.
 fn tell_end<K: Sink>(alloc: Global, out: &mut K, end: &ServiceEnd) -> Status
-    ensures told { RepliesServedOf (K.faults out.old) (K.faults out.new) (K.taken out.old) (K.taken out.new) result (end_of end.now) }
-    ensures written { K.writes out.new ≡ one_more (K.writes out.old) }
+    ensures told { RepliesServedOf (K.now out.old) (K.now out.new) result (end_of end.now) }
+    ensures written { (K.now out.new).writes ≡ one_more (K.now out.old).writes }
 {
     match end {
         ServiceEnd::Stopped(stop) => tell_or_want(out, text_of_stop(alloc, stop)),
@@ -198,10 +198,10 @@ pub fn tell_gateway<F: Files, K: Sink, D: Dialer>(
     sim: &mut SimBus,
     dial: &mut D,
 ) -> Status
-    ensures told { RunsGateway (gateway_words_of names.entry) (F.file files.old) (F.faults files.old) (F.faults files.new) (record { faults = D.faults dial.old; dials = D.dials dial.old; given = D.given dial.old; link_back = D.link_back dial.old; port_back = D.port_back dial.old }) (record { faults = D.faults dial.new; dials = D.dials dial.new; given = D.given dial.new; link_back = D.link_back dial.new; port_back = D.port_back dial.new }) sim.old sim.new (RepliesServed (K.faults out.old) (K.faults out.new) (K.taken out.old) (K.taken out.new) result) }
-    ensures stays { (other : Seq ℕ) → F.file files.new other ≡ F.file files.old other }
-    ensures reads { F.reads files.new ≤ F.reads files.old + length (files_of_gateway (gateway_words_of names.entry)) }
-    ensures written { K.writes out.new ≡ one_more (K.writes out.old) }
+    ensures told { RunsGateway (gateway_words_of names.entry) (F.now files.old) (F.now files.new) (D.now dial.old) (D.now dial.new) sim.old sim.new (RepliesServed (K.now out.old) (K.now out.new) result) }
+    ensures stays { (other : Seq ℕ) → (F.now files.new).file other ≡ (F.now files.old).file other }
+    ensures reads { (F.now files.new).reads ≤ (F.now files.old).reads + length (files_of_gateway (gateway_words_of names.entry)) }
+    ensures written { (K.now out.new).writes ≡ one_more (K.now out.old).writes }
 {
     let texts = read_gateway_texts(alloc, files, names);
     let end = gateway(alloc, names, &texts, sim, dial);

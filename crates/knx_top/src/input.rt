@@ -60,10 +60,10 @@ fn goes_on(reading: &Reading) -> bool
 
 /// Reads a file.
 fn read<F: Files>(alloc: Global, files: &mut F, name: &str) -> Reading
-    ensures read { IsRead (F.file files.old) true (Some name.now) result }
-    ensures counts { OnlyRose (failed (Some name.now) result) (F.faults files.old) (F.faults files.new) }
-    ensures stays { (other : List ℕ) → F.file files.new other ≡ F.file files.old other }
-    ensures reads { F.reads files.new ≤ F.reads files.old + 1 }
+    ensures read { IsRead (F.now files.old).file true (Some name.now) result }
+    ensures counts { OnlyRose (failed (Some name.now) result) (F.now files.old).faults (F.now files.new).faults }
+    ensures stays { (other : List ℕ) → (F.now files.new).file other ≡ (F.now files.old).file other }
+    ensures reads { (F.now files.new).reads ≤ (F.now files.old).reads + 1 }
 {
     match files.read(alloc, name, LIMIT) {
         Ok(octets) => Reading::Whole(octets),
@@ -73,10 +73,10 @@ fn read<F: Files>(alloc: Global, files: &mut F, name: &str) -> Reading
 
 /// Reads a file, where it is named.
 fn read_named<F: Files>(alloc: Global, files: &mut F, name: Option<&str>) -> Reading
-    ensures read { IsRead (F.file files.old) true (named name.entry) result }
-    ensures counts { OnlyRose (failed (named name.entry) result) (F.faults files.old) (F.faults files.new) }
-    ensures stays { (other : List ℕ) → F.file files.new other ≡ F.file files.old other }
-    ensures reads { F.reads files.new ≤ F.reads files.old + length (option_to_list (named name.entry)) }
+    ensures read { IsRead (F.now files.old).file true (named name.entry) result }
+    ensures counts { OnlyRose (failed (named name.entry) result) (F.now files.old).faults (F.now files.new).faults }
+    ensures stays { (other : List ℕ) → (F.now files.new).file other ≡ (F.now files.old).file other }
+    ensures reads { (F.now files.new).reads ≤ (F.now files.old).reads + length (option_to_list (named name.entry)) }
 {
     match name {
         None => Reading::Unnamed,
@@ -86,10 +86,10 @@ fn read_named<F: Files>(alloc: Global, files: &mut F, name: Option<&str>) -> Rea
 
 /// Reads a file, where the reading goes on behind the one before it.
 fn read_after<F: Files>(alloc: Global, files: &mut F, before: &Reading, name: &str) -> Reading
-    ensures read { IsRead (F.file files.old) (goes_on before.now) (Some name.now) result }
-    ensures counts { OnlyRose (failed (Some name.now) result) (F.faults files.old) (F.faults files.new) }
-    ensures stays { (other : List ℕ) → F.file files.new other ≡ F.file files.old other }
-    ensures reads { F.reads files.new ≤ F.reads files.old + 1 }
+    ensures read { IsRead (F.now files.old).file (goes_on before.now) (Some name.now) result }
+    ensures counts { OnlyRose (failed (Some name.now) result) (F.now files.old).faults (F.now files.new).faults }
+    ensures stays { (other : List ℕ) → (F.now files.new).file other ≡ (F.now files.old).file other }
+    ensures reads { (F.now files.new).reads ≤ (F.now files.old).reads + 1 }
 {
     if goes_on(before) {
         read(alloc, files, name)
@@ -104,10 +104,10 @@ pub fn read_project_texts<F: Files>(
     files: &mut F,
     names: ProjectNames<'_>,
 ) -> ProjectTexts
-    ensures read { ProjectIsRead (F.file files.old) (project_words_of names.entry) result }
-    ensures counts { OnlyRose (failed_of_project (project_words_of names.entry) result) (F.faults files.old) (F.faults files.new) }
-    ensures stays { (other : List ℕ) → F.file files.new other ≡ F.file files.old other }
-    ensures reads { F.reads files.new ≤ F.reads files.old + length (files_of_project (project_words_of names.entry)) }
+    ensures read { ProjectIsRead (F.now files.old).file (project_words_of names.entry) result }
+    ensures counts { OnlyRose (failed_of_project (project_words_of names.entry) result) (F.now files.old).faults (F.now files.new).faults }
+    ensures stays { (other : List ℕ) → (F.now files.new).file other ≡ (F.now files.old).file other }
+    ensures reads { (F.now files.new).reads ≤ (F.now files.old).reads + length (files_of_project (project_words_of names.entry)) }
 {
     let catalogue = read_named(alloc, files, names.catalogue);
     let project = read_after(alloc, files, &catalogue, names.project);
@@ -116,10 +116,10 @@ pub fn read_project_texts<F: Files>(
 
 /// Reads the catalogue, then NEW, OLD and the script.
 pub fn read_sim_texts<F: Files>(alloc: Global, files: &mut F, names: SimNames<'_>) -> SimTexts
-    ensures read { SimIsRead (F.file files.old) (sim_words_of names.entry) result }
-    ensures counts { OnlyRose (failed_of_sim (sim_words_of names.entry) result) (F.faults files.old) (F.faults files.new) }
-    ensures stays { (other : List ℕ) → F.file files.new other ≡ F.file files.old other }
-    ensures reads { F.reads files.new ≤ F.reads files.old + length (files_of_sim (sim_words_of names.entry)) }
+    ensures read { SimIsRead (F.now files.old).file (sim_words_of names.entry) result }
+    ensures counts { OnlyRose (failed_of_sim (sim_words_of names.entry) result) (F.now files.old).faults (F.now files.new).faults }
+    ensures stays { (other : List ℕ) → (F.now files.new).file other ≡ (F.now files.old).file other }
+    ensures reads { (F.now files.new).reads ≤ (F.now files.old).reads + length (files_of_sim (sim_words_of names.entry)) }
 {
     let catalogue = read_named(alloc, files, names.options.catalogue);
     let new = read_after(alloc, files, &catalogue, names.new);
@@ -139,10 +139,10 @@ pub fn read_gateway_texts<F: Files>(
     files: &mut F,
     names: GatewayNames<'_>,
 ) -> GatewayTexts
-    ensures read { GatewayIsRead (F.file files.old) (gateway_words_of names.entry) result }
-    ensures counts { OnlyRose (failed_of_gateway (gateway_words_of names.entry) result) (F.faults files.old) (F.faults files.new) }
-    ensures stays { (other : List ℕ) → F.file files.new other ≡ F.file files.old other }
-    ensures reads { F.reads files.new ≤ F.reads files.old + length (files_of_gateway (gateway_words_of names.entry)) }
+    ensures read { GatewayIsRead (F.now files.old).file (gateway_words_of names.entry) result }
+    ensures counts { OnlyRose (failed_of_gateway (gateway_words_of names.entry) result) (F.now files.old).faults (F.now files.new).faults }
+    ensures stays { (other : List ℕ) → (F.now files.new).file other ≡ (F.now files.old).file other }
+    ensures reads { (F.now files.new).reads ≤ (F.now files.old).reads + length (files_of_gateway (gateway_words_of names.entry)) }
 {
     let catalogue = read_named(alloc, files, names.catalogue);
     let old = read_after(alloc, files, &catalogue, names.old);

@@ -32,8 +32,8 @@ pub fn text_of_stop(alloc: Global, stop: &Stop) -> Result<Text, NoMemory>
 
 /// Writes a text, and answers its status unless the write fails.
 pub fn tell<K: Sink>(out: &mut K, text: &[u8], status: Status) -> Status
-    ensures told { Writes text.now status (K.faults out.old) (K.faults out.new) (K.taken out.old) (K.taken out.new) result }
-    ensures written { K.writes out.new ≡ one_more (K.writes out.old) }
+    ensures told { Writes text.now status (K.now out.old) (K.now out.new) result }
+    ensures written { (K.now out.new).writes ≡ one_more (K.now out.old).writes }
 {
     match out.write(text) {
         Ok(()) => status,
@@ -43,9 +43,9 @@ pub fn tell<K: Sink>(out: &mut K, text: &[u8], status: Status) -> Status
 
 /// Writes a text, or that there was no memory for it.
 pub fn tell_or_want<K: Sink>(out: &mut K, text: Result<Text, NoMemory>) -> Status
-    ensures told { IfOk text (λ p. Writes p.octets p.status (K.faults out.old) (K.faults out.new) (K.taken out.old) (K.taken out.new) result) }
-    ensures wanting { IfErr text (λ _. Writes (stop_text (OutOfMemory tt)) (Status.NoMemory tt) (K.faults out.old) (K.faults out.new) (K.taken out.old) (K.taken out.new) result) }
-    ensures written { K.writes out.new ≡ one_more (K.writes out.old) }
+    ensures told { IfOk text (λ p. Writes p.octets p.status (K.now out.old) (K.now out.new) result) }
+    ensures wanting { IfErr text (λ _. Writes (stop_text (OutOfMemory tt)) (Status.NoMemory tt) (K.now out.old) (K.now out.new) result) }
+    ensures written { (K.now out.new).writes ≡ one_more (K.now out.old).writes }
 {
     match text {
         Ok(text) => tell(out, text.octets.as_slice(), text.status),

@@ -104,15 +104,7 @@ impl Dialer for FixedDialer {
 
     type P = FixedPort;
 
-    ghost faults = { λ d. d.faults };
-
-    ghost dials = { λ d. d.dials };
-
-    ghost given = { λ d. d.given };
-
-    ghost link_back = { λ d. link_told d.link_back };
-
-    ghost port_back = { λ d. port_told d.port_back };
+    ghost now = { λ d. record { faults = d.faults; dials = d.dials; given = d.given; link_back = link_told d.link_back; port_back = port_told d.port_back } };
 
     fn dial(&mut self, host: [u8; 4], port: u16) -> Result<FixedLink, DialFailed>
         ensures fresh { IfOk result (λ l. IsNewLink (LinkTold l.entries)) }

@@ -1,10 +1,21 @@
 -- What a dialer tells: the host and the port number that it was given last; and how its count of faults takes in those of what comes back.
 use Rattle.std.specs.Prelude.{◌≡◌, ℕ, zero, suc, List, Option, Some, None}
 use Rattle.knx_model.specs.Outside.{one_more}
+use Rattle.line_model.specs.LinkStory.{Story}
+use Rattle.line_model.specs.PortStory.{PortStory}
 
 pub record Address : Type 0 where
   pub host : List ℕ
   pub port : ℕ
+
+-- what a dialer tells: how many calls failed, those of what came back counted as one; how many calls of `dial` and `bind` there were; the host and the port
+-- number that the last of them was given, where it tells them; and what the link and the port that came back last told
+pub record DialerNow : Type 0 where
+  pub faults : ℕ
+  pub dials : ℕ
+  pub given : Option Address
+  pub link_back : Story
+  pub port_back : PortStory
 
 -- a dialer that tells what it was given tells just this
 abbrev pub Tells : List ℕ → ℕ → Option Address → Type 0

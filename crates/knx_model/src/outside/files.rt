@@ -1,7 +1,7 @@
 //! Files that are read by their names.
 
 ghost use Rattle.std.specs.Prelude.{◌≡◌, ◌≢◌, ℕ, List, Err};
-ghost use Rattle.knx_model.specs.Outside.{FileContent, MayRead, Rose, one_more};
+ghost use Rattle.knx_model.specs.Outside.{FilesNow, MayRead, Rose, one_more};
 ghost use Rattle.knx_model.specs.declared.outside.files.FileFault.TheVariants.{Failed};
 
 use crate::lists::Octets;
@@ -31,21 +31,15 @@ impl From<NoMemory> for FileFault {
 
 /// Files by name.
 pub trait Files: Drop {
-    /// How many reads of the file of a name failed; it never falls.
-    ghost faults: { Self → List ℕ → ℕ };
-
-    /// How many reads there were.
-    ghost reads: { Self → ℕ };
-
-    /// What is told of the file of a name.
-    ghost file: { Self → List ℕ → FileContent };
+    /// What they tell. The counts never fall.
+    ghost now: { Self → FilesNow };
 
     /// The first `limit` octets of the named file. A read that failed is counted with that name, and nothing else is counted.
     fn read(&mut self, alloc: Global, name: &str, limit: usize) -> Result<Octets, FileFault>
-        ensures answer { MayRead (file self.old name.now) limit result }
-        ensures failed { result ≡ Err Failed → Rose (faults self.old name.now) (faults self.new name.now) }
-        ensures still { result ≢ Err Failed → (other : List ℕ) → faults self.new other ≡ faults self.old other }
-        ensures others { (other : List ℕ) → other ≢ name.now → faults self.new other ≡ faults self.old other }
-        ensures stays { (other : List ℕ) → file self.new other ≡ file self.old other }
-        ensures counted { reads self.new ≡ one_more (reads self.old) };
+        ensures answer { MayRead ((now self.old).file name.now) limit result }
+        ensures failed { result ≡ Err Failed → Rose ((now self.old).faults name.now) ((now self.new).faults name.now) }
+        ensures still { result ≢ Err Failed → (other : List ℕ) → (now self.new).faults other ≡ (now self.old).faults other }
+        ensures others { (other : List ℕ) → other ≢ name.now → (now self.new).faults other ≡ (now self.old).faults other }
+        ensures stays { (other : List ℕ) → (now self.new).file other ≡ (now self.old).file other }
+        ensures counted { (now self.new).reads ≡ one_more (now self.old).reads };
 }

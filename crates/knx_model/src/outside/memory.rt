@@ -82,14 +82,9 @@ fn count_fault(files: &mut [MemoryFile], name: &[u8])
 }
 
 impl Files for MemoryFiles {
-    ghost use Rattle.std.specs.Prelude.{ℕ};
     ghost use Rattle.knx_model.specs.Memory.{content_of, faults_of};
 
-    ghost faults = { λ f name. faults_of f.files.items name };
-
-    ghost reads = { λ f. f.calls };
-
-    ghost file = { λ f name. content_of f.files.items name };
+    ghost now = { λ f. record { file = content_of f.files.items; faults = faults_of f.files.items; reads = f.calls } };
 
     fn read(&mut self, alloc: Global, name: &str, limit: usize) -> Result<Octets, FileFault>
         ensures answer { MayRead (content_of self.old.files.items name.now) limit result }
@@ -144,11 +139,7 @@ impl MemorySink {
 impl Sink for MemorySink {
     ghost use Rattle.std.specs.Prelude.{Some};
 
-    ghost faults = { λ s. s.faults };
-
-    ghost writes = { λ s. s.calls };
-
-    ghost taken = { λ s. Some s.taken };
+    ghost now = { λ s. record { faults = s.faults; writes = s.calls; taken = Some s.taken } };
 
     fn write(&mut self, octets: &[u8]) -> Result<(), SinkFailed>
         ensures all { OnOk result (Wrote octets.now (Some self.old.taken) (Some self.new.taken)) }

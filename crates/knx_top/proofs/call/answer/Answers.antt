@@ -1,5 +1,4 @@
-use Rattle.std.proofs.Common.{Some, refl, sym, ap, ◌∙◌}
-use Rattle.knx_top.specs.Command.{Command}
+use Rattle.std.proofs.Common.{refl, sym, ◌∙◌}
 use Rattle.knx_top.proofs.DialledRuns.{no_command, same_command}
 use Rattle.knx_top.proofs.call.answer.Goals as goal
 
@@ -13,9 +12,7 @@ pub returns-in-Some-clause-download : goal.returns-in-Some-clause-download
 returns-in-Some-clause-download g c = λ names e. c.run.ensures.download names (same_command _ _ (c.in-Some.ensures.is ∙ e))
 
 pub returns-in-Some-clause-undialled : goal.returns-in-Some-clause-undialled
-returns-in-Some-clause-undialled g c = λ download gateway.
-    c.run.ensures.undialled (λ names e. download names (sym c.in-Some.ensures.is ∙ ap (λ (command : Command). Some command) e))
-    (λ names e. gateway names (sym c.in-Some.ensures.is ∙ ap (λ (command : Command). Some command) e))
+returns-in-Some-clause-undialled g c = rw (sym c.in-Some.ensures.is) c.run.ensures.undialled
 
 pub returns-in-None-clause-download : goal.returns-in-None-clause-download
 returns-in-None-clause-download g c = λ names e. absurd (no_command _ (c.in-None.ensures.is ∙ e))

@@ -1,4 +1,4 @@
-use Rattle.std.proofs.Common.{ℕ, List, [], All, Option, Some, map, sym, subst}
+use Rattle.std.proofs.Common.{ℕ, List, [], All, Option, Some, map, refl, sym, subst}
 use Rattle.std.specs.Prelude.{IfSome, IsSome}
 use Rattle.bus_sim.specs.RunNow.{story, world}
 use Rattle.knx_model.specs.declared.address.IndAddr.{IndAddr}
@@ -35,12 +35,12 @@ returns-clause-runs g c = λ commission is logs.
     subst (λ (groups : List GroupTurn). Keeps jobs groups (story line.run) (log_in report)) c.new.ensures (c.commission-line.ensures.headline jobs (jobs_seen c.args.order.plans)) in
     let leaves : LeavesOver jobs [] (story line.run) (log_in report) =
     subst (λ (groups : List GroupTurn). LeavesOver jobs groups (story line.run) (log_in report)) c.new.ensures (c.commission-line.ensures.leaves jobs (devices_seen c.args.order.plans)) in
-    runs_so commission c.args.sim.now line report c.args.order.jobs c.args.order.devices c.args.log (outcome_of c.end_of_run.result)
+    runs_so commission c.args.sim.now line report c.args.order.jobs 0 c.args.order.devices c.args.log (outcome_of c.end_of_run.result)
     (driven commission c.args.order line report is c.requires.one c.commission-line.ensures.grows c.commission-line.ensures.script c.keeps-2.ensures.fresh c.keeps-2.ensures.legal c.keeps-2.ensures.follows
     keeps (c.commission-line.ensures.thorough jobs (jobs_seen c.args.order.plans)) leaves (c.commission-line.ensures.right jobs (jobs_seen c.args.order.plans) c.requires.good) (c.commission-line.ensures.fault jobs (jobs_seen c.args.order.plans))
     (λ none. c.commission-line.ensures.over none jobs (devices_seen c.args.order.plans)) c.commission-line.ensures.closed c.commission-line.ensures.seats c.commission-line.ensures.heard c.commission-line.ensures.missed c.commission-line.ensures.dropped)
-    is.prepared.devices logs
-    (subst (λ (devices : List (IndAddr × Option Image)). ShowsRun line.run report c.args.order.jobs devices c.args.log (outcome_of c.end_of_run.result)) c.as_slice.ensures c.end_of_run.ensures)
+    is.prepared.devices (rw is.turns refl) logs
+    (subst (λ (devices : List (IndAddr × Option Image)). ShowsRun line.run report c.args.order.jobs 0 devices c.args.log (outcome_of c.end_of_run.result)) c.as_slice.ensures c.end_of_run.ensures)
 
 pub returns-clause-link : goal.returns-clause-link
 returns-clause-link g c =
@@ -48,4 +48,4 @@ returns-clause-link g c =
     let report = c.commission-line.result.1 in
     let cause : FaultsOfLine (Some report) line = faults_last report.fault line (still_one c.args.order.line.run line.run c.requires.one c.commission-line.ensures.grows) c.keeps-2.ensures.faults
     (subst (λ (before : ℕ). IfSome report.fault (λ fault. FailsWhere fault before line.faults)) c.requires.sound c.commission-line.ensures.cause) in
-    fault_so line.run report c.args.order.jobs c.as_slice.result.now c.args.log (outcome_of c.end_of_run.result) line c.end_of_run.ensures cause
+    fault_so line.run report c.args.order.jobs 0 c.as_slice.result.now c.args.log (outcome_of c.end_of_run.result) line c.end_of_run.ensures cause

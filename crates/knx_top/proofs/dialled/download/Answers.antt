@@ -3,10 +3,10 @@ use Rattle.knx_top.proofs.Dialling.{dialled_run, dialled_stop, of_ready}
 use Rattle.knx_top.proofs.dialled.download.Goals as goal
 
 pub dial_and_run-requires-clause-few : goal.dial_and_run-requires-clause-few
-dial_and_run-requires-clause-few g c = λ κs within. of_ready _ _ _ c.in-Ok.ensures.ok (λ d is. is.few)
+dial_and_run-requires-clause-few g c = λ κs within. of_ready _ _ _ c.in-Ok.ensures.ok (λ d is. is.prepared.few)
 
 pub dial_and_run-requires-clause-good : goal.dial_and_run-requires-clause-good
-dial_and_run-requires-clause-good g c = λ κs within. of_ready _ _ _ c.in-Ok.ensures.ok (λ d is. is.good)
+dial_and_run-requires-clause-good g c = λ κs within. of_ready _ _ _ c.in-Ok.ensures.ok (λ d is. is.prepared.good)
 
 pub returns-in-Ok : goal.returns-in-Ok
 returns-in-Ok g c = dialled_run (download_words_of c.args.names) c.args.texts.now _ _ _ _ c.in-Ok.ensures.ok c.dial_and_run.ensures
