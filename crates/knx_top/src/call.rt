@@ -4,13 +4,13 @@ ghost use Rattle.std.specs.Prelude.{◌≡◌, ◌≢◌, ◌≤◌, ◌+◌, �
 ghost use Rattle.call_words.specs.declared.stop.Stop.TheVariants.{Usage};
 ghost use Rattle.knx_model.specs.Outside.{one_more};
 ghost use Rattle.knx_top.specs.Call.{AtMostOneRose, Does, HasRunOf, IsCountsText, IsTablesText, Replies, RunsScript, TellsOfFrame, TellsOfProject};
-ghost use Rattle.knx_top.specs.Command.{HasFewJobs, NamesFewJobs, ProjectWords, SimWords, asked, Check as AskedCheck, Decode as AskedDecode, Download as AskedDownload, DownloadWords, Gateway as AskedGateway, GatewayWords, Sim as AskedSim, Tables as AskedTables};
+ghost use Rattle.knx_top.specs.Command.{ProjectWords, SimWords, asked, Check as AskedCheck, Decode as AskedDecode, Download as AskedDownload, DownloadWords, Gateway as AskedGateway, GatewayWords, Sim as AskedSim, Tables as AskedTables};
 ghost use Rattle.knx_top.specs.Dialled.{RepliesEnd, RunsDialled};
 ghost use Rattle.knx_top.specs.Ended.{IsTextOf, outcome_of, told_outcome};
 ghost use Rattle.knx_top.specs.Gateway.{RepliesServed, RunsGateway};
 ghost use Rattle.knx_top.specs.Headline.{ActsOnce, BeganRightly, ClosesToItsEnd, EndsEveryJob, EndsThoroughly, HasFaultRight, HasOldStoppedOrNew, HasTelegramsRight, IsOfOneWorker, IsToldRightly, LeavesItsChannel, RunsWhereDone};
 ghost use Rattle.knx_top.specs.Input.{files_of, files_of_project, files_of_sim};
-ghost use Rattle.knx_top.specs.Names.{command_of, options_of, project_words_of, sim_words_of};
+ghost use Rattle.knx_top.specs.Names.{command_of, project_words_of, sim_words_of};
 ghost use Rattle.knx_top.specs.Ran.{FaultsOfLine, Stops};
 
 use crate::command::{Command, ProjectNames, SimNames, asked};
@@ -117,17 +117,16 @@ fn tell_decode<K: Sink>(alloc: Global, word: &str, out: &mut K) -> Status
 fn tell_sim<R: Wait, F: Files, K: Sink>(
     rt: &R,
     alloc: Global,
-    names: SimNames<'_>,
+    names: &SimNames<'_>,
     files: &mut F,
     out: &mut K,
     sim: &mut SimBus,
     last: &mut Option<Report>,
 ) -> Status
-    requires { HasFewJobs (options_of names.options) }
-    ensures told { RunsScript (sim_words_of names.entry) (F.file files.old) (F.faults files.old) (F.faults files.new) sim.old (record { line = sim.new; report = last.new }) (Replies (K.faults out.old) (K.faults out.new) (K.taken out.old) (K.taken out.new) result) }
+    ensures told { RunsScript (sim_words_of names.now) (F.file files.old) (F.faults files.old) (F.faults files.new) sim.old (record { line = sim.new; report = last.new }) (Replies (K.faults out.old) (K.faults out.new) (K.taken out.old) (K.taken out.new) result) }
     ensures link { FaultsOfLine last.new sim.new }
     ensures stays { (other : List ℕ) → F.file files.new other ≡ F.file files.old other }
-    ensures reads { F.reads files.new ≤ F.reads files.old + length (files_of_sim (sim_words_of names.entry)) }
+    ensures reads { F.reads files.new ≤ F.reads files.old + length (files_of_sim (sim_words_of names.now)) }
     ensures written { K.writes out.new ≡ one_more (K.writes out.old) }
 {
     let texts = read_sim_texts(alloc, files, names);
@@ -148,8 +147,7 @@ fn run<R: Wait, F: Files, K: Sink, D: Dialer>(
     dial: &mut D,
     last: &mut Option<Report>,
 ) -> Status
-    requires none { last.old ≡ None }
-    requires few { NamesFewJobs (command_of command) }
+    requires { last.old ≡ None }
     ensures does { Does (Some (command_of command.entry)) (F.file files.old) (F.faults files.old) (F.faults files.new) sim.old (record { line = sim.new; report = last.new }) (Replies (K.faults out.old) (K.faults out.new) (K.taken out.old) (K.taken out.new) result) }
     ensures link { (names : SimWords) → command_of command.entry ≡ AskedSim names → FaultsOfLine last.new sim.new }
     ensures download { (names : DownloadWords) → command_of command.entry ≡ AskedDownload names → RunsDialled names (F.file files.old) (F.faults files.old) (F.faults files.new) (record { faults = D.faults dial.old; dials = D.dials dial.old; given = D.given dial.old; link_back = D.link_back dial.old; port_back = D.port_back dial.old }) (record { faults = D.faults dial.new; dials = D.dials dial.new; given = D.given dial.new; link_back = D.link_back dial.new; port_back = D.port_back dial.new }) last.new (RepliesEnd (K.faults out.old) (K.faults out.new) (K.taken out.old) (K.taken out.new) result) }
@@ -162,9 +160,9 @@ fn run<R: Wait, F: Files, K: Sink, D: Dialer>(
     match command {
         Command::Check(names) => tell_check(alloc, names, files, out),
         Command::Tables(names) => tell_tables(alloc, names, files, out),
-        Command::Sim(names) => tell_sim(rt, alloc, names, files, out, sim, last),
+        Command::Sim(names) => tell_sim(rt, alloc, &names, files, out, sim, last),
         Command::Decode(word) => tell_decode(alloc, word, out),
-        Command::Download(names) => tell_download(rt, alloc, names, files, out, dial, last),
+        Command::Download(names) => tell_download(rt, alloc, &names, files, out, dial, last),
         Command::Gateway(names) => tell_gateway(alloc, names, files, out, sim, dial),
     }
 }

@@ -115,11 +115,11 @@ pub fn read_project_texts<F: Files>(
 }
 
 /// Reads the catalogue, then NEW, OLD and the script.
-pub fn read_sim_texts<F: Files>(alloc: Global, files: &mut F, names: SimNames<'_>) -> SimTexts
-    ensures read { SimIsRead (F.file files.old) (sim_words_of names.entry) result }
-    ensures counts { OnlyRose (failed_of_sim (sim_words_of names.entry) result) (F.faults files.old) (F.faults files.new) }
+pub fn read_sim_texts<F: Files>(alloc: Global, files: &mut F, names: &SimNames<'_>) -> SimTexts
+    ensures read { SimIsRead (F.file files.old) (sim_words_of names.now) result }
+    ensures counts { OnlyRose (failed_of_sim (sim_words_of names.now) result) (F.faults files.old) (F.faults files.new) }
     ensures stays { (other : List ℕ) → F.file files.new other ≡ F.file files.old other }
-    ensures reads { F.reads files.new ≤ F.reads files.old + length (files_of_sim (sim_words_of names.entry)) }
+    ensures reads { F.reads files.new ≤ F.reads files.old + length (files_of_sim (sim_words_of names.now)) }
 {
     let catalogue = read_named(alloc, files, names.options.catalogue);
     let new = read_after(alloc, files, &catalogue, names.new);
