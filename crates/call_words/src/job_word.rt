@@ -17,3 +17,13 @@ pub struct JobWord {
     pub device: IndAddr,
     pub kind: JobKind,
 }
+
+impl Default for JobWord {
+    /// What an empty place of a list of fixed size holds: no device has the address 0.0.0.
+    fn default() -> JobWord {
+        JobWord {
+            device: IndAddr { raw: 0 },
+            kind: JobKind::Load,
+        }
+    }
+}

@@ -1,7 +1,6 @@
--- There are few jobs: at most 1,024 that words name, and else one for each of at most 255 devices.
+-- There are few jobs where words name none: one for each of at most 255 devices.
 use Rattle.std.proofs.Common.{ℕ, ◌≡◌, ◌≤◌, ◌<◌, ◌^◌, true, List, length, map, None, subst, arith, refl}
 use Rattle.std.specs.Prelude.{IsPermutation}
-use Rattle.std.specs.List.{filter_map}
 use Rattle.std.proofs.lemmas.List.{length-map}
 use Rattle.std.proofs.lemmas.List.Sorted.{length_permutation}
 use Rattle.std.proofs.lemmas.Slice.Zip.{AllZip-long}
@@ -12,15 +11,8 @@ use Rattle.knx_model.specs.Meaning.{Installation}
 use Rattle.knx_model.specs.Rules.{devices_of, first_broken}
 use Rattle.project_check.proofs.Limits.{few_devices}
 use Rattle.project_check.proofs.Totals.{devices_counted}
-use Rattle.knx_top.specs.Command.{are_options, job_said, most_jobs, options_said, sim_word}
+use Rattle.knx_top.specs.Command.{most_jobs}
 use Rattle.knx_top.specs.Jobs.{ArePlanned, IsPlanned, load_of, seen_job}
-use Rattle.knx_top.proofs.SimWords.{filter_map_in}
-use Rattle.knx_top.proofs.SpelledOptions.{options_to}
-
--- the jobs that words name
-pub named_few : {X : Type 0} (f : X → List ℕ) (words : List X) → are_options (map f words) ≡ true → length (filter_map (λ x. job_said (sim_word (f x))) words) ≤ most_jobs
-named_few f words are =
-    subst (λ (jobs : List JobWord). length jobs ≤ most_jobs) (filter_map_in (λ w. job_said (sim_word w)) f words) (options_to (map f words) (options_said (map f words)) (rw are refl)).few
 
 -- one for each device of a project that breaks no rule
 pub loads_few : (project : Installation) (devices : List IndAddr) → first_broken project.catalogue project.statements ≡ None → IsPermutation (devices_of project.statements) devices → length (map load_of devices) ≤ most_jobs

@@ -1,77 +1,76 @@
 -- What words ask for is just the command that they spell.
-use Rattle.std.proofs.Common.{ℕ, ◌≡◌, ◌↔◌, Bool, true, false, codes, List, [], ◌∷◌, ◌++◌, take, drop, Option, Some, None, refl, sym, ap, ◌∙◌, subst}
+use Rattle.std.proofs.Common.{ℕ, ◌≡◌, ◌↔◌, Bool, true, false, codes, List, [], ◌∷◌, Option, Some, None, refl, sym, ap, subst}
 use Rattle.std.specs.Prelude.{bytes_eq, if◌then◌else◌}
 use Rattle.std.specs.Option.{option_map}
-use Rattle.std.proofs.lemmas.List.{take-append-drop}
 use Rattle.std.proofs.lemmas.Slice.Eq.{bytes_eq-Decides}
-use Rattle.knx_top.specs.Command.{Command, Check, Tables, Sim, Decode, ProjectWords, SimOptions, SimWords, SpellsOption, NoOption, CatalogueOption, SpellsCommand, SpellsCheck, SpellsTables, SpellsSim, SpellsDecode, SpellsDownload, SpellsGateway, Download, DownloadWords, Gateway, GatewayWords, options, project_words, sim_options, sim_words, decode_word, download_words, gateway_words, turns_value, asked}
+use Rattle.knx_top.specs.Command.{Command, Check, Tables, Sim, Decode, ProjectWords, SimOptions, SimWords, SpellsCommand, SpellsCheck, SpellsTables, SpellsSim, SpellsDecode, SpellsDownload, SpellsGateway, Download, DownloadWords, Gateway, GatewayWords, no_options, project_options, project_rows, project_words, run_rows, sim_options, sim_words, decode_word, download_words, gateway_words, turns_rows, turns_value, asked}
 use Rattle.knx_model.specs.Addresses.{◌>>=◌}
 use Rattle.line_model.specs.Dialled.{Address}
+use Rattle.knx_top.specs.Fronts.{Spells, SpellsAll}
 use Rattle.knx_top.specs.Host.{address_value}
-use Rattle.knx_top.proofs.SpelledOptions.{options_to, sim_options_from}
-use Rattle.knx_top.proofs.SpelledTurns.{Asked, turns_from, turns_to}
+use Rattle.knx_top.proofs.ReadBy.{AreApart, all_from, all_to, fronts, none_begins_another, reads_spelled, spells_read}
+
+-- ---- in each table no front begins another
+
+project_apart : AreApart project_rows
+project_apart so_far = refl
+
+run_apart : AreApart run_rows
+run_apart so_far = refl
+
+turns_apart : none_begins_another (fronts turns_rows) ≡ true
+turns_apart = refl
 
 -- ---- from the words that spell it
 
-options_from : (others : List (List ℕ)) (catalogue : Option (List ℕ)) → SpellsOption others catalogue → options others ≡ Some catalogue
-options_from others catalogue NoOption = refl
-options_from others catalogue (CatalogueOption name) = refl
+project_from : (others : List (List ℕ)) (options : SimOptions) → SpellsAll project_rows others no_options options → project_options others ≡ Some options
+project_from others options s = all_from project_rows others no_options options project_apart s
+
+run_from : (others : List (List ℕ)) (options : SimOptions) → SpellsAll run_rows others no_options options → sim_options others ≡ Some options
+run_from others options s = all_from run_rows others no_options options run_apart s
+
+turns_from : (word : List ℕ) (turns : ℕ) → Spells turns_rows word turns → turns_value word ≡ Some turns
+turns_from word turns s = reads_spelled turns_rows word turns turns_apart s
 
 asked_from : (words : List (List ℕ)) (command : Command) → SpellsCommand words command → asked words ≡ Some command
-asked_from words command (SpellsCheck project others catalogue o) = rw (options_from others catalogue o) refl
-asked_from words command (SpellsTables project others catalogue o) = rw (options_from others catalogue o) refl
-asked_from words command (SpellsSim new old script others options o) = rw (sim_options_from others options o) refl
+asked_from words command (SpellsCheck project others options o) = rw (project_from others options o) refl
+asked_from words command (SpellsTables project others options o) = rw (project_from others options o) refl
+asked_from words command (SpellsSim new old script others options o) = rw (run_from others options o) refl
 asked_from words command (SpellsDecode word) = refl
-asked_from words command (SpellsDownload address new others at options is o) = rw (is, sim_options_from others options o) refl
-asked_from words command (SpellsGateway address old script number others at turns catalogue is number_is some few o) = rw (is, turns_from number turns number_is some few, options_from others catalogue o) refl
+asked_from words command (SpellsDownload address new others at options is o) = rw (is, run_from others options o) refl
+asked_from words command (SpellsGateway address old script number others at turns options is number_is o) = rw (is, turns_from number turns number_is, project_from others options o) refl
 
 -- ---- from the command that is asked
-
-some_option : (one other : Option (List ℕ)) → Some one ≡ Some other → one ≡ other
-some_option one other e = cc
-
-catalogue_to : (b : Bool) (word : List ℕ) (catalogue : Option (List ℕ)) → bytes_eq (codes "catalogue=") (take 10 word) ≡ b → option_map (λ (name : List ℕ). Some name) (if b then Some (drop 10 word) else None) ≡ Some catalogue → SpellsOption (word ∷ []) catalogue
-catalogue_to true word catalogue is e =
-    let named : Some (drop 10 word) ≡ catalogue = some_option (Some (drop 10 word)) catalogue e in
-    let front : codes "catalogue=" ≡ take 10 word = (bytes_eq-Decides (codes "catalogue=") (take 10 word)).0 is in
-    let whole : codes "catalogue=" ++ drop 10 word ≡ word = ap (λ (l : List ℕ). l ++ drop 10 word) front ∙ take-append-drop 10 word in
-    subst (λ (c : Option (List ℕ)). SpellsOption (word ∷ []) c) named (subst (λ (w : List ℕ). SpellsOption (w ∷ []) (Some (drop 10 word))) whole (CatalogueOption (drop 10 word)))
-catalogue_to false word catalogue is e = absurd cc
-
-option_to : (others : List (List ℕ)) (catalogue : Option (List ℕ)) → options others ≡ Some catalogue → SpellsOption others catalogue
-option_to [] catalogue e = subst (λ (c : Option (List ℕ)). SpellsOption [] c) (some_option None catalogue e) NoOption
-option_to (word ∷ []) catalogue e = catalogue_to (bytes_eq (codes "catalogue=") (take 10 word)) word catalogue refl e
-option_to (word ∷ more ∷ others) catalogue e = absurd cc
 
 some_command : (one other : Command) → Some one ≡ Some other → one ≡ other
 some_command one other e = cc
 
 -- a command of one project
-check_to : (o : Option (Option (List ℕ))) (project : List ℕ) (others : List (List ℕ)) (command : Command) → options others ≡ o
-    → option_map Check (option_map (λ (catalogue : Option (List ℕ)). let w : ProjectWords = record { project = project; catalogue = catalogue } in w) o) ≡ Some command → SpellsCommand (codes "check" ∷ project ∷ others) command
+check_to : (o : Option SimOptions) (project : List ℕ) (others : List (List ℕ)) (command : Command) → project_options others ≡ o
+    → option_map Check (option_map (λ (options : SimOptions). let w : ProjectWords = record { project = project; catalogue = options.catalogue } in w) o) ≡ Some command → SpellsCommand (codes "check" ∷ project ∷ others) command
 check_to None project others command is e = absurd cc
-check_to (Some catalogue) project others command is e =
-    subst (λ (c : Command). SpellsCommand (codes "check" ∷ project ∷ others) c) (some_command (Check (record { project = project; catalogue = catalogue })) command e) (SpellsCheck project others catalogue (option_to others catalogue is))
+check_to (Some options) project others command is e =
+    subst (λ (c : Command). SpellsCommand (codes "check" ∷ project ∷ others) c) (some_command (Check (record { project = project; catalogue = options.catalogue })) command e) (SpellsCheck project others options (all_to project_rows others no_options options is))
 
-tables_to : (o : Option (Option (List ℕ))) (project : List ℕ) (others : List (List ℕ)) (command : Command) → options others ≡ o
-    → option_map Tables (option_map (λ (catalogue : Option (List ℕ)). let w : ProjectWords = record { project = project; catalogue = catalogue } in w) o) ≡ Some command → SpellsCommand (codes "tables" ∷ project ∷ others) command
+tables_to : (o : Option SimOptions) (project : List ℕ) (others : List (List ℕ)) (command : Command) → project_options others ≡ o
+    → option_map Tables (option_map (λ (options : SimOptions). let w : ProjectWords = record { project = project; catalogue = options.catalogue } in w) o) ≡ Some command → SpellsCommand (codes "tables" ∷ project ∷ others) command
 tables_to None project others command is e = absurd cc
-tables_to (Some catalogue) project others command is e =
-    subst (λ (c : Command). SpellsCommand (codes "tables" ∷ project ∷ others) c) (some_command (Tables (record { project = project; catalogue = catalogue })) command e) (SpellsTables project others catalogue (option_to others catalogue is))
+tables_to (Some options) project others command is e =
+    subst (λ (c : Command). SpellsCommand (codes "tables" ∷ project ∷ others) c) (some_command (Tables (record { project = project; catalogue = options.catalogue })) command e) (SpellsTables project others options (all_to project_rows others no_options options is))
 
 sim_to : (o : Option SimOptions) (new old script : List ℕ) (others : List (List ℕ)) (command : Command) → sim_options others ≡ o
     → option_map Sim (option_map (λ (options : SimOptions). let w : SimWords = record { new = new; old = old; script = script; options = options } in w) o) ≡ Some command → SpellsCommand (codes "sim" ∷ new ∷ old ∷ script ∷ others) command
 sim_to None new old script others command is e = absurd cc
 sim_to (Some options) new old script others command is e =
-    subst (λ (c : Command). SpellsCommand (codes "sim" ∷ new ∷ old ∷ script ∷ others) c) (some_command (Sim (record { new = new; old = old; script = script; options = options })) command e) (SpellsSim new old script others options (options_to others options is))
+    subst (λ (c : Command). SpellsCommand (codes "sim" ∷ new ∷ old ∷ script ∷ others) c) (some_command (Sim (record { new = new; old = old; script = script; options = options })) command e) (SpellsSim new old script others options (all_to run_rows others no_options options is))
 
 check_words : (words : List (List ℕ)) (command : Command) → option_map Check (project_words words) ≡ Some command → SpellsCommand (codes "check" ∷ words) command
 check_words [] command e = absurd cc
-check_words (project ∷ others) command e = check_to (options others) project others command refl e
+check_words (project ∷ others) command e = check_to (project_options others) project others command refl e
 
 tables_words : (words : List (List ℕ)) (command : Command) → option_map Tables (project_words words) ≡ Some command → SpellsCommand (codes "tables" ∷ words) command
 tables_words [] command e = absurd cc
-tables_words (project ∷ others) command e = tables_to (options others) project others command refl e
+tables_words (project ∷ others) command e = tables_to (project_options others) project others command refl e
 
 sim_of_words : (words : List (List ℕ)) (command : Command) → option_map Sim (sim_words words) ≡ Some command → SpellsCommand (codes "sim" ∷ words) command
 sim_of_words [] command e = absurd cc
@@ -92,33 +91,31 @@ download_to : (at : Option Address) (o : Option SimOptions) (address new : List 
 download_to None o address new others command is_at is e = absurd cc
 download_to (Some at) None address new others command is_at is e = absurd cc
 download_to (Some at) (Some options) address new others command is_at is e =
-    subst (λ (c : Command). SpellsCommand (codes "download" ∷ address ∷ new ∷ others) c) (some_command (Download (record { at = at; new = new; options = options })) command e) (SpellsDownload address new others at options is_at (options_to others options is))
+    subst (λ (c : Command). SpellsCommand (codes "download" ∷ address ∷ new ∷ others) c) (some_command (Download (record { at = at; new = new; options = options })) command e) (SpellsDownload address new others at options is_at (all_to run_rows others no_options options is))
 
 download_of_words : (words : List (List ℕ)) (command : Command) → option_map Download (download_words words) ≡ Some command → SpellsCommand (codes "download" ∷ words) command
 download_of_words [] command e = absurd cc
 download_of_words (address ∷ []) command e = absurd cc
 download_of_words (address ∷ new ∷ others) command e = download_to (address_value address) (sim_options others) address new others command refl refl e
 
-abbrev gateway_with : Address → ℕ → List ℕ → List ℕ → Option (Option (List ℕ)) → Option GatewayWords
-gateway_with at turns old script o = option_map (λ (catalogue : Option (List ℕ)). let w : GatewayWords = record { at = at; old = old; script = script; turns = turns; catalogue = catalogue } in w) o
+abbrev gateway_with : Address → ℕ → List ℕ → List ℕ → Option SimOptions → Option GatewayWords
+gateway_with at turns old script o = option_map (λ (options : SimOptions). let w : GatewayWords = record { at = at; old = old; script = script; turns = turns; catalogue = options.catalogue } in w) o
 
-gateway_to : (at : Option Address) (turns : Option ℕ) (o : Option (Option (List ℕ))) (address old script word : List ℕ) (others : List (List ℕ)) (command : Command) → address_value address ≡ at → turns_value word ≡ turns → options others ≡ o
+gateway_to : (at : Option Address) (turns : Option ℕ) (o : Option SimOptions) (address old script word : List ℕ) (others : List (List ℕ)) (command : Command) → address_value address ≡ at → turns_value word ≡ turns → project_options others ≡ o
     → option_map Gateway (at >>= λ to. turns >>= λ n. gateway_with to n old script o) ≡ Some command → SpellsCommand (codes "gateway" ∷ address ∷ old ∷ script ∷ word ∷ others) command
 gateway_to None turns o address old script word others command is_at is_turns is e = absurd cc
 gateway_to (Some at) None o address old script word others command is_at is_turns is e = absurd cc
 gateway_to (Some at) (Some turns) None address old script word others command is_at is_turns is e = absurd cc
-gateway_to (Some at) (Some turns) (Some catalogue) address old script word others command is_at is_turns is e =
-    let turned : Asked word turns = turns_to word turns is_turns in
-    let spelled = SpellsGateway address old script turned.number others at turns catalogue is_at turned.is turned.some turned.few (option_to others catalogue is) in
-    subst (λ (c : Command). SpellsCommand (codes "gateway" ∷ address ∷ old ∷ script ∷ word ∷ others) c) (some_command (Gateway (record { at = at; old = old; script = script; turns = turns; catalogue = catalogue })) command e)
-    (subst (λ (w : List ℕ). SpellsCommand (codes "gateway" ∷ address ∷ old ∷ script ∷ w ∷ others) (Gateway (record { at = at; old = old; script = script; turns = turns; catalogue = catalogue }))) turned.whole spelled)
+gateway_to (Some at) (Some turns) (Some options) address old script word others command is_at is_turns is e =
+    subst (λ (c : Command). SpellsCommand (codes "gateway" ∷ address ∷ old ∷ script ∷ word ∷ others) c) (some_command (Gateway (record { at = at; old = old; script = script; turns = turns; catalogue = options.catalogue })) command e)
+    (SpellsGateway address old script word others at turns options is_at (spells_read turns_rows word turns is_turns) (all_to project_rows others no_options options is))
 
 gateway_of_words : (words : List (List ℕ)) (command : Command) → option_map Gateway (gateway_words words) ≡ Some command → SpellsCommand (codes "gateway" ∷ words) command
 gateway_of_words [] command e = absurd cc
 gateway_of_words (address ∷ []) command e = absurd cc
 gateway_of_words (address ∷ old ∷ []) command e = absurd cc
 gateway_of_words (address ∷ old ∷ script ∷ []) command e = absurd cc
-gateway_of_words (address ∷ old ∷ script ∷ word ∷ others) command e = gateway_to (address_value address) (turns_value word) (options others) address old script word others command refl refl refl e
+gateway_of_words (address ∷ old ∷ script ∷ word ∷ others) command e = gateway_to (address_value address) (turns_value word) (project_options others) address old script word others command refl refl refl e
 
 headed : (first text : List ℕ) (words : List (List ℕ)) (command : Command) → bytes_eq first text ≡ true → SpellsCommand (text ∷ words) command → SpellsCommand (first ∷ words) command
 headed first text words command is s = subst (λ (w : List ℕ). SpellsCommand (w ∷ words) command) (sym ((bytes_eq-Decides first text).0 is)) s

@@ -1,3 +1,4 @@
+pub mod Fronts
 pub mod Host
 pub mod Command
 pub mod Input

@@ -1,8 +1,7 @@
 -- The words of a command, and what was read, as the definitions see them.
-use Rattle.std.specs.Prelude.{ℕ, List, string_bytes, Option}
+use Rattle.std.specs.Prelude.{ℕ, List, Option}
 use Rattle.std.specs.Option.{option_map}
 use Rattle.std.specs.Borrow.{Bor}
-use Rattle.std.specs.List.{filter_map}
 use Rattle.knx_top.specs.Command as asked
 use Rattle.knx_top.specs.declared.command.Command.{Command}
 use Rattle.knx_top.specs.declared.command.Command.TheVariants.{Check, Tables, Sim, Decode, Download, Gateway}
@@ -12,8 +11,6 @@ use Rattle.knx_top.specs.declared.command.ProjectNames.{ProjectNames}
 use Rattle.knx_top.specs.declared.command.SimNames.{SimNames}
 use Rattle.knx_top.specs.declared.host.GatewayAddress.{GatewayAddress}
 use Rattle.knx_top.specs.declared.options.SimOptions.{SimOptions}
-use Rattle.knx_top.specs.declared.options.SimWord.{SimWord}
-use Rattle.knx_top.specs.declared.options.SimWord.TheVariants.{Catalogue, Log, Job}
 use Rattle.knx_model.specs.Meaning.{Installation}
 use Rattle.line_model.specs.Dialled.{Address}
 use Rattle.knx_top.specs.declared.told.ReadProject.{ReadProject}
@@ -30,13 +27,8 @@ named name = option_map the_word name
 abbrev pub project_words_of : ProjectNames → asked.ProjectWords
 project_words_of names = record { project = names.project.now; catalogue = named names.catalogue }
 
-abbrev pub sim_word_of : SimWord → asked.SimWord
-sim_word_of (Catalogue name) = asked.CatalogueWord name.now
-sim_word_of Log = asked.LogWord
-sim_word_of (Job job) = asked.JobNamed job
-
 abbrev pub options_of : SimOptions → asked.SimOptions
-options_of options = record { catalogue = named options.catalogue; log = options.log; jobs = filter_map (λ word. asked.job_said (asked.sim_word (string_bytes word))) options.words.now }
+options_of options = record { catalogue = named options.catalogue; log = options.log; jobs = options.jobs.items }
 
 abbrev pub sim_words_of : SimNames → asked.SimWords
 sim_words_of names = record { new = names.new.now; old = names.old.now; script = names.script.now; options = options_of names.options }

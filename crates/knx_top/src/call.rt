@@ -4,13 +4,13 @@ ghost use Rattle.std.specs.Prelude.{◌≡◌, ◌≤◌, ◌+◌, ℕ, List, No
 ghost use Rattle.call_words.specs.declared.stop.Stop.TheVariants.{Usage};
 ghost use Rattle.knx_model.specs.Outside.{one_more};
 ghost use Rattle.knx_top.specs.Call.{AtMostOneRose, Does, HasRunOf, IsCountsText, IsTablesText, Replies, RunsScript, TellsOfFrame, TellsOfProject};
-ghost use Rattle.knx_top.specs.Command.{HasFewJobs, NamesFewJobs, ProjectWords, SimWords, asked, Check as AskedCheck, Decode as AskedDecode, Download as AskedDownload, DownloadWords, Gateway as AskedGateway, GatewayWords, Sim as AskedSim, Tables as AskedTables};
+ghost use Rattle.knx_top.specs.Command.{ProjectWords, SimWords, asked, Check as AskedCheck, Decode as AskedDecode, Download as AskedDownload, DownloadWords, Gateway as AskedGateway, GatewayWords, Sim as AskedSim, Tables as AskedTables};
 ghost use Rattle.knx_top.specs.Dialled.{RepliesEnd, RunsDialled};
 ghost use Rattle.knx_top.specs.Ended.{IsTextOf, outcome_of, told_outcome};
 ghost use Rattle.knx_top.specs.Gateway.{RepliesServed, RunsGateway};
 ghost use Rattle.knx_top.specs.Headline.{ActsOnce, BeganRightly, ClosesToItsEnd, EndsEveryJob, EndsThoroughly, HasFaultRight, HasOldStoppedOrNew, HasTelegramsRight, IsOfItsWorkers, IsToldRightly, LeavesItsChannel, RunsWhereDone};
 ghost use Rattle.knx_top.specs.Input.{files_of, files_of_project, files_of_sim};
-ghost use Rattle.knx_top.specs.Names.{command_of, options_of, project_words_of, sim_words_of};
+ghost use Rattle.knx_top.specs.Names.{command_of, project_words_of, sim_words_of};
 ghost use Rattle.knx_top.specs.Ran.{FaultsOfLine, Stops};
 ghost use Rattle.knx_top.specs.Touches.{touches};
 
@@ -118,17 +118,16 @@ fn tell_decode<K: Sink>(alloc: Global, word: &str, out: &mut K) -> Status
 fn tell_sim<R: Wait, F: Files, K: Sink>(
     rt: &R,
     alloc: Global,
-    names: SimNames<'_>,
+    names: &SimNames<'_>,
     files: &mut F,
     out: &mut K,
     sim: &mut SimBus,
     last: &mut Option<Report>,
 ) -> Status
-    requires { HasFewJobs (options_of names.options) }
-    ensures told { RunsScript (sim_words_of names.entry) (F.now files.old) (F.now files.new) sim.old (record { line = sim.new; report = last.new }) (Replies (K.now out.old) (K.now out.new) result) }
+    ensures told { RunsScript (sim_words_of names.now) (F.now files.old) (F.now files.new) sim.old (record { line = sim.new; report = last.new }) (Replies (K.now out.old) (K.now out.new) result) }
     ensures link { FaultsOfLine last.new sim.new }
     ensures stays { (other : List ℕ) → (F.now files.new).file other ≡ (F.now files.old).file other }
-    ensures reads { (F.now files.new).reads ≤ (F.now files.old).reads + length (files_of_sim (sim_words_of names.entry)) }
+    ensures reads { (F.now files.new).reads ≤ (F.now files.old).reads + length (files_of_sim (sim_words_of names.now)) }
     ensures written { (K.now out.new).writes ≡ one_more (K.now out.old).writes }
 {
     let texts = read_sim_texts(alloc, files, names);
@@ -149,8 +148,7 @@ fn run<R: Wait, F: Files, K: Sink, D: Dialer>(
     dial: &mut D,
     last: &mut Option<Report>,
 ) -> Status
-    requires none { last.old ≡ None }
-    requires few { NamesFewJobs (command_of command) }
+    requires { last.old ≡ None }
     ensures does { Does (Some (command_of command.entry)) (F.now files.old) (F.now files.new) sim.old (record { line = sim.new; report = last.new }) (Replies (K.now out.old) (K.now out.new) result) }
     ensures link { (names : SimWords) → command_of command.entry ≡ AskedSim names → FaultsOfLine last.new sim.new }
     ensures download { (names : DownloadWords) → command_of command.entry ≡ AskedDownload names → RunsDialled names (F.now files.old) (F.now files.new) (D.now dial.old) (D.now dial.new) last.new (RepliesEnd (K.now out.old) (K.now out.new) result) }
@@ -163,9 +161,9 @@ fn run<R: Wait, F: Files, K: Sink, D: Dialer>(
     match command {
         Command::Check(names) => tell_check(alloc, names, files, out),
         Command::Tables(names) => tell_tables(alloc, names, files, out),
-        Command::Sim(names) => tell_sim(rt, alloc, names, files, out, sim, last),
+        Command::Sim(names) => tell_sim(rt, alloc, &names, files, out, sim, last),
         Command::Decode(word) => tell_decode(alloc, word, out),
-        Command::Download(names) => tell_download(rt, alloc, names, files, out, dial, last),
+        Command::Download(names) => tell_download(rt, alloc, &names, files, out, dial, last),
         Command::Gateway(names) => tell_gateway(alloc, names, files, out, sim, dial),
     }
 }

@@ -1,13 +1,13 @@
 //! What the words ask for.
 
-ghost use Rattle.std.specs.Prelude.{◌≡◌, ◌↔◌, ℕ, IfSome, List, Some, map, string_bytes};
+ghost use Rattle.std.specs.Prelude.{◌≡◌, ◌↔◌, ℕ, List, Some, map, string_bytes};
 ghost use Rattle.std.specs.Option.{option_map};
-ghost use Rattle.knx_top.specs.Command.{Command as Commanded, HasFewJobs, NamesFewJobs, SpellsCommand, asked, catalogue_name, decode_word, download_words, gateway_words, options, project_words, sim_words, turns_value};
+ghost use Rattle.knx_top.specs.Command.{Command as Commanded, SpellsCommand, asked, decode_word, download_words, gateway_words, project_words, sim_words, turns_value};
 ghost use Rattle.knx_top.specs.Dialled.{project_named};
-ghost use Rattle.knx_top.specs.Names.{command_of, download_words_of, gateway_words_of, named, options_of, project_words_of, sim_words_of, the_word};
+ghost use Rattle.knx_top.specs.Names.{command_of, download_words_of, gateway_words_of, project_words_of, sim_words_of, the_word};
 
 use crate::host::{GatewayAddress, address_in};
-use crate::options::{SimOptions, behind, sim_options};
+use crate::options::{SimOptions, behind, project_options, sim_options};
 use knx_model::number_of;
 
 /// The most turns that a gateway serves.
@@ -21,7 +21,7 @@ pub struct ProjectNames<'a> {
 }
 
 /// The names in `NEW OLD SCRIPT`, with options and jobs.
-#[derive(Clone, Copy)]
+#[derive(Drop)]
 pub struct SimNames<'a> {
     pub new: &'a str,
     pub old: &'a str,
@@ -30,7 +30,7 @@ pub struct SimNames<'a> {
 }
 
 /// The gateway and the name in `ADDR NEW`, with options and jobs.
-#[derive(Clone, Copy)]
+#[derive(Drop)]
 pub struct DownloadNames<'a> {
     pub at: GatewayAddress,
     pub new: &'a str,
@@ -39,8 +39,8 @@ pub struct DownloadNames<'a> {
 
 impl<'a> DownloadNames<'a> {
     /// The names of the files.
-    pub fn project(self) -> ProjectNames<'a>
-        ensures { project_words_of result ≡ project_named (download_words_of self.entry) }
+    pub fn project(&self) -> ProjectNames<'a>
+        ensures { project_words_of result ≡ project_named (download_words_of self.now) }
     {
         ProjectNames {
             project: self.new,
@@ -60,7 +60,7 @@ pub struct GatewayNames<'a> {
 }
 
 /// A command with its words.
-#[derive(Clone, Copy)]
+#[derive(Drop)]
 pub enum Command<'a> {
     /// `check P [catalogue=F]`
     Check(ProjectNames<'a>),
@@ -76,40 +76,21 @@ pub enum Command<'a> {
     Gateway(GatewayNames<'a>),
 }
 
-/// The name in `catalogue=F`.
-fn catalogue_name(word: &str) -> Option<&str>
-    ensures { option_map the_word result ≡ catalogue_name word.now }
-{
-    behind("catalogue=", word)
-}
-
-/// The catalogue that the options name, if they name one; none at all for other words.
-fn options(words: &[String]) -> Option<Option<&str>>
-    ensures { option_map named result ≡ options (map string_bytes words.now) }
-{
-    match words {
-        [] => Some(None),
-        [word] => Some(Some(catalogue_name(word.as_str())?)),
-        _ => None,
-    }
-}
-
 fn project_names(words: &[String]) -> Option<ProjectNames<'_>>
     ensures { option_map project_words_of result ≡ project_words (map string_bytes words.now) }
 {
     let [project, others @ ..] = words else {
         return None;
     };
-    let catalogue = options(others)?;
+    let options = project_options(others)?;
     Some(ProjectNames {
         project: project.as_str(),
-        catalogue,
+        catalogue: options.catalogue,
     })
 }
 
 fn sim_names(words: &[String]) -> Option<SimNames<'_>>
-    ensures is { option_map sim_words_of result ≡ sim_words (map string_bytes words.now) }
-    ensures few { IfSome result (λ names. HasFewJobs (options_of names.options)) }
+    ensures { option_map sim_words_of result ≡ sim_words (map string_bytes words.now) }
 {
     let [new, old, script, others @ ..] = words else {
         return None;
@@ -133,8 +114,7 @@ fn decode_word(words: &[String]) -> Option<&str>
 }
 
 fn download_names(words: &[String]) -> Option<DownloadNames<'_>>
-    ensures is { option_map download_words_of result ≡ download_words (map string_bytes words.now) }
-    ensures few { IfSome result (λ names. HasFewJobs (options_of names.options)) }
+    ensures { option_map download_words_of result ≡ download_words (map string_bytes words.now) }
 {
     let [address, new, others @ ..] = words else {
         return None;
@@ -166,20 +146,19 @@ fn gateway_names(words: &[String]) -> Option<GatewayNames<'_>>
     };
     let at = address_in(address.as_str())?;
     let turns = turns_in(number.as_str())?;
-    let catalogue = options(others)?;
+    let options = project_options(others)?;
     Some(GatewayNames {
         at,
         old: old.as_str(),
         script: script.as_str(),
         turns,
-        catalogue,
+        catalogue: options.catalogue,
     })
 }
 
 /// The command of the words; none for words that are no command.
 pub fn asked(words: &[String]) -> Option<Command<'_>>
-    ensures is { option_map command_of result ≡ asked (map string_bytes words.now) }
-    ensures few { IfSome result (λ command. NamesFewJobs (command_of command)) }
+    ensures { option_map command_of result ≡ asked (map string_bytes words.now) }
 {
     let [command, others @ ..] = words else {
         return None;

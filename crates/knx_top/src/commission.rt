@@ -10,9 +10,8 @@ ghost use Rattle.line_model.specs.Headline.{IsGoodJob};
 ghost use Rattle.knx_top.specs.Ended.{ShowsRun, outcome_of};
 ghost use Rattle.knx_top.specs.Judged.{judged};
 ghost use Rattle.knx_top.specs.Jobs.{seen_job};
-ghost use Rattle.knx_top.specs.Names.{options_of, sim_words_of};
+ghost use Rattle.knx_top.specs.Names.{sim_words_of};
 ghost use Rattle.knx_top.specs.Begun.{IsOrder};
-ghost use Rattle.knx_top.specs.Command.{HasFewJobs};
 ghost use Rattle.knx_top.specs.Ran.{Comes, FaultsOfLine, Runs, report_in};
 ghost use Rattle.knx_top.specs.Stops.{Commission};
 
@@ -122,12 +121,11 @@ fn run<R: Wait>(rt: &R, alloc: Global, order: Order, log: bool, sim: &mut SimBus
 pub fn commission<R: Wait>(
     rt: &R,
     alloc: Global,
-    names: SimNames<'_>,
+    names: &SimNames<'_>,
     texts: &SimTexts,
     sim: &mut SimBus,
 ) -> SimEnd
-    requires { HasFewJobs (options_of names.options) }
-    ensures comes { Comes (judged (sim_words_of names.entry) texts.now) sim.old sim.new (outcome_of result) }
+    ensures comes { Comes (judged (sim_words_of names.now) texts.now) sim.old sim.new (outcome_of result) }
     ensures link { FaultsOfLine (report_in (outcome_of result)) sim.new }
 {
     match judge(alloc, names, texts) {

@@ -6,11 +6,11 @@ ghost use Rattle.call_words.specs.declared.stop.Stop.TheVariants.{NoMemory as Ou
 ghost use Rattle.knx_model.specs.Outside.{one_more};
 ghost use Rattle.line_model.specs.Headline.{IsGoodJob};
 ghost use Rattle.line_model.specs.LinkStory.{IsNewLink};
-ghost use Rattle.knx_top.specs.Command.{HasFewJobs, most_jobs};
+ghost use Rattle.knx_top.specs.Command.{most_jobs};
 ghost use Rattle.knx_top.specs.Dialled.{DialEnd, Dials, DialsOr, Download, HasItsCause, IsToldOver, RepliesEnd, RunsDialled, judged_download, report_of, with_project};
 ghost use Rattle.knx_top.specs.Input.{files_of_download};
 ghost use Rattle.knx_top.specs.Jobs.{seen_job};
-ghost use Rattle.knx_top.specs.Names.{address_of, download_words_of, options_of};
+ghost use Rattle.knx_top.specs.Names.{address_of, download_words_of};
 ghost use Rattle.knx_top.specs.Ready.{IsReady, IsReadyFor, IsTextOfEnd, ReadyFor, RepliesEndOf, end_of};
 
 use crate::command::{DownloadNames, ProjectNames};
@@ -18,7 +18,6 @@ use crate::commission::Open;
 use crate::host::GatewayAddress;
 use crate::input::{ProjectTexts, read_project_texts};
 use crate::jobs::{all_planned, are_known, jobs_of};
-use crate::options::{SimOptions, named_jobs};
 use crate::project::{sound_in, unknown_job};
 use crate::tell::{LINK_FAULT, Text, tell, tell_or_want, text_of_stop};
 use crate::told::read_in;
@@ -88,26 +87,24 @@ fn ready_for(alloc: Global, named: &[JobWord], project: &Checked<'_, '_>) -> Res
 /// The last test, of the devices that the jobs name.
 fn judge_jobs(
     alloc: Global,
-    names: DownloadNames<'_>,
+    names: &DownloadNames<'_>,
     project: &Checked<'_, '_>,
 ) -> Result<Ready, Stop>
-    requires { HasFewJobs (options_of names.options) }
-    ensures ok { IfOk result (λ ready. ReadyFor (with_project (download_words_of names.entry) project.now) ready) }
-    ensures err { IfErr result (λ why. why ≢ OutOfMemory tt → with_project (download_words_of names.entry) project.now ≡ Err why) }
+    ensures ok { IfOk result (λ ready. ReadyFor (with_project (download_words_of names.now) project.now) ready) }
+    ensures err { IfErr result (λ why. why ≢ OutOfMemory tt → with_project (download_words_of names.now) project.now ≡ Err why) }
 {
-    let named = named_jobs(alloc, names.options)?;
-    if !are_known(project, named.as_slice()) {
+    let named = names.options.jobs.as_slice();
+    if !are_known(project, named) {
         return Err(unknown_job());
     }
-    let ready = ready_for(alloc, named.as_slice(), project)?;
+    let ready = ready_for(alloc, named, project)?;
     Ok(ready)
 }
 
 /// What was read is judged in order: the catalogue, NEW, then the devices of the jobs.
-fn judge(alloc: Global, names: DownloadNames<'_>, texts: &ProjectTexts) -> Result<Ready, Stop>
-    requires { HasFewJobs (options_of names.options) }
-    ensures ok { IfOk result (λ ready. ReadyFor (judged_download (download_words_of names.entry) texts.now) ready) }
-    ensures err { IfErr result (λ why. why ≢ OutOfMemory tt → judged_download (download_words_of names.entry) texts.now ≡ Err why) }
+fn judge(alloc: Global, names: &DownloadNames<'_>, texts: &ProjectTexts) -> Result<Ready, Stop>
+    ensures ok { IfOk result (λ ready. ReadyFor (judged_download (download_words_of names.now) texts.now) ready) }
+    ensures err { IfErr result (λ why. why ≢ OutOfMemory tt → judged_download (download_words_of names.now) texts.now ≡ Err why) }
 {
     let read = read_in(alloc, names.project(), texts)?;
     let checked = sound_in(alloc, InputFile::New, &read.project, &read.models)?;
@@ -168,12 +165,11 @@ fn dial_and_run<R: Wait, D: Dialer>(
 fn download<R: Wait, D: Dialer>(
     rt: &R,
     alloc: Global,
-    names: DownloadNames<'_>,
+    names: &DownloadNames<'_>,
     texts: &ProjectTexts,
     dial: &mut D,
 ) -> Ending
-    requires { HasFewJobs (options_of names.options) }
-    ensures { DialsOr (judged_download (download_words_of names.entry) texts.now) (D.now dial.old) (D.now dial.new) (end_of result) }
+    ensures { DialsOr (judged_download (download_words_of names.now) texts.now) (D.now dial.old) (D.now dial.new) (end_of result) }
 {
     match judge(alloc, names, texts) {
         Ok(ready) => dial_and_run(rt, alloc, names.at, ready, names.options.log, dial),
@@ -215,16 +211,15 @@ fn tell_end<K: Sink>(alloc: Global, out: &mut K, ending: &Ending) -> Status
 pub fn tell_download<R: Wait, F: Files, K: Sink, D: Dialer>(
     rt: &R,
     alloc: Global,
-    names: DownloadNames<'_>,
+    names: &DownloadNames<'_>,
     files: &mut F,
     out: &mut K,
     dial: &mut D,
     last: &mut Option<Report>,
 ) -> Status
-    requires { HasFewJobs (options_of names.options) }
-    ensures told { RunsDialled (download_words_of names.entry) (F.now files.old) (F.now files.new) (D.now dial.old) (D.now dial.new) last.new (RepliesEnd (K.now out.old) (K.now out.new) result) }
+    ensures told { RunsDialled (download_words_of names.now) (F.now files.old) (F.now files.new) (D.now dial.old) (D.now dial.new) last.new (RepliesEnd (K.now out.old) (K.now out.new) result) }
     ensures stays { (other : Seq ℕ) → (F.now files.new).file other ≡ (F.now files.old).file other }
-    ensures reads { (F.now files.new).reads ≤ (F.now files.old).reads + length (files_of_download (download_words_of names.entry)) }
+    ensures reads { (F.now files.new).reads ≤ (F.now files.old).reads + length (files_of_download (download_words_of names.now)) }
     ensures written { (K.now out.new).writes ≡ one_more (K.now out.old).writes }
 {
     let texts = read_project_texts(alloc, files, names.project());

@@ -115,11 +115,11 @@ pub fn read_project_texts<F: Files>(
 }
 
 /// Reads the catalogue, then NEW, OLD and the script.
-pub fn read_sim_texts<F: Files>(alloc: Global, files: &mut F, names: SimNames<'_>) -> SimTexts
-    ensures read { SimIsRead (F.now files.old).file (sim_words_of names.entry) result }
-    ensures counts { OnlyRose (failed_of_sim (sim_words_of names.entry) result) (F.now files.old).faults (F.now files.new).faults }
+pub fn read_sim_texts<F: Files>(alloc: Global, files: &mut F, names: &SimNames<'_>) -> SimTexts
+    ensures read { SimIsRead (F.now files.old).file (sim_words_of names.now) result }
+    ensures counts { OnlyRose (failed_of_sim (sim_words_of names.now) result) (F.now files.old).faults (F.now files.new).faults }
     ensures stays { (other : List ℕ) → (F.now files.new).file other ≡ (F.now files.old).file other }
-    ensures reads { (F.now files.new).reads ≤ (F.now files.old).reads + length (files_of_sim (sim_words_of names.entry)) }
+    ensures reads { (F.now files.new).reads ≤ (F.now files.old).reads + length (files_of_sim (sim_words_of names.now)) }
 {
     let catalogue = read_named(alloc, files, names.options.catalogue);
     let new = read_after(alloc, files, &catalogue, names.new);

@@ -6,7 +6,7 @@ ghost use Rattle.call_words.specs.declared.input_file.InputFile.TheVariants.{Scr
 ghost use Rattle.call_words.specs.declared.stop.Stop.TheVariants.{NoMemory as OutOfMemory};
 ghost use Rattle.knx_model.specs.ScriptText.{script_reading};
 ghost use Rattle.knx_top.specs.Begun.{BeginsLine, IsPrepared, OrderFor};
-ghost use Rattle.knx_top.specs.Command.{HasFewJobs, most_jobs};
+ghost use Rattle.knx_top.specs.Command.{most_jobs};
 ghost use Rattle.knx_top.specs.Judged.{Gives, judged, unless_refused, with_lines};
 ghost use Rattle.knx_top.specs.Names.{options_of, sim_words_of};
 ghost use Rattle.knx_top.specs.Stops.{is_group_line};
@@ -15,7 +15,7 @@ use crate::command::SimNames;
 use crate::input::SimTexts;
 use crate::jobs::{all_planned, are_known, jobs_of};
 use crate::line::{compiled, line_begun, on_bus};
-use crate::options::{SimOptions, named_jobs};
+use crate::options::SimOptions;
 use crate::project::{models_in, not_built, project_in, read_of, refusal, sound_in, unknown_job};
 use bus_sim::SimBus;
 use call_words::{InputFile, JobWord, Stop};
@@ -88,40 +88,38 @@ fn order_of(
 /// The last tests, of the devices that the jobs name and of the form of a script, over a line that has begun.
 fn judge_jobs(
     alloc: Global,
-    options: SimOptions<'_>,
+    options: &SimOptions<'_>,
     new: &Checked<'_, '_>,
     old: &Checked<'_, '_>,
     lines: &[ScriptLine],
     line: SimBus,
 ) -> Result<Order, Stop>
-    requires few { HasFewJobs (options_of options) }
     requires begins { BeginsLine new.now old.now lines.now line.run }
     requires sound { line.faults ≡ 0 }
-    ensures ok { IfOk result (λ order. OrderFor (with_lines (options_of options.entry) new.now old.now lines.now) order) }
-    ensures err { IfErr result (λ why. why ≢ OutOfMemory tt → with_lines (options_of options.entry) new.now old.now lines.now ≡ Err why) }
+    ensures ok { IfOk result (λ order. OrderFor (with_lines (options_of options.now) new.now old.now lines.now) order) }
+    ensures err { IfErr result (λ why. why ≢ OutOfMemory tt → with_lines (options_of options.now) new.now old.now lines.now ≡ Err why) }
 {
-    let named = named_jobs(alloc, options)?;
-    if !are_known(new, named.as_slice()) {
+    let named = options.jobs.as_slice();
+    if !are_known(new, named) {
         return Err(unknown_job());
     }
     if has_groups(lines) {
         return Err(not_built(InputFile::Script));
     }
-    let order = order_of(alloc, named.as_slice(), new, old, line)?;
+    let order = order_of(alloc, named, new, old, line)?;
     Ok(order)
 }
 
 /// The tests of a script and of the devices that it and the jobs name.
 fn judge_script(
     alloc: Global,
-    options: SimOptions<'_>,
+    options: &SimOptions<'_>,
     new: &Checked<'_, '_>,
     old: &Checked<'_, '_>,
     script: &Script,
 ) -> Result<Order, Stop>
-    requires { HasFewJobs (options_of options) }
-    ensures ok { IfOk result (λ order. OrderFor (with_lines (options_of options.entry) new.now old.now script.now.lines) order) }
-    ensures err { IfErr result (λ why. why ≢ OutOfMemory tt → with_lines (options_of options.entry) new.now old.now script.now.lines ≡ Err why) }
+    ensures ok { IfOk result (λ order. OrderFor (with_lines (options_of options.now) new.now old.now script.now.lines) order) }
+    ensures err { IfErr result (λ why. why ≢ OutOfMemory tt → with_lines (options_of options.now) new.now old.now script.now.lines ≡ Err why) }
 {
     match line_begun(alloc, new, old, script) {
         Ok(line) => judge_jobs(alloc, options, new, old, script.lines.as_slice(), line),
@@ -130,10 +128,9 @@ fn judge_script(
 }
 
 /// What a run is begun with, or why the call stops before one.
-pub fn judge(alloc: Global, names: SimNames<'_>, texts: &SimTexts) -> Result<Order, Stop>
-    requires { HasFewJobs (options_of names.options) }
-    ensures ok { IfOk result (λ order. OrderFor (judged (sim_words_of names.entry) texts.now) order) }
-    ensures err { IfErr result (λ why. why ≢ OutOfMemory tt → judged (sim_words_of names.entry) texts.now ≡ Err why) }
+pub fn judge(alloc: Global, names: &SimNames<'_>, texts: &SimTexts) -> Result<Order, Stop>
+    ensures ok { IfOk result (λ order. OrderFor (judged (sim_words_of names.now) texts.now) order) }
+    ensures err { IfErr result (λ why. why ≢ OutOfMemory tt → judged (sim_words_of names.now) texts.now ≡ Err why) }
 {
     read_of(alloc, names.options.catalogue, &texts.catalogue)?;
     let new = read_of(alloc, Some(names.new), &texts.new)?;
@@ -145,6 +142,6 @@ pub fn judge(alloc: Global, names: SimNames<'_>, texts: &SimTexts) -> Result<Ord
     let old = project_in(alloc, InputFile::Old, old)?;
     let old = sound_in(alloc, InputFile::Old, &old, &models)?;
     let script = script_in(alloc, script)?;
-    let order = judge_script(alloc, names.options, &new, &old, &script)?;
+    let order = judge_script(alloc, &names.options, &new, &old, &script)?;
     Ok(order)
 }

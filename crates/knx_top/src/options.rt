@@ -1,37 +1,27 @@
-//! What stands behind the script: options and jobs, in any order.
+//! Options and jobs: what stands behind the names of a command's files, in any order.
 
-ghost use Rattle.std.specs.Prelude.{◌≡◌, nat_eq, count_by, None, Some, drop, length, map, string_bytes, IfOk, IfSome, if◌then◌else◌};
-ghost use Rattle.std.specs.List.{filter_map, list_all, list_any, starts_with};
+ghost use Rattle.std.specs.Prelude.{◌≡◌, None, Some, drop, length, map, nat_eq, string_bytes, if◌then◌else◌};
+ghost use Rattle.std.specs.List.{starts_with};
 ghost use Rattle.std.specs.Option.{option_map};
-ghost use Rattle.knx_top.specs.Command.{HasFewJobs, are_few, are_options, catalogue_said, first_of_some, is_catalogue, is_job, is_log, is_word, job_named, job_said, options_once, sim_options, sim_word};
-ghost use Rattle.knx_top.specs.Names.{named, options_of, sim_word_of, the_word};
+ghost use Rattle.knx_top.specs.Command.{no_options, project_options, project_rows, run_rows, sim_options, with_catalogue, with_job, with_log};
+ghost use Rattle.knx_top.specs.Fronts.{read_by};
+ghost use Rattle.knx_top.specs.Names.{options_of, the_word};
 
+use arrayvec::ArrayVec;
 use call_words::{JobKind, JobWord};
-use knx_model::{List, NoMemory, ind_of};
-use std::alloc::Global;
+use knx_model::ind_of;
 
 /// The most jobs that words name.
 const MOST_JOBS: usize = 1024;
 
-/// `[catalogue=F] [log]` and jobs.
-#[derive(Clone, Copy)]
+/// `[catalogue=F] [log]` and jobs. It takes no memory.
+#[derive(Drop)]
 pub struct SimOptions<'a> {
     pub catalogue: Option<&'a str>,
     /// Whether the log is printed.
     pub log: bool,
-    /// All words behind the script, the jobs' among them.
-    words: &'a [String],
-}
-
-/// One of the words behind a script.
-#[derive(Clone, Copy)]
-enum SimWord<'a> {
-    /// `catalogue=F`
-    Catalogue(&'a str),
-    /// `log`
-    Log,
-    /// `load:D` or `check:D`
-    Job(JobWord),
+    /// In the order of their words.
+    pub jobs: ArrayVec<JobWord, MOST_JOBS>,
 }
 
 /// What stands behind the front of a word; none for a word that doesn't begin with it.
@@ -41,174 +31,99 @@ pub fn behind<'a>(front: &str, word: &'a str) -> Option<&'a str>
     word.strip_prefix(front)
 }
 
-/// A job of the device that has the address.
-fn job_named(kind: JobKind, address: &str) -> Option<SimWord<'_>>
-    ensures { option_map sim_word_of result ≡ job_named kind address.now }
-{
-    let device = ind_of(address)?;
-    Some(SimWord::Job(JobWord { device, kind }))
-}
+impl<'a> SimOptions<'a> {
+    /// Before any word.
+    fn none() -> Self
+        ensures { options_of result ≡ no_options }
+    {
+        SimOptions {
+            catalogue: None,
+            log: false,
+            jobs: ArrayVec::new(),
+        }
+    }
 
-/// What one word behind the script says; none for another word.
-fn sim_word(word: &str) -> Option<SimWord<'_>>
-    ensures { option_map sim_word_of result ≡ sim_word word.now }
-{
-    if let Some(name) = behind("catalogue=", word) {
-        Some(SimWord::Catalogue(name))
-    } else if let Some(address) = behind("load:", word) {
-        job_named(JobKind::Load, address)
-    } else if let Some(address) = behind("check:", word) {
-        job_named(JobKind::Check, address)
-    } else if word == "log" {
-        Some(SimWord::Log)
-    } else {
-        None
+    /// Takes the value of `catalogue=F`, where none stands before it.
+    fn take_catalogue(&mut self, name: &'a str) -> Option<()>
+        ensures { option_map (λ _. options_of self.new) result ≡ with_catalogue (options_of self.old) name.now }
+    {
+        if self.catalogue.is_some() {
+            return None;
+        }
+        self.catalogue = Some(name);
+        Some(())
+    }
+
+    /// Takes the word `log`, where none stands before it and nothing behind it.
+    fn take_log(&mut self, rest: &str) -> Option<()>
+        ensures { option_map (λ _. options_of self.new) result ≡ with_log (options_of self.old) rest.now }
+    {
+        if self.log || !rest.is_empty() {
+            return None;
+        }
+        self.log = true;
+        Some(())
+    }
+
+    /// Takes a job of the device that has the address, where there aren't too many.
+    fn take_job(&mut self, kind: JobKind, address: &str) -> Option<()>
+        ensures { option_map (λ _. options_of self.new) result ≡ with_job kind (options_of self.old) address.now }
+    {
+        let device = ind_of(address)?;
+        if self.jobs.is_full() {
+            return None;
+        }
+        self.jobs.push(JobWord { device, kind });
+        Some(())
+    }
+
+    /// Takes one word of a command of one project; none for another word.
+    fn take_project_word(&mut self, word: &'a str) -> Option<()>
+        ensures { option_map (λ _. options_of self.new) result ≡ read_by (project_rows (options_of self.old)) word.now }
+    {
+        if let Some(name) = behind("catalogue=", word) {
+            self.take_catalogue(name)
+        } else {
+            None
+        }
+    }
+
+    /// Takes one word of a run; none for another word.
+    fn take_run_word(&mut self, word: &'a str) -> Option<()>
+        ensures { option_map (λ _. options_of self.new) result ≡ read_by (run_rows (options_of self.old)) word.now }
+    {
+        if let Some(name) = behind("catalogue=", word) {
+            self.take_catalogue(name)
+        } else if let Some(rest) = behind("log", word) {
+            self.take_log(rest)
+        } else if let Some(address) = behind("load:", word) {
+            self.take_job(JobKind::Load, address)
+        } else if let Some(address) = behind("check:", word) {
+            self.take_job(JobKind::Check, address)
+        } else {
+            None
+        }
     }
 }
 
-/// The name in `catalogue=F`.
-fn catalogue_said(word: &str) -> Option<&str>
-    ensures { named result ≡ catalogue_said (sim_word word.now) }
+/// What the words of a command of one project say; none for other words.
+pub fn project_options(words: &[String]) -> Option<SimOptions<'_>>
+    ensures { option_map options_of result ≡ project_options (map string_bytes words.now) }
 {
-    match sim_word(word)? {
-        SimWord::Catalogue(name) => Some(name),
-        SimWord::Log | SimWord::Job(_) => None,
-    }
-}
-
-/// The job of `load:D` or `check:D`.
-fn job_said(word: &str) -> Option<JobWord>
-    ensures { result ≡ job_said (sim_word word.now) }
-{
-    match sim_word(word)? {
-        SimWord::Job(job) => Some(job),
-        SimWord::Catalogue(_) | SimWord::Log => None,
-    }
-}
-
-/// Whether it is a word of `sim`.
-fn is_word(word: &str) -> bool
-    ensures { result ≡ is_word word.now }
-{
-    sim_word(word).is_some()
-}
-
-/// Whether the word is `catalogue=F`.
-fn is_catalogue(word: &str) -> bool
-    ensures { result ≡ is_catalogue word.now }
-{
-    matches!(sim_word(word), Some(SimWord::Catalogue(_)))
-}
-
-/// Whether the word is `log`.
-fn is_log(word: &str) -> bool
-    ensures { result ≡ is_log word.now }
-{
-    matches!(sim_word(word), Some(SimWord::Log))
-}
-
-/// Whether the word is `load:D` or `check:D`.
-fn is_job(word: &str) -> bool
-    ensures { result ≡ is_job word.now }
-{
-    matches!(sim_word(word), Some(SimWord::Job(_)))
-}
-
-/// Whether each is a word of `sim`.
-fn are_words(words: &[String]) -> bool
-    ensures { result ≡ list_all (λ word. is_word (string_bytes word)) words.now }
-{
-    words.iter().all(|word| is_word(word.as_str()))
-}
-
-#[tactic(auto, using(crate::proofs::SimWords::count_by_in))]
-fn catalogues(words: &[String]) -> usize
-    ensures { result ≡ count_by is_catalogue (map string_bytes words.now) }
-{
-    words
-        .iter()
-        .filter(|word| is_catalogue(word.as_str()))
-        .count()
-}
-
-#[tactic(auto, using(crate::proofs::SimWords::count_by_in))]
-fn logs(words: &[String]) -> usize
-    ensures { result ≡ count_by is_log (map string_bytes words.now) }
-{
-    words.iter().filter(|word| is_log(word.as_str())).count()
-}
-
-#[tactic(auto, using(crate::proofs::SimWords::count_by_in))]
-fn job_count(words: &[String]) -> usize
-    ensures { result ≡ count_by is_job (map string_bytes words.now) }
-{
-    words.iter().filter(|word| is_job(word.as_str())).count()
-}
-
-/// Whether each option stands at most once.
-fn options_once(words: &[String]) -> bool
-    ensures { result ≡ options_once (map string_bytes words.now) }
-{
-    catalogues(words) <= 1 && logs(words) <= 1
-}
-
-/// Whether the options and the jobs are few enough.
-fn are_few(words: &[String]) -> bool
-    ensures { result ≡ are_few (map string_bytes words.now) }
-{
-    options_once(words) && job_count(words) <= MOST_JOBS
-}
-
-/// Whether each is a word of `sim`, and there are no more than there may be.
-#[tactic(auto, using(crate::proofs::SimWords::list_all_in))]
-fn are_options(words: &[String]) -> bool
-    ensures { result ≡ are_options (map string_bytes words.now) }
-{
-    are_words(words) && are_few(words)
-}
-
-/// The name in the first `catalogue=F`.
-fn first_catalogue(words: &[String]) -> Option<&str>
-    ensures { named result ≡ first_of_some (filter_map (λ word. catalogue_said (sim_word (string_bytes word))) words.now) }
-{
+    let mut options = SimOptions::none();
     for word in words {
-        if let Some(name) = catalogue_said(word.as_str()) {
-            return Some(name);
-        }
+        options.take_project_word(word.as_str())?;
     }
-    None
+    Some(options)
 }
 
-fn has_log(words: &[String]) -> bool
-    ensures { result ≡ list_any (λ word. is_log (string_bytes word)) words.now }
-{
-    words.iter().any(|word| is_log(word.as_str()))
-}
-
-/// What the words ask for; none for other words.
+/// What the words of a run say; none for other words.
 pub fn sim_options(words: &[String]) -> Option<SimOptions<'_>>
-    ensures is { option_map options_of result ≡ sim_options (map string_bytes words.now) }
-    ensures few { IfSome result (λ options. HasFewJobs (options_of options)) }
+    ensures { option_map options_of result ≡ sim_options (map string_bytes words.now) }
 {
-    if !are_options(words) {
-        return None;
+    let mut options = SimOptions::none();
+    for word in words {
+        options.take_run_word(word.as_str())?;
     }
-    Some(SimOptions {
-        catalogue: first_catalogue(words),
-        log: has_log(words),
-        words,
-    })
-}
-
-/// The jobs that the words name, in their order.
-pub fn named_jobs(alloc: Global, options: SimOptions<'_>) -> Result<List<JobWord>, NoMemory>
-    ensures { IfOk result (λ jobs. jobs ≡ (options_of options.entry).jobs) }
-{
-    let mut jobs = List::new(alloc);
-    for word in options.words {
-        if let Some(job) = job_said(word.as_str()) {
-            jobs.push(job)?;
-        }
-    }
-    Ok(jobs)
+    Some(options)
 }

@@ -22,7 +22,7 @@ pub run-requires-clause-devices : goal.run-requires-clause-devices
 run-requires-clause-devices g c = of_order _ _ _ c.in-Ok.ensures.ok (λ commission is. devices_there commission _ is)
 
 pub returns-in-Ok-clause-comes : goal.returns-in-Ok-clause-comes
-returns-in-Ok-clause-comes g c = decided_run (sim_words_of c.args.names) c.args.texts.now _ _ _ _ c.in-Ok.ensures.ok c.run.ensures.runs
+returns-in-Ok-clause-comes g c = decided_run (sim_words_of c.args.names.now) c.args.texts.now _ _ _ _ c.in-Ok.ensures.ok c.run.ensures.runs
 
 pub returns-in-Err-clause-comes : goal.returns-in-Err-clause-comes
 returns-in-Err-clause-comes g c = decided_stop _ _ _ c.in-Err.ensures.err

@@ -13,7 +13,7 @@ returns-clause-read g c = record {
 
 pub returns-clause-counts : goal.returns-clause-counts
 returns-clause-counts g c =
-    sim_rose _ (sim_words_of c.args.names) (record { catalogue = c.read_named-catalogue.result; new = c.read_after-new.result; old = c.read_after-old.result; script = c.read_after-script.result }) _ _ _ _ _
+    sim_rose _ (sim_words_of c.args.names.now) (record { catalogue = c.read_named-catalogue.result; new = c.read_after-new.result; old = c.read_after-old.result; script = c.read_after-script.result }) _ _ _ _ _
     (record {
       catalogue = c.read_named-catalogue.ensures.read;
       new = read_still _ _ _ _ _ c.read_named-catalogue.ensures.stays c.read_after-new.ensures.read;
