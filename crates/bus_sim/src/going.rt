@@ -15,7 +15,7 @@ ghost use Rattle.bus_sim.specs.Went.{Stays, world};
 use crate::run::Run;
 use crate::turn::Turn;
 use knx_model::NoMemory;
-use line_sim::{Due, what_is_settled};
+use line_sim::Due;
 
 impl Run {
     /// Nothing is called for.
@@ -106,7 +106,7 @@ impl Run {
                 Ok(Turn::Went)
             }
             None => {
-                what_is_settled();
+                line_sim::laws::what_is_settled();
                 self.let_pass(left)
             }
         }

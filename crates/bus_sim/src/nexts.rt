@@ -22,7 +22,7 @@ use crate::reaching::next_down;
 use crate::run::Run;
 use crate::turn::Turn;
 use knx_model::{Ldata, NoMemory, Sending};
-use line_sim::{Due, what_is_due_is_allowed};
+use line_sim::Due;
 
 impl Run {
     /// The age of the gateway's datagram that goes next.
@@ -127,7 +127,7 @@ impl Run {
         ensures happens { OnOk result (Happens self.old self.new) }
         ensures err { OnErr result (Stays self.old self.new) }
     {
-        what_is_due_is_allowed();
+        line_sim::laws::what_is_due_is_allowed();
         self.gw_repeat()
     }
 
@@ -138,7 +138,7 @@ impl Run {
         ensures happens { OnOk result (Happens self.old self.new) }
         ensures err { OnErr result (Stays self.old self.new) }
     {
-        what_is_due_is_allowed();
+        line_sim::laws::what_is_due_is_allowed();
         self.gw_close()
     }
 
@@ -159,7 +159,7 @@ impl Run {
         ensures happens { OnOk result (Happens self.old self.new) }
         ensures err { OnErr result (Stays self.old self.new) }
     {
-        what_is_due_is_allowed();
+        line_sim::laws::what_is_due_is_allowed();
         match sending {
             Sending::Waiting => self.dev_send(device),
             Sending::Repeat => self.dev_repeat(device),

@@ -97,6 +97,7 @@ impl Run {
     pub fn few(&self)
         ensures { length self.now.events < 2 ^ 63 }
     {
+        // The proof knows the type's invariant once a field is read.
         let _ = &self.events;
     }
 
@@ -104,6 +105,7 @@ impl Run {
     pub fn in_time(&self)
         ensures { now (world self.now) ≤ last_time }
     {
+        // The time is a `u64`: so it isn't later than the last one.
         let _ = self.now();
     }
 }

@@ -62,6 +62,7 @@ impl Run {
     pub fn keeps(&self)
         ensures { Keeps (seen self.now) }
     {
+        // The proof knows the type's invariant once a field is read.
         let _ = &self.events;
     }
 }

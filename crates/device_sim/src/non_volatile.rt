@@ -1,15 +1,14 @@
 //! What a device keeps without power.
 
 ghost use Rattle.std.specs.Prelude.{◌≡◌, ◌≤◌, ℕ, true, List, length, nat_lt, take, Some};
+ghost use Rattle.std.specs.Borrow.{sem};
 ghost use Rattle.knx_model.specs.Device.{loadable as content, whole, torn, taken_over, is_write, all_loaded, Loads, Stores, range_octets, written_front, front_of_load};
 ghost use Rattle.knx_model.specs.Apdu.{most_octets};
-ghost use Rattle.knx_model.specs.DeviceState.{same_state};
 ghost use Rattle.knx_model.specs.Loading.{octets_of};
 ghost use Rattle.knx_model.specs.DeviceFrames.{complements, worn_octets};
 ghost use Rattle.device_sim.specs.Effects.{meant};
-ghost use Rattle.std.specs.Borrow.{sem};
 ghost use Rattle.device_sim.specs.Lending.{LendsObject};
-ghost use Rattle.device_sim.specs.States.{states_of, has_states};
+ghost use Rattle.device_sim.specs.States.{states_of};
 
 use crate::effect::Effect;
 use crate::loadable::Loadable;
@@ -36,18 +35,12 @@ impl Model for NonVolatile {
 }
 
 /// The load states of the four loadable objects.
-#[derive(Clone, Copy)]
+#[derive(Clone, Copy, PartialEq, Eq)]
 pub struct LoadStates {
     address_table: LoadState,
     association_table: LoadState,
     group_objects: LoadState,
     application: LoadState,
-}
-
-fn same_state(one: LoadState, other: LoadState) -> bool
-    ensures { result ≡ same_state one other }
-{
-    one.number() == other.number()
 }
 
 impl NonVolatile {
@@ -61,16 +54,6 @@ impl NonVolatile {
             group_objects: self.group_objects.state(),
             application: self.application.state(),
         }
-    }
-
-    /// Whether the load states are these.
-    pub fn has_states(&self, states: LoadStates) -> bool
-        ensures { result ≡ has_states states self.now }
-    {
-        same_state(states.address_table, self.address_table.state())
-            && same_state(states.association_table, self.association_table.state())
-            && same_state(states.group_objects, self.group_objects.state())
-            && same_state(states.application, self.application.state())
     }
 
     /// One of its four objects.

@@ -44,7 +44,7 @@ pub fn serve(
 fn zero_where_changed(values: &mut Values, kept: &NonVolatile, before: LoadStates)
     ensures { values.new ≡ (if has_states before kept.now then values.old else zero_values) }
 {
-    if !kept.has_states(before) {
+    if kept.load_states() != before {
         values.reset();
     }
 }

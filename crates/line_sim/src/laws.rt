@@ -17,8 +17,6 @@ ghost use Rattle.line_sim.specs.Line.{LineNow, IsCounted, IsNow, effect_due, wri
 ghost use Rattle.line_sim.specs.Places.{sending_at};
 ghost use Rattle.line_model.specs.Gateway.{gateway_expired};
 
-use tunnel_gateway::what_is_due_happens_in_the_tunnel;
-
 /// An event that the line as it is held allows may happen in each world that it is a picture of.
 pub fn what_is_allowed_may_happen()
     ensures { (mode : Mode) (n : LineNow) (w : World) (e : Event) → IsNow n w → Allows mode n e → MayHappen mode w e }
@@ -34,7 +32,7 @@ pub fn what_is_due_is_allowed()
     ensures torn { (mode : Mode) (n : LineNow) (k : ℕ) → is_some (write_due n) ≡ true → AreOctets (written_front (effect_due n) k) → Allows mode n (BusTorn (nat_lt 0 k) (written_front (effect_due n) k)) }
     ensures worn { (mode : Mode) (n : LineNow) → write_due n ≡ Some Memory → Allows mode n (BusWorn (worn_octets (effect_due n))) }
 {
-    what_is_due_happens_in_the_tunnel();
+    tunnel_gateway::laws::what_is_due_happens_in_the_tunnel();
 }
 
 /// Where no datagram goes next, no frame waits for the bus, and neither a device nor the gateway has something to send, a world is settled.

@@ -6,7 +6,7 @@
 mod devices;
 mod frames;
 mod gateway;
-mod laws;
+pub mod laws;
 mod line;
 mod parts;
 mod tunnel;
@@ -15,8 +15,5 @@ pub use device_sim::Device;
 pub use devices::Devices;
 pub use gateway::Due;
 pub use knx_model::{ApduOctets, Datagram, IndAddr, Ldata, NoMemory, Octets, Sending, WriteKind};
-pub use laws::{
-    events_bound_the_counts, what_is_allowed_may_happen, what_is_due_is_allowed, what_is_settled,
-};
 pub use line::Line;
 pub use tunnel::AtGateway;

@@ -4,7 +4,7 @@
 
 mod changes;
 mod kept;
-mod laws;
+pub mod laws;
 mod oldest;
 mod place;
 mod readable;
@@ -12,6 +12,5 @@ mod sender;
 
 pub use kept::Sending;
 pub use knx_model::NoMemory;
-pub use laws::{a_settled_network_is_over, the_youngest_are_enough, what_is_kept_reads_alike};
 pub use place::Reach;
 pub use sender::Sendings;

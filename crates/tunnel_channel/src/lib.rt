@@ -4,15 +4,11 @@
 
 mod channel;
 mod ends;
-mod laws;
+pub mod laws;
 mod request;
 mod state;
 mod took;
 mod wait;
 
 pub use channel::Channel;
-pub use laws::{
-    deadline_is_nearest, new_endpoints_have_no_channel, quiet_polls_change_nothing,
-    records_come_to_their_time,
-};
 pub use line_model::{ChannelExpired, ChannelTook, PutRefused};

@@ -92,6 +92,7 @@ impl Devices {
     pub fn names(&self)
         ensures { (address : ℕ) (d : DeviceState) → device_at self.now address ≡ Some d → d.address.raw ≡ address }
     {
+        // The proof knows the type's invariant once a field is read.
         let _places = &self.places;
     }
 

@@ -16,10 +16,10 @@ ghost use Rattle.line_sim.specs.Places.{device_at};
 ghost use Rattle.network_sim.specs.Window.{IsDeliverable};
 
 use super::Line;
-use crate::laws::what_is_due_is_allowed;
+use crate::laws;
 use device_sim::Device;
 use knx_model::{ApduOctets, IpFrame, Ldata, NoMemory, Octets, WriteKind};
-use network_sim::{Reach, the_youngest_are_enough};
+use network_sim::Reach;
 use std::alloc::Global;
 
 impl Line {
@@ -31,7 +31,7 @@ impl Line {
         ensures deliverable { IfSome result (λ age. OfSent IsDeliverable (slice_get self.now.tunnel.up.kept age)) }
         ensures allowed { IfSome result (λ age. (mode : Mode) → Allows mode self.now (Up age)) }
     {
-        the_youngest_are_enough();
+        network_sim::laws::the_youngest_are_enough();
         self.tunnel.up.next(Reach::Every, self.tunnel.gateway.made)
     }
 
@@ -41,7 +41,7 @@ impl Line {
         ensures deliverable { IfSome result (λ age. OfSent IsDeliverable (slice_get self.now.tunnel.down.kept age)) }
         ensures allowed { IfSome result (λ age. Allows Commissions self.now (Down age)) }
     {
-        the_youngest_are_enough();
+        network_sim::laws::the_youngest_are_enough();
         self.tunnel
             .down
             .next(Reach::To(self.tunnel.present), self.tunnel.gateway.made)
@@ -53,7 +53,7 @@ impl Line {
         ensures deliverable { IfSome result (λ age. OfSent IsDeliverable (slice_get self.now.tunnel.down.kept age)) }
         ensures allowed { IfSome result (λ age. Allows Serves self.now (Down age)) }
     {
-        the_youngest_are_enough();
+        network_sim::laws::the_youngest_are_enough();
         self.tunnel
             .down
             .next(Reach::Every, self.tunnel.gateway.made)
@@ -101,7 +101,7 @@ impl Line {
         ensures simulates { IfOk result (λ octets. (w : World) → IsNow self.now w → octets ≡ written_front (effect_in w (next_frame w)) k) }
         ensures allowed { IfOk result (λ octets. (mode : Mode) → is_some (write_due self.now) ≡ true → Allows mode self.now (BusTorn (nat_lt 0 k) octets)) }
     {
-        what_is_due_is_allowed();
+        laws::what_is_due_is_allowed();
         match self.frame_due() {
             Some(frame) => self.devices.torn_octets(alloc, &frame, k),
             None => Ok(Octets::new(alloc)),
@@ -114,7 +114,7 @@ impl Line {
         ensures simulates { (w : World) → IsNow self.now w → result ≡ worn_octets (effect_in w (next_frame w)) }
         ensures allowed { (mode : Mode) → write_due self.now ≡ Some Memory → Allows mode self.now (BusWorn result) }
     {
-        what_is_due_is_allowed();
+        laws::what_is_due_is_allowed();
         match self.frame_due() {
             Some(frame) => self.devices.worn_octets(&frame),
             None => ApduOctets::new(),

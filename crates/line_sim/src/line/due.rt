@@ -16,7 +16,6 @@ use super::Line;
 use crate::gateway::Due;
 use knx_model::{Sending, nearer};
 use network_sim::Reach;
-use tunnel_gateway::deadline_is_nearest;
 
 impl Line {
     /// What a device sends next; None exactly where it has nothing to send, or isn't there.
@@ -53,7 +52,7 @@ impl Line {
         ensures always_settled { IfNone result ((mode : Mode) (w : World) → IsNow self.now w → Settled mode w → (ms : ℕ) → SettledFor mode w ms) }
         ensures settled { IfSome result (λ end. (mode : Mode) (w : World) → IsNow self.now w → Settled mode w → (ms : ℕ) → now w + ms ≤ end → SettledFor mode w ms) }
     {
-        deadline_is_nearest();
+        tunnel_gateway::laws::deadline_is_nearest();
         nearer(self.devices.deadline(), self.tunnel.gateway.end.deadline())
     }
 

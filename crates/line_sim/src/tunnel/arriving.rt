@@ -13,7 +13,6 @@ use super::Tunnel;
 use knx_model::{Datagram, IpFrame, NoMemory};
 use knxnetip_frames::encode;
 use line_frames::datagram_in;
-use network_sim::what_is_kept_reads_alike;
 
 impl Tunnel {
     /// The datagram of an age, which may arrive, comes to the gateway. At `Err` nothing has changed.
@@ -88,7 +87,7 @@ impl Tunnel {
         requires { OfSent IsDeliverable (slice_get self.now.up.kept age) }
         ensures { (t : Known) → IsTunnel (tunnel_now self.now) t → result ≡ arrival_of (slice_get t.network.up age) }
     {
-        what_is_kept_reads_alike();
+        network_sim::laws::what_is_kept_reads_alike();
         let sending = self.up.get(age)?;
         Some((sending.endpoint(), datagram_in(sending.octets())?))
     }

@@ -12,7 +12,7 @@ mod sending;
 
 use crate::gateway::Gateway;
 use knx_model::{Datagram, IndAddr, NoMemory};
-use network_sim::{Sendings, what_is_kept_reads_alike};
+use network_sim::Sendings;
 pub use sending::AtGateway;
 use std::alloc::Global;
 
@@ -83,7 +83,7 @@ impl Tunnel {
         requires { OfSent IsDeliverable (slice_get self.now.down.kept age) }
         ensures { (t : Known) → IsTunnel (tunnel_now self.now) t → OfSent (λ s. s.octets ≡ result) (slice_get t.network.down age) }
     {
-        what_is_kept_reads_alike();
+        network_sim::laws::what_is_kept_reads_alike();
         match self.down.get(age) {
             Some(sending) => Datagram::from_slice(sending.octets()),
             None => Datagram::new(),

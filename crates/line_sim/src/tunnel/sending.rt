@@ -13,7 +13,6 @@ ghost use Rattle.line_sim.specs.Tunnels.{IsTunnel, at_gateway, tunnel_now};
 use super::Tunnel;
 use crate::gateway::{Due, Expired};
 use knx_model::{Datagram, Ldata};
-use tunnel_gateway::what_is_due_happens_in_the_tunnel;
 
 /// Whether the gateway hears a device's frame.
 #[derive(Clone, Copy, Debug, Drop, PartialEq, Eq)]
@@ -66,7 +65,7 @@ impl Tunnel {
         ensures repeats { result ≡ Due.Repeat → (t : Known) → IsTunnel (tunnel_now self.old) t → IsTunnel (tunnel_now self.new) (step t Repeat) }
         ensures closes { result ≡ Due.Closed → (t : Known) → IsTunnel (tunnel_now self.old) t → IsTunnel (tunnel_now self.new) (step t Close) }
     {
-        what_is_due_happens_in_the_tunnel();
+        tunnel_gateway::laws::what_is_due_happens_in_the_tunnel();
         match self.gateway.expire(self.time) {
             Expired::Nothing => Due::Nothing,
             Expired::Repeat(letter) => {
