@@ -12,3 +12,7 @@ pub mod Closes
 pub mod Leaving
 pub mod Polls
 pub mod Came
+pub mod Closed
+pub mod Heard
+pub mod Seats
+pub mod Commissioned

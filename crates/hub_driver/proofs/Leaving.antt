@@ -36,9 +36,10 @@ use Rattle.hub_core.proofs.Closes.{resumed_both, closing_is}
 use Rattle.hub_core.proofs.Counting.{some_is, told_before, place_counts, place_grows, places_upto}
 use Rattle.hub_core.proofs.Leaving.{ends_none_of, since_from, from_since, from_then}
 use Rattle.hub_core.proofs.Written.{Writes, Same, More, turn_writes, told_writes}
-use Rattle.hub_driver.specs.Closed.{WaitsSince}
+use Rattle.hub_core.specs.Closed.{WaitsSince}
 use Rattle.hub_driver.specs.Drives.{AllDone}
-use Rattle.hub_driver.specs.Leaving.{LeavesOver, GoesThrough, IsLeft, ClosesSo, IsAt, KnowsHowFar}
+use Rattle.hub_core.specs.Promises.{LeavesOver}
+use Rattle.hub_driver.specs.Leaving.{GoesThrough, IsLeft, ClosesSo, IsAt, KnowsHowFar}
 use Rattle.hub_driver.proofs.Ends.{some_job, some_jobs}
 
 -- ---- the record up to the last entry of the log, and since then

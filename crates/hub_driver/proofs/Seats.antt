@@ -8,7 +8,7 @@ use Rattle.hub_work.specs.declared.answers.GroupDid.TheVariants as did
 use Rattle.hub_work.specs.declared.answers.Turned.{Turned}
 use Rattle.hub_work.specs.declared.answers.Turned.TheVariants as turned
 use Rattle.hub_work.specs.Turns.{Adds, TurnTells, GroupTells}
-use Rattle.hub_driver.specs.Seats.{IsOfWorkers}
+use Rattle.hub_core.specs.Seats.{IsOfWorkers}
 
 module _ (n : ℕ) (old new : List LogEntry) (was : IsOfWorkers n old) where
   same : new ≡ old → IsOfWorkers n new

@@ -3,7 +3,7 @@ use Rattle.line_model.specs.LinkStory.{record_in}
 use Rattle.hub_core.specs.Seen.{SameRun}
 use Rattle.tunnel_link.specs.Goes.{GoesOn}
 use Rattle.hub_driver.specs.Drives.{AllDone, CausedSince}
-use Rattle.hub_driver.specs.Heard.{HeardAll}
+use Rattle.hub_core.specs.Heard.{HeardAll}
 use Rattle.hub_driver.specs.Leaving.{ClosesSo, KnowsHowFar}
 use Rattle.hub_driver.proofs.driver.Driver.closes.Given as goal
 

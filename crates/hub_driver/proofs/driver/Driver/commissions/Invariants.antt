@@ -3,9 +3,9 @@ use Rattle.line_model.specs.LinkStory.{record_in}
 use Rattle.hub_core.specs.Seen.{SameRun}
 use Rattle.tunnel_link.specs.Goes.{GoesOn}
 use Rattle.hub_driver.specs.Drives.{LeavesOpen, CausedSince}
-use Rattle.hub_driver.specs.Heard.{HeardAll}
+use Rattle.hub_core.specs.Heard.{HeardAll}
 use Rattle.hub_driver.specs.Leaving.{GoesThrough}
-use Rattle.hub_driver.specs.Seats.{IsOfWorkers}
+use Rattle.hub_core.specs.Seats.{IsOfWorkers}
 use Rattle.hub_driver.proofs.driver.Driver.commissions.Given as goal
 
 -- the link's story goes on, so many jobs have no end yet, and all that was taken is told

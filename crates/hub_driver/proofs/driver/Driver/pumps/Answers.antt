@@ -4,7 +4,7 @@ use Rattle.line_model.specs.LinkStory.{record_in}
 use Rattle.hub_work.specs.declared.answers.Pumped.{Pumped}
 use Rattle.hub_work.specs.declared.answers.Pumped.TheVariants.{Nothing, Moved}
 use Rattle.hub_core.specs.Hears.{heard_of}
-use Rattle.hub_driver.specs.Heard.{HeardAll}
+use Rattle.hub_core.specs.Heard.{HeardAll}
 use Rattle.hub_driver.proofs.Causes.{call_caused}
 use Rattle.hub_driver.proofs.Hearing.{hears_none, hears_one}
 use Rattle.hub_driver.proofs.Leaving.{through_left, closing_stays}

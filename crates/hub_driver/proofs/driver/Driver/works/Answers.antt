@@ -3,11 +3,11 @@ use Rattle.line_model.specs.LinkStory.{record_in}
 use Rattle.tunnel_link.specs.Goes.{GoesOn}
 use Rattle.tunnel_link.proofs.Stories.{goes_again}
 use Rattle.hub_driver.specs.Drives.{CausedSince}
-use Rattle.hub_driver.specs.Heard.{HeardAll}
+use Rattle.hub_core.specs.Heard.{HeardAll}
 use Rattle.hub_driver.proofs.Causes.{call_caused}
 use Rattle.hub_driver.proofs.Hearing.{hears_none}
 use Rattle.hub_driver.specs.Leaving.{GoesThrough}
-use Rattle.hub_driver.specs.Seats.{IsOfWorkers}
+use Rattle.hub_core.specs.Seats.{IsOfWorkers}
 use Rattle.hub_driver.proofs.Seats.{turn_seats}
 use Rattle.hub_driver.proofs.Leaving.{through_turn, left_same, waits_same}
 use Rattle.hub_driver.proofs.driver.Driver.works.Goals.{in-Took, in-Wait+in_ok-pumps-in-Wait, in-Done, in-Moved}
