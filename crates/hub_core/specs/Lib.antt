@@ -12,6 +12,7 @@ pub mod Closes
 pub mod Leaving
 pub mod Polls
 pub mod Came
+pub mod Left
 pub mod Closed
 pub mod Heard
 pub mod Seats

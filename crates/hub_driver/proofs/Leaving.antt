@@ -6,6 +6,8 @@ use Rattle.std.proofs.lemmas.List.{append-nil, append_assoc, append_cancel_right
 use Rattle.std.specs.Prelude.{nat_lt, nat_le, is_some, IfSome}
 use Rattle.std.specs.List.{AllByRecursion}
 use Rattle.knx_model.specs.declared.address.IndAddr.{IndAddr}
+use Rattle.knx_model.specs.declared.log.JobKind.TheVariants.{Check}
+use Rattle.knx_model.specs.Plans as plans
 use Rattle.line_model.specs.declared.fault.HubFault.{HubFault}
 use Rattle.line_model.specs.declared.group.GroupTurn.{GroupTurn}
 use Rattle.line_model.specs.declared.log.LogEntry.{LogEntry}
@@ -37,10 +39,9 @@ use Rattle.hub_core.proofs.Counting.{some_is, told_before, place_counts, place_g
 use Rattle.hub_core.proofs.Leaving.{ends_none_of, since_from, from_since, from_then}
 use Rattle.hub_core.proofs.Written.{Writes, Same, More, turn_writes, told_writes}
 use Rattle.hub_core.specs.Closed.{WaitsSince}
-use Rattle.hub_driver.specs.Drives.{AllDone}
+use Rattle.hub_core.specs.Left.{AllDone, IsLeft}
 use Rattle.hub_core.specs.Promises.{LeavesOver}
-use Rattle.hub_driver.specs.Leaving.{GoesThrough, IsLeft, ClosesSo, IsAt, KnowsHowFar}
-use Rattle.hub_driver.proofs.Ends.{some_job, some_jobs}
+use Rattle.hub_driver.specs.Leaving.{GoesThrough, ClosesSo, IsAt, KnowsHowFar}
 
 -- ---- the record up to the last entry of the log, and since then
 
@@ -166,15 +167,16 @@ waits_same at worker x old new (inr e) h = subst (λ (y : Turned). TurnTells at 
 pub waits_told : (at k : ℕ) (x : GroupDid) (old new : List LogEntry) → x ≡ did.Wait → GroupTells at k x old new → new ≡ old
 waits_told at k x old new e h = subst (λ (y : GroupDid). GroupTells at k y old new) e h
 
--- a group telegram is left
-pub next_left : {L : Type 0} (hub : Seen L) (k : ℕ) → IsNextTurn hub.turns hub.log k → IsLeft hub
-next_left hub k next all are f = f.turns_told (k, next.there, next.untold)
-
-pub left_by_next : {L : Type 0} (hub : Seen L) (k : Option ℕ) → IfSome k (λ (n : ℕ). IsNextTurn hub.turns hub.log n) → is_some k ≡ true → IsLeft hub
-left_by_next hub None next some = absurd (cc)
-left_by_next hub (Some k) next some = next_left hub k next
-
 -- ---- the closing begins
+
+-- some jobs of these devices
+some_job : IndAddr → Job
+some_job device = record { device = device; image = record { addr = []; assoc = []; objs = []; params = [] }; plan = plans.Over; kind = Check }
+
+some_jobs : (devices : List IndAddr) → AreJobsOf devices (map some_job devices)
+unfolding some_job
+some_jobs [] = refl
+some_jobs (d ∷ devices) = ap (λ (ds : List IndAddr). d ∷ ds) (some_jobs devices)
 
 closes_at : (log : List LogEntry) (places : List Placed) → since_last log places ≡ [] → StaysOpen (entries places) → Closes log places
 closes_at log places none stays = record {

@@ -24,10 +24,6 @@ pub record GoesThrough {L : Type 0} (hub : Seen L) (story : Story) : Type 0 wher
   pub placed : WhereTold (λ places. latest hub.log ≤ place_of story) story
   pub punctual : (all : List Job) → AreJobsOf hub.devices all → IsFinished all hub.turns hub.log → WhereTold (λ places. since_last hub.log places ≡ []) story
 
--- something is left
-abbrev pub IsLeft : {L : Type 0} → Seen L → Type 0
-IsLeft hub = (all : List Job) → AreJobsOf hub.devices all → ¬ IsFinished all hub.turns hub.log
-
 -- ---- while it closes
 
 -- the record closes rightly, which is told up to the last entry of the log, and since then

@@ -47,9 +47,8 @@ pub fn commission<R: Wait, L: Link, G: Gate>(
     requires new { IsNewLink (L.story link) }
     ensures { Commissioned L.story L.place L.script L.faults 1 jobs groups link result.0 result.1 }
 {
-    let unfinished = jobs.len();
     match Hub::begin(alloc, jobs, groups, 1, link) {
-        Ok(hub) => Driver::new(alloc, hub, unfinished).drives(rt, gate),
+        Ok(hub) => Driver::new(alloc, hub).drives(rt, gate),
         Err((link, no_memory)) => {
             every_safe_interleaving();
             (link, nothing_done(alloc, no_memory))

@@ -2,10 +2,11 @@
 
 ghost use Rattle.std.specs.Prelude.{◌≡◌, ℕ, false, true, List, IfErr, IfOk, OnOk};
 ghost use Rattle.hub_core.specs.Closes.{IsOver};
+ghost use Rattle.hub_core.specs.Left.{AllDone};
 ghost use Rattle.hub_core.specs.Promises.{LeavesOver};
 ghost use Rattle.hub_core.specs.Seen.{SameRun};
 ghost use Rattle.hub_core.specs.Closed.{HasClosed};
-ghost use Rattle.hub_driver.specs.Drives.{AllDone, CausedSince, HasEndedSo};
+ghost use Rattle.hub_driver.specs.Drives.{CausedSince, HasEndedSo};
 ghost use Rattle.hub_core.specs.Heard.{HeardAll};
 ghost use Rattle.hub_driver.specs.Leaving.{ClosesSo, GoesThrough, KnowsHowFar};
 ghost use Rattle.hub_work.specs.Books.{AreJobsOf};

@@ -2,10 +2,11 @@
 
 ghost use Rattle.std.specs.Prelude.{◌≡◌, ℕ, None, IfSome, List};
 ghost use Rattle.hub_core.specs.Commissioned.{TellsRun};
+ghost use Rattle.hub_core.specs.Left.{AllDone};
 ghost use Rattle.hub_core.specs.Promises.{LeavesOver};
 ghost use Rattle.hub_core.specs.Seen.{tasks_seen};
 ghost use Rattle.hub_core.specs.Closed.{HasClosed};
-ghost use Rattle.hub_driver.specs.Drives.{AllDone, CausedSince, HasEndedSo, TellsFault};
+ghost use Rattle.hub_driver.specs.Drives.{CausedSince, HasEndedSo, TellsFault};
 ghost use Rattle.hub_core.specs.Heard.{HeardAll};
 ghost use Rattle.hub_core.specs.Seats.{IsOfWorkers};
 ghost use Rattle.hub_work.specs.Books.{AreJobsOf};
@@ -45,11 +46,7 @@ impl<L: Link> Driver<L> {
         ensures missed { result.1.missed ≡ self.hub.missed }
         ensures caused { (before : ℕ) → CausedSince before self.hub.fault (L.faults self.hub.link) → CausedSince before result.1.fault (L.faults result.0) }
     {
-        let Driver {
-            hub,
-            unfinished: _,
-            heard,
-        } = self;
+        let Driver { hub, heard } = self;
         hub.keeps();
         let HubEnd {
             link,

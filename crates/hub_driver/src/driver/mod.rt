@@ -5,12 +5,13 @@ mod end;
 
 ghost use Rattle.std.specs.Prelude.{◌≡◌, ◌+◌, ℕ, None, List, [], ◌∷◌, ◌++◌, IfErr, OnOk, true, false, length, reverse};
 ghost use Rattle.hub_core.specs.Commissioned.{TellsRun};
+ghost use Rattle.hub_core.specs.Left.{AllDone, IsLeft};
 ghost use Rattle.hub_core.specs.Promises.{LeavesOver};
 ghost use Rattle.hub_core.specs.Seen.{SameRun, tasks_seen};
 ghost use Rattle.hub_core.specs.Closed.{HasClosed};
-ghost use Rattle.hub_driver.specs.Drives.{ends, LeavesOpen, AllDone, CausedSince, IsNoMemory, HasEndedSo};
+ghost use Rattle.hub_driver.specs.Drives.{CausedSince, IsNoMemory, HasEndedSo};
 ghost use Rattle.hub_core.specs.Heard.{HeardAll};
-ghost use Rattle.hub_driver.specs.Leaving.{GoesThrough, IsLeft};
+ghost use Rattle.hub_driver.specs.Leaving.{GoesThrough};
 ghost use Rattle.hub_core.specs.Seats.{IsOfWorkers};
 ghost use Rattle.hub_work.specs.Books.{AreJobsOf};
 ghost use Rattle.line_model.specs.LinkStory.{record_in};
@@ -36,28 +37,23 @@ const WORKER: u8 = 1;
 #[derive(Drop)]
 pub struct Driver<L: Link> {
     hub: Hub<L>,
-    /// How many jobs have no end yet.
-    unfinished: usize,
     heard: List<Indication>,
 }
 
 impl<L: Link> Driver<L> {
-    /// A hub of so many jobs, of which nothing is done.
-    pub fn new(alloc: Global, hub: Hub<L>, jobs: usize) -> Driver<L>
+    /// A hub over whose link nothing was heard.
+    pub fn new(alloc: Global, hub: Hub<L>) -> Driver<L>
         ensures hub { result.hub ≡ hub }
-        ensures unfinished { result.unfinished ≡ jobs }
         ensures heard { result.heard ≡ [] }
     {
         Driver {
             hub,
-            unfinished: jobs,
             heard: List::new(alloc),
         }
     }
 
     /// Goes through all jobs and group telegrams, and then through the closing. It gives the link back, and what is told.
     pub fn drives<R: Wait, G: Gate>(self, rt: &R, gate: &G) -> (L, Report)
-        requires open { LeavesOpen self.hub self.unfinished }
         requires seats { IsOfWorkers 1 self.hub.log }
         requires through { GoesThrough self.hub (L.story self.hub.link) }
         requires heard { HeardAll self.heard (record_in (L.story self.hub.link)) }
@@ -74,7 +70,6 @@ impl<L: Link> Driver<L> {
 
     /// Goes through all jobs and group telegrams, and then through the closing.
     fn runs<R: Wait, G: Gate>(&mut self, rt: &R, gate: &G) -> Result<(), HubFault>
-        requires open { LeavesOpen self.old.hub self.old.unfinished }
         requires seats { IsOfWorkers 1 self.old.hub.log }
         requires through { GoesThrough self.old.hub (L.story self.old.hub.link) }
         requires heard { HeardAll self.old.heard (record_in (L.story self.old.hub.link)) }
@@ -95,7 +90,6 @@ impl<L: Link> Driver<L> {
 
     /// Goes through all jobs and group telegrams.
     fn commissions<R: Wait, G: Gate>(&mut self, rt: &R, gate: &G) -> Result<(), HubFault>
-        requires open { LeavesOpen self.old.hub self.old.unfinished }
         requires seats { IsOfWorkers 1 self.old.hub.log }
         requires through { GoesThrough self.old.hub (L.story self.old.hub.link) }
         requires heard { HeardAll self.old.heard (record_in (L.story self.old.hub.link)) }
@@ -110,7 +104,7 @@ impl<L: Link> Driver<L> {
         ensures cause { IfErr result (HasEndedSo self.new.hub.fault) }
     {
         for _ in rt.forever() {
-            if self.has_done_all() {
+            if !self.hub.has_work_left() {
                 break;
             }
             self.works(gate)?;
@@ -119,19 +113,8 @@ impl<L: Link> Driver<L> {
         Ok(())
     }
 
-    /// Whether each job has its end, and each group telegram is told.
-    fn has_done_all(&self) -> bool
-        requires open { LeavesOpen self.now.hub self.now.unfinished }
-        ensures done { result ≡ true → AllDone self.now.hub }
-        ensures left { result ≡ false → IsLeft self.now.hub }
-    {
-        self.hub.keeps();
-        self.unfinished == 0 && self.hub.next_group().is_none()
-    }
-
     /// One turn of the worker, and a poll where it waits.
     fn works<G: Gate>(&mut self, gate: &G) -> Result<(), HubFault>
-        requires open { LeavesOpen self.old.hub self.old.unfinished }
         requires seats { IsOfWorkers 1 self.old.hub.log }
         requires through { GoesThrough self.old.hub (L.story self.old.hub.link) }
         requires left { IsLeft self.old.hub }
@@ -142,7 +125,6 @@ impl<L: Link> Driver<L> {
         ensures through { GoesThrough self.new.hub (L.story self.new.hub.link) }
         ensures run { SameRun self.old.hub self.new.hub }
         ensures seats { IsOfWorkers 1 self.new.hub.log }
-        ensures open { LeavesOpen self.new.hub self.new.unfinished }
         ensures heard { OnOk result (HeardAll self.new.heard (record_in (L.story self.new.hub.link))) }
         ensures cause { IfErr result (HasEndedSo self.new.hub.fault) }
     {
@@ -150,27 +132,17 @@ impl<L: Link> Driver<L> {
         match self.hub.turn(WORKER)? {
             Turned::Took(job) => gate.pass(job),
             Turned::Wait | Turned::Later => self.pumps()?,
-            Turned::Done(_) | Turned::Failed(_) | Turned::Refused(_) => self.ended(),
-            Turned::Moved | Turned::NoMore => {}
+            Turned::Moved
+            | Turned::Done(_)
+            | Turned::Failed(_)
+            | Turned::Refused(_)
+            | Turned::NoMore => {}
         }
         Ok(())
     }
 
-    /// One job more has its end.
-    fn ended(&mut self)
-        requires one_more { self.old.unfinished + ends self.old.hub.log ≡ length self.old.hub.devices + 1 }
-        ensures hub { self.new.hub ≡ self.old.hub }
-        ensures heard { self.new.heard ≡ self.old.heard }
-        ensures open { LeavesOpen self.new.hub self.new.unfinished }
-    {
-        self.hub.keeps();
-        self.unfinished -= 1;
-    }
-
     /// One step of the next group telegram, and a poll where it waits.
-    #[tactic(auto, using(crate::proofs::Telling::no_end_told))]
     fn tells(&mut self) -> Result<(), HubFault>
-        requires open { LeavesOpen self.old.hub self.old.unfinished }
         requires seats { IsOfWorkers 1 self.old.hub.log }
         requires through { GoesThrough self.old.hub (L.story self.old.hub.link) }
         requires heard { HeardAll self.old.heard (record_in (L.story self.old.hub.link)) }
@@ -180,7 +152,6 @@ impl<L: Link> Driver<L> {
         ensures through { GoesThrough self.new.hub (L.story self.new.hub.link) }
         ensures run { SameRun self.old.hub self.new.hub }
         ensures seats { IsOfWorkers 1 self.new.hub.log }
-        ensures open { LeavesOpen self.new.hub self.new.unfinished }
         ensures heard { OnOk result (HeardAll self.new.heard (record_in (L.story self.new.hub.link))) }
         ensures cause { IfErr result (HasEndedSo self.new.hub.fault) }
     {
@@ -205,7 +176,6 @@ impl<L: Link> Driver<L> {
         ensures through { GoesThrough self.new.hub (L.story self.new.hub.link) }
         ensures run { SameRun self.old.hub self.new.hub }
         ensures log { self.new.hub.log ≡ self.old.hub.log }
-        ensures unfinished { self.new.unfinished ≡ self.old.unfinished }
         ensures heard { OnOk result (HeardAll self.new.heard (record_in (L.story self.new.hub.link))) }
         ensures cause { IfErr result (HasEndedSo self.new.hub.fault) }
     {
@@ -218,7 +188,6 @@ impl<L: Link> Driver<L> {
     /// A group telegram was heard.
     fn hears(&mut self, indication: Indication) -> Result<(), HubFault>
         ensures hub { self.new.hub ≡ self.old.hub }
-        ensures unfinished { self.new.unfinished ≡ self.old.unfinished }
         ensures heard { OnOk result (self.new.heard ≡ self.old.heard ++ indication ∷ []) }
         ensures cause { IfErr result IsNoMemory }
     {

@@ -2,7 +2,8 @@ use Rattle.std.proofs.Common.{◌≡◌, ℕ}
 use Rattle.line_model.specs.LinkStory.{record_in}
 use Rattle.hub_core.specs.Seen.{SameRun}
 use Rattle.tunnel_link.specs.Goes.{GoesOn}
-use Rattle.hub_driver.specs.Drives.{AllDone, CausedSince}
+use Rattle.hub_core.specs.Left.{AllDone}
+use Rattle.hub_driver.specs.Drives.{CausedSince}
 use Rattle.hub_core.specs.Heard.{HeardAll}
 use Rattle.hub_driver.specs.Leaving.{ClosesSo, KnowsHowFar}
 use Rattle.hub_driver.proofs.driver.Driver.closes.Given as goal

@@ -23,7 +23,6 @@ loop-preserved g c = record {
   caused = λ before was. c.tells.ensures.caused before (c.works.ensures.caused before (c.loop.invariant.caused before was));
   run = search rules;
   seats = c.tells.ensures.seats;
-  open_jobs = c.tells.ensures.open;
   through = c.tells.ensures.through;
   heard = c.in_ok-tells.ensures.heard;
 }

@@ -1,10 +1,11 @@
 use Rattle.std.proofs.Common.{None, refl, sym, ap, subst}
 use Rattle.tunnel_link.proofs.Stories.{goes_again}
+use Rattle.hub_core.proofs.Left.{next_left}
 use Rattle.hub_driver.proofs.Causes.{call_caused}
 use Rattle.hub_driver.proofs.Hearing.{hears_none}
 use Rattle.hub_core.specs.Seats.{IsOfWorkers}
 use Rattle.hub_driver.proofs.Seats.{group_seats}
-use Rattle.hub_driver.proofs.Leaving.{through_group, left_same, waits_told, next_left}
+use Rattle.hub_driver.proofs.Leaving.{through_group, left_same, waits_told}
 use Rattle.hub_driver.proofs.driver.Driver.tells.Goals as goal
 
 pub pumps-requires : goal.pumps-requires

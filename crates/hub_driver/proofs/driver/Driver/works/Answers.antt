@@ -10,7 +10,7 @@ use Rattle.hub_driver.specs.Leaving.{GoesThrough}
 use Rattle.hub_core.specs.Seats.{IsOfWorkers}
 use Rattle.hub_driver.proofs.Seats.{turn_seats}
 use Rattle.hub_driver.proofs.Leaving.{through_turn, left_same, waits_same}
-use Rattle.hub_driver.proofs.driver.Driver.works.Goals.{in-Took, in-Wait+in_ok-pumps-in-Wait, in-Done, in-Moved}
+use Rattle.hub_driver.proofs.driver.Driver.works.Goals.{in-Took, in-Wait+in_ok-pumps-in-Wait, in-Moved}
 use Rattle.hub_driver.proofs.driver.Driver.works.Goals as goal
 
 pub pumps-requires : goal.pumps-requires
@@ -28,8 +28,6 @@ returns-clause-grows g c = elim c.match-branch-2.branch [
   | in-Took w ↦ subst (λ s. GoesOn (g.L.Link.story c.args.self.now.hub.link) (g.L.Link.story s.hub.link)) (sym w.self-is) c.turn.ensures.grows
   | in-Wait+in_ok-pumps-in-Wait w ↦
       subst (λ s. GoesOn (g.L.Link.story c.args.self.now.hub.link) (g.L.Link.story s.hub.link)) (sym w.self-is) (goes_again _ _ _ c.turn.ensures.grows w.pumps.ensures.grows)
-  | in-Done w ↦
-      subst (λ h. GoesOn (g.L.Link.story c.args.self.now.hub.link) (g.L.Link.story h.link)) (sym (ap (λ s. s.hub) w.self-is ∙ w.ended.ensures.hub)) c.turn.ensures.grows
   | in-Moved w ↦ subst (λ s. GoesOn (g.L.Link.story c.args.self.now.hub.link) (g.L.Link.story s.hub.link)) (sym w.self-is) c.turn.ensures.grows
 ]
 
@@ -39,7 +37,6 @@ returns-clause-heard g c =
     elim c.match-branch-2.branch [
       | in-Took w ↦ rw w.self-is none
       | in-Wait+in_ok-pumps-in-Wait w ↦ rw w.self-is w.in_ok-pumps-in-Wait.ensures.heard
-      | in-Done w ↦ rw (w.self-is, w.ended.ensures.heard, w.ended.ensures.hub) none
       | in-Moved w ↦ rw w.self-is none
     ]
 
@@ -55,7 +52,6 @@ returns-clause-caused g c = λ before was.
     elim c.match-branch-2.branch [
       | in-Took w ↦ rw w.self-is caused
       | in-Wait+in_ok-pumps-in-Wait w ↦ rw w.self-is (w.pumps.ensures.caused before caused)
-      | in-Done w ↦ rw (w.self-is, w.ended.ensures.hub) caused
       | in-Moved w ↦ rw w.self-is caused
     ]
 
@@ -68,7 +64,6 @@ returns-clause-through g c =
     elim c.match-branch-2.branch [
       | in-Took w ↦ subst (λ s. GoesThrough s.hub (g.L.Link.story s.hub.link)) (sym w.self-is) through
       | in-Wait+in_ok-pumps-in-Wait w ↦ subst (λ s. GoesThrough s.hub (g.L.Link.story s.hub.link)) (sym w.self-is) w.pumps.ensures.through
-      | in-Done w ↦ subst (λ h. GoesThrough h (g.L.Link.story h.link)) (sym (ap (λ s. s.hub) w.self-is ∙ w.ended.ensures.hub)) through
       | in-Moved w ↦ subst (λ s. GoesThrough s.hub (g.L.Link.story s.hub.link)) (sym w.self-is) through
     ]
 
@@ -84,6 +79,5 @@ returns-clause-seats g c =
     elim c.match-branch-2.branch [
       | in-Took w ↦ subst (λ s. IsOfWorkers 1 s.hub.log) (sym w.self-is) seats
       | in-Wait+in_ok-pumps-in-Wait w ↦ subst (λ s. IsOfWorkers 1 s.hub.log) (sym w.self-is) (subst (IsOfWorkers 1) (sym w.pumps.ensures.log) seats)
-      | in-Done w ↦ subst (λ h. IsOfWorkers 1 h.log) (sym (ap (λ s. s.hub) w.self-is ∙ w.ended.ensures.hub)) seats
       | in-Moved w ↦ subst (λ s. IsOfWorkers 1 s.hub.log) (sym w.self-is) seats
     ]
