@@ -6,6 +6,7 @@ pub mod Thorough
 pub mod Taking
 pub mod Hears
 pub mod Pumps
+pub mod Telegrams
 pub mod Puts
 pub mod Waits
 pub mod Closes

@@ -21,13 +21,14 @@ use Rattle.tunnel_link.specs.Alone.{Each, EndsNone, LeavesAlone}
 use Rattle.tunnel_link.specs.Goes.{GoesOn}
 use Rattle.tunnel_link.specs.Rights.{WhereTold}
 use Rattle.tunnel_link.proofs.Growth.{entries_append}
-use Rattle.hub_work.specs.declared.answers.GroupDid.{GroupDid}
-use Rattle.hub_work.specs.declared.answers.GroupDid.TheVariants as did
+use Rattle.hub_core.specs.declared.answers.GroupDid.{GroupDid}
+use Rattle.hub_core.specs.declared.answers.GroupDid.TheVariants as did
 use Rattle.hub_work.specs.declared.answers.Turned.{Turned}
 use Rattle.hub_work.specs.declared.answers.Turned.TheVariants as turned
 use Rattle.hub_work.specs.declared.closing.Closing.{Closing}
 use Rattle.hub_work.specs.Books.{AreJobsOf}
-use Rattle.hub_work.specs.Turns.{TurnTells, GroupTells}
+use Rattle.hub_work.specs.Turns.{TurnTells}
+use Rattle.hub_core.specs.Telegrams.{GroupTells}
 use Rattle.hub_work.proofs.Growing.{AreUpto}
 use Rattle.hub_core.specs.Closes as hub
 use Rattle.hub_core.specs.Closes.{HasCome, resumed}

@@ -6,8 +6,8 @@ ghost use Rattle.tunnel_link.specs.Alone.{Each, LeavesAlone};
 ghost use Rattle.tunnel_link.specs.Goes.{GoesOn};
 ghost use Rattle.tunnel_link.specs.Rights.{FailsWhere};
 ghost use Rattle.line_model.specs.Log.{IsNextTurn, TurnUnfinished};
-ghost use Rattle.hub_work.specs.Turns.{GroupTells};
-ghost use Rattle.hub_work.specs.declared.answers.GroupDid.TheVariants as step;
+ghost use Rattle.hub_core.specs.Telegrams.{GroupTells};
+ghost use Rattle.hub_core.specs.declared.answers.GroupDid.TheVariants as step;
 ghost use Rattle.hub_core.specs.Hears.{HearsSo};
 ghost use Rattle.hub_core.specs.Left.{AllDone, IsLeft};
 ghost use Rattle.hub_core.specs.Puts.{PutsRequest};
@@ -15,7 +15,8 @@ ghost use Rattle.hub_core.specs.Waits.{WaitsExactly};
 ghost use Rattle.hub_core.specs.Seen.{SameRun, StaysEnded};
 
 use super::Hub;
-use hub_work::{GroupDid, Stage, places_are_free};
+use crate::answers::GroupDid;
+use hub_work::{Stage, places_are_free};
 use line_model::{HubFault, Link, LogWhat};
 
 impl<L: Link> Hub<L> {

@@ -1,5 +1,5 @@
 use Rattle.std.proofs.Common.{sym, ap, subst, ◌∙◌}
-use Rattle.hub_work.specs.declared.answers.Finished.{Finished}
+use Rattle.hub_core.specs.declared.answers.Finished.{Finished}
 use Rattle.hub_core.specs.Closes.{EndsAs}
 use Rattle.hub_core.specs.Hears.{heard_at_end}
 use Rattle.hub_driver.proofs.Causes.{call_caused}

@@ -1,8 +1,8 @@
 use Rattle.std.proofs.Common.{◌≡◌, ◌⊎◌, inl, inr, ◌∷◌, [], ◌++◌, None, ap}
 use Rattle.std.proofs.lemmas.Result.{on_ok_weaker}
 use Rattle.line_model.specs.LinkStory.{record_in}
-use Rattle.hub_work.specs.declared.answers.Pumped.{Pumped}
-use Rattle.hub_work.specs.declared.answers.Pumped.TheVariants.{Nothing, Moved}
+use Rattle.hub_core.specs.declared.answers.Pumped.{Pumped}
+use Rattle.hub_core.specs.declared.answers.Pumped.TheVariants.{Nothing, Moved}
 use Rattle.hub_core.specs.Hears.{heard_of}
 use Rattle.hub_core.specs.Heard.{HeardAll}
 use Rattle.hub_driver.proofs.Causes.{call_caused}
