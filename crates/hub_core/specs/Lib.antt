@@ -13,6 +13,7 @@ pub mod Closes
 pub mod Leaving
 pub mod Polls
 pub mod Came
+pub mod Since
 pub mod Left
 pub mod Closed
 pub mod Heard

@@ -7,9 +7,10 @@ ghost use Rattle.std.specs.Prelude.{◌≡◌, ◌+◌, ℕ, None, List, [], ◌
 ghost use Rattle.hub_core.specs.Commissioned.{TellsRun};
 ghost use Rattle.hub_core.specs.Left.{AllDone, IsLeft};
 ghost use Rattle.hub_core.specs.Promises.{LeavesOver};
-ghost use Rattle.hub_core.specs.Seen.{SameRun, tasks_seen};
+ghost use Rattle.hub_core.specs.Seen.{tasks_seen};
 ghost use Rattle.hub_core.specs.Closed.{HasClosed};
-ghost use Rattle.hub_driver.specs.Drives.{CausedSince, IsNoMemory, HasEndedSo};
+ghost use Rattle.hub_core.specs.Since.{CausedSince, Since};
+ghost use Rattle.hub_driver.specs.Drives.{IsNoMemory, HasEndedSo};
 ghost use Rattle.hub_core.specs.Heard.{HeardAll};
 ghost use Rattle.hub_driver.specs.Leaving.{GoesThrough};
 ghost use Rattle.hub_core.specs.Seats.{IsOfWorkers};
@@ -73,11 +74,8 @@ impl<L: Link> Driver<L> {
         requires seats { IsOfWorkers 1 self.old.hub.log }
         requires through { GoesThrough self.old.hub (L.story self.old.hub.link) }
         requires heard { HeardAll self.old.heard (record_in (L.story self.old.hub.link)) }
-        ensures grows { GoesOn (L.story self.old.hub.link) (L.story self.new.hub.link) }
-        ensures script { L.script self.new.hub.link ≡ L.script self.old.hub.link }
-        ensures caused { (before : ℕ) → CausedSince before self.old.hub.fault (L.faults self.old.hub.link) → CausedSince before self.new.hub.fault (L.faults self.new.hub.link) }
+        ensures since { Since L.story L.script L.faults self.old.hub self.new.hub }
         ensures leaves { (all : List Job) → AreJobsOf self.new.hub.devices all → LeavesOver all self.new.hub.turns (L.story self.new.hub.link) self.new.hub.log }
-        ensures run { SameRun self.old.hub self.new.hub }
         ensures seats { IsOfWorkers 1 self.new.hub.log }
         ensures done { OnOk result (AllDone self.new.hub) }
         ensures closed { OnOk result (WhereTold (HasClosed self.new.hub.log) (L.story self.new.hub.link)) }
@@ -93,11 +91,8 @@ impl<L: Link> Driver<L> {
         requires seats { IsOfWorkers 1 self.old.hub.log }
         requires through { GoesThrough self.old.hub (L.story self.old.hub.link) }
         requires heard { HeardAll self.old.heard (record_in (L.story self.old.hub.link)) }
-        ensures grows { GoesOn (L.story self.old.hub.link) (L.story self.new.hub.link) }
-        ensures script { L.script self.new.hub.link ≡ L.script self.old.hub.link }
-        ensures caused { (before : ℕ) → CausedSince before self.old.hub.fault (L.faults self.old.hub.link) → CausedSince before self.new.hub.fault (L.faults self.new.hub.link) }
+        ensures since { Since L.story L.script L.faults self.old.hub self.new.hub }
         ensures through { GoesThrough self.new.hub (L.story self.new.hub.link) }
-        ensures run { SameRun self.old.hub self.new.hub }
         ensures seats { IsOfWorkers 1 self.new.hub.log }
         ensures done { OnOk result (AllDone self.new.hub) }
         ensures heard { OnOk result (HeardAll self.new.heard (record_in (L.story self.new.hub.link))) }
@@ -119,11 +114,8 @@ impl<L: Link> Driver<L> {
         requires through { GoesThrough self.old.hub (L.story self.old.hub.link) }
         requires left { IsLeft self.old.hub }
         requires heard { HeardAll self.old.heard (record_in (L.story self.old.hub.link)) }
-        ensures grows { GoesOn (L.story self.old.hub.link) (L.story self.new.hub.link) }
-        ensures script { L.script self.new.hub.link ≡ L.script self.old.hub.link }
-        ensures caused { (before : ℕ) → CausedSince before self.old.hub.fault (L.faults self.old.hub.link) → CausedSince before self.new.hub.fault (L.faults self.new.hub.link) }
+        ensures since { Since L.story L.script L.faults self.old.hub self.new.hub }
         ensures through { GoesThrough self.new.hub (L.story self.new.hub.link) }
-        ensures run { SameRun self.old.hub self.new.hub }
         ensures seats { IsOfWorkers 1 self.new.hub.log }
         ensures heard { OnOk result (HeardAll self.new.heard (record_in (L.story self.new.hub.link))) }
         ensures cause { IfErr result (HasEndedSo self.new.hub.fault) }
@@ -146,11 +138,8 @@ impl<L: Link> Driver<L> {
         requires seats { IsOfWorkers 1 self.old.hub.log }
         requires through { GoesThrough self.old.hub (L.story self.old.hub.link) }
         requires heard { HeardAll self.old.heard (record_in (L.story self.old.hub.link)) }
-        ensures grows { GoesOn (L.story self.old.hub.link) (L.story self.new.hub.link) }
-        ensures script { L.script self.new.hub.link ≡ L.script self.old.hub.link }
-        ensures caused { (before : ℕ) → CausedSince before self.old.hub.fault (L.faults self.old.hub.link) → CausedSince before self.new.hub.fault (L.faults self.new.hub.link) }
+        ensures since { Since L.story L.script L.faults self.old.hub self.new.hub }
         ensures through { GoesThrough self.new.hub (L.story self.new.hub.link) }
-        ensures run { SameRun self.old.hub self.new.hub }
         ensures seats { IsOfWorkers 1 self.new.hub.log }
         ensures heard { OnOk result (HeardAll self.new.heard (record_in (L.story self.new.hub.link))) }
         ensures cause { IfErr result (HasEndedSo self.new.hub.fault) }
@@ -170,11 +159,8 @@ impl<L: Link> Driver<L> {
         requires through { GoesThrough self.old.hub (L.story self.old.hub.link) }
         requires left { IsLeft self.old.hub }
         requires heard { HeardAll self.old.heard (record_in (L.story self.old.hub.link)) }
-        ensures grows { GoesOn (L.story self.old.hub.link) (L.story self.new.hub.link) }
-        ensures script { L.script self.new.hub.link ≡ L.script self.old.hub.link }
-        ensures caused { (before : ℕ) → CausedSince before self.old.hub.fault (L.faults self.old.hub.link) → CausedSince before self.new.hub.fault (L.faults self.new.hub.link) }
+        ensures since { Since L.story L.script L.faults self.old.hub self.new.hub }
         ensures through { GoesThrough self.new.hub (L.story self.new.hub.link) }
-        ensures run { SameRun self.old.hub self.new.hub }
         ensures log { self.new.hub.log ≡ self.old.hub.log }
         ensures heard { OnOk result (HeardAll self.new.heard (record_in (L.story self.new.hub.link))) }
         ensures cause { IfErr result (HasEndedSo self.new.hub.fault) }

@@ -1,7 +1,7 @@
 use Rattle.std.proofs.Common.{◌≡◌, None, refl, sym, subst, ap, ◌∙◌, arith}
 use Rattle.tunnel_link.specs.Goes.{GoesOn}
 use Rattle.tunnel_link.proofs.Stories.{stays}
-use Rattle.hub_driver.specs.Drives.{CausedSince}
+use Rattle.hub_core.specs.Since.{CausedSince}
 use Rattle.hub_driver.proofs.New.{new_tells}
 use Rattle.hub_driver.proofs.Told.{told_for}
 use Rattle.hub_driver.proofs.run.commission.Goals as goal
