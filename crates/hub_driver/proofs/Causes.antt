@@ -1,5 +1,5 @@
 -- That the link failed is told only where its count of faults has risen since the run began.
-use Rattle.std.proofs.Common.{◌≡◌, ℕ, Option, Some, None, sym, subst}
+use Rattle.std.proofs.Common.{ℕ, Option, Some, None, sym, subst}
 use Rattle.line_model.specs.declared.fault.HubFault.{HubFault}
 use Rattle.line_model.specs.declared.fault.HubFault.TheVariants.{NoMemory, LinkFailed, GatewayRefused, Flooded, WrongLine}
 use Rattle.tunnel_link.specs.Rights.{FailsWhere}

@@ -3,7 +3,7 @@
 use Rattle.std.proofs.Common.{◌≡◌, ◌≢◌, ◌⊎◌, inl, inr, ℕ, ◌<◌, ◌≤◌, Bool, true, false, List, [], ◌∷◌, ◌++◌, map, Option, Some, None, Result, Ok, Err, IfOk, OnErr, refl, sym, ap, subst, ◌∙◌, arith}
 use Rattle.std.proofs.lemmas.Bool.Decides.{nat_tests}
 use Rattle.std.proofs.lemmas.List.{append-nil, append_assoc, append_cancel_right}
-use Rattle.std.specs.Prelude.{nat_lt, nat_le, is_some, IfSome}
+use Rattle.std.specs.Prelude.{nat_lt, nat_le, is_some}
 use Rattle.std.specs.List.{AllByRecursion}
 use Rattle.knx_model.specs.declared.address.IndAddr.{IndAddr}
 use Rattle.knx_model.specs.declared.log.JobKind.TheVariants.{Check}
@@ -13,7 +13,7 @@ use Rattle.line_model.specs.declared.group.GroupTurn.{GroupTurn}
 use Rattle.line_model.specs.declared.log.LogEntry.{LogEntry}
 use Rattle.line_model.specs.Record.{Entry, Placed, entries, placed, counted}
 use Rattle.line_model.specs.LinkStory.{Story, Untold, Recorded, Full, places_in, newest_time, IsPlace}
-use Rattle.line_model.specs.Log.{Job, latest, IsNextTurn}
+use Rattle.line_model.specs.Log.{Job, latest}
 use Rattle.line_model.specs.Closing as line
 use Rattle.line_model.specs.Leaves.{StaysOpen, IsFinished, up_to_last, since_last, Closes, LeavesRightly}
 use Rattle.tunnel_link.specs.Adds.{place_of, Grows, Growing}

@@ -1,5 +1,5 @@
 -- That all stays done where the log stays.
-use Rattle.std.proofs.Common.{◌≡◌, List, subst}
+use Rattle.std.proofs.Common.{◌≡◌, subst}
 use Rattle.hub_work.specs.Books.{AreJobsOf}
 use Rattle.hub_core.specs.Left.{AllDone}
 use Rattle.hub_core.specs.Seen.{Seen, SameRun}

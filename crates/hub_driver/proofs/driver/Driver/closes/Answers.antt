@@ -1,4 +1,4 @@
-use Rattle.std.proofs.Common.{rules, refl, sym, subst, ◌∙◌}
+use Rattle.std.proofs.Common.{refl, ◌∙◌}
 use Rattle.hub_core.proofs.Since.{since_again, since_itself}
 use Rattle.hub_driver.proofs.Leaving.{closing_leaves, closing_begins, how_far_first}
 use Rattle.hub_driver.proofs.Telling.{stays_done}

@@ -1,4 +1,4 @@
-use Rattle.std.proofs.Common.{None, refl, sym, ap, subst, ◌∙◌, arith}
+use Rattle.std.proofs.Common.{None, refl, sym, ap, subst, arith}
 use Rattle.line_model.specs.LinkStory.{record_in}
 use Rattle.hub_core.specs.Since.{Since}
 use Rattle.hub_core.proofs.Since.{call_since, since_again}
