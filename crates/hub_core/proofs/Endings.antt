@@ -16,8 +16,8 @@ use Rattle.tunnel_link.specs.Goes as tunnel
 use Rattle.tunnel_link.specs.Rights.{WhereTold}
 use Rattle.tunnel_link.proofs.Growth.{entries_append}
 use Rattle.tunnel_link.proofs.Times.{times_told}
-use Rattle.hub_work.specs.declared.answers.Finished.{Finished}
-use Rattle.hub_work.specs.declared.answers.Finished.TheVariants as end
+use Rattle.hub_core.specs.declared.answers.Finished.{Finished}
+use Rattle.hub_core.specs.declared.answers.Finished.TheVariants as end
 use Rattle.hub_work.specs.declared.closing.Closing.{Closing}
 use Rattle.hub_work.specs.Closes.{closing_of}
 use Rattle.hub_core.specs.Closes.{capped, HasCome, resumed, Resumes, Closes, ClosesBy, Begins, IsOver, HasListened, AsksNow, has_done, HasDone, GoesSo}

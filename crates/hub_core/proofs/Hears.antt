@@ -19,8 +19,8 @@ use Rattle.tunnel_link.specs.Adds.{place_of, moments_on, Grows, Growing, AllNoth
 use Rattle.tunnel_link.specs.Goes.{GoesOn}
 use Rattle.tunnel_link.specs.Rights.{WhereTold}
 use Rattle.tunnel_link.proofs.Stories.{goes_again}
-use Rattle.hub_work.specs.declared.answers.Finished.{Finished}
-use Rattle.hub_work.specs.declared.answers.Pumped.{Pumped}
+use Rattle.hub_core.specs.declared.answers.Finished.{Finished}
+use Rattle.hub_core.specs.declared.answers.Pumped.{Pumped}
 use Rattle.hub_core.specs.Hears.{HearsSo, heard_of, heard_at_end}
 use Rattle.hub_core.specs.Puts.{PutsRequest}
 use Rattle.hub_core.specs.Taking.{HeardIn}

@@ -15,8 +15,8 @@ use Rattle.tunnel_link.specs.declared.came.What.TheVariants as came
 use Rattle.tunnel_link.specs.Adds.{place_of, Grows, Growing, GotSo, Acts, Seeks, Brings, PollAdds, is_any}
 use Rattle.tunnel_link.specs.Goes.{GoesOn}
 use Rattle.tunnel_link.proofs.Growth.{entries_append}
-use Rattle.hub_work.specs.declared.answers.Pumped.{Pumped}
-use Rattle.hub_work.specs.declared.answers.Pumped.TheVariants as pump
+use Rattle.hub_core.specs.declared.answers.Pumped.{Pumped}
+use Rattle.hub_core.specs.declared.answers.Pumped.TheVariants as pump
 use Rattle.hub_core.specs.Hears.{HearsSo, heard_of}
 use Rattle.hub_core.specs.Pumps.{AddsSo, AnswersSo, Says, PumpsSo, Does, is_late_now, is_left_now, Moves}
 use Rattle.hub_core.specs.Taking.{is_taken}

@@ -9,8 +9,8 @@ use Rattle.tunnel_link.specs.declared.came.Loss.{Loss}
 use Rattle.tunnel_link.specs.Adds.{is_told}
 use Rattle.tunnel_link.specs.Rights.{WhereTold}
 use Rattle.hub_work.specs.declared.closing.Closing.{Closing}
-use Rattle.hub_work.specs.declared.answers.Finished.{Finished}
-use Rattle.hub_work.specs.declared.answers.Finished.TheVariants as end
+use Rattle.hub_core.specs.declared.answers.Finished.{Finished}
+use Rattle.hub_core.specs.declared.answers.Finished.TheVariants as end
 use Rattle.hub_work.specs.Closes.{closing_of, after_datagram}
 use Rattle.hub_core.specs.Pumps.{AddsSo}
 

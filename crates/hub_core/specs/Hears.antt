@@ -5,10 +5,10 @@ use Rattle.line_model.specs.declared.group.Indication.{Indication}
 use Rattle.line_model.specs.Record.{Placed, entries}
 use Rattle.line_model.specs.LinkStory.{Story, places_in}
 use Rattle.line_model.specs.ClientView.{indications}
-use Rattle.hub_work.specs.declared.answers.Pumped.{Pumped}
-use Rattle.hub_work.specs.declared.answers.Pumped.TheVariants as pump
-use Rattle.hub_work.specs.declared.answers.Finished.{Finished}
-use Rattle.hub_work.specs.declared.answers.Finished.TheVariants as end
+use Rattle.hub_core.specs.declared.answers.Pumped.{Pumped}
+use Rattle.hub_core.specs.declared.answers.Pumped.TheVariants as pump
+use Rattle.hub_core.specs.declared.answers.Finished.{Finished}
+use Rattle.hub_core.specs.declared.answers.Finished.TheVariants as end
 
 -- it took just this one, or none
 abbrev pub HearsSo : Option Indication → Story → Story → Type 0

@@ -6,9 +6,16 @@ pub mod Thorough
 pub mod Taking
 pub mod Hears
 pub mod Pumps
+pub mod Telegrams
 pub mod Puts
 pub mod Waits
 pub mod Closes
 pub mod Leaving
 pub mod Polls
 pub mod Came
+pub mod Since
+pub mod Left
+pub mod Closed
+pub mod Heard
+pub mod Seats
+pub mod Commissioned

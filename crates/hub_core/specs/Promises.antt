@@ -4,12 +4,13 @@ use Rattle.std.specs.Prelude.{◌≡◌, ℕ, ◌^◌, ◌-◌, min, length, Lis
 use Rattle.line_model.specs.declared.fault.HubFault.{HubFault}
 use Rattle.line_model.specs.declared.group.GroupTurn.{GroupTurn}
 use Rattle.line_model.specs.declared.log.LogEntry.{LogEntry}
-use Rattle.line_model.specs.Record.{Entry, counted}
+use Rattle.line_model.specs.Record.{Entry, placed, counted}
 use Rattle.line_model.specs.LinkStory.{Story, Untold, Recorded, Full}
 use Rattle.line_model.specs.Log.{Job}
 use Rattle.line_model.specs.Dropped.{dropped}
 use Rattle.line_model.specs.Faults.{FaultRight}
 use Rattle.line_model.specs.Headline.{IsRight}
+use Rattle.line_model.specs.Leaves.{LeavesRightly}
 use Rattle.line_law.specs.Safe.{IsSafe, KeepsSafe}
 use Rattle.tunnel_link.specs.Adds.{place_of}
 use Rattle.tunnel_link.specs.Rights.{WhereTold}
@@ -25,6 +26,12 @@ abbrev pub IsSafeOver : List Job → List GroupTurn → Story → List LogEntry 
 IsSafeOver jobs turns Untold log = Unit {0}
 IsSafeOver jobs turns (Recorded r) log = IsSafe jobs turns (length r) (counted r) log
 IsSafeOver jobs turns (Full start events) log = KeepsSafe jobs turns start events log
+
+-- the open channel isn't asked to end before all is over, and then rightly
+abbrev pub LeavesOver : List Job → List GroupTurn → Story → List LogEntry → Type 0
+LeavesOver jobs turns Untold log = Unit {0}
+LeavesOver jobs turns (Recorded r) log = LeavesRightly jobs turns log (counted r)
+LeavesOver jobs turns (Full start events) log = LeavesRightly jobs turns log (placed start events)
 
 -- the log is one of its jobs and telegrams, what it tells is true, and each request was right
 abbrev pub TellsIn : List Job → List GroupTurn → List LogEntry → Story → Type 0

@@ -5,8 +5,8 @@ use Rattle.line_model.specs.LinkStory.{Story, places_in, newest_time}
 use Rattle.line_model.specs.ClientView.{channel}
 use Rattle.line_model.specs.Pumped.{Adds, sends_nothing, drops_all, IsNothing, IsMoved, HasHeard}
 use Rattle.line_model.specs.Renews.{is_left, is_late}
-use Rattle.hub_work.specs.declared.answers.Pumped.{Pumped}
-use Rattle.hub_work.specs.declared.answers.Pumped.TheVariants as pump
+use Rattle.hub_core.specs.declared.answers.Pumped.{Pumped}
+use Rattle.hub_core.specs.declared.answers.Pumped.TheVariants as pump
 
 -- ---- of the record before a call, and of what it added
 

@@ -7,8 +7,8 @@ use Rattle.line_model.specs.LinkStory.{Story, newest_time}
 use Rattle.line_model.specs.Log.{Job}
 use Rattle.line_model.specs.Waiting.{GroupWaits, TurnWaits}
 use Rattle.tunnel_link.specs.Rights.{WhereTold}
-use Rattle.hub_work.specs.declared.answers.GroupDid.{GroupDid}
-use Rattle.hub_work.specs.declared.answers.GroupDid.TheVariants.{Wait}
+use Rattle.hub_core.specs.declared.answers.GroupDid.{GroupDid}
+use Rattle.hub_core.specs.declared.answers.GroupDid.TheVariants.{Wait}
 use Rattle.hub_work.specs.declared.answers.Turned.{Turned}
 use Rattle.hub_work.specs.declared.answers.Turned.TheVariants as answer
 use Rattle.hub_work.specs.declared.crew.Held.{Held}

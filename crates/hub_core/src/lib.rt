@@ -18,10 +18,12 @@
 //! ```
 #![tactic(auto)]
 
+mod answers;
 mod end;
 mod hub;
 
+pub use answers::{Finished, GroupDid, Pumped};
 pub use end::HubEnd;
 pub use hub::Hub;
-pub use hub_work::{CheckPlan, Finished, GroupDid, HubJob, JobPlan, LoadPlan, Pumped, Turned};
+pub use hub_work::{CheckPlan, HubJob, JobPlan, LoadPlan, Turned};
 pub use line_model::{GroupTurn, HubFault, Indication, LogEntry, LogWhat, Try};

@@ -14,7 +14,7 @@ use Rattle.tunnel_link.specs.Rights.{WhereTold}
 use Rattle.hub_work.specs.declared.closing.Closing.{Closing}
 use Rattle.hub_core.specs.Closes.{capped, IsOver}
 use Rattle.hub_core.specs.Seen.{Seen}
-use Rattle.hub_driver.specs.Closed.{HasClosed, WaitsSince}
+use Rattle.hub_core.specs.Closed.{HasClosed, WaitsSince}
 use Rattle.hub_driver.specs.Leaving.{IsAt, KnowsHowFar}
 
 -- a hub's count of datagrams, which stands still at the end of its type, tells whether enough came

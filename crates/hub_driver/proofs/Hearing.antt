@@ -10,7 +10,7 @@ use Rattle.line_model.specs.World.{Event}
 use Rattle.line_model.proofs.Entries.{entries_placed, entries_counted}
 use Rattle.tunnel_link.specs.Goes.{GoesOn}
 use Rattle.hub_core.specs.Hears.{HearsSo}
-use Rattle.hub_driver.specs.Heard.{HeardAll}
+use Rattle.hub_core.specs.Heard.{HeardAll}
 
 -- where the record's indications became so, what is told follows
 module _ (heard : Option Indication) (before after : List Indication) (follows : (is : List Indication) → before ≡ reverse is → after ≡ reverse (cons_option heard is)) where

@@ -3,15 +3,17 @@
 use Rattle.std.proofs.Common.{◌≡◌, ◌≢◌, ◌⊎◌, inl, inr, ℕ, ◌<◌, ◌≤◌, Bool, true, false, List, [], ◌∷◌, ◌++◌, map, Option, Some, None, Result, Ok, Err, IfOk, OnErr, refl, sym, ap, subst, ◌∙◌, arith}
 use Rattle.std.proofs.lemmas.Bool.Decides.{nat_tests}
 use Rattle.std.proofs.lemmas.List.{append-nil, append_assoc, append_cancel_right}
-use Rattle.std.specs.Prelude.{nat_lt, nat_le, is_some, IfSome}
+use Rattle.std.specs.Prelude.{nat_lt, nat_le, is_some}
 use Rattle.std.specs.List.{AllByRecursion}
 use Rattle.knx_model.specs.declared.address.IndAddr.{IndAddr}
+use Rattle.knx_model.specs.declared.log.JobKind.TheVariants.{Check}
+use Rattle.knx_model.specs.Plans as plans
 use Rattle.line_model.specs.declared.fault.HubFault.{HubFault}
 use Rattle.line_model.specs.declared.group.GroupTurn.{GroupTurn}
 use Rattle.line_model.specs.declared.log.LogEntry.{LogEntry}
 use Rattle.line_model.specs.Record.{Entry, Placed, entries, placed, counted}
 use Rattle.line_model.specs.LinkStory.{Story, Untold, Recorded, Full, places_in, newest_time, IsPlace}
-use Rattle.line_model.specs.Log.{Job, latest, IsNextTurn}
+use Rattle.line_model.specs.Log.{Job, latest}
 use Rattle.line_model.specs.Closing as line
 use Rattle.line_model.specs.Leaves.{StaysOpen, IsFinished, up_to_last, since_last, Closes, LeavesRightly}
 use Rattle.tunnel_link.specs.Adds.{place_of, Grows, Growing}
@@ -19,13 +21,14 @@ use Rattle.tunnel_link.specs.Alone.{Each, EndsNone, LeavesAlone}
 use Rattle.tunnel_link.specs.Goes.{GoesOn}
 use Rattle.tunnel_link.specs.Rights.{WhereTold}
 use Rattle.tunnel_link.proofs.Growth.{entries_append}
-use Rattle.hub_work.specs.declared.answers.GroupDid.{GroupDid}
-use Rattle.hub_work.specs.declared.answers.GroupDid.TheVariants as did
+use Rattle.hub_core.specs.declared.answers.GroupDid.{GroupDid}
+use Rattle.hub_core.specs.declared.answers.GroupDid.TheVariants as did
 use Rattle.hub_work.specs.declared.answers.Turned.{Turned}
 use Rattle.hub_work.specs.declared.answers.Turned.TheVariants as turned
 use Rattle.hub_work.specs.declared.closing.Closing.{Closing}
 use Rattle.hub_work.specs.Books.{AreJobsOf}
-use Rattle.hub_work.specs.Turns.{TurnTells, GroupTells}
+use Rattle.hub_work.specs.Turns.{TurnTells}
+use Rattle.hub_core.specs.Telegrams.{GroupTells}
 use Rattle.hub_work.proofs.Growing.{AreUpto}
 use Rattle.hub_core.specs.Closes as hub
 use Rattle.hub_core.specs.Closes.{HasCome, resumed}
@@ -36,10 +39,10 @@ use Rattle.hub_core.proofs.Closes.{resumed_both, closing_is}
 use Rattle.hub_core.proofs.Counting.{some_is, told_before, place_counts, place_grows, places_upto}
 use Rattle.hub_core.proofs.Leaving.{ends_none_of, since_from, from_since, from_then}
 use Rattle.hub_core.proofs.Written.{Writes, Same, More, turn_writes, told_writes}
-use Rattle.hub_driver.specs.Closed.{WaitsSince}
-use Rattle.hub_driver.specs.Drives.{AllDone}
-use Rattle.hub_driver.specs.Leaving.{LeavesOver, GoesThrough, IsLeft, ClosesSo, IsAt, KnowsHowFar}
-use Rattle.hub_driver.proofs.Ends.{some_job, some_jobs}
+use Rattle.hub_core.specs.Closed.{WaitsSince}
+use Rattle.hub_core.specs.Left.{AllDone, IsLeft}
+use Rattle.hub_core.specs.Promises.{LeavesOver}
+use Rattle.hub_driver.specs.Leaving.{GoesThrough, ClosesSo, IsAt, KnowsHowFar}
 
 -- ---- the record up to the last entry of the log, and since then
 
@@ -165,15 +168,16 @@ waits_same at worker x old new (inr e) h = subst (λ (y : Turned). TurnTells at 
 pub waits_told : (at k : ℕ) (x : GroupDid) (old new : List LogEntry) → x ≡ did.Wait → GroupTells at k x old new → new ≡ old
 waits_told at k x old new e h = subst (λ (y : GroupDid). GroupTells at k y old new) e h
 
--- a group telegram is left
-pub next_left : {L : Type 0} (hub : Seen L) (k : ℕ) → IsNextTurn hub.turns hub.log k → IsLeft hub
-next_left hub k next all are f = f.turns_told (k, next.there, next.untold)
-
-pub left_by_next : {L : Type 0} (hub : Seen L) (k : Option ℕ) → IfSome k (λ (n : ℕ). IsNextTurn hub.turns hub.log n) → is_some k ≡ true → IsLeft hub
-left_by_next hub None next some = absurd (cc)
-left_by_next hub (Some k) next some = next_left hub k next
-
 -- ---- the closing begins
+
+-- some jobs of these devices
+some_job : IndAddr → Job
+some_job device = record { device = device; image = record { addr = []; assoc = []; objs = []; params = [] }; plan = plans.Over; kind = Check }
+
+some_jobs : (devices : List IndAddr) → AreJobsOf devices (map some_job devices)
+unfolding some_job
+some_jobs [] = refl
+some_jobs (d ∷ devices) = ap (λ (ds : List IndAddr). d ∷ ds) (some_jobs devices)
 
 closes_at : (log : List LogEntry) (places : List Placed) → since_last log places ≡ [] → StaysOpen (entries places) → Closes log places
 closes_at log places none stays = record {

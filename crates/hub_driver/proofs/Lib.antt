@@ -1,6 +1,5 @@
 pub mod Causes
 pub mod Closed
-pub mod Ends
 pub mod Hearing
 pub mod Leaving
 pub mod New

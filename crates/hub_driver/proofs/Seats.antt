@@ -3,12 +3,13 @@ use Rattle.std.proofs.Common.{◌≡◌, ℕ, ◌≤◌, List, Result, Ok, Err, 
 use Rattle.line_model.specs.declared.fault.HubFault.{HubFault}
 use Rattle.line_model.specs.declared.log.LogEntry.{LogEntry}
 use Rattle.line_model.specs.declared.log.LogWhat.{LogWhat}
-use Rattle.hub_work.specs.declared.answers.GroupDid.{GroupDid}
-use Rattle.hub_work.specs.declared.answers.GroupDid.TheVariants as did
+use Rattle.hub_core.specs.declared.answers.GroupDid.{GroupDid}
+use Rattle.hub_core.specs.declared.answers.GroupDid.TheVariants as did
 use Rattle.hub_work.specs.declared.answers.Turned.{Turned}
 use Rattle.hub_work.specs.declared.answers.Turned.TheVariants as turned
-use Rattle.hub_work.specs.Turns.{Adds, TurnTells, GroupTells}
-use Rattle.hub_driver.specs.Seats.{IsOfWorkers}
+use Rattle.hub_work.specs.Turns.{Adds, TurnTells}
+use Rattle.hub_core.specs.Telegrams.{GroupTells}
+use Rattle.hub_core.specs.Seats.{IsOfWorkers}
 
 module _ (n : ℕ) (old new : List LogEntry) (was : IsOfWorkers n old) where
   same : new ≡ old → IsOfWorkers n new

@@ -1,26 +1,19 @@
 -- How a hub with one caller leaves its channel: until all jobs are over and all group telegrams told the open one isn't asked to end, and then it
 -- closes rightly, from the last entry of the log on.
 use Rattle.std.specs.Prelude.{◌≡◌, ◌≤◌, List, [], ◌++◌, Option, Some, None}
-use Rattle.line_model.specs.declared.group.GroupTurn.{GroupTurn}
 use Rattle.line_model.specs.declared.log.LogEntry.{LogEntry}
-use Rattle.line_model.specs.Record.{Placed, entries, placed, counted}
-use Rattle.line_model.specs.LinkStory.{Story, Untold, Recorded, Full, newest_time}
+use Rattle.line_model.specs.Record.{Placed, entries}
+use Rattle.line_model.specs.LinkStory.{Story, newest_time}
 use Rattle.line_model.specs.Log.{Job, latest}
 use Rattle.line_model.specs.Closing as line
-use Rattle.line_model.specs.Leaves.{StaysOpen, IsFinished, up_to_last, since_last, Closes, LeavesRightly}
+use Rattle.line_model.specs.Leaves.{StaysOpen, IsFinished, up_to_last, since_last, Closes}
 use Rattle.tunnel_link.specs.Adds.{place_of}
 use Rattle.tunnel_link.specs.Rights.{WhereTold}
 use Rattle.hub_work.specs.declared.closing.Closing.{Closing}
 use Rattle.hub_work.specs.Books.{AreJobsOf}
 use Rattle.hub_core.specs.Closes.{HasCome}
 use Rattle.hub_core.specs.Seen.{Seen}
-use Rattle.hub_driver.specs.Closed.{WaitsSince}
-
--- where the link tells something
-abbrev pub LeavesOver : List Job → List GroupTurn → Story → List LogEntry → Type 0
-LeavesOver jobs turns Untold log = Unit {0}
-LeavesOver jobs turns (Recorded r) log = LeavesRightly jobs turns log (counted r)
-LeavesOver jobs turns (Full start events) log = LeavesRightly jobs turns log (placed start events)
+use Rattle.hub_core.specs.Closed.{WaitsSince}
 
 -- ---- while jobs and group telegrams are gone through
 
@@ -30,10 +23,6 @@ pub record GoesThrough {L : Type 0} (hub : Seen L) (story : Story) : Type 0 wher
   pub stays : WhereTold (λ places. StaysOpen (entries places)) story
   pub placed : WhereTold (λ places. latest hub.log ≤ place_of story) story
   pub punctual : (all : List Job) → AreJobsOf hub.devices all → IsFinished all hub.turns hub.log → WhereTold (λ places. since_last hub.log places ≡ []) story
-
--- something is left
-abbrev pub IsLeft : {L : Type 0} → Seen L → Type 0
-IsLeft hub = (all : List Job) → AreJobsOf hub.devices all → ¬ IsFinished all hub.turns hub.log
 
 -- ---- while it closes
 

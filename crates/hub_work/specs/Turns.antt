@@ -10,8 +10,6 @@ use Rattle.line_model.specs.Log.{Job}
 use Rattle.device_reservation.specs.Reservation.{Reservation, AllWait, AllTaken}
 use Rattle.device_reservation.specs.Reserved.{reservation_after}
 use Rattle.hub_work.specs.Books.{AreJobsOf}
-use Rattle.hub_work.specs.declared.answers.GroupDid.{GroupDid}
-use Rattle.hub_work.specs.declared.answers.GroupDid.TheVariants as did
 use Rattle.hub_work.specs.declared.answers.Turned.{Turned}
 use Rattle.hub_work.specs.declared.answers.Turned.TheVariants as answer
 use Rattle.hub_work.specs.declared.crew.Held.{Held}
@@ -65,13 +63,6 @@ TurnTells at worker answer.NoMore old new = new ≡ old
 abbrev pub TurnTold : ℕ → ℕ → Turn → List LogEntry → List LogEntry → Type 0
 TurnTold at worker (Did turned) old new = TurnTells at worker turned old new
 TurnTold at worker (Puts cemi) old new = new ≡ old
-
--- the same of the group telegram k, by the group thread
-abbrev pub GroupTells : ℕ → ℕ → GroupDid → List LogEntry → List LogEntry → Type 0
-GroupTells at k did.Put old new = new ≡ old
-GroupTells at k did.Wait old new = new ≡ old
-GroupTells at k did.Sent old new = Adds at 0 (Sent k) old new
-GroupTells at k did.Lost old new = Adds at 0 (Lost k) old new
 
 -- ---- which answers go with what a worker holds
 

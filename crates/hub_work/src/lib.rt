@@ -15,7 +15,7 @@ mod requests;
 mod telegrams;
 mod work;
 
-pub use answers::{Finished, GroupDid, Pumped, Turned};
+pub use answers::Turned;
 pub use closing::Closing;
 pub use download_core::{CheckPlan, JobPlan, LoadPlan};
 pub use job::HubJob;

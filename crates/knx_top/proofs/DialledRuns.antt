@@ -1,12 +1,12 @@
 -- A run over a dialled link, once it was handed back; and what is written of a download.
 use Rattle.std.proofs.Common.{◌≡◌, ℕ, ◌≤◌, Bool, List, [], map, Option, Some, None, Result, Ok, Err, refl, sym, ◌∙◌, subst, inl, inr, ◌⊎◌}
 use Rattle.std.specs.Prelude.{IfSome}
-use Rattle.hub_core.specs.Promises.{IsRightOver, FaultRightIn, DropsIn}
-use Rattle.hub_core.specs.Thorough.{IsThoroughOver}
-use Rattle.hub_driver.specs.Closed.{HasClosed}
-use Rattle.hub_driver.specs.Seats.{IsOfWorkers}
-use Rattle.hub_driver.specs.Heard.{HeardAll}
-use Rattle.hub_driver.specs.Leaving.{LeavesOver}
+use Rattle.std.specs.List.{AllByRecursion}
+use Rattle.hub_work.specs.declared.job.HubJob.{HubJob}
+use Rattle.hub_work.specs.Books.{AreJobsOf}
+use Rattle.hub_core.specs.Commissioned.{TellsRun}
+use Rattle.hub_core.specs.Promises.{IsRightOver, LeavesOver}
+use Rattle.hub_core.specs.Seen.{AreJobs, tasks_seen}
 use Rattle.call_words.specs.declared.stop.Stop.{Stop}
 use Rattle.call_words.specs.declared.job_word.JobWord.{JobWord}
 use Rattle.knx_model.specs.Outside.{FilesNow, one_more}
@@ -15,11 +15,11 @@ use Rattle.line_model.specs.declared.log.LogEntry.{LogEntry}
 use Rattle.line_model.specs.declared.log.Report.{Report}
 use Rattle.line_model.specs.declared.group.GroupTurn.{GroupTurn}
 use Rattle.line_model.specs.Dialled.{Address, DialerNow, TakesBack, Tells}
-use Rattle.line_model.specs.Headline.{Keeps}
-use Rattle.line_model.specs.LinkStory.{Story, Untold, Recorded, Full, IsNewLink, record_in}
-use Rattle.line_model.specs.Log.{Job, IsLog, OneDownloaderPerDevice, AllOver}
+use Rattle.line_model.specs.Headline.{IsGoodJob, Keeps}
+use Rattle.line_model.specs.LinkStory.{Story, Untold, Recorded, Full, IsNewLink}
+use Rattle.line_model.specs.Log.{Job, IsLog}
 use Rattle.tunnel_link.specs.Goes.{GoesOn}
-use Rattle.tunnel_link.specs.Rights.{FailsWhere, WhereTold}
+use Rattle.tunnel_link.specs.Rights.{FailsWhere}
 use Rattle.knx_top.specs.Call.{AtMostOneRose}
 use Rattle.knx_top.specs.Command.{Command, Download as AskedDownload, DownloadWords, ProjectWords}
 use Rattle.knx_top.specs.Dialled.{DialEnd, DialledRun, Dials, DialsOr, Download, HasItsCause, IsToldOver, MeansOver, NotReached, RunsDialled, Shown, Stopped, StopsFor, Unshown, download_tests, download_told, judged_download, project_named, report_of}
@@ -30,6 +30,7 @@ use Rattle.knx_top.specs.Ready.{IsReadyFor, wanting_end}
 use Rattle.knx_top.specs.declared.dialled.Ready.{Ready}
 use Rattle.knx_top.specs.declared.input.ProjectTexts.{ProjectTexts}
 use Rattle.knx_top.proofs.Dialling.{judged_download_is}
+use Rattle.knx_top.proofs.Driven.{devices_seen, jobs_seen}
 use Rattle.knx_top.proofs.Meanings.{devices_mean, done_means}
 use Rattle.knx_top.proofs.Stops.{stopped_by, stopped_by_none, unless_stopped}
 
@@ -51,29 +52,31 @@ means_over project jobs words (Full start events) log planned right = (devices_m
 
 -- ---- the run
 
-pub told_over : (jobs : List Job) (groups : List GroupTurn) (began after : Story) (place : ℕ) (report : Report) → groups ≡ [] → IsNewLink began → GoesOn began after → Keeps jobs groups after (log_in report) → IsRightOver jobs after (log_in report)
-    → IsThoroughOver jobs after (log_in report) → LeavesOver jobs groups after (log_in report)
-    → FaultRightIn jobs (log_in report) report.fault (record_in after) → (report.fault ≡ None → AllOver jobs (log_in report)) → (report.fault ≡ None → WhereTold (HasClosed (log_in report)) after) → IsLog jobs groups place (log_in report) → OneDownloaderPerDevice jobs (log_in report) → IsOfWorkers 1 (log_in report)
-    → (report.fault ≡ None → HeardAll report.heard (record_in after)) → report.missed ≡ 0 → DropsIn report.dropped (record_in after) → IsToldOver 1 [] jobs after report
-told_over jobs groups began after place report none new goes keeps right thorough leaves fault ended closed form alone seats heard missed dropped = record {
-  began = began;
-  new = new;
-  goes = goes;
-  keeps = subst (λ (turns : List GroupTurn). Keeps jobs turns after (log_in report)) none keeps;
-  right = right;
-  thorough = thorough;
-  leaves = subst (λ (turns : List GroupTurn). LeavesOver jobs turns after (log_in report)) none leaves;
-  fault = fault;
-  ended = ended;
-  closed = closed;
-  place = place;
-  form = subst (λ (turns : List GroupTurn). IsLog jobs turns place (log_in report)) none form;
-  alone = alone;
-  seats = seats;
-  heard = heard;
-  missed = missed;
-  dropped = dropped;
-}
+pub told_over : (plans : List HubJob) (groups : List GroupTurn) (began after : Story) (place : ℕ) (report : Report) → groups ≡ [] → IsNewLink began → GoesOn began after → AllByRecursion IsGoodJob (map seen_job plans)
+    → TellsRun 1 (tasks_seen plans) (map (λ (job : HubJob). job.device) plans) groups after place report → report.missed ≡ 0 → IsToldOver 1 [] (map seen_job plans) after report
+told_over plans groups began after place report none new goes good tells missed =
+    let jobs : List Job = map seen_job plans in
+    let are : AreJobs plans jobs = jobs_seen plans in
+    let of : AreJobsOf (map (λ (job : HubJob). job.device) plans) jobs = devices_seen plans in
+    record {
+      began = began;
+      new = new;
+      goes = goes;
+      keeps = subst (λ (turns : List GroupTurn). Keeps jobs turns after (log_in report)) none (tells.headline jobs are);
+      right = tells.right jobs are good;
+      thorough = tells.thorough jobs are;
+      leaves = subst (λ (turns : List GroupTurn). LeavesOver jobs turns after (log_in report)) none (tells.leaves jobs of);
+      fault = tells.fault jobs are;
+      ended = λ fine. tells.over fine jobs of;
+      closed = tells.closed;
+      place = place;
+      form = subst (λ (turns : List GroupTurn). IsLog jobs turns place (log_in report)) none (tells.form jobs of);
+      alone = tells.alone jobs of;
+      seats = tells.seats;
+      heard = tells.heard;
+      missed = missed;
+      dropped = tells.dropped;
+    }
 
 pub to_address : (one other : Address) (given : Option Address) → one ≡ other → Tells other.host other.port given → Tells one.host one.port given
 to_address one other given same tells = subst (λ (at : Address). Tells at.host at.port given) (sym same) tells

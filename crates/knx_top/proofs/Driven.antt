@@ -1,19 +1,19 @@
 -- A run that one caller of the hub drives over the simulated line: what is promised of it, in the words of its commission.
 use Rattle.std.proofs.Common.{◌≡◌, ℕ, inl, inr, List, [], ◌∷◌, ◌++◌, map, Option, Some, None, refl, sym, ap, ◌∙◌, subst, arith}
 use Rattle.std.specs.Prelude.{IfSome}
+use Rattle.std.specs.List.{AllByRecursion}
 use Rattle.bus_sim.specs.Loaded.{BusNow}
 use Rattle.bus_sim.specs.declared.clients.Clients.{Clients}
 use Rattle.bus_sim.specs.declared.clients.Clients.TheVariants.{One, Any}
 use Rattle.bus_sim.specs.Begun.{mode_of}
 use Rattle.bus_sim.specs.Ended.{FailsAtEnd}
 use Rattle.bus_sim.specs.RunNow.{RunNow, mode, script, start, story, story_of}
-use Rattle.hub_core.specs.Promises.{IsRightOver, FaultRightIn, DropsIn}
-use Rattle.hub_core.specs.Seen.{AreJobs}
+use Rattle.hub_core.specs.Commissioned.{TellsRun}
+use Rattle.hub_core.specs.Promises.{IsRightOver, FaultRightIn, DropsIn, LeavesOver}
+use Rattle.hub_core.specs.Seen.{AreJobs, tasks_seen}
 use Rattle.hub_core.specs.Thorough.{IsThoroughOver}
-use Rattle.hub_driver.specs.Closed.{HasClosed}
-use Rattle.hub_driver.specs.Seats.{IsOfWorkers}
-use Rattle.hub_driver.specs.Heard.{HeardAll}
-use Rattle.hub_driver.specs.Leaving.{LeavesOver}
+use Rattle.hub_core.specs.Closed.{HasClosed}
+use Rattle.hub_core.specs.Heard.{HeardAll}
 use Rattle.hub_work.specs.declared.job.HubJob.{HubJob}
 use Rattle.hub_work.specs.Books.{AreJobsOf}
 use Rattle.hub_work.specs.Downloaders.{Task, task_of_hub_job}
@@ -25,11 +25,11 @@ use Rattle.line_model.specs.declared.log.LogEntry.{LogEntry}
 use Rattle.line_model.specs.declared.log.Report.{Report}
 use Rattle.line_model.specs.Follows.{Follows}
 use Rattle.line_model.specs.Fresh.{IsFresh}
-use Rattle.line_model.specs.Headline.{IsRight, Keeps}
+use Rattle.line_model.specs.Headline.{IsGoodJob, IsRight, Keeps}
 use Rattle.line_model.specs.Legal.{IsLegal}
 use Rattle.line_model.specs.Lines.{Script, script_of}
 use Rattle.line_model.specs.LinkStory.{Full, record_in}
-use Rattle.line_model.specs.Log.{Job, AllOver}
+use Rattle.line_model.specs.Log.{Job}
 use Rattle.line_model.specs.Record.{placed}
 use Rattle.line_model.specs.StartOf.{BusOf}
 use Rattle.line_model.specs.Tunnel.{Commissions}
@@ -125,27 +125,19 @@ keeps_promises c order r log is run right =
 
 -- ---- all of it
 
-pub driven : (c : Commission) (order : Order) (line : BusNow) (report : Report) → IsOrder c order → order.line.run.begun.clients ≡ One → GoesOn (story order.line.run) (story line.run) → script line.run ≡ script order.line.run
+pub driven : (c : Commission) (order : Order) (line : BusNow) (place : ℕ) (report : Report) → IsOrder c order → order.line.run.begun.clients ≡ One → GoesOn (story order.line.run) (story line.run) → script line.run ≡ script order.line.run
     → IsFresh (start line.run) → IsLegal (mode line.run) (start line.run) line.run.events → Follows (script line.run) (mode line.run) (start line.run) line.run.events
-    → Keeps (map seen_job order.plans) [] (story line.run) (log_in report)
-    → IsThoroughOver (map seen_job order.plans) (story line.run) (log_in report)
-    → LeavesOver (map seen_job order.plans) [] (story line.run) (log_in report)
-    → IsRightOver (map seen_job order.plans) (story line.run) (log_in report)
-    → FaultRightIn (map seen_job order.plans) (log_in report) report.fault (record_in (story line.run))
-    → (report.fault ≡ None → AllOver (map seen_job order.plans) (log_in report))
-    → (report.fault ≡ None → WhereTold (HasClosed (log_in report)) (story line.run))
-    → IsOfWorkers 1 (log_in report)
-    → (report.fault ≡ None → HeardAll report.heard (record_in (story line.run)))
-    → report.missed ≡ 0
-    → DropsIn report.dropped (record_in (story line.run))
+    → AllByRecursion IsGoodJob (map seen_job order.plans) → TellsRun 1 (tasks_seen order.plans) (map (λ (job : HubJob). job.device) order.plans) [] (story line.run) place report → report.missed ≡ 0
     → Ran c line.run report order.jobs
-driven c order line report is one goes says fresh legal follows keeps thorough leaves right fault over closed seats heard missed dropped =
+driven c order line place report is one goes says fresh legal follows good tells missed =
     let jobs : List Job = map seen_job order.plans in
+    let are : AreJobs order.plans jobs = jobs_seen order.plans in
+    let of : AreJobsOf (map (λ (job : HubJob). job.device) order.plans) jobs = devices_seen order.plans in
     let whole : story line.run ≡ Full (start line.run) line.run.events = told_whole order.line.run line.run one goes in
     let in_run : mode line.run ≡ Commissions = ap mode_of (still_one order.line.run line.run one goes) in
-    let now_right : IsRight jobs (start line.run) line.run.events (log_in report) = subst (λ s. IsRightOver jobs s (log_in report)) whole right in
-    let kept : Keeps jobs [] (Full (start line.run) line.run.events) (log_in report) = subst (λ s. Keeps jobs [] s (log_in report)) whole keeps in
-    let left : LeavesOver jobs [] (Full (start line.run) line.run.events) (log_in report) = subst (λ s. LeavesOver jobs [] s (log_in report)) whole leaves in
+    let now_right : IsRight jobs (start line.run) line.run.events (log_in report) = subst (λ s. IsRightOver jobs s (log_in report)) whole (tells.right jobs are good) in
+    let kept : Keeps jobs [] (Full (start line.run) line.run.events) (log_in report) = subst (λ s. Keeps jobs [] s (log_in report)) whole (tells.headline jobs are) in
+    let left : LeavesOver jobs [] (Full (start line.run) line.run.events) (log_in report) = subst (λ s. LeavesOver jobs [] s (log_in report)) whole (tells.leaves jobs of) in
     let run : IsRunOf c line.run = is_run c order line.run is (same_start order.line.run line.run one goes) says fresh
     (subst (λ m. IsLegal m (start line.run) line.run.events) in_run legal) (subst (λ m. Follows (script line.run) m (start line.run) line.run.events) in_run follows) in
     record {
@@ -156,14 +148,14 @@ driven c order line report is one goes says fresh legal follows keeps thorough l
       promises = keeps_promises c order line.run (log_in report) is run now_right;
       told = record {
         disciplined = rw is.turns kept.disciplined;
-        thorough = subst (λ s. IsThoroughOver jobs s (log_in report)) whole thorough;
+        thorough = subst (λ s. IsThoroughOver jobs s (log_in report)) whole (tells.thorough jobs are);
         leaves = rw is.turns left;
-        fault = subst (λ s. FaultRightIn jobs (log_in report) report.fault (record_in s)) whole fault;
-        ended = over;
-        closed = λ none. subst (λ s. WhereTold (HasClosed (log_in report)) s) whole (closed none) (placed (start line.run) line.run.events) refl;
-        heard = λ none. subst (λ s. HeardAll report.heard (record_in s)) whole (heard none);
-        seats = rw is.workers seats;
+        fault = subst (λ s. FaultRightIn jobs (log_in report) report.fault (record_in s)) whole (tells.fault jobs are);
+        ended = λ none. tells.over none jobs of;
+        closed = λ none. subst (λ s. WhereTold (HasClosed (log_in report)) s) whole (tells.closed none) (placed (start line.run) line.run.events) refl;
+        heard = λ none. subst (λ s. HeardAll report.heard (record_in s)) whole (tells.heard none);
+        seats = rw is.workers tells.seats;
         missed = missed;
-        dropped = subst (λ s. DropsIn report.dropped (record_in s)) whole dropped;
+        dropped = subst (λ s. DropsIn report.dropped (record_in s)) whole tells.dropped;
       };
     }

@@ -3,12 +3,11 @@
 -- that is told is told of what that link told last. The dialer's count of faults takes in those of the link.
 use Rattle.std.specs.Prelude.{ℕ, ◌≡◌, ◌≤◌, ◌⊎◌, Bool, List, [], ◌∷◌, ◌++◌, length, IfSome, Option, Some, None, Result, Ok, Err}
 use Rattle.std.specs.List.{list_all}
-use Rattle.hub_core.specs.Promises.{IsRightOver, FaultRightIn, DropsIn}
+use Rattle.hub_core.specs.Promises.{IsRightOver, FaultRightIn, DropsIn, LeavesOver}
 use Rattle.hub_core.specs.Thorough.{IsThoroughOver}
-use Rattle.hub_driver.specs.Closed.{HasClosed}
-use Rattle.hub_driver.specs.Seats.{IsOfWorkers}
-use Rattle.hub_driver.specs.Heard.{HeardAll}
-use Rattle.hub_driver.specs.Leaving.{LeavesOver}
+use Rattle.hub_core.specs.Closed.{HasClosed}
+use Rattle.hub_core.specs.Seats.{IsOfWorkers}
+use Rattle.hub_core.specs.Heard.{HeardAll}
 use Rattle.call_words.specs.declared.stop.Stop.{Stop}
 use Rattle.call_words.specs.declared.stop.Stop.TheVariants as stop
 use Rattle.call_words.specs.declared.job_word.JobWord.{JobWord}

@@ -12,8 +12,8 @@ use Rattle.line_model.specs.OldStoppedOrNew.{OldStoppedOrNew, RunsMeaning, Means
 use Rattle.line_model.specs.Record.{placed, record_of}
 use Rattle.line_model.specs.Telegrams.{TelegramsActRight, ActsByProject}
 use Rattle.hub_core.specs.Thorough.{IsThorough}
-use Rattle.hub_driver.specs.Closed.{HasClosed}
-use Rattle.hub_driver.specs.Seats.{IsOfWorkers}
+use Rattle.hub_core.specs.Closed.{HasClosed}
+use Rattle.hub_core.specs.Seats.{IsOfWorkers}
 use Rattle.knx_top.specs.Jobs.{AreJobs, ArePlanned}
 use Rattle.knx_top.specs.Ran.{IsRunOf, log_in}
 use Rattle.knx_top.specs.Stops.{Commission}

@@ -32,8 +32,8 @@ use Rattle.line_model.specs.StartOf.{BusOf}
 use Rattle.line_model.specs.Telegrams.{TelegramsActRight, ActsByProject}
 use Rattle.line_model.specs.Tunnel.{Commissions}
 use Rattle.hub_core.specs.Thorough.{IsThorough}
-use Rattle.hub_driver.specs.Closed.{HasClosed}
-use Rattle.hub_driver.specs.Seats.{IsOfWorkers}
+use Rattle.hub_core.specs.Closed.{HasClosed}
+use Rattle.hub_core.specs.Seats.{IsOfWorkers}
 use Rattle.knx_top.specs.Jobs.{AreJobs, ArePlanned}
 use Rattle.knx_top.specs.OnLine.{on_bus}
 use Rattle.knx_top.specs.Shown.{AreShown}

@@ -18,7 +18,8 @@ ghost use Rattle.hub_core.specs.Pumps.{AddsSo};
 ghost use Rattle.hub_core.specs.Seen.{SameRun, StaysEnded};
 
 use super::Hub;
-use hub_work::{Closing, Finished, moments_go_on};
+use crate::answers::Finished;
+use hub_work::{Closing, moments_go_on};
 use line_model::{HubFault, Indication, Link};
 
 impl<L: Link> Hub<L> {

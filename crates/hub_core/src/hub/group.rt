@@ -1,20 +1,22 @@
 //! The group telegrams.
 
-ghost use Rattle.std.specs.Prelude.{◌≡◌, ◌≢◌, ◌≤◌, IfErr, IfOk, IfSome, OnErr, OnOk, Some, None};
+ghost use Rattle.std.specs.Prelude.{◌≡◌, ◌≢◌, ◌≤◌, IfErr, IfOk, IfSome, OnErr, OnOk, Some, None, true, false};
 ghost use Rattle.tunnel_link.specs.Adds.{Growing};
 ghost use Rattle.tunnel_link.specs.Alone.{Each, LeavesAlone};
 ghost use Rattle.tunnel_link.specs.Goes.{GoesOn};
 ghost use Rattle.tunnel_link.specs.Rights.{FailsWhere};
 ghost use Rattle.line_model.specs.Log.{IsNextTurn, TurnUnfinished};
-ghost use Rattle.hub_work.specs.Turns.{GroupTells};
-ghost use Rattle.hub_work.specs.declared.answers.GroupDid.TheVariants as step;
+ghost use Rattle.hub_core.specs.Telegrams.{GroupTells};
+ghost use Rattle.hub_core.specs.declared.answers.GroupDid.TheVariants as step;
 ghost use Rattle.hub_core.specs.Hears.{HearsSo};
+ghost use Rattle.hub_core.specs.Left.{AllDone, IsLeft};
 ghost use Rattle.hub_core.specs.Puts.{PutsRequest};
 ghost use Rattle.hub_core.specs.Waits.{WaitsExactly};
 ghost use Rattle.hub_core.specs.Seen.{SameRun, StaysEnded};
 
 use super::Hub;
-use hub_work::{GroupDid, Stage, places_are_free};
+use crate::answers::GroupDid;
+use hub_work::{Stage, places_are_free};
 use line_model::{HubFault, Link, LogWhat};
 
 impl<L: Link> Hub<L> {
@@ -24,6 +26,14 @@ impl<L: Link> Hub<L> {
         ensures all { result ≡ None → ¬ TurnUnfinished self.now.turns self.now.log }
     {
         self.work.next_group()
+    }
+
+    /// Whether something is left to do: a job that has no end yet, or a group telegram that isn't told.
+    pub fn has_work_left(&self) -> bool
+        ensures left { result ≡ true → IsLeft self.now }
+        ensures done { result ≡ false → AllDone self.now }
+    {
+        self.work.is_unfinished() || self.next_group().is_some()
     }
 
     /// One step of the group telegram `k`, from 1, which is the least that isn't told: its request is put, or it is told sent or lost.

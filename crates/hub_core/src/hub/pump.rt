@@ -15,7 +15,8 @@ ghost use Rattle.hub_core.specs.Seen.{SameRun, StaysEnded};
 
 use super::Hub;
 use super::taking::{Polled, ending, lose, take_in};
-use hub_work::{Pumped, moments_go_on};
+use crate::answers::Pumped;
+use hub_work::moments_go_on;
 use line_model::{HubFault, Link};
 
 impl<L: Link> Hub<L> {

@@ -1,17 +1,18 @@
 //! The closing.
 
-ghost use Rattle.std.specs.Prelude.{◌≡◌, ℕ, false, true, List, IfErr, IfOk, OnOk};
+ghost use Rattle.std.specs.Prelude.{◌≡◌, false, true, List, IfErr, IfOk, OnOk};
 ghost use Rattle.hub_core.specs.Closes.{IsOver};
-ghost use Rattle.hub_core.specs.Seen.{SameRun};
-ghost use Rattle.hub_driver.specs.Closed.{HasClosed};
-ghost use Rattle.hub_driver.specs.Drives.{AllDone, CausedSince, HasEndedSo};
-ghost use Rattle.hub_driver.specs.Heard.{HeardAll};
-ghost use Rattle.hub_driver.specs.Leaving.{ClosesSo, GoesThrough, KnowsHowFar, LeavesOver};
+ghost use Rattle.hub_core.specs.Left.{AllDone};
+ghost use Rattle.hub_core.specs.Promises.{LeavesOver};
+ghost use Rattle.hub_core.specs.Closed.{HasClosed};
+ghost use Rattle.hub_core.specs.Since.{Since};
+ghost use Rattle.hub_driver.specs.Drives.{HasEndedSo};
+ghost use Rattle.hub_core.specs.Heard.{HeardAll};
+ghost use Rattle.hub_driver.specs.Leaving.{ClosesSo, GoesThrough, KnowsHowFar};
 ghost use Rattle.hub_work.specs.Books.{AreJobsOf};
 ghost use Rattle.line_model.specs.LinkStory.{record_in};
 ghost use Rattle.line_model.specs.Log.{Job};
 ghost use Rattle.line_model.specs.Record.{entries};
-ghost use Rattle.tunnel_link.specs.Goes.{GoesOn};
 ghost use Rattle.tunnel_link.specs.Rights.{WhereTold};
 
 use super::Driver;
@@ -25,11 +26,8 @@ impl<L: Link> Driver<L> {
         requires done { AllDone self.old.hub }
         requires through { GoesThrough self.old.hub (L.story self.old.hub.link) }
         requires heard { HeardAll self.old.heard (record_in (L.story self.old.hub.link)) }
-        ensures grows { GoesOn (L.story self.old.hub.link) (L.story self.new.hub.link) }
-        ensures script { L.script self.new.hub.link ≡ L.script self.old.hub.link }
-        ensures caused { (before : ℕ) → CausedSince before self.old.hub.fault (L.faults self.old.hub.link) → CausedSince before self.new.hub.fault (L.faults self.new.hub.link) }
+        ensures since { Since L.story L.script L.faults self.old.hub self.new.hub }
         ensures leaves { (all : List Job) → AreJobsOf self.new.hub.devices all → LeavesOver all self.new.hub.turns (L.story self.new.hub.link) self.new.hub.log }
-        ensures run { SameRun self.old.hub self.new.hub }
         ensures log { self.new.hub.log ≡ self.old.hub.log }
         ensures done { OnOk result (AllDone self.new.hub) }
         ensures closed { OnOk result (WhereTold (HasClosed self.new.hub.log) (L.story self.new.hub.link)) }
@@ -50,12 +48,9 @@ impl<L: Link> Driver<L> {
         requires closes { ClosesSo self.old.hub (L.story self.old.hub.link) }
         requires far { KnowsHowFar self.old.hub (L.story self.old.hub.link) }
         requires heard { HeardAll self.old.heard (record_in (L.story self.old.hub.link)) }
-        ensures grows { GoesOn (L.story self.old.hub.link) (L.story self.new.hub.link) }
-        ensures script { L.script self.new.hub.link ≡ L.script self.old.hub.link }
-        ensures caused { (before : ℕ) → CausedSince before self.old.hub.fault (L.faults self.old.hub.link) → CausedSince before self.new.hub.fault (L.faults self.new.hub.link) }
+        ensures since { Since L.story L.script L.faults self.old.hub self.new.hub }
         ensures closes { ClosesSo self.new.hub (L.story self.new.hub.link) }
         ensures far { OnOk result (KnowsHowFar self.new.hub (L.story self.new.hub.link)) }
-        ensures run { SameRun self.old.hub self.new.hub }
         ensures log { self.new.hub.log ≡ self.old.hub.log }
         ensures done { OnOk result (AllDone self.new.hub) }
         ensures closed { IfOk result (λ over. over ≡ true → WhereTold (HasClosed self.new.hub.log) (L.story self.new.hub.link)) }

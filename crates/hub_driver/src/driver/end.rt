@@ -1,19 +1,18 @@
 //! What is told of a run.
 
-ghost use Rattle.std.specs.Prelude.{◌≡◌, ℕ, None, IfSome, List, reverse};
-ghost use Rattle.std.specs.List.{AllByRecursion};
-ghost use Rattle.hub_core.specs.Promises.{IsRightOver, IsSafeOver, FaultRightIn, DropsIn};
-ghost use Rattle.hub_core.specs.Seen.{AreJobs};
-ghost use Rattle.hub_core.specs.Thorough.{IsThoroughOver};
-ghost use Rattle.hub_driver.specs.Closed.{HasClosed};
-ghost use Rattle.hub_driver.specs.Drives.{AllDone, CausedSince, HasEndedSo, TellsFault};
-ghost use Rattle.hub_driver.specs.Heard.{HeardAll};
-ghost use Rattle.hub_driver.specs.Leaving.{LeavesOver};
-ghost use Rattle.hub_driver.specs.Seats.{IsOfWorkers};
+ghost use Rattle.std.specs.Prelude.{◌≡◌, ℕ, None, IfSome, List};
+ghost use Rattle.hub_core.specs.Commissioned.{TellsRun};
+ghost use Rattle.hub_core.specs.Left.{AllDone};
+ghost use Rattle.hub_core.specs.Promises.{LeavesOver};
+ghost use Rattle.hub_core.specs.Seen.{tasks_seen};
+ghost use Rattle.hub_core.specs.Closed.{HasClosed};
+ghost use Rattle.hub_core.specs.Since.{CausedSince};
+ghost use Rattle.hub_driver.specs.Drives.{HasEndedSo, TellsFault};
+ghost use Rattle.hub_core.specs.Heard.{HeardAll};
+ghost use Rattle.hub_core.specs.Seats.{IsOfWorkers};
 ghost use Rattle.hub_work.specs.Books.{AreJobsOf};
-ghost use Rattle.line_model.specs.Headline.{Keeps, IsGoodJob};
 ghost use Rattle.line_model.specs.LinkStory.{record_in};
-ghost use Rattle.line_model.specs.Log.{Job, IsLog, OneDownloaderPerDevice, AllOver, TurnUnfinished};
+ghost use Rattle.line_model.specs.Log.{Job};
 ghost use Rattle.tunnel_link.specs.Rights.{WhereTold};
 
 use super::Driver;
@@ -42,30 +41,13 @@ impl<L: Link> Driver<L> {
         requires cause { IfSome broken_off (HasEndedSo self.hub.fault) }
         requires leaves { (all : List Job) → AreJobsOf self.hub.devices all → LeavesOver all self.hub.turns (L.story self.hub.link) self.hub.log }
         ensures link { result.0 ≡ self.hub.link }
-        ensures headline { (all : List Job) → AreJobs self.hub.jobs all → Keeps all self.hub.turns (L.story result.0) (reverse result.1.log) }
-        ensures safe { (all : List Job) → AreJobs self.hub.jobs all → IsSafeOver all self.hub.turns (L.story result.0) (reverse result.1.log) }
-        ensures thorough { (all : List Job) → AreJobs self.hub.jobs all → IsThoroughOver all (L.story result.0) (reverse result.1.log) }
-        ensures right { (all : List Job) → AreJobs self.hub.jobs all → AllByRecursion IsGoodJob all → IsRightOver all (L.story result.0) (reverse result.1.log) }
-        ensures fault { (all : List Job) → AreJobs self.hub.jobs all → FaultRightIn all (reverse result.1.log) result.1.fault (record_in (L.story result.0)) }
-        ensures dropped { DropsIn result.1.dropped (record_in (L.story result.0)) }
-        ensures form { (all : List Job) → AreJobsOf self.hub.devices all → IsLog all self.hub.turns (L.place result.0) (reverse result.1.log) }
-        ensures alone { (all : List Job) → AreJobsOf self.hub.devices all → OneDownloaderPerDevice all (reverse result.1.log) }
-        ensures leaves { (all : List Job) → AreJobsOf self.hub.devices all → LeavesOver all self.hub.turns (L.story result.0) (reverse result.1.log) }
-        ensures over { result.1.fault ≡ None → (all : List Job) → AreJobsOf self.hub.devices all → AllOver all (reverse result.1.log) }
-        ensures told { result.1.fault ≡ None → ¬ TurnUnfinished self.hub.turns (reverse result.1.log) }
-        ensures closed { result.1.fault ≡ None → WhereTold (HasClosed (reverse result.1.log)) (L.story result.0) }
-        ensures seats { IsOfWorkers 1 (reverse result.1.log) }
-        ensures heard { result.1.fault ≡ None → HeardAll result.1.heard (record_in (L.story result.0)) }
+        ensures tells { TellsRun 1 (tasks_seen self.hub.jobs) self.hub.devices self.hub.turns (L.story result.0) (L.place result.0) result.1 }
         // of a run that was broken off too
         ensures kept { result.1.heard ≡ self.heard }
         ensures missed { result.1.missed ≡ self.hub.missed }
         ensures caused { (before : ℕ) → CausedSince before self.hub.fault (L.faults self.hub.link) → CausedSince before result.1.fault (L.faults result.0) }
     {
-        let Driver {
-            hub,
-            unfinished: _,
-            heard,
-        } = self;
+        let Driver { hub, heard } = self;
         hub.keeps();
         let HubEnd {
             link,

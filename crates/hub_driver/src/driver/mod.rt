@@ -4,19 +4,19 @@ mod closing;
 mod end;
 
 ghost use Rattle.std.specs.Prelude.{◌≡◌, ◌+◌, ℕ, None, List, [], ◌∷◌, ◌++◌, IfErr, OnOk, true, false, length, reverse};
-ghost use Rattle.std.specs.List.{AllByRecursion};
-ghost use Rattle.hub_core.specs.Promises.{IsRightOver, IsSafeOver, FaultRightIn, DropsIn};
-ghost use Rattle.hub_core.specs.Seen.{SameRun, AreJobs};
-ghost use Rattle.hub_core.specs.Thorough.{IsThoroughOver};
-ghost use Rattle.hub_driver.specs.Closed.{HasClosed};
-ghost use Rattle.hub_driver.specs.Drives.{ends, LeavesOpen, AllDone, CausedSince, IsNoMemory, HasEndedSo};
-ghost use Rattle.hub_driver.specs.Heard.{HeardAll};
-ghost use Rattle.hub_driver.specs.Leaving.{GoesThrough, IsLeft, LeavesOver};
-ghost use Rattle.hub_driver.specs.Seats.{IsOfWorkers};
+ghost use Rattle.hub_core.specs.Commissioned.{TellsRun};
+ghost use Rattle.hub_core.specs.Left.{AllDone, IsLeft};
+ghost use Rattle.hub_core.specs.Promises.{LeavesOver};
+ghost use Rattle.hub_core.specs.Seen.{tasks_seen};
+ghost use Rattle.hub_core.specs.Closed.{HasClosed};
+ghost use Rattle.hub_core.specs.Since.{CausedSince, Since};
+ghost use Rattle.hub_driver.specs.Drives.{IsNoMemory, HasEndedSo};
+ghost use Rattle.hub_core.specs.Heard.{HeardAll};
+ghost use Rattle.hub_driver.specs.Leaving.{GoesThrough};
+ghost use Rattle.hub_core.specs.Seats.{IsOfWorkers};
 ghost use Rattle.hub_work.specs.Books.{AreJobsOf};
-ghost use Rattle.line_model.specs.Headline.{Keeps, IsGoodJob};
 ghost use Rattle.line_model.specs.LinkStory.{record_in};
-ghost use Rattle.line_model.specs.Log.{Job, IsLog, OneDownloaderPerDevice, AllOver, TurnUnfinished};
+ghost use Rattle.line_model.specs.Log.{Job};
 ghost use Rattle.tunnel_link.specs.Goes.{GoesOn};
 ghost use Rattle.tunnel_link.specs.Rights.{WhereTold};
 
@@ -38,47 +38,29 @@ const WORKER: u8 = 1;
 #[derive(Drop)]
 pub struct Driver<L: Link> {
     hub: Hub<L>,
-    /// How many jobs have no end yet.
-    unfinished: usize,
     heard: List<Indication>,
 }
 
 impl<L: Link> Driver<L> {
-    /// A hub of so many jobs, of which nothing is done.
-    pub fn new(alloc: Global, hub: Hub<L>, jobs: usize) -> Driver<L>
+    /// A hub over whose link nothing was heard.
+    pub fn new(alloc: Global, hub: Hub<L>) -> Driver<L>
         ensures hub { result.hub ≡ hub }
-        ensures unfinished { result.unfinished ≡ jobs }
         ensures heard { result.heard ≡ [] }
     {
         Driver {
             hub,
-            unfinished: jobs,
             heard: List::new(alloc),
         }
     }
 
     /// Goes through all jobs and group telegrams, and then through the closing. It gives the link back, and what is told.
     pub fn drives<R: Wait, G: Gate>(self, rt: &R, gate: &G) -> (L, Report)
-        requires open { LeavesOpen self.hub self.unfinished }
         requires seats { IsOfWorkers 1 self.hub.log }
         requires through { GoesThrough self.hub (L.story self.hub.link) }
         requires heard { HeardAll self.heard (record_in (L.story self.hub.link)) }
         ensures grows { GoesOn (L.story self.hub.link) (L.story result.0) }
         ensures script { L.script result.0 ≡ L.script self.hub.link }
-        ensures headline { (all : List Job) → AreJobs self.hub.jobs all → Keeps all self.hub.turns (L.story result.0) (reverse result.1.log) }
-        ensures safe { (all : List Job) → AreJobs self.hub.jobs all → IsSafeOver all self.hub.turns (L.story result.0) (reverse result.1.log) }
-        ensures thorough { (all : List Job) → AreJobs self.hub.jobs all → IsThoroughOver all (L.story result.0) (reverse result.1.log) }
-        ensures right { (all : List Job) → AreJobs self.hub.jobs all → AllByRecursion IsGoodJob all → IsRightOver all (L.story result.0) (reverse result.1.log) }
-        ensures fault { (all : List Job) → AreJobs self.hub.jobs all → FaultRightIn all (reverse result.1.log) result.1.fault (record_in (L.story result.0)) }
-        ensures dropped { DropsIn result.1.dropped (record_in (L.story result.0)) }
-        ensures form { (all : List Job) → AreJobsOf self.hub.devices all → IsLog all self.hub.turns (L.place result.0) (reverse result.1.log) }
-        ensures alone { (all : List Job) → AreJobsOf self.hub.devices all → OneDownloaderPerDevice all (reverse result.1.log) }
-        ensures leaves { (all : List Job) → AreJobsOf self.hub.devices all → LeavesOver all self.hub.turns (L.story result.0) (reverse result.1.log) }
-        ensures over { result.1.fault ≡ None → (all : List Job) → AreJobsOf self.hub.devices all → AllOver all (reverse result.1.log) }
-        ensures told { result.1.fault ≡ None → ¬ TurnUnfinished self.hub.turns (reverse result.1.log) }
-        ensures closed { result.1.fault ≡ None → WhereTold (HasClosed (reverse result.1.log)) (L.story result.0) }
-        ensures seats { IsOfWorkers 1 (reverse result.1.log) }
-        ensures heard { result.1.fault ≡ None → HeardAll result.1.heard (record_in (L.story result.0)) }
+        ensures tells { TellsRun 1 (tasks_seen self.hub.jobs) self.hub.devices self.hub.turns (L.story result.0) (L.place result.0) result.1 }
         ensures missed { result.1.missed ≡ self.hub.missed }
         ensures caused { (before : ℕ) → CausedSince before self.hub.fault (L.faults self.hub.link) → CausedSince before result.1.fault (L.faults result.0) }
     {
@@ -89,15 +71,11 @@ impl<L: Link> Driver<L> {
 
     /// Goes through all jobs and group telegrams, and then through the closing.
     fn runs<R: Wait, G: Gate>(&mut self, rt: &R, gate: &G) -> Result<(), HubFault>
-        requires open { LeavesOpen self.old.hub self.old.unfinished }
         requires seats { IsOfWorkers 1 self.old.hub.log }
         requires through { GoesThrough self.old.hub (L.story self.old.hub.link) }
         requires heard { HeardAll self.old.heard (record_in (L.story self.old.hub.link)) }
-        ensures grows { GoesOn (L.story self.old.hub.link) (L.story self.new.hub.link) }
-        ensures script { L.script self.new.hub.link ≡ L.script self.old.hub.link }
-        ensures caused { (before : ℕ) → CausedSince before self.old.hub.fault (L.faults self.old.hub.link) → CausedSince before self.new.hub.fault (L.faults self.new.hub.link) }
+        ensures since { Since L.story L.script L.faults self.old.hub self.new.hub }
         ensures leaves { (all : List Job) → AreJobsOf self.new.hub.devices all → LeavesOver all self.new.hub.turns (L.story self.new.hub.link) self.new.hub.log }
-        ensures run { SameRun self.old.hub self.new.hub }
         ensures seats { IsOfWorkers 1 self.new.hub.log }
         ensures done { OnOk result (AllDone self.new.hub) }
         ensures closed { OnOk result (WhereTold (HasClosed self.new.hub.log) (L.story self.new.hub.link)) }
@@ -110,22 +88,18 @@ impl<L: Link> Driver<L> {
 
     /// Goes through all jobs and group telegrams.
     fn commissions<R: Wait, G: Gate>(&mut self, rt: &R, gate: &G) -> Result<(), HubFault>
-        requires open { LeavesOpen self.old.hub self.old.unfinished }
         requires seats { IsOfWorkers 1 self.old.hub.log }
         requires through { GoesThrough self.old.hub (L.story self.old.hub.link) }
         requires heard { HeardAll self.old.heard (record_in (L.story self.old.hub.link)) }
-        ensures grows { GoesOn (L.story self.old.hub.link) (L.story self.new.hub.link) }
-        ensures script { L.script self.new.hub.link ≡ L.script self.old.hub.link }
-        ensures caused { (before : ℕ) → CausedSince before self.old.hub.fault (L.faults self.old.hub.link) → CausedSince before self.new.hub.fault (L.faults self.new.hub.link) }
+        ensures since { Since L.story L.script L.faults self.old.hub self.new.hub }
         ensures through { GoesThrough self.new.hub (L.story self.new.hub.link) }
-        ensures run { SameRun self.old.hub self.new.hub }
         ensures seats { IsOfWorkers 1 self.new.hub.log }
         ensures done { OnOk result (AllDone self.new.hub) }
         ensures heard { OnOk result (HeardAll self.new.heard (record_in (L.story self.new.hub.link))) }
         ensures cause { IfErr result (HasEndedSo self.new.hub.fault) }
     {
         for _ in rt.forever() {
-            if self.has_done_all() {
+            if !self.hub.has_work_left() {
                 break;
             }
             self.works(gate)?;
@@ -134,30 +108,15 @@ impl<L: Link> Driver<L> {
         Ok(())
     }
 
-    /// Whether each job has its end, and each group telegram is told.
-    fn has_done_all(&self) -> bool
-        requires open { LeavesOpen self.now.hub self.now.unfinished }
-        ensures done { result ≡ true → AllDone self.now.hub }
-        ensures left { result ≡ false → IsLeft self.now.hub }
-    {
-        self.hub.keeps();
-        self.unfinished == 0 && self.hub.next_group().is_none()
-    }
-
     /// One turn of the worker, and a poll where it waits.
     fn works<G: Gate>(&mut self, gate: &G) -> Result<(), HubFault>
-        requires open { LeavesOpen self.old.hub self.old.unfinished }
         requires seats { IsOfWorkers 1 self.old.hub.log }
         requires through { GoesThrough self.old.hub (L.story self.old.hub.link) }
         requires left { IsLeft self.old.hub }
         requires heard { HeardAll self.old.heard (record_in (L.story self.old.hub.link)) }
-        ensures grows { GoesOn (L.story self.old.hub.link) (L.story self.new.hub.link) }
-        ensures script { L.script self.new.hub.link ≡ L.script self.old.hub.link }
-        ensures caused { (before : ℕ) → CausedSince before self.old.hub.fault (L.faults self.old.hub.link) → CausedSince before self.new.hub.fault (L.faults self.new.hub.link) }
+        ensures since { Since L.story L.script L.faults self.old.hub self.new.hub }
         ensures through { GoesThrough self.new.hub (L.story self.new.hub.link) }
-        ensures run { SameRun self.old.hub self.new.hub }
         ensures seats { IsOfWorkers 1 self.new.hub.log }
-        ensures open { LeavesOpen self.new.hub self.new.unfinished }
         ensures heard { OnOk result (HeardAll self.new.heard (record_in (L.story self.new.hub.link))) }
         ensures cause { IfErr result (HasEndedSo self.new.hub.fault) }
     {
@@ -165,37 +124,23 @@ impl<L: Link> Driver<L> {
         match self.hub.turn(WORKER)? {
             Turned::Took(job) => gate.pass(job),
             Turned::Wait | Turned::Later => self.pumps()?,
-            Turned::Done(_) | Turned::Failed(_) | Turned::Refused(_) => self.ended(),
-            Turned::Moved | Turned::NoMore => {}
+            Turned::Moved
+            | Turned::Done(_)
+            | Turned::Failed(_)
+            | Turned::Refused(_)
+            | Turned::NoMore => {}
         }
         Ok(())
     }
 
-    /// One job more has its end.
-    fn ended(&mut self)
-        requires one_more { self.old.unfinished + ends self.old.hub.log ≡ length self.old.hub.devices + 1 }
-        ensures hub { self.new.hub ≡ self.old.hub }
-        ensures heard { self.new.heard ≡ self.old.heard }
-        ensures open { LeavesOpen self.new.hub self.new.unfinished }
-    {
-        self.hub.keeps();
-        self.unfinished -= 1;
-    }
-
     /// One step of the next group telegram, and a poll where it waits.
-    #[tactic(auto, using(crate::proofs::Telling::no_end_told))]
     fn tells(&mut self) -> Result<(), HubFault>
-        requires open { LeavesOpen self.old.hub self.old.unfinished }
         requires seats { IsOfWorkers 1 self.old.hub.log }
         requires through { GoesThrough self.old.hub (L.story self.old.hub.link) }
         requires heard { HeardAll self.old.heard (record_in (L.story self.old.hub.link)) }
-        ensures grows { GoesOn (L.story self.old.hub.link) (L.story self.new.hub.link) }
-        ensures script { L.script self.new.hub.link ≡ L.script self.old.hub.link }
-        ensures caused { (before : ℕ) → CausedSince before self.old.hub.fault (L.faults self.old.hub.link) → CausedSince before self.new.hub.fault (L.faults self.new.hub.link) }
+        ensures since { Since L.story L.script L.faults self.old.hub self.new.hub }
         ensures through { GoesThrough self.new.hub (L.story self.new.hub.link) }
-        ensures run { SameRun self.old.hub self.new.hub }
         ensures seats { IsOfWorkers 1 self.new.hub.log }
-        ensures open { LeavesOpen self.new.hub self.new.unfinished }
         ensures heard { OnOk result (HeardAll self.new.heard (record_in (L.story self.new.hub.link))) }
         ensures cause { IfErr result (HasEndedSo self.new.hub.fault) }
     {
@@ -214,13 +159,9 @@ impl<L: Link> Driver<L> {
         requires through { GoesThrough self.old.hub (L.story self.old.hub.link) }
         requires left { IsLeft self.old.hub }
         requires heard { HeardAll self.old.heard (record_in (L.story self.old.hub.link)) }
-        ensures grows { GoesOn (L.story self.old.hub.link) (L.story self.new.hub.link) }
-        ensures script { L.script self.new.hub.link ≡ L.script self.old.hub.link }
-        ensures caused { (before : ℕ) → CausedSince before self.old.hub.fault (L.faults self.old.hub.link) → CausedSince before self.new.hub.fault (L.faults self.new.hub.link) }
+        ensures since { Since L.story L.script L.faults self.old.hub self.new.hub }
         ensures through { GoesThrough self.new.hub (L.story self.new.hub.link) }
-        ensures run { SameRun self.old.hub self.new.hub }
         ensures log { self.new.hub.log ≡ self.old.hub.log }
-        ensures unfinished { self.new.unfinished ≡ self.old.unfinished }
         ensures heard { OnOk result (HeardAll self.new.heard (record_in (L.story self.new.hub.link))) }
         ensures cause { IfErr result (HasEndedSo self.new.hub.fault) }
     {
@@ -233,7 +174,6 @@ impl<L: Link> Driver<L> {
     /// A group telegram was heard.
     fn hears(&mut self, indication: Indication) -> Result<(), HubFault>
         ensures hub { self.new.hub ≡ self.old.hub }
-        ensures unfinished { self.new.unfinished ≡ self.old.unfinished }
         ensures heard { OnOk result (self.new.heard ≡ self.old.heard ++ indication ∷ []) }
         ensures cause { IfErr result IsNoMemory }
     {

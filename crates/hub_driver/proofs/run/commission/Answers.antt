@@ -1,26 +1,36 @@
-use Rattle.std.proofs.Common.{◌≡◌, None, reverse, sym, subst, ap, ◌∙◌, arith}
-use Rattle.line_model.specs.Log.{IsLog}
-use Rattle.hub_work.specs.Books.{AreJobsOf}
-use Rattle.hub_driver.specs.Drives.{CausedSince}
+use Rattle.std.proofs.Common.{◌≡◌, Option, None, refl, sym, subst, ap, ◌∙◌, arith}
+use Rattle.std.specs.Prelude.{IfSome}
+use Rattle.line_model.specs.declared.fault.HubFault.{HubFault}
+use Rattle.line_model.specs.LinkStory.{IsNewLink}
+use Rattle.tunnel_link.specs.Goes.{GoesOn}
+use Rattle.tunnel_link.specs.Rights.{FailsWhere}
+use Rattle.tunnel_link.proofs.Stories.{stays}
+use Rattle.hub_core.specs.Seen.{tasks_seen}
+use Rattle.hub_core.specs.Since.{CausedSince}
+use Rattle.hub_driver.proofs.New.{new_tells}
+use Rattle.hub_driver.proofs.Told.{told_for}
 use Rattle.hub_driver.proofs.run.commission.Goals as goal
 
-pub returns-in-Ok-clause-form : goal.returns-in-Ok-clause-form
-returns-in-Ok-clause-form g c = λ all are.
-    let of_hub : AreJobsOf c.new.result.hub.devices all = subst (λ ds. AreJobsOf ds all) (sym (ap (λ h. h.devices) c.new.ensures.hub ∙ c.in-Ok.ensures.devices)) are in
-    subst (λ ts. IsLog all ts (g.L.Link.place c.drives.result.0) (reverse c.drives.result.1.log)) (ap (λ h. h.turns) c.new.ensures.hub ∙ c.in-Ok.ensures.turns) (c.drives.ensures.form all of_hub)
-
-pub returns-in-Ok-clause-alone : goal.returns-in-Ok-clause-alone
-returns-in-Ok-clause-alone g c = λ all are.
-    c.drives.ensures.alone all (subst (λ ds. AreJobsOf ds all) (sym (ap (λ h. h.devices) c.new.ensures.hub ∙ c.in-Ok.ensures.devices)) are)
-
-pub returns-in-Ok-clause-over : goal.returns-in-Ok-clause-over
-returns-in-Ok-clause-over g c = λ fine all are.
-    c.drives.ensures.over fine all (subst (λ ds. AreJobsOf ds all) (sym (ap (λ h. h.devices) c.new.ensures.hub ∙ c.in-Ok.ensures.devices)) are)
-
-pub returns-in-Ok-clause-cause : goal.returns-in-Ok-clause-cause
-returns-in-Ok-clause-cause g c =
+pub returns-in-Ok : goal.returns-in-Ok
+returns-in-Ok g c =
     let fault_is : c.new.result.hub.fault ≡ None = ap (λ h. h.fault) c.new.ensures.hub ∙ c.in-Ok.ensures.fault in
     let link_is : c.new.result.hub.link ≡ c.args.link = ap (λ h. h.link) c.new.ensures.hub ∙ c.in-Ok.ensures.link in
     let first : CausedSince (g.L.Link.faults c.args.link) c.new.result.hub.fault (g.L.Link.faults c.new.result.hub.link) = rw (fault_is, link_is) (omega arith, tt) in
-    let last : CausedSince (g.L.Link.faults c.args.link) c.drives.result.1.fault (g.L.Link.faults c.drives.result.0) = c.drives.ensures.caused (g.L.Link.faults c.args.link) first in
-    last.1
+    record {
+      grows = subst (λ l. GoesOn (g.L.Link.story l) (g.L.Link.story c.drives.result.0)) link_is c.drives.ensures.grows;
+      script = c.drives.ensures.script ∙ ap g.L.Link.script link_is;
+      cause = (c.drives.ensures.caused (g.L.Link.faults c.args.link) first).1;
+      tells = told_for 1 _ _ _ _ _ _ _ _ _ (ap (λ h. tasks_seen h.jobs) c.new.ensures.hub ∙ c.in-Ok.ensures.jobs) (ap (λ h. h.devices) c.new.ensures.hub ∙ c.in-Ok.ensures.devices) (ap (λ h. h.turns) c.new.ensures.hub ∙ c.in-Ok.ensures.turns) c.drives.ensures.tells;
+      missed = c.drives.ensures.missed ∙ (ap (λ h. h.missed) c.new.ensures.hub ∙ c.in-Ok.ensures.missed);
+    }
+
+pub returns-in-Err : goal.returns-in-Err
+returns-in-Err g c =
+    let link_is : c.in-Err.link ≡ c.args.link = c.in-Err.ensures.handed_back in
+    record {
+      grows = subst (λ l. GoesOn (g.L.Link.story c.args.link) (g.L.Link.story l)) (sym link_is) (stays (g.L.Link.story c.args.link) (g.L.Link.story c.args.link) refl).on;
+      script = ap g.L.Link.script link_is;
+      cause = subst (λ (f : Option HubFault). IfSome f (λ why. FailsWhere why (g.L.Link.faults c.args.link) (g.L.Link.faults c.in-Err.link))) (sym c.nothing_done.ensures.fault) tt;
+      tells = new_tells c.every_safe_interleaving.ensures 1 _ _ _ (g.L.Link.story c.in-Err.link) _ c.nothing_done.result _ (subst (λ l. IsNewLink (g.L.Link.story l)) (sym link_is) c.requires.new) c.nothing_done.ensures.log c.nothing_done.ensures.dropped c.nothing_done.ensures.fault tt;
+      missed = c.nothing_done.ensures.missed;
+    }

@@ -1,8 +1,8 @@
 use Rattle.std.proofs.Common.{sym, ap, subst, ◌∙◌}
-use Rattle.hub_work.specs.declared.answers.Finished.{Finished}
+use Rattle.hub_core.specs.declared.answers.Finished.{Finished}
 use Rattle.hub_core.specs.Closes.{EndsAs}
 use Rattle.hub_core.specs.Hears.{heard_at_end}
-use Rattle.hub_driver.proofs.Causes.{call_caused}
+use Rattle.hub_core.proofs.Since.{call_since}
 use Rattle.hub_driver.proofs.Closed.{over_closed}
 use Rattle.hub_driver.proofs.Hearing.{hears_none, hears_one, no_longer}
 use Rattle.hub_driver.proofs.Telling.{stays_done}
@@ -32,20 +32,20 @@ returns-in-Going-clause-heard g c = hears_none _ _ _ _ (ap heard_at_end c.in-Goi
 pub returns-in-Over-clause-heard : goal.returns-in-Over-clause-heard
 returns-in-Over-clause-heard g c = hears_none _ _ _ _ (ap heard_at_end c.in-Over.is) c.finish.ensures.grows c.in_ok-indication.ensures.heard c.requires.heard
 
-pub returns-in_err-indication-clause-caused : goal.returns-in_err-indication-clause-caused
-returns-in_err-indication-clause-caused g c = call_caused c.finish.result _ _ _ _ _ (ap g.L.Link.faults) c.finish.ensures.count c.finish.ensures.cause c.finish.ensures.stands c.finish.ensures.ended c.finish.ensures.fault
+pub returns-in_err-indication-clause-since : goal.returns-in_err-indication-clause-since
+returns-in_err-indication-clause-since g c = call_since c.finish.result c.finish.ensures.grows c.finish.ensures.script c.finish.ensures.run c.finish.ensures.count c.finish.ensures.cause c.finish.ensures.stands c.finish.ensures.ended c.finish.ensures.fault
 
-pub returns-in_err-hears-in-Heard-clause-caused : goal.returns-in_err-hears-in-Heard-clause-caused
-returns-in_err-hears-in-Heard-clause-caused g c = rw c.hears.ensures.hub (call_caused c.finish.result _ _ _ _ _ (ap g.L.Link.faults) c.finish.ensures.count c.finish.ensures.cause c.finish.ensures.stands c.finish.ensures.ended c.finish.ensures.fault)
+pub returns-in_err-hears-in-Heard-clause-since : goal.returns-in_err-hears-in-Heard-clause-since
+returns-in_err-hears-in-Heard-clause-since g c = rw c.hears.ensures.hub (call_since c.finish.result c.finish.ensures.grows c.finish.ensures.script c.finish.ensures.run c.finish.ensures.count c.finish.ensures.cause c.finish.ensures.stands c.finish.ensures.ended c.finish.ensures.fault)
 
-pub returns-in_ok-hears-in-Heard-clause-caused : goal.returns-in_ok-hears-in-Heard-clause-caused
-returns-in_ok-hears-in-Heard-clause-caused g c = rw c.hears.ensures.hub (call_caused c.finish.result _ _ _ _ _ (ap g.L.Link.faults) c.finish.ensures.count c.finish.ensures.cause c.finish.ensures.stands c.finish.ensures.ended c.finish.ensures.fault)
+pub returns-in_ok-hears-in-Heard-clause-since : goal.returns-in_ok-hears-in-Heard-clause-since
+returns-in_ok-hears-in-Heard-clause-since g c = rw c.hears.ensures.hub (call_since c.finish.result c.finish.ensures.grows c.finish.ensures.script c.finish.ensures.run c.finish.ensures.count c.finish.ensures.cause c.finish.ensures.stands c.finish.ensures.ended c.finish.ensures.fault)
 
-pub returns-in-Going-clause-caused : goal.returns-in-Going-clause-caused
-returns-in-Going-clause-caused g c = call_caused c.finish.result _ _ _ _ _ (ap g.L.Link.faults) c.finish.ensures.count c.finish.ensures.cause c.finish.ensures.stands c.finish.ensures.ended c.finish.ensures.fault
+pub returns-in-Going-clause-since : goal.returns-in-Going-clause-since
+returns-in-Going-clause-since g c = call_since c.finish.result c.finish.ensures.grows c.finish.ensures.script c.finish.ensures.run c.finish.ensures.count c.finish.ensures.cause c.finish.ensures.stands c.finish.ensures.ended c.finish.ensures.fault
 
-pub returns-in-Over-clause-caused : goal.returns-in-Over-clause-caused
-returns-in-Over-clause-caused g c = call_caused c.finish.result _ _ _ _ _ (ap g.L.Link.faults) c.finish.ensures.count c.finish.ensures.cause c.finish.ensures.stands c.finish.ensures.ended c.finish.ensures.fault
+pub returns-in-Over-clause-since : goal.returns-in-Over-clause-since
+returns-in-Over-clause-since g c = call_since c.finish.result c.finish.ensures.grows c.finish.ensures.script c.finish.ensures.run c.finish.ensures.count c.finish.ensures.cause c.finish.ensures.stands c.finish.ensures.ended c.finish.ensures.fault
 
 pub returns-in_err-indication-clause-closes : goal.returns-in_err-indication-clause-closes
 returns-in_err-indication-clause-closes g c = closes_step c.args.self.now.hub c.finish.new.self (g.L.Link.story c.args.self.now.hub.link) (g.L.Link.story c.finish.new.self.link) c.finish.ensures.grows c.finish.ensures.rightly c.finish.ensures.log c.requires.closes c.requires.far

@@ -1,11 +1,11 @@
 use Rattle.std.proofs.Common.{◌≡◌, ◌⊎◌, inl, inr, ◌∷◌, [], ◌++◌, None, ap}
 use Rattle.std.proofs.lemmas.Result.{on_ok_weaker}
 use Rattle.line_model.specs.LinkStory.{record_in}
-use Rattle.hub_work.specs.declared.answers.Pumped.{Pumped}
-use Rattle.hub_work.specs.declared.answers.Pumped.TheVariants.{Nothing, Moved}
+use Rattle.hub_core.specs.declared.answers.Pumped.{Pumped}
+use Rattle.hub_core.specs.declared.answers.Pumped.TheVariants.{Nothing, Moved}
 use Rattle.hub_core.specs.Hears.{heard_of}
-use Rattle.hub_driver.specs.Heard.{HeardAll}
-use Rattle.hub_driver.proofs.Causes.{call_caused}
+use Rattle.hub_core.specs.Heard.{HeardAll}
+use Rattle.hub_core.proofs.Since.{call_since}
 use Rattle.hub_driver.proofs.Hearing.{hears_none, hears_one}
 use Rattle.hub_driver.proofs.Leaving.{through_left, closing_stays}
 use Rattle.hub_driver.proofs.driver.Driver.pumps.Goals as goal
@@ -23,14 +23,14 @@ none pumped (inr e) = ap heard_of e
 pub returns-in-Nothing-clause-heard : goal.returns-in-Nothing-clause-heard
 returns-in-Nothing-clause-heard g c = hears_none _ _ _ _ (none c.in_ok-indication.field-0 c.in-Nothing.is) c.pump.ensures.grows c.in_ok-indication.ensures.heard c.requires.heard
 
-pub returns-in_err-indication-clause-caused : goal.returns-in_err-indication-clause-caused
-returns-in_err-indication-clause-caused g c = call_caused c.pump.result _ _ _ _ _ (ap g.L.Link.faults) c.pump.ensures.count c.pump.ensures.cause c.pump.ensures.stands c.pump.ensures.ended c.pump.ensures.fault
+pub returns-in_err-indication-clause-since : goal.returns-in_err-indication-clause-since
+returns-in_err-indication-clause-since g c = call_since c.pump.result c.pump.ensures.grows c.pump.ensures.script c.pump.ensures.run c.pump.ensures.count c.pump.ensures.cause c.pump.ensures.stands c.pump.ensures.ended c.pump.ensures.fault
 
-pub returns-in-Heard-clause-caused : goal.returns-in-Heard-clause-caused
-returns-in-Heard-clause-caused g c = rw c.hears.ensures.hub (call_caused c.pump.result _ _ _ _ _ (ap g.L.Link.faults) c.pump.ensures.count c.pump.ensures.cause c.pump.ensures.stands c.pump.ensures.ended c.pump.ensures.fault)
+pub returns-in-Heard-clause-since : goal.returns-in-Heard-clause-since
+returns-in-Heard-clause-since g c = rw c.hears.ensures.hub (call_since c.pump.result c.pump.ensures.grows c.pump.ensures.script c.pump.ensures.run c.pump.ensures.count c.pump.ensures.cause c.pump.ensures.stands c.pump.ensures.ended c.pump.ensures.fault)
 
-pub returns-in-Nothing-clause-caused : goal.returns-in-Nothing-clause-caused
-returns-in-Nothing-clause-caused g c = call_caused c.pump.result _ _ _ _ _ (ap g.L.Link.faults) c.pump.ensures.count c.pump.ensures.cause c.pump.ensures.stands c.pump.ensures.ended c.pump.ensures.fault
+pub returns-in-Nothing-clause-since : goal.returns-in-Nothing-clause-since
+returns-in-Nothing-clause-since g c = call_since c.pump.result c.pump.ensures.grows c.pump.ensures.script c.pump.ensures.run c.pump.ensures.count c.pump.ensures.cause c.pump.ensures.stands c.pump.ensures.ended c.pump.ensures.fault
 
 pub returns-in_err-indication-clause-through : goal.returns-in_err-indication-clause-through
 returns-in_err-indication-clause-through g c = through_left c.args.self.now.hub c.pump.new.self c.pump.ensures.run.devices c.pump.ensures.run.turns (closing_stays _ _ c.pump.ensures.begun c.requires.through.unbegun) (g.L.Link.story c.args.self.now.hub.link) (g.L.Link.story c.pump.new.self.link) c.pump.ensures.grows c.pump.ensures.ends_none c.pump.ensures.log c.requires.left c.requires.through

@@ -1,16 +1,14 @@
-use Rattle.std.proofs.Common.{None, refl, sym, ap, subst, ◌∙◌, arith}
+use Rattle.std.proofs.Common.{None, refl, sym, ap, subst, arith}
 use Rattle.line_model.specs.LinkStory.{record_in}
-use Rattle.tunnel_link.specs.Goes.{GoesOn}
-use Rattle.tunnel_link.proofs.Stories.{goes_again}
-use Rattle.hub_driver.specs.Drives.{CausedSince}
-use Rattle.hub_driver.specs.Heard.{HeardAll}
-use Rattle.hub_driver.proofs.Causes.{call_caused}
+use Rattle.hub_core.specs.Since.{Since}
+use Rattle.hub_core.proofs.Since.{call_since, since_again}
+use Rattle.hub_core.specs.Heard.{HeardAll}
 use Rattle.hub_driver.proofs.Hearing.{hears_none}
 use Rattle.hub_driver.specs.Leaving.{GoesThrough}
-use Rattle.hub_driver.specs.Seats.{IsOfWorkers}
+use Rattle.hub_core.specs.Seats.{IsOfWorkers}
 use Rattle.hub_driver.proofs.Seats.{turn_seats}
 use Rattle.hub_driver.proofs.Leaving.{through_turn, left_same, waits_same}
-use Rattle.hub_driver.proofs.driver.Driver.works.Goals.{in-Took, in-Wait+in_ok-pumps-in-Wait, in-Done, in-Moved}
+use Rattle.hub_driver.proofs.driver.Driver.works.Goals.{in-Took, in-Wait+in_ok-pumps-in-Wait, in-Moved}
 use Rattle.hub_driver.proofs.driver.Driver.works.Goals as goal
 
 pub pumps-requires : goal.pumps-requires
@@ -20,18 +18,20 @@ pumps-requires g c = record {
   heard = hears_none _ None _ _ refl c.turn.ensures.grows c.in_ok-job.ensures.heard c.requires.heard;
 }
 
-pub returns-in_err-pumps-in-Wait-clause-grows : goal.returns-in_err-pumps-in-Wait-clause-grows
-returns-in_err-pumps-in-Wait-clause-grows g c = goes_again _ _ _ c.turn.ensures.grows c.pumps.ensures.grows
+pub returns-in_err-job-clause-since : goal.returns-in_err-job-clause-since
+returns-in_err-job-clause-since g c = call_since c.turn.result c.turn.ensures.grows c.turn.ensures.script c.turn.ensures.run c.turn.ensures.count c.turn.ensures.cause c.turn.ensures.stands c.turn.ensures.ended c.turn.ensures.fault
 
-pub returns-clause-grows : goal.returns-clause-grows
-returns-clause-grows g c = elim c.match-branch-2.branch [
-  | in-Took w ↦ subst (λ s. GoesOn (g.L.Link.story c.args.self.now.hub.link) (g.L.Link.story s.hub.link)) (sym w.self-is) c.turn.ensures.grows
-  | in-Wait+in_ok-pumps-in-Wait w ↦
-      subst (λ s. GoesOn (g.L.Link.story c.args.self.now.hub.link) (g.L.Link.story s.hub.link)) (sym w.self-is) (goes_again _ _ _ c.turn.ensures.grows w.pumps.ensures.grows)
-  | in-Done w ↦
-      subst (λ h. GoesOn (g.L.Link.story c.args.self.now.hub.link) (g.L.Link.story h.link)) (sym (ap (λ s. s.hub) w.self-is ∙ w.ended.ensures.hub)) c.turn.ensures.grows
-  | in-Moved w ↦ subst (λ s. GoesOn (g.L.Link.story c.args.self.now.hub.link) (g.L.Link.story s.hub.link)) (sym w.self-is) c.turn.ensures.grows
-]
+pub returns-in_err-pumps-in-Wait-clause-since : goal.returns-in_err-pumps-in-Wait-clause-since
+returns-in_err-pumps-in-Wait-clause-since g c = since_again (call_since c.turn.result c.turn.ensures.grows c.turn.ensures.script c.turn.ensures.run c.turn.ensures.count c.turn.ensures.cause c.turn.ensures.stands c.turn.ensures.ended c.turn.ensures.fault) c.pumps.ensures.since
+
+pub returns-clause-since : goal.returns-clause-since
+returns-clause-since g c =
+    let called : Since g.L.Link.story g.L.Link.script g.L.Link.faults c.args.self.now.hub c.turn.new.self = call_since c.turn.result c.turn.ensures.grows c.turn.ensures.script c.turn.ensures.run c.turn.ensures.count c.turn.ensures.cause c.turn.ensures.stands c.turn.ensures.ended c.turn.ensures.fault in
+    elim c.match-branch-2.branch [
+      | in-Took w ↦ rw w.self-is called
+      | in-Wait+in_ok-pumps-in-Wait w ↦ rw w.self-is (since_again called w.pumps.ensures.since)
+      | in-Moved w ↦ rw w.self-is called
+    ]
 
 pub returns-clause-heard : goal.returns-clause-heard
 returns-clause-heard g c =
@@ -39,24 +39,7 @@ returns-clause-heard g c =
     elim c.match-branch-2.branch [
       | in-Took w ↦ rw w.self-is none
       | in-Wait+in_ok-pumps-in-Wait w ↦ rw w.self-is w.in_ok-pumps-in-Wait.ensures.heard
-      | in-Done w ↦ rw (w.self-is, w.ended.ensures.heard, w.ended.ensures.hub) none
       | in-Moved w ↦ rw w.self-is none
-    ]
-
-pub returns-in_err-job-clause-caused : goal.returns-in_err-job-clause-caused
-returns-in_err-job-clause-caused g c = call_caused c.turn.result _ _ _ _ _ (ap g.L.Link.faults) c.turn.ensures.count c.turn.ensures.cause c.turn.ensures.stands c.turn.ensures.ended c.turn.ensures.fault
-
-pub returns-in_err-pumps-in-Wait-clause-caused : goal.returns-in_err-pumps-in-Wait-clause-caused
-returns-in_err-pumps-in-Wait-clause-caused g c = λ before was. c.pumps.ensures.caused before (call_caused c.turn.result _ _ _ _ _ (ap g.L.Link.faults) c.turn.ensures.count c.turn.ensures.cause c.turn.ensures.stands c.turn.ensures.ended c.turn.ensures.fault before was)
-
-pub returns-clause-caused : goal.returns-clause-caused
-returns-clause-caused g c = λ before was.
-    let caused : CausedSince before c.turn.new.self.fault (g.L.Link.faults c.turn.new.self.link) = call_caused c.turn.result _ _ _ _ _ (ap g.L.Link.faults) c.turn.ensures.count c.turn.ensures.cause c.turn.ensures.stands c.turn.ensures.ended c.turn.ensures.fault before was in
-    elim c.match-branch-2.branch [
-      | in-Took w ↦ rw w.self-is caused
-      | in-Wait+in_ok-pumps-in-Wait w ↦ rw w.self-is (w.pumps.ensures.caused before caused)
-      | in-Done w ↦ rw (w.self-is, w.ended.ensures.hub) caused
-      | in-Moved w ↦ rw w.self-is caused
     ]
 
 pub returns-in_err-job-clause-through : goal.returns-in_err-job-clause-through
@@ -68,7 +51,6 @@ returns-clause-through g c =
     elim c.match-branch-2.branch [
       | in-Took w ↦ subst (λ s. GoesThrough s.hub (g.L.Link.story s.hub.link)) (sym w.self-is) through
       | in-Wait+in_ok-pumps-in-Wait w ↦ subst (λ s. GoesThrough s.hub (g.L.Link.story s.hub.link)) (sym w.self-is) w.pumps.ensures.through
-      | in-Done w ↦ subst (λ h. GoesThrough h (g.L.Link.story h.link)) (sym (ap (λ s. s.hub) w.self-is ∙ w.ended.ensures.hub)) through
       | in-Moved w ↦ subst (λ s. GoesThrough s.hub (g.L.Link.story s.hub.link)) (sym w.self-is) through
     ]
 
@@ -84,6 +66,5 @@ returns-clause-seats g c =
     elim c.match-branch-2.branch [
       | in-Took w ↦ subst (λ s. IsOfWorkers 1 s.hub.log) (sym w.self-is) seats
       | in-Wait+in_ok-pumps-in-Wait w ↦ subst (λ s. IsOfWorkers 1 s.hub.log) (sym w.self-is) (subst (IsOfWorkers 1) (sym w.pumps.ensures.log) seats)
-      | in-Done w ↦ subst (λ h. IsOfWorkers 1 h.log) (sym (ap (λ s. s.hub) w.self-is ∙ w.ended.ensures.hub)) seats
       | in-Moved w ↦ subst (λ s. IsOfWorkers 1 s.hub.log) (sym w.self-is) seats
     ]

@@ -1,0 +1,68 @@
+-- How a hub goes on by one call, and by two.
+use Rattle.std.proofs.Common.{◌≡◌, ℕ, ◌≤◌, ◌<◌, inl, inr, Option, Some, None, Result, Ok, Err, IfErr, OnOk, refl, sym, ap, subst, ◌∙◌, arith}
+use Rattle.knx_model.specs.Outside.{Rose}
+use Rattle.line_model.specs.declared.fault.HubFault.{HubFault}
+use Rattle.line_model.specs.declared.fault.HubFault.TheVariants.{NoMemory, LinkFailed, GatewayRefused, Flooded, WrongLine}
+use Rattle.line_model.specs.Lines.{Script}
+use Rattle.line_model.specs.LinkStory.{Story}
+use Rattle.tunnel_link.specs.Goes.{GoesOn}
+use Rattle.tunnel_link.specs.Rights.{FailsWhere}
+use Rattle.tunnel_link.proofs.Stories.{goes_again, stays}
+use Rattle.hub_core.specs.Seen.{Seen, SameRun, StaysEnded}
+use Rattle.hub_core.specs.Since.{CausedSince, Since}
+
+rose_before : (a b c : ℕ) → a ≤ b → Rose b c → Rose a c
+rose_before a b c le (inl lt) = inl (let l : a < c = omega (arith, le, lt) in l)
+rose_before a b c le (inr top) = inr top
+
+fails_before : (fault : HubFault) (a b c : ℕ) → a ≤ b → FailsWhere fault b c → FailsWhere fault a c
+fails_before (NoMemory want) a b c le h = tt
+fails_before LinkFailed a b c le h = rose_before a b c le h
+fails_before (GatewayRefused three) a b c le h = tt
+fails_before Flooded a b c le h = tt
+fails_before (WrongLine device tunnel) a b c le h = tt
+
+-- ---- a call of the hub
+
+module _ {X : Type 0} (old new : ℕ) (count : old ≤ new) (before : ℕ) where
+  by_result : (result : Result X HubFault) (fault : Option HubFault) → before ≤ old → IfErr result (λ why. FailsWhere why old new) → OnOk result (fault ≡ None) → IfErr result (λ why. fault ≡ Some why) → CausedSince before fault new
+  by_result (Ok x) fault le cause stands tells = subst (λ f. CausedSince before f new) (sym stands) (omega (arith, le, count), tt)
+  by_result (Err why) fault le cause stands tells = subst (λ f. CausedSince before f new) (sym tells) (omega (arith, le, count), fails_before why before old new le cause)
+
+call_caused : {X : Type 0} (result : Result X HubFault) (had has : Option HubFault) (old new : ℕ) (Stays : Type 0) → (Stays → new ≡ old) → old ≤ new → (had ≡ None → IfErr result (λ why. FailsWhere why old new)) → OnOk result (has ≡ None) → StaysEnded had result has Stays → IfErr result (λ why. has ≡ Some why)
+    → (before : ℕ) → CausedSince before had old → CausedSince before has new
+call_caused result None has old new Stays same count cause stands ended tells before was = by_result old new count before result has was.0 (cause refl) stands tells
+call_caused result (Some why) has old new Stays same count cause stands ended tells before was = rw (ended.1, same ended.2) was
+
+-- ---- how it goes on
+
+module _ {L : Type 0} {story_of : L → Story} {script_of : L → Script} {faults_of : L → ℕ} where
+  -- a call of the hub, by its contract
+  pub call_since : {X : Type 0} (result : Result X HubFault) {old new : Seen L} → GoesOn (story_of old.link) (story_of new.link) → script_of new.link ≡ script_of old.link → SameRun old new → faults_of old.link ≤ faults_of new.link
+      → (old.fault ≡ None → IfErr result (λ why. FailsWhere why (faults_of old.link) (faults_of new.link))) → OnOk result (new.fault ≡ None) → StaysEnded old.fault result new.fault (new.link ≡ old.link) → IfErr result (λ why. new.fault ≡ Some why)
+      → Since story_of script_of faults_of old new
+  call_since result {old = old} {new = new} grows script run count cause stands ended tells = record {
+    grows = grows;
+    script = script;
+    run = run;
+    count = count;
+    caused = call_caused result old.fault new.fault (faults_of old.link) (faults_of new.link) (new.link ≡ old.link) (ap faults_of) count cause stands ended tells;
+  }
+
+  pub since_again : {a b c : Seen L} → Since story_of script_of faults_of a b → Since story_of script_of faults_of b c → Since story_of script_of faults_of a c
+  since_again {a = a} {b = b} {c = c} first then = record {
+    grows = goes_again (story_of a.link) (story_of b.link) (story_of c.link) first.grows then.grows;
+    script = then.script ∙ first.script;
+    run = record { tasks = then.run.tasks ∙ first.run.tasks; devices = then.run.devices ∙ first.run.devices; turns = then.run.turns ∙ first.run.turns; missed = then.run.missed ∙ first.run.missed };
+    count = (let one : faults_of a.link ≤ faults_of b.link = first.count in let two : faults_of b.link ≤ faults_of c.link = then.count in omega (arith, one, two));
+    caused = λ before was. then.caused before (first.caused before was);
+  }
+
+  pub since_itself : {a : Seen L} → Since story_of script_of faults_of a a
+  since_itself {a = a} = record {
+    grows = (stays (story_of a.link) (story_of a.link) refl).on;
+    script = refl;
+    run = record { tasks = refl; devices = refl; turns = refl; missed = refl };
+    count = omega arith;
+    caused = λ before was. was;
+  }
