@@ -12,6 +12,7 @@ ghost use Rattle.hub_core.specs.Hears.{HearsSo, heard_of};
 ghost use Rattle.hub_core.specs.Polls.{Polls, SendsOnly};
 ghost use Rattle.hub_core.specs.Pumps.{AddsSo, AnswersSo, PumpsSo, Does, is_late_now, is_left_now, Moves};
 ghost use Rattle.hub_core.specs.Seen.{SameRun, StaysEnded};
+ghost use Rattle.hub_core.specs.Since.{Since};
 
 use super::Hub;
 use super::taking::{Polled, ending, lose, take_in};
@@ -22,17 +23,13 @@ use line_model::{HubFault, Link};
 impl<L: Link> Hub<L> {
     /// Does what is due, asks for a channel where there is none and the closing hasn't begun, and makes one poll.
     pub fn pump(&mut self) -> Result<Pumped, HubFault>
-        ensures grows { GoesOn (L.story self.old.link) (L.story self.new.link) }
-        ensures script { L.script self.new.link ≡ L.script self.old.link }
-        ensures count { L.faults self.old.link ≤ L.faults self.new.link }
-        ensures cause { self.old.fault ≡ None → IfErr result (λ fault. FailsWhere fault (L.faults self.old.link) (L.faults self.new.link)) }
+        ensures since { Since L.story L.script L.faults self.old self.new }
         ensures stands { OnOk result (self.new.fault ≡ None) }
         ensures heard { IfOk result (λ pumped. HearsSo (heard_of pumped) (L.story self.old.link) (L.story self.new.link)) }
         ensures says { IfOk result (λ pumped. PumpsSo (is_some self.old.closing) pumped (L.story self.old.link) (L.story self.new.link)) }
         ensures ends_none { Growing (Each EndsNone) (L.story self.old.link) (L.story self.new.link) }
         ensures polls { OnOk result (Polls self.old.jobs self.old.turns self.old.log self.old.crew self.old.closing (L.story self.old.link) (L.story self.new.link)) }
         ensures came { OnOk result (Comes self.old.jobs self.old.log self.old.crew self.new.crew (L.story self.old.link) (L.story self.new.link)) }
-        ensures run { SameRun self.old self.new }
         ensures begun { is_some self.new.closing ≡ is_some self.old.closing }
         ensures log { self.new.log ≡ self.old.log }
         ensures ended { StaysEnded self.old.fault result self.new.fault (self.new.link ≡ self.old.link) }

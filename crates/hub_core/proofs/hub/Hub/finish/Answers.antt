@@ -1,6 +1,6 @@
 use Rattle.tunnel_link.proofs.Stories.{goes_again}
 use Rattle.hub_core.proofs.Hears.{hears_after}
-use Rattle.std.proofs.Common.{sym, subst}
+use Rattle.std.proofs.Common.{◌≡◌, None, sym, subst}
 use Rattle.hub_core.specs.Closes.{Begins, Closes, Resumes}
 use Rattle.hub_core.specs.Pumps.{AddsSo}
 use Rattle.hub_core.proofs.Endings.{closes_now, closes_all, goes_after}
@@ -17,10 +17,26 @@ use Rattle.std.proofs.Common.{◌∙◌, ap}
 use Rattle.hub_core.proofs.Polls.{goes_once, closes_unpolled, none_sent, runs_on, ok_as}
 use Rattle.hub_core.specs.Polls.{SendsOnly}
 use Rattle.hub_core.proofs.Came.{comes_after, none_comes, none_added}
+use Rattle.hub_core.proofs.Since.{call_since, since_again, since_itself, still_since}
 use Rattle.hub_core.proofs.hub.Hub.finish.Goals as goal
 
-pub returns-clause-grows : goal.returns-clause-grows
-returns-clause-grows g c = rw (← c.is_over.ensures.link) (goes_again _ _ _ c.act.ensures.grows c.goes_on.ensures.grows)
+pub returns-in-Some-clause-since : goal.returns-in-Some-clause-since
+returns-in-Some-clause-since g c = since_itself
+
+pub returns-then-is_over-clause-since : goal.returns-then-is_over-clause-since
+returns-then-is_over-clause-since g c =
+    let none : c.args.self.now.fault ≡ None = ap (λ v. v.fault) (sym c.self.view_is) ∙ (sym c.fault.ensures ∙ c.in_default.is) in
+    still_since c.is_over.ensures.link (c.is_over.ensures.stands ∙ sym none) c.is_over.ensures.run
+
+pub returns-in_err-act-clause-since : goal.returns-in_err-act-clause-since
+returns-in_err-act-clause-since g c =
+    let none : c.args.self.now.fault ≡ None = ap (λ v. v.fault) (sym c.self.view_is) ∙ (sym c.fault.ensures ∙ c.in_default.is) in
+    since_again (still_since c.is_over.ensures.link (c.is_over.ensures.stands ∙ sym none) c.is_over.ensures.run) (call_since c.act.result c.is_over.ensures.stands c.act.ensures.grows c.act.ensures.script c.act.ensures.run c.act.ensures.count c.act.ensures.cause c.act.ensures.stands c.act.ensures.fault)
+
+pub returns-clause-since : goal.returns-clause-since
+returns-clause-since g c =
+    let none : c.args.self.now.fault ≡ None = ap (λ v. v.fault) (sym c.self.view_is) ∙ (sym c.fault.ensures ∙ c.in_default.is) in
+    since_again (since_again (still_since c.is_over.ensures.link (c.is_over.ensures.stands ∙ sym none) c.is_over.ensures.run) (call_since c.act.result c.is_over.ensures.stands c.act.ensures.grows c.act.ensures.script c.act.ensures.run c.act.ensures.count c.act.ensures.cause c.act.ensures.stands c.act.ensures.fault)) (call_since c.goes_on.result c.in_ok-act.ensures.stands c.goes_on.ensures.grows c.goes_on.ensures.script c.goes_on.ensures.run c.goes_on.ensures.count c.goes_on.ensures.cause c.goes_on.ensures.stands c.goes_on.ensures.fault)
 
 pub returns-clause-heard : goal.returns-clause-heard
 returns-clause-heard g c = rw (← c.is_over.ensures.link) (hears_after _ (g.L.Link.story c.act.new.self.link) _ c.goes_on.result c.goes_on.ensures.grows c.in_ok-act.ensures.heard c.goes_on.ensures.heard)

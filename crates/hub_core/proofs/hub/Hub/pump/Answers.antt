@@ -1,4 +1,4 @@
-use Rattle.std.proofs.Common.{Bool, subst, ◌∙◌}
+use Rattle.std.proofs.Common.{◌≡◌, Bool, None, sym, ap, subst, ◌∙◌}
 use Rattle.tunnel_link.proofs.Stories.{goes_again}
 use Rattle.hub_core.proofs.Hears.{hears_all}
 use Rattle.hub_core.specs.Pumps.{AddsSo, Does, is_left_now}
@@ -8,16 +8,31 @@ use Rattle.tunnel_link.proofs.Alone.{both_each}
 use Rattle.hub_core.proofs.Leaving.{ends_none_of}
 use Rattle.hub_core.proofs.Polls.{pumps_once, sends_two, runs_on}
 use Rattle.hub_core.proofs.Came.{comes_after, nothing_both}
+use Rattle.hub_core.proofs.Since.{call_since, since_again, since_itself}
 use Rattle.hub_core.proofs.hub.Hub.pump.Goals as goal
 
-pub returns-in_err-sought-clause-grows : goal.returns-in_err-sought-clause-grows
-returns-in_err-sought-clause-grows g c = (goes_again _ _ _ c.act.ensures.grows c.seek.ensures.grows)
+pub returns-in-Some-clause-since : goal.returns-in-Some-clause-since
+returns-in-Some-clause-since g c = since_itself
 
-pub returns-in_err-polled-clause-grows : goal.returns-in_err-polled-clause-grows
-returns-in_err-polled-clause-grows g c = (goes_again _ _ _ (goes_again _ _ _ c.act.ensures.grows c.seek.ensures.grows) c.poll.ensures.grows)
+pub returns-in_err-acted-clause-since : goal.returns-in_err-acted-clause-since
+returns-in_err-acted-clause-since g c =
+    let none : c.args.self.now.fault ≡ None = ap (λ v. v.fault) (sym c.self.view_is) ∙ (sym c.fault.ensures ∙ c.in_default.is) in
+    call_since c.act.result none c.act.ensures.grows c.act.ensures.script c.act.ensures.run c.act.ensures.count c.act.ensures.cause c.act.ensures.stands c.act.ensures.fault
 
-pub returns-clause-grows : goal.returns-clause-grows
-returns-clause-grows g c = (goes_again _ _ _ (goes_again _ _ _ c.act.ensures.grows c.seek.ensures.grows) c.poll.ensures.grows)
+pub returns-in_err-sought-clause-since : goal.returns-in_err-sought-clause-since
+returns-in_err-sought-clause-since g c =
+    let none : c.args.self.now.fault ≡ None = ap (λ v. v.fault) (sym c.self.view_is) ∙ (sym c.fault.ensures ∙ c.in_default.is) in
+    since_again (call_since c.act.result none c.act.ensures.grows c.act.ensures.script c.act.ensures.run c.act.ensures.count c.act.ensures.cause c.act.ensures.stands c.act.ensures.fault) (call_since c.seek.result c.in_ok-acted.ensures.stands c.seek.ensures.grows c.seek.ensures.script c.seek.ensures.run c.seek.ensures.count c.seek.ensures.cause c.seek.ensures.stands c.seek.ensures.fault)
+
+pub returns-in_err-polled-clause-since : goal.returns-in_err-polled-clause-since
+returns-in_err-polled-clause-since g c =
+    let none : c.args.self.now.fault ≡ None = ap (λ v. v.fault) (sym c.self.view_is) ∙ (sym c.fault.ensures ∙ c.in_default.is) in
+    since_again (since_again (call_since c.act.result none c.act.ensures.grows c.act.ensures.script c.act.ensures.run c.act.ensures.count c.act.ensures.cause c.act.ensures.stands c.act.ensures.fault) (call_since c.seek.result c.in_ok-acted.ensures.stands c.seek.ensures.grows c.seek.ensures.script c.seek.ensures.run c.seek.ensures.count c.seek.ensures.cause c.seek.ensures.stands c.seek.ensures.fault)) (call_since c.poll.result c.in_ok-sought.ensures.stands c.poll.ensures.grows c.poll.ensures.script c.poll.ensures.run c.poll.ensures.count c.poll.ensures.cause c.poll.ensures.stands c.poll.ensures.fault)
+
+pub returns-clause-since : goal.returns-clause-since
+returns-clause-since g c =
+    let none : c.args.self.now.fault ≡ None = ap (λ v. v.fault) (sym c.self.view_is) ∙ (sym c.fault.ensures ∙ c.in_default.is) in
+    since_again (since_again (call_since c.act.result none c.act.ensures.grows c.act.ensures.script c.act.ensures.run c.act.ensures.count c.act.ensures.cause c.act.ensures.stands c.act.ensures.fault) (call_since c.seek.result c.in_ok-acted.ensures.stands c.seek.ensures.grows c.seek.ensures.script c.seek.ensures.run c.seek.ensures.count c.seek.ensures.cause c.seek.ensures.stands c.seek.ensures.fault)) (call_since c.poll.result c.in_ok-sought.ensures.stands c.poll.ensures.grows c.poll.ensures.script c.poll.ensures.run c.poll.ensures.count c.poll.ensures.cause c.poll.ensures.stands c.poll.ensures.fault)
 
 pub returns-clause-heard : goal.returns-clause-heard
 returns-clause-heard g c =
