@@ -1,5 +1,5 @@
 -- How a hub goes on by one call, and by two.
-use Rattle.std.proofs.Common.{◌≡◌, ℕ, ◌≤◌, ◌<◌, inl, inr, Option, Some, None, Result, Ok, Err, IfErr, OnOk, refl, sym, ap, subst, ◌∙◌, arith}
+use Rattle.std.proofs.Common.{◌≡◌, ℕ, Bool, ◌≤◌, ◌<◌, inl, inr, Option, Some, None, Result, Ok, Err, IfErr, OnOk, refl, sym, ap, subst, ◌∙◌, arith}
 use Rattle.knx_model.specs.Outside.{Rose}
 use Rattle.line_model.specs.declared.fault.HubFault.{HubFault}
 use Rattle.line_model.specs.declared.fault.HubFault.TheVariants.{NoMemory, LinkFailed, GatewayRefused, Flooded, WrongLine}
@@ -8,8 +8,11 @@ use Rattle.line_model.specs.LinkStory.{Story}
 use Rattle.tunnel_link.specs.Goes.{GoesOn}
 use Rattle.tunnel_link.specs.Rights.{FailsWhere}
 use Rattle.tunnel_link.proofs.Stories.{goes_again, stays}
-use Rattle.hub_core.specs.Seen.{Seen, SameRun, StaysEnded}
+use Rattle.tunnel_link.specs.declared.came.What.{What}
+use Rattle.hub_work.specs.declared.work.Work.{Work}
+use Rattle.hub_core.specs.Seen.{Seen, SameRun}
 use Rattle.hub_core.specs.Since.{CausedSince, Since}
+use Rattle.hub_core.specs.Taking.{EndsSo}
 
 rose_before : (a b c : ℕ) → a ≤ b → Rose b c → Rose a c
 rose_before a b c le (inl lt) = inl (let l : a < c = omega (arith, le, lt) in l)
@@ -29,24 +32,50 @@ module _ {X : Type 0} (old new : ℕ) (count : old ≤ new) (before : ℕ) where
   by_result (Ok x) fault le cause stands tells = subst (λ f. CausedSince before f new) (sym stands) (omega (arith, le, count), tt)
   by_result (Err why) fault le cause stands tells = subst (λ f. CausedSince before f new) (sym tells) (omega (arith, le, count), fails_before why before old new le cause)
 
-call_caused : {X : Type 0} (result : Result X HubFault) (had has : Option HubFault) (old new : ℕ) (Stays : Type 0) → (Stays → new ≡ old) → old ≤ new → (had ≡ None → IfErr result (λ why. FailsWhere why old new)) → OnOk result (has ≡ None) → StaysEnded had result has Stays → IfErr result (λ why. has ≡ Some why)
-    → (before : ℕ) → CausedSince before had old → CausedSince before has new
-call_caused result None has old new Stays same count cause stands ended tells before was = by_result old new count before result has was.0 (cause refl) stands tells
-call_caused result (Some why) has old new Stays same count cause stands ended tells before was = rw (ended.1, same ended.2) was
+-- a poll ends no run for a failure of the link
+pub own_fails : (w : Work) (met after : Bool) (what : What) (taken : ℕ) (why : HubFault) (a b : ℕ) → EndsSo w met after what taken (Some why) → FailsWhere why a b
+own_fails w met after what taken (NoMemory want) a b h = tt
+own_fails w met after what taken LinkFailed a b h = absurd h
+own_fails w met after what taken (GatewayRefused three) a b h = tt
+own_fails w met after what taken Flooded a b h = tt
+own_fails w met after what taken (WrongLine device tunnel) a b h = tt
 
 -- ---- how it goes on
 
 module _ {L : Type 0} {story_of : L → Story} {script_of : L → Script} {faults_of : L → ℕ} where
-  -- a call of the hub, by its contract
-  pub call_since : {X : Type 0} (result : Result X HubFault) {old new : Seen L} → GoesOn (story_of old.link) (story_of new.link) → script_of new.link ≡ script_of old.link → SameRun old new → faults_of old.link ≤ faults_of new.link
-      → (old.fault ≡ None → IfErr result (λ why. FailsWhere why (faults_of old.link) (faults_of new.link))) → OnOk result (new.fault ≡ None) → StaysEnded old.fault result new.fault (new.link ≡ old.link) → IfErr result (λ why. new.fault ≡ Some why)
-      → Since story_of script_of faults_of old new
-  call_since result {old = old} {new = new} grows script run count cause stands ended tells = record {
+  -- a call of a hub that had no fault
+  pub call_since : {X : Type 0} (result : Result X HubFault) {old new : Seen L} → old.fault ≡ None → GoesOn (story_of old.link) (story_of new.link) → script_of new.link ≡ script_of old.link → SameRun old new → faults_of old.link ≤ faults_of new.link
+      → IfErr result (λ why. FailsWhere why (faults_of old.link) (faults_of new.link)) → OnOk result (new.fault ≡ None) → IfErr result (λ why. new.fault ≡ Some why) → Since story_of script_of faults_of old new
+  call_since result {old = old} {new = new} none grows script run count cause stands tells = record {
     grows = grows;
     script = script;
     run = run;
     count = count;
-    caused = call_caused result old.fault new.fault (faults_of old.link) (faults_of new.link) (new.link ≡ old.link) (ap faults_of) count cause stands ended tells;
+    caused = λ before was. by_result (faults_of old.link) (faults_of new.link) count before result new.fault was.0 cause stands tells;
+  }
+
+  -- one after which the hub has a fault that isn't its answer's
+  pub ended_since : {old new : Seen L} (why : HubFault) → old.fault ≡ None → GoesOn (story_of old.link) (story_of new.link) → script_of new.link ≡ script_of old.link → SameRun old new → faults_of old.link ≤ faults_of new.link
+      → FailsWhere why (faults_of old.link) (faults_of new.link) → new.fault ≡ Some why → Since story_of script_of faults_of old new
+  ended_since {old = old} {new = new} why none grows script run count cause ended = record {
+    grows = grows;
+    script = script;
+    run = run;
+    count = count;
+    caused = λ before was. caused_by before was.0;
+  }
+    where
+      caused_by : (before : ℕ) → before ≤ faults_of old.link → CausedSince before new.fault (faults_of new.link)
+      caused_by before le = subst (λ (f : Option HubFault). CausedSince before f (faults_of new.link)) (sym ended) (omega (arith, le, count), fails_before why before (faults_of old.link) (faults_of new.link) le cause)
+
+  -- one that does nothing on the link, and gives no fault
+  pub still_since : {old new : Seen L} → new.link ≡ old.link → new.fault ≡ old.fault → SameRun old new → Since story_of script_of faults_of old new
+  still_since {old = old} {new = new} link fault run = record {
+    grows = subst (λ (l : L). GoesOn (story_of old.link) (story_of l)) (sym link) (stays (story_of old.link) (story_of old.link) refl).on;
+    script = ap script_of link;
+    run = run;
+    count = subst (λ (l : L). faults_of old.link ≤ faults_of l) (sym link) (omega arith);
+    caused = λ before was. subst (λ (l : L). CausedSince before new.fault (faults_of l)) (sym link) (subst (λ (f : Option HubFault). CausedSince before f (faults_of old.link)) (sym fault) was);
   }
 
   pub since_again : {a b c : Seen L} → Since story_of script_of faults_of a b → Since story_of script_of faults_of b c → Since story_of script_of faults_of a c

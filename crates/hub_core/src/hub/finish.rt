@@ -3,8 +3,7 @@
 ghost use Rattle.std.specs.Prelude.{◌≡◌, ◌≢◌, ◌≤◌, List, IfErr, IfOk, OnOk, Some, None};
 ghost use Rattle.line_model.specs.Log.{Job, AllOver, TurnUnfinished};
 ghost use Rattle.tunnel_link.specs.Adds.{AllNothing, Growing, HasActed};
-ghost use Rattle.tunnel_link.specs.Goes.{GoesOn};
-ghost use Rattle.tunnel_link.specs.Rights.{FailsWhere, WhereTold};
+ghost use Rattle.tunnel_link.specs.Rights.{WhereTold};
 ghost use Rattle.hub_work.specs.Books.{AreJobsOf};
 ghost use Rattle.line_model.specs.LinkStory.{newest_time};
 ghost use Rattle.line_model.specs.Record.{entries};
@@ -16,6 +15,7 @@ ghost use Rattle.hub_core.specs.Keeps.{IsAllDone};
 ghost use Rattle.hub_core.specs.Polls.{Polls, PollsInClosing, SendsOnly};
 ghost use Rattle.hub_core.specs.Pumps.{AddsSo};
 ghost use Rattle.hub_core.specs.Seen.{SameRun, StaysEnded};
+ghost use Rattle.hub_core.specs.Since.{Since};
 
 use super::Hub;
 use crate::answers::Finished;
@@ -27,10 +27,7 @@ impl<L: Link> Hub<L> {
     pub fn finish(&mut self) -> Result<Finished, HubFault>
         requires over { (jobs : List Job) → AreJobsOf self.old.devices jobs → AllOver jobs self.old.log }
         requires told { ¬ TurnUnfinished self.old.turns self.old.log }
-        ensures grows { GoesOn (L.story self.old.link) (L.story self.new.link) }
-        ensures script { L.script self.new.link ≡ L.script self.old.link }
-        ensures count { L.faults self.old.link ≤ L.faults self.new.link }
-        ensures cause { self.old.fault ≡ None → IfErr result (λ fault. FailsWhere fault (L.faults self.old.link) (L.faults self.new.link)) }
+        ensures since { Since L.story L.script L.faults self.old self.new }
         ensures stands { OnOk result (self.new.fault ≡ None) }
         ensures heard { IfOk result (λ done. HearsSo (heard_at_end done) (L.story self.old.link) (L.story self.new.link)) }
         ensures closes { OnOk result (AddsSo (Closes self.old.closing self.new.closing) (L.story self.old.link) (L.story self.new.link)) }
@@ -40,7 +37,6 @@ impl<L: Link> Hub<L> {
         ensures waits { OnOk result (Growing (WaitsOn self.old.closing) (L.story self.old.link) (L.story self.new.link)) }
         ensures polls { OnOk result (PollsInClosing self.old.jobs self.old.turns self.old.log self.old.crew self.old.closing (L.story self.old.link) (L.story self.new.link)) }
         ensures came { OnOk result (Comes self.old.jobs self.old.log self.old.crew self.new.crew (L.story self.old.link) (L.story self.new.link)) }
-        ensures run { SameRun self.old self.new }
         ensures log { self.new.log ≡ self.old.log }
         ensures ended { StaysEnded self.old.fault result self.new.fault (self.new.link ≡ self.old.link) }
         ensures fault { IfErr result (λ fault. self.new.fault ≡ Some fault) }
@@ -61,10 +57,7 @@ impl<L: Link> Hub<L> {
         requires acted { HasActed self.old.known (L.story self.old.link) }
         requires over { IsAllDone self.old.devices self.old.turns self.old.log }
         requires awaits { MayAwaitNow self.old.closing (L.story self.old.link) }
-        ensures grows { GoesOn (L.story self.old.link) (L.story self.new.link) }
-        ensures script { L.script self.new.link ≡ L.script self.old.link }
-        ensures count { L.faults self.old.link ≤ L.faults self.new.link }
-        ensures cause { IfErr result (λ fault. FailsWhere fault (L.faults self.old.link) (L.faults self.new.link)) }
+        ensures since { Since L.story L.script L.faults self.old self.new }
         ensures heard { IfOk result (λ done. HearsSo (heard_at_end done) (L.story self.old.link) (L.story self.new.link)) }
         ensures closes { OnOk result (AddsSo (Closes self.old.closing self.new.closing) (L.story self.old.link) (L.story self.new.link)) }
         ensures ends { IfOk result (λ done. EndsAs done self.new.closing (L.story self.new.link)) }
@@ -75,7 +68,6 @@ impl<L: Link> Hub<L> {
         ensures stands { OnOk result (self.new.fault ≡ None) }
         ensures rightly { Growing (ClosesOn self.old.closing) (L.story self.old.link) (L.story self.new.link) }
         ensures waits { OnOk result (Growing (WaitsOn self.old.closing) (L.story self.old.link) (L.story self.new.link)) }
-        ensures run { SameRun self.old self.new }
         ensures log { self.new.log ≡ self.old.log }
     {
         let now = self.tunnel.now();
@@ -91,10 +83,7 @@ impl<L: Link> Hub<L> {
         requires stands { self.old.fault ≡ None }
         requires waited { AsksNow self.old.closing (L.story self.old.link) }
         requires over { IsAllDone self.old.devices self.old.turns self.old.log }
-        ensures grows { GoesOn (L.story self.old.link) (L.story self.new.link) }
-        ensures script { L.script self.new.link ≡ L.script self.old.link }
-        ensures count { L.faults self.old.link ≤ L.faults self.new.link }
-        ensures cause { IfErr result (λ fault. FailsWhere fault (L.faults self.old.link) (L.faults self.new.link)) }
+        ensures since { Since L.story L.script L.faults self.old self.new }
         ensures heard { IfOk result (λ done. HearsSo (heard_at_end done) (L.story self.old.link) (L.story self.new.link)) }
         ensures resumes { OnOk result (AddsSo (Resumes self.old.closing self.new.closing) (L.story self.old.link) (L.story self.new.link)) }
         ensures ends { IfOk result (λ done. EndsAs done self.new.closing (L.story self.new.link)) }
@@ -105,7 +94,6 @@ impl<L: Link> Hub<L> {
         ensures fault { IfErr result (λ fault. self.new.fault ≡ Some fault) }
         ensures stands { OnOk result (self.new.fault ≡ None) }
         ensures rightly { Growing (ClosesOn self.old.closing) (L.story self.old.link) (L.story self.new.link) }
-        ensures run { SameRun self.old self.new }
         ensures log { self.new.log ≡ self.old.log }
     {
         moments_go_on();
@@ -127,10 +115,7 @@ impl<L: Link> Hub<L> {
         requires acted { HasActed self.old.known (L.story self.old.link) }
         requires over { IsAllDone self.old.devices self.old.turns self.old.log }
         requires waits { WaitsNow self.old.closing (L.story self.old.link) }
-        ensures grows { GoesOn (L.story self.old.link) (L.story self.new.link) }
-        ensures script { L.script self.new.link ≡ L.script self.old.link }
-        ensures count { L.faults self.old.link ≤ L.faults self.new.link }
-        ensures cause { IfErr result (λ fault. FailsWhere fault (L.faults self.old.link) (L.faults self.new.link)) }
+        ensures since { Since L.story L.script L.faults self.old self.new }
         ensures heard { IfOk result (λ done. HearsSo (heard_at_end done) (L.story self.old.link) (L.story self.new.link)) }
         ensures resumes { OnOk result (AddsSo (Resumes self.old.closing self.new.closing) (L.story self.old.link) (L.story self.new.link)) }
         ensures ends { IfOk result (λ done. EndsAs done self.new.closing (L.story self.new.link)) }
@@ -141,7 +126,6 @@ impl<L: Link> Hub<L> {
         ensures stands { OnOk result (self.new.fault ≡ None) }
         ensures rightly { Growing (ClosesOn self.old.closing) (L.story self.old.link) (L.story self.new.link) }
         ensures waits { OnOk result (Growing (WaitsOn self.old.closing) (L.story self.old.link) (L.story self.new.link)) }
-        ensures run { SameRun self.old self.new }
         ensures log { self.new.log ≡ self.old.log }
     {
         let polled = self.poll()?;

@@ -3,8 +3,6 @@
 ghost use Rattle.std.specs.Prelude.{◌≡◌, ◌≢◌, ◌≤◌, IfErr, IfOk, IfSome, OnErr, OnOk, Some, None, true, false};
 ghost use Rattle.tunnel_link.specs.Adds.{Growing};
 ghost use Rattle.tunnel_link.specs.Alone.{Each, LeavesAlone};
-ghost use Rattle.tunnel_link.specs.Goes.{GoesOn};
-ghost use Rattle.tunnel_link.specs.Rights.{FailsWhere};
 ghost use Rattle.line_model.specs.Log.{IsNextTurn, TurnUnfinished};
 ghost use Rattle.hub_core.specs.Telegrams.{GroupTells};
 ghost use Rattle.hub_core.specs.declared.answers.GroupDid.TheVariants as step;
@@ -12,7 +10,8 @@ ghost use Rattle.hub_core.specs.Hears.{HearsSo};
 ghost use Rattle.hub_core.specs.Left.{AllDone, IsLeft};
 ghost use Rattle.hub_core.specs.Puts.{PutsRequest};
 ghost use Rattle.hub_core.specs.Waits.{WaitsExactly};
-ghost use Rattle.hub_core.specs.Seen.{SameRun, StaysEnded};
+ghost use Rattle.hub_core.specs.Seen.{StaysEnded};
+ghost use Rattle.hub_core.specs.Since.{Since};
 
 use super::Hub;
 use crate::answers::GroupDid;
@@ -39,10 +38,7 @@ impl<L: Link> Hub<L> {
     /// One step of the group telegram `k`, from 1, which is the least that isn't told: its request is put, or it is told sent or lost.
     pub fn send_group(&mut self, k: u32) -> Result<GroupDid, HubFault>
         requires next { IsNextTurn self.old.turns self.old.log k }
-        ensures grows { GoesOn (L.story self.old.link) (L.story self.new.link) }
-        ensures script { L.script self.new.link ≡ L.script self.old.link }
-        ensures count { L.faults self.old.link ≤ L.faults self.new.link }
-        ensures cause { self.old.fault ≡ None → IfErr result (λ fault. FailsWhere fault (L.faults self.old.link) (L.faults self.new.link)) }
+        ensures since { Since L.story L.script L.faults self.old self.new }
         ensures stands { OnOk result (self.new.fault ≡ None) }
         ensures heard { OnOk result (HearsSo None (L.story self.old.link) (L.story self.new.link)) }
         ensures waits { IfOk result (λ did. WaitsExactly self.old.jobs self.old.turns self.old.log (L.place self.old.link) k did (L.story self.old.link)) }
@@ -52,7 +48,6 @@ impl<L: Link> Hub<L> {
         ensures still { IfOk result (λ did. did ≢ step.Put → self.new.link ≡ self.old.link) }
         ensures puts { IfOk result (λ did. did ≡ step.Put → PutsRequest (L.story self.old.link) (L.story self.new.link)) }
         ensures crew { self.new.crew ≡ self.old.crew }
-        ensures run { SameRun self.old self.new }
         ensures closing { self.new.closing ≡ self.old.closing }
         ensures ended { StaysEnded self.old.fault result self.new.fault (self.new.link ≡ self.old.link) }
         ensures fault { IfErr result (λ fault. self.new.fault ≡ Some fault) }

@@ -3,15 +3,15 @@
 ghost use Rattle.std.specs.Prelude.{◌≡◌, ◌≤◌, ◌||◌, is_some, IfErr, IfOk, OnOk, Some, None};
 ghost use Rattle.tunnel_link.specs.Adds.{AllNothing, Growing, HasActed, Ready};
 ghost use Rattle.tunnel_link.specs.Alone.{Each, EndsNone, LeavesAlone};
-ghost use Rattle.tunnel_link.specs.Goes.{GoesOn};
-ghost use Rattle.tunnel_link.specs.Rights.{FailsWhere, WhereTold};
+ghost use Rattle.tunnel_link.specs.Rights.{WhereTold};
 ghost use Rattle.hub_core.specs.Came.{Comes};
 ghost use Rattle.hub_core.specs.Closes.{HasDone, MayAwaitNow, Resumes, WaitsNow};
 ghost use Rattle.hub_core.specs.Leaving.{WaitsOn};
 ghost use Rattle.hub_core.specs.Hears.{HearsSo, heard_of};
 ghost use Rattle.hub_core.specs.Polls.{Polls, SendsOnly};
 ghost use Rattle.hub_core.specs.Pumps.{AddsSo, AnswersSo, PumpsSo, Does, is_late_now, is_left_now, Moves};
-ghost use Rattle.hub_core.specs.Seen.{SameRun, StaysEnded};
+ghost use Rattle.hub_core.specs.Seen.{StaysEnded};
+ghost use Rattle.hub_core.specs.Since.{Since};
 
 use super::Hub;
 use super::taking::{Polled, ending, lose, take_in};
@@ -22,17 +22,13 @@ use line_model::{HubFault, Link};
 impl<L: Link> Hub<L> {
     /// Does what is due, asks for a channel where there is none and the closing hasn't begun, and makes one poll.
     pub fn pump(&mut self) -> Result<Pumped, HubFault>
-        ensures grows { GoesOn (L.story self.old.link) (L.story self.new.link) }
-        ensures script { L.script self.new.link ≡ L.script self.old.link }
-        ensures count { L.faults self.old.link ≤ L.faults self.new.link }
-        ensures cause { self.old.fault ≡ None → IfErr result (λ fault. FailsWhere fault (L.faults self.old.link) (L.faults self.new.link)) }
+        ensures since { Since L.story L.script L.faults self.old self.new }
         ensures stands { OnOk result (self.new.fault ≡ None) }
         ensures heard { IfOk result (λ pumped. HearsSo (heard_of pumped) (L.story self.old.link) (L.story self.new.link)) }
         ensures says { IfOk result (λ pumped. PumpsSo (is_some self.old.closing) pumped (L.story self.old.link) (L.story self.new.link)) }
         ensures ends_none { Growing (Each EndsNone) (L.story self.old.link) (L.story self.new.link) }
         ensures polls { OnOk result (Polls self.old.jobs self.old.turns self.old.log self.old.crew self.old.closing (L.story self.old.link) (L.story self.new.link)) }
         ensures came { OnOk result (Comes self.old.jobs self.old.log self.old.crew self.new.crew (L.story self.old.link) (L.story self.new.link)) }
-        ensures run { SameRun self.old self.new }
         ensures begun { is_some self.new.closing ≡ is_some self.old.closing }
         ensures log { self.new.log ≡ self.old.log }
         ensures ended { StaysEnded self.old.fault result self.new.fault (self.new.link ≡ self.old.link) }
@@ -51,10 +47,7 @@ impl<L: Link> Hub<L> {
     pub(super) fn act(&mut self) -> Result<bool, HubFault>
         requires stands { self.old.fault ≡ None }
         ensures acted { OnOk result (HasActed self.new.known (L.story self.new.link)) }
-        ensures grows { GoesOn (L.story self.old.link) (L.story self.new.link) }
-        ensures script { L.script self.new.link ≡ L.script self.old.link }
-        ensures count { L.faults self.old.link ≤ L.faults self.new.link }
-        ensures cause { IfErr result (λ fault. FailsWhere fault (L.faults self.old.link) (L.faults self.new.link)) }
+        ensures since { Since L.story L.script L.faults self.old self.new }
         ensures heard { OnOk result (HearsSo None (L.story self.old.link) (L.story self.new.link)) }
         ensures does { IfOk result (λ did. AddsSo (Does is_late_now did) (L.story self.old.link) (L.story self.new.link)) }
         ensures sends { OnOk result (Growing SendsOnly (L.story self.old.link) (L.story self.new.link)) }
@@ -66,7 +59,6 @@ impl<L: Link> Hub<L> {
         ensures fault { IfErr result (λ fault. self.new.fault ≡ Some fault) }
         ensures stands { OnOk result (self.new.fault ≡ None) }
         ensures alone { Growing (Each LeavesAlone) (L.story self.old.link) (L.story self.new.link) }
-        ensures run { SameRun self.old self.new }
         ensures log { self.new.log ≡ self.old.log }
     {
         moments_go_on();
@@ -82,10 +74,7 @@ impl<L: Link> Hub<L> {
         requires stands { self.old.fault ≡ None }
         requires acted { HasActed self.old.known (L.story self.old.link) }
         ensures ready { OnOk result (self.new.closing ≡ None → Ready self.new.known (L.story self.new.link)) }
-        ensures grows { GoesOn (L.story self.old.link) (L.story self.new.link) }
-        ensures script { L.script self.new.link ≡ L.script self.old.link }
-        ensures count { L.faults self.old.link ≤ L.faults self.new.link }
-        ensures cause { IfErr result (λ fault. FailsWhere fault (L.faults self.old.link) (L.faults self.new.link)) }
+        ensures since { Since L.story L.script L.faults self.old self.new }
         ensures heard { OnOk result (HearsSo None (L.story self.old.link) (L.story self.new.link)) }
         ensures does { IfOk result (λ did. AddsSo (Does (is_left_now (is_some self.old.closing)) did) (L.story self.old.link) (L.story self.new.link)) }
         ensures acted { OnOk result (HasActed self.new.known (L.story self.new.link)) }
@@ -96,7 +85,6 @@ impl<L: Link> Hub<L> {
         ensures fault { IfErr result (λ fault. self.new.fault ≡ Some fault) }
         ensures stands { OnOk result (self.new.fault ≡ None) }
         ensures ends_none { Growing (Each EndsNone) (L.story self.old.link) (L.story self.new.link) }
-        ensures run { SameRun self.old self.new }
         ensures begun { is_some self.new.closing ≡ is_some self.old.closing }
         ensures log { self.new.log ≡ self.old.log }
     {
@@ -116,10 +104,7 @@ impl<L: Link> Hub<L> {
         requires stands { self.old.fault ≡ None }
         requires acted { HasActed self.old.known (L.story self.old.link) }
         requires ready { self.old.closing ≡ None → Ready self.old.known (L.story self.old.link) }
-        ensures grows { GoesOn (L.story self.old.link) (L.story self.new.link) }
-        ensures script { L.script self.new.link ≡ L.script self.old.link }
-        ensures count { L.faults self.old.link ≤ L.faults self.new.link }
-        ensures cause { IfErr result (λ fault. FailsWhere fault (L.faults self.old.link) (L.faults self.new.link)) }
+        ensures since { Since L.story L.script L.faults self.old self.new }
         ensures heard { IfOk result (λ polled. HearsSo polled.heard (L.story self.old.link) (L.story self.new.link)) }
         ensures moves { IfOk result (λ polled. AddsSo (Moves polled.moved) (L.story self.old.link) (L.story self.new.link)) }
         ensures polls { OnOk result (Polls self.old.jobs self.old.turns self.old.log self.old.crew self.old.closing (L.story self.old.link) (L.story self.new.link)) }
@@ -130,7 +115,6 @@ impl<L: Link> Hub<L> {
         ensures fault { IfErr result (λ fault. self.new.fault ≡ Some fault) }
         ensures stands { OnOk result (self.new.fault ≡ None) }
         ensures alone { Growing (Each LeavesAlone) (L.story self.old.link) (L.story self.new.link) }
-        ensures run { SameRun self.old self.new }
         ensures begun { is_some self.new.closing ≡ is_some self.old.closing }
         ensures log { self.new.log ≡ self.old.log }
     {

@@ -6,13 +6,12 @@ ghost use Rattle.hub_work.specs.Came.{TakesOneIn, waiting_at};
 ghost use Rattle.hub_work.specs.Turns.{Suits, TurnTells, WhyFreeByLog};
 ghost use Rattle.tunnel_link.specs.Adds.{Growing};
 ghost use Rattle.tunnel_link.specs.Alone.{Each, LeavesAlone};
-ghost use Rattle.tunnel_link.specs.Goes.{GoesOn};
-ghost use Rattle.tunnel_link.specs.Rights.{FailsWhere};
 ghost use Rattle.hub_work.specs.declared.answers.Turned.TheVariants as answer;
 ghost use Rattle.hub_core.specs.Hears.{HearsSo};
 ghost use Rattle.hub_core.specs.Puts.{PutsRequest};
 ghost use Rattle.hub_core.specs.Waits.{TurnWaitsExactly};
-ghost use Rattle.hub_core.specs.Seen.{SameRun, StaysEnded};
+ghost use Rattle.hub_core.specs.Seen.{StaysEnded};
+ghost use Rattle.hub_core.specs.Since.{Since};
 
 use super::Hub;
 use hub_work::{Turn, Turned, places_are_free};
@@ -22,10 +21,7 @@ impl<L: Link> Hub<L> {
     /// One step of a worker, from 1: it takes a job, takes in what came for its job, sends what its job sends next, or tells its job's end.
     pub fn turn(&mut self, worker: u8) -> Result<Turned, HubFault>
         requires worker { 1 ≤ worker }
-        ensures grows { GoesOn (L.story self.old.link) (L.story self.new.link) }
-        ensures script { L.script self.new.link ≡ L.script self.old.link }
-        ensures count { L.faults self.old.link ≤ L.faults self.new.link }
-        ensures cause { self.old.fault ≡ None → IfErr result (λ fault. FailsWhere fault (L.faults self.old.link) (L.faults self.new.link)) }
+        ensures since { Since L.story L.script L.faults self.old self.new }
         ensures stands { OnOk result (self.new.fault ≡ None) }
         ensures heard { OnOk result (HearsSo None (L.story self.old.link) (L.story self.new.link)) }
         ensures told { IfOk result (λ turned. TurnTells (L.place self.old.link) worker turned self.old.log self.new.log) }
@@ -39,7 +35,6 @@ impl<L: Link> Hub<L> {
         ensures untold { OnErr result (self.new.log ≡ self.old.log) }
         ensures alone { Growing (Each LeavesAlone) (L.story self.old.link) (L.story self.new.link) }
         ensures still { IfOk result (λ turned. turned ≢ answer.Moved → self.new.link ≡ self.old.link) }
-        ensures run { SameRun self.old self.new }
         ensures closing { self.new.closing ≡ self.old.closing }
         ensures ended { StaysEnded self.old.fault result self.new.fault (self.new.link ≡ self.old.link) }
         ensures fault { IfErr result (λ fault. self.new.fault ≡ Some fault) }

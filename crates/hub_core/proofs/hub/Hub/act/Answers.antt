@@ -9,6 +9,7 @@ use Rattle.hub_core.proofs.Endings.{acts_resume}
 use Rattle.hub_core.proofs.Polls.{acts_send, acts_stay}
 use Rattle.hub_core.proofs.Came.{acts_nothing}
 use Rattle.hub_core.proofs.InTime.{awaits_on}
+use Rattle.hub_core.proofs.Since.{call_since}
 use Rattle.hub_core.proofs.hub.Hub.act.Goals as goal
 
 pub invariant_of-self : goal.invariant_of-self
@@ -21,8 +22,15 @@ invariant_of-self-2 g c =
     let none : c.self.inside.tunnel.known.fault ≡ None = none_inside _ _ c.self.view_is c.requires.stands in
     acts_done _ _ _ _ _ _ _ none c.act.ensures.events c.act.ensures.grows _ _ _ _ c.in_ok-acted.ensures.adds c.in_ok-acted.ensures.stands c.lose.ensures.books c.moments_go_on.ensures.later c.lose.ensures.fits c.now-now.ensures.newest (prompts_told _ _ c.self.inside.work c.act.ensures.prompt) c.self.invariant
 
-pub returns-clause-run : goal.returns-clause-run
-returns-clause-run g c = rw (← c.self.view_is) (same_run _ _ _ _ c.self.inside.work c.lose.new.work _ _ _ c.lose.ensures.books)
+pub returns-in_err-acted-clause-since : goal.returns-in_err-acted-clause-since
+returns-in_err-acted-clause-since g c =
+    let none : c.self.inside.tunnel.known.fault ≡ None = none_inside _ _ c.self.view_is c.requires.stands in
+    rw (← c.self.view_is) (call_since c.act.result none c.act.ensures.grows c.act.ensures.script (record { tasks = refl; devices = refl; turns = refl; missed = refl }) c.act.ensures.count (c.act.ensures.cause none) c.act.ensures.stands c.act.ensures.fault)
+
+pub returns-clause-since : goal.returns-clause-since
+returns-clause-since g c =
+    let none : c.self.inside.tunnel.known.fault ≡ None = none_inside _ _ c.self.view_is c.requires.stands in
+    rw (← c.self.view_is) (call_since c.act.result none c.act.ensures.grows c.act.ensures.script (same_run _ _ _ _ c.self.inside.work c.lose.new.work _ _ _ c.lose.ensures.books) c.act.ensures.count (c.act.ensures.cause none) c.act.ensures.stands c.act.ensures.fault)
 
 pub returns-clause-heard : goal.returns-clause-heard
 returns-clause-heard g c = rw (← c.self.view_is) (hears_none _ _ _ c.in_ok-acted.ensures.adds (λ old added h. h.0))

@@ -1,6 +1,6 @@
 use Rattle.tunnel_link.proofs.Stories.{goes_again}
 use Rattle.hub_core.proofs.Hears.{hears_after}
-use Rattle.std.proofs.Common.{sym, subst}
+use Rattle.std.proofs.Common.{◌≡◌, None, sym, subst}
 use Rattle.hub_core.specs.Closes.{Begins, Closes, Resumes}
 use Rattle.hub_core.specs.Pumps.{AddsSo}
 use Rattle.hub_core.proofs.Endings.{closes_now, closes_all, goes_after}
@@ -17,13 +17,29 @@ use Rattle.std.proofs.Common.{◌∙◌, ap}
 use Rattle.hub_core.proofs.Polls.{goes_once, closes_unpolled, none_sent, runs_on, ok_as}
 use Rattle.hub_core.specs.Polls.{SendsOnly}
 use Rattle.hub_core.proofs.Came.{comes_after, none_comes, none_added}
+use Rattle.hub_core.proofs.Since.{since_again, since_itself, still_since}
 use Rattle.hub_core.proofs.hub.Hub.finish.Goals as goal
 
-pub returns-clause-grows : goal.returns-clause-grows
-returns-clause-grows g c = rw (← c.is_over.ensures.link) (goes_again _ _ _ c.act.ensures.grows c.goes_on.ensures.grows)
+pub returns-in-Some-clause-since : goal.returns-in-Some-clause-since
+returns-in-Some-clause-since g c = since_itself
+
+pub returns-then-is_over-clause-since : goal.returns-then-is_over-clause-since
+returns-then-is_over-clause-since g c =
+    let none : c.args.self.now.fault ≡ None = ap (λ v. v.fault) (sym c.self.view_is) ∙ (sym c.fault.ensures ∙ c.in_default.is) in
+    still_since c.is_over.ensures.link (c.is_over.ensures.stands ∙ sym none) c.is_over.ensures.run
+
+pub returns-in_err-act-clause-since : goal.returns-in_err-act-clause-since
+returns-in_err-act-clause-since g c =
+    let none : c.args.self.now.fault ≡ None = ap (λ v. v.fault) (sym c.self.view_is) ∙ (sym c.fault.ensures ∙ c.in_default.is) in
+    since_again (still_since c.is_over.ensures.link (c.is_over.ensures.stands ∙ sym none) c.is_over.ensures.run) c.act.ensures.since
+
+pub returns-clause-since : goal.returns-clause-since
+returns-clause-since g c =
+    let none : c.args.self.now.fault ≡ None = ap (λ v. v.fault) (sym c.self.view_is) ∙ (sym c.fault.ensures ∙ c.in_default.is) in
+    since_again (since_again (still_since c.is_over.ensures.link (c.is_over.ensures.stands ∙ sym none) c.is_over.ensures.run) c.act.ensures.since) c.goes_on.ensures.since
 
 pub returns-clause-heard : goal.returns-clause-heard
-returns-clause-heard g c = rw (← c.is_over.ensures.link) (hears_after _ (g.L.Link.story c.act.new.self.link) _ c.goes_on.result c.goes_on.ensures.grows c.in_ok-act.ensures.heard c.goes_on.ensures.heard)
+returns-clause-heard g c = rw (← c.is_over.ensures.link) (hears_after _ (g.L.Link.story c.act.new.self.link) _ c.goes_on.result c.goes_on.ensures.since.grows c.in_ok-act.ensures.heard c.goes_on.ensures.heard)
 
 pub returns-then-is_over-clause-closes : goal.returns-then-is_over-clause-closes
 returns-then-is_over-clause-closes g c =
@@ -32,11 +48,11 @@ returns-then-is_over-clause-closes g c =
 pub returns-clause-closes : goal.returns-clause-closes
 returns-clause-closes g c =
     closes_all c.goes_on.result c.args.self.now.closing c.is_over.new.self.closing c.act.new.self.closing c.goes_on.new.self.closing (g.L.Link.story c.args.self.now.link) (g.L.Link.story c.act.new.self.link) (g.L.Link.story c.goes_on.new.self.link) c.is_over.ensures.begins
-    (subst (λ l. AddsSo (Resumes c.is_over.new.self.closing c.act.new.self.closing) (g.L.Link.story l) (g.L.Link.story c.act.new.self.link)) c.is_over.ensures.link c.in_ok-act.ensures.resumes) c.goes_on.ensures.grows c.goes_on.ensures.closes
+    (subst (λ l. AddsSo (Resumes c.is_over.new.self.closing c.act.new.self.closing) (g.L.Link.story l) (g.L.Link.story c.act.new.self.link)) c.is_over.ensures.link c.in_ok-act.ensures.resumes) c.goes_on.ensures.since.grows c.goes_on.ensures.closes
 
 pub returns-clause-goes : goal.returns-clause-goes
 returns-clause-goes g c =
-    goes_after c.goes_on.result (Resumes c.is_over.new.self.closing c.act.new.self.closing) (g.L.Link.story c.args.self.now.link) (g.L.Link.story c.act.new.self.link) (g.L.Link.story c.goes_on.new.self.link) c.goes_on.ensures.grows
+    goes_after c.goes_on.result (Resumes c.is_over.new.self.closing c.act.new.self.closing) (g.L.Link.story c.args.self.now.link) (g.L.Link.story c.act.new.self.link) (g.L.Link.story c.goes_on.new.self.link) c.goes_on.ensures.since.grows
     (subst (λ l. AddsSo (Resumes c.is_over.new.self.closing c.act.new.self.closing) (g.L.Link.story l) (g.L.Link.story c.act.new.self.link)) c.is_over.ensures.link c.in_ok-act.ensures.resumes) c.goes_on.ensures.goes
 
 pub returns-then-is_over-clause-rightly : goal.returns-then-is_over-clause-rightly
@@ -50,7 +66,7 @@ returns-in_err-act-clause-rightly g c =
 pub returns-clause-rightly : goal.returns-clause-rightly
 returns-clause-rightly g c =
     subst (λ l. Growing (ClosesOn c.args.self.now.closing) (g.L.Link.story l) (g.L.Link.story c.goes_on.new.self.link)) c.is_over.ensures.link
-    (on_with line.ClosesSo (Each LeavesAlone) alone_right c.args.self.now.closing c.is_over.new.self.closing c.act.new.self.closing (g.L.Link.story c.is_over.new.self.link) (g.L.Link.story c.act.new.self.link) (g.L.Link.story c.goes_on.new.self.link) c.act.ensures.grows c.goes_on.ensures.grows
+    (on_with line.ClosesSo (Each LeavesAlone) alone_right c.args.self.now.closing c.is_over.new.self.closing c.act.new.self.closing (g.L.Link.story c.is_over.new.self.link) (g.L.Link.story c.act.new.self.link) (g.L.Link.story c.goes_on.new.self.link) c.act.ensures.since.grows c.goes_on.ensures.since.grows
     (subst (λ l. WhereTold (λ places. Begins (newest_time (entries places)) c.args.self.now.closing c.is_over.new.self.closing) (g.L.Link.story l)) (sym c.is_over.ensures.link) c.is_over.ensures.begins)
     c.act.ensures.alone c.in_ok-act.ensures.resumes c.goes_on.ensures.rightly)
 
@@ -59,8 +75,8 @@ returns-then-is_over-clause-polls g c = closes_unpolled c.args.self.now.jobs c.a
 
 pub returns-clause-polls : goal.returns-clause-polls
 returns-clause-polls g c =
-    ok_as c.goes_on.result (goes_once c.args.self.now c.act.new.self (runs_on c.args.self.now c.is_over.new.self c.act.new.self c.is_over.ensures.run c.act.ensures.run) (c.act.ensures.log ∙ c.is_over.ensures.log)
-    (g.L.Link.story c.args.self.now.link) (g.L.Link.story c.act.new.self.link) (g.L.Link.story c.goes_on.new.self.link) (rw (← c.is_over.ensures.link) c.act.ensures.grows) c.goes_on.ensures.grows
+    ok_as c.goes_on.result (goes_once c.args.self.now c.act.new.self (runs_on c.args.self.now c.is_over.new.self c.act.new.self c.is_over.ensures.run c.act.ensures.since.run) (c.act.ensures.log ∙ c.is_over.ensures.log)
+    (g.L.Link.story c.args.self.now.link) (g.L.Link.story c.act.new.self.link) (g.L.Link.story c.goes_on.new.self.link) (rw (← c.is_over.ensures.link) c.act.ensures.since.grows) c.goes_on.ensures.since.grows
     (subst (λ l. Growing SendsOnly (g.L.Link.story l) (g.L.Link.story c.act.new.self.link)) c.is_over.ensures.link c.in_ok-act.ensures.sends)
     (λ old e. (c.in_ok-act.ensures.still old (rw c.is_over.ensures.link e)).0 ∙ c.is_over.ensures.crew)
     (λ old e. rw (c.in_ok-act.ensures.still old (rw c.is_over.ensures.link e)).1 (c.is_over.ensures.begins old e))) c.goes_on.ensures.polls
@@ -72,8 +88,8 @@ returns-then-is_over-clause-came g c =
 
 pub returns-clause-came : goal.returns-clause-came
 returns-clause-came g c =
-    ok_as c.goes_on.result (comes_after c.args.self.now c.act.new.self (runs_on c.args.self.now c.is_over.new.self c.act.new.self c.is_over.ensures.run c.act.ensures.run) (c.act.ensures.log ∙ c.is_over.ensures.log) c.goes_on.new.self.crew
-    (g.L.Link.story c.args.self.now.link) (g.L.Link.story c.act.new.self.link) (g.L.Link.story c.goes_on.new.self.link) (rw (← c.is_over.ensures.link) c.act.ensures.grows) c.goes_on.ensures.grows
+    ok_as c.goes_on.result (comes_after c.args.self.now c.act.new.self (runs_on c.args.self.now c.is_over.new.self c.act.new.self c.is_over.ensures.run c.act.ensures.since.run) (c.act.ensures.log ∙ c.is_over.ensures.log) c.goes_on.new.self.crew
+    (g.L.Link.story c.args.self.now.link) (g.L.Link.story c.act.new.self.link) (g.L.Link.story c.goes_on.new.self.link) (rw (← c.is_over.ensures.link) c.act.ensures.since.grows) c.goes_on.ensures.since.grows
     (subst (λ l. Growing AllNothing (g.L.Link.story l) (g.L.Link.story c.act.new.self.link)) c.is_over.ensures.link c.in_ok-act.ensures.nothing)
     (λ old e. (c.in_ok-act.ensures.still old (rw c.is_over.ensures.link e)).0 ∙ c.is_over.ensures.crew)) c.goes_on.ensures.came
 
@@ -84,6 +100,6 @@ returns-then-is_over-clause-waits g c =
 pub returns-clause-waits : goal.returns-clause-waits
 returns-clause-waits g c =
     ok_as c.goes_on.result (λ h. subst (λ l. Growing (WaitsOn c.args.self.now.closing) (g.L.Link.story l) (g.L.Link.story c.goes_on.new.self.link)) c.is_over.ensures.link
-    (on_with line.WaitsSo SendsOnly sends_right c.args.self.now.closing c.is_over.new.self.closing c.act.new.self.closing (g.L.Link.story c.is_over.new.self.link) (g.L.Link.story c.act.new.self.link) (g.L.Link.story c.goes_on.new.self.link) c.act.ensures.grows c.goes_on.ensures.grows
+    (on_with line.WaitsSo SendsOnly sends_right c.args.self.now.closing c.is_over.new.self.closing c.act.new.self.closing (g.L.Link.story c.is_over.new.self.link) (g.L.Link.story c.act.new.self.link) (g.L.Link.story c.goes_on.new.self.link) c.act.ensures.since.grows c.goes_on.ensures.since.grows
     (subst (λ l. WhereTold (λ places. Begins (newest_time (entries places)) c.args.self.now.closing c.is_over.new.self.closing) (g.L.Link.story l)) (sym c.is_over.ensures.link) c.is_over.ensures.begins)
     c.in_ok-act.ensures.sends c.in_ok-act.ensures.resumes h)) c.goes_on.ensures.waits

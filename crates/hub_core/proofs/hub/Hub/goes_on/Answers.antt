@@ -18,6 +18,7 @@ use Rattle.hub_core.proofs.Polls.{closes_once, closes_unpolled, none_sent, ok_as
 use Rattle.std.proofs.Common.{◌∙◌}
 use Rattle.hub_core.specs.Came.{Comes}
 use Rattle.hub_core.proofs.Came.{comes_after, none_comes, none_added}
+use Rattle.hub_core.proofs.Since.{since_again, still_since}
 use Rattle.hub_core.proofs.hub.Hub.goes_on.Goals as goal
 
 pub listen-requires-clause-waits : goal.listen-requires-clause-waits
@@ -26,6 +27,12 @@ listen-requires-clause-waits g c = λ places e.
     let now : c.now-now.result ≡ newest_time (entries places) = c.now-now.ensures.newest places (subst (λ v. places_in (g.L.Link.story v.link) ≡ Some places) (sym c.self.view_is) was) in
     begun_waits c.closing.result c.args.self.now.closing c.closing.new.self.closing (newest_time (entries places)) c.closing.ensures.is (c.closing.ensures.begins places was)
     (subst (λ n. (line.is_listening (closing_of c.closing.result) && line.has_waited (closing_of c.closing.result) n) ≡ false) now (sym c.asks.ensures ∙ c.if-asks.false)) (c.requires.awaits places was)
+
+pub returns-then-asks-clause-since : goal.returns-then-asks-clause-since
+returns-then-asks-clause-since g c = since_again (still_since c.closing.ensures.link (c.closing.ensures.stands ∙ sym c.requires.stands) c.closing.ensures.run) c.leave.ensures.since
+
+pub returns-else-asks-clause-since : goal.returns-else-asks-clause-since
+returns-else-asks-clause-since g c = since_again (still_since c.closing.ensures.link (c.closing.ensures.stands ∙ sym c.requires.stands) c.closing.ensures.run) c.listen.ensures.since
 
 pub returns-then-asks-clause-closes : goal.returns-then-asks-clause-closes
 returns-then-asks-clause-closes g c =
@@ -54,7 +61,7 @@ returns-then-asks-clause-polls g c =
 pub returns-else-asks-clause-polls : goal.returns-else-asks-clause-polls
 returns-else-asks-clause-polls g c =
     ok_as c.listen.result (λ h. closes_once c.args.self.now c.closing.new.self c.closing.ensures.run c.closing.ensures.log (g.L.Link.story c.args.self.now.link) (g.L.Link.story c.args.self.now.link) (g.L.Link.story c.listen.new.self.link)
-    (stays (g.L.Link.story c.args.self.now.link) (g.L.Link.story c.args.self.now.link) refl).on (rw (← c.closing.ensures.link) c.listen.ensures.grows) (none_sent (g.L.Link.story c.args.self.now.link) (g.L.Link.story c.args.self.now.link) refl) (λ old e. c.closing.ensures.crew) c.closing.ensures.begins
+    (stays (g.L.Link.story c.args.self.now.link) (g.L.Link.story c.args.self.now.link) refl).on (rw (← c.closing.ensures.link) c.listen.ensures.since.grows) (none_sent (g.L.Link.story c.args.self.now.link) (g.L.Link.story c.args.self.now.link) refl) (λ old e. c.closing.ensures.crew) c.closing.ensures.begins
     (subst (λ l. Polls c.closing.new.self.jobs c.closing.new.self.turns c.closing.new.self.log c.closing.new.self.crew c.closing.new.self.closing (g.L.Link.story l) (g.L.Link.story c.listen.new.self.link)) c.closing.ensures.link h)) c.listen.ensures.polls
 
 pub returns-then-asks-clause-came : goal.returns-then-asks-clause-came
@@ -65,7 +72,7 @@ returns-then-asks-clause-came g c =
 pub returns-else-asks-clause-came : goal.returns-else-asks-clause-came
 returns-else-asks-clause-came g c =
     ok_as c.listen.result (λ h. comes_after c.args.self.now c.closing.new.self c.closing.ensures.run c.closing.ensures.log c.listen.new.self.crew (g.L.Link.story c.args.self.now.link) (g.L.Link.story c.args.self.now.link) (g.L.Link.story c.listen.new.self.link)
-    (stays (g.L.Link.story c.args.self.now.link) (g.L.Link.story c.args.self.now.link) refl).on (rw (← c.closing.ensures.link) c.listen.ensures.grows) (none_added (g.L.Link.story c.args.self.now.link) (g.L.Link.story c.args.self.now.link) refl) (λ old e. c.closing.ensures.crew)
+    (stays (g.L.Link.story c.args.self.now.link) (g.L.Link.story c.args.self.now.link) refl).on (rw (← c.closing.ensures.link) c.listen.ensures.since.grows) (none_added (g.L.Link.story c.args.self.now.link) (g.L.Link.story c.args.self.now.link) refl) (λ old e. c.closing.ensures.crew)
     (subst (λ l. Comes c.closing.new.self.jobs c.closing.new.self.log c.closing.new.self.crew c.listen.new.self.crew (g.L.Link.story l) (g.L.Link.story c.listen.new.self.link)) c.closing.ensures.link h)) c.listen.ensures.came
 
 pub returns-then-asks-clause-waits : goal.returns-then-asks-clause-waits

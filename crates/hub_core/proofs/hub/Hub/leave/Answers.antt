@@ -1,4 +1,4 @@
-use Rattle.std.proofs.Common.{◌≡◌, Some, None, sym, subst}
+use Rattle.std.proofs.Common.{◌≡◌, Some, None, sym, subst, refl, ◌∙◌}
 use Rattle.hub_core.specs.Keeps.{IsAllDone}
 use Rattle.hub_core.proofs.Calls.{leaves_failed, leaves_done, same_refl}
 use Rattle.hub_core.proofs.Closings.{closing_kept}
@@ -16,6 +16,7 @@ use Rattle.hub_core.specs.Leaving.{ClosesOn}
 use Rattle.hub_core.proofs.Leaving.{leave_closes}
 use Rattle.hub_core.specs.Polls.{SendsOnly}
 use Rattle.hub_core.proofs.Polls.{leaves_send}
+use Rattle.hub_core.proofs.Since.{call_since, since_again, still_since}
 use Rattle.hub_core.proofs.hub.Hub.leave.Goals as goal
 
 pub invariant_of-self : goal.invariant_of-self
@@ -36,6 +37,21 @@ invariant_of-self-then-not-asked g c =
     let none : c.self.inside.tunnel.known.fault ≡ None = none_inside _ _ c.self.view_is c.requires.stands in
     leaves_done _ _ _ _ _ _ _ none c.leave.ensures.events c.leave.ensures.grows c.self.inside.work c.self.inside.work c.in_ok-asked.asked c.now-now.result c.in_ok-asked.ensures.adds c.in_ok-asked.ensures.stands (same_refl c.self.inside.work)
     c.moments_go_on.ensures.later (asides_fit c.self.inside.work c.now-now.result c.moments_go_on.ensures.aside) c.now-now.ensures.newest (prompts_told _ _ c.self.inside.work c.leave.ensures.prompt) c.self.invariant
+
+pub returns-in_err-asked-clause-since : goal.returns-in_err-asked-clause-since
+returns-in_err-asked-clause-since g c =
+    let none : c.self.inside.tunnel.known.fault ≡ None = none_inside _ _ c.self.view_is c.requires.stands in
+    rw (← c.self.view_is) (call_since c.leave.result none c.leave.ensures.grows c.leave.ensures.script (record { tasks = refl; devices = refl; turns = refl; missed = refl }) c.leave.ensures.count (c.leave.ensures.cause none) c.leave.ensures.stands c.leave.ensures.fault)
+
+pub returns-then-not-asked-clause-since : goal.returns-then-not-asked-clause-since
+returns-then-not-asked-clause-since g c =
+    let none : c.self.inside.tunnel.known.fault ≡ None = none_inside _ _ c.self.view_is c.requires.stands in
+    rw (← c.self.view_is) (call_since c.leave.result none c.leave.ensures.grows c.leave.ensures.script (record { tasks = refl; devices = refl; turns = refl; missed = refl }) c.leave.ensures.count (c.leave.ensures.cause none) c.leave.ensures.stands c.leave.ensures.fault)
+
+pub returns-clause-since : goal.returns-clause-since
+returns-clause-since g c =
+    let none : c.self.inside.tunnel.known.fault ≡ None = none_inside _ _ c.self.view_is c.requires.stands in
+    rw (← c.self.view_is) (since_again (call_since c.leave.result none c.leave.ensures.grows c.leave.ensures.script (record { tasks = refl; devices = refl; turns = refl; missed = refl }) c.leave.ensures.count (c.leave.ensures.cause none) c.leave.ensures.stands c.leave.ensures.fault) (still_since c.is_over-is_over.ensures.link (c.is_over-is_over.ensures.stands ∙ sym c.in_ok-asked.ensures.stands) c.is_over-is_over.ensures.run))
 
 pub returns-then-not-asked-clause-heard : goal.returns-then-not-asked-clause-heard
 returns-then-not-asked-clause-heard g c = rw (← c.self.view_is) (hears_none _ _ _ c.in_ok-asked.ensures.adds (λ old added h. h.nothing))

@@ -1,4 +1,4 @@
-use Rattle.std.proofs.Common.{sym, subst}
+use Rattle.std.proofs.Common.{sym, subst, ◌∙◌}
 use Rattle.hub_core.specs.Closes.{Resumes}
 use Rattle.hub_core.specs.Hears.{HearsSo, heard_at_end}
 use Rattle.hub_core.specs.Pumps.{AddsSo}
@@ -8,7 +8,14 @@ use Rattle.hub_core.specs.Leaving.{ClosesOn, WaitsOn}
 use Rattle.hub_core.proofs.Leaving.{closes_alone}
 use Rattle.hub_core.specs.Polls.{Polls}
 use Rattle.hub_core.specs.Came.{Comes}
+use Rattle.hub_core.proofs.Since.{since_again, still_since}
 use Rattle.hub_core.proofs.hub.Hub.listen.Goals as goal
+
+pub returns-in_err-polled-clause-since : goal.returns-in_err-polled-clause-since
+returns-in_err-polled-clause-since g c = c.poll.ensures.since
+
+pub returns-clause-since : goal.returns-clause-since
+returns-clause-since g c = since_again c.poll.ensures.since (still_since c.is_over-is_over.ensures.link (c.is_over-is_over.ensures.stands ∙ sym c.in_ok-polled.ensures.stands) c.is_over-is_over.ensures.run)
 
 pub returns-clause-heard : goal.returns-clause-heard
 returns-clause-heard g c =

@@ -1,4 +1,4 @@
-use Rattle.std.proofs.Common.{◌≡◌, ◌∙◌, sym, Option, Some, None, subst}
+use Rattle.std.proofs.Common.{◌≡◌, ◌∙◌, sym, Option, Some, None, subst, refl}
 use Rattle.line_model.specs.declared.fault.HubFault.{HubFault}
 use Rattle.tunnel_link.specs.Adds.{Ready}
 use Rattle.hub_core.specs.Keeps.{Keeps}
@@ -15,6 +15,7 @@ use Rattle.tunnel_link.specs.Adds.{HasActed}
 use Rattle.hub_core.proofs.Polls.{polls_once}
 use Rattle.hub_core.proofs.InTime.{polls_wait}
 use Rattle.hub_core.proofs.Came.{polls_come}
+use Rattle.hub_core.proofs.Since.{call_since, ended_since, own_fails}
 use Rattle.hub_core.proofs.hub.Hub.poll.Goals as goal
 
 pub invariant_of-self : goal.invariant_of-self
@@ -37,11 +38,22 @@ invariant_of-self-in-None g c =
     c.take_in-polled.ensures.fits c.now-now-2.ensures.newest (λ places e. c.taken.ensures ∙ (c.keeps.ensures.record places e).right.takes) None c.in_ok-came.ensures.stands
     (subst (λ (o : Option HubFault). EndsSo c.take_in-polled.new.work c.self.inside.met c.ending.new.met c.in_ok-came.came.what c.taken.result o) c.in-None.is c.ending.ensures) (prompts_polled _ _ c.self.inside.work _ c.in_ok-came.ensures.adds (λ e. c.poll.ensures.prompt (subst (λ v. v.closing ≡ None → Ready v.known (g.L.Link.story v.link)) (sym c.self.view_is) c.requires.ready e)) c.self.invariant.closes) c.self.invariant
 
-pub returns-in-Some-clause-run : goal.returns-in-Some-clause-run
-returns-in-Some-clause-run g c = rw (← c.self.view_is) (same_run _ _ _ _ c.self.inside.work c.take_in-polled.new.work _ _ _ c.take_in-polled.ensures.books)
+pub returns-in_err-came-clause-since : goal.returns-in_err-came-clause-since
+returns-in_err-came-clause-since g c =
+    let none : c.self.inside.tunnel.known.fault ≡ None = none_inside _ _ c.self.view_is c.requires.stands in
+    rw (← c.self.view_is) (call_since c.poll.result none c.poll.ensures.grows c.poll.ensures.script (record { tasks = refl; devices = refl; turns = refl; missed = refl }) c.poll.ensures.count (c.poll.ensures.cause none) c.poll.ensures.stands c.poll.ensures.fault)
 
-pub returns-in-None-clause-run : goal.returns-in-None-clause-run
-returns-in-None-clause-run g c = rw (← c.self.view_is) (same_run _ _ _ _ c.self.inside.work c.take_in-polled.new.work _ _ _ c.take_in-polled.ensures.books)
+pub returns-in-Some-clause-since : goal.returns-in-Some-clause-since
+returns-in-Some-clause-since g c =
+    let none : c.self.inside.tunnel.known.fault ≡ None = none_inside _ _ c.self.view_is c.requires.stands in
+    let own : EndsSo c.take_in-polled.new.work c.self.inside.met c.ending.new.met c.in_ok-came.came.what c.taken.result (Some c.in-Some.fault) =
+    subst (λ (o : Option HubFault). EndsSo c.take_in-polled.new.work c.self.inside.met c.ending.new.met c.in_ok-came.came.what c.taken.result o) c.in-Some.is c.ending.ensures in
+    rw (← c.self.view_is) (rw c.fail.ensures.link (ended_since c.in-Some.fault none c.poll.ensures.grows c.poll.ensures.script (same_run _ _ _ _ c.self.inside.work c.take_in-polled.new.work _ _ _ c.take_in-polled.ensures.books) c.poll.ensures.count (own_fails _ _ _ _ _ c.in-Some.fault _ _ own) c.fail.ensures.fault))
+
+pub returns-in-None-clause-since : goal.returns-in-None-clause-since
+returns-in-None-clause-since g c =
+    let none : c.self.inside.tunnel.known.fault ≡ None = none_inside _ _ c.self.view_is c.requires.stands in
+    rw (← c.self.view_is) (call_since c.poll.result none c.poll.ensures.grows c.poll.ensures.script (same_run _ _ _ _ c.self.inside.work c.take_in-polled.new.work _ _ _ c.take_in-polled.ensures.books) c.poll.ensures.count (c.poll.ensures.cause none) c.poll.ensures.stands c.poll.ensures.fault)
 
 pub returns-in-None-clause-heard : goal.returns-in-None-clause-heard
 returns-in-None-clause-heard g c = rw (← c.self.view_is) (hears_poll _ _ c.in_ok-came.came _ c.in_ok-came.ensures.adds c.take_in-polled.ensures.heard)

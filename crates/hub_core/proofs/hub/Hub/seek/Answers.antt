@@ -10,6 +10,7 @@ use Rattle.hub_core.proofs.Pumping.{seeks_answer, seeks_none}
 use Rattle.hub_core.proofs.Polls.{seeks_send, seeks_acted, none_sent}
 use Rattle.hub_core.proofs.Came.{seeks_nothing, none_added}
 use Rattle.tunnel_link.specs.Adds.{HasActed}
+use Rattle.hub_core.proofs.Since.{call_since, since_itself}
 use Rattle.hub_core.proofs.hub.Hub.seek.Goals as goal
 
 pub invariant_of-self : goal.invariant_of-self
@@ -17,6 +18,14 @@ invariant_of-self g c =
     let none : c.self.inside.tunnel.known.fault ≡ None = none_inside _ _ c.self.view_is c.requires.stands in
     seeks_kept _ _ _ _ _ _ _ none c.seek-sought.ensures.events c.seek-sought.ensures.grows _ c.seek-sought.result _ c.seek-sought.ensures.adds c.seek-sought.ensures.fault c.seek-sought.ensures.stands (c.seek-sought.ensures.by_tunnel none)
     c.moments_go_on.ensures.later c.moments_go_on.ensures.aside c.now-now.ensures.newest (prompts_told _ _ c.self.inside.work c.seek-sought.ensures.prompt) c.self.invariant
+
+pub returns-in-Some-clause-since : goal.returns-in-Some-clause-since
+returns-in-Some-clause-since g c = since_itself
+
+pub returns-in-None-clause-since : goal.returns-in-None-clause-since
+returns-in-None-clause-since g c =
+    let none : c.self.inside.tunnel.known.fault ≡ None = none_inside _ _ c.self.view_is c.requires.stands in
+    rw (← c.self.view_is) (call_since c.seek-sought.result none c.seek-sought.ensures.grows c.seek-sought.ensures.script (record { tasks = refl; devices = refl; turns = refl; missed = refl }) c.seek-sought.ensures.count (c.seek-sought.ensures.cause none) c.seek-sought.ensures.stands c.seek-sought.ensures.fault)
 
 pub returns-in-None-clause-heard : goal.returns-in-None-clause-heard
 returns-in-None-clause-heard g c = rw (← c.self.view_is) (seeks_heard _ _ c.seek-sought.result c.seek-sought.ensures.adds)

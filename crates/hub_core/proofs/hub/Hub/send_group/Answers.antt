@@ -8,6 +8,7 @@ use Rattle.hub_work.specs.Works.{KeepsBooks}
 use Rattle.hub_core.proofs.Keeps.{books_same, of_books, stays_same}
 use Rattle.hub_core.proofs.Prompting.{prompts_told}
 use Rattle.hub_core.proofs.Putting.{telegram_so, put_done, put_failed}
+use Rattle.hub_core.proofs.Since.{call_since, since_itself, still_since}
 use Rattle.hub_core.proofs.View.{same_run, work_run}
 use Rattle.hub_core.proofs.Written.{written, told_writes}
 use Rattle.hub_core.proofs.Hears.{hears_put, puts_request}
@@ -54,17 +55,33 @@ invariant_of-self-in-Unput g c =
     (subst (λ (n : ℕ). KeepsBooks n c.self.inside.work) (sym c.at-at.ensures.value) c.self.invariant.books) (sym c.stage.ensures ∙ c.in-Unput.is) c.in-Some-telegram.ensures.right c.telegram_put.ensures.follows c.in-Some-telegram.ensures.next (of_books c.self.inside.work c.telegram_put.new.self c.telegram_put.ensures.books) fits)
     _ c.in_ok-put-in-Unput.ensures.adds c.in_ok-put-in-Unput.ensures.stands c.self.invariant
 
-pub returns-in_err-put-in-Unput-clause-run : goal.returns-in_err-put-in-Unput-clause-run
-returns-in_err-put-in-Unput-clause-run g c = rw (← c.self.view_is) (same_run _ _ _ _ c.self.inside.work c.telegram_put.new.self _ _ _ (of_books c.self.inside.work c.telegram_put.new.self c.telegram_put.ensures.books))
+pub returns-in-Some-clause-since : goal.returns-in-Some-clause-since
+returns-in-Some-clause-since g c = since_itself
 
-pub returns-in-Confirmed-clause-run : goal.returns-in-Confirmed-clause-run
-returns-in-Confirmed-clause-run g c = rw (← c.self.view_is) (work_run _ _ _ _ c.self.inside.work c.tell_telegram.new.self _ _ _ c.tell_telegram.ensures.run)
+pub returns-in-UnderWay-clause-since : goal.returns-in-UnderWay-clause-since
+returns-in-UnderWay-clause-since g c = since_itself
 
-pub returns-in-Lost-clause-run : goal.returns-in-Lost-clause-run
-returns-in-Lost-clause-run g c = rw (← c.self.view_is) (work_run _ _ _ _ c.self.inside.work c.tell_telegram-in-Lost.new.self _ _ _ c.tell_telegram-in-Lost.ensures.run)
+pub returns-then-not-has_place-clause-since : goal.returns-then-not-has_place-clause-since
+returns-then-not-has_place-clause-since g c = since_itself
 
-pub returns-in_ok-put-in-Unput-clause-run : goal.returns-in_ok-put-in-Unput-clause-run
-returns-in_ok-put-in-Unput-clause-run g c = rw (← c.self.view_is) (same_run _ _ _ _ c.self.inside.work c.telegram_put.new.self _ _ _ (of_books c.self.inside.work c.telegram_put.new.self c.telegram_put.ensures.books))
+pub returns-in_default-telegram-clause-since : goal.returns-in_default-telegram-clause-since
+returns-in_default-telegram-clause-since g c = since_itself
+
+pub returns-in-Confirmed-clause-since : goal.returns-in-Confirmed-clause-since
+returns-in-Confirmed-clause-since g c = rw (← c.self.view_is) (still_since refl refl (work_run _ _ _ _ c.self.inside.work c.tell_telegram.new.self _ _ _ c.tell_telegram.ensures.run))
+
+pub returns-in-Lost-clause-since : goal.returns-in-Lost-clause-since
+returns-in-Lost-clause-since g c = rw (← c.self.view_is) (still_since refl refl (work_run _ _ _ _ c.self.inside.work c.tell_telegram-in-Lost.new.self _ _ _ c.tell_telegram-in-Lost.ensures.run))
+
+pub returns-in_err-put-in-Unput-clause-since : goal.returns-in_err-put-in-Unput-clause-since
+returns-in_err-put-in-Unput-clause-since g c =
+    let none : c.self.inside.tunnel.known.fault ≡ None = sym c.fault.ensures ∙ c.in_default.is in
+    rw (← c.self.view_is) (call_since c.put.result none c.put.ensures.grows c.put.ensures.script (same_run _ _ _ _ c.self.inside.work c.telegram_put.new.self _ _ _ (of_books c.self.inside.work c.telegram_put.new.self c.telegram_put.ensures.books)) c.put.ensures.count (c.put.ensures.cause none) c.put.ensures.stands c.put.ensures.fault)
+
+pub returns-in_ok-put-in-Unput-clause-since : goal.returns-in_ok-put-in-Unput-clause-since
+returns-in_ok-put-in-Unput-clause-since g c =
+    let none : c.self.inside.tunnel.known.fault ≡ None = sym c.fault.ensures ∙ c.in_default.is in
+    rw (← c.self.view_is) (call_since c.put.result none c.put.ensures.grows c.put.ensures.script (same_run _ _ _ _ c.self.inside.work c.telegram_put.new.self _ _ _ (of_books c.self.inside.work c.telegram_put.new.self c.telegram_put.ensures.books)) c.put.ensures.count (c.put.ensures.cause none) c.put.ensures.stands c.put.ensures.fault)
 
 pub returns-in_ok-put-in-Unput-clause-heard : goal.returns-in_ok-put-in-Unput-clause-heard
 returns-in_ok-put-in-Unput-clause-heard g c =

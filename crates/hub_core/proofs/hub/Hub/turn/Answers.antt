@@ -5,6 +5,7 @@ use Rattle.line_model.specs.ClientView.{channel}
 use Rattle.line_model.specs.Record.{entries}
 use Rattle.hub_core.proofs.Prompting.{prompts_told}
 use Rattle.hub_core.proofs.Putting.{turn_so, turn_did, put_done, put_failed}
+use Rattle.hub_core.proofs.Since.{call_since, since_itself, still_since}
 use Rattle.hub_core.proofs.View.{work_run}
 use Rattle.hub_core.proofs.Written.{written, turn_writes}
 use Rattle.hub_core.proofs.Hears.{hears_put, puts_request}
@@ -41,14 +42,22 @@ invariant_of-self-in-Puts g c =
     turn_so _ c.self.inside.work c.turn.new.self _ c.now-now.result c.at-at.result jobs old es c.at-at.ensures.told (c.now-now.ensures.newest old es) place (c.places_are_free.ensures old (c.keeps.ensures.record old es).right.renews place) c.in-Puts.ensures.follows fits)
     _ c.in_ok-put-in-Puts.ensures.adds c.in_ok-put-in-Puts.ensures.stands c.self.invariant
 
-pub returns-in_err-put-in-Puts-clause-run : goal.returns-in_err-put-in-Puts-clause-run
-returns-in_err-put-in-Puts-clause-run g c = rw (← c.self.view_is) (work_run _ _ _ _ c.self.inside.work c.turn.new.self _ _ _ c.turn.ensures.run)
+pub returns-in-Some-clause-since : goal.returns-in-Some-clause-since
+returns-in-Some-clause-since g c = since_itself
 
-pub returns-in-Did-clause-run : goal.returns-in-Did-clause-run
-returns-in-Did-clause-run g c = rw (← c.self.view_is) (work_run _ _ _ _ c.self.inside.work c.turn.new.self _ _ _ c.turn.ensures.run)
+pub returns-in_err-put-in-Puts-clause-since : goal.returns-in_err-put-in-Puts-clause-since
+returns-in_err-put-in-Puts-clause-since g c =
+    let none : c.self.inside.tunnel.known.fault ≡ None = sym c.fault.ensures ∙ c.in_default.is in
+    rw (← c.self.view_is) (call_since c.put.result none c.put.ensures.grows c.put.ensures.script (work_run _ _ _ _ c.self.inside.work c.turn.new.self _ _ _ c.turn.ensures.run) c.put.ensures.count (c.put.ensures.cause none) c.put.ensures.stands c.put.ensures.fault)
 
-pub returns-in_ok-put-in-Puts-clause-run : goal.returns-in_ok-put-in-Puts-clause-run
-returns-in_ok-put-in-Puts-clause-run g c = rw (← c.self.view_is) (work_run _ _ _ _ c.self.inside.work c.turn.new.self _ _ _ c.turn.ensures.run)
+pub returns-in-Did-clause-since : goal.returns-in-Did-clause-since
+returns-in-Did-clause-since g c =
+    rw (← c.self.view_is) (still_since refl refl (work_run _ _ _ _ c.self.inside.work c.turn.new.self _ _ _ c.turn.ensures.run))
+
+pub returns-in_ok-put-in-Puts-clause-since : goal.returns-in_ok-put-in-Puts-clause-since
+returns-in_ok-put-in-Puts-clause-since g c =
+    let none : c.self.inside.tunnel.known.fault ≡ None = sym c.fault.ensures ∙ c.in_default.is in
+    rw (← c.self.view_is) (call_since c.put.result none c.put.ensures.grows c.put.ensures.script (work_run _ _ _ _ c.self.inside.work c.turn.new.self _ _ _ c.turn.ensures.run) c.put.ensures.count (c.put.ensures.cause none) c.put.ensures.stands c.put.ensures.fault)
 
 pub returns-in_ok-put-in-Puts-clause-heard : goal.returns-in_ok-put-in-Puts-clause-heard
 returns-in_ok-put-in-Puts-clause-heard g c =

@@ -2,7 +2,6 @@ use Rattle.std.proofs.Common.{sym, ap, subst, ◌∙◌}
 use Rattle.hub_core.specs.declared.answers.Finished.{Finished}
 use Rattle.hub_core.specs.Closes.{EndsAs}
 use Rattle.hub_core.specs.Hears.{heard_at_end}
-use Rattle.hub_core.proofs.Since.{call_since}
 use Rattle.hub_driver.proofs.Closed.{over_closed}
 use Rattle.hub_driver.proofs.Hearing.{hears_none, hears_one, no_longer}
 use Rattle.hub_driver.proofs.Telling.{stays_done}
@@ -13,67 +12,67 @@ pub finish-requires : goal.finish-requires
 finish-requires g c = record { over = c.requires.done.jobs; told = c.requires.done.telegrams }
 
 pub returns-in_ok-hears-in-Heard-clause-done : goal.returns-in_ok-hears-in-Heard-clause-done
-returns-in_ok-hears-in-Heard-clause-done g c = rw c.hears.ensures.hub (stays_done _ _ c.finish.ensures.run c.finish.ensures.log c.requires.done)
+returns-in_ok-hears-in-Heard-clause-done g c = rw c.hears.ensures.hub (stays_done _ _ c.finish.ensures.since.run c.finish.ensures.log c.requires.done)
 
 pub returns-in-Going-clause-done : goal.returns-in-Going-clause-done
-returns-in-Going-clause-done g c = stays_done _ _ c.finish.ensures.run c.finish.ensures.log c.requires.done
+returns-in-Going-clause-done g c = stays_done _ _ c.finish.ensures.since.run c.finish.ensures.log c.requires.done
 
 pub returns-in-Over-clause-done : goal.returns-in-Over-clause-done
-returns-in-Over-clause-done g c = stays_done _ _ c.finish.ensures.run c.finish.ensures.log c.requires.done
+returns-in-Over-clause-done g c = stays_done _ _ c.finish.ensures.since.run c.finish.ensures.log c.requires.done
 
 pub returns-in_ok-hears-in-Heard-clause-heard : goal.returns-in_ok-hears-in-Heard-clause-heard
 returns-in_ok-hears-in-Heard-clause-heard g c =
     rw (c.in_ok-hears-in-Heard.ensures.heard, c.hears.ensures.hub)
-    (hears_one _ c.in-Heard.indication _ _ _ (ap heard_at_end c.in-Heard.is) c.finish.ensures.grows c.in_ok-indication.ensures.heard c.requires.heard)
+    (hears_one _ c.in-Heard.indication _ _ _ (ap heard_at_end c.in-Heard.is) c.finish.ensures.since.grows c.in_ok-indication.ensures.heard c.requires.heard)
 
 pub returns-in-Going-clause-heard : goal.returns-in-Going-clause-heard
-returns-in-Going-clause-heard g c = hears_none _ _ _ _ (ap heard_at_end c.in-Going.is) c.finish.ensures.grows c.in_ok-indication.ensures.heard c.requires.heard
+returns-in-Going-clause-heard g c = hears_none _ _ _ _ (ap heard_at_end c.in-Going.is) c.finish.ensures.since.grows c.in_ok-indication.ensures.heard c.requires.heard
 
 pub returns-in-Over-clause-heard : goal.returns-in-Over-clause-heard
-returns-in-Over-clause-heard g c = hears_none _ _ _ _ (ap heard_at_end c.in-Over.is) c.finish.ensures.grows c.in_ok-indication.ensures.heard c.requires.heard
+returns-in-Over-clause-heard g c = hears_none _ _ _ _ (ap heard_at_end c.in-Over.is) c.finish.ensures.since.grows c.in_ok-indication.ensures.heard c.requires.heard
 
 pub returns-in_err-indication-clause-since : goal.returns-in_err-indication-clause-since
-returns-in_err-indication-clause-since g c = call_since c.finish.result c.finish.ensures.grows c.finish.ensures.script c.finish.ensures.run c.finish.ensures.count c.finish.ensures.cause c.finish.ensures.stands c.finish.ensures.ended c.finish.ensures.fault
+returns-in_err-indication-clause-since g c = c.finish.ensures.since
 
 pub returns-in_err-hears-in-Heard-clause-since : goal.returns-in_err-hears-in-Heard-clause-since
-returns-in_err-hears-in-Heard-clause-since g c = rw c.hears.ensures.hub (call_since c.finish.result c.finish.ensures.grows c.finish.ensures.script c.finish.ensures.run c.finish.ensures.count c.finish.ensures.cause c.finish.ensures.stands c.finish.ensures.ended c.finish.ensures.fault)
+returns-in_err-hears-in-Heard-clause-since g c = rw c.hears.ensures.hub c.finish.ensures.since
 
 pub returns-in_ok-hears-in-Heard-clause-since : goal.returns-in_ok-hears-in-Heard-clause-since
-returns-in_ok-hears-in-Heard-clause-since g c = rw c.hears.ensures.hub (call_since c.finish.result c.finish.ensures.grows c.finish.ensures.script c.finish.ensures.run c.finish.ensures.count c.finish.ensures.cause c.finish.ensures.stands c.finish.ensures.ended c.finish.ensures.fault)
+returns-in_ok-hears-in-Heard-clause-since g c = rw c.hears.ensures.hub c.finish.ensures.since
 
 pub returns-in-Going-clause-since : goal.returns-in-Going-clause-since
-returns-in-Going-clause-since g c = call_since c.finish.result c.finish.ensures.grows c.finish.ensures.script c.finish.ensures.run c.finish.ensures.count c.finish.ensures.cause c.finish.ensures.stands c.finish.ensures.ended c.finish.ensures.fault
+returns-in-Going-clause-since g c = c.finish.ensures.since
 
 pub returns-in-Over-clause-since : goal.returns-in-Over-clause-since
-returns-in-Over-clause-since g c = call_since c.finish.result c.finish.ensures.grows c.finish.ensures.script c.finish.ensures.run c.finish.ensures.count c.finish.ensures.cause c.finish.ensures.stands c.finish.ensures.ended c.finish.ensures.fault
+returns-in-Over-clause-since g c = c.finish.ensures.since
 
 pub returns-in_err-indication-clause-closes : goal.returns-in_err-indication-clause-closes
-returns-in_err-indication-clause-closes g c = closes_step c.args.self.now.hub c.finish.new.self (g.L.Link.story c.args.self.now.hub.link) (g.L.Link.story c.finish.new.self.link) c.finish.ensures.grows c.finish.ensures.rightly c.finish.ensures.log c.requires.closes c.requires.far
+returns-in_err-indication-clause-closes g c = closes_step c.args.self.now.hub c.finish.new.self (g.L.Link.story c.args.self.now.hub.link) (g.L.Link.story c.finish.new.self.link) c.finish.ensures.since.grows c.finish.ensures.rightly c.finish.ensures.log c.requires.closes c.requires.far
 
 pub returns-in_err-hears-in-Heard-clause-closes : goal.returns-in_err-hears-in-Heard-clause-closes
-returns-in_err-hears-in-Heard-clause-closes g c = rw c.hears.ensures.hub (closes_step c.args.self.now.hub c.finish.new.self (g.L.Link.story c.args.self.now.hub.link) (g.L.Link.story c.finish.new.self.link) c.finish.ensures.grows c.finish.ensures.rightly c.finish.ensures.log c.requires.closes c.requires.far)
+returns-in_err-hears-in-Heard-clause-closes g c = rw c.hears.ensures.hub (closes_step c.args.self.now.hub c.finish.new.self (g.L.Link.story c.args.self.now.hub.link) (g.L.Link.story c.finish.new.self.link) c.finish.ensures.since.grows c.finish.ensures.rightly c.finish.ensures.log c.requires.closes c.requires.far)
 
 pub returns-in_ok-hears-in-Heard-clause-closes : goal.returns-in_ok-hears-in-Heard-clause-closes
-returns-in_ok-hears-in-Heard-clause-closes g c = rw c.hears.ensures.hub (closes_step c.args.self.now.hub c.finish.new.self (g.L.Link.story c.args.self.now.hub.link) (g.L.Link.story c.finish.new.self.link) c.finish.ensures.grows c.finish.ensures.rightly c.finish.ensures.log c.requires.closes c.requires.far)
+returns-in_ok-hears-in-Heard-clause-closes g c = rw c.hears.ensures.hub (closes_step c.args.self.now.hub c.finish.new.self (g.L.Link.story c.args.self.now.hub.link) (g.L.Link.story c.finish.new.self.link) c.finish.ensures.since.grows c.finish.ensures.rightly c.finish.ensures.log c.requires.closes c.requires.far)
 
 pub returns-in-Going-clause-closes : goal.returns-in-Going-clause-closes
-returns-in-Going-clause-closes g c = closes_step c.args.self.now.hub c.finish.new.self (g.L.Link.story c.args.self.now.hub.link) (g.L.Link.story c.finish.new.self.link) c.finish.ensures.grows c.finish.ensures.rightly c.finish.ensures.log c.requires.closes c.requires.far
+returns-in-Going-clause-closes g c = closes_step c.args.self.now.hub c.finish.new.self (g.L.Link.story c.args.self.now.hub.link) (g.L.Link.story c.finish.new.self.link) c.finish.ensures.since.grows c.finish.ensures.rightly c.finish.ensures.log c.requires.closes c.requires.far
 
 pub returns-in-Over-clause-closes : goal.returns-in-Over-clause-closes
-returns-in-Over-clause-closes g c = closes_step c.args.self.now.hub c.finish.new.self (g.L.Link.story c.args.self.now.hub.link) (g.L.Link.story c.finish.new.self.link) c.finish.ensures.grows c.finish.ensures.rightly c.finish.ensures.log c.requires.closes c.requires.far
+returns-in-Over-clause-closes g c = closes_step c.args.self.now.hub c.finish.new.self (g.L.Link.story c.args.self.now.hub.link) (g.L.Link.story c.finish.new.self.link) c.finish.ensures.since.grows c.finish.ensures.rightly c.finish.ensures.log c.requires.closes c.requires.far
 
 pub returns-in_ok-hears-in-Heard-clause-far : goal.returns-in_ok-hears-in-Heard-clause-far
-returns-in_ok-hears-in-Heard-clause-far g c = rw c.hears.ensures.hub (how_far_step c.args.self.now.hub c.finish.new.self (g.L.Link.story c.args.self.now.hub.link) (g.L.Link.story c.finish.new.self.link) c.finish.ensures.grows c.finish.ensures.rightly c.finish.ensures.log c.requires.closes c.requires.far c.in_ok-indication.ensures.closes c.in_ok-indication.ensures.waits)
+returns-in_ok-hears-in-Heard-clause-far g c = rw c.hears.ensures.hub (how_far_step c.args.self.now.hub c.finish.new.self (g.L.Link.story c.args.self.now.hub.link) (g.L.Link.story c.finish.new.self.link) c.finish.ensures.since.grows c.finish.ensures.rightly c.finish.ensures.log c.requires.closes c.requires.far c.in_ok-indication.ensures.closes c.in_ok-indication.ensures.waits)
 
 pub returns-in-Going-clause-far : goal.returns-in-Going-clause-far
-returns-in-Going-clause-far g c = how_far_step c.args.self.now.hub c.finish.new.self (g.L.Link.story c.args.self.now.hub.link) (g.L.Link.story c.finish.new.self.link) c.finish.ensures.grows c.finish.ensures.rightly c.finish.ensures.log c.requires.closes c.requires.far c.in_ok-indication.ensures.closes c.in_ok-indication.ensures.waits
+returns-in-Going-clause-far g c = how_far_step c.args.self.now.hub c.finish.new.self (g.L.Link.story c.args.self.now.hub.link) (g.L.Link.story c.finish.new.self.link) c.finish.ensures.since.grows c.finish.ensures.rightly c.finish.ensures.log c.requires.closes c.requires.far c.in_ok-indication.ensures.closes c.in_ok-indication.ensures.waits
 
 pub returns-in-Over-clause-far : goal.returns-in-Over-clause-far
-returns-in-Over-clause-far g c = how_far_step c.args.self.now.hub c.finish.new.self (g.L.Link.story c.args.self.now.hub.link) (g.L.Link.story c.finish.new.self.link) c.finish.ensures.grows c.finish.ensures.rightly c.finish.ensures.log c.requires.closes c.requires.far c.in_ok-indication.ensures.closes c.in_ok-indication.ensures.waits
+returns-in-Over-clause-far g c = how_far_step c.args.self.now.hub c.finish.new.self (g.L.Link.story c.args.self.now.hub.link) (g.L.Link.story c.finish.new.self.link) c.finish.ensures.since.grows c.finish.ensures.rightly c.finish.ensures.log c.requires.closes c.requires.far c.in_ok-indication.ensures.closes c.in_ok-indication.ensures.waits
 
 pub returns-in-Over-clause-closed : goal.returns-in-Over-clause-closed
 returns-in-Over-clause-closed g c = λ over. over_closed c.finish.new.self (g.L.Link.story c.finish.new.self.link)
-    (how_far_step c.args.self.now.hub c.finish.new.self (g.L.Link.story c.args.self.now.hub.link) (g.L.Link.story c.finish.new.self.link) c.finish.ensures.grows c.finish.ensures.rightly c.finish.ensures.log c.requires.closes c.requires.far c.in_ok-indication.ensures.closes c.in_ok-indication.ensures.waits)
+    (how_far_step c.args.self.now.hub c.finish.new.self (g.L.Link.story c.args.self.now.hub.link) (g.L.Link.story c.finish.new.self.link) c.finish.ensures.since.grows c.finish.ensures.rightly c.finish.ensures.log c.requires.closes c.requires.far c.in_ok-indication.ensures.closes c.in_ok-indication.ensures.waits)
     (subst (λ (done : Finished). EndsAs done c.finish.new.self.closing (g.L.Link.story c.finish.new.self.link)) c.in-Over.is c.in_ok-indication.ensures.ends)
 
 pub returns-in_ok-hears-in-Heard-clause-goes_on : goal.returns-in_ok-hears-in-Heard-clause-goes_on

@@ -1,7 +1,7 @@
 use Rattle.std.proofs.Common.{None, refl, sym, ap, subst, arith}
 use Rattle.line_model.specs.LinkStory.{record_in}
 use Rattle.hub_core.specs.Since.{Since}
-use Rattle.hub_core.proofs.Since.{call_since, since_again}
+use Rattle.hub_core.proofs.Since.{since_again}
 use Rattle.hub_core.specs.Heard.{HeardAll}
 use Rattle.hub_driver.proofs.Hearing.{hears_none}
 use Rattle.hub_driver.specs.Leaving.{GoesThrough}
@@ -13,20 +13,20 @@ use Rattle.hub_driver.proofs.driver.Driver.works.Goals as goal
 
 pub pumps-requires : goal.pumps-requires
 pumps-requires g c = record {
-  through = through_turn c.args.self.now.hub c.turn.new.self c.turn.ensures.run.devices c.turn.ensures.run.turns c.turn.ensures.closing c.turn.result _ _ (g.L.Link.story c.args.self.now.hub.link) (g.L.Link.story c.turn.new.self.link) c.turn.ensures.grows c.turn.ensures.alone _ (ap g.L.Link.story) c.turn.ensures.still c.turn.ensures.told c.turn.ensures.untold c.keeps.ensures.place c.requires.left c.requires.through;
-  left = left_same c.args.self.now.hub c.turn.new.self c.turn.ensures.run.devices c.turn.ensures.run.turns c.turn.ensures.closing (waits_same _ _ c.in_ok-job.field-0 _ _ c.in-Wait.is c.in_ok-job.ensures.told) c.requires.left;
-  heard = hears_none _ None _ _ refl c.turn.ensures.grows c.in_ok-job.ensures.heard c.requires.heard;
+  through = through_turn c.args.self.now.hub c.turn.new.self c.turn.ensures.since.run.devices c.turn.ensures.since.run.turns c.turn.ensures.closing c.turn.result _ _ (g.L.Link.story c.args.self.now.hub.link) (g.L.Link.story c.turn.new.self.link) c.turn.ensures.since.grows c.turn.ensures.alone _ (ap g.L.Link.story) c.turn.ensures.still c.turn.ensures.told c.turn.ensures.untold c.keeps.ensures.place c.requires.left c.requires.through;
+  left = left_same c.args.self.now.hub c.turn.new.self c.turn.ensures.since.run.devices c.turn.ensures.since.run.turns c.turn.ensures.closing (waits_same _ _ c.in_ok-job.field-0 _ _ c.in-Wait.is c.in_ok-job.ensures.told) c.requires.left;
+  heard = hears_none _ None _ _ refl c.turn.ensures.since.grows c.in_ok-job.ensures.heard c.requires.heard;
 }
 
 pub returns-in_err-job-clause-since : goal.returns-in_err-job-clause-since
-returns-in_err-job-clause-since g c = call_since c.turn.result c.turn.ensures.grows c.turn.ensures.script c.turn.ensures.run c.turn.ensures.count c.turn.ensures.cause c.turn.ensures.stands c.turn.ensures.ended c.turn.ensures.fault
+returns-in_err-job-clause-since g c = c.turn.ensures.since
 
 pub returns-in_err-pumps-in-Wait-clause-since : goal.returns-in_err-pumps-in-Wait-clause-since
-returns-in_err-pumps-in-Wait-clause-since g c = since_again (call_since c.turn.result c.turn.ensures.grows c.turn.ensures.script c.turn.ensures.run c.turn.ensures.count c.turn.ensures.cause c.turn.ensures.stands c.turn.ensures.ended c.turn.ensures.fault) c.pumps.ensures.since
+returns-in_err-pumps-in-Wait-clause-since g c = since_again c.turn.ensures.since c.pumps.ensures.since
 
 pub returns-clause-since : goal.returns-clause-since
 returns-clause-since g c =
-    let called : Since g.L.Link.story g.L.Link.script g.L.Link.faults c.args.self.now.hub c.turn.new.self = call_since c.turn.result c.turn.ensures.grows c.turn.ensures.script c.turn.ensures.run c.turn.ensures.count c.turn.ensures.cause c.turn.ensures.stands c.turn.ensures.ended c.turn.ensures.fault in
+    let called : Since g.L.Link.story g.L.Link.script g.L.Link.faults c.args.self.now.hub c.turn.new.self = c.turn.ensures.since in
     elim c.match-branch-2.branch [
       | in-Took w ↦ rw w.self-is called
       | in-Wait+in_ok-pumps-in-Wait w ↦ rw w.self-is (since_again called w.pumps.ensures.since)
@@ -35,7 +35,7 @@ returns-clause-since g c =
 
 pub returns-clause-heard : goal.returns-clause-heard
 returns-clause-heard g c =
-    let none : HeardAll c.args.self.now.heard (record_in (g.L.Link.story c.turn.new.self.link)) = hears_none _ None _ _ refl c.turn.ensures.grows c.in_ok-job.ensures.heard c.requires.heard in
+    let none : HeardAll c.args.self.now.heard (record_in (g.L.Link.story c.turn.new.self.link)) = hears_none _ None _ _ refl c.turn.ensures.since.grows c.in_ok-job.ensures.heard c.requires.heard in
     elim c.match-branch-2.branch [
       | in-Took w ↦ rw w.self-is none
       | in-Wait+in_ok-pumps-in-Wait w ↦ rw w.self-is w.in_ok-pumps-in-Wait.ensures.heard
@@ -43,11 +43,11 @@ returns-clause-heard g c =
     ]
 
 pub returns-in_err-job-clause-through : goal.returns-in_err-job-clause-through
-returns-in_err-job-clause-through g c = through_turn c.args.self.now.hub c.turn.new.self c.turn.ensures.run.devices c.turn.ensures.run.turns c.turn.ensures.closing c.turn.result _ _ (g.L.Link.story c.args.self.now.hub.link) (g.L.Link.story c.turn.new.self.link) c.turn.ensures.grows c.turn.ensures.alone _ (ap g.L.Link.story) c.turn.ensures.still c.turn.ensures.told c.turn.ensures.untold c.keeps.ensures.place c.requires.left c.requires.through
+returns-in_err-job-clause-through g c = through_turn c.args.self.now.hub c.turn.new.self c.turn.ensures.since.run.devices c.turn.ensures.since.run.turns c.turn.ensures.closing c.turn.result _ _ (g.L.Link.story c.args.self.now.hub.link) (g.L.Link.story c.turn.new.self.link) c.turn.ensures.since.grows c.turn.ensures.alone _ (ap g.L.Link.story) c.turn.ensures.still c.turn.ensures.told c.turn.ensures.untold c.keeps.ensures.place c.requires.left c.requires.through
 
 pub returns-clause-through : goal.returns-clause-through
 returns-clause-through g c =
-    let through : GoesThrough c.turn.new.self (g.L.Link.story c.turn.new.self.link) = through_turn c.args.self.now.hub c.turn.new.self c.turn.ensures.run.devices c.turn.ensures.run.turns c.turn.ensures.closing c.turn.result _ _ (g.L.Link.story c.args.self.now.hub.link) (g.L.Link.story c.turn.new.self.link) c.turn.ensures.grows c.turn.ensures.alone _ (ap g.L.Link.story) c.turn.ensures.still c.turn.ensures.told c.turn.ensures.untold c.keeps.ensures.place c.requires.left c.requires.through in
+    let through : GoesThrough c.turn.new.self (g.L.Link.story c.turn.new.self.link) = through_turn c.args.self.now.hub c.turn.new.self c.turn.ensures.since.run.devices c.turn.ensures.since.run.turns c.turn.ensures.closing c.turn.result _ _ (g.L.Link.story c.args.self.now.hub.link) (g.L.Link.story c.turn.new.self.link) c.turn.ensures.since.grows c.turn.ensures.alone _ (ap g.L.Link.story) c.turn.ensures.still c.turn.ensures.told c.turn.ensures.untold c.keeps.ensures.place c.requires.left c.requires.through in
     elim c.match-branch-2.branch [
       | in-Took w ↦ subst (λ s. GoesThrough s.hub (g.L.Link.story s.hub.link)) (sym w.self-is) through
       | in-Wait+in_ok-pumps-in-Wait w ↦ subst (λ s. GoesThrough s.hub (g.L.Link.story s.hub.link)) (sym w.self-is) w.pumps.ensures.through
