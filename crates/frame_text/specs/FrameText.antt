@@ -20,9 +20,8 @@ use Rattle.knx_model.specs.Apdu as tpdu
 use Rattle.knx_model.specs.Cemi as cemi
 use Rattle.knx_model.specs.KnxNetIp as ip
 use Rattle.knx_model.specs.Addresses.{device_text, group_text}
-use Rattle.knx_model.specs.ReportText.{line, hex_octet, hex_text, octets_text}
+use Rattle.knx_model.specs.TextLines.{line, hex_octet, hex_text, octets_text, value_text}
 use Rattle.knx_model.specs.Values.{hex_octets}
-use Rattle.line_model.specs.Printed.{value_text}
 
 -- ---- addresses
 

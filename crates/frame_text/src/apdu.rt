@@ -4,8 +4,7 @@ ghost use Rattle.std.specs.Prelude.{◌≡◌, ◌∷◌, [], ◌++◌, OnOk, co
 ghost use Rattle.std.specs.Fmt.{decimal};
 ghost use Rattle.knx_model.specs.Apdu.{word, optional_word};
 ghost use Rattle.frame_text.specs.Spaced.{spaced};
-ghost use Rattle.knx_model.specs.ReportText.{hex_text, octets_text};
-ghost use Rattle.line_model.specs.Printed.{value_text};
+ghost use Rattle.knx_model.specs.TextLines.{hex_text, octets_text, value_text};
 ghost use Rattle.frame_text.specs.FrameText.{property_words, property_fields, apdu_name, apdu_fields, apdu_words};
 
 use crate::pieces::{put_hex_word, put_octets};

@@ -2,7 +2,7 @@
 
 ghost use Rattle.std.specs.Prelude.{◌≡◌, ◌+◌, ◌<◌, ◌∷◌, [], ◌++◌, OnOk, codes};
 ghost use Rattle.knx_model.specs.Apdu.{word};
-ghost use Rattle.knx_model.specs.ReportText.{hex_octet, hex_text, octets_text};
+ghost use Rattle.knx_model.specs.TextLines.{hex_octet, hex_text, octets_text};
 ghost use Rattle.frame_text.specs.Spaced.{spaced};
 ghost use Rattle.frame_text.specs.FrameText.{refusal_words};
 

@@ -2,7 +2,6 @@
 use Rattle.std.proofs.Common.{◌≡◌, ◌≢◌, ◌↔◌, ℕ, ◌+◌, ◌<◌, ◌≤◌, Bool, true, false, List, [], ◌∷◌, ◌++◌, map, Option, Some, None, refl, sym, ap, subst, ◌∙◌, arith}
 use Rattle.std.proofs.lemmas.Bool.Decides.{nat_tests}
 use Rattle.std.specs.Prelude.{◌||◌, ◌&&◌, not, nat_le}
-use Rattle.knx_model.specs.declared.log.JobKind.TheVariants.{Check}
 use Rattle.knx_model.specs.Connection.{has_passed}
 use Rattle.line_model.specs.declared.group.GroupTurn.{GroupTurn}
 use Rattle.line_model.specs.declared.log.LogEntry.{LogEntry}
@@ -156,7 +155,7 @@ poll_right s wait old added waits ends p =
 -- ---- jobs with these devices and plans
 
 some_job : Task → Job
-some_job task = record { device = task.device; image = record { addr = []; assoc = []; objs = []; params = [] }; plan = task.plan; kind = Check }
+some_job task = record { device = task.device; image = record { addr = []; assoc = []; objs = []; params = [] }; plan = task.plan; loads = false }
 
 some_jobs : (tasks : List Task) → AreJobsWith tasks (map some_job tasks)
 unfolding some_job

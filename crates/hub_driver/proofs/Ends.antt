@@ -3,7 +3,6 @@ use Rattle.std.proofs.Common.{◌≡◌, ◌≢◌, ◌⊎◌, inl, inr, ℕ, ze
 use Rattle.std.specs.Prelude.{◌==◌, slice_get, if◌then◌else◌}
 use Rattle.std.proofs.lemmas.Bool.Decides.{eqb_tells}
 use Rattle.knx_model.specs.declared.address.IndAddr.{IndAddr}
-use Rattle.knx_model.specs.declared.log.JobKind.TheVariants.{Check}
 use Rattle.knx_model.specs.Plans as plans
 use Rattle.line_model.specs.declared.group.GroupTurn.{GroupTurn}
 use Rattle.line_model.specs.declared.log.LogEntry.{LogEntry}
@@ -276,7 +275,7 @@ not_all_over devices turns count left log form rest some jobs are over =
 
 -- some jobs of these devices
 pub some_job : IndAddr → Job
-some_job device = record { device = device; image = record { addr = []; assoc = []; objs = []; params = [] }; plan = plans.Over; kind = Check }
+some_job device = record { device = device; image = record { addr = []; assoc = []; objs = []; params = [] }; plan = plans.Over; loads = false }
 
 pub some_jobs : (devices : List IndAddr) → AreJobsOf devices (map some_job devices)
 unfolding some_job

@@ -6,7 +6,7 @@ ghost use Rattle.knx_model.specs.Device.{Fits};
 ghost use Rattle.hub_work.specs.Requests.{IsTurnInRange};
 
 use hub_core::{CheckPlan, GroupTurn, HubJob, JobPlan, LoadPlan};
-use knx_model::{GroupAddr, GroupService, Image, IndAddr, JobKind, List, NoMemory, Octets, Value};
+use knx_model::{GroupAddr, GroupService, Image, IndAddr, List, NoMemory, Octets, Value};
 use line_model::Gate;
 use std::alloc::Global;
 
@@ -78,6 +78,13 @@ fn group_turns(alloc: Global, telegrams: &[Telegram]) -> Result<List<GroupTurn>,
         turns.push(group_turn(*telegram))?;
     }
     Ok(turns)
+}
+
+/// What a job does.
+#[derive(Clone, Copy)]
+enum JobKind {
+    Load,
+    Check,
 }
 
 /// A job of the device.

@@ -1,8 +1,8 @@
 -- A status is that of its number.
 use Rattle.std.proofs.Common.{◌≡◌, ℕ, refl, ◌∙◌, ap}
-use Rattle.knx_model.specs.Refusal.{status_number}
-use Rattle.knx_model.specs.declared.status.Status.{Status}
-use Rattle.knx_model.specs.declared.status.Status.TheVariants as status
+use Rattle.call_words.specs.Statuses.{status_number}
+use Rattle.call_words.specs.declared.status.Status.{Status}
+use Rattle.call_words.specs.declared.status.Status.TheVariants as status
 use Rattle.knx_cli.specs.Exit.{status_of}
 
 same_status : (s : Status) → status_of (status_number s) ≡ s

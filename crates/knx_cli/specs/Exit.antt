@@ -1,7 +1,7 @@
 -- The exit status of the program is the number of the status that its call answers.
 use Rattle.std.specs.Prelude.{ℕ, List, [], ◌∷◌, slice_index_or}
-use Rattle.knx_model.specs.declared.status.Status.{Status}
-use Rattle.knx_model.specs.declared.status.Status.TheVariants as status
+use Rattle.call_words.specs.declared.status.Status.{Status}
+use Rattle.call_words.specs.declared.status.Status.TheVariants as status
 
 -- the statuses by their numbers, from 0
 abbrev pub statuses : List Status

@@ -1,9 +1,9 @@
 //! How the program ends.
 
 ghost use Rattle.std.specs.Prelude.{◌≡◌, ◌≢◌, ◌≤◌, ◌+◌, ℕ, IfErr, IfOk, List, None, Some, length, map, string_bytes};
-ghost use Rattle.knx_model.specs.declared.command.Stop.TheVariants.{Usage, NoMemory as Wanting};
+ghost use Rattle.call_words.specs.declared.stop.Stop.TheVariants.{Usage, NoMemory as Wanting};
 ghost use Rattle.knx_model.specs.Outside.{one_more};
-ghost use Rattle.knx_model.specs.Refusal.{status_number};
+ghost use Rattle.call_words.specs.Statuses.{status_number};
 ghost use Rattle.knx_top.specs.Call.{AtMostOneRose, HasRunOf, IsCountsText, IsTablesText, Replies, RunsScript, TellsOfFrame, TellsOfProject};
 ghost use Rattle.knx_top.specs.Command.{DownloadWords, GatewayWords, ProjectWords, SimWords, asked, Check as AskedCheck, Decode as AskedDecode, Download as AskedDownload, Gateway as AskedGateway, Sim as AskedSim, Tables as AskedTables};
 ghost use Rattle.knx_top.specs.Dialled.{RepliesEnd, RunsDialled};
@@ -13,7 +13,8 @@ ghost use Rattle.knx_top.specs.Input.{files_of};
 ghost use Rattle.knx_top.specs.Ran.{FaultsOfLine, Stops};
 ghost use Rattle.knx_cli.specs.Exit.{status_of};
 
-use knx_model::{Files, NoMemory, Sink, Status};
+use call_words::Status;
+use knx_model::{Files, NoMemory, Sink};
 use knx_top::{NO_MEMORY, Report, SimBus, knx};
 use line_model::Dialer;
 use std::alloc::Global;

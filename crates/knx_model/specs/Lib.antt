@@ -12,6 +12,7 @@ pub mod Places
 pub mod Answers
 pub mod LeastLine
 pub mod Refusal
+pub mod TextLines
 -- 2. A project and what it means
 pub mod Statements
 pub mod Models
@@ -46,9 +47,8 @@ pub mod LoadPlan
 pub mod GoodPlan
 -- 8. The script
 pub mod ScriptText
--- 9. What a run promises, and what is printed
+-- 9. What a run promises
 pub mod Promises
-pub mod ReportText
 -- 10. The outside
 pub mod Outside
 pub mod Memory

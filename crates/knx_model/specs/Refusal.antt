@@ -1,11 +1,9 @@
--- The numbers and words of refusals, and the numbers of the program's exit statuses.
+-- The numbers and words of refusals.
 use Rattle.std.specs.Prelude.{ℕ, codes, List, Option, Some, None}
 use Rattle.knx_model.specs.declared.catalogue.refused.CatRefused.{CatRefused}
 use Rattle.knx_model.specs.declared.catalogue.refused.CatRefused.TheVariants as cat
 use Rattle.knx_model.specs.declared.refusal.Why.{Why}
 use Rattle.knx_model.specs.declared.refusal.Why.TheVariants as why
-use Rattle.knx_model.specs.declared.status.Status.{Status}
-use Rattle.knx_model.specs.declared.status.Status.TheVariants as status
 
 -- its number, from 1; want of memory has none
 abbrev pub why_number : Why → Option ℕ
@@ -73,20 +71,3 @@ catalogue_word (cat.Shape model) = codes "Shape"
 catalogue_word (cat.Overlap model parameter) = codes "Overlap"
 catalogue_word (cat.Range model parameter) = codes "Range"
 catalogue_word cat.Long = codes "Long"
-
--- the exit status of the program
-abbrev pub status_number : Status → ℕ
-status_number status.Done = 0
-status_number status.SomeFailed = 1
-status_number status.Usage = 2
-status_number status.Project = 3
-status_number status.Catalogue = 4
-status_number status.Script = 5
-status_number status.Read = 6
-status_number status.Write = 7
-status_number (status.NoMemory want) = 8
-status_number status.Link = 9
-status_number status.GatewayRefused = 10
-status_number status.Flooded = 11
-status_number status.WrongLine = 12
-status_number status.OpenTurns = 13

@@ -1,10 +1,9 @@
 //! The words of the field that every crate shares: addresses and values, words and lines, frames, projects, configurations
-//! and images, plans, log and report, and the outside. `specs/` holds the definitions that the contracts cite.
+//! and images, plans, and the outside. `specs/` holds the definitions that the contracts cite.
 #![tactic(auto)]
 
 mod address;
 mod catalogue;
-mod command;
 mod config;
 mod connection;
 mod counts;
@@ -19,7 +18,6 @@ mod plan;
 mod project;
 mod refusal;
 mod script;
-mod status;
 mod waits;
 mod words;
 
@@ -32,8 +30,6 @@ pub use catalogue::Model;
 pub use catalogue::ModelField;
 pub use catalogue::ModelObject;
 pub use catalogue::NamedModel;
-pub use command::InputFile;
-pub use command::Stop;
 pub use config::COMMUNICATE;
 pub use config::Config;
 pub use config::Image;
@@ -81,9 +77,6 @@ pub use loading::LoadState;
 pub use loading::LoadableObject;
 pub use loading::NO_DESCRIPTOR;
 pub use loading::TABLE_REFERENCE;
-pub use log::Case;
-pub use log::JobKind;
-pub use log::JobWord;
 pub use log::Sign;
 pub use no_memory::NoMemory;
 pub use outside::FileFault;
@@ -104,7 +97,6 @@ pub use refusal::Why;
 pub use script::GroupService;
 pub use script::ScriptLine;
 pub use script::ScriptWhat;
-pub use status::Status;
 pub use waits::earlier;
 pub use waits::end_of;
 pub use waits::has_passed;

@@ -1,6 +1,4 @@
-//! The words of a run: its jobs, why an attempt ended, and what a device is in the end.
-
-use crate::address::IndAddr;
+//! A word of the log.
 
 /// Why an attempt ended before its plan's end.
 #[derive(Clone, Copy, Drop)]
@@ -13,31 +11,4 @@ pub enum Sign {
     NoCon,
     /// The tunnel's channel was lost.
     TunnelLost,
-}
-
-/// What a job does to its device.
-#[derive(Clone, Copy, Debug, Drop, PartialEq, Eq)]
-pub enum JobKind {
-    /// It downloads the project's configuration.
-    Load,
-    /// It compares the device with the project.
-    Check,
-}
-
-/// A job of a run, as its word names it.
-#[derive(Clone, Copy, Drop)]
-pub struct JobWord {
-    pub device: IndAddr,
-    pub kind: JobKind,
-}
-
-/// What the final content of a device is, beside the project's.
-#[derive(Clone, Copy, Drop)]
-pub enum Case {
-    /// It stands for the project's meaning.
-    New,
-    /// The four objects are Loaded, with another content.
-    Old,
-    /// The device doesn't run.
-    Stopped,
 }

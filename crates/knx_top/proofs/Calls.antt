@@ -2,13 +2,13 @@
 use Rattle.std.proofs.Common.{ℕ, ◌≡◌, ◌≢◌, List, Option, Some, None, Result, Ok, Err, ◌⊎◌, refl, sym, ◌∙◌, subst, inl, inr}
 use Rattle.frame_text.specs.FrameText.{IsFrameText, hex_word}
 use Rattle.std.specs.Prelude.{IfErr, IfOk}
-use Rattle.knx_model.specs.declared.command.Stop.{Stop}
-use Rattle.knx_model.specs.declared.command.Stop.TheVariants as stop
+use Rattle.call_words.specs.declared.stop.Stop.{Stop}
+use Rattle.call_words.specs.declared.stop.Stop.TheVariants as stop
 use Rattle.knx_model.specs.declared.no_memory.NoMemory.{NoMemory}
-use Rattle.knx_model.specs.declared.status.Status.{Status}
-use Rattle.knx_model.specs.declared.log.JobWord.{JobWord}
-use Rattle.knx_model.specs.declared.status.Status.TheVariants as status
-use Rattle.knx_model.specs.ReportText.{stop_text}
+use Rattle.call_words.specs.declared.status.Status.{Status}
+use Rattle.call_words.specs.declared.job_word.JobWord.{JobWord}
+use Rattle.call_words.specs.declared.status.Status.TheVariants as status
+use Rattle.call_words.specs.ReportText.{stop_text}
 use Rattle.bus_sim.specs.Loaded.{BusNow}
 use Rattle.bus_sim.specs.RunNow.{RunNow}
 use Rattle.knx_model.specs.Meaning.{Installation}

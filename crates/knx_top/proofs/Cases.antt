@@ -3,7 +3,7 @@ use Rattle.std.proofs.Common.{◌≡◌, Bool, true, false, Option, Some, None, 
 use Rattle.knx_model.specs.declared.address.IndAddr.{IndAddr}
 use Rattle.knx_model.specs.declared.config.Config.{Config}
 use Rattle.knx_model.specs.declared.config.Image.{Image}
-use Rattle.knx_model.specs.declared.log.Case.TheVariants.{New, Old, Stopped}
+use Rattle.call_words.specs.declared.case.Case.TheVariants.{New, Old, Stopped}
 use Rattle.knx_model.specs.Device.{NonVolatile, all_loaded, segments, runs}
 use Rattle.knx_model.specs.Meaning.{Installation, meaning}
 use Rattle.knx_model.specs.Tables.{StandsFor}

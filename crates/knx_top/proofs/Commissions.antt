@@ -1,8 +1,8 @@
 -- A commission: what was judged is run, or the call stops.
 use Rattle.std.proofs.Common.{◌≡◌, ◌≢◌, Result, Ok, Err, refl, sym, ap, ◌∙◌, inl, inr, ◌⊎◌}
 use Rattle.bus_sim.specs.Loaded.{BusNow}
-use Rattle.knx_model.specs.declared.command.Stop.{Stop}
-use Rattle.knx_model.specs.declared.command.Stop.TheVariants as stop
+use Rattle.call_words.specs.declared.stop.Stop.{Stop}
+use Rattle.call_words.specs.declared.stop.Stop.TheVariants as stop
 use Rattle.knx_top.specs.declared.judge.Order.{Order}
 use Rattle.knx_top.specs.Begun.{OrderFor, IsOrder}
 use Rattle.knx_top.specs.Command.{SimOptions, SimWords}

@@ -1,14 +1,14 @@
 -- Valid input is told whole, or there was no memory.
 use Rattle.std.proofs.Common.{ℕ, ◌≡◌, Bool, true, false, List, [], ◌∷◌, Option, Some, None, Ok, Err, refl, sym, ap, ◌∙◌, subst, inl, inr, ◌⊎◌}
 use Rattle.frame_text.specs.FrameText.{IsFrameText, hex_word}
-use Rattle.knx_model.specs.declared.command.Stop.{Stop}
-use Rattle.knx_model.specs.declared.command.Stop.TheVariants as stop
+use Rattle.call_words.specs.declared.stop.Stop.{Stop}
+use Rattle.call_words.specs.declared.stop.Stop.TheVariants as stop
 use Rattle.knx_model.specs.declared.outside.files.FileFault.TheVariants as fault
-use Rattle.knx_model.specs.declared.status.Status.{Status}
-use Rattle.knx_model.specs.declared.status.Status.TheVariants as status
+use Rattle.call_words.specs.declared.status.Status.{Status}
+use Rattle.call_words.specs.declared.status.Status.TheVariants as status
 use Rattle.knx_model.specs.Meaning.{Installation}
 use Rattle.knx_model.specs.Outside.{FileContent, Untold, Absent, Holds, MayRead, Rose}
-use Rattle.knx_model.specs.ReportText.{stop_status}
+use Rattle.call_words.specs.ReportText.{stop_status}
 use Rattle.knx_top.specs.Command.{ProjectWords}
 use Rattle.knx_top.specs.Input.{limit, goes_on, IsRead, failed, first_some, OnlyRose, failed_of_project, fault_in}
 use Rattle.knx_top.specs.Stops.{project_tests, project_told}

@@ -1,9 +1,9 @@
 -- What was judged for a download is dialled, or the call stops.
 use Rattle.std.proofs.Common.{◌≡◌, ◌≢◌, List, ◌∷◌, [], true, false, Option, Result, Ok, Err, refl, sym, ap, ◌∙◌, subst, inl, inr, ◌⊎◌}
 use Rattle.std.specs.List.{list_all}
-use Rattle.knx_model.specs.declared.command.Stop.{Stop}
-use Rattle.knx_model.specs.declared.command.Stop.TheVariants as stop
-use Rattle.knx_model.specs.declared.log.JobWord.{JobWord}
+use Rattle.call_words.specs.declared.stop.Stop.{Stop}
+use Rattle.call_words.specs.declared.stop.Stop.TheVariants as stop
+use Rattle.call_words.specs.declared.job_word.JobWord.{JobWord}
 use Rattle.knx_model.specs.Meaning.{Installation}
 use Rattle.knx_top.specs.Command.{DownloadWords, SimOptions}
 use Rattle.knx_top.specs.Dialled.{DialEnd, DialerNow, Dials, DialsOr, Download, Stopped, download_tests, download_told, judged_download, project_named, with_project}

@@ -1,12 +1,12 @@
 -- Each job with the plan of a compiled image is a good one.
-use Rattle.std.proofs.Common.{◌≡◌, true, false, List, [], ◌∷◌, Some, refl, sym, ◌∙◌, subst}
+use Rattle.std.proofs.Common.{◌≡◌, true, false, List, [], ◌∷◌, Some, sym, ◌∙◌, subst}
 use Rattle.std.specs.List.{AllByRecursion}
 use Rattle.download_plan.proofs.Plans.{plan_good, check_runs, check_stays, load_sendable, check_sendable}
 use Rattle.knx_model.specs.declared.config.Image.{Image}
 use Rattle.knx_model.specs.declared.device.FrameSupport.{FrameSupport}
-use Rattle.knx_model.specs.declared.log.JobKind.{JobKind}
-use Rattle.knx_model.specs.declared.log.JobKind.TheVariants.{Load, Check}
-use Rattle.knx_model.specs.declared.log.JobWord.{JobWord}
+use Rattle.call_words.specs.declared.job_word.JobKind.{JobKind}
+use Rattle.call_words.specs.declared.job_word.JobKind.TheVariants.{Load, Check}
+use Rattle.call_words.specs.declared.job_word.JobWord.{JobWord}
 use Rattle.knx_model.specs.Device.{Fits, HasCapacities, NonVolatile, answer_in, effect_in, runs, whole}
 use Rattle.knx_model.specs.DeviceFrames.{Whole}
 use Rattle.knx_model.specs.GoodPlan.{Answering, AnswersAll, Beginning, Last, Then, GoodPlan, IsSendable, WholeRun, AtEnd, Goes, kept_by}
@@ -14,8 +14,8 @@ use Rattle.knx_model.specs.LoadPlan.{check_plan}
 use Rattle.knx_model.specs.Meaning.{Installation}
 use Rattle.knx_model.specs.Plans.{Plan}
 use Rattle.line_model.specs.Headline.{GoodCheck, IsGoodJob}
-use Rattle.line_model.specs.Log.{Job, loads}
-use Rattle.knx_top.specs.Jobs.{ArePlanned, plan_of}
+use Rattle.line_model.specs.Log.{Job}
+use Rattle.knx_top.specs.Jobs.{ArePlanned, is_load, plan_of}
 
 -- a whole run of a plan that changes nothing gives every answer
 all_answered : (answers : Answering) (plan : Plan) (nv end : NonVolatile) → ((last : NonVolatile) → Beginning answers plan nv last → last ≡ nv) → WholeRun answers plan nv end → AnswersAll answers plan nv
@@ -39,15 +39,15 @@ check_good image fits = record {
 
 -- ---- by the kind of the job
 
-good_by : (kind : JobKind) (job : Job) → job.kind ≡ kind → Fits job.image → job.plan ≡ plan_of kind job.image → IsGoodJob job
+good_by : (kind : JobKind) (job : Job) → job.loads ≡ is_load kind → Fits job.image → job.plan ≡ plan_of kind job.image → IsGoodJob job
 good_by Load job is fits plan = record {
   sendable = subst IsSendable (sym plan) (load_sendable job.image);
   load = λ _. subst (λ (p : Plan). GoodPlan p job.image) (sym plan) (plan_good job.image fits);
-  check = λ no. absurd (let yes : loads job ≡ true = rw is refl in cc);
+  check = λ no. absurd (let no_load : true ≡ false = sym is ∙ no in cc);
 }
 good_by Check job is fits plan = record {
   sendable = subst IsSendable (sym plan) (check_sendable job.image);
-  load = λ yes. absurd (let no : loads job ≡ false = rw is refl in cc);
+  load = λ yes. absurd (let no_load : true ≡ false = sym yes ∙ is in cc);
   check = λ _. subst (λ (p : Plan). GoodCheck p job.image) (sym plan) (check_good job.image fits);
 }
 
@@ -55,4 +55,4 @@ pub all_good : (project : Installation) (jobs : List Job) (words : List JobWord)
 all_good project [] [] h = tt
 all_good project [] (w ∷ ws) h = absurd h
 all_good project (j ∷ js) [] h = absurd h
-all_good project (j ∷ js) (w ∷ ws) h = (good_by w.kind j h.0.kind h.0.image.fits h.0.plan, all_good project js ws h.1)
+all_good project (j ∷ js) (w ∷ ws) h = (good_by w.kind j h.0.loads h.0.image.fits h.0.plan, all_good project js ws h.1)

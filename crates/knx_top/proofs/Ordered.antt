@@ -2,10 +2,10 @@
 use Rattle.std.proofs.Common.{◌≡◌, ◌≢◌, true, false, List, Err, refl, ap, ◌∙◌, subst, sym}
 use Rattle.std.specs.List.{list_all, list_any}
 use Rattle.bus_sim.specs.Loaded.{BusNow}
-use Rattle.knx_model.specs.declared.command.InputFile.TheVariants as file
-use Rattle.knx_model.specs.declared.command.Stop.{Stop}
-use Rattle.knx_model.specs.declared.command.Stop.TheVariants as stop
-use Rattle.knx_model.specs.declared.log.JobWord.{JobWord}
+use Rattle.call_words.specs.declared.input_file.InputFile.TheVariants as file
+use Rattle.call_words.specs.declared.stop.Stop.{Stop}
+use Rattle.call_words.specs.declared.stop.Stop.TheVariants as stop
+use Rattle.call_words.specs.declared.job_word.JobWord.{JobWord}
 use Rattle.knx_model.specs.declared.script.ScriptLine.{ScriptLine}
 use Rattle.knx_model.specs.Meaning.{Installation}
 use Rattle.knx_top.specs.Begun.{BeginsLine, IsPrepared, OrderFor}

@@ -2,7 +2,7 @@
 use Rattle.std.proofs.Common.{refl}
 use Rattle.download_core.specs.declared.job_plan.JobPlan.TheVariants as plan
 use Rattle.download_plan.specs.Left.{Listening, load_left, check_left}
-use Rattle.knx_model.specs.declared.log.JobKind.TheVariants.{Load, Check}
+use Rattle.call_words.specs.declared.job_word.JobKind.TheVariants.{Load, Check}
 use Rattle.knx_model.specs.LoadPlan.{load_plan, check_plan}
 use Rattle.knx_top.specs.Jobs.{PlansImage}
 

@@ -1,7 +1,7 @@
 -- Each sentence of the headline, of a run as a commission describes it.
 use Rattle.std.proofs.Common.{List}
 use Rattle.bus_sim.specs.RunNow.{RunNow}
-use Rattle.knx_model.specs.declared.log.JobWord.{JobWord}
+use Rattle.call_words.specs.declared.job_word.JobWord.{JobWord}
 use Rattle.line_model.specs.declared.log.Report.{Report}
 use Rattle.line_model.specs.Log.{Job}
 use Rattle.knx_top.specs.Headline.{OfItsJobs, BeganRightly, HasOldStoppedOrNew, HasTelegramsRight, RunsWhereDone, ActsOnce, IsToldRightly, EndsThoroughly, LeavesItsChannel, HasFaultRight, EndsEveryJob, ClosesToItsEnd, IsOfOneWorker}

@@ -8,13 +8,13 @@ use Rattle.bus_sim.specs.Begun.{mode_in}
 use Rattle.bus_sim.specs.Loaded.{BusNow}
 use Rattle.bus_sim.specs.RunNow.{RunNow, mode, script, start}
 use Rattle.bus_sim.specs.Serving.{BreaksOff, FailsAt, ServedSo, served_beginning}
-use Rattle.knx_model.specs.declared.command.Stop.{Stop}
-use Rattle.knx_model.specs.declared.command.Stop.TheVariants as stop
+use Rattle.call_words.specs.declared.stop.Stop.{Stop}
+use Rattle.call_words.specs.declared.stop.Stop.TheVariants as stop
 use Rattle.knx_model.specs.declared.no_memory.NoMemory.{NoMemory}
-use Rattle.knx_model.specs.declared.status.Status.{Status}
-use Rattle.knx_model.specs.declared.status.Status.TheVariants as status
+use Rattle.call_words.specs.declared.status.Status.{Status}
+use Rattle.call_words.specs.declared.status.Status.TheVariants as status
 use Rattle.knx_model.specs.Outside.{FileContent, one_more}
-use Rattle.knx_model.specs.ReportText.{stop_text}
+use Rattle.call_words.specs.ReportText.{stop_text}
 use Rattle.line_model.specs.declared.outside.port.PortFault.{PortFault}
 use Rattle.line_model.specs.declared.outside.port.PortFault.TheVariants as fault
 use Rattle.line_model.specs.Dialled.{Address, TakesBack, Tells}

@@ -16,9 +16,9 @@ use Rattle.line_model.specs.declared.log.Report.{Report}
 use Rattle.line_model.specs.Headline.{IsRight}
 use Rattle.line_model.specs.Log.{Job}
 use Rattle.line_model.specs.OldStoppedOrNew.{Both, IsCase as IsCaseAt, Meant, OldStoppedOr, OldStoppedOrNew, RunsJob}
-use Rattle.line_model.specs.Printed.{DeviceShown}
+use Rattle.call_words.specs.Printed.{DeviceShown}
 use Rattle.line_model.specs.World.{World, Event, replay}
-use Rattle.knx_model.specs.declared.log.JobWord.{JobWord}
+use Rattle.call_words.specs.declared.job_word.JobWord.{JobWord}
 use Rattle.tunnel_link.specs.Goes.{GoesOn}
 use Rattle.knx_top.specs.Ended.{ShowsRun}
 use Rattle.knx_top.specs.OnLine.{AreCompiled, IsCompiled, IsImageWhere, on_bus}

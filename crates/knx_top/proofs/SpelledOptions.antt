@@ -8,8 +8,8 @@ use Rattle.std.proofs.lemmas.Bool.Decides.{nat_tests}
 use Rattle.std.proofs.lemmas.List.Recursion.{is_count_by}
 use Rattle.std.proofs.lemmas.Slice.Eq.{bytes_eq-Decides}
 use Rattle.knx_model.specs.declared.address.IndAddr.{IndAddr}
-use Rattle.knx_model.specs.declared.log.JobKind.{JobKind}
-use Rattle.knx_model.specs.declared.log.JobKind.TheVariants as kind
+use Rattle.call_words.specs.declared.job_word.JobKind.{JobKind}
+use Rattle.call_words.specs.declared.job_word.JobKind.TheVariants as kind
 use Rattle.knx_model.specs.Addresses.{ind_value}
 use Rattle.knx_top.specs.Command.{SimOptions, SimWord, CatalogueWord, LogWord, JobNamed, SpellsSimWord, SpellsCatalogue, SpellsLog, SpellsLoad, SpellsCheckJob, SpellsOptions, are_few, are_options, at_most_one, catalogue_in, first_of_some, if_said, is_catalogue, is_job, is_log, is_word, job_in, job_named, log_in, most_jobs, options_once, options_said, said, sim_options, sim_word}
 

@@ -5,7 +5,7 @@ use Rattle.device_tables.proofs.Agreement.{acts_alike, same_lowest}
 use Rattle.knx_model.specs.declared.address.IndAddr.{IndAddr}
 use Rattle.knx_model.specs.declared.config.Config.{Config}
 use Rattle.knx_model.specs.declared.config.Image.{Image}
-use Rattle.knx_model.specs.declared.log.JobWord.{JobWord}
+use Rattle.call_words.specs.declared.job_word.JobWord.{JobWord}
 use Rattle.knx_model.specs.declared.script.GroupService.{GroupService}
 use Rattle.knx_model.specs.Acts.{IsInRange, accepts, answerer, can_answer, is_linked, is_linked_in, is_written, object_in_table, object_of_number}
 use Rattle.knx_model.specs.Device.{NonVolatile, runs}

@@ -4,7 +4,7 @@ use Rattle.std.specs.List.{filter_map, range_with_len}
 use Rattle.std.proofs.lemmas.List.Elements.{filter_map-append}
 use Rattle.knx_model.specs.declared.frames.value.Value.{Value}
 use Rattle.knx_model.specs.DeviceState.{DeviceState, value_of}
-use Rattle.line_model.specs.Printed.{shown}
+use Rattle.call_words.specs.Printed.{shown}
 use Rattle.knx_top.proofs.Tunnels.{range_more}
 
 pub one_value_more : (d : DeviceState) (before : ℕ) (old new : List (ℕ × Value)) → old ≡ filter_map (λ o. shown o (value_of d o)) (range_with_len 1 before) → new ≡ old ++ filter_map (λ o. shown o (value_of d o)) ((before + 1) ∷ [])

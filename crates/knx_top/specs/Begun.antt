@@ -3,8 +3,8 @@ use Rattle.std.specs.Prelude.{◌≡◌, ℕ, ◌<◌, ◌^◌, true, List, [], 
 use Rattle.std.specs.List.{AllByRecursion}
 use Rattle.bus_sim.specs.declared.clients.Clients.TheVariants.{One}
 use Rattle.bus_sim.specs.RunNow.{RunNow, script, start}
-use Rattle.knx_model.specs.declared.command.Stop.{Stop}
-use Rattle.knx_model.specs.declared.log.JobWord.{JobWord}
+use Rattle.call_words.specs.declared.stop.Stop.{Stop}
+use Rattle.call_words.specs.declared.job_word.JobWord.{JobWord}
 use Rattle.knx_model.specs.declared.script.ScriptLine.{ScriptLine}
 use Rattle.knx_model.specs.Acts.{IsInRange}
 use Rattle.knx_model.specs.Meaning.{Installation, meaning}

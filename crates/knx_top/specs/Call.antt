@@ -6,19 +6,19 @@ use Rattle.bus_sim.specs.Loaded.{BusNow}
 use Rattle.bus_sim.specs.RunNow.{RunNow}
 use Rattle.frame_text.specs.FrameText.{IsFrameText, hex_word}
 use Rattle.knx_model.specs.declared.address.IndAddr.{IndAddr}
-use Rattle.knx_model.specs.declared.command.Stop.{Stop}
-use Rattle.knx_model.specs.declared.command.Stop.TheVariants as stop
+use Rattle.call_words.specs.declared.stop.Stop.{Stop}
+use Rattle.call_words.specs.declared.stop.Stop.TheVariants as stop
 use Rattle.knx_model.specs.declared.config.Image.{Image}
-use Rattle.knx_model.specs.declared.status.Status.{Status}
-use Rattle.knx_model.specs.declared.status.Status.TheVariants as status
+use Rattle.call_words.specs.declared.status.Status.{Status}
+use Rattle.call_words.specs.declared.status.Status.TheVariants as status
 use Rattle.knx_model.specs.Meaning.{Installation, meaning}
 use Rattle.knx_model.specs.Outside.{FileContent, Rose, Wrote, WroteFront}
-use Rattle.knx_model.specs.ReportText.{counts_line, tables_lines, stop_text, stop_status}
+use Rattle.call_words.specs.ReportText.{counts_line, tables_lines, stop_text, stop_status}
 use Rattle.knx_model.specs.Counts.{counts_of}
 use Rattle.knx_model.specs.Rules.{devices_of}
 use Rattle.knx_model.specs.Tables.{StandsFor}
 use Rattle.line_model.specs.declared.log.Report.{Report}
-use Rattle.line_model.specs.Printed.{line_report_text}
+use Rattle.call_words.specs.Printed.{line_report_text}
 use Rattle.report_text.specs.LineStatus.{line_status}
 use Rattle.knx_top.specs.Command.{Command, Check, Tables, Sim, Decode, Download, DownloadWords, Gateway, GatewayWords, ProjectWords, SimWords, asked}
 use Rattle.knx_top.specs.Input.{ProjectIsRead, SimIsRead, OnlyRose, failed_of_project, failed_of_sim, first_some}

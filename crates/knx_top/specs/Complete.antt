@@ -1,8 +1,8 @@
 -- What valid input comes to: where the files of `check` or `tables` are told, or the word of `decode` is one of octets, and no count rose, the
 -- whole text is written with status 0, or there was no memory.
 use Rattle.std.specs.Prelude.{ℕ, ◌≡◌, ◌⊎◌, true, List, take, Option, Some, None}
-use Rattle.knx_model.specs.declared.status.Status.{Status}
-use Rattle.knx_model.specs.declared.status.Status.TheVariants as status
+use Rattle.call_words.specs.declared.status.Status.{Status}
+use Rattle.call_words.specs.declared.status.Status.TheVariants as status
 use Rattle.knx_model.specs.Outside.{FileContent, Untold, Absent, Holds, Rose, Wrote}
 use Rattle.knx_top.specs.Command.{ProjectWords}
 use Rattle.knx_top.specs.Input.{limit, goes_on, first_some}

@@ -9,15 +9,15 @@ use Rattle.hub_driver.specs.Closed.{HasClosed}
 use Rattle.hub_driver.specs.Seats.{IsOfWorkers}
 use Rattle.hub_driver.specs.Heard.{HeardAll}
 use Rattle.hub_driver.specs.Leaving.{LeavesOver}
-use Rattle.knx_model.specs.declared.command.Stop.{Stop}
-use Rattle.knx_model.specs.declared.command.Stop.TheVariants as stop
-use Rattle.knx_model.specs.declared.log.JobWord.{JobWord}
-use Rattle.knx_model.specs.declared.status.Status.{Status}
-use Rattle.knx_model.specs.declared.status.Status.TheVariants as status
+use Rattle.call_words.specs.declared.stop.Stop.{Stop}
+use Rattle.call_words.specs.declared.stop.Stop.TheVariants as stop
+use Rattle.call_words.specs.declared.job_word.JobWord.{JobWord}
+use Rattle.call_words.specs.declared.status.Status.{Status}
+use Rattle.call_words.specs.declared.status.Status.TheVariants as status
 use Rattle.knx_model.specs.Answers.{◌>>=◌}
 use Rattle.knx_model.specs.Meaning.{Installation}
 use Rattle.knx_model.specs.Outside.{FileContent, Rose, one_more}
-use Rattle.knx_model.specs.ReportText.{stop_text, stop_status}
+use Rattle.call_words.specs.ReportText.{stop_text, stop_status}
 use Rattle.line_model.specs.declared.fault.HubFault.TheVariants.{LinkFailed}
 use Rattle.line_model.specs.declared.log.LogEntry.{LogEntry}
 use Rattle.line_model.specs.declared.log.Report.{Report}
@@ -27,7 +27,7 @@ use Rattle.line_model.specs.LinkStory.{Story, Untold, Recorded, Full, IsNewLink,
 use Rattle.line_model.specs.Log.{Job, IsLog, OneDownloaderPerDevice, AllOver}
 use Rattle.line_model.specs.OldStoppedOrNew.{OldStoppedOrNew, RunsMeaning, MeansWhereDone}
 use Rattle.line_model.specs.PortStory.{PortStory}
-use Rattle.line_model.specs.Printed.{fault_line, line_report_text}
+use Rattle.call_words.specs.Printed.{fault_line, line_report_text}
 use Rattle.report_text.specs.LineStatus.{line_status}
 use Rattle.tunnel_link.specs.Goes.{GoesOn}
 use Rattle.tunnel_link.specs.Rights.{FailsWhere, WhereTold}

@@ -8,17 +8,18 @@ use Rattle.bus_sim.specs.Loaded.{BusNow}
 use Rattle.bus_sim.specs.RunNow.{RunNow, start}
 use Rattle.bus_sim.specs.Serving.{BreaksOff, FailsAt, ServedSo}
 use Rattle.knx_model.specs.declared.catalogue.model.NamedModel.{NamedModel}
-use Rattle.knx_model.specs.declared.command.InputFile.TheVariants as file
-use Rattle.knx_model.specs.declared.command.Stop.{Stop}
-use Rattle.knx_model.specs.declared.command.Stop.TheVariants as stop
+use Rattle.call_words.specs.declared.input_file.InputFile.TheVariants as file
+use Rattle.call_words.specs.declared.stop.Stop.{Stop}
+use Rattle.call_words.specs.declared.stop.Stop.TheVariants as stop
 use Rattle.knx_model.specs.declared.project.Statement.{Statement}
 use Rattle.knx_model.specs.declared.script.ScriptLine.{ScriptLine}
-use Rattle.knx_model.specs.declared.status.Status.{Status}
-use Rattle.knx_model.specs.declared.status.Status.TheVariants as status
+use Rattle.call_words.specs.declared.status.Status.{Status}
+use Rattle.call_words.specs.declared.status.Status.TheVariants as status
 use Rattle.knx_model.specs.Answers.{◌>>=◌}
 use Rattle.knx_model.specs.Meaning.{Installation}
 use Rattle.knx_model.specs.Outside.{FileContent, one_more}
-use Rattle.knx_model.specs.ReportText.{line, stop_text, stop_status}
+use Rattle.call_words.specs.ReportText.{stop_text, stop_status}
+use Rattle.knx_model.specs.TextLines.{line}
 use Rattle.knx_model.specs.ScriptText.{script_reading, first_stranger}
 use Rattle.knx_model.specs.Statements.{reading}
 use Rattle.line_model.specs.declared.fault.HubFault.TheVariants.{LinkFailed}
@@ -29,7 +30,7 @@ use Rattle.line_model.specs.Fresh.{IsFresh}
 use Rattle.line_model.specs.Legal.{IsLegal}
 use Rattle.line_model.specs.Lines.{script_of}
 use Rattle.line_model.specs.PortStory.{PortStory, IsNewPort}
-use Rattle.line_model.specs.Printed.{fault_line}
+use Rattle.call_words.specs.Printed.{fault_line}
 use Rattle.line_model.specs.StartOf.{BusOf}
 use Rattle.line_model.specs.Tunnel as tunnel
 use Rattle.knx_top.specs.Begun.{BeginsLine}

@@ -1,7 +1,7 @@
 -- The sentences of the headline, each of a run that the words and the texts ask for, of the line with its events, and of the run's report.
 use Rattle.std.specs.Prelude.{◌≡◌, List, [], length, None}
 use Rattle.bus_sim.specs.RunNow.{RunNow, start}
-use Rattle.knx_model.specs.declared.log.JobWord.{JobWord}
+use Rattle.call_words.specs.declared.job_word.JobWord.{JobWord}
 use Rattle.line_model.specs.declared.log.Report.{Report}
 use Rattle.line_model.specs.ActedOnce.{ActedOnce}
 use Rattle.line_model.specs.Faults.{FaultRight}

@@ -1,7 +1,7 @@
 -- What a call reads: the files of its words in the order catalogue, NEW or P, OLD, SCRIPT, up to the first read that is refused.
 use Rattle.std.specs.Prelude.{ℕ, ◌≡◌, ◌≢◌, Bool, true, false, List, [], ◌∷◌, ◌++◌, Option, Some, None, option_to_list, unwrap_or, Ok, Err}
-use Rattle.knx_model.specs.declared.command.Stop.{Stop}
-use Rattle.knx_model.specs.declared.command.Stop.TheVariants as stop
+use Rattle.call_words.specs.declared.stop.Stop.{Stop}
+use Rattle.call_words.specs.declared.stop.Stop.TheVariants as stop
 use Rattle.knx_model.specs.declared.outside.files.FileFault.{FileFault}
 use Rattle.knx_model.specs.declared.outside.files.FileFault.TheVariants as fault
 use Rattle.knx_model.specs.Outside.{FileContent, MayRead, Rose}

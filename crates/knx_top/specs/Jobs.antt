@@ -1,13 +1,13 @@
 -- The jobs of a run: those that the words name, or else one load for each device of the new project, ascending. Each goes through the plan of the new
 -- project's compiled image.
-use Rattle.std.specs.Prelude.{◌≡◌, List, [], ◌∷◌, map, IsPermutation}
+use Rattle.std.specs.Prelude.{◌≡◌, Bool, true, false, List, [], ◌∷◌, map, IsPermutation}
 use Rattle.std.specs.List.{AllZip}
 use Rattle.std.specs.List.Sorted.{IsStrictlyIncreasing}
 use Rattle.knx_model.specs.declared.address.IndAddr.{IndAddr}
 use Rattle.knx_model.specs.declared.config.Image.{Image}
-use Rattle.knx_model.specs.declared.log.JobKind.{JobKind}
-use Rattle.knx_model.specs.declared.log.JobKind.TheVariants.{Load, Check}
-use Rattle.knx_model.specs.declared.log.JobWord.{JobWord}
+use Rattle.call_words.specs.declared.job_word.JobKind.{JobKind}
+use Rattle.call_words.specs.declared.job_word.JobKind.TheVariants.{Load, Check}
+use Rattle.call_words.specs.declared.job_word.JobWord.{JobWord}
 use Rattle.knx_model.specs.LoadPlan.{load_plan, check_plan}
 use Rattle.knx_model.specs.Meaning.{Installation}
 use Rattle.knx_model.specs.Plans.{Plan}
@@ -38,6 +38,10 @@ AreJobs (named ∷ more) project jobs = jobs ≡ named ∷ more
 
 -- ---- what each job does
 
+abbrev pub is_load : JobKind → Bool
+is_load Load = true
+is_load Check = false
+
 abbrev pub plan_of : JobKind → Image → Plan
 plan_of Load image = load_plan image
 plan_of Check image = check_plan image
@@ -45,7 +49,7 @@ plan_of Check image = check_plan image
 -- a job with the plan of the project's compiled image
 pub record IsPlanned (project : Installation) (job : Job) (word : JobWord) : Type 0 where
   pub device : job.device ≡ word.device
-  pub kind : job.kind ≡ word.kind
+  pub loads : job.loads ≡ is_load word.kind
   pub image : IsImage project word.device job.image
   pub plan : job.plan ≡ plan_of word.kind job.image
 
@@ -63,7 +67,7 @@ kind_in (plan.Load p) = Load
 kind_in (plan.Check p) = Check
 
 abbrev pub seen_job : HubJob → Job
-seen_job j = record { device = j.device; image = image_in j.plan; plan = job_left j.plan 0; kind = kind_in j.plan }
+seen_job j = record { device = j.device; image = image_in j.plan; plan = job_left j.plan 0; loads = is_load (kind_in j.plan) }
 
 -- a plan by which a job of this kind goes through the image
 pub record PlansImage (of : JobKind) (meant : Image) (p : JobPlan) : Type 0 where

@@ -6,9 +6,9 @@ use Rattle.std.specs.Prelude.{◌≡◌, ◌⊎◌, ℕ, ◌-◌, ◌^◌, min, 
 use Rattle.bus_sim.specs.Ended.{IsAtEnd}
 use Rattle.bus_sim.specs.Loaded.{BusNow}
 use Rattle.bus_sim.specs.RunNow.{RunNow, start, world}
-use Rattle.knx_model.specs.declared.command.Stop.{Stop}
-use Rattle.knx_model.specs.declared.command.Stop.TheVariants as stop
-use Rattle.knx_model.specs.declared.log.JobWord.{JobWord}
+use Rattle.call_words.specs.declared.stop.Stop.{Stop}
+use Rattle.call_words.specs.declared.stop.Stop.TheVariants as stop
+use Rattle.call_words.specs.declared.job_word.JobWord.{JobWord}
 use Rattle.knx_model.specs.Outside.{Rose}
 use Rattle.line_model.specs.declared.fault.HubFault.{HubFault}
 use Rattle.line_model.specs.declared.fault.HubFault.TheVariants.{LinkFailed}
@@ -26,7 +26,7 @@ use Rattle.line_model.specs.Legal.{IsLegal}
 use Rattle.line_model.specs.Lines.{script_of}
 use Rattle.line_model.specs.Log.{Job, AllOver}
 use Rattle.line_model.specs.OldStoppedOrNew.{OldStoppedOrNew, RunsMeaning, MeansWhereDone}
-use Rattle.line_model.specs.Printed.{DeviceShown}
+use Rattle.call_words.specs.Printed.{DeviceShown}
 use Rattle.line_model.specs.Record.{placed, record_of}
 use Rattle.line_model.specs.StartOf.{BusOf}
 use Rattle.line_model.specs.Telegrams.{TelegramsActRight, ActsByProject}

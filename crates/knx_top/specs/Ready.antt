@@ -1,10 +1,10 @@
 -- What a download is begun with in the code, and how it ends there.
 use Rattle.std.specs.Prelude.{ℕ, ◌≡◌, ◌⊎◌, ◌<◌, ◌^◌, List, length, map, Option, Result, Ok, Err}
 use Rattle.std.specs.List.{AllByRecursion}
-use Rattle.knx_model.specs.declared.command.Stop.{Stop}
-use Rattle.knx_model.specs.declared.command.Stop.TheVariants as stop
-use Rattle.knx_model.specs.declared.log.JobWord.{JobWord}
-use Rattle.knx_model.specs.declared.status.Status.{Status}
+use Rattle.call_words.specs.declared.stop.Stop.{Stop}
+use Rattle.call_words.specs.declared.stop.Stop.TheVariants as stop
+use Rattle.call_words.specs.declared.job_word.JobWord.{JobWord}
+use Rattle.call_words.specs.declared.status.Status.{Status}
 use Rattle.knx_model.specs.Meaning.{Installation}
 use Rattle.line_model.specs.Headline.{IsGoodJob}
 use Rattle.knx_top.specs.Dialled.{Download, DialEnd, Stopped, NotReached, Unshown, Shown, RepliesEnd, end_status, end_text}

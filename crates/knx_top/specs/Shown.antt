@@ -4,14 +4,14 @@ use Rattle.std.specs.Prelude.{◌≡◌, true, false, List, Option, Some}
 use Rattle.std.specs.List.{AllZip}
 use Rattle.knx_model.specs.declared.address.IndAddr.{IndAddr}
 use Rattle.knx_model.specs.declared.config.Image.{Image}
-use Rattle.knx_model.specs.declared.log.Case.{Case}
-use Rattle.knx_model.specs.declared.log.Case.TheVariants.{New, Old, Stopped}
+use Rattle.call_words.specs.declared.case.Case.{Case}
+use Rattle.call_words.specs.declared.case.Case.TheVariants.{New, Old, Stopped}
 use Rattle.knx_model.specs.Device.{NonVolatile, all_loaded}
 use Rattle.knx_model.specs.DeviceState.{DeviceState}
 use Rattle.knx_model.specs.Meaning.{Installation}
 use Rattle.knx_model.specs.Promises.{RunsProject}
 use Rattle.knx_model.specs.Rules.{has_device}
-use Rattle.line_model.specs.Printed.{DeviceShown, values_shown}
+use Rattle.call_words.specs.Printed.{DeviceShown, values_shown}
 use Rattle.line_model.specs.World.{World}
 use Rattle.knx_top.specs.OnLine.{IsImageWhere}
 

@@ -1,7 +1,7 @@
 //! The top call.
 
 ghost use Rattle.std.specs.Prelude.{◌≡◌, ◌≢◌, ◌≤◌, ◌+◌, ℕ, List, None, Some, length, map, string_bytes, IfOk};
-ghost use Rattle.knx_model.specs.declared.command.Stop.TheVariants.{Usage};
+ghost use Rattle.call_words.specs.declared.stop.Stop.TheVariants.{Usage};
 ghost use Rattle.knx_model.specs.Outside.{one_more};
 ghost use Rattle.knx_top.specs.Call.{AtMostOneRose, Does, HasRunOf, IsCountsText, IsTablesText, Replies, RunsScript, TellsOfFrame, TellsOfProject};
 ghost use Rattle.knx_top.specs.Command.{HasFewJobs, NamesFewJobs, ProjectWords, SimWords, asked, Check as AskedCheck, Decode as AskedDecode, Download as AskedDownload, DownloadWords, Gateway as AskedGateway, GatewayWords, Sim as AskedSim, Tables as AskedTables};
@@ -21,7 +21,8 @@ use crate::input::{read_project_texts, read_sim_texts};
 use crate::tell::{Text, tell, tell_or_want, text_of_stop};
 use crate::told::{check_told, decode_told, tables_told};
 use bus_sim::SimBus;
-use knx_model::{Files, NoMemory, Octets, Sink, Status, Stop};
+use call_words::{Status, Stop};
+use knx_model::{Files, NoMemory, Octets, Sink};
 use line_model::{Dialer, Report};
 use report_text::{USAGE, line_report_of, line_status};
 use std::alloc::Global;

@@ -2,7 +2,7 @@
 
 ghost use Rattle.std.specs.Prelude.{◌≡◌, ℕ, List, Option, Some};
 ghost use Rattle.frame_text.specs.FrameText.{IsFrameText, hex_word};
-ghost use Rattle.knx_model.specs.declared.status.Status.{Status};
+ghost use Rattle.call_words.specs.declared.status.Status.{Status};
 ghost use Rattle.knx_model.specs.Outside.{FileContent, Rose};
 ghost use Rattle.knx_top.specs.Call.{IsCountsText, IsTablesText, Replies, TellsOfFrame, TellsOfProject};
 ghost use Rattle.knx_top.specs.Command.{ProjectWords};

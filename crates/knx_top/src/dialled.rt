@@ -2,7 +2,7 @@
 
 ghost use Rattle.std.specs.Prelude.{◌≡◌, ◌≢◌, ◌≤◌, ◌<◌, ◌+◌, ℕ, Some, Err, IfErr, IfOk, List as Seq, length, map};
 ghost use Rattle.std.specs.List.{AllByRecursion};
-ghost use Rattle.knx_model.specs.declared.command.Stop.TheVariants.{NoMemory as OutOfMemory};
+ghost use Rattle.call_words.specs.declared.stop.Stop.TheVariants.{NoMemory as OutOfMemory};
 ghost use Rattle.knx_model.specs.Outside.{one_more};
 ghost use Rattle.line_model.specs.Headline.{IsGoodJob};
 ghost use Rattle.line_model.specs.LinkStory.{IsNewLink};
@@ -22,9 +22,10 @@ use crate::options::{SimOptions, named_jobs};
 use crate::project::{sound_in, unknown_job};
 use crate::tell::{LINK_FAULT, Text, tell, tell_or_want, text_of_stop};
 use crate::told::read_in;
+use call_words::{InputFile, JobWord, Status, Stop};
 use hub_driver::commission;
 use hub_work::HubJob;
-use knx_model::{Files, InputFile, JobWord, List, NoMemory, Octets, Sink, Status, Stop};
+use knx_model::{Files, List, NoMemory, Octets, Sink};
 use line_model::{Dialer, Report};
 use project_check::Checked;
 use report_text::{line_report_of, line_status};

@@ -1,7 +1,7 @@
 //! `gateway`: the simulated line served at a port, which is handed back to the dialer before the call answers.
 
 ghost use Rattle.std.specs.Prelude.{◌≡◌, ◌≢◌, ◌≤◌, ◌+◌, ℕ, Err, IfErr, IfOk, List as Seq, length};
-ghost use Rattle.knx_model.specs.declared.command.Stop.TheVariants.{NoMemory as OutOfMemory};
+ghost use Rattle.call_words.specs.declared.stop.Stop.TheVariants.{NoMemory as OutOfMemory};
 ghost use Rattle.knx_model.specs.Outside.{one_more};
 ghost use Rattle.line_model.specs.PortStory.{IsNewPort};
 ghost use Rattle.knx_top.specs.Begun.{BeginsLine};
@@ -17,9 +17,8 @@ use crate::line::line_begun;
 use crate::project::{models_in, project_in, read_of, sound_in};
 use crate::tell::{LINK_FAULT, Text, tell, tell_or_want, text_of_stop};
 use bus_sim::{Served, SimBus};
-use knx_model::{
-    Files, InputFile, NoMemory, Octets, Sink, Status, Stop, put_number_word, put_word,
-};
+use call_words::{InputFile, Status, Stop};
+use knx_model::{Files, NoMemory, Octets, Sink, put_number_word, put_word};
 use line_model::{Dialer, PortFault};
 use project_check::Checked;
 use report_text::NO_MEMORY;

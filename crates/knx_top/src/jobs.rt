@@ -7,8 +7,9 @@ ghost use Rattle.knx_top.specs.Jobs.{AreJobs, ArePlanned, IsPlanned, LoadsEach, 
 ghost use Rattle.knx_model.specs.Device.{Fits};
 ghost use Rattle.knx_top.specs.Stops.{is_known};
 
+use call_words::{JobKind, JobWord};
 use hub_work::{CheckPlan, HubJob, JobPlan, LoadPlan};
-use knx_model::{Image, IndAddr, JobKind, JobWord, List, NoMemory};
+use knx_model::{Image, IndAddr, List, NoMemory};
 use project_check::Checked;
 use std::alloc::Global;
 use table_compiler::compile;

@@ -2,8 +2,8 @@
 
 ghost use Rattle.std.specs.Prelude.{◌≡◌, ◌≢◌, ◌≤◌, Err, IfErr, IfOk, length};
 ghost use Rattle.std.specs.List.{list_any};
-ghost use Rattle.knx_model.specs.declared.command.InputFile.TheVariants.{Script as OfScript};
-ghost use Rattle.knx_model.specs.declared.command.Stop.TheVariants.{NoMemory as OutOfMemory};
+ghost use Rattle.call_words.specs.declared.input_file.InputFile.TheVariants.{Script as OfScript};
+ghost use Rattle.call_words.specs.declared.stop.Stop.TheVariants.{NoMemory as OutOfMemory};
 ghost use Rattle.knx_model.specs.ScriptText.{script_reading};
 ghost use Rattle.knx_top.specs.Begun.{BeginsLine, IsPrepared, OrderFor};
 ghost use Rattle.knx_top.specs.Command.{HasFewJobs, most_jobs};
@@ -18,8 +18,9 @@ use crate::line::{compiled, line_begun, on_bus};
 use crate::options::{SimOptions, named_jobs};
 use crate::project::{models_in, not_built, project_in, read_of, refusal, sound_in, unknown_job};
 use bus_sim::SimBus;
+use call_words::{InputFile, JobWord, Stop};
 use hub_work::HubJob;
-use knx_model::{Image, IndAddr, InputFile, JobWord, List, NoMemory, ScriptLine, ScriptWhat, Stop};
+use knx_model::{Image, IndAddr, List, NoMemory, ScriptLine, ScriptWhat};
 use project_check::Checked;
 use script_text::{Script, read_script};
 use std::alloc::Global;

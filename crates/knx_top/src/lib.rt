@@ -20,8 +20,8 @@ mod told;
 
 pub use bus_sim::SimBus;
 pub use call::knx;
+pub use call_words::Status;
 pub use command::commands_spelled;
 pub use complete::valid_input_is_told;
-pub use knx_model::Status;
 pub use line_model::Report;
 pub use report_text::NO_MEMORY;

@@ -3,7 +3,7 @@
 ghost use Rattle.std.specs.Prelude.{◌≡◌, ◌≢◌, Err, IfErr, IfOk, List as Seq, OnOk, [], slice_get, ◌∷◌, ◌++◌, ◌||◌, if◌then◌else◌};
 ghost use Rattle.knx_model.specs.Rules.{has_device};
 ghost use Rattle.knx_model.specs.declared.address.IndAddr.{IndAddr as Address};
-ghost use Rattle.knx_model.specs.declared.command.Stop.TheVariants.{NoMemory as OutOfMemory};
+ghost use Rattle.call_words.specs.declared.stop.Stop.TheVariants.{NoMemory as OutOfMemory};
 ghost use Rattle.line_model.specs.StartOf.{on_line_of_first, tunnel_address};
 ghost use Rattle.knx_top.specs.Begun.{BeginsLine};
 ghost use Rattle.knx_top.specs.Judged.{unless_strange};
@@ -11,7 +11,8 @@ ghost use Rattle.knx_top.specs.OnLine.{AreCompiled, IsImageWhere, on_bus};
 
 use crate::project::refusal;
 use bus_sim::SimBus;
-use knx_model::{Image, IndAddr, InputFile, List, NoMemory, Stop};
+use call_words::{InputFile, Stop};
+use knx_model::{Image, IndAddr, List, NoMemory};
 use project_check::Checked;
 use script_text::Script;
 use std::alloc::Global;

@@ -6,7 +6,8 @@ ghost use Rattle.std.specs.Option.{option_map};
 ghost use Rattle.knx_top.specs.Command.{HasFewJobs, are_few, are_options, catalogue_said, first_of_some, is_catalogue, is_job, is_log, is_word, job_named, job_said, options_once, sim_options, sim_word};
 ghost use Rattle.knx_top.specs.Names.{named, options_of, sim_word_of, the_word};
 
-use knx_model::{JobKind, JobWord, List, NoMemory, ind_of};
+use call_words::{JobKind, JobWord};
+use knx_model::{List, NoMemory, ind_of};
 use std::alloc::Global;
 
 /// The most jobs that words name.

@@ -1,7 +1,7 @@
 //! A catalogue and a project are read and checked.
 
 ghost use Rattle.std.specs.Prelude.{◌≡◌, ◌≢◌, [], IfOk, IsNone, IsSome, unwrap_or};
-ghost use Rattle.knx_model.specs.declared.command.Stop.TheVariants.{CatalogueRefused, NoMemory, Refused as Refuses};
+ghost use Rattle.call_words.specs.declared.stop.Stop.TheVariants.{CatalogueRefused, NoMemory, Refused as Refuses};
 ghost use Rattle.knx_model.specs.declared.refusal.Why.TheVariants.{NoMemory as WithoutMemory};
 ghost use Rattle.knx_model.specs.Statements.{reading};
 ghost use Rattle.knx_top.specs.Input.{fault_told};
@@ -10,11 +10,9 @@ ghost use Rattle.knx_top.specs.Names.{named};
 ghost use Rattle.knx_top.specs.Stops.{not_built, unknown_job};
 
 use crate::input::Reading;
+use call_words::{InputFile, Stop};
 use catalogue::read_catalogue;
-use knx_model::{
-    CatRefused, Catalogue, FileFault, InputFile, NoMemory as OutOfMemory, Octets, Refused, Stop,
-    Why,
-};
+use knx_model::{CatRefused, Catalogue, FileFault, NoMemory as OutOfMemory, Octets, Refused, Why};
 use project_check::{Checked, check};
 use project_text::{Project, read_project};
 use std::alloc::Global;

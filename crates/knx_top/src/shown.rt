@@ -7,12 +7,13 @@ ghost use Rattle.knx_model.specs.declared.address.IndAddr.{IndAddr as Address};
 ghost use Rattle.knx_model.specs.declared.config.Image.{Image as Compiled};
 ghost use Rattle.knx_model.specs.Meaning.{Installation};
 ghost use Rattle.knx_model.specs.DeviceState.{value_of};
-ghost use Rattle.line_model.specs.Printed.{is_zero, shown, values_shown};
+ghost use Rattle.call_words.specs.Printed.{is_zero, shown, values_shown};
 ghost use Rattle.knx_top.specs.OnLine.{IsImageWhere};
 ghost use Rattle.knx_top.specs.Shown.{IsCase, IsShownIn, IsShownOf, AreShownOf};
 
 use bus_sim::{Device, SimBus};
-use knx_model::{Case, Image, IndAddr, List, NoMemory, Value};
+use call_words::Case;
+use knx_model::{Image, IndAddr, List, NoMemory, Value};
 use report_text::DeviceShown;
 use std::alloc::Global;
 use table_compiler::one_image;

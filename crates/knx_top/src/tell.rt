@@ -1,12 +1,13 @@
 //! What is written of a call.
 
 ghost use Rattle.std.specs.Prelude.{◌≡◌, IfErr, IfOk};
-ghost use Rattle.knx_model.specs.declared.command.Stop.TheVariants.{NoMemory as OutOfMemory};
+ghost use Rattle.call_words.specs.declared.stop.Stop.TheVariants.{NoMemory as OutOfMemory};
 ghost use Rattle.knx_model.specs.Outside.{one_more};
-ghost use Rattle.knx_model.specs.ReportText.{stop_status, stop_text};
+ghost use Rattle.call_words.specs.ReportText.{stop_status, stop_text};
 ghost use Rattle.knx_top.specs.Call.{Writes};
 
-use knx_model::{NoMemory, Octets, Sink, Status, Stop};
+use call_words::{Status, Stop};
+use knx_model::{NoMemory, Octets, Sink};
 use report_text::{NO_MEMORY, stop_status, stop_text};
 use std::alloc::Global;
 

@@ -12,7 +12,7 @@ use Rattle.line_model.specs.declared.log.LogEntry.{LogEntry}
 use Rattle.line_model.specs.declared.log.LogWhat.{LogWhat}
 use Rattle.line_model.specs.declared.log.LogWhat.TheVariants.{Took, Done, Failed, Refused, Sent, Lost}
 use Rattle.line_model.specs.Headline.{GoodCheck, IsGoodJob}
-use Rattle.line_model.specs.Log.{Job, Untaken, Held, Over, loads, job_of, log_before, takes_it, ends_it, state_after, state_of}
+use Rattle.line_model.specs.Log.{Job, Untaken, Held, Over, job_of, log_before, takes_it, ends_it, state_after, state_of}
 use Rattle.line_model.specs.OldStoppedOrNew.{RunsJob, OldStoppedOr, loads_device, takes_load, load_taken}
 use Rattle.line_model.specs.World.{World, Event, me}
 use Rattle.session_law.specs.World.{World as SessionWorld, fresh}
@@ -60,7 +60,7 @@ begins_so answers _ _ _ (AtEnd nv) = NotBegun _ nv
 begins_so answers _ _ _ (Goes apdu expect next nv outcome end whole_ suits rest) = Then apdu expect next nv outcome end whole_ suits (begins_so answers (next (answers nv apdu)) (kept_by nv apdu outcome) end rest)
 
 module _ (jobs : List Job) (good : AllByRecursion IsGoodJob jobs) (a : ℕ) (first : NonVolatile) where
-  case_on : (plan : Plan) (p : OfDevice jobs a plan) (b : Bool) → loads p.job ≡ b → (frames : FrameSupport) (start end : NonVolatile) → Case jobs a first start → Beginning (answer_in frames) p.job.plan start end → Case jobs a first end
+  case_on : (plan : Plan) (p : OfDevice jobs a plan) (b : Bool) → p.job.loads ≡ b → (frames : FrameSupport) (start end : NonVolatile) → Case jobs a first start → Beginning (answer_in frames) p.job.plan start end → Case jobs a first end
   case_on plan p true l frames start end case b =
       elim (((good_job jobs p.number p.job good p.there).load l).beginnings frames start end b) [
         | inl same ↦ subst (Case jobs a first) (sym same) case
@@ -69,7 +69,7 @@ module _ (jobs : List Job) (good : AllByRecursion IsGoodJob jobs) (a : ℕ) (fir
       ]
   case_on plan p false l frames start end case b = subst (Case jobs a first) (sym (((good_job jobs p.number p.job good p.there).check l).changes_nothing frames start end b)) case
 
-  ends_on : (job : Job) (k : ℕ) (b : Bool) → job_of jobs k ≡ Some job → loads job ≡ b → (frames : FrameSupport) (start end : NonVolatile) → HasCapacities start → WholeRun (answer_in frames) job.plan start end → runs end ≡ Some job.image
+  ends_on : (job : Job) (k : ℕ) (b : Bool) → job_of jobs k ≡ Some job → job.loads ≡ b → (frames : FrameSupport) (start end : NonVolatile) → HasCapacities start → WholeRun (answer_in frames) job.plan start end → runs end ≡ Some job.image
   ends_on job k true there l frames start end holds r = ((good_job jobs k job good there).load l).whole_runs frames start end r
   ends_on job k false there l frames start end holds r =
       let check : GoodCheck job.plan job.image = (good_job jobs k job good there).check l in
@@ -79,8 +79,8 @@ module _ (jobs : List Job) (good : AllByRecursion IsGoodJob jobs) (a : ℕ) (fir
   plans_good = record {
     kept = λ nv apdu outcome holds. kept_capacities nv (effect_in apdu) outcome holds;
     good = λ plan p. record {
-      beginnings = λ frames start end holds case b. case_on plan p (loads p.job) refl frames start end case (subst (λ z. Beginning (answer_in frames) z start end) p.plan_is b);
-      whole_runs = λ frames start end holds case r. λ q. ends_on q.job q.number (loads q.job) q.there refl frames start end holds (subst (λ z. WholeRun (answer_in frames) z start end) q.plan_is r);
+      beginnings = λ frames start end holds case b. case_on plan p p.job.loads refl frames start end case (subst (λ z. Beginning (answer_in frames) z start end) p.plan_is b);
+      whole_runs = λ frames start end holds case r. λ q. ends_on q.job q.number q.job.loads q.there refl frames start end holds (subst (λ z. WholeRun (answer_in frames) z start end) q.plan_is r);
     };
     sendable = λ plan p. subst IsSendable (sym p.plan_is) (good_job jobs p.number p.job good p.there).sendable;
   }
@@ -113,7 +113,7 @@ unmoved_more first frames start (e ∷ more) past inv legal f h =
 
 -- ---- a job that is held was taken
 
-pub taken_by : (jobs : List Job) (a k number : ℕ) (e : LogEntry) (job : Job) → takes_it number e.what ≡ true → job_of jobs number ≡ Some job → job.device.raw ≡ a → takes_load jobs a e.what ≡ loads job
+pub taken_by : (jobs : List Job) (a k number : ℕ) (e : LogEntry) (job : Job) → takes_it number e.what ≡ true → job_of jobs number ≡ Some job → job.device.raw ≡ a → takes_load jobs a e.what ≡ job.loads
 taken_by jobs a k number e job t there of = by_what e.what t where
   eqb_is : (x y : ℕ) → (x == y) ≡ true → x ≡ y
   eqb_is x y h = grind (arith, h)
@@ -125,8 +125,8 @@ taken_by jobs a k number e job t there of = by_what e.what t where
   and_true true c h = h
   and_true false c h = refl
 
-  by_what : (what : LogWhat) → takes_it number what ≡ true → takes_load jobs a what ≡ loads job
-  by_what (Took j) h = ap (λ z. loads_device a (job_of jobs z)) (eqb_is j number h) ∙ ap (loads_device a) there ∙ and_true (loads job) (job.device.raw == a) (is_eqb job.device.raw a of)
+  by_what : (what : LogWhat) → takes_it number what ≡ true → takes_load jobs a what ≡ job.loads
+  by_what (Took j) h = ap (λ z. loads_device a (job_of jobs z)) (eqb_is j number h) ∙ ap (loads_device a) there ∙ and_true job.loads (job.device.raw == a) (is_eqb job.device.raw a of)
   by_what (Done j) h = absurd (cc)
   by_what (Failed j signs) h = absurd (cc)
   by_what (Refused j op got expected) h = absurd (cc)
@@ -138,7 +138,7 @@ and_false true c h e = h
 and_false false c h e = absurd (cc)
 
 -- a load that is held at a moment before k was taken before k
-pub no_load : (jobs : List Job) (a k n number worker since : ℕ) (job : Job) (log : List LogEntry) → load_taken jobs a k log ≡ false → n < k → state_of number (log_before (suc n) log) ≡ Held worker since → job_of jobs number ≡ Some job → job.device.raw ≡ a → loads job ≡ false
+pub no_load : (jobs : List Job) (a k n number worker since : ℕ) (job : Job) (log : List LogEntry) → load_taken jobs a k log ≡ false → n < k → state_of number (log_before (suc n) log) ≡ Held worker since → job_of jobs number ≡ Some job → job.device.raw ≡ a → job.loads ≡ false
 no_load jobs a k n number worker since job [] none lt held there of = absurd (let z : Untaken ≡ Held worker since = held in cc)
 no_load jobs a k n number worker since job (e ∷ log) none lt held there of =
     let parts = or_parts (nat_lt e.at k && takes_load jobs a e.what) (load_taken jobs a k log) none in
@@ -147,13 +147,13 @@ no_load jobs a k n number worker since job (e ∷ log) none lt held there of =
     in_time : nat_lt e.at (suc n) ≡ true → nat_lt e.at k ≡ true
     in_time h = grind (arith, h, lt)
 
-    by_entry : (b : Bool) → takes_it number e.what ≡ b → nat_lt e.at (suc n) ≡ true → (nat_lt e.at k && takes_load jobs a e.what) ≡ false → state_after number e (state_of number (log_before (suc n) log)) ≡ Held worker since → (state_of number (log_before (suc n) log) ≡ Held worker since → loads job ≡ false) → loads job ≡ false
+    by_entry : (b : Bool) → takes_it number e.what ≡ b → nat_lt e.at (suc n) ≡ true → (nat_lt e.at k && takes_load jobs a e.what) ≡ false → state_after number e (state_of number (log_before (suc n) log)) ≡ Held worker since → (state_of number (log_before (suc n) log) ≡ Held worker since → job.loads ≡ false) → job.loads ≡ false
     by_entry true t h f s g = sym (taken_by jobs a k number e job t there of) ∙ and_false (nat_lt e.at k) (takes_load jobs a e.what) f (in_time h)
     by_entry false t h f s g = by_end (ends_it number e.what) refl where
-      by_end : (b : Bool) → ends_it number e.what ≡ b → loads job ≡ false
+      by_end : (b : Bool) → ends_it number e.what ≡ b → job.loads ≡ false
       by_end true q = absurd (let z : Over ≡ Held worker since = sym (let y : state_after number e (state_of number (log_before (suc n) log)) ≡ Over = rw t (rw q refl) in y) ∙ s in cc)
       by_end false q = g (sym (let y : state_after number e (state_of number (log_before (suc n) log)) ≡ state_of number (log_before (suc n) log) = rw t (rw q refl) in y) ∙ s)
 
-    by_before : (b : Bool) → nat_lt e.at (suc n) ≡ b → (nat_lt e.at k && takes_load jobs a e.what) ≡ false → (state_of number (log_before (suc n) log) ≡ Held worker since → loads job ≡ false) → loads job ≡ false
+    by_before : (b : Bool) → nat_lt e.at (suc n) ≡ b → (nat_lt e.at k && takes_load jobs a e.what) ≡ false → (state_of number (log_before (suc n) log) ≡ Held worker since → job.loads ≡ false) → job.loads ≡ false
     by_before true h f g = by_entry (takes_it number e.what) refl h f (sym (ap (λ b. state_of number (cond {A = List LogEntry} b (e ∷ log_before (suc n) log) (log_before (suc n) log))) h) ∙ held) g
     by_before false h f g = g (sym (ap (λ b. state_of number (cond {A = List LogEntry} b (e ∷ log_before (suc n) log) (log_before (suc n) log))) h) ∙ held)

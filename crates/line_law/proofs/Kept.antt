@@ -9,7 +9,7 @@ use Rattle.line_model.specs.declared.group.GroupTurn.{GroupTurn}
 use Rattle.line_model.specs.declared.log.LogEntry.{LogEntry}
 use Rattle.line_model.specs.Headline.{IsGoodJob}
 use Rattle.line_model.specs.Legal.{AtEveryMoment}
-use Rattle.line_model.specs.Log.{Job, loads, log_before, IsLog, OneDownloaderPerDevice}
+use Rattle.line_model.specs.Log.{Job, log_before, IsLog, OneDownloaderPerDevice}
 use Rattle.line_model.specs.OldStoppedOrNew.{first_events, Both, RunsJob, OldStoppedOr, IsCase, load_taken, IsUntouched}
 use Rattle.line_model.specs.World as line
 use Rattle.line_model.specs.World.{World, Event, me}
@@ -69,7 +69,7 @@ module _ (jobs : List Job) (turns : List GroupTurn) (count : ℕ) (log : List Lo
 
   check_plan : (a k n : ℕ) (plan : Plan) → load_taken jobs a k log ≡ false → n < k → HeldPlan jobs (log_before (suc n) log) a plan → IsCheck plan
   check_plan a k n plan none lt (h, e) =
-      let check : loads h.job ≡ false = no_load jobs a k n h.number h.worker h.since h.job log none lt h.held h.there h.of_device in
+      let check : h.job.loads ≡ false = no_load jobs a k n h.number h.worker h.since h.job log none lt h.held h.there h.of_device in
       let g = good_job jobs h.number h.job good h.there in
       subst IsCheck (sym e) ((g.check check).changes_nothing, g.sendable)
 

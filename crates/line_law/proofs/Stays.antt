@@ -12,7 +12,7 @@ use Rattle.line_model.specs.declared.log.LogWhat.{LogWhat}
 use Rattle.line_model.specs.declared.log.LogWhat.TheVariants.{Took, Done, Failed, Refused, Sent, Lost}
 use Rattle.line_model.specs.Headline.{IsGoodJob}
 use Rattle.line_model.specs.Legal.{OfDevice}
-use Rattle.line_model.specs.Log.{Job, Held, loads, job_of, log_before, takes_it, ends_it, state_after, state_of, IsLog, SameDevice, OneDownloaderPerDevice}
+use Rattle.line_model.specs.Log.{Job, Held, job_of, log_before, takes_it, ends_it, state_after, state_of, IsLog, SameDevice, OneDownloaderPerDevice}
 use Rattle.line_model.specs.OldStoppedOrNew.{first_events, world_at, Both, load_taken, takes_load, IsDoneOf, StaysDone}
 use Rattle.line_model.specs.Record.{placed}
 use Rattle.line_model.specs.Told.{ToldTruly}
@@ -61,7 +61,7 @@ module _ (jobs : List Job) (turns : List GroupTurn) (count : ℕ) (number : ℕ)
 
   -- and later only what was taken since
   none_held : (n upto : ℕ) (newer : List LogEntry) → IsLog jobs turns count (newer ++ e ∷ older) → OneDownloaderPerDevice jobs (newer ++ e ∷ older) → e.at ≤ n → n < upto → load_taken jobs job.device.raw upto newer ≡ false
-      → (k : ℕ) (j : Job) (w s : ℕ) → job_of jobs k ≡ Some j → j.device.raw ≡ job.device.raw → state_of k (log_before (suc n) (newer ++ e ∷ older)) ≡ Held w s → loads j ≡ false
+      → (k : ℕ) (j : Job) (w s : ℕ) → job_of jobs k ≡ Some j → j.device.raw ≡ job.device.raw → state_of k (log_before (suc n) (newer ++ e ∷ older)) ≡ Held w s → j.loads ≡ false
   none_held n upto [] form alone le lt none k j w s is dev h =
       let all : log_before (suc n) (e ∷ older) ≡ e ∷ older = all_before jobs turns count (suc n) e.at (e ∷ older) form (here e.at) (omega (arith, le)) in
       absurd (none_then form alone.1 k j w s is dev (ap (state_of k) (sym all) ∙ h))
@@ -75,12 +75,12 @@ module _ (jobs : List Job) (turns : List GroupTurn) (count : ℕ) (number : ℕ)
       in_time : nat_lt x.at (suc n) ≡ true → nat_lt x.at upto ≡ true
       in_time q = grind (arith, q, lt)
 
-      by_entry : IsTo k x → nat_lt x.at (suc n) ≡ true → (nat_lt x.at upto && takes_load jobs job.device.raw x.what) ≡ false → state_after k x (state_of k (log_before (suc n) (newer ++ e ∷ older))) ≡ Held w s → (state_of k (log_before (suc n) (newer ++ e ∷ older)) ≡ Held w s → loads j ≡ false) → loads j ≡ false
+      by_entry : IsTo k x → nat_lt x.at (suc n) ≡ true → (nat_lt x.at upto && takes_load jobs job.device.raw x.what) ≡ false → state_after k x (state_of k (log_before (suc n) (newer ++ e ∷ older))) ≡ Held w s → (state_of k (log_before (suc n) (newer ++ e ∷ older)) ≡ Held w s → j.loads ≡ false) → j.loads ≡ false
       by_entry (TakesIt t) q f g rest = sym (taken_by jobs job.device.raw upto k x j t is dev) ∙ and_false (nat_lt x.at upto) (takes_load jobs job.device.raw x.what) f (in_time q)
       by_entry (EndsIt t d) q f g rest = absurd (ended_state k x _ w s t d g)
       by_entry (Else t d) q f g rest = rest (sym (after_other k x _ t d) ∙ g)
 
-      by_before : (b : Bool) → nat_lt x.at (suc n) ≡ b → (nat_lt x.at upto && takes_load jobs job.device.raw x.what) ≡ false → (state_of k (log_before (suc n) (newer ++ e ∷ older)) ≡ Held w s → loads j ≡ false) → loads j ≡ false
+      by_before : (b : Bool) → nat_lt x.at (suc n) ≡ b → (nat_lt x.at upto && takes_load jobs job.device.raw x.what) ≡ false → (state_of k (log_before (suc n) (newer ++ e ∷ older)) ≡ Held w s → j.loads ≡ false) → j.loads ≡ false
       by_before true q f rest = by_entry (is_to k x) q f (ap (state_of k) (sym (before_in (suc n) x (newer ++ e ∷ older) true q)) ∙ h) rest
       by_before false q f rest = rest (ap (state_of k) (sym (before_in (suc n) x (newer ++ e ∷ older) false q)) ∙ h)
 
@@ -123,7 +123,7 @@ module _ (jobs : List Job) (turns : List GroupTurn) (log : List LogEntry) (good 
     check_then : (n k : ℕ) → e.at ≤ n → n < k → load_taken jobs job.device.raw k newer ≡ false → (plan : Plan) → HeldPlan jobs (log_before (suc n) log) job.device.raw plan → IsCheck plan
     check_then n k le lt none plan (h, is) =
         let was : HeldThen jobs turns log good start events form alone truly number job there newer older e whole what = held_now jobs turns log good start events form alone truly number job there newer older e whole what in
-        let check : loads h.job ≡ false
+        let check : h.job.loads ≡ false
         = none_held jobs turns (length events) number job there older e what was.worker was.since was.held n k newer (subst (IsLog jobs turns (length events)) whole form) (subst (OneDownloaderPerDevice jobs) whole alone) le lt none h.number h.job h.worker h.since h.there h.of_device
         (ap (λ z. state_of h.number (log_before (suc n) z)) (sym whole) ∙ h.held) in
         let g = good_job jobs h.number h.job good h.there in

@@ -13,7 +13,7 @@ use Rattle.knx_model.specs.Plans.{Over as Ended}
 use Rattle.line_model.specs.declared.group.GroupTurn.{GroupTurn}
 use Rattle.line_model.specs.declared.log.LogEntry.{LogEntry}
 use Rattle.line_model.specs.Headline.{IsGoodJob}
-use Rattle.line_model.specs.Log.{Job, Held, loads, log_before, takes_it, ends_it, state_after, state_of, latest, IsLog}
+use Rattle.line_model.specs.Log.{Job, Held, log_before, takes_it, ends_it, state_after, state_of, latest, IsLog}
 use Rattle.line_model.specs.Moments.{Moment, moments, between}
 use Rattle.line_model.specs.OldStoppedOrNew.{first_events}
 use Rattle.line_model.specs.Record.{Item, Placed, placed_if, placed, item_at}
@@ -133,8 +133,8 @@ has_memories = record { addr = empty_capacity AddressTable; assoc = empty_capaci
 pub not_over : (job : Job) (frames : FrameSupport) → IsGoodJob job → job.plan ≡ Ended → ⊥
 not_over job frames good e =
     let r : WholeRun (answer_in frames) job.plan empty_device empty_device = subst (λ z. WholeRun (answer_in frames) z empty_device empty_device) (sym e) (AtEnd empty_device) in
-    by_load (loads job) refl r
+    by_load job.loads refl r
   where
-    by_load : (b : Bool) → loads job ≡ b → WholeRun (answer_in frames) job.plan empty_device empty_device → ⊥
+    by_load : (b : Bool) → job.loads ≡ b → WholeRun (answer_in frames) job.plan empty_device empty_device → ⊥
     by_load true l r = let q : None ≡ Some job.image = sym unloaded ∙ (good.load l).whole_runs frames empty_device empty_device r in cc
     by_load false l r = let q : None ≡ Some job.image = sym unloaded ∙ (good.check l).tells frames empty_device empty_device has_memories r in cc

@@ -14,7 +14,6 @@ mod Networks
 mod Channels
 pub mod Projection
 pub mod Turns
-pub mod Prints
 mod Lapses
 pub mod Deadlines
 pub mod UnderWay

@@ -16,7 +16,7 @@ use Rattle.line_model.specs.World.{World, Event}
 use Rattle.line_model.specs.Legal.{IsLegal}
 use Rattle.line_model.specs.Fresh.{IsFresh}
 use Rattle.line_model.specs.Record.{Placed, entries, placed, counted}
-use Rattle.line_model.specs.Log.{Job, loads, IsLog, OneDownloaderPerDevice}
+use Rattle.line_model.specs.Log.{Job, IsLog, OneDownloaderPerDevice}
 use Rattle.line_model.specs.Told.{ToldTruly}
 use Rattle.line_model.specs.Renews.{RenewsRightly}
 use Rattle.line_model.specs.Sendings.{SendsRightly}
@@ -57,8 +57,8 @@ pub record GoodCheck (plan : Plan) (image : Image) : Type 0 where
 
 pub record IsGoodJob (job : Job) : Type 0 where
   pub sendable : IsSendable job.plan
-  pub load : loads job ≡ true → GoodPlan job.plan job.image
-  pub check : loads job ≡ false → GoodCheck job.plan job.image
+  pub load : job.loads ≡ true → GoodPlan job.plan job.image
+  pub check : job.loads ≡ false → GoodCheck job.plan job.image
 
 -- ---- the headline, at the hub's boundary
 

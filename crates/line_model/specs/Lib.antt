@@ -26,7 +26,6 @@ pub mod Signs
 pub mod Progress
 pub mod Told
 pub mod Faults
-pub mod Printed
 -- 5. What the client keeps to
 pub mod Renews
 pub mod Sendings

@@ -5,8 +5,6 @@ use Rattle.std.specs.Prelude.{◌≡◌, ◌≢◌, ℕ, ◌-◌, ◌<◌, ◌�
 use Rattle.std.specs.List.{filter, list_any}
 use Rattle.knx_model.specs.declared.address.IndAddr.{IndAddr}
 use Rattle.knx_model.specs.declared.config.Image.{Image}
-use Rattle.knx_model.specs.declared.log.JobKind.{JobKind}
-use Rattle.knx_model.specs.declared.log.JobKind.TheVariants.{Load, Check}
 use Rattle.knx_model.specs.Plans.{Plan}
 use Rattle.line_model.specs.declared.group.GroupTurn.{GroupTurn}
 use Rattle.line_model.specs.declared.log.LogEntry.{LogEntry}
@@ -17,14 +15,7 @@ pub record Job : Type 0 where
   pub device : IndAddr
   pub image : Image
   pub plan : Plan
-  pub kind : JobKind
-
-abbrev pub loads : Job → Bool
-loads job = is_load job.kind
-  where
-    is_load : JobKind → Bool
-    is_load Load = true
-    is_load Check = false
+  pub loads : Bool
 
 -- the job and the telegram of a number
 abbrev pub numbered_from_one : {X : Type 0} → List X → ℕ → Option X

@@ -12,7 +12,7 @@ use Rattle.line_model.specs.declared.log.LogWhat.{LogWhat}
 use Rattle.line_model.specs.declared.log.LogWhat.TheVariants.{Took, Done}
 use Rattle.line_model.specs.World.{World, Event, replay}
 use Rattle.line_model.specs.Legal.{OfDevice, AtEveryMoment}
-use Rattle.line_model.specs.Log.{Job, loads, job_of}
+use Rattle.line_model.specs.Log.{Job, job_of}
 
 -- ---- moments
 
@@ -40,7 +40,7 @@ pub record RunsJob (jobs : List Job) (device : ℕ) (nv : NonVolatile) : Type 0 
   pub number : ℕ
   pub job : Job
   pub there : job_of jobs number ≡ Some job
-  pub load : loads job ≡ true
+  pub load : job.loads ≡ true
   pub of_device : job.device.raw ≡ device
   pub runs_it : runs nv ≡ Some job.image
 
@@ -60,7 +60,7 @@ IsCase IsNew start events = (device : ℕ) → Both (OldStoppedOr (IsNew device)
 
 abbrev pub loads_device : ℕ → Option Job → Bool
 loads_device device None = false
-loads_device device (Some job) = loads job && (job.device.raw == device)
+loads_device device (Some job) = job.loads && (job.device.raw == device)
 
 abbrev pub takes_load : List Job → ℕ → LogWhat → Bool
 takes_load jobs device (Took k) = loads_device device (job_of jobs k)

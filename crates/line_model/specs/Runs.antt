@@ -1,19 +1,15 @@
 -- Runs of the line that show what the definitions allow: a tunnel comes up, a connection to a device is opened and its descriptor is read,
 -- through network, gateway, bus and device and back; a device that takes no T_Connect; a group telegram; a write in which power goes, and one
 -- over worn memory; losses and repeats; a channel that closes, and the next one. Each list has its newest event first.
-use Rattle.std.specs.Prelude.{ℕ, true, false, ◌==◌, codes, List, [], ◌∷◌, ◌++◌, Option, Some, None, if◌then◌else◌}
+use Rattle.std.specs.Prelude.{ℕ, true, false, ◌==◌, List, [], ◌∷◌, Option, Some, None, if◌then◌else◌}
 use Rattle.knx_model.specs.declared.address.IndAddr.{IndAddr}
 use Rattle.knx_model.specs.declared.frames.cemi.Ldata.{Ldata}
 use Rattle.knx_model.specs.declared.frames.cemi.LdataCode.TheVariants.{Ind, Req}
-use Rattle.knx_model.specs.declared.frames.value.Value.TheVariants.{Short, Long}
 use Rattle.knx_model.specs.declared.frames.ip.IpFrame.TheVariants.{ConnectRequest, DisconnectResponse, StateRequest, ConnectResponse, TunnellingRequest, TunnellingAck}
 use Rattle.knx_model.specs.declared.loading.LoadState.TheVariants.{Unloaded, Loading, Loaded}
-use Rattle.knx_model.specs.declared.log.JobKind.TheVariants.{Check, Load}
-use Rattle.knx_model.specs.declared.log.Case.TheVariants.{New}
-use Rattle.knx_model.specs.declared.log.JobWord.{JobWord}
-use Rattle.knx_model.specs.declared.log.Sign.TheVariants.{NoCon, Silent, TunnelLost}
+use Rattle.knx_model.specs.declared.log.Sign.TheVariants.{NoCon}
 use Rattle.knx_model.specs.declared.plan.Expect.TheVariants.{Is}
-use Rattle.knx_model.specs.declared.script.GroupService.TheVariants.{Read, Response}
+use Rattle.knx_model.specs.declared.script.GroupService.TheVariants.{Read}
 use Rattle.knx_model.specs.Cemi.{Written as cemi_octets}
 use Rattle.knx_model.specs.Device.{NonVolatile}
 use Rattle.knx_model.specs.DeviceState.{DeviceState, device_with}
@@ -22,12 +18,8 @@ use Rattle.knx_model.specs.Loading.{Loadable}
 use Rattle.knx_model.specs.Plans.{Plan, Over, Asks}
 use Rattle.line_model.specs.declared.group.GroupTurn.{GroupTurn}
 use Rattle.line_model.specs.declared.log.LogEntry.{LogEntry}
-use Rattle.line_model.specs.declared.log.LogWhat.TheVariants.{Took, Done, Failed, Refused, Sent, Lost}
-use Rattle.line_model.specs.declared.log.Report.{Report}
-use Rattle.line_model.specs.declared.fault.HubFault.TheVariants.{GatewayRefused}
-use Rattle.line_model.specs.declared.fault.Try.TheVariants.{Status, NoAnswer}
+use Rattle.line_model.specs.declared.log.LogWhat.TheVariants.{Took, Done, Failed, Refused, Sent}
 use Rattle.line_model.specs.Log.{Job}
-use Rattle.line_model.specs.Printed.{DeviceShown}
 use Rattle.line_model.specs.Record.{Entry, entry, Put, Renewed, Got, Quiet}
 use Rattle.line_model.specs.Tunnel.{fresh}
 use Rattle.line_model.specs.World.{World, Event, Comes, IsLost, Send, Renew, Up, UpRefused, Down, LoseUp, LoseDown, Bus, BusTorn, BusWorn, BusAgain, DevSend, DevClose, GwAgain, GwClose, On, Pass}
@@ -88,7 +80,7 @@ abbrev pub reading : Plan
 reading = Asks (3 ∷ 0 ∷ []) (Is (0x03 ∷ 0x40 ∷ 0x07 ∷ 0xB0 ∷ [])) (λ answer. Over)
 
 abbrev pub job : Job
-job = record { device = device; image = record { addr = []; assoc = []; objs = []; params = [] }; plan = reading; kind = Check }
+job = record { device = device; image = record { addr = []; assoc = []; objs = []; params = [] }; plan = reading; loads = false }
 
 abbrev pub told_taken : List LogEntry
 told_taken = record { at = 4; worker = 1; what = Took 1 } ∷ []
@@ -126,7 +118,7 @@ abbrev pub completing : Plan
 completing = Asks (3 ∷ completion) (Is (0x03 ∷ 0xD6 ∷ 4 ∷ 5 ∷ 0x10 ∷ 1 ∷ 1 ∷ [])) (λ answer. Over)
 
 abbrev pub load : Job
-load = record job { plan = completing; kind = Load }
+load = record job { plan = completing; loads = true }
 
 abbrev pub completed : List Event
 completed = Up 0 ∷ ack 1 ∷ Down 0 ∷ Down 1 ∷ Bus [] ∷ Up 0 ∷ tunnelled 1 1 (0x43 ∷ completion) ∷ connected
@@ -265,36 +257,3 @@ three_beats = beat 180005 ∷ entry Quiet 180005 ∷ beat 120005 ∷ entry Quiet
 
 abbrev pub quiet_until : ℕ → List Entry
 quiet_until now = entry Quiet now ∷ three_beats
-
--- ---- a report of all kinds of entries
-
-abbrev pub shown : DeviceShown
-shown = record { device = device; case = New; values = (1, Short 0x3F) ∷ (4, Long (0 ∷ 0xC8 ∷ [])) ∷ [] }
-
-abbrev pub job_words : List JobWord
-job_words = record { device = device; kind = Check } ∷ record { device = device; kind = Load } ∷ record { device = device; kind = Load } ∷ record { device = device; kind = Load } ∷ []
-
-abbrev pub report : Report
-report = record {
-  log =
-      record { at = 4; worker = 1; what = Took 1 }
-      ∷ record { at = 9; worker = 1; what = Refused 1 0 (0x03 ∷ 0x40 ∷ 0x00 ∷ 0x12 ∷ []) [] }
-      ∷ record { at = 9; worker = 2; what = Took 2 }
-      ∷ record { at = 12; worker = 0; what = Sent 1 }
-      ∷ record { at = 40; worker = 2; what = Done 2 }
-      ∷ record { at = 40; worker = 1; what = Took 3 }
-      ∷ record { at = 99; worker = 1; what = Failed 3 (NoCon ∷ Silent 3000 ∷ TunnelLost ∷ []) }
-      ∷ record { at = 99; worker = 0; what = Lost 2 }
-      ∷ [];
-  heard = record { from = device; group = record { raw = 0x0A03 }; service = Response (Short 1) } ∷ [];
-  missed = 2;
-  dropped = 0;
-  fault = Some (GatewayRefused (Status 0x24 ∷ NoAnswer ∷ NoAnswer ∷ []));
-}
-
-abbrev pub printed : List ℕ
-printed =
-    codes "job 1 check 1.1.5 refused 0 got 03400012 expected -\njob 2 load 1.1.5 done\njob 3 load 1.1.5 failed nocon silent tunnel\njob 4 load 1.1.5 open\n"
-    ++ codes "group 1 sent\ngroup 2 lost\ngroup 3 open\nheard 1/2/3 1.1.5 response s01\ndevice 1.1.5 new 1=s3F 4=00C8\nmissed 2\n"
-    ++ codes "log 4 1 took 1\nlog 9 1 refused 1\nlog 9 2 took 2\nlog 12 0 sent 1\nlog 40 2 done 2\nlog 40 1 took 3\nlog 99 1 failed 3\nlog 99 0 lost 2\ndropped 0\n"
-    ++ codes "gateway refused 24 - -\n"

@@ -29,7 +29,6 @@ pub use put_refused::PutRefused;
 pub use runs::{
     a_channel_dies, a_channel_follows_another, a_frame_comes_again_at_the_gateway,
     a_job_fails_by_three_signs, a_line_begins, a_load_ends_done, a_minute_passes,
-    a_report_is_printed, a_session_reads_the_descriptor, a_telegram_is_sent,
-    a_worker_waits_for_its_confirmation, datagrams_are_lost_and_repeated,
-    the_other_lines_have_their_events, writes_are_torn_and_worn,
+    a_session_reads_the_descriptor, a_telegram_is_sent, a_worker_waits_for_its_confirmation,
+    datagrams_are_lost_and_repeated, the_other_lines_have_their_events, writes_are_torn_and_worn,
 };

@@ -1,6 +1,6 @@
 //! Laws that show what the definitions allow: runs of the line, each a function without a body whose contract says what holds of the run.
 
-ghost use Rattle.std.specs.Prelude.{◌≡◌, true, List, [], ◌∷◌, None, Some, option_map};
+ghost use Rattle.std.specs.Prelude.{◌≡◌, List, [], ◌∷◌, None, Some, option_map};
 ghost use Rattle.knx_model.specs.Device.{NonVolatile, HasCapacities};
 ghost use Rattle.knx_model.specs.DeviceState.{DeviceState};
 ghost use Rattle.knx_model.specs.declared.script.ScriptWhat.TheVariants.{LoseUp, LoseDown, LoseTo, LoseFrom, RepeatUp, RepeatDown, RepeatTo, Cut, Worn, CloseAfter, Refuse, DropChannel};
@@ -14,10 +14,9 @@ ghost use Rattle.line_model.specs.Headline.{IsDisciplined};
 ghost use Rattle.line_model.specs.Legal.{MayHappen, IsLegal};
 ghost use Rattle.line_model.specs.Moments.{moments, between};
 ghost use Rattle.line_model.specs.OldStoppedOrNew.{RunsWhereDone};
-ghost use Rattle.line_model.specs.Printed.{line_report_text};
 ghost use Rattle.line_model.specs.Record.{Entry, placed, entries, record_of};
 ghost use Rattle.line_model.specs.Renews.{RenewsRightly};
-ghost use Rattle.line_model.specs.Runs.{device, begin, connecting, connected, whole, job, other_job, reading, nearly, load, loads, told_taken, told_done, told_refused, unheard, told_failed, nobody, turn, telegram_sent, told_sent, torn, filling, worn, response_lost, comes_twice, second, quiet_until, to_device, request_lost, try_refused, response_twice, confirmation_twice, channel_dropped, connection_closed, answer_lost, acknowledged, heard_again, t_ack_heard, quiet_minute, beat_answered, report, job_words, shown, printed};
+ghost use Rattle.line_model.specs.Runs.{device, begin, connecting, connected, whole, job, other_job, reading, nearly, load, loads, told_taken, told_done, told_refused, unheard, told_failed, nobody, turn, telegram_sent, told_sent, torn, filling, worn, response_lost, comes_twice, second, quiet_until, to_device, request_lost, try_refused, response_twice, confirmation_twice, channel_dropped, connection_closed, answer_lost, acknowledged, heard_again, t_ack_heard, quiet_minute, beat_answered};
 ghost use Rattle.line_model.specs.Sendings.{SendsRightly};
 ghost use Rattle.line_model.specs.Told.{ToldTruly};
 ghost use Rattle.line_model.specs.Tunnel.{Commissions};
@@ -61,11 +60,6 @@ pub fn a_job_fails_by_three_signs()
     ensures follows { (kept : NonVolatile) → Follows (LoseTo device 1 ∷ LoseTo device 2 ∷ LoseTo device 3 ∷ []) Commissions (begin kept) unheard }
     ensures told { (kept : NonVolatile) → ToldTruly (job ∷ []) [] (placed (begin kept) unheard) told_failed }
     ensures spent { (kept : NonVolatile) → attempts device reading (between 4 25 (moments (placed (begin kept) unheard))) ≡ Resting 3 }
-{}
-
-/// A report with entries of all kinds, as it is printed.
-pub fn a_report_is_printed()
-    ensures { line_report_text report job_words 3 (shown ∷ []) true ≡ printed }
 {}
 
 /// A group telegram is put, confirmed and told sent.

@@ -8,7 +8,7 @@ use Rattle.knx_model.specs.declared.project.What.{What}
 use Rattle.knx_model.specs.declared.project.What.TheVariants.{Title, Group, Device, Object, Link, Flags, Param}
 use Rattle.knx_model.specs.Addresses.{device_text, group_text}
 use Rattle.knx_model.specs.Flags.{flags_text}
-use Rattle.knx_model.specs.ReportText.{line}
+use Rattle.knx_model.specs.TextLines.{line}
 use Rattle.knx_model.specs.Sizes.{bits_of}
 
 -- the words of a statement

@@ -6,7 +6,7 @@ use Rattle.std.proofs.lemmas.List.{append_cancel_right}
 use Rattle.std.proofs.lemmas.List.Elements.{All-from_recursion}
 use Rattle.std.proofs.lemmas.List.Folds.{list_all-append}
 use Rattle.std.proofs.lemmas.List.Splits.{slice_split_at, slice_split_none}
-use Rattle.knx_model.specs.ReportText.{line}
+use Rattle.knx_model.specs.TextLines.{line}
 
 abbrev pub Words : Type 0
 Words = List (List ℕ)

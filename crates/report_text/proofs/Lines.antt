@@ -2,7 +2,7 @@
 use Rattle.std.proofs.Common.{◌≡◌, ℕ, suc, zero, ◌+◌, ◌-◌, ◌<◌, List, [], ◌∷◌, ◌++◌, Result, Ok, Err, sym, ap, arith, append_assoc, ◌∙◌}
 use Rattle.std.specs.Prelude.{OnOk}
 use Rattle.std.specs.List.{flat_map, range_with_len, join_with_byte}
-use Rattle.knx_model.specs.ReportText.{line}
+use Rattle.knx_model.specs.TextLines.{line}
 use Rattle.report_text.specs.Behind.{behind}
 use Rattle.report_text.proofs.Behind.{more}
 

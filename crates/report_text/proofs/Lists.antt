@@ -2,7 +2,7 @@
 use Rattle.std.proofs.Common.{◌≡◌, ℕ, List, [], ◌∷◌, ◌++◌, length, get_or, take, drop, ◌-◌, ◌≤◌, refl, sym, ap, arith, append_assoc, ◌∙◌, Result, Ok, Err}
 use Rattle.std.specs.Prelude.{OnOk}
 use Rattle.std.proofs.lemmas.List.{drop_more, drop_all, take_all, length-drop, length-take, take-append-le}
-use Rattle.knx_model.specs.ReportText.{hex_text}
+use Rattle.knx_model.specs.TextLines.{hex_text}
 
 pub four_more : {A E : Type 0} (result : Result A E) (out one two three four a b c d : List ℕ) → one ≡ out ++ a → two ≡ one ++ b → three ≡ two ++ c → OnOk result (four ≡ three ++ d) → OnOk result (four ≡ out ++ (a ++ (b ++ (c ++ d))))
 four_more (Ok x) out one two three four a b c d e f g h = rw (h, g, f, e) (append_assoc ((out ++ a) ++ b) c d ∙ (append_assoc (out ++ a) b (c ++ d) ∙ append_assoc out a (b ++ (c ++ d))))

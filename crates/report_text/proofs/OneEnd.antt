@@ -5,13 +5,13 @@ use Rattle.std.specs.List.{AllByRecursion, filter_map, cons_option}
 use Rattle.std.proofs.lemmas.Bool.{cases_lt}
 use Rattle.std.proofs.lemmas.List.Elements.{filter_map-append}
 use Rattle.std.proofs.lemmas.Option.{none-some, slice_get_past}
-use Rattle.knx_model.specs.ReportText.{first_or_open}
+use Rattle.call_words.specs.ReportText.{first_or_open}
 use Rattle.line_model.specs.declared.group.GroupTurn.{GroupTurn}
 use Rattle.line_model.specs.declared.log.LogEntry.{LogEntry}
 use Rattle.line_model.specs.declared.log.LogWhat.{LogWhat}
 use Rattle.line_model.specs.declared.log.LogWhat.TheVariants.{Took, Done, Failed, Refused, Sent, Lost}
 use Rattle.line_model.specs.Log.{Job, job_of, takes_it, ends_it, state_of, IsLog}
-use Rattle.line_model.specs.Printed.{end_of}
+use Rattle.call_words.specs.Printed.{end_of}
 use Rattle.report_text.specs.ReadBack.{Told, IsOfItsJobs}
 use Rattle.report_text.proofs.Cuts.{Words}
 use Rattle.report_text.proofs.Ends.{is_over, held, IsTo, TakesIt, EndsIt, Else, is_to, after_end, after_other, taking, ending, there}

@@ -9,22 +9,23 @@ use Rattle.knx_model.specs.declared.address.GroupAddr.{GroupAddr}
 use Rattle.knx_model.specs.declared.address.IndAddr.{IndAddr}
 use Rattle.knx_model.specs.declared.frames.value.Value.{Value}
 use Rattle.knx_model.specs.declared.frames.value.Value.TheVariants.{Short, Long}
-use Rattle.knx_model.specs.declared.log.Case.{Case}
-use Rattle.knx_model.specs.declared.log.Case.TheVariants.{New, Old, Stopped}
-use Rattle.knx_model.specs.declared.log.JobKind.{JobKind}
-use Rattle.knx_model.specs.declared.log.JobKind.TheVariants.{Load, Check}
+use Rattle.call_words.specs.declared.case.Case.{Case}
+use Rattle.call_words.specs.declared.case.Case.TheVariants.{New, Old, Stopped}
+use Rattle.call_words.specs.declared.job_word.JobKind.{JobKind}
+use Rattle.call_words.specs.declared.job_word.JobKind.TheVariants.{Load, Check}
 use Rattle.knx_model.specs.declared.log.Sign.{Sign}
 use Rattle.knx_model.specs.declared.log.Sign.TheVariants.{Silent, Closed, NoCon, TunnelLost}
 use Rattle.knx_model.specs.declared.script.GroupService.{GroupService}
 use Rattle.knx_model.specs.declared.script.GroupService.TheVariants.{Read, Write, Response}
 use Rattle.knx_model.specs.Addresses.{device_text, group_text}
-use Rattle.knx_model.specs.ReportText.{hex_digit, hex_octet, hex_text, octets_text, sign_word, job_word, case_word, first_or_open}
+use Rattle.call_words.specs.ReportText.{sign_word, job_word, case_word, first_or_open}
+use Rattle.knx_model.specs.TextLines.{hex_digit, hex_octet, hex_text, octets_text, value_text}
 use Rattle.line_model.specs.declared.fault.Try.{Try}
 use Rattle.line_model.specs.declared.fault.Try.TheVariants.{Status, NoAnswer}
 use Rattle.line_model.specs.declared.log.LogEntry.{LogEntry}
 use Rattle.line_model.specs.declared.log.LogWhat.{LogWhat}
 use Rattle.line_model.specs.declared.log.LogWhat.TheVariants.{Took, Done, Failed, Refused, Sent, Lost}
-use Rattle.line_model.specs.Printed.{end_of, end_of_turn, value_text, value_word, service_words, what_words, try_word}
+use Rattle.call_words.specs.Printed.{end_of, end_of_turn, value_word, service_words, what_words, try_word}
 use Rattle.report_text.proofs.Cuts.{Words, is_word}
 
 abbrev pub are_words : Words → Bool

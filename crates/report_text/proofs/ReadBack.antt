@@ -9,7 +9,7 @@ use Rattle.line_model.specs.declared.fault.HubFault.{HubFault}
 use Rattle.line_model.specs.declared.fault.HubFault.TheVariants.{NoMemory, LinkFailed, GatewayRefused, Flooded, WrongLine}
 use Rattle.line_model.specs.declared.log.LogEntry.{LogEntry}
 use Rattle.line_model.specs.declared.log.Report.{Report}
-use Rattle.line_model.specs.Printed.{is_told_alone}
+use Rattle.call_words.specs.Printed.{is_told_alone}
 use Rattle.report_text.specs.ReadBack.{Told, NumbersFit, FitsEntry, FitsHeard, FitsDevice, Fits, text_of, untimed_entry, TellAlike, FaultIsTold, WholeIsTold, LogIsTold}
 use Rattle.report_text.proofs.Cuts.{Words}
 use Rattle.report_text.proofs.OneEnd.{EndsInLine, end_in_line, all_both}

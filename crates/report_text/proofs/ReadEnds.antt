@@ -4,12 +4,13 @@ use Rattle.std.specs.Prelude.{◌==◌}
 use Rattle.std.specs.Fmt.{decimal}
 use Rattle.std.specs.List.{AllByRecursion, filter_map, cons_option, range_with_len}
 use Rattle.std.proofs.lemmas.Fmt.{decimal_injective}
-use Rattle.knx_model.specs.ReportText.{sign_word, octets_text, first_or_open}
+use Rattle.call_words.specs.ReportText.{sign_word, first_or_open}
+use Rattle.knx_model.specs.TextLines.{octets_text}
 use Rattle.line_model.specs.declared.log.LogEntry.{LogEntry}
 use Rattle.line_model.specs.declared.log.LogWhat.{LogWhat}
 use Rattle.line_model.specs.declared.log.LogWhat.TheVariants.{Took, Done, Failed, Refused, Sent, Lost}
 use Rattle.line_model.specs.Log.{ends_it, is_turn}
-use Rattle.line_model.specs.Printed.{end_of, end_of_turn}
+use Rattle.call_words.specs.Printed.{end_of, end_of_turn}
 use Rattle.report_text.specs.ReadBack.{FitsWhat, FitsEntry, untimed, untimed_what, end_in, turn_in}
 use Rattle.report_text.proofs.Cuts.{Words}
 use Rattle.report_text.proofs.OneEnd.{ends, none_where}

@@ -5,9 +5,10 @@ use Rattle.std.specs.Fmt.{decimal}
 use Rattle.std.specs.List.{AllByRecursion, enumerate_from, range_with_len}
 use Rattle.std.proofs.lemmas.Bool.{cases_lt}
 use Rattle.std.proofs.lemmas.Fmt.{decimal_injective}
-use Rattle.knx_model.specs.declared.log.JobWord.{JobWord}
+use Rattle.call_words.specs.declared.job_word.JobWord.{JobWord}
 use Rattle.knx_model.specs.Addresses.{device_text, group_text}
-use Rattle.knx_model.specs.ReportText.{sign_word, job_word, case_word, octets_text, first_or_open}
+use Rattle.call_words.specs.ReportText.{sign_word, job_word, case_word, first_or_open}
+use Rattle.knx_model.specs.TextLines.{octets_text}
 use Rattle.line_model.specs.declared.fault.HubFault.{HubFault}
 use Rattle.line_model.specs.declared.fault.HubFault.TheVariants.{NoMemory, LinkFailed, GatewayRefused, Flooded, WrongLine}
 use Rattle.line_model.specs.declared.fault.Try.{Try}
@@ -15,7 +16,7 @@ use Rattle.line_model.specs.declared.group.Indication.{Indication}
 use Rattle.line_model.specs.declared.log.LogEntry.{LogEntry}
 use Rattle.line_model.specs.declared.log.LogWhat.{LogWhat}
 use Rattle.line_model.specs.declared.log.LogWhat.TheVariants.{Took, Done, Failed, Refused, Sent, Lost}
-use Rattle.line_model.specs.Printed.{DeviceShown, end_of, value_word, service_words, what_words, try_word}
+use Rattle.call_words.specs.Printed.{DeviceShown, end_of, value_word, service_words, what_words, try_word}
 use Rattle.report_text.specs.ReadBack.{Fits, FitsWhat, FitsEntry, FitsHeard, FitsDevice, FitsFault, untimed, untimed_what, untimed_entry}
 use Rattle.report_text.proofs.Cuts.{Words}
 use Rattle.report_text.proofs.OneEnd.{ends, EndsInLine}

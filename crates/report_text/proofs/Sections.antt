@@ -6,15 +6,16 @@ use Rattle.std.proofs.lemmas.Bool.{and_from, and_parts}
 use Rattle.std.proofs.lemmas.List.Concat.{flat_map-append}
 use Rattle.std.proofs.lemmas.List.Elements.{filter_map-append}
 use Rattle.std.proofs.lemmas.List.Folds.{list_all-append, flat_map-map}
-use Rattle.knx_model.specs.declared.log.JobWord.{JobWord}
+use Rattle.call_words.specs.declared.job_word.JobWord.{JobWord}
 use Rattle.knx_model.specs.Addresses.{device_text, group_text}
-use Rattle.knx_model.specs.ReportText.{line, job_word, case_word, first_or_open}
+use Rattle.call_words.specs.ReportText.{job_word, case_word, first_or_open}
+use Rattle.knx_model.specs.TextLines.{line}
 use Rattle.line_model.specs.declared.fault.HubFault.{HubFault}
 use Rattle.line_model.specs.declared.fault.HubFault.TheVariants.{NoMemory, LinkFailed, GatewayRefused, Flooded, WrongLine}
 use Rattle.line_model.specs.declared.group.Indication.{Indication}
 use Rattle.line_model.specs.declared.log.LogEntry.{LogEntry}
 use Rattle.line_model.specs.declared.log.Report.{Report}
-use Rattle.line_model.specs.Printed.{DeviceShown, is_told_alone, run_lines, log_lines, fault_line, line_report_text, end_of, end_of_turn, service_words, value_word, what_words, try_word}
+use Rattle.call_words.specs.Printed.{DeviceShown, is_told_alone, run_lines, log_lines, fault_line, line_report_text, end_of, end_of_turn, service_words, value_word, what_words, try_word}
 use Rattle.report_text.specs.ReadBack.{Told, text_of}
 use Rattle.report_text.proofs.Cuts.{Words, is_word, is_line, same_lines}
 use Rattle.report_text.proofs.Plain.{are_words, each, decimal_plain, device_plain, group_plain, job_plain, case_plain, try_plain, shown_plain, service_plain, what_plain, end_plain, turn_end_plain}

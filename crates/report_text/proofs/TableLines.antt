@@ -4,7 +4,7 @@ use Rattle.std.specs.List.{flat_map, zip}
 use Rattle.std.proofs.lemmas.List.{take_all, append-nil}
 use Rattle.knx_model.specs.declared.address.IndAddr.{IndAddr}
 use Rattle.knx_model.specs.declared.config.Image.{Image}
-use Rattle.knx_model.specs.ReportText.{tables_lines}
+use Rattle.call_words.specs.ReportText.{tables_lines}
 
 abbrev pub all_lines : List IndAddr → List Image → List ℕ
 all_lines devices images = flat_map (λ c. tables_lines c.0 c.1) (zip devices images)

@@ -2,8 +2,8 @@
 -- refused; else its fault's.
 use Rattle.std.specs.Prelude.{◌≡◌, ◌≢◌, ◌↔◌, ℕ, Bool, true, false, ◌==◌, List, reverse, Option, Some, None, if◌then◌else◌}
 use Rattle.std.specs.List.{list_any}
-use Rattle.knx_model.specs.declared.status.Status.{Status}
-use Rattle.knx_model.specs.declared.status.Status.TheVariants as status
+use Rattle.call_words.specs.declared.status.Status.{Status}
+use Rattle.call_words.specs.declared.status.Status.TheVariants as status
 use Rattle.line_model.specs.declared.fault.HubFault.{HubFault}
 use Rattle.line_model.specs.declared.fault.HubFault.TheVariants as fault
 use Rattle.line_model.specs.declared.group.GroupTurn.{GroupTurn}

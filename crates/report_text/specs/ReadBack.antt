@@ -3,7 +3,7 @@
 -- long a silence was.
 use Rattle.std.specs.Prelude.{◌≡◌, ℕ, ◌^◌, ◌<◌, ◌≤◌, Bool, true, false, List, map, reverse, length, Option, Some, option_map, find}
 use Rattle.std.specs.List.{AllByRecursion}
-use Rattle.knx_model.specs.declared.log.JobWord.{JobWord}
+use Rattle.call_words.specs.declared.job_word.JobWord.{JobWord}
 use Rattle.knx_model.specs.declared.log.Sign.{Sign}
 use Rattle.knx_model.specs.declared.log.Sign.TheVariants.{Silent}
 use Rattle.line_model.specs.declared.fault.HubFault.{HubFault}
@@ -15,7 +15,7 @@ use Rattle.line_model.specs.declared.log.LogWhat.{LogWhat}
 use Rattle.line_model.specs.declared.log.LogWhat.TheVariants.{Took, Done, Failed, Refused, Sent, Lost}
 use Rattle.line_model.specs.declared.log.Report.{Report}
 use Rattle.line_model.specs.Log.{Job, IsLog, ends_it, is_turn}
-use Rattle.line_model.specs.Printed.{DeviceShown, is_told_alone, line_report_text}
+use Rattle.call_words.specs.Printed.{DeviceShown, is_told_alone, line_report_text}
 
 -- ---- logs that are the same but for how long a silence was
 

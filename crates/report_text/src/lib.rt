@@ -8,7 +8,8 @@ mod project;
 mod refusal;
 mod words;
 
-pub use knx_model::{Case, Counts, JobKind, JobWord, Sign};
+pub use call_words::{Case, JobKind, JobWord};
+pub use knx_model::{Counts, Sign};
 pub use laws::{a_run_is_done_where_each_job_is, a_run_is_read_from_its_text};
 pub use line_report::{DeviceShown, line_report_of, line_status};
 pub use pieces::{put_digits, put_hex, put_value};

@@ -2,8 +2,7 @@
 
 ghost use Rattle.std.specs.Prelude.{◌≡◌, ◌<◌, ◌++◌, length, take, OnErr, OnOk};
 ghost use Rattle.knx_model.specs.Outside.{Appends};
-ghost use Rattle.knx_model.specs.ReportText.{hex_digit, hex_octet, hex_text, octets_text};
-ghost use Rattle.line_model.specs.Printed.{value_text};
+ghost use Rattle.knx_model.specs.TextLines.{hex_digit, hex_octet, hex_text, octets_text, value_text};
 
 use knx_model::{NoMemory, Octets, Value};
 

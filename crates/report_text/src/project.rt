@@ -4,7 +4,8 @@ ghost use Rattle.std.specs.Prelude.{◌≡◌, ◌++◌, ◌∷◌, [], OnOk, If
 ghost use Rattle.std.specs.Fmt.{decimal};
 ghost use Rattle.std.specs.List.{flat_map, zip};
 ghost use Rattle.knx_model.specs.Addresses.{device_text};
-ghost use Rattle.knx_model.specs.ReportText.{counts_line, image_lines, line, list_line, tables_lines};
+ghost use Rattle.call_words.specs.ReportText.{counts_line, image_lines, list_line, tables_lines};
+ghost use Rattle.knx_model.specs.TextLines.{line};
 
 use crate::pieces::put_hex;
 use knx_model::{Counts, Image, IndAddr, NoMemory, Octets, put_device_word, put_number_word};
@@ -26,7 +27,7 @@ pub fn counts_text(alloc: Global, counts: Counts) -> Result<Octets, NoMemory>
 }
 
 /// Appends a line of a word and octets in hexadecimal.
-#[tactic(auto, unfolding(knx_model::specs::ReportText::list_line))]
+#[tactic(auto, unfolding(call_words::specs::ReportText::list_line))]
 fn put_list(out: &mut Octets, word: &str, octets: &Octets) -> Result<(), NoMemory>
     ensures { OnOk result (out.new ≡ out.old ++ list_line word.now octets.now) }
 {

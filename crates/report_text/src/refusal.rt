@@ -4,11 +4,11 @@ ghost use Rattle.std.specs.Prelude.{◌≡◌, ◌≢◌, ◌++◌, ◌∷◌, [
 ghost use Rattle.std.specs.Fmt.{decimal};
 ghost use Rattle.std.specs.List.{join_with_byte};
 ghost use Rattle.knx_model.specs.Refusal.{catalogue_number, catalogue_word, why_number, why_word};
-ghost use Rattle.knx_model.specs.ReportText.{catalogue_line, catalogue_words, file_word, limit_of, optional_number, read_fault_line, refusal_line, refusal_status, stop_status, stop_text};
+ghost use Rattle.call_words.specs.ReportText.{catalogue_line, catalogue_words, file_word, limit_of, optional_number, read_fault_line, refusal_line, refusal_status, stop_status, stop_text};
 
+use call_words::{InputFile, Status, Stop};
 use knx_model::{
-    CatRefused, InputFile, NoMemory, Octets, Refused, Status, Stop, Why, put_number,
-    put_number_word, put_word,
+    CatRefused, NoMemory, Octets, Refused, Why, put_number, put_number_word, put_word,
 };
 use std::alloc::Global;
 

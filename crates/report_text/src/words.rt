@@ -4,12 +4,12 @@ ghost use Rattle.std.specs.Prelude.{◌≡◌, ◌++◌, ◌∷◌, [], codes, m
 ghost use Rattle.std.specs.List.{join_with_byte};
 ghost use Rattle.std.specs.Fmt.{decimal};
 ghost use Rattle.knx_model.specs.Addresses.{device_text};
-ghost use Rattle.knx_model.specs.ReportText.{line, sign_word, job_word, case_word};
+ghost use Rattle.call_words.specs.ReportText.{sign_word, job_word, case_word};
+ghost use Rattle.knx_model.specs.TextLines.{line};
 ghost use Rattle.report_text.specs.Behind.{behind};
 
-use knx_model::{
-    Case, JobKind, JobWord, NoMemory, Octets, Sign, put_device_word, put_number_word, put_word,
-};
+use call_words::{Case, JobKind, JobWord};
+use knx_model::{NoMemory, Octets, Sign, put_device_word, put_number_word, put_word};
 use std::alloc::Global;
 
 fn sign_word(sign: Sign) -> &'static str

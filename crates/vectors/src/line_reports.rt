@@ -1,8 +1,8 @@
 //! The report of a run over the line, with each kind of line, and its status.
 
+use call_words::{Case, JobKind, JobWord, Status};
 use knx_model::{
-    ApduOctets, Case, GroupAddr, GroupService, IndAddr, JobKind, JobWord, List, LongValue,
-    NoMemory, Sign, Status, Value,
+    ApduOctets, GroupAddr, GroupService, IndAddr, List, LongValue, NoMemory, Sign, Value,
 };
 use line_model::{HubFault, Indication, LogEntry, LogWhat, Report, Try};
 use report_text::{DeviceShown, line_report_of, line_status};

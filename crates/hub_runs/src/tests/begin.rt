@@ -1,8 +1,8 @@
 //! The beginning of a hub.
 
-use super::{Telegram, group_turns, jobs_of};
+use super::{JobKind, Telegram, group_turns, jobs_of};
 use hub_core::Hub;
-use knx_model::{JobKind, List, Octets};
+use knx_model::{List, Octets};
 use line_fixed::FixedLink;
 use std::test::Fail;
 

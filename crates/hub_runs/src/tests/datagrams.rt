@@ -1,8 +1,8 @@
 //! Over fixed datagrams: what is dropped of those that come, and what is sent next.
 
-use super::{OpenGate, group_turns, jobs_of};
+use super::{JobKind, OpenGate, group_turns, jobs_of};
 use hub_driver::commission;
-use knx_model::{JobKind, List, NoMemory, Octets};
+use knx_model::{List, NoMemory, Octets};
 use line_fixed::{FixedLink, Item};
 use std::alloc::Global;
 use std::process::Abort;

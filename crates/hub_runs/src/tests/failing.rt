@@ -5,12 +5,12 @@ ghost use Rattle.bus_sim.specs.RunNow.{story};
 ghost use Rattle.knx_model.specs.Device.{Fits};
 ghost use Rattle.line_model.specs.LinkStory.{IsNewLink};
 
-use super::{DEVICE, OpenGate, group_turns, image_linked, jobs_of};
+use super::{DEVICE, JobKind, OpenGate, group_turns, image_linked, jobs_of};
 use crate::gateway::TUNNEL;
 use bus_sim::{Refused, Script, SimBus};
 use hub_core::{HubFault, LogWhat};
 use hub_driver::commission;
-use knx_model::{Image, JobKind, List, NoMemory};
+use knx_model::{Image, List, NoMemory};
 use line_fixed::FailingLink;
 use line_model::Report;
 use std::alloc::Global;

@@ -1,11 +1,11 @@
 //! Over a gateway with its device.
 
-use super::{DEVICE, OpenGate, Telegram, group_turns, jobs_of};
+use super::{DEVICE, JobKind, OpenGate, Telegram, group_turns, jobs_of};
 use crate::gateway::{Gateway, Mood};
 use device_sim::Device;
 use hub_core::LogWhat;
 use hub_driver::commission;
-use knx_model::{JobKind, NoMemory};
+use knx_model::NoMemory;
 use std::alloc::Global;
 use std::process::Abort;
 use std::sync::Wait;

@@ -1,8 +1,8 @@
 //! How long polls last: a worker that has something to do isn't kept waiting.
 
-use super::{group_turns, jobs_of};
+use super::{JobKind, group_turns, jobs_of};
 use hub_core::Hub;
-use knx_model::{JobKind, List, NoMemory, Octets};
+use knx_model::{List, NoMemory, Octets};
 use line_fixed::FixedLink;
 use std::alloc::Global;
 use std::process::Abort;

@@ -3,15 +3,14 @@
 ghost use Rattle.std.specs.Prelude.{◌≡◌, ◌++◌, ◌∷◌, [], codes, map, OnOk};
 ghost use Rattle.std.specs.List.{flat_map, join_with_byte};
 ghost use Rattle.knx_model.specs.Addresses.{device_text};
-ghost use Rattle.knx_model.specs.ReportText.{case_word};
-ghost use Rattle.line_model.specs.Printed.{device_line, value_word};
+ghost use Rattle.call_words.specs.ReportText.{case_word};
+ghost use Rattle.call_words.specs.Printed.{device_line, value_word};
 ghost use Rattle.report_text.specs.Behind.{behind};
 
 use crate::pieces::put_value;
 use crate::words::case_word;
-use knx_model::{
-    Case, IndAddr, List, NoMemory, Octets, Value, put_device_word, put_number, put_word,
-};
+use call_words::Case;
+use knx_model::{IndAddr, List, NoMemory, Octets, Value, put_device_word, put_number, put_word};
 use std::alloc::Global;
 use std::marker::Model;
 
@@ -25,7 +24,7 @@ pub struct DeviceShown {
 }
 
 impl Model for DeviceShown {
-    ghost use Rattle.line_model.specs.Printed as printed;
+    ghost use Rattle.call_words.specs.Printed as printed;
 
     ghost Value = { printed.DeviceShown };
 

@@ -2,11 +2,12 @@
 
 ghost use Rattle.std.specs.Prelude.{◌≡◌, ◌++◌, ◌∷◌, OnOk};
 ghost use Rattle.std.specs.List.{join_with_byte};
-ghost use Rattle.line_model.specs.Printed.{try_word, fault_words, fault_line, is_told_alone};
+ghost use Rattle.call_words.specs.Printed.{try_word, fault_words, fault_line, is_told_alone};
 ghost use Rattle.report_text.specs.LineStatus.{is_failure, has_failure, fault_status, line_status};
 
 use crate::pieces::put_digits;
-use knx_model::{NoMemory, Octets, Status, put_device_word, put_word};
+use call_words::Status;
+use knx_model::{NoMemory, Octets, put_device_word, put_word};
 use line_model::{HubFault, LogEntry, LogWhat, Report, Try};
 use std::alloc::Global;
 

@@ -3,13 +3,15 @@
 ghost use Rattle.std.specs.Prelude.{◌≡◌, ◌+◌, ◌++◌, ◌∷◌, [], codes, is_some, OnOk, IfOk};
 ghost use Rattle.std.specs.List.{filter_map, flat_map, enumerate_from, join_with_byte};
 ghost use Rattle.std.specs.Fmt.{decimal};
-ghost use Rattle.knx_model.specs.ReportText.{octets_text, first_or_open};
-ghost use Rattle.line_model.specs.Printed.{end_of, job_line};
+ghost use Rattle.call_words.specs.ReportText.{first_or_open};
+ghost use Rattle.knx_model.specs.TextLines.{octets_text};
+ghost use Rattle.call_words.specs.Printed.{end_of, job_line};
 ghost use Rattle.report_text.specs.Behind.{behind, behind_if};
 
 use crate::pieces::put_hex;
 use crate::words::{put_job_words, put_signs};
-use knx_model::{JobWord, NoMemory, Octets, put_number_word};
+use call_words::JobWord;
+use knx_model::{NoMemory, Octets, put_number_word};
 use line_model::{LogEntry, LogWhat};
 use std::alloc::Global;
 

@@ -3,7 +3,7 @@
 ghost use Rattle.std.specs.Prelude.{◌≡◌, ◌++◌, ◌∷◌, [], OnOk};
 ghost use Rattle.std.specs.Fmt.{decimal};
 ghost use Rattle.std.specs.List.{flat_map};
-ghost use Rattle.line_model.specs.Printed.{what_words, log_line, log_lines};
+ghost use Rattle.call_words.specs.Printed.{what_words, log_line, log_lines};
 
 use crate::words::put_count;
 use knx_model::{NoMemory, Octets, put_number_word, put_word};

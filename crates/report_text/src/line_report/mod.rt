@@ -7,7 +7,7 @@ mod log;
 mod telegram;
 
 ghost use Rattle.std.specs.Prelude.{◌≡◌, ◌++◌, OnOk, IfOk, if◌then◌else◌, []};
-ghost use Rattle.line_model.specs.Printed.{is_told_alone, run_lines, line_report_text};
+ghost use Rattle.call_words.specs.Printed.{is_told_alone, run_lines, line_report_text};
 
 use self::device::put_devices;
 use self::fault::{is_told_alone, put_fault};
@@ -15,9 +15,10 @@ use self::job::put_jobs;
 use self::log::put_log;
 use self::telegram::{put_all_heard, put_turns};
 use crate::words::put_count;
+use call_words::JobWord;
 pub use device::DeviceShown;
 pub use fault::line_status;
-use knx_model::{JobWord, NoMemory, Octets};
+use knx_model::{NoMemory, Octets};
 use line_model::Report;
 use std::alloc::Global;
 
@@ -46,7 +47,7 @@ fn put_run(
 
 /// The report of a run over the line: a line for each job, each group telegram, each one that was heard and each device, the count of those that are
 /// left out, the log where it is asked for, and why the run ended without its end. Want of memory, and a job elsewhere, are told alone.
-#[tactic(auto, unfolding(line_model::specs::Printed::line_report_text))]
+#[tactic(auto, unfolding(call_words::specs::Printed::line_report_text))]
 pub fn line_report_of(
     alloc: Global,
     report: &Report,

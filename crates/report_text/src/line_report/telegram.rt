@@ -4,8 +4,9 @@ ghost use Rattle.std.specs.Prelude.{◌≡◌, ◌++◌, ◌∷◌, [], codes, O
 ghost use Rattle.std.specs.Option.{option_map};
 ghost use Rattle.std.specs.List.{filter_map, flat_map, range_with_len, join_with_byte};
 ghost use Rattle.knx_model.specs.Addresses.{device_text, group_text};
-ghost use Rattle.knx_model.specs.ReportText.{first_or_open};
-ghost use Rattle.line_model.specs.Printed.{end_of_turn, turn_line, value_text, service_words, heard_line};
+ghost use Rattle.call_words.specs.ReportText.{first_or_open};
+ghost use Rattle.call_words.specs.Printed.{end_of_turn, turn_line, service_words, heard_line};
+ghost use Rattle.knx_model.specs.TextLines.{value_text};
 ghost use Rattle.report_text.specs.Behind.{behind};
 
 use crate::pieces::put_value;

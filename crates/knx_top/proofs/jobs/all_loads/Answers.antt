@@ -1,5 +1,5 @@
 use Rattle.std.proofs.Common.{List, length, ◌≤◌, subst, sym}
-use Rattle.knx_model.specs.declared.log.JobWord.{JobWord}
+use Rattle.call_words.specs.declared.job_word.JobWord.{JobWord}
 use Rattle.knx_top.specs.Command.{most_jobs}
 use Rattle.knx_top.proofs.FewJobs.{loads_few}
 use Rattle.knx_top.proofs.jobs.all_loads.Goals as goal

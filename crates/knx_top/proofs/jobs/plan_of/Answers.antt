@@ -1,7 +1,7 @@
 use Rattle.std.proofs.Common.{subst}
 use Rattle.download_core.specs.declared.job_plan.JobPlan.TheVariants as plan
 use Rattle.knx_model.specs.declared.config.Image.{Image}
-use Rattle.knx_model.specs.declared.log.JobKind.TheVariants.{Load, Check}
+use Rattle.call_words.specs.declared.job_word.JobKind.TheVariants.{Load, Check}
 use Rattle.knx_top.specs.Jobs.{PlansImage}
 use Rattle.knx_top.proofs.Plans.{loads_image, checks_image}
 use Rattle.knx_top.proofs.jobs.plan_of.Goals as goal

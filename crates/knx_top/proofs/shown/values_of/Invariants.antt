@@ -1,7 +1,7 @@
 use Rattle.std.proofs.Common.{◌≡◌}
 use Rattle.std.specs.List.{filter_map, range_with_len}
 use Rattle.knx_model.specs.DeviceState.{value_of}
-use Rattle.line_model.specs.Printed.{shown}
+use Rattle.call_words.specs.Printed.{shown}
 use Rattle.knx_top.proofs.shown.values_of.Given as goal
 
 -- the values of the objects so far

@@ -1,7 +1,7 @@
 use Rattle.std.proofs.Common.{List, ap, ◌∙◌}
 use Rattle.std.specs.List.{flat_map, zip}
 use Rattle.knx_model.specs.declared.config.Image.{Image}
-use Rattle.knx_model.specs.ReportText.{tables_lines}
+use Rattle.call_words.specs.ReportText.{tables_lines}
 use Rattle.knx_top.proofs.told.tables_text.Goals as goal
 
 pub returns : goal.returns

@@ -1,5 +1,5 @@
 use Rattle.std.proofs.Common.{◌≡◌, ◌∙◌, [], ◌∷◌, length, sym, ap, arith}
-use Rattle.knx_model.specs.ReportText.{hex_text}
+use Rattle.knx_model.specs.TextLines.{hex_text}
 use Rattle.report_text.proofs.Lists.{eight}
 use Rattle.report_text.proofs.pieces.digits_of_eight.Goals as goal
 

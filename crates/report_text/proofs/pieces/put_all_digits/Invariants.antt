@@ -1,5 +1,5 @@
 use Rattle.std.proofs.Common.{◌≡◌, ◌++◌, length, drop, take}
-use Rattle.knx_model.specs.ReportText.{hex_text}
+use Rattle.knx_model.specs.TextLines.{hex_text}
 use Rattle.report_text.proofs.pieces.put_all_digits.Given as goal
 
 -- the digits so far and those of the octets that are left are all digits, behind what stood before

@@ -1,8 +1,8 @@
 use Rattle.std.proofs.Common.{◌≡◌, ◌++◌, ◌∙◌, ap, subst}
 use Rattle.std.specs.Prelude.{codes, map, OnOk, [], ◌∷◌}
 use Rattle.knx_model.specs.Addresses.{device_text}
-use Rattle.knx_model.specs.ReportText.{case_word}
-use Rattle.line_model.specs.Printed.{value_word, device_line}
+use Rattle.call_words.specs.ReportText.{case_word}
+use Rattle.call_words.specs.Printed.{value_word, device_line}
 use Rattle.report_text.specs.Behind.{behind}
 use Rattle.report_text.proofs.Lines.{line_more}
 use Rattle.report_text.proofs.line_report.device.put_device.Goals as goal

@@ -1,6 +1,6 @@
 use Rattle.std.proofs.Common.{◌≡◌, ◌++◌, drop}
 use Rattle.std.specs.List.{flat_map}
-use Rattle.line_model.specs.Printed.{device_line}
+use Rattle.call_words.specs.Printed.{device_line}
 use Rattle.report_text.proofs.line_report.device.put_devices.Given as goal
 
 -- the lines so far and those that are left are all lines

@@ -1,5 +1,5 @@
 use Rattle.std.proofs.Common.{◌≡◌, ◌++◌, drop, map}
-use Rattle.line_model.specs.Printed.{value_word}
+use Rattle.call_words.specs.Printed.{value_word}
 use Rattle.report_text.specs.Behind.{behind}
 use Rattle.report_text.proofs.line_report.device.put_values.Given as goal
 

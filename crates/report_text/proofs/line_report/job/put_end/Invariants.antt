@@ -1,7 +1,7 @@
 use Rattle.std.proofs.Common.{◌≡◌, drop}
 use Rattle.std.specs.List.{filter_map}
-use Rattle.knx_model.specs.ReportText.{first_or_open}
-use Rattle.line_model.specs.Printed.{end_of}
+use Rattle.call_words.specs.ReportText.{first_or_open}
+use Rattle.call_words.specs.Printed.{end_of}
 use Rattle.report_text.proofs.line_report.job.put_end.Given as goal
 
 -- nothing is appended, and the entries that are left end the job as all do

@@ -2,8 +2,8 @@ use Rattle.std.specs.Prelude.{codes, [], ◌∷◌}
 use Rattle.std.specs.Fmt.{decimal}
 use Rattle.std.specs.List.{filter_map}
 use Rattle.knx_model.specs.Addresses.{device_text}
-use Rattle.knx_model.specs.ReportText.{first_or_open, job_word}
-use Rattle.line_model.specs.Printed.{end_of}
+use Rattle.call_words.specs.ReportText.{first_or_open, job_word}
+use Rattle.call_words.specs.Printed.{end_of}
 use Rattle.report_text.proofs.Lines.{line_more}
 use Rattle.report_text.proofs.line_report.job.put_job.Goals as goal
 

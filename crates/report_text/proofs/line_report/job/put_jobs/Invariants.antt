@@ -1,6 +1,6 @@
 use Rattle.std.proofs.Common.{◌≡◌, ◌+◌, ◌++◌, drop}
 use Rattle.std.specs.List.{flat_map, enumerate_from}
-use Rattle.line_model.specs.Printed.{job_line}
+use Rattle.call_words.specs.Printed.{job_line}
 use Rattle.report_text.proofs.line_report.job.put_jobs.Given as goal
 
 -- the lines so far and those of the jobs that are left are all lines

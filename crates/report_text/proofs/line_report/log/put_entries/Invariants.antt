@@ -1,6 +1,6 @@
 use Rattle.std.proofs.Common.{◌≡◌, ◌++◌, drop}
 use Rattle.std.specs.List.{flat_map}
-use Rattle.line_model.specs.Printed.{log_line}
+use Rattle.call_words.specs.Printed.{log_line}
 use Rattle.report_text.proofs.line_report.log.put_entries.Given as goal
 
 -- the lines so far and those that are left are all lines

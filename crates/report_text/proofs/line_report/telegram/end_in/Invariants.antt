@@ -1,7 +1,7 @@
 use Rattle.std.proofs.Common.{◌≡◌, drop}
 use Rattle.std.specs.List.{filter_map}
-use Rattle.knx_model.specs.ReportText.{first_or_open}
-use Rattle.line_model.specs.Printed.{end_of_turn}
+use Rattle.call_words.specs.ReportText.{first_or_open}
+use Rattle.call_words.specs.Printed.{end_of_turn}
 use Rattle.report_text.proofs.line_report.telegram.end_in.Given as goal
 
 -- the entries that are left end the telegram as all do

@@ -1,6 +1,6 @@
 use Rattle.std.specs.Prelude.{codes, [], ◌∷◌}
 use Rattle.knx_model.specs.Addresses.{device_text, group_text}
-use Rattle.line_model.specs.Printed.{service_words}
+use Rattle.call_words.specs.Printed.{service_words}
 use Rattle.report_text.proofs.Lines.{line_more}
 use Rattle.report_text.proofs.line_report.telegram.put_heard.Goals as goal
 

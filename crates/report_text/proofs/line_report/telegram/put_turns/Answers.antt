@@ -1,4 +1,4 @@
-use Rattle.line_model.specs.Printed.{turn_line}
+use Rattle.call_words.specs.Printed.{turn_line}
 use Rattle.report_text.proofs.Lines.{one_line_more}
 use Rattle.report_text.proofs.line_report.telegram.put_turns.Goals as goal
 

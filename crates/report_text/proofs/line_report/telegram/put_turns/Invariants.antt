@@ -1,6 +1,6 @@
 use Rattle.std.proofs.Common.{◌≡◌, ◌+◌, ◌-◌, ◌++◌}
 use Rattle.std.specs.List.{flat_map, range_with_len}
-use Rattle.line_model.specs.Printed.{turn_line}
+use Rattle.call_words.specs.Printed.{turn_line}
 use Rattle.report_text.proofs.line_report.telegram.put_turns.Given as goal
 
 -- the lines so far and those of the telegrams that are left are all lines

@@ -1,48 +1,30 @@
 -- The texts that the program prints: the words of a report, a checked project, and the line of a call that stops before its report. Each
 -- line ends with a line feed; numbers are decimal.
-use Rattle.std.specs.Prelude.{ℕ, ◌+◌, ◌/◌, ◌%◌, nat_lt, codes, List, [], ◌∷◌, ◌++◌, Option, Some, None, if◌then◌else◌}
-use Rattle.std.specs.List.{join_with_byte, flat_map}
+use Rattle.std.specs.Prelude.{ℕ, codes, List, [], ◌∷◌, ◌++◌, Option, Some, None}
 use Rattle.std.specs.Fmt.{decimal}
 use Rattle.knx_model.specs.Addresses.{device_text}
 use Rattle.knx_model.specs.declared.address.IndAddr.{IndAddr}
 use Rattle.knx_model.specs.declared.catalogue.refused.CatRefused.{CatRefused}
 use Rattle.knx_model.specs.declared.catalogue.refused.CatRefused.TheVariants as cat
 use Rattle.knx_model.specs.declared.counts.Counts.{Counts}
-use Rattle.knx_model.specs.declared.command.InputFile.{InputFile}
-use Rattle.knx_model.specs.declared.command.InputFile.TheVariants as file
-use Rattle.knx_model.specs.declared.command.Stop.{Stop}
-use Rattle.knx_model.specs.declared.command.Stop.TheVariants as stop
 use Rattle.knx_model.specs.declared.config.Image.{Image}
-use Rattle.knx_model.specs.declared.log.Case.{Case}
-use Rattle.knx_model.specs.declared.log.Case.TheVariants as case
-use Rattle.knx_model.specs.declared.log.JobKind.{JobKind}
-use Rattle.knx_model.specs.declared.log.JobKind.TheVariants as job
 use Rattle.knx_model.specs.declared.log.Sign.{Sign}
 use Rattle.knx_model.specs.declared.log.Sign.TheVariants as sign
 use Rattle.knx_model.specs.declared.refusal.Refused.{Refused}
 use Rattle.knx_model.specs.declared.refusal.Why.{Why}
 use Rattle.knx_model.specs.declared.refusal.Why.TheVariants.{TooMany}
-use Rattle.knx_model.specs.declared.status.Status.{Status}
-use Rattle.knx_model.specs.declared.status.Status.TheVariants as status
 use Rattle.knx_model.specs.Refusal.{why_number, why_word, catalogue_number, catalogue_word}
-
--- words apart by one space, and a line feed
-abbrev pub line : List (List ℕ) → List ℕ
-line words = join_with_byte 32 words ++ 10 ∷ []
-
-abbrev pub hex_digit : ℕ → ℕ
-hex_digit n = if nat_lt n 10 then 48 + n else 55 + n
-
-abbrev pub hex_octet : ℕ → List ℕ
-hex_octet octet = hex_digit (octet / 16) ∷ hex_digit (octet % 16) ∷ []
-
-abbrev pub hex_text : List ℕ → List ℕ
-hex_text octets = flat_map hex_octet octets
-
--- two digits an octet, or `-` for none
-abbrev pub octets_text : List ℕ → List ℕ
-octets_text [] = codes "-"
-octets_text (first ∷ others) = hex_text (first ∷ others)
+use Rattle.knx_model.specs.TextLines.{line, octets_text}
+use Rattle.call_words.specs.declared.input_file.InputFile.{InputFile}
+use Rattle.call_words.specs.declared.input_file.InputFile.TheVariants as file
+use Rattle.call_words.specs.declared.stop.Stop.{Stop}
+use Rattle.call_words.specs.declared.stop.Stop.TheVariants as stop
+use Rattle.call_words.specs.declared.case.Case.{Case}
+use Rattle.call_words.specs.declared.case.Case.TheVariants as case
+use Rattle.call_words.specs.declared.job_word.JobKind.{JobKind}
+use Rattle.call_words.specs.declared.job_word.JobKind.TheVariants as job
+use Rattle.call_words.specs.declared.status.Status.{Status}
+use Rattle.call_words.specs.declared.status.Status.TheVariants as status
 
 -- ---- the words of a report
 

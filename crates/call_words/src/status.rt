@@ -1,9 +1,9 @@
 //! How the program ends.
 
 ghost use Rattle.std.specs.Prelude.{◌≡◌};
-ghost use Rattle.knx_model.specs.Refusal.{status_number};
+ghost use Rattle.call_words.specs.Statuses.{status_number};
 
-use crate::no_memory::NoMemory;
+use knx_model::NoMemory;
 
 /// The status of a call, each with the number that is the program's exit status.
 #[derive(Clone, Copy, Debug, Drop, PartialEq, Eq)]

@@ -1,24 +1,9 @@
-//! What the program reads, and why it stops before a run.
+//! Why the program stops before a run.
 
 ghost use Rattle.std.specs.Prelude.{◌≡◌};
 
-use crate::catalogue::CatRefused;
-use crate::lists::Octets;
-use crate::no_memory::NoMemory;
-use crate::refusal::Refused;
-
-/// A file that the program reads, by its place among the words.
-#[derive(Clone, Copy, Drop)]
-pub enum InputFile {
-    /// The catalogue of device models.
-    Catalogue,
-    /// The project that is checked, compiled, or is to run.
-    New,
-    /// The project whose configuration the devices begin with.
-    Old,
-    /// The script.
-    Script,
-}
+use crate::input_file::InputFile;
+use knx_model::{CatRefused, NoMemory, Octets, Refused};
 
 /// Why the program stops before its report.
 #[derive(Drop)]
@@ -38,7 +23,7 @@ pub enum Stop {
 }
 
 impl From<NoMemory> for Stop {
-    ghost use Rattle.knx_model.specs.declared.command.Stop.{Stop};
+    ghost use Rattle.call_words.specs.declared.stop.Stop.{Stop};
 
     ghost from_gives = { λ _ stop. stop ≡ Stop.NoMemory tt };
 

@@ -1,8 +1,8 @@
 -- The text of a report, computed.
 use Rattle.std.proofs.Common.{◌≡◌, true, [], ◌∷◌, refl}
 use Rattle.std.specs.Fmt.{digits}
-use Rattle.line_model.specs.Printed.{line_report_text}
-use Rattle.line_model.specs.Runs.{report, job_words, shown, printed}
+use Rattle.call_words.specs.Printed.{line_report_text}
+use Rattle.call_words.specs.Example.{report, job_words, shown, printed}
 
 pub prints : line_report_text report job_words 3 (shown ∷ []) true ≡ printed
 unfolding line_report_text digits

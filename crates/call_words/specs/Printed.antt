@@ -7,13 +7,11 @@ use Rattle.std.specs.Fmt.{decimal}
 use Rattle.knx_model.specs.declared.address.IndAddr.{IndAddr}
 use Rattle.knx_model.specs.declared.frames.value.Value.{Value}
 use Rattle.knx_model.specs.declared.frames.value.Value.TheVariants.{Short, Long}
-use Rattle.knx_model.specs.declared.log.Case.{Case}
-use Rattle.knx_model.specs.declared.log.JobWord.{JobWord}
 use Rattle.knx_model.specs.declared.script.GroupService.{GroupService}
 use Rattle.knx_model.specs.declared.script.GroupService.TheVariants.{Read, Write, Response}
 use Rattle.knx_model.specs.Addresses.{device_text, group_text}
 use Rattle.knx_model.specs.DeviceState.{DeviceState, value_of}
-use Rattle.knx_model.specs.ReportText.{line, hex_octet, octets_text, sign_word, job_word, case_word, first_or_open}
+use Rattle.knx_model.specs.TextLines.{line, hex_octet, octets_text, value_text}
 use Rattle.line_model.specs.declared.fault.HubFault.{HubFault}
 use Rattle.line_model.specs.declared.fault.HubFault.TheVariants as fault
 use Rattle.line_model.specs.declared.fault.Try.{Try}
@@ -23,6 +21,9 @@ use Rattle.line_model.specs.declared.log.LogEntry.{LogEntry}
 use Rattle.line_model.specs.declared.log.LogWhat.{LogWhat}
 use Rattle.line_model.specs.declared.log.LogWhat.TheVariants as told
 use Rattle.line_model.specs.declared.log.Report.{Report}
+use Rattle.call_words.specs.declared.case.Case.{Case}
+use Rattle.call_words.specs.declared.job_word.JobWord.{JobWord}
+use Rattle.call_words.specs.ReportText.{sign_word, job_word, case_word, first_or_open}
 
 abbrev pub Words : Type 0
 Words = List (List ℕ)
@@ -50,10 +51,6 @@ end_of_turn k _ = None
 
 abbrev pub turn_line : List LogEntry → ℕ → List ℕ
 turn_line log k = line (codes "group" ∷ decimal k ∷ first_or_open (filter_map (λ entry. end_of_turn k entry.what) log))
-
-abbrev pub value_text : Value → List ℕ
-value_text (Short value) = codes "s" ++ hex_octet value
-value_text (Long octets) = octets_text octets
 
 abbrev pub service_words : GroupService → Words
 service_words Read = codes "read" ∷ []
