@@ -54,6 +54,13 @@ pub fn read(first: u8) -> Option<Tpdu>
     }
 }
 
+/// Whether the form of a first octet is one of the four.
+pub fn is_form(first: u8) -> bool
+    ensures { IsTrue result ↔ IsControlForm first }
+{
+    read(first).is_some()
+}
+
 /// T_ACK of a sequence number.
 pub fn ack(number: u8) -> ApduOctets
     requires { number < 16 }

@@ -10,14 +10,15 @@ ghost use Rattle.knx_model.specs.ApduReading.{tpdu_in};
 use crate::{control, services};
 use knx_model::{Apdu, ApduOctets, Tpdu, TpduRefused};
 
-/// The frame that the octets are (ISO/IEC 14543-3-2, transport layer), or the least rule that they break: `Empty` for none, `Code` for a first octet or a service
-/// that isn't in the table, `Length` and `Count` for a number of octets that its row doesn't allow.
+/// The frame that the octets are (ISO/IEC 14543-3-2, transport layer), or the least rule that they break: `Empty` for none, `Code` for a
+/// first octet or a service that isn't in the table, `Length` and `Count` for a number of octets that its row doesn't allow.
 pub fn decode(octets: &[u8]) -> Result<Tpdu, TpduRefused>
     ensures read { IfOk result (λ frame. Reads octets.now frame) }
     ensures only { (frame : Frame) → Reads octets.now frame → result ≡ Ok frame }
     ensures refused { IfErr result (λ why. IsLeastBroken why octets.now) }
     ensures gives { result_ok result ≡ tpdu_in octets.now }
 {
+    // That no other frame is read follows from what `frame_of` answers, whichever return it took: so it is shown here, once.
     frame_of(octets)
 }
 
@@ -30,16 +31,16 @@ fn frame_of(octets: &[u8]) -> Result<Tpdu, TpduRefused>
         [first] => control::read(*first).ok_or(TpduRefused::Code),
         [first, second, rest @ ..] => {
             let (first, second) = (*first, *second);
-            if control::read(first).is_some() {
+            if control::is_form(first) {
                 return Err(TpduRefused::Length);
             }
             let code = code_at(first, second);
             if first < 0x04 {
-                Ok(Tpdu::Unnumbered(services::read(code, rest)?))
+                Ok(Tpdu::Unnumbered(services::decode(code, rest)?))
             } else if control::is_numbered(first) {
                 Ok(Tpdu::Numbered {
                     number: control::sequence_number(first),
-                    apdu: services::read(code, rest)?,
+                    apdu: services::decode(code, rest)?,
                 })
             } else {
                 Err(TpduRefused::Code)
@@ -56,7 +57,8 @@ fn code_at(first: u8, second: u8) -> u16
     (first as u16 & 0x03) << 8 | second as u16
 }
 
-/// The octets of the frame (ISO/IEC 14543-3-2, transport layer), with a short value of six bits, a long one of 1 to 14 octets, and the counts that its row allows.
+/// The octets of the frame (ISO/IEC 14543-3-2, transport layer), with a short value of six bits, a long one of 1 to 14 octets, and the
+/// counts that its row allows.
 pub fn encode(tpdu: &Tpdu) -> ApduOctets
     requires { IsInRange tpdu.now }
     ensures written { result ≡ Written tpdu.now }
@@ -78,8 +80,8 @@ fn data(upper: u8, apdu: &Apdu) -> ApduOctets
     requires upper { upper < 64 }
     ensures { result ≡ WrittenApdu upper apdu.now }
 {
-    let [high, below] = services::code_of(apdu).to_be_bytes();
-    let mut out = ApduOctets::from_slice(&[upper << 2 | high, below]);
-    services::push_rest(&mut out, apdu);
+    let [high, low] = services::code_of(apdu).to_be_bytes();
+    let mut out = ApduOctets::from_slice(&[upper << 2 | high, low]);
+    services::encode_rest(&mut out, apdu);
     out
 }

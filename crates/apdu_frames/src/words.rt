@@ -6,7 +6,7 @@ ghost use Rattle.knx_model.specs.Apdu.{low, most_octets, word as written};
 use knx_model::ApduOctets;
 
 /// The low six bits of a code: a short value, a count or a type.
-pub fn low(code: u16) -> u8
+pub fn low_six(code: u16) -> u8
     ensures { result ≡ low code }
 {
     (code & 0x3F) as u8

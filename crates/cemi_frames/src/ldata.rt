@@ -23,6 +23,7 @@ pub fn decode(octets: &[u8]) -> Result<Ldata, CemiRefused>
     ensures only { (frame : Frame) → Reads octets.now frame → result ≡ Ok frame }
     ensures refused { IfErr result (λ why. IsLeastBroken why octets.now) }
 {
+    // That no other frame is read follows from what `frame_of` answers, whichever return it took: so it is shown here, once.
     frame_of(octets)
 }
 

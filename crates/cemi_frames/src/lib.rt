@@ -14,9 +14,8 @@
 
 mod code;
 mod control;
-mod laws;
+pub mod laws;
 mod ldata;
 
 pub use knx_model::{ApduOctets, CemiRefused, Datagram, Ldata, LdataCode};
-pub use laws::{read_breaks_none, reads_once, written_reads};
 pub use ldata::{decode, encode, octets_of};

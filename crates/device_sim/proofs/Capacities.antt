@@ -5,7 +5,7 @@ use Rattle.knx_model.specs.Loading.{Loadable, capacity_of}
 use Rattle.knx_model.specs.Device.{NonVolatile, Effect, torn, effect_in, HasCapacities}
 use Rattle.knx_model.specs.DeviceState.{blank_object}
 use Rattle.knx_model.proofs.Capacities.{torn_capacities, kept_capacities}
-use Rattle.device_sim.specs.declared.worn.Memory.{Memory}
+use Rattle.device_sim.specs.declared.wear.Memory.{Memory}
 use Rattle.device_sim.specs.Wear.{outcome, served_kept}
 
 -- the same of what a service leaves

@@ -11,7 +11,7 @@ use Rattle.knx_model.specs.declared.loading.LoadableObject.TheVariants.{AddressT
 use Rattle.knx_model.specs.Loading.{Loadable, octets_of, is_loading, is_loaded, with_state, with_memory, overlaid, started, completed, allocates, load_step, load_torn, old_or_new, takes_write, memory_written, memory_torn}
 use Rattle.knx_model.specs.Device.{NonVolatile, Effect, Loads, Stores, Nothing, loadable, with_loadable, segment_base, object_at, at_address, whole, torn, effect_in, all_loaded, HasCapacities}
 use Rattle.knx_model.specs.DeviceFrames.{Outcome, Whole, Torn, Worn, kept_after}
-use Rattle.device_sim.specs.declared.worn.Memory.{Memory}
+use Rattle.device_sim.specs.declared.wear.Memory.{Memory}
 use Rattle.device_sim.specs.Indexed.{IsIndexed}
 use Rattle.device_sim.specs.Wear.{outcome, served_kept}
 

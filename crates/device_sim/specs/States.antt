@@ -1,6 +1,6 @@
 -- The four load states, as this crate's code holds them.
 use Rattle.std.specs.Prelude.{Bool, ◌&&◌}
-use Rattle.device_sim.specs.declared.kept.LoadStates.{LoadStates}
+use Rattle.device_sim.specs.declared.non_volatile.LoadStates.{LoadStates}
 use Rattle.knx_model.specs.Device.{NonVolatile}
 use Rattle.knx_model.specs.DeviceState.{same_state}
 

@@ -1,7 +1,7 @@
 -- How this crate's code takes a service: whole, over sound memory or over worn memory.
 use Rattle.std.specs.Prelude.{ℕ, List}
-use Rattle.device_sim.specs.declared.worn.Memory.{Memory}
-use Rattle.device_sim.specs.declared.worn.Memory.TheVariants.{Sound, Worn}
+use Rattle.device_sim.specs.declared.wear.Memory.{Memory}
+use Rattle.device_sim.specs.declared.wear.Memory.TheVariants.{Sound, Worn}
 use Rattle.knx_model.specs.Device.{NonVolatile, Effect, effect_in}
 use Rattle.knx_model.specs.DeviceFrames.{Outcome, Whole, Worn as WornBy, kept_after, worn_octets}
 

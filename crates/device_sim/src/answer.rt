@@ -9,10 +9,10 @@ ghost use Rattle.knx_model.specs.DeviceFrames.{worn_octets};
 ghost use Rattle.device_sim.specs.Wear.{served_kept};
 
 use crate::effect::{Effect, effect_of, is_load_control};
-use crate::kept::Kept;
-use crate::places::object_of_index;
+use crate::memory_map::object_of_index;
+use crate::non_volatile::NonVolatile;
 use crate::service::effect_in;
-use crate::worn::Memory;
+use crate::wear::Memory;
 use apdu_frames::{service_in, service_octets};
 use knx_model::{
     Apdu, ApduOctets, DEVICE_DESCRIPTOR, FrameSupport, LOAD_CONTROL, NO_DESCRIPTOR, TABLE_REFERENCE,
@@ -116,7 +116,7 @@ fn property_response(object: u8, property: u8, start: u16, value: Option<ApduOct
     }
 }
 
-impl Kept {
+impl NonVolatile {
     /// The load state of the object of an index.
     fn load_state(&self, index: u8) -> Option<ApduOctets>
         ensures { result ≡ option_map (load_state self.now) (object_of_index index) }

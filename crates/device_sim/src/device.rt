@@ -1,15 +1,15 @@
 //! The simulated device: what it is, its power, and what it runs.
 
 ghost use Rattle.std.specs.Prelude.{◌≡◌, true, nat_lt, IfOk};
-ghost use Rattle.knx_model.specs.Device.{Fits, HasCapacities, NonVolatile, all_loaded, runs, torn, written_front};
+ghost use Rattle.knx_model.specs.Device.{Fits, HasCapacities, all_loaded, runs, torn, written_front};
 ghost use Rattle.knx_model.specs.declared.device.FrameSupport.TheVariants.{Standard};
 ghost use Rattle.knx_model.specs.DeviceState.{IsDevice, blank, loaded_with, device_with, framed, at_rest, cut, switched_on};
 ghost use Rattle.knx_model.specs.DeviceConnection.{device_deadline};
 ghost use Rattle.device_sim.specs.Effects.{meant};
 
 use crate::effect::Effect;
-use crate::kept::Kept;
 use crate::loadable::Loadable;
+use crate::non_volatile::NonVolatile;
 use crate::running::index_tables;
 use crate::values::Values;
 use device_tables::TableIndex;
@@ -26,7 +26,7 @@ use transport_conn::DeviceConn;
 pub struct Device {
     pub(crate) address: IndAddr,
     pub(crate) frames: FrameSupport,
-    pub(crate) kept: Kept,
+    pub(crate) kept: NonVolatile,
     pub(crate) power: bool,
     pub(crate) connection: DeviceConn,
     pub(crate) values: Values,
@@ -52,7 +52,7 @@ impl Device {
     pub fn blank(alloc: Global, address: IndAddr) -> Result<Device, NoMemory>
         ensures { IfOk result (λ made. made ≡ blank address) }
     {
-        let kept = Kept {
+        let kept = NonVolatile {
             address_table: Loadable::blank(alloc, LoadableObject::AddressTable.capacity())?,
             association_table: Loadable::blank(alloc, LoadableObject::AssociationTable.capacity())?,
             group_objects: Loadable::blank(alloc, LoadableObject::GroupObjects.capacity())?,
@@ -66,7 +66,7 @@ impl Device {
         requires { Fits image.now }
         ensures { IfOk result (λ made. made ≡ loaded_with address image.now) }
     {
-        let kept = Kept {
+        let kept = NonVolatile {
             address_table: Loadable::loaded(
                 alloc,
                 LoadableObject::AddressTable.capacity(),
@@ -91,19 +91,20 @@ impl Device {
         Device::at_rest(alloc, address, kept)
     }
 
-    /// It takes standard frames alone.
+    /// From now on it takes standard frames alone.
     pub fn set_standard(&mut self)
         ensures { self.new ≡ framed Standard self.old }
     {
         self.frames = FrameSupport::Standard;
     }
 
-    /// What is so of each device, for a caller to know. It does nothing.
-    pub fn facts(&self)
+    /// A law of the type: what is so of each device. It does nothing.
+    pub fn keeps(&self)
         ensures { IsDevice self.now }
     {
+        // The proof knows the type's invariant once a field is read.
         let _ = &self.kept;
-        self.values.has_slots();
+        self.values.keeps();
     }
 
     /// Its individual address.
@@ -114,7 +115,7 @@ impl Device {
     }
 
     /// A device with power that has nothing but what it keeps without.
-    fn at_rest(alloc: Global, address: IndAddr, kept: Kept) -> Result<Device, NoMemory>
+    fn at_rest(alloc: Global, address: IndAddr, kept: NonVolatile) -> Result<Device, NoMemory>
         requires { HasCapacities kept }
         ensures { IfOk result (λ made. made ≡ device_with address kept) }
     {

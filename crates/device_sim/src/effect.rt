@@ -5,8 +5,8 @@ ghost use Rattle.knx_model.specs.Device.{is_load_control, load_asked, object_of_
 ghost use Rattle.knx_model.specs.DeviceFrames.{AreOctets, worn_octets};
 ghost use Rattle.device_sim.specs.Effects.{meant};
 
-use crate::places::object_of_index;
-use crate::worn::complements;
+use crate::memory_map::object_of_index;
+use crate::wear::complements;
 use knx_model::{
     Apdu, ApduOctets, LOAD_CONTROL, LoadEvent, LoadableObject, NoMemory, Octets, front,
 };
@@ -85,7 +85,7 @@ pub fn worn_octets(effect: &Effect) -> ApduOctets
     }
 }
 
-/// What an effect writes are octets: of a memory write those that are sent, of an allocation its fill.
+/// What an effect writes are octets: of a memory write those that are sent, of an allocation its fill. It does nothing.
 #[tactic(auto, using(crate::proofs::Fronts::front_octets, crate::proofs::Fronts::filled_octets))]
 pub fn writes_octets(effect: &Effect)
     ensures { (k : ℕ) → AreOctets (written_front (meant effect.now) k) }
@@ -97,22 +97,24 @@ pub fn writes_octets(effect: &Effect)
     }
 }
 
-/// The fill of an allocation is an octet.
+/// The fill of an allocation is an octet. It does nothing.
 #[tactic(auto, using(crate::proofs::Fronts::filled_octets))]
 fn fills_octets(event: &LoadEvent)
     ensures { (k : ℕ) → AreOctets (front_of_load event.now k) }
 {
     match event {
         LoadEvent::Allocate { fill, .. } => {
+            // The proof knows the range of a value once it is read.
             let _fill = *fill;
         }
         _ => {}
     }
 }
 
-/// The items of a slice of octets are octets.
+/// The items of a slice of octets are octets. It does nothing.
 fn are_octets(octets: &[u8])
     ensures { (k : ℕ) → AreOctets (take k octets.now) }
 {
+    // The proof knows the range of the items once they are read.
     let _octets = octets;
 }

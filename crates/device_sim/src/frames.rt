@@ -14,7 +14,7 @@ use crate::effect::{Effect, front_of, worn_octets, writes_octets};
 use crate::sending::{frame_to, queue, queue_if};
 use crate::served::serve;
 use crate::service::effect_in;
-use crate::worn::Memory;
+use crate::wear::Memory;
 use knx_model::{ApduOctets, FrameSupport, IndAddr, Ldata, NoMemory, Octets, Took, WriteKind};
 use std::alloc::Global;
 use transport_conn::{DeviceConn, DeviceTook};

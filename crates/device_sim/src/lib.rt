@@ -19,10 +19,10 @@ mod brought;
 mod device;
 mod effect;
 mod frames;
-mod kept;
-mod laws;
+pub mod laws;
 mod loadable;
-mod places;
+mod memory_map;
+mod non_volatile;
 mod running;
 mod sending;
 mod served;
@@ -30,17 +30,12 @@ mod service;
 mod telegram;
 mod turns;
 mod values;
-mod worn;
+mod wear;
 
 pub use brought::Brought;
 pub use device::Device;
 pub use knx_model::{
     ApduOctets, FrameSupport, Image, IndAddr, Ldata, NoMemory, Octets, Sending, Took, Value,
     WriteKind,
-};
-pub use laws::{
-    capacities_stay, group_telegrams_load_nothing, load_states_zero_the_values,
-    only_delivered_services_load, reads_are_answered_by_the_tables, telegrams_write_by_the_tables,
-    waiting_frames_keep_their_order, what_is_not_taken_changes_nothing, writes_are_told,
 };
 pub use service::written_front;

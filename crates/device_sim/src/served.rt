@@ -8,17 +8,17 @@ ghost use Rattle.device_sim.specs.Indexed.{IsIndexed};
 ghost use Rattle.device_sim.specs.States.{has_states};
 ghost use Rattle.device_sim.specs.Wear.{served_kept};
 
-use crate::kept::{Kept, LoadStates};
+use crate::non_volatile::{LoadStates, NonVolatile};
 use crate::running::index_tables;
 use crate::values::Values;
-use crate::worn::Memory;
+use crate::wear::Memory;
 use device_tables::TableIndex;
 use knx_model::{ApduOctets, FrameSupport};
 
 /// Takes a service, and answers it. A change of a load state makes all values zero, and a device that begins to run is indexed.
 pub fn serve(
     frames: FrameSupport,
-    kept: &mut Kept,
+    kept: &mut NonVolatile,
     values: &mut Values,
     index: &mut TableIndex,
     octets: &[u8],
@@ -41,7 +41,7 @@ pub fn serve(
 }
 
 /// All values become zero where the load states aren't those of before.
-fn zero_where_changed(values: &mut Values, kept: &Kept, before: LoadStates)
+fn zero_where_changed(values: &mut Values, kept: &NonVolatile, before: LoadStates)
     ensures { values.new ≡ (if has_states before kept.now then values.old else zero_values) }
 {
     if !kept.has_states(before) {

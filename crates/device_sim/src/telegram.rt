@@ -130,7 +130,8 @@ impl Device {
     }
 }
 
-/// The same frames, and one behind them.
+/// The same frames, and one behind them, as a queue of its own: the device stays as it is until all memory that a frame takes on the line
+/// was given, and then the queue takes the place of the device's own without any.
 fn with_frame(
     alloc: Global,
     frames: &VecDeque<Ldata>,

@@ -73,11 +73,12 @@ impl Values {
         }
     }
 
-    /// There is a slot for each object number.
+    /// A law of the type: there is a slot for each object number. It does nothing.
     #[tactic(auto, using(crate::proofs::Slots::padded_length))]
-    pub fn has_slots(&self)
+    pub fn keeps(&self)
         ensures { length self.now ≡ 256 }
     {
+        // The proof sees the slots once the field is read.
         let _ = &self.slots;
     }
 

@@ -3,7 +3,7 @@
 #![tactic(auto)]
 
 mod index;
-mod laws;
+pub mod laws;
 mod links;
 mod objects;
 mod search;
@@ -14,7 +14,6 @@ mod value;
 
 pub use index::TableIndex;
 pub use knx_model::{GroupAddr, GroupService, Image, LongValue, NoMemory, ObjSpec, Octets, Value};
-pub use laws::{agrees, linked_exactly, the_lowest_answers};
 pub use links::linked;
 pub use objects::{Acts, Objects};
 pub use steps::Steps;

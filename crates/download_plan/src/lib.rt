@@ -4,7 +4,7 @@
 
 mod answer;
 mod check_plan;
-mod laws;
+pub mod laws;
 mod load_plan;
 mod opening;
 mod operation;
@@ -14,7 +14,4 @@ mod step;
 pub use answer::suits;
 pub use check_plan::CheckPlan;
 pub use knx_model::{Expect, Op, PieceSize, PlanSource};
-pub use laws::{
-    each_check_is_true, each_load_gets_through, each_operation_can_be_sent, each_plan_is_good,
-};
 pub use load_plan::LoadPlan;

@@ -76,13 +76,13 @@ answering_took s (Numbered number apdu) = if number == s.expected then took.Drop
 answering_took s Other = idle_took s Other
 
 -- what it answers another sender
-abbrev pub stranger_took : TransportFrame → DeviceTook
-stranger_took Connect = took.Closed (Some disconnect)
-stranger_took Disconnect = took.Dropped
-stranger_took (Ack number) = took.Dropped
-stranger_took (Nak number) = took.Dropped
-stranger_took (Numbered number apdu) = took.Dropped
-stranger_took Other = took.Dropped
+abbrev pub other_sender_took : TransportFrame → DeviceTook
+other_sender_took Connect = took.Closed (Some disconnect)
+other_sender_took Disconnect = took.Dropped
+other_sender_took (Ack number) = took.Dropped
+other_sender_took (Nak number) = took.Dropped
+other_sender_took (Numbered number apdu) = took.Dropped
+other_sender_took Other = took.Dropped
 
 -- what a closed end answers
 abbrev pub closed_took : TransportFrame → DeviceTook
@@ -96,8 +96,8 @@ closed_took Other = took.Dropped
 -- what the device's end answers to a frame of a sender
 unfoldable pub device_took : DeviceEnd → IndAddr → TransportFrame → DeviceTook
 device_took Closed from frame = closed_took frame
-device_took (Idle s) from frame = if is_with s from then idle_took s frame else stranger_took frame
-device_took (Answering s a) from frame = if is_with s from then answering_took s frame else stranger_took frame
+device_took (Idle s) from frame = if is_with s from then idle_took s frame else other_sender_took frame
+device_took (Answering s a) from frame = if is_with s from then answering_took s frame else other_sender_took frame
 
 -- an end whose session went on
 abbrev pub device_went_on : (Session → Session) → DeviceEnd → DeviceEnd

@@ -1,1 +1,2 @@
+pub mod Services
 pub use Rattle.knx_model.specs.KnxNetIp

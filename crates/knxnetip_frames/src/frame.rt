@@ -4,7 +4,7 @@ ghost use Rattle.std.specs.Prelude.{◌≡◌, IfOk, IfErr, Ok};
 ghost use Rattle.knx_model.specs.declared.frames.ip.IpFrame.{IpFrame as Frame};
 ghost use Rattle.knx_model.specs.KnxNetIp.{Reads, Written, IsInRange, IsLeastBroken};
 
-use crate::service::is_service;
+use crate::service::Service;
 use crate::{header, services};
 use knx_model::{Datagram, IpFrame, IpRefused};
 
@@ -15,6 +15,7 @@ pub fn decode(octets: &[u8]) -> Result<IpFrame, IpRefused>
     ensures only { (frame : Frame) → Reads octets.now frame → result ≡ Ok frame }
     ensures refused { IfErr result (λ why. IsLeastBroken why octets.now) }
 {
+    // That no other frame is read follows from what `frame_of` answers, whichever return it took: so it is shown here, once.
     frame_of(octets)
 }
 
@@ -25,10 +26,8 @@ fn frame_of(octets: &[u8]) -> Result<IpFrame, IpRefused>
     if octets.len() < 6 || octets[0] != header::LENGTH || octets[1] != header::VERSION {
         return Err(IpRefused::Header);
     }
-    let service = u16::from_be_bytes([octets[2], octets[3]]);
-    if !is_service(service) {
-        return Err(IpRefused::Service);
-    }
+    let identifier = u16::from_be_bytes([octets[2], octets[3]]);
+    let service = Service::of(identifier).ok_or(IpRefused::Service)?;
     if u16::from_be_bytes([octets[4], octets[5]]) as usize != octets.len() {
         return Err(IpRefused::Length);
     }

@@ -15,7 +15,7 @@ pub fn write(service: u16, length: u16) -> Datagram
     requires { length ≤ 294 }
     ensures { result ≡ 0x06 ∷ 0x10 ∷ (written service ++ written (6 + length)) }
 {
-    let [service_high, service_below] = service.to_be_bytes();
-    let [high, below] = (LENGTH as u16 + length).to_be_bytes();
-    Datagram::from_slice(&[LENGTH, VERSION, service_high, service_below, high, below])
+    let [service_high, service_low] = service.to_be_bytes();
+    let [high, low] = (LENGTH as u16 + length).to_be_bytes();
+    Datagram::from_slice(&[LENGTH, VERSION, service_high, service_low, high, low])
 }

@@ -22,11 +22,10 @@ mod either_end;
 mod endpoint;
 mod frame;
 mod header;
-mod laws;
+pub mod laws;
 mod service;
 mod services;
 
 pub use either_end::{NO_ERROR, acknowledgement, disconnect_request, disconnect_response};
 pub use frame::{decode, encode};
 pub use knx_model::{Datagram, IndAddr, IpFrame, IpRefused};
-pub use laws::{read_breaks_none, reads_once, written_reads};

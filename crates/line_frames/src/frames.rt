@@ -1,4 +1,4 @@
-//! The frames in datagrams.
+//! The frames in datagrams. `frames_are_read` does nothing: it says of the definitions what the proofs of both functions need.
 
 ghost use Rattle.std.specs.Prelude.{◌≡◌, IfSome};
 ghost use Rattle.line_model.specs.ClientFrames.{HasTunnelIfUp};

@@ -1,5 +1,5 @@
-//! The frames in datagrams (ISO 22510, Core and Tunnelling; KNX standard 3/6/3, common EMI): what the decoders give is what the line's
-//! definitions say of the octets.
+//! The frames in datagrams (ISO 22510, Core and Tunnelling; KNX standard 3/6/3, common EMI). The line's definitions say by functions of
+//! their own which frame octets are; here the decoders are these functions, so that the crates of the line cite one word for both.
 #![tactic(auto)]
 
 mod frames;

@@ -1,3 +1,4 @@
+pub mod Images
 pub mod Lines
 pub mod Order
 pub mod Places

@@ -13,6 +13,8 @@
 #![tactic(auto)]
 
 mod compiler;
+mod devices;
+mod images;
 mod laws;
 mod lines;
 mod links;
@@ -23,5 +25,6 @@ mod places;
 mod tables;
 
 pub use compiler::{compile, compile_all};
+pub use images::Images;
 pub use knx_model::{Config, Image, LinkSpec, NoMemory, ObjSpec, ParamValue};
 pub use laws::{links_said, one_image};

@@ -119,8 +119,8 @@ by_disconnect e from s answer o p same = subst (λ (a : Option (List ℕ)). Clos
 by_ack : (e : DeviceEnd) (from : IndAddr) (s : Session) (number : ℕ) (answer : Option (List ℕ)) → IsOpen e s → s.partner.raw ≡ from.raw → ¬ IsAnswering e number → (number + 1) % 16 ≢ s.number → Some (Written tpdu.Disconnect) ≡ answer → ClosesDevice e from (Ack number) answer
 by_ack e from s number answer o p other before same = subst (λ (a : Option (List ℕ)). ClosesDevice e from (Ack number) a) same (ByAck s number o p other before)
 
-by_stranger : (e : DeviceEnd) (from : IndAddr) (s : Session) (answer : Option (List ℕ)) → IsOpen e s → s.partner.raw ≢ from.raw → Some (Written tpdu.Disconnect) ≡ answer → ClosesDevice e from Connect answer
-by_stranger e from s answer o p same = subst (λ (a : Option (List ℕ)). ClosesDevice e from Connect a) same (ByStranger s o p)
+by_other_sender : (e : DeviceEnd) (from : IndAddr) (s : Session) (answer : Option (List ℕ)) → IsOpen e s → s.partner.raw ≢ from.raw → Some (Written tpdu.Disconnect) ≡ answer → ClosesDevice e from Connect answer
+by_other_sender e from s answer o p same = subst (λ (a : Option (List ℕ)). ClosesDevice e from Connect a) same (ByStranger s o p)
 
 pub device_only : (e : DeviceEnd) (from : IndAddr) (frame : TransportFrame) (answer : Option (List ℕ)) → device_took e from frame ≡ took.Closed answer → ClosesDevice e from frame answer
 unfolding device_took
@@ -133,7 +133,7 @@ device_only Closed from Other answer h = absurd (cc h)
 device_only (Idle s) from Connect answer h =
     let p : s.partner.raw ≢ from.raw = λ q. grind (arith, common_steps) in
     let same : Some (Written tpdu.Disconnect) ≡ answer = grind (arith, common_steps) in
-    by_stranger (Idle s) from s answer refl p same
+    by_other_sender (Idle s) from s answer refl p same
 device_only (Idle s) from Disconnect answer h =
     let p : s.partner.raw ≡ from.raw = grind (arith, common_steps) in
     let same : None ≡ answer = grind (arith, common_steps) in
@@ -149,7 +149,7 @@ device_only (Idle s) from Other answer h = grind (arith, common_steps)
 device_only (Answering s a) from Connect answer h =
     let p : s.partner.raw ≢ from.raw = λ q. grind (arith, common_steps) in
     let same : Some (Written tpdu.Disconnect) ≡ answer = grind (arith, common_steps) in
-    by_stranger (Answering s a) from s answer refl p same
+    by_other_sender (Answering s a) from s answer refl p same
 device_only (Answering s a) from Disconnect answer h =
     let p : s.partner.raw ≡ from.raw = grind (arith, common_steps) in
     let same : None ≡ answer = grind (arith, common_steps) in

@@ -5,7 +5,7 @@
 mod client;
 mod device;
 mod frame;
-mod laws;
+pub mod laws;
 mod session;
 mod wait;
 
@@ -15,11 +15,4 @@ pub use frame::{connect, disconnect, next_number, numbered};
 pub use knx_model::{
     ApduOctets, Busy, ClientConfirmed, ClientExpired, ClientTook, DeviceExpired, DeviceTook,
     IndAddr,
-};
-pub use laws::{
-    asks_again_exactly, client_closes_exactly, connects_anew, deadline_is_nearest,
-    delivers_exactly, delivers_once, device_closes_exactly, device_expires_exactly,
-    frames_are_read, frames_count, hears_exactly, hears_once, nak_is_ignored,
-    numbered_is_grammatical, numbers_have_four_bits, other_calls_keep_numbers, repeats_exactly,
-    sent_at_most_four_times, sent_carries_number, silent_exactly,
 };

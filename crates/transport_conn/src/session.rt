@@ -1,7 +1,7 @@
 //! What an end of an open connection knows.
 
 ghost use Rattle.std.specs.Prelude.{◌≡◌, ◌<◌};
-ghost use Rattle.knx_model.specs.Connection.{IsApdu, by_number, is_with, at_time, advanced, acknowledged, new_session, has_passed, wait_end, idle_wait, numbered_data};
+ghost use Rattle.knx_model.specs.Connection.{IsApdu, by_number, is_before, is_with, at_time, advanced, acknowledged, new_session, has_passed, wait_end, idle_wait, numbered_data};
 
 use crate::frame::{is_before, next_number, numbered};
 use crate::wait::IDLE_WAIT_MS;
@@ -71,6 +71,14 @@ impl Session {
         } else {
             NumberIs::Another
         }
+    }
+
+    /// Whether a T_ACK of this number is that of the own service before.
+    pub fn was_acknowledged(&self, number: u8) -> bool
+        requires { number < 16 }
+        ensures { result ≡ is_before number self.now.number }
+    {
+        is_before(number, self.number)
     }
 
     /// After a frame was sent or taken.

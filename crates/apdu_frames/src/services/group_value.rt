@@ -5,11 +5,11 @@ ghost use Rattle.std.specs.Prelude.{◌≡◌, ◌≤◌, ◌^◌, ◌<◌, leng
 ghost use Rattle.knx_model.specs.Apdu.{ReadsApdu, IsValue, service, short, long, most_value_octets};
 ghost use Rattle.apdu_frames.specs.Refusing.{RefusesApdu};
 
-use crate::words::low;
+use crate::words::low_six;
 use knx_model::{Apdu, ApduOctets, LongValue, TpduRefused, Value};
 
 /// A_GroupValue_Read has no octets.
-pub fn read_request(code: u16, rest: &[u8]) -> Result<Apdu, TpduRefused>
+pub fn decode_read(code: u16, rest: &[u8]) -> Result<Apdu, TpduRefused>
     requires { service code ≡ 0x000 }
     ensures read { IfOk result (λ apdu. ReadsApdu code rest.now apdu) }
     ensures refused { IfErr result (λ why. RefusesApdu code rest.now why) }
@@ -22,7 +22,7 @@ pub fn read_request(code: u16, rest: &[u8]) -> Result<Apdu, TpduRefused>
 }
 
 /// A_GroupValue_Response of a value.
-pub fn read_response(code: u16, rest: &[u8]) -> Result<Apdu, TpduRefused>
+pub fn decode_response(code: u16, rest: &[u8]) -> Result<Apdu, TpduRefused>
     requires { service code ≡ 0x040 }
     ensures read { IfOk result (λ apdu. ReadsApdu code rest.now apdu) }
     ensures refused { IfErr result (λ why. RefusesApdu code rest.now why) }
@@ -31,7 +31,7 @@ pub fn read_response(code: u16, rest: &[u8]) -> Result<Apdu, TpduRefused>
 }
 
 /// A_GroupValue_Write of a value.
-pub fn read_write(code: u16, rest: &[u8]) -> Result<Apdu, TpduRefused>
+pub fn decode_write(code: u16, rest: &[u8]) -> Result<Apdu, TpduRefused>
     requires { service code ≡ 0x080 }
     ensures read { IfOk result (λ apdu. ReadsApdu code rest.now apdu) }
     ensures refused { IfErr result (λ why. RefusesApdu code rest.now why) }
@@ -44,7 +44,7 @@ fn value_of(code: u16, rest: &[u8]) -> Result<Value, TpduRefused>
     ensures long { IfErr result (λ why. (why ≡ TpduRefused.Length) × (most_value_octets < length rest.now)) }
 {
     if rest.is_empty() {
-        Ok(Value::Short(low(code)))
+        Ok(Value::Short(low_six(code)))
     } else if rest.len() <= LongValue::CAPACITY {
         Ok(Value::Long(LongValue::from_slice(rest)))
     } else {
@@ -62,8 +62,8 @@ pub fn short_of(value: &Value) -> u8
     }
 }
 
-/// Appends the octets of a long value.
-pub fn write(out: &mut ApduOctets, value: &Value)
+/// Appends the octets of a long value. A short one stands in the code, and nothing is appended.
+pub fn encode(out: &mut ApduOctets, value: &Value)
     requires start { length out.old ≡ 2 }
     ensures { out.new ≡ out.old ++ long value.now }
 {

@@ -7,21 +7,21 @@ ghost use Rattle.apdu_frames.specs.Refusing.{RefusesApdu};
 use knx_model::{Apdu, IndAddr, TpduRefused};
 
 /// A_IndividualAddress_Write of an address of two octets.
-pub fn read_write(code: u16, rest: &[u8]) -> Result<Apdu, TpduRefused>
+pub fn decode_write(code: u16, rest: &[u8]) -> Result<Apdu, TpduRefused>
     requires { service code ≡ 0x0C0 }
     ensures read { IfOk result (λ apdu. ReadsApdu code rest.now apdu) }
     ensures refused { IfErr result (λ why. RefusesApdu code rest.now why) }
 {
     match rest {
-        [high, below] => Ok(Apdu::AddressWrite(IndAddr {
-            raw: u16::from_be_bytes([*high, *below]),
+        [high, low] => Ok(Apdu::AddressWrite(IndAddr {
+            raw: u16::from_be_bytes([*high, *low]),
         })),
         _ => Err(TpduRefused::Length),
     }
 }
 
 /// A_IndividualAddress_Read has no octets.
-pub fn read_request(code: u16, rest: &[u8]) -> Result<Apdu, TpduRefused>
+pub fn decode_read(code: u16, rest: &[u8]) -> Result<Apdu, TpduRefused>
     requires { service code ≡ 0x100 }
     ensures read { IfOk result (λ apdu. ReadsApdu code rest.now apdu) }
     ensures refused { IfErr result (λ why. RefusesApdu code rest.now why) }
@@ -34,7 +34,7 @@ pub fn read_request(code: u16, rest: &[u8]) -> Result<Apdu, TpduRefused>
 }
 
 /// A_IndividualAddress_Response has no octets: the address is that of its sender.
-pub fn read_response(code: u16, rest: &[u8]) -> Result<Apdu, TpduRefused>
+pub fn decode_response(code: u16, rest: &[u8]) -> Result<Apdu, TpduRefused>
     requires { service code ≡ 0x140 }
     ensures read { IfOk result (λ apdu. ReadsApdu code rest.now apdu) }
     ensures refused { IfErr result (λ why. RefusesApdu code rest.now why) }

@@ -5,68 +5,68 @@ ghost use Rattle.std.specs.Prelude.{◌≡◌, ◌+◌, ◌≤◌, ◌++◌, len
 ghost use Rattle.knx_model.specs.Apdu.{ReadsApdu, service, most_octets, word as written};
 ghost use Rattle.apdu_frames.specs.Refusing.{RefusesApdu};
 
-use crate::words::{low, push_word};
+use crate::words::{low_six, push_word};
 use knx_model::{Apdu, ApduOctets, MOST_MEMORY_OCTETS, TpduRefused};
 
 /// A_Memory_Read of 1 to 60 octets.
-pub fn read_request(code: u16, rest: &[u8]) -> Result<Apdu, TpduRefused>
+pub fn decode_read(code: u16, rest: &[u8]) -> Result<Apdu, TpduRefused>
     requires { service code ≡ 0x200 }
     ensures read { IfOk result (λ apdu. ReadsApdu code rest.now apdu) }
     ensures refused { IfErr result (λ why. RefusesApdu code rest.now why) }
 {
-    let [high, below] = rest else {
+    let [high, low] = rest else {
         return Err(TpduRefused::Length);
     };
-    let count = low(code);
+    let count = low_six(code);
     if count < 1 || count as usize > MOST_MEMORY_OCTETS {
         return Err(TpduRefused::Count);
     }
     Ok(Apdu::MemoryRead {
         count,
-        address: u16::from_be_bytes([*high, *below]),
+        address: u16::from_be_bytes([*high, *low]),
     })
 }
 
 /// A_Memory_Response of at most 60 octets; of none where the address can't be read.
-pub fn read_response(code: u16, rest: &[u8]) -> Result<Apdu, TpduRefused>
+pub fn decode_response(code: u16, rest: &[u8]) -> Result<Apdu, TpduRefused>
     requires { service code ≡ 0x240 }
     ensures read { IfOk result (λ apdu. ReadsApdu code rest.now apdu) }
     ensures refused { IfErr result (λ why. RefusesApdu code rest.now why) }
 {
-    let [high, below, octets @ ..] = rest else {
+    let [high, low, octets @ ..] = rest else {
         return Err(TpduRefused::Length);
     };
-    let count = low(code);
+    let count = low_six(code);
     if count as usize > MOST_MEMORY_OCTETS || octets.len() != count as usize {
         return Err(TpduRefused::Count);
     }
     Ok(Apdu::MemoryResponse {
-        address: u16::from_be_bytes([*high, *below]),
+        address: u16::from_be_bytes([*high, *low]),
         octets: ApduOctets::from_slice(octets),
     })
 }
 
 /// A_Memory_Write of 1 to 60 octets.
-pub fn read_write(code: u16, rest: &[u8]) -> Result<Apdu, TpduRefused>
+pub fn decode_write(code: u16, rest: &[u8]) -> Result<Apdu, TpduRefused>
     requires { service code ≡ 0x280 }
     ensures read { IfOk result (λ apdu. ReadsApdu code rest.now apdu) }
     ensures refused { IfErr result (λ why. RefusesApdu code rest.now why) }
 {
-    let [high, below, octets @ ..] = rest else {
+    let [high, low, octets @ ..] = rest else {
         return Err(TpduRefused::Length);
     };
-    let count = low(code);
+    let count = low_six(code);
     if count < 1 || count as usize > MOST_MEMORY_OCTETS || octets.len() != count as usize {
         return Err(TpduRefused::Count);
     }
     Ok(Apdu::MemoryWrite {
-        address: u16::from_be_bytes([*high, *below]),
+        address: u16::from_be_bytes([*high, *low]),
         octets: ApduOctets::from_slice(octets),
     })
 }
 
 /// Appends address and octets.
-pub fn write(out: &mut ApduOctets, address: u16, octets: &ApduOctets)
+pub fn encode(out: &mut ApduOctets, address: u16, octets: &ApduOctets)
     requires { length out.old + 2 + length octets.now ≤ most_octets }
     ensures { out.new ≡ out.old ++ (written address ++ octets.now) }
 {

@@ -1,4 +1,4 @@
-//! The services (ISO/IEC 14543-3-1, application layer): for each group of services one file, which reads and writes what follows
+//! The services (ISO/IEC 14543-3-1, application layer): for each group of services one file, which decodes and encodes what follows
 //! the code.
 
 ghost use Rattle.std.specs.Prelude.{◌≡◌, ◌+◌, ◌<◌, ◌≤◌, ◌^◌, ◌++◌, length, IfOk, IfErr};
@@ -16,27 +16,27 @@ use crate::words::push_word;
 use knx_model::{Apdu, ApduOctets, TpduRefused};
 
 /// The service that a code names, with the octets that follow the code.
-pub fn read(code: u16, rest: &[u8]) -> Result<Apdu, TpduRefused>
+pub fn decode(code: u16, rest: &[u8]) -> Result<Apdu, TpduRefused>
     requires { code < 2 ^ 10 }
     ensures read { IfOk result (λ apdu. ReadsApdu code rest.now apdu) }
     ensures refused { IfErr result (λ why. RefusesApdu code rest.now why) }
 {
     match code >> 6 << 6 {
-        apci::GROUP_VALUE_READ => group_value::read_request(code, rest),
-        apci::GROUP_VALUE_RESPONSE => group_value::read_response(code, rest),
-        apci::GROUP_VALUE_WRITE => group_value::read_write(code, rest),
-        apci::INDIVIDUAL_ADDRESS_WRITE => individual_address::read_write(code, rest),
-        apci::INDIVIDUAL_ADDRESS_READ => individual_address::read_request(code, rest),
-        apci::INDIVIDUAL_ADDRESS_RESPONSE => individual_address::read_response(code, rest),
-        apci::MEMORY_READ => memory::read_request(code, rest),
-        apci::MEMORY_RESPONSE => memory::read_response(code, rest),
-        apci::MEMORY_WRITE => memory::read_write(code, rest),
-        apci::DEVICE_DESCRIPTOR_READ => device_descriptor::read_request(code, rest),
-        apci::DEVICE_DESCRIPTOR_RESPONSE => device_descriptor::read_response(code, rest),
+        apci::GROUP_VALUE_READ => group_value::decode_read(code, rest),
+        apci::GROUP_VALUE_RESPONSE => group_value::decode_response(code, rest),
+        apci::GROUP_VALUE_WRITE => group_value::decode_write(code, rest),
+        apci::INDIVIDUAL_ADDRESS_WRITE => individual_address::decode_write(code, rest),
+        apci::INDIVIDUAL_ADDRESS_READ => individual_address::decode_read(code, rest),
+        apci::INDIVIDUAL_ADDRESS_RESPONSE => individual_address::decode_response(code, rest),
+        apci::MEMORY_READ => memory::decode_read(code, rest),
+        apci::MEMORY_RESPONSE => memory::decode_response(code, rest),
+        apci::MEMORY_WRITE => memory::decode_write(code, rest),
+        apci::DEVICE_DESCRIPTOR_READ => device_descriptor::decode_read(code, rest),
+        apci::DEVICE_DESCRIPTOR_RESPONSE => device_descriptor::decode_response(code, rest),
         _ => match code {
-            apci::PROPERTY_VALUE_READ => property_value::read_request(code, rest),
-            apci::PROPERTY_VALUE_RESPONSE => property_value::read_response(code, rest),
-            apci::PROPERTY_VALUE_WRITE => property_value::read_write(code, rest),
+            apci::PROPERTY_VALUE_READ => property_value::decode_read(code, rest),
+            apci::PROPERTY_VALUE_RESPONSE => property_value::decode_response(code, rest),
+            apci::PROPERTY_VALUE_WRITE => property_value::decode_write(code, rest),
             _ => Err(TpduRefused::Code),
         },
     }
@@ -68,25 +68,49 @@ pub fn code_of(apdu: &Apdu) -> u16
 }
 
 /// Appends what follows the code.
-pub fn push_rest(out: &mut ApduOctets, apdu: &Apdu)
+pub fn encode_rest(out: &mut ApduOctets, apdu: &Apdu)
     requires range { IsApduInRange apdu.now }
     requires start { length out.old ≡ 2 }
     ensures { out.new ≡ out.old ++ rest_of apdu.now }
 {
     match apdu {
-        Apdu::GroupResponse(value) | Apdu::GroupWrite(value) => group_value::write(out, value),
+        Apdu::GroupResponse(value) | Apdu::GroupWrite(value) => group_value::encode(out, value),
         Apdu::AddressWrite(address) => push_word(out, address.raw),
         Apdu::MemoryRead { address, .. } => push_word(out, *address),
         Apdu::MemoryResponse { address, octets } | Apdu::MemoryWrite { address, octets } => {
-            memory::write(out, *address, octets);
+            memory::encode(out, *address, octets);
         }
         Apdu::DescriptorResponse {
             value: Some(value),
             ..
         } => push_word(out, *value),
-        Apdu::PropertyRead { .. } | Apdu::PropertyResponse { .. } | Apdu::PropertyWrite { .. } => {
-            property_value::write(out, apdu);
+        Apdu::PropertyRead {
+            object,
+            property,
+            count,
+            start,
+        } => property_value::encode_head(out, *object, *property, *count, *start),
+        Apdu::PropertyResponse {
+            object,
+            property,
+            count,
+            start,
+            octets,
         }
-        _ => {}
+        | Apdu::PropertyWrite {
+            object,
+            property,
+            count,
+            start,
+            octets,
+        } => {
+            property_value::encode_head(out, *object, *property, *count, *start);
+            out.extend(octets.as_slice());
+        }
+        Apdu::GroupRead
+        | Apdu::AddressRead
+        | Apdu::AddressResponse
+        | Apdu::DescriptorRead(_)
+        | Apdu::DescriptorResponse { value: None, .. } => {}
     }
 }

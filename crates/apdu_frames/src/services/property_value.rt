@@ -2,7 +2,7 @@
 //! property, a count of four bits and a start of twelve, and then the octets.
 
 ghost use Rattle.std.specs.Prelude.{◌≡◌, ◌+◌, ◌*◌, ◌/◌, ◌%◌, ◌<◌, ◌≤◌, ◌++◌, length, IfOk, IfErr};
-ghost use Rattle.knx_model.specs.Apdu.{ReadsApdu, IsApduInRange, apdu_code, rest_of, property_head, most_octets};
+ghost use Rattle.knx_model.specs.Apdu.{ReadsApdu, property_head, most_octets};
 ghost use Rattle.apdu_frames.specs.Refusing.{RefusesApdu};
 
 use crate::words::push_word;
@@ -12,42 +12,42 @@ use knx_model::{Apdu, ApduOctets, TpduRefused};
 const MOST_OCTETS: usize = 10;
 
 /// The first element that is meant, of twelve bits.
-fn start_of(high: u8, below: u8) -> u16
-    ensures { result ≡ 256 * (high % 16) + below }
+fn start_of(high: u8, low: u8) -> u16
+    ensures { result ≡ 256 * (high % 16) + low }
 {
-    u16::from_be_bytes([high & 0x0F, below])
+    u16::from_be_bytes([high & 0x0F, low])
 }
 
 /// A_PropertyValue_Read has no octets.
-pub fn read_request(code: u16, rest: &[u8]) -> Result<Apdu, TpduRefused>
+pub fn decode_read(code: u16, rest: &[u8]) -> Result<Apdu, TpduRefused>
     requires { code ≡ 0x3D5 }
     ensures read { IfOk result (λ apdu. ReadsApdu code rest.now apdu) }
     ensures refused { IfErr result (λ why. RefusesApdu code rest.now why) }
 {
     match rest {
-        [object, property, high, below] => Ok(Apdu::PropertyRead {
+        [object, property, high, low] => Ok(Apdu::PropertyRead {
             object: *object,
             property: *property,
             count: *high >> 4,
-            start: start_of(*high, *below),
+            start: start_of(*high, *low),
         }),
         _ => Err(TpduRefused::Length),
     }
 }
 
 /// A_PropertyValue_Response of at most 10 octets.
-pub fn read_response(code: u16, rest: &[u8]) -> Result<Apdu, TpduRefused>
+pub fn decode_response(code: u16, rest: &[u8]) -> Result<Apdu, TpduRefused>
     requires { code ≡ 0x3D6 }
     ensures read { IfOk result (λ apdu. ReadsApdu code rest.now apdu) }
     ensures refused { IfErr result (λ why. RefusesApdu code rest.now why) }
 {
     match rest {
-        [object, property, high, below, octets @ ..] if octets.len() <= MOST_OCTETS => {
+        [object, property, high, low, octets @ ..] if octets.len() <= MOST_OCTETS => {
             Ok(Apdu::PropertyResponse {
                 object: *object,
                 property: *property,
                 count: *high >> 4,
-                start: start_of(*high, *below),
+                start: start_of(*high, *low),
                 octets: ApduOctets::from_slice(octets),
             })
         }
@@ -56,18 +56,18 @@ pub fn read_response(code: u16, rest: &[u8]) -> Result<Apdu, TpduRefused>
 }
 
 /// A_PropertyValue_Write of at most 10 octets.
-pub fn read_write(code: u16, rest: &[u8]) -> Result<Apdu, TpduRefused>
+pub fn decode_write(code: u16, rest: &[u8]) -> Result<Apdu, TpduRefused>
     requires { code ≡ 0x3D7 }
     ensures read { IfOk result (λ apdu. ReadsApdu code rest.now apdu) }
     ensures refused { IfErr result (λ why. RefusesApdu code rest.now why) }
 {
     match rest {
-        [object, property, high, below, octets @ ..] if octets.len() <= MOST_OCTETS => {
+        [object, property, high, low, octets @ ..] if octets.len() <= MOST_OCTETS => {
             Ok(Apdu::PropertyWrite {
                 object: *object,
                 property: *property,
                 count: *high >> 4,
-                start: start_of(*high, *below),
+                start: start_of(*high, *low),
                 octets: ApduOctets::from_slice(octets),
             })
         }
@@ -75,45 +75,8 @@ pub fn read_write(code: u16, rest: &[u8]) -> Result<Apdu, TpduRefused>
     }
 }
 
-/// Appends object, property, count and start, and the octets of a response or a write.
-pub fn write(out: &mut ApduOctets, apdu: &Apdu)
-    requires range { IsApduInRange apdu.now }
-    requires property { 0x3D5 ≤ apdu_code apdu.now }
-    requires start { length out.old ≡ 2 }
-    ensures { out.new ≡ out.old ++ rest_of apdu.now }
-{
-    match apdu {
-        Apdu::PropertyRead {
-            object,
-            property,
-            count,
-            start,
-        } => {
-            push_head(out, *object, *property, *count, *start);
-        }
-        Apdu::PropertyResponse {
-            object,
-            property,
-            count,
-            start,
-            octets,
-        }
-        | Apdu::PropertyWrite {
-            object,
-            property,
-            count,
-            start,
-            octets,
-        } => {
-            push_head(out, *object, *property, *count, *start);
-            out.extend(octets.as_slice());
-        }
-        _ => {}
-    }
-}
-
 /// Appends object, property, count and start.
-fn push_head(out: &mut ApduOctets, object: u8, property: u8, count: u8, start: u16)
+pub fn encode_head(out: &mut ApduOctets, object: u8, property: u8, count: u8, start: u16)
     requires room { length out.old + 4 ≤ most_octets }
     requires count { count < 16 }
     requires start { start < 4096 }

@@ -90,11 +90,11 @@ pub fn write_request() -> Datagram
 pub fn write_tunnel(channel: u8, tunnel: IndAddr) -> Datagram
     ensures { result ≡ Written (IpFrame.ConnectResponse channel 0x00 (Some tunnel)) }
 {
-    let [high, below] = tunnel.raw.to_be_bytes();
+    let [high, low] = tunnel.raw.to_be_bytes();
     let mut out = header::write(service::CONNECT_RESPONSE, 14);
     out.extend(&[channel, NO_ERROR]);
     endpoint::push(&mut out);
-    out.extend(&[INFORMATION_LENGTH, TUNNEL_CONNECTION, high, below]);
+    out.extend(&[INFORMATION_LENGTH, TUNNEL_CONNECTION, high, low]);
     out
 }
 

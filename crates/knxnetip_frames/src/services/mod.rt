@@ -1,7 +1,8 @@
 //! The services (ISO 22510, Core and Tunnelling): for each pair of request and response one file, which reads and writes both.
 
 ghost use Rattle.std.specs.Prelude.{◌≡◌, IfSome, IfNone};
-ghost use Rattle.knx_model.specs.KnxNetIp.{ReadsBody, IsBody, IsService, IsInRange, Written};
+ghost use Rattle.knx_model.specs.KnxNetIp.{ReadsBody, IsBody, IsInRange, Written};
+ghost use Rattle.knxnetip_frames.specs.Services.{identifier_of};
 
 mod channel;
 mod connect;
@@ -9,25 +10,23 @@ mod connection_state;
 mod disconnect;
 mod tunnelling;
 
-use crate::service;
+use crate::service::Service;
 use knx_model::{Datagram, IpFrame};
 
-/// The frame of a service with this body, if it is a body of the service.
-pub fn read(service: u16, body: &[u8]) -> Option<IpFrame>
-    requires { IsService service }
-    ensures some { IfSome result (λ frame. ReadsBody service body.now frame) }
-    ensures none { IfNone result (¬ IsBody service body.now) }
+/// The frame of a service with this body; None exactly where it is no body of the service.
+pub fn read(service: Service, body: &[u8]) -> Option<IpFrame>
+    ensures some { IfSome result (λ frame. ReadsBody (identifier_of service) body.now frame) }
+    ensures none { IfNone result (¬ IsBody (identifier_of service) body.now) }
 {
     match service {
-        service::CONNECT_REQUEST => connect::read_request(body),
-        service::CONNECT_RESPONSE => connect::read_response(body),
-        service::CONNECTIONSTATE_REQUEST => connection_state::read_request(body),
-        service::CONNECTIONSTATE_RESPONSE => connection_state::read_response(body),
-        service::DISCONNECT_REQUEST => disconnect::read_request(body),
-        service::DISCONNECT_RESPONSE => disconnect::read_response(body),
-        service::TUNNELLING_REQUEST => tunnelling::read_request(body),
-        service::TUNNELLING_ACK => tunnelling::read_ack(body),
-        _ => None,
+        Service::ConnectRequest => connect::read_request(body),
+        Service::ConnectResponse => connect::read_response(body),
+        Service::StateRequest => connection_state::read_request(body),
+        Service::StateResponse => connection_state::read_response(body),
+        Service::DisconnectRequest => disconnect::read_request(body),
+        Service::DisconnectResponse => disconnect::read_response(body),
+        Service::TunnellingRequest => tunnelling::read_request(body),
+        Service::TunnellingAck => tunnelling::read_ack(body),
     }
 }
 

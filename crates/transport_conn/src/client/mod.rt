@@ -77,10 +77,11 @@ impl ClientConn {
         }
     }
 
-    /// A law of the type: its numbers have four bits.
-    pub fn has_numbers(&self)
+    /// A law of the type: its numbers have four bits. It does nothing.
+    pub fn keeps(&self)
         ensures { IsClientEnd self.now }
     {
+        // The proof knows the type's invariant once a field is read.
         let _ = &self.state;
     }
 

@@ -1,4 +1,5 @@
-//! What a client's end knows after each of its answers.
+//! The state of a client's end after each of its answers. What it answers is decided apart, in `took`: so the contract of a call is one
+//! equation for the answer and one for the state.
 
 ghost use Rattle.std.specs.Prelude.{◌≡◌, Bool};
 ghost use Rattle.knx_model.specs.ClientConnection.{after_confirmed, client_after, client_stayed, client_answered, client_acknowledged, client_expired, after_overdue, client_repeated};
@@ -27,7 +28,7 @@ impl State {
     {
         match took {
             ClientTook::Dropped => self,
-            ClientTook::Acked => self.settled(now),
+            ClientTook::Acked => self.acknowledged(now),
             ClientTook::Answer { .. } => self.advanced(now),
             ClientTook::Again { .. } | ClientTook::Nak(_) => self.at_time(now),
             ClientTook::Closed { .. } => State::Ended,
@@ -60,7 +61,7 @@ impl State {
     }
 
     /// After the outstanding service was acknowledged.
-    fn settled(self, now: u64) -> State
+    fn acknowledged(self, now: u64) -> State
         ensures { client_end result ≡ client_acknowledged (client_end self) now }
     {
         match self {

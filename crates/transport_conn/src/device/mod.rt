@@ -30,7 +30,7 @@ use knx_model::{ApduOctets, Busy, DeviceExpired, DeviceTook, IndAddr};
 use outstanding::Outstanding;
 use std::marker::Model;
 use std::mem;
-use took::{answering_took, closed_took, idle_took, stranger_took};
+use took::{answering_took, closed_took, idle_took, other_sender_took};
 
 /// The device's end of a numbered connection (ISO/IEC 14543-3-2, transport layer). Times are in milliseconds.
 #[derive(Drop)]
@@ -72,10 +72,11 @@ impl DeviceConn {
         }
     }
 
-    /// A law of the type: its numbers have four bits.
-    pub fn has_numbers(&self)
+    /// A law of the type: its numbers have four bits. It does nothing.
+    pub fn keeps(&self)
         ensures { IsDeviceEnd self.now }
     {
+        // The proof knows the type's invariant once a field is read.
         let _ = &self.state;
     }
 
@@ -112,7 +113,7 @@ impl DeviceConn {
             State::Answering(session, _) if session.is_partner(from) => {
                 answering_took(session, frame)
             }
-            _ => stranger_took(frame),
+            _ => other_sender_took(frame),
         }
     }
 

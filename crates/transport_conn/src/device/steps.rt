@@ -1,4 +1,5 @@
-//! What a device's end knows after each of its answers.
+//! The state of a device's end after each of its answers. What it answers is decided apart, in `took`: so the contract of a call is one
+//! equation for the answer and one for the state.
 
 ghost use Rattle.std.specs.Prelude.{◌≡◌};
 ghost use Rattle.knx_model.specs.Connection.{advanced, at_time};
@@ -20,7 +21,7 @@ impl State {
             DeviceTook::Connected => State::Idle(Session::new(from, now)),
             DeviceTook::Apdu { .. } => self.advanced(now),
             DeviceTook::Again { .. } | DeviceTook::Nak(_) => self.at_time(now),
-            DeviceTook::Acked => self.settled(now),
+            DeviceTook::Acked => self.acknowledged(now),
             DeviceTook::Closed { .. } => self.left(from),
         }
     }
@@ -50,7 +51,7 @@ impl State {
     }
 
     /// After its answer was acknowledged.
-    fn settled(self, now: u64) -> State
+    fn acknowledged(self, now: u64) -> State
         ensures { device_end result ≡ device_acknowledged (device_end self) now }
     {
         match self {

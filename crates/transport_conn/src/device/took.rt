@@ -1,12 +1,12 @@
 //! What an open end of a device answers its partner.
 
-ghost use Rattle.std.specs.Prelude.{◌≡◌, ◌<◌};
+ghost use Rattle.std.specs.Prelude.{◌≡◌};
 ghost use Rattle.knx_model.specs.Connection.{HasNumber};
-ghost use Rattle.knx_model.specs.DeviceConnection.{idle_took, answering_took, service_took, ack_took, closed_took, stranger_took};
+ghost use Rattle.knx_model.specs.DeviceConnection.{idle_took, answering_took, closed_took, other_sender_took};
 
-use crate::frame::{ack, disconnect, is_before, nak};
+use crate::frame::{ack, disconnect, nak};
 use crate::session::{NumberIs, Session};
-use knx_model::{ApduOctets, DeviceTook, TransportFrame};
+use knx_model::{DeviceTook, TransportFrame};
 
 /// The answer to a frame of the partner while no answer is outstanding.
 pub fn idle_took(session: &Session, frame: TransportFrame) -> DeviceTook
@@ -16,36 +16,19 @@ pub fn idle_took(session: &Session, frame: TransportFrame) -> DeviceTook
     match frame {
         TransportFrame::Connect => DeviceTook::Connected,
         TransportFrame::Disconnect => DeviceTook::Closed { answer: None },
-        TransportFrame::Ack(number) => ack_took(session, number),
-        TransportFrame::Numbered { number, apdu } => service_took(session, number, apdu),
-        TransportFrame::Nak(_) | TransportFrame::Other => DeviceTook::Dropped,
-    }
-}
-
-fn ack_took(session: &Session, number: u8) -> DeviceTook
-    requires { number < 16 }
-    ensures { result ≡ ack_took session.now number }
-{
-    if is_before(number, session.number) {
-        DeviceTook::Dropped
-    } else {
-        DeviceTook::Closed {
+        TransportFrame::Ack(number) if session.was_acknowledged(number) => DeviceTook::Dropped,
+        TransportFrame::Ack(_) => DeviceTook::Closed {
             answer: Some(disconnect()),
-        }
-    }
-}
-
-fn service_took(session: &Session, number: u8, apdu: ApduOctets) -> DeviceTook
-    requires { number < 16 }
-    ensures { result ≡ service_took session.now number apdu }
-{
-    match session.number_is(number) {
-        NumberIs::Expected => DeviceTook::Apdu {
-            apdu,
-            ack: ack(number),
         },
-        NumberIs::Before => DeviceTook::Again { ack: ack(number) },
-        NumberIs::Another => DeviceTook::Nak(nak(number)),
+        TransportFrame::Numbered { number, apdu } => match session.number_is(number) {
+            NumberIs::Expected => DeviceTook::Apdu {
+                apdu,
+                ack: ack(number),
+            },
+            NumberIs::Before => DeviceTook::Again { ack: ack(number) },
+            NumberIs::Another => DeviceTook::Nak(nak(number)),
+        },
+        TransportFrame::Nak(_) | TransportFrame::Other => DeviceTook::Dropped,
     }
 }
 
@@ -77,8 +60,8 @@ pub fn closed_took(frame: TransportFrame) -> DeviceTook
 }
 
 /// The answer to another sender than the partner.
-pub fn stranger_took(frame: TransportFrame) -> DeviceTook
-    ensures { result ≡ stranger_took frame }
+pub fn other_sender_took(frame: TransportFrame) -> DeviceTook
+    ensures { result ≡ other_sender_took frame }
 {
     match frame {
         TransportFrame::Connect => DeviceTook::Closed {

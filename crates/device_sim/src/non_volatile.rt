@@ -7,28 +7,30 @@ ghost use Rattle.knx_model.specs.DeviceState.{same_state};
 ghost use Rattle.knx_model.specs.Loading.{octets_of};
 ghost use Rattle.knx_model.specs.DeviceFrames.{complements, worn_octets};
 ghost use Rattle.device_sim.specs.Effects.{meant};
+ghost use Rattle.std.specs.Borrow.{sem};
+ghost use Rattle.device_sim.specs.Lending.{LendsObject};
 ghost use Rattle.device_sim.specs.States.{states_of, has_states};
 
 use crate::effect::Effect;
 use crate::loadable::Loadable;
-use crate::places::object_at;
-use crate::worn::complements;
+use crate::memory_map::object_at;
+use crate::wear::complements;
 use knx_model::{LoadEvent, LoadState, LoadableObject, front};
 use std::marker::Model;
 
 /// The four loadable objects of a device.
 #[derive(Drop)]
-pub struct Kept {
+pub struct NonVolatile {
     pub address_table: Loadable,
     pub association_table: Loadable,
     pub group_objects: Loadable,
     pub application: Loadable,
 }
 
-impl Model for Kept {
-    ghost use Rattle.knx_model.specs.Device.{NonVolatile};
+impl Model for NonVolatile {
+    ghost use Rattle.knx_model.specs.Device.{NonVolatile as Content};
 
-    ghost Value = { NonVolatile };
+    ghost Value = { Content };
 
     ghost view = { λ k. record { address_table = k.address_table; association_table = k.association_table; group_objects = k.group_objects; application = k.application } };
 }
@@ -48,7 +50,7 @@ fn same_state(one: LoadState, other: LoadState) -> bool
     one.number() == other.number()
 }
 
-impl Kept {
+impl NonVolatile {
     /// The load states of its four objects.
     pub fn load_states(&self) -> LoadStates
         ensures { result ≡ states_of self.now }
@@ -90,26 +92,29 @@ impl Kept {
         self.object(object).octets()
     }
 
+    /// One of its four objects, to be changed.
+    fn object_mut(&mut self, object: LoadableObject) -> &mut Loadable
+        ensures* writes_back { sem 𝓛 (LendsObject self.entry object result) }
+        ensures value { result.now ≡ content self.old object }
+    {
+        match object {
+            LoadableObject::AddressTable => &mut self.address_table,
+            LoadableObject::AssociationTable => &mut self.association_table,
+            LoadableObject::GroupObjects => &mut self.group_objects,
+            LoadableObject::Application => &mut self.application,
+        }
+    }
+
     fn load(&mut self, object: LoadableObject, event: LoadEvent)
         ensures { self.new ≡ whole self.old (Loads object event) }
     {
-        match object {
-            LoadableObject::AddressTable => self.address_table.load(event),
-            LoadableObject::AssociationTable => self.association_table.load(event),
-            LoadableObject::GroupObjects => self.group_objects.load(event),
-            LoadableObject::Application => self.application.load(event),
-        }
+        self.object_mut(object).load(event);
     }
 
     fn load_torn(&mut self, object: LoadableObject, event: LoadEvent, k: u32)
         ensures { self.new ≡ torn self.old (Loads object event) (nat_lt 0 k) (front_of_load event k) }
     {
-        match object {
-            LoadableObject::AddressTable => self.address_table.load_torn(event, k),
-            LoadableObject::AssociationTable => self.association_table.load_torn(event, k),
-            LoadableObject::GroupObjects => self.group_objects.load_torn(event, k),
-            LoadableObject::Application => self.application.load_torn(event, k),
-        }
+        self.object_mut(object).load_torn(event, k);
     }
 
     fn store(&mut self, address: u16, octets: &[u8])
@@ -117,30 +122,17 @@ impl Kept {
     {
         if let Some(object) = object_at(address) {
             let at = (address - object.base()) as usize;
-            match object {
-                LoadableObject::AddressTable => self.address_table.write(at, octets),
-                LoadableObject::AssociationTable => self.association_table.write(at, octets),
-                LoadableObject::GroupObjects => self.group_objects.write(at, octets),
-                LoadableObject::Application => self.application.write(at, octets),
-            }
+            self.object_mut(object).write(at, octets);
         }
     }
 
-    /// Takes a memory write, in whose range these octets then stand.
-    fn scribble(&mut self, address: u16, asked: &[u8], octets: &[u8])
+    /// Takes a memory write that asks for `asked`; in its range then stand these octets.
+    fn overwrite(&mut self, address: u16, asked: &[u8], octets: &[u8])
         ensures { self.new ≡ torn self.old (Stores address asked.now) true octets.now }
     {
-        let n = asked.len();
         if let Some(object) = object_at(address) {
             let at = (address - object.base()) as usize;
-            match object {
-                LoadableObject::AddressTable => self.address_table.write_torn(at, n, octets),
-                LoadableObject::AssociationTable => self
-                    .association_table
-                    .write_torn(at, n, octets),
-                LoadableObject::GroupObjects => self.group_objects.write_torn(at, n, octets),
-                LoadableObject::Application => self.application.write_torn(at, n, octets),
-            }
+            self.object_mut(object).write_torn(at, asked.len(), octets);
         }
     }
 
@@ -148,7 +140,7 @@ impl Kept {
     fn store_torn(&mut self, address: u16, octets: &[u8], k: u32)
         ensures { self.new ≡ torn self.old (Stores address octets.now) (nat_lt 0 k) (take k octets.now) }
     {
-        self.scribble(address, octets, front(octets, k as usize));
+        self.overwrite(address, octets, front(octets, k as usize));
     }
 
     /// Stores the complement of each of these octets.
@@ -156,7 +148,7 @@ impl Kept {
         requires { length octets.now ≤ most_octets }
         ensures { self.new ≡ torn self.old (Stores address octets.now) true (complements octets.now) }
     {
-        self.scribble(address, octets, complements(octets).as_slice());
+        self.overwrite(address, octets, complements(octets).as_slice());
     }
 
     /// Takes an effect whole.

@@ -1,0 +1,102 @@
+-- What a binary search among ascending devices says, and the image that stands beside a device.
+use Rattle.std.proofs.Common.{◌≡◌, ℕ, zero, suc, ◌<◌, ◌≤◌, false, true, eqb, List, [], ◌∷◌, length, get_or, map, Option, Some, None, Result, Ok, Err, All, refl, sym, ap, ◌∙◌, subst, arith, inl, inr}
+use Rattle.std.specs.Prelude.{IfNone, IsPermutation, slice_get}
+use Rattle.std.specs.Result.{result_ok}
+use Rattle.std.specs.List.{AllZip, list_any}
+use Rattle.std.specs.List.Sorted.{IsBinarySearchResult, IsStrictlyIncreasing}
+use Rattle.std.specs.Ordering.{nat_cmp}
+use Rattle.std.proofs.lemmas.Bool.{cases_lt, eq-eqb, ne_eqb}
+use Rattle.std.proofs.lemmas.List.{get_or-map, length-map}
+use Rattle.std.proofs.lemmas.List.Folds.{list_any_at, list_any_none}
+use Rattle.std.proofs.lemmas.List.Kept.{AllPairs-from_increasing}
+use Rattle.std.proofs.lemmas.List.Sorted.{searched, All-permutation, list_any-IsPermutation}
+use Rattle.std.proofs.lemmas.Option.{get_or_from_slice_get}
+use Rattle.knx_model.specs.declared.address.IndAddr.{IndAddr}
+use Rattle.knx_model.specs.declared.config.Image.{Image}
+use Rattle.knx_model.specs.Acts.{IsInRange}
+use Rattle.knx_model.specs.Device.{Fits}
+use Rattle.knx_model.specs.Meaning.{Installation, meaning}
+use Rattle.knx_model.specs.Rules.{has_device, devices_of}
+use Rattle.knx_model.specs.Tables.{StandsFor}
+use Rattle.project_check.specs.Devices.{raw_of}
+use Rattle.project_check.proofs.Ascending.{any_device}
+use Rattle.table_compiler.specs.Images.{IsImage, AreImagesOf}
+
+-- ---- of ascending devices
+
+get_raw : (ds : List IndAddr) (i d : ℕ) → get_or (map raw_of ds) i d ≡ (get_or ds i (record { raw = d })).raw
+get_raw [] i d = refl
+get_raw (a ∷ ds) zero d = refl
+get_raw (a ∷ ds) (suc i) d = get_raw ds i d
+
+never_falls : (ns : List ℕ) → IsStrictlyIncreasing ns → (i j : ℕ) → i ≤ j → j < length ns → get_or ns i 0 ≤ get_or ns j 0
+never_falls ns up i j le lt = elim (cases_lt i j) [
+  | inl below ↦ omega (arith, AllPairs-from_increasing ns up i j 0 below lt)
+  | inr above ↦ (let same : i ≡ j = omega arith in omega (arith, ap (λ (k : ℕ). get_or ns k 0) same))
+]
+
+-- a search that finds none, among their numbers
+of_numbers : (ds : List IndAddr) (x i : ℕ) → IsBinarySearchResult (λ (d : IndAddr). nat_cmp d.raw x) ds (Err i) → IsBinarySearchResult (λ n. nat_cmp n x) (map raw_of ds) (Err i)
+of_numbers ds x i parted = λ rises.
+    let here = parted (λ i j d le lt. let h = rises i j d.raw le (omega (arith, lt, length-map ds raw_of)) in rw (get_raw ds i d.raw, get_raw ds j d.raw) at h) in (
+      λ k d from to. rw (get_raw ds k d) (here.0 k (record { raw = d }) from to),
+      λ k d from to. rw (get_raw ds k d) (here.1 k (record { raw = d }) from (omega (arith, to, length-map ds raw_of))),
+    )
+
+pub not_found : (ds : List IndAddr) (device : IndAddr) (r : Result ℕ ℕ) → IsBinarySearchResult (λ (d : IndAddr). nat_cmp d.raw device.raw) ds r → IsStrictlyIncreasing (map raw_of ds)
+    → IfNone (result_ok r) (list_any (λ d. eqb d.raw device.raw) ds ≡ false)
+not_found ds device (Ok i) found up = tt
+not_found ds device (Err i) parted up =
+    let at = searched (map raw_of ds) device.raw (Err i) (of_numbers ds device.raw i parted) (never_falls (map raw_of ds) up) in
+    list_any_none (λ d. eqb d.raw device.raw) ds (λ k d lt.
+    ne_eqb (get_or ds k d).raw device.raw (λ same.
+    let here : get_or (map raw_of ds) k 0 ≡ (get_or ds k d).raw = get_or-map raw_of ds k d 0 lt in
+    elim (cases_lt k i) [
+      | inl below ↦ omega (arith, here, same, at.1 k below)
+      | inr above ↦ omega (arith, here, same, at.2 k above (omega (arith, lt, length-map ds raw_of)))
+    ]))
+
+pub if_none : {X P : Type 0} (o : Option X) → P → IfNone o P
+if_none None p = p
+if_none (Some x) p = tt
+
+-- ---- of the images beside them
+
+zip_at : {X Y : Type 0} (R : X → Y → Type 0) (xs : List X) (ys : List Y) (k : ℕ) (d : X) (e : Y) → AllZip R xs ys → k < length xs → R (get_or xs k d) (get_or ys k e)
+zip_at R [] ys k d e all lt = absurd (omega arith)
+zip_at R (x ∷ xs) [] k d e all lt = absurd all
+zip_at R (x ∷ xs) (y ∷ ys) zero d e all lt = all.0
+zip_at R (x ∷ xs) (y ∷ ys) (suc k) d e all lt = zip_at R xs ys k d e all.1 (omega arith)
+
+each_image : (project : Installation) (devices : List IndAddr) (images : List Image) → AllZip (λ image device. StandsFor image (meaning project device)) images devices → All Fits images → All (λ device. IsInRange (meaning project device)) devices
+    → AllZip (IsImage project) devices images
+each_image project [] [] stand fit range = tt
+each_image project [] (i ∷ is) stand fit range = absurd stand
+each_image project (d ∷ ds) [] stand fit range = absurd stand
+each_image project (d ∷ ds) (i ∷ is) stand fit range = (
+  record { stands = stand.0; fits = fit 0 i (omega arith); in_range = range 0 d (omega arith) },
+  each_image project ds is stand.1 (λ k e lt. fit (suc k) e (omega arith)) (λ k e lt. range (suc k) e (omega arith)),
+)
+
+pub are_images : (project : Installation) (devices : List IndAddr) (images : List Image) → IsPermutation (devices_of project.statements) devices
+    → AllZip (λ image device. StandsFor image (meaning project device)) images devices → All Fits images → All (λ device. IsInRange (meaning project device)) (devices_of project.statements)
+    → AreImagesOf project (devices, images)
+are_images project devices images all stand fit range = record {
+  all = all;
+  each = each_image project devices images stand fit (All-permutation (λ device. IsInRange (meaning project device)) (devices_of project.statements) devices all range);
+}
+
+pub image_at : (project : Installation) (devices : List IndAddr) (images : List Image) (k : ℕ) (device : IndAddr) (image : Image) → AreImagesOf project (devices, images) → k < length devices → slice_get devices k ≡ Some device → get_or images k image ≡ image
+    → (has_device project.statements device.raw ≡ true) × IsImage project device image
+image_at project devices images k device image are within here there =
+    let at : get_or devices k device ≡ device = get_or_from_slice_get devices k device device here in (
+      sym (any_device device.raw project.statements)
+          ∙ list_any-IsPermutation (λ (a : IndAddr). eqb a.raw device.raw) (devices_of project.statements) devices are.all
+          ∙ list_any_at (λ (a : IndAddr). eqb a.raw device.raw) devices k device within (eq-eqb _ _ (ap raw_of at)),
+      subst (λ (i : Image). IsImage project device i) there (subst (λ (d : IndAddr). IsImage project d (get_or images k image)) at (zip_at (IsImage project) devices images k device image are.each within)),
+    )
+
+pub no_image : (project : Installation) (devices : List IndAddr) (images : List Image) (device : IndAddr) → AreImagesOf project (devices, images) → list_any (λ (d : IndAddr). eqb d.raw device.raw) devices ≡ false
+    → has_device project.statements device.raw ≡ false
+no_image project devices images device are none =
+    sym (any_device device.raw project.statements) ∙ list_any-IsPermutation (λ (a : IndAddr). eqb a.raw device.raw) (devices_of project.statements) devices are.all ∙ none

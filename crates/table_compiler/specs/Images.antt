@@ -1,0 +1,28 @@
+-- The images of a project's devices.
+use Rattle.std.specs.Prelude.{◌≡◌, List, length, map, IsPermutation}
+use Rattle.std.specs.List.{AllZip}
+use Rattle.std.specs.List.Sorted.{IsStrictlyIncreasing}
+use Rattle.knx_model.specs.declared.address.IndAddr.{IndAddr}
+use Rattle.knx_model.specs.declared.config.Image.{Image}
+use Rattle.knx_model.specs.Acts.{IsInRange}
+use Rattle.knx_model.specs.Device.{Fits}
+use Rattle.knx_model.specs.Meaning.{Installation, meaning}
+use Rattle.knx_model.specs.Rules.{devices_of}
+use Rattle.knx_model.specs.Tables.{StandsFor}
+use Rattle.project_check.specs.Devices.{raw_of}
+
+-- the compiled image of what a project says of a device: it fits, and its tables' numbers have two octets
+pub record IsImage (project : Installation) (device : IndAddr) (image : Image) : Type 0 where
+  pub stands : StandsFor image (meaning project device)
+  pub fits : Fits image
+  pub in_range : IsInRange (meaning project device)
+
+-- ascending devices, and as many images
+pub record ArePaired (devices : List IndAddr) (images : List Image) : Type 0 where
+  pub ascending : IsStrictlyIncreasing (map raw_of devices)
+  pub long : length images ≡ length devices
+
+-- the devices of a project, and the image of each
+pub record AreImagesOf (project : Installation) (images : List IndAddr × List Image) : Type 0 where
+  pub all : IsPermutation (devices_of project.statements) images.0
+  pub each : AllZip (IsImage project) images.0 images.1
