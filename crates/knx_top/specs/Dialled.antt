@@ -100,7 +100,7 @@ pub record IsToldOver (workers : ℕ) (turns : List GroupTurn) (jobs : List Job)
   -- it ends its jobs and loses its channels thoroughly, and leaves the open one rightly
   pub thorough : IsThoroughOver jobs story (log_in report)
   pub leaves : LeavesOver jobs turns story (log_in report)
-  -- a fault has its cause in the record; without one there is none in the end, every job has its end, and the closing is over
+  -- a fault has its cause in the record, want of memory and a failed link aside; without one there is none in the end, every job has its end, and the closing is over
   pub fault : FaultRightIn jobs (log_in report) report.fault (record_in story)
   pub ended : report.fault ≡ None → AllOver jobs (log_in report)
   pub closed : report.fault ≡ None → WhereTold (HasClosed (log_in report)) story

@@ -59,7 +59,7 @@ EndsThoroughly c r report = OfItsJobs c (λ jobs. IsThorough jobs (placed (start
 abbrev pub LeavesItsChannel : Commission → RunNow → Report → Type 0
 LeavesItsChannel c r report = OfItsJobs c (λ jobs. LeavesRightly jobs c.turns (log_in report) (placed (start r) r.events))
 
--- a fault has its cause in the record, and without one there is none in the end
+-- a fault has its cause in the record, want of memory and a failed link aside, and without one there is none in the end
 abbrev pub HasFaultRight : Commission → RunNow → Report → Type 0
 HasFaultRight c r report = OfItsJobs c (λ jobs. FaultRight jobs (log_in report) (record_of (start r) r.events) report.fault)
 

@@ -226,13 +226,14 @@ pub fn knx<R: Wait, F: Files, K: Sink, D: Dialer>(
     ensures done { HasRunOf RunsWhereDone (map string_bytes words.now) (F.now files.old) sim.old (record { line = sim.new; report = last.new }) }
     // no tunnelling request acts twice
     ensures once { HasRunOf ActsOnce (map string_bytes words.now) (F.now files.old) sim.old (record { line = sim.new; report = last.new }) }
-    // no device has two downloaders at once, the log tells nothing that the record doesn't show, and all that is sent is right
+    // no device has two downloaders at once, the log tells no end that the record doesn't show, and all that is sent is right
     ensures told { HasRunOf IsToldRightly (map string_bytes words.now) (F.now files.old) sim.old (record { line = sim.new; report = last.new }) }
     // an end is told at rest, no attempt begins once its job is decided, and the gateway is told of each loss that it doesn't know of, once
     ensures thorough { HasRunOf EndsThoroughly (map string_bytes words.now) (F.now files.old) sim.old (record { line = sim.new; report = last.new }) }
     // it asks the gateway to end the open channel only when all jobs are over: then once, after the listening
     ensures leaves { HasRunOf LeavesItsChannel (map string_bytes words.now) (F.now files.old) sim.old (record { line = sim.new; report = last.new }) }
-    // a run that breaks off has its cause in the record; else there is none in the end, every job has its end and the closing is over
+    // a run that breaks off has its cause in the record, want of memory and a failed link aside; else there is none in the end, every job has its end
+    // and the closing is over
     ensures fault { HasRunOf HasFaultRight (map string_bytes words.now) (F.now files.old) sim.old (record { line = sim.new; report = last.new }) }
     ensures over { HasRunOf EndsEveryJob (map string_bytes words.now) (F.now files.old) sim.old (record { line = sim.new; report = last.new }) }
     ensures closed { HasRunOf ClosesToItsEnd (map string_bytes words.now) (F.now files.old) sim.old (record { line = sim.new; report = last.new }) }
