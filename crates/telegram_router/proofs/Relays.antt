@@ -1,12 +1,11 @@
 -- Each step keeps the rule.
-use Rattle.std.proofs.Common.{◌≡◌, ◌≢◌, ℕ, zero, suc, ◌+◌, ◌<◌, ◌≤◌, true, true≢false, List, [], ◌∷◌, ◌++◌, length, set, sym, refl, ap, ◌∙◌, subst, ⊎_elim, append_assoc, length-append, arith}
+use Rattle.std.proofs.Common.{◌≡◌, ◌≢◌, ℕ, zero, suc, ◌+◌, ◌≤◌, true, true≢false, List, [], ◌∷◌, ◌++◌, length, set, sym, refl, ap, ◌∙◌, subst, ⊎_elim, append_assoc, length-append, arith}
 use mathlib.Core.Option.{some, some-ne-none}
-use mathlib.Core.List.{IsPrefix}
 use lib.ListN.{get_elem?}
 use Rattle.crossbeam_queue.specs.Fifo.{Pushes, Pops, Forks, Merges, Learns}
 use Rattle.crossbeam_queue.proofs.Lists.{at_set, at_snoc}
 use Rattle.telegram_router.specs.declared.view.View.{View}
-use Rattle.telegram_router.specs.Relayed.{first_view, left, right, both, spent, Writes, Reads, Fits, Relayed, Pushed, pushed, popped, Waiting, waiting}
+use Rattle.telegram_router.specs.Relayed.{first_view, left, right, both, spent, Writes, Fits, Relayed, pushed, popped, waiting}
 
 -- where the list has no b, b stands behind its end alone
 at_end : {A : Type 0} (l : List A) (a b : A) (j : ℕ) → get_elem? l j ≢ some b → get_elem? (l ++ a ∷ []) j ≡ some b → j ≡ length l
