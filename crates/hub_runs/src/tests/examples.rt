@@ -4,11 +4,11 @@ ghost use Rattle.std.specs.Prelude.{IfOk};
 ghost use Rattle.bus_sim.specs.RunNow.{story};
 ghost use Rattle.line_model.specs.LinkStory.{IsNewLink};
 
-use super::{DEVICE, group_turns, jobs_of};
+use super::{DEVICE, JobKind, group_turns, jobs_of};
 use crate::gateway::TUNNEL;
 use bus_sim::{Refused, Script, SimBus};
 use hub_core::{Hub, HubFault, Turned};
-use knx_model::{JobKind, List};
+use knx_model::List;
 use line_model::Link;
 use std::alloc::Global;
 use std::test::Fail;
