@@ -10,7 +10,7 @@ use Rattle.atomic_table.specs.Table.{State, Me, step, Act, keeps, takes, gives, 
 use Rattle.atomic_table.proofs.Lists.{at_set, at_snoc}
 use Rattle.turn_cell.specs.declared.view.View.{View}
 use Rattle.turn_cell.specs.Seats.{new_places, StandOnce}
-use Rattle.turn_cell.specs.Kept.{once, spent, left, right, both, with_list, places, turn_of, parts_of, times_at, AllBegin, Fits, Home, Kept, taken, published, released, looked}
+use Rattle.turn_cell.specs.Kept.{once, spent, left, right, both, with_list, turn_of, parts_of, times_at, AllBegin, Fits, Home, Kept, taken, published, released, looked}
 use Rattle.turn_cell.proofs.Sums.{prefix_self, prefix_trans, prefix_length, sum_set, sum_snoc, one_le_sum, two_le_sum, sum_alone, times, times-append, times_range, once_more, once_within, once_before, once_behind}
 
 module _ {E : Type 0} where
