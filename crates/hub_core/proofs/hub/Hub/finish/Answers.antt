@@ -1,4 +1,3 @@
-use Rattle.tunnel_link.proofs.Stories.{goes_again}
 use Rattle.hub_core.proofs.Hears.{hears_after}
 use Rattle.std.proofs.Common.{◌≡◌, None, sym, subst}
 use Rattle.hub_core.specs.Closes.{Begins, Closes, Resumes}
