@@ -6,7 +6,6 @@ use Rattle.std.proofs.lemmas.List.{append-nil, append_assoc, append_cancel_right
 use Rattle.std.specs.Prelude.{nat_lt, nat_le, is_some}
 use Rattle.std.specs.List.{AllByRecursion}
 use Rattle.knx_model.specs.declared.address.IndAddr.{IndAddr}
-use Rattle.knx_model.specs.declared.log.JobKind.TheVariants.{Check}
 use Rattle.knx_model.specs.Plans as plans
 use Rattle.line_model.specs.declared.fault.HubFault.{HubFault}
 use Rattle.line_model.specs.declared.group.GroupTurn.{GroupTurn}
@@ -172,7 +171,7 @@ waits_told at k x old new e h = subst (λ (y : GroupDid). GroupTells at k y old 
 
 -- some jobs of these devices
 some_job : IndAddr → Job
-some_job device = record { device = device; image = record { addr = []; assoc = []; objs = []; params = [] }; plan = plans.Over; kind = Check }
+some_job device = record { device = device; image = record { addr = []; assoc = []; objs = []; params = [] }; plan = plans.Over; loads = false }
 
 some_jobs : (devices : List IndAddr) → AreJobsOf devices (map some_job devices)
 unfolding some_job
