@@ -107,7 +107,21 @@ fn run<R: Threads + Wait + Sync>(
     all
 }
 
-/// What all writers wrote, and how many entries were published at the end.
+/// What all writers wrote from the cell's first seat on, and how many entries were published at the end.
+fn written_by_all<R: Threads + Wait + Sync>(
+    rt: &R,
+    cell: Turn<Written>,
+    first: Seat<Written>,
+) -> (Written, u64)
+    requires of { first.cell ≡ cell.id }
+    requires free { first.turn ≡ false }
+    requires whole { first.parts ≡ 16 }
+{
+    let mut all = run(rt, &cell, first, WRITERS);
+    let published = cell.look(&mut all);
+    (cell.close(all), published)
+}
+
 fn all_written<R: Threads + Wait + Sync>(
     rt: &R,
     alloc: Global,
@@ -117,12 +131,8 @@ fn all_written<R: Threads + Wait + Sync>(
         by: Vec::new(alloc),
     };
     match Turn::new(alloc, written) {
-        Ok((cell, seat)) => {
-            let mut seat = run(rt, &cell, seat, WRITERS);
-            let published = cell.look(&mut seat);
-            Ok((cell.close(seat), published))
-        }
-        Err((_, refused)) => Err(refused),
+        Ok((cell, first)) => Ok(written_by_all(rt, cell, first)),
+        Err((_written, refused)) => Err(refused),
     }
 }
 
