@@ -36,7 +36,7 @@ returns-clause-runs g c = λ commission is logs.
     runs_so commission c.args.sim.now line report c.args.order.jobs 0 c.args.order.devices c.args.log (outcome_of c.end_of_run.result)
     (driven commission c.args.order line (length line.run.events) report is c.requires.one c.commission-line.ensures.grows c.commission-line.ensures.script c.keeps-2.ensures.fresh c.keeps-2.ensures.legal c.keeps-2.ensures.follows c.requires.good tells c.commission-line.ensures.missed)
     is.prepared.devices (rw is.turns refl) logs
-    (subst (λ (devices : List (IndAddr × Option Image)). ShowsRun line.run report c.args.order.jobs devices c.args.log (outcome_of c.end_of_run.result)) c.as_slice.ensures c.end_of_run.ensures)
+    (subst (λ (devices : List (IndAddr × Option Image)). ShowsRun line.run report c.args.order.jobs 0 devices c.args.log (outcome_of c.end_of_run.result)) c.as_slice.ensures c.end_of_run.ensures)
 
 pub returns-clause-link : goal.returns-clause-link
 returns-clause-link g c =
