@@ -77,13 +77,14 @@ class FromEts(ToolTest):
             ("A/B # 1", "A-B-1 # A/B # 1", "is named A-B-1; its title stands behind it"),
             ("?!", "0-0-1 # ?!", "is named 0-0-1; its title stands behind it"),
             ("x" * 40, f"{'x' * 32} # {'x' * 40}", f"is named {'x' * 32}; its title stands behind it"),
-            ("ü" * 600, f"{'ue' * 16} # {'ü' * 234}", f"is named {'ue' * 16}; its title stands behind it, not whole"),
+            ("ü" * 600, f"{'ue' * 16} # {'ü' * 234}", f"is named {'ue' * 16}; its title isn't whole"),
         ]
         for title, line, said in rows:
             with self.subTest(title):
                 self.reads(f"{title};0/0/1\n", f"ga 0/0/1 {line}\n", said=f"e:1: 0/0/1 '{title}' {said}\n" if said else "")
         self.reads(";0/0/1\n", "ga 0/0/1 0-0-1\n", said="e:1: 0/0/1 '' is named 0-0-1; it has no title\n")
-        self.reads('"a\nb";0/0/1\n"c";0/0/2\n', "ga 0/0/1 a-b # a b\nga 0/0/2 c\n", said="e:1: 0/0/1 'a b' is named a-b; its title stands behind it, not whole\n")
+        self.reads("a\x07;0/0/1\n", "ga 0/0/1 a\n", said="e:1: 0/0/1 'a' is named a; its title isn't whole\n")
+        self.reads('"a\nb";0/0/1\n"c";0/0/2\n', "ga 0/0/1 a-b # a b\nga 0/0/2 c\n", said="e:1: 0/0/1 'a b' is named a-b; its title isn't whole\n")
 
     def test_a_csv_file_is_refused(self):
         rows = [
@@ -99,7 +100,8 @@ class FromEts(ToolTest):
             ('light;1/2/3\n"la"mp;1/2/4\n', "2: it is no CSV: ';' expected after '\"'"),
             ("light\n", "1: column 2: there is no group address"),
             ("Name;Address\nlight;\n", "2: column 2: there is no group address"),
-            (b"light;1/2/3\nl\x81mp;1/2/4\n", "2: it is neither UTF-8 nor Latin-1: octet 81"),
+            (b"light;1/2/3\nl\x81mp;1/2/4\n", "2: an octet 81 is no UTF-8 or Latin-1"),
+            ("light;1/2/3\n".encode("utf-16") + b"x", "2: an octet 78 is no UTF-16"),
         ]
         for text, said in rows:
             self.write("e", text)
@@ -109,6 +111,7 @@ class FromEts(ToolTest):
     def test_an_xml_file_is_refused(self):
         begin = f'<GroupAddress-Export xmlns="{ets.NAMESPACE}">\n'
         rows = [
+            ('<?xml version="1.0" encoding="utf-9"?>\n<a/>', "1: its encoding isn't read: unknown encoding: utf-9"),
             ("<a>\n</a>", "1: its root is a, not GroupAddress-Export"),
             (begin, "2: it is no XML: no element found"),
             (f"{begin}<GroupRange></x>", "2: Name is missing"),
