@@ -43,6 +43,10 @@ def say(line):
     SAID.append(line)
 
 
+def counted(number, word):
+    return f"{number} {word}" if number == 1 else f"{number} {word}s"
+
+
 def read_octets(name):
     try:
         return pathlib.Path(name).read_bytes()
@@ -269,4 +273,4 @@ class Project:
         self.first(self.links, (device, number, group), line, line, 15, f"DuplicateLink: {device_text(device)} {number} {group_text(group)}")
         size = self.objects[device, number][0]
         if self.sizes.setdefault(group, size) != size:
-            self.wrong.append((line, 18, f"SizeDiffers: {size} bits, where the group has {self.sizes[group]}"))
+            self.wrong.append((line, 18, f"SizeDiffers: {counted(size, 'bit')}, where the group has {self.sizes[group]}"))

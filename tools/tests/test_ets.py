@@ -59,13 +59,13 @@ class FromEts(ToolTest):
         self.reads("lights,,,1,-,-\n,hall,,1,2,-\n,,lamp,1,2,3\n", "# 1/-/- lights\n# 1/2/- hall\nga 1/2/3 lamp\n")
 
     def test_addresses_of_two_levels_and_free_ones(self):
-        self.reads("light;1/515\nlamp;1/516\n", "ga 1/2/3 light\nga 1/2/4 lamp\n", said="e: 2 addresses are written with three levels: 1/515 as 1/2/3\n")
-        self.reads("lights;1/-\nlight;1/515\n", "# 1/-/- lights\nga 1/2/3 light\n", said="e: 1 addresses are written with three levels: 1/515 as 1/2/3\n")
-        self.reads("light;2563;;\nlamp;2564;;\n", "ga 1/2/3 light\nga 1/2/4 lamp\n", said="e: 2 addresses are written with three levels: 2563 as 1/2/3\n")
+        self.reads("light;1/515\nlamp;1/516\n", "ga 1/2/3 light\nga 1/2/4 lamp\n", said="e: written with three levels: 2 groups, as 1/2/3 for 1/515\n")
+        self.reads("lights;1/-\nlight;1/515\n", "# 1/-/- lights\nga 1/2/3 light\n", said="e: written with three levels: 1 group, as 1/2/3 for 1/515\n")
+        self.reads("light;2563;;\nlamp;2564;;\n", "ga 1/2/3 light\nga 1/2/4 lamp\n", said="e: written with three levels: 2 groups, as 1/2/3 for 2563\n")
 
     def test_what_other_columns_say_is_left_out(self):
         text = f"{HEADS['1/1']}\nlight;1/2/3;;true;of the hall;DPST-1-1;Auto\nlamp;1/2/4;;;;DPST-1-1;On\n"
-        said = "e: left out: Unfiltered of 1 groups\ne: left out: Description of 1 groups\ne: left out: DatapointType of 2 groups\ne: left out: Security of 1 groups\n"
+        said = "e: left out: Unfiltered of 1 group\ne: left out: Description of 1 group\ne: left out: DatapointType of 2 groups\ne: left out: Security of 1 group\n"
         self.reads(text, "ga 1/2/3 light\nga 1/2/4 lamp\n", said=said)
 
     def test_titles(self):
@@ -136,7 +136,7 @@ class FromEts(ToolTest):
         )
         said = (
             "e:5: left out: the range 300 to 400 'y', which is no main or middle group\n"
-            "e:4: 0/0/1 'a & b' is named a-b; its title stands behind it\ne: left out: DatapointType of 1 groups\n"
+            "e:4: 0/0/1 'a & b' is named a-b; its title stands behind it\ne: left out: DatapointType of 1 group\n"
         )
         self.reads(text.encode("latin-1"), "# 0/-/- Büro\n# 0/0/- x\nga 0/0/1 a-b # a & b\n", said=said)
 

@@ -94,14 +94,14 @@ class ToHomeAssistant(ToolTest):
 
     def test_refusals(self):
         self.write("p", ROOMS)
-        for word, why in [("1/0/2=percent", "it has 1 bits"), ("1/1/1=light", "it has 8 bits"), ("1/1/6=percent", "no object is linked to it"), ("7/0/1=light", "no object is linked to it"), ("1/0/3=light", "no object hears it")]:
+        for word, why in [("1/0/2=percent", "it has 1 bit"), ("1/1/1=light", "it has 8 bits"), ("1/1/6=percent", "no object is linked to it"), ("7/0/1=light", "no object is linked to it"), ("1/0/3=light", "no object hears it")]:
             with self.subTest(word):
                 self.refuses(f"{word}: {why}", "p", word)
         for words in ([], ["p", "1/0/2="], ["p", "1/0/2=a b"], ["p", "1/0/2=light", "1/0/2=switch"], ["p", "p"], ["p", "catalogue="]):
             with self.subTest(words):
                 self.refuses_words(*words)
         self.write("p", f"{ROOMS}link 1.1.1 1 1/1/1\n")
-        self.refuses("p:33: 18 SizeDiffers: 1 bits, where the group has 8", "p")
+        self.refuses("p:33: 18 SizeDiffers: 1 bit, where the group has 8", "p")
         self.refuses(f"{EXAMPLES / 'office.txt'}:4: 12 UnknownModel: dim2", str(EXAMPLES / "office.txt"))
 
     def test_as_a_script(self):

@@ -74,7 +74,7 @@ class Timeline(ToolTest):
         self.assertEqual([name for tag, name in page.classes if tag == "rect"], ["refused", "failed", "done", "open"])
         self.assertEqual([name for tag, name in page.classes if tag == "span"], [f"state {word}" for word in ("refused", "done", "failed", "open", "new", "stopped", "old")])
         for text in (
-            "4 jobs: 1 refused, 1 done, 1 failed, 1 open; 3 devices: 1 new, 1 stopped, 1 old; 1 telegrams heard; missed 0; dropped 7.",
+            "4 jobs: 1 refused, 1 done, 1 failed, 1 open; 3 devices: 1 new, 1 stopped, 1 old; 1 telegram heard; missed 0; dropped 7.",
             "worker 1", "worker 2", "job 3: load 1.1.20 failed, 83 to 1090", "job 4: load 1.1.30 open, 702 to 1090", "sent 1 at 90",
             "2 got 03D60105100100 expected 03D60105100101", "closed silent nocon", "1=01 2=0A0B", "write s01",
         ):
