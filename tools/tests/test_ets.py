@@ -1,7 +1,7 @@
 """Group addresses from ETS and to ETS, both ways."""
 import itertools
 
-from called import ToolTest, loaded
+from called import EXAMPLES, ToolTest, loaded
 import ets
 
 FROM, TO = loaded("from-ets"), loaded("to-ets")
@@ -177,6 +177,12 @@ class BothWays(ToolTest):
         self.there_and_back("".join(f"ga {raw >> 11}/{raw >> 8 & 7}/{raw & 255} g{raw}\n" for raw in range(1, 65536, 32)[:2000]), every=5)
         titled = [(raw, f"Raum {raw}: Größe, \"{raw}\"") for raw in range(1, 2001)]
         self.there_and_back("".join(f"ga {raw >> 11}/{raw >> 8 & 7}/{raw & 255} {ets.name_for(title, raw)} # {title}\n" for raw, title in titled), every=5)
+
+    def test_the_examples(self):
+        floor = str(EXAMPLES / "floor.txt")
+        for name, words in (("floor.xml", []), ("floor.csv", ["format=csv", "form=3/1", "separator=semicolon"])):
+            self.assertEqual(self.called(floor, *words), (0, (EXAMPLES / name).read_bytes(), ""))
+            self.assertEqual(self.called(str(EXAMPLES / name), module=FROM), (0, b"ga 1/2/3 light\nga 1/2/4 blinds\n", ""))
 
     def test_no_group(self):
         self.write("p", "device 1.1.5 inline\n")

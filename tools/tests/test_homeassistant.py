@@ -89,6 +89,9 @@ class ToHomeAssistant(ToolTest):
         wanted = 'knx:\n  light:\n    - name: "lamp"\n      address: "1/0/1"\n  sensor:\n    - name: "level"\n      state_address: "1/1/1"\n      type: 1byte_unsigned  # guessed from 8 bits\n'
         self.writes(wanted, str(EXAMPLES / "office.txt"), f"catalogue={EXAMPLES / 'office.toml'}")
 
+    def test_the_example(self):
+        self.assertEqual(self.called(str(EXAMPLES / "floor.txt")), (0, (EXAMPLES / "floor.yaml").read_bytes(), ""))
+
     def test_no_group(self):
         self.writes("knx: {}\n", str(EXAMPLES / "empty.txt"))
 
