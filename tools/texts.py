@@ -195,15 +195,15 @@ def models_of(name):
     """The objects of each model of a catalogue, number by number, each with its size and flags."""
     try:
         tables = tomllib.loads(read_octets(name).decode("utf-8"))
-    except ValueError as fault:
+    except (ValueError, RecursionError) as fault:
         raise Refused(f"1 Toml: {fault}", name) from fault
     models = {}
     for model, table in tables.items():
         try:
             rows = [(row["n"], row["size"], flags_of(row["flags"])) for row in table.get("object", [])]
+            models[model] = {number: (size, flags) for number, size, flags in rows}
         except (AttributeError, KeyError, TypeError) as fault:
             raise Refused(f"2 Shape {model}", name) from fault
-        models[model] = {number: (size, flags) for number, size, flags in rows}
         if not name_of(model) or model == "inline" or len(models[model]) < len(rows) or any(n not in range(1, 256) or size not in SIZES or flags is None for n, size, flags in rows):
             raise Refused(f"2 Shape {model}", name)
     return models

@@ -85,7 +85,7 @@ class Texts(ToolTest):
         self.refused("no.toml: No such file or directory", "no.toml")
         self.write("c", "[dim2\n")
         self.refused("c: 1 Toml: Expected ']' at the end of a table declaration (at line 1, column 6)", "c")
-        for text in ("[inline]\n", "dim2 = 1\n", "[dim2]\nobject = [{n = 256, size = 1, flags = 'C'}]\n", "[dim2]\nobject = [{n = 1, size = 9, flags = 'C'}]\n", "[dim2]\nobject = [{n = 1, size = 1}]\n"):
+        for text in ("[inline]\n", "dim2 = 1\n", "[dim2]\nobject = [{n = 256, size = 1, flags = 'C'}]\n", "[dim2]\nobject = [{n = 1, size = 9, flags = 'C'}]\n", "[dim2]\nobject = [{n = 1, size = 1}]\n", "[dim2]\nobject = [{n = [], size = 1, flags = 'C'}]\n"):
             self.write("c", text)
             with self.subTest(text):
                 self.refused(f"c: 2 Shape {'inline' if 'inline' in text else 'dim2'}", "c")
