@@ -1,12 +1,12 @@
 -- What a line of a project that a number makes speaks of is declared in the project.
-use Rattle.std.proofs.Common.{◌≡◌, ℕ, ◌+◌, ◌*◌, ◌-◌, ◌<◌, ◌≤◌, Bool, true, codes, eqb, List, [], ◌∷◌, ◌++◌, map, All, refl, ◌∙◌, arith}
-use Rattle.std.specs.List.{range_with_len, flat_map, list_any}
+use Rattle.std.proofs.Common.{◌≡◌, ℕ, ◌+◌, ◌*◌, ◌-◌, ◌<◌, ◌≤◌, Bool, true, codes, eqb, List, ◌++◌, All, refl, ◌∙◌, arith}
+use Rattle.std.specs.List.{list_any}
 use Rattle.std.proofs.lemmas.Bool.{and_from, eq-eqb, or_left, or_right}
 use Rattle.std.proofs.lemmas.List.Elements.{All-cons, All-append}
 use Rattle.std.proofs.lemmas.List.Folds.{list_any-append}
 use Rattle.knx_model.specs.declared.address.IndAddr.{IndAddr}
 use Rattle.knx_model.specs.declared.project.What.{What}
-use Rattle.knx_model.specs.declared.project.What.TheVariants.{Title, Group, Device, Object, Link, Flags, Param}
+use Rattle.knx_model.specs.declared.project.What.TheVariants.{Group, Device, Object, Link}
 use Rattle.knx_model.specs.Rules.{declares_device, declares_group, declares_object}
 use Rattle.knx_gen.specs.Draws.{state_at, number_at}
 use Rattle.knx_gen.specs.Generated.{group_line, group_lines, device_at, object_line, object_lines, link_line, link_lines, first_group, chosen_links, object_links, device_lines, nth_device_lines, all_device_lines, project_lines}

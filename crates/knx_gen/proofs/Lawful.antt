@@ -1,10 +1,9 @@
 -- A project that a number makes breaks no rule, and what it has is counted.
-use Rattle.std.proofs.Common.{◌≡◌, ℕ, zero, suc, ◌+◌, ◌*◌, ◌/◌, ◌%◌, ◌<◌, ◌≤◌, codes, List, [], ◌∷◌, ◌++◌, length, map, get_or, All, Option, Some, None, refl, sym, ap, ◌∙◌, subst, arith}
+use Rattle.std.proofs.Common.{◌≡◌, ℕ, zero, suc, ◌+◌, ◌*◌, ◌/◌, ◌%◌, ◌<◌, ◌≤◌, codes, List, [], ◌∷◌, ◌++◌, length, map, Option, Some, None, refl, sym, ap, ◌∙◌, subst, arith}
 use Rattle.std.specs.Prelude.{sum_by, IsPermutation}
-use Rattle.std.specs.List.{range_with_len, count_by, join_with_byte}
+use Rattle.std.specs.List.{range_with_len}
 use Rattle.std.specs.List.Sorted.{IsStrictlyIncreasing}
 use Rattle.std.specs.Fmt.{decimal}
-use Rattle.std.proofs.lemmas.List.Elements.{All-from_recursion}
 use Rattle.std.proofs.lemmas.Fmt.{decimal_digit}
 use Rattle.std.proofs.lemmas.List.FromFn.{length-map-range_with_len, get_or-map-range_with_len}
 use Rattle.std.proofs.lemmas.List.Sorted.{IsPermutation-refl}
@@ -13,11 +12,10 @@ use Rattle.knx_model.specs.declared.address.IndAddr.{IndAddr}
 use Rattle.knx_model.specs.declared.catalogue.model.Model.{Model}
 use Rattle.knx_model.specs.declared.catalogue.model.NamedModel.{NamedModel}
 use Rattle.knx_model.specs.declared.counts.Counts.{Counts}
-use Rattle.knx_model.specs.declared.project.Statement.{Statement}
 use Rattle.knx_model.specs.Addresses.{device_text}
 use Rattle.knx_model.specs.Counts.{counts_of, model_objects}
 use Rattle.knx_model.specs.Meaning.{or_inline}
-use Rattle.knx_model.specs.Rules.{count_lines, devices_of, is_device_line, is_object_line, is_link_line, model_of}
+use Rattle.knx_model.specs.Rules.{devices_of, is_object_line, is_link_line, model_of}
 use Rattle.project_check.specs.Devices.{IsChecked, raw_of}
 use Rattle.knx_gen.specs.Generated.{device_at, project_lines, generated}
 use Rattle.knx_gen.proofs.Counted.{count_device_lines, count_object_lines, count_link_lines, few_links, devices_picked}

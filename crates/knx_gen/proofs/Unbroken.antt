@@ -1,8 +1,8 @@
 -- Lines that ascend by their keys, of which each speaks of what is declared, break no rule of a whole project.
-use Rattle.std.proofs.Common.{◌≡◌, ℕ, zero, suc, ◌+◌, ◌*◌, ◌<◌, ◌≤◌, Bool, true, false, not, cond, codes, eqb, leb, ◌&&◌, ◌||◌, List, [], ◌∷◌, ◌++◌, length, take, All, Option, Some, None, refl, sym, ap, ◌∙◌, subst, arith, append_assoc, length-append}
+use Rattle.std.proofs.Common.{◌≡◌, ℕ, ◌+◌, ◌<◌, ◌≤◌, Bool, true, false, cond, codes, eqb, ◌&&◌, List, [], ◌∷◌, ◌++◌, length, take, All, Option, Some, None, refl, sym, ap, ◌∙◌, subst, arith, append_assoc, length-append}
 use Rattle.std.specs.Option.{is_none}
-use Rattle.std.specs.List.{list_any, count_by, filter_map, enumerate_from, cons_option, AllByRecursion}
-use Rattle.std.proofs.lemmas.Bool.{and_right, or_from, not_from_true, eq-eqb, lt-leb}
+use Rattle.std.specs.List.{list_any, count_by, cons_option, AllByRecursion}
+use Rattle.std.proofs.lemmas.Bool.{and_right, not_from_true, eq-eqb, lt-leb}
 use Rattle.std.proofs.lemmas.List.{length_push, get_or_at}
 use Rattle.std.proofs.lemmas.List.Elements.{All-get_or, recursion_from_All}
 use Rattle.std.proofs.lemmas.List.Sums.{sum_by-append}
@@ -20,7 +20,7 @@ use Rattle.knx_model.specs.Models.{inline, model_named, object_in}
 use Rattle.knx_model.specs.Rules.{some_line, count_lines, first_some, model_in, size_in, named_model, model_of, size_of_object, size_in_model, or_else, size_of, first_linked, asked_of, is_no_object, differ, size_of_first, declares_device, declares_group, declares_object, links_to, links_device, is_device_line, duplicate_device, duplicate_group, unknown_group, duplicate_object, unknown_object, duplicate_link, size_differs, too_many_devices, too_many_links, no_device, rule_of, broken_at, broken_from, first_broken}
 use Rattle.knx_gen.specs.Generated.{numbered_from}
 use Rattle.knx_gen.proofs.Keys.{key, Ascends, KeysBelow, before_below, none_below, group_key, device_key, object_key, link_key}
-use Rattle.knx_gen.proofs.Known.{IsKnown, IsLinkKnown}
+use Rattle.knx_gen.proofs.Known.{IsKnown}
 use Rattle.knx_gen.proofs.Numbered.{any_is, count_is, before_is}
 
 -- ---- the model of a device, and the size of an object

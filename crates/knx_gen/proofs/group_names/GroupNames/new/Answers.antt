@@ -1,4 +1,4 @@
-use Rattle.std.proofs.Common.{refl, sym, ◌∙◌, ap, ◌++◌, ◌∷◌, []}
+use Rattle.std.proofs.Common.{◌∙◌}
 use Rattle.knx_gen.specs.Generated.{group_names}
 use Rattle.knx_gen.proofs.Rounds.{names_more}
 use Rattle.knx_gen.proofs.group_names.GroupNames.new.Goals as goal
