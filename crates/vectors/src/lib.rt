@@ -13,6 +13,8 @@ mod examples;
 #[cfg(test)]
 mod field_words;
 #[cfg(test)]
+mod generated;
+#[cfg(test)]
 mod line_reports;
 #[cfg(test)]
 mod link_frames;

@@ -1,0 +1,11 @@
+pub mod States
+pub mod Each
+pub mod Rounds
+pub mod Keys
+pub mod Numbered
+pub mod Known
+pub mod Counted
+pub mod Unbroken
+pub mod Spelled
+pub mod Names
+pub mod Lawful
