@@ -30,7 +30,7 @@ use Rattle.hub_work.specs.Downloaders.{Task, AreJobsWith}
 use Rattle.hub_work.specs.Fits.{Fits}
 use Rattle.hub_work.specs.Follows.{StaysFitting}
 use Rattle.hub_work.specs.Polls.{PollsRightly, came_for, closing_so_far}
-use Rattle.hub_core.specs.Closes.{Begins}
+use Rattle.hub_work.specs.Closes.{Begins}
 use Rattle.hub_core.specs.Keeps.{Keeps}
 use Rattle.hub_core.specs.Polls.{has_poll, SendsOnly, PollsOnce, Polls, closing_at, PollsOrNot, PollsInClosing}
 use Rattle.hub_core.specs.Seen.{Seen, SameRun, AreJobs, hub_job_of}

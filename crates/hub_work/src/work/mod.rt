@@ -1,5 +1,6 @@
 //! What is done, without any link: the jobs with their downloaders, the workers, the group telegrams, and the log.
 
+mod closing;
 mod deliver;
 mod turn;
 
@@ -51,7 +52,7 @@ pub struct Work {
     crew: Crew,
     telegrams: Telegrams,
     sender: Sender,
-    pub closing: Option<Closing>,
+    closing: Option<Closing>,
     journal: Journal,
 }
 
