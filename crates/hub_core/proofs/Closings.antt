@@ -1,5 +1,5 @@
 -- How far the closing is, is nothing to what is kept.
-use Rattle.std.proofs.Common.{◌≡◌, ◌≢◌, ℕ, Bool, List, Option, Some, None, refl, sym, ap, subst}
+use Rattle.std.proofs.Common.{◌≡◌, ◌≢◌, ℕ, Bool, List, Option, Some, None, refl, sym, subst}
 use Rattle.line_model.specs.declared.fault.HubFault.{HubFault}
 use Rattle.line_model.specs.Record.{Placed}
 use Rattle.line_model.specs.LinkStory.{Story}
@@ -28,7 +28,7 @@ told_kept w x met f jobs n places k = record {
   cause = k.cause;
 }
 
-pub closing_kept : (p : ℕ) (s : Story) (w : Work) (met : Bool) (f : Option HubFault) (x : Option Closing) → ((jobs : List Job) → AreJobsOf w.reservation.devices jobs → IsAllOver jobs w.telegrams.turns w.journal.entries) → Keeps p s w met f → Keeps p s (record w { closing = x }) met f
+closing_kept : (p : ℕ) (s : Story) (w : Work) (met : Bool) (f : Option HubFault) (x : Option Closing) → ((jobs : List Job) → AreJobsOf w.reservation.devices jobs → IsAllOver jobs w.telegrams.turns w.journal.entries) → Keeps p s w met f → Keeps p s (record w { closing = x }) met f
 closing_kept p s w met f x over k = record {
   books = books_kept w x p k.books;
   jobs_are = k.jobs_are;
@@ -39,8 +39,11 @@ closing_kept p s w met f x over k = record {
 
 -- ---- a work that differs in how far its closing is
 
+pub kept_as : (p : ℕ) (s : Story) (w v : Work) (met : Bool) (f : Option HubFault) → v ≡ record w { closing = v.closing } → ((jobs : List Job) → AreJobsOf w.reservation.devices jobs → IsAllOver jobs w.telegrams.turns w.journal.entries) → Keeps p s w met f → Keeps p s v met f
+kept_as p s w v met f rest over k = subst (λ (u : Work). Keeps p s u met f) (sym rest) (closing_kept p s w met f v.closing over k)
+
 pub closing_run : {L : Type 0} (l m : L) (c d : TunnelKnown) (w v : Work) (f g : Option HubFault) (x : ℕ) → v ≡ record w { closing = v.closing } → SameRun (seen l c w f x) (seen m d v g x)
-closing_run l m c d w v f g x rest = subst (λ (u : Work). SameRun (seen l c w f x) (seen m d u g x)) (sym rest) (record { tasks = refl; devices = refl; turns = refl; missed = refl })
+closing_run l m c d w v f g x rest = subst (λ (u : Work). SameRun (seen l c w f x) (seen m d u g x)) (sym rest) (record { tasks = refl; devices = refl; turns = refl; workers = refl; missed = refl })
 
 pub begun_stays : (now : ℕ) (old new : Option Closing) → Begins now old new → old ≢ None → new ≡ old
 begun_stays now None new begins begun = absurd (begun refl)

@@ -36,9 +36,10 @@ impl Work {
         ensures closing { GoesOnAs (after_datagram now) self.old.closing self.new.closing }
         ensures rest { self.new ≡ record self.old { closing = self.new.closing } }
     {
-        if let Some(closing) = self.closing {
-            self.closing = Some(closing.got(now));
-        }
+        let Some(closing) = self.closing else {
+            return;
+        };
+        self.closing = Some(closing.got(now));
     }
 
     /// The gateway was asked to end the channel: a closing that has begun waits for the answer from this time on.
@@ -46,8 +47,9 @@ impl Work {
         ensures closing { GoesOnAs (λ (c : ClosingOfLine). Leaving now 0) self.old.closing self.new.closing }
         ensures rest { self.new ≡ record self.old { closing = self.new.closing } }
     {
-        if self.closing.is_some() {
-            self.closing = Some(Closing::asked(now));
+        if self.closing.is_none() {
+            return;
         }
+        self.closing = Some(Closing::asked(now));
     }
 }

@@ -110,6 +110,13 @@ impl Work {
         journal.into_list()
     }
 
+    /// How many entries the log has.
+    pub fn entries(&self) -> u64
+        ensures { result ≡ length self.now.journal.entries }
+    {
+        self.journal.len() as u64
+    }
+
     /// Whether a job has no end yet.
     pub fn is_unfinished(&self) -> bool
         ensures { HasUnfinished self.now result }

@@ -1,17 +1,14 @@
-use Rattle.std.proofs.Common.{◌≡◌, Some, None, ap, sym, subst, ◌∙◌}
-use Rattle.line_model.specs.Record.{entries}
-use Rattle.line_model.specs.LinkStory.{newest_time}
+use Rattle.std.proofs.Common.{ap, sym, subst, ◌∙◌}
 use Rattle.hub_work.specs.Closes.{Begins}
 use Rattle.hub_work.specs.declared.work.Work.{Work}
-use Rattle.hub_core.specs.Keeps.{IsAllDone, Keeps}
-use Rattle.hub_core.proofs.Closings.{closing_kept, closing_run, begun_stays}
+use Rattle.hub_core.specs.Keeps.{IsAllDone}
+use Rattle.hub_core.proofs.Closings.{kept_as, closing_run, begun_stays}
 use Rattle.hub_core.proofs.Endings.{some_begun}
 use Rattle.hub_core.proofs.hub.Hub.closing.Goals as goal
 
 pub invariant_of-self : goal.invariant_of-self
 invariant_of-self g c =
-    subst (λ (w : Work). Keeps (g.L.Link.place c.self.inside.tunnel.link) (g.L.Link.story c.self.inside.tunnel.link) w c.self.inside.met c.self.inside.tunnel.known.fault) (sym c.closing_at.ensures.rest)
-    (closing_kept _ _ c.self.inside.work _ _ c.closing_at.new.self.closing (subst (λ v. IsAllDone v.devices v.turns v.log) (sym c.self.view_is) c.requires.over) c.self.invariant)
+    kept_as _ _ c.self.inside.work c.closing_at.new.self _ _ c.closing_at.ensures.rest (subst (λ v. IsAllDone v.devices v.turns v.log) (sym c.self.view_is) c.requires.over) c.self.invariant
 
 pub returns-clause-begins : goal.returns-clause-begins
 returns-clause-begins g c =

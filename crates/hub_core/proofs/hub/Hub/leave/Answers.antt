@@ -1,8 +1,8 @@
 use Rattle.std.proofs.Common.{◌≡◌, ◌≢◌, Some, None, sym, ap, subst, refl, ◌∙◌}
 use Rattle.hub_work.specs.declared.work.Work.{Work}
-use Rattle.hub_core.specs.Keeps.{IsAllDone, Keeps}
+use Rattle.hub_core.specs.Keeps.{IsAllDone}
 use Rattle.hub_core.proofs.Calls.{leaves_failed, leaves_done, same_refl}
-use Rattle.hub_core.proofs.Closings.{closing_kept, closing_run, asked_since}
+use Rattle.hub_core.proofs.Closings.{kept_as, closing_run, asked_since}
 use Rattle.hub_core.proofs.Keeps.{none_inside}
 use Rattle.hub_core.proofs.Prompting.{prompts_told}
 use Rattle.hub_core.proofs.Quiet.{asides_fit}
@@ -29,10 +29,9 @@ pub invariant_of-self-2 : goal.invariant_of-self-2
 invariant_of-self-2 g c =
     let over : IsAllDone c.self.inside.work.reservation.devices c.self.inside.work.telegrams.turns c.self.inside.work.journal.entries = subst (λ v. IsAllDone v.devices v.turns v.log) (sym c.self.view_is) c.requires.over in
     let none : c.self.inside.tunnel.known.fault ≡ None = none_inside _ _ c.self.view_is c.requires.stands in
-    subst (λ (w : Work). Keeps (g.L.Link.place c.leave.new.self.link) (g.L.Link.story c.leave.new.self.link) w c.self.inside.met c.leave.new.self.known.fault) (sym c.asked_to_leave.ensures.rest)
-    (closing_kept _ _ c.self.inside.work _ _ c.asked_to_leave.new.self.closing over
+    kept_as _ _ c.self.inside.work c.asked_to_leave.new.self _ _ c.asked_to_leave.ensures.rest over
     (leaves_done _ _ _ _ _ _ _ none c.leave.ensures.events c.leave.ensures.grows c.self.inside.work c.self.inside.work c.in_ok-asked.asked c.now-now.result c.in_ok-asked.ensures.adds c.in_ok-asked.ensures.stands (same_refl c.self.inside.work)
-    c.moments_go_on.ensures.later (asides_fit c.self.inside.work c.now-now.result c.moments_go_on.ensures.aside) c.now-now.ensures.newest (prompts_told _ _ c.self.inside.work c.leave.ensures.prompt) c.self.invariant))
+    c.moments_go_on.ensures.later (asides_fit c.self.inside.work c.now-now.result c.moments_go_on.ensures.aside) c.now-now.ensures.newest (prompts_told _ _ c.self.inside.work c.leave.ensures.prompt) c.self.invariant)
 
 pub invariant_of-self-then-not-asked : goal.invariant_of-self-then-not-asked
 invariant_of-self-then-not-asked g c =
@@ -47,12 +46,12 @@ is_over-is_over-requires-clause-over g c =
 pub returns-in_err-asked-clause-since : goal.returns-in_err-asked-clause-since
 returns-in_err-asked-clause-since g c =
     let none : c.self.inside.tunnel.known.fault ≡ None = none_inside _ _ c.self.view_is c.requires.stands in
-    rw (← c.self.view_is) (call_since c.leave.result none c.leave.ensures.grows c.leave.ensures.script (record { tasks = refl; devices = refl; turns = refl; missed = refl }) c.leave.ensures.count (c.leave.ensures.cause none) c.leave.ensures.stands c.leave.ensures.fault)
+    rw (← c.self.view_is) (call_since c.leave.result none c.leave.ensures.grows c.leave.ensures.script (record { tasks = refl; devices = refl; turns = refl; workers = refl; missed = refl }) c.leave.ensures.count (c.leave.ensures.cause none) c.leave.ensures.stands c.leave.ensures.fault)
 
 pub returns-then-not-asked-clause-since : goal.returns-then-not-asked-clause-since
 returns-then-not-asked-clause-since g c =
     let none : c.self.inside.tunnel.known.fault ≡ None = none_inside _ _ c.self.view_is c.requires.stands in
-    rw (← c.self.view_is) (call_since c.leave.result none c.leave.ensures.grows c.leave.ensures.script (record { tasks = refl; devices = refl; turns = refl; missed = refl }) c.leave.ensures.count (c.leave.ensures.cause none) c.leave.ensures.stands c.leave.ensures.fault)
+    rw (← c.self.view_is) (call_since c.leave.result none c.leave.ensures.grows c.leave.ensures.script (record { tasks = refl; devices = refl; turns = refl; workers = refl; missed = refl }) c.leave.ensures.count (c.leave.ensures.cause none) c.leave.ensures.stands c.leave.ensures.fault)
 
 pub returns-clause-since : goal.returns-clause-since
 returns-clause-since g c =
