@@ -8,7 +8,7 @@ use Rattle.line_model.specs.declared.log.LogEntry.{LogEntry}
 use Rattle.line_model.specs.declared.log.LogWhat.{LogWhat}
 use Rattle.line_model.specs.declared.log.LogWhat.TheVariants.{Took, Done, Failed, Refused, Sent, Lost}
 use Rattle.line_model.specs.Log as logs
-use Rattle.line_model.specs.Log.{Job, JobState, job_of, state_of, numbered_from_one, takes_it, ends_it, TakesFree, OneDownloaderPerDevice}
+use Rattle.line_model.specs.Log.{Job, JobState, job_of, state_of, numbered_from_one, takes_it, ends_it, TakesFree, OneDownloaderPerDevice, TakesFirst, TakenInOrder}
 use Rattle.device_reservation.specs.declared.stage.Stage.{Stage}
 use Rattle.device_reservation.specs.declared.stage.Stage.TheVariants.{Untaken, Held, Over}
 use Rattle.device_reservation.specs.Reservation.{Reservation, device_of, stage_of, AreOneDevice, SameDevice, IsFree, IsHeld, with_stage, none_taken}
@@ -193,6 +193,23 @@ takes_free (Lost turn) jobs l reserved held = tt
 pub one_downloader : (jobs : List Job) (log : List LogEntry) → IsReserved jobs log → OneDownloaderPerDevice jobs log
 one_downloader jobs [] reserved = tt
 one_downloader jobs (e ∷ log) reserved = (takes_free e.what jobs log reserved.1 reserved.0, one_downloader jobs log reserved.1)
+
+-- ---- the first job that is free is taken
+
+takes_first : (what : LogWhat) (jobs : List Job) (log : List LogEntry) → IsReserved jobs log → MayEnter what (reservation_after jobs log) → TakesFirst jobs log what
+takes_first (Took job) jobs l reserved first = record {
+  free = free_in_log jobs l job reserved first.free;
+  first = λ other less there untaken free. first.first other less (free_from_log jobs l other reserved there untaken free);
+}
+takes_first (Done job) jobs l reserved held = tt
+takes_first (Failed job signs) jobs l reserved held = tt
+takes_first (Refused job op got expected) jobs l reserved held = tt
+takes_first (Sent turn) jobs l reserved held = tt
+takes_first (Lost turn) jobs l reserved held = tt
+
+pub taken_in_order : (jobs : List Job) (log : List LogEntry) → IsReserved jobs log → TakenInOrder jobs log
+taken_in_order jobs [] reserved = tt
+taken_in_order jobs (e ∷ log) reserved = (takes_first e.what jobs log reserved.1 reserved.0, taken_in_order jobs log reserved.1)
 
 -- ---- a job that is held in the reservation is held by the log
 

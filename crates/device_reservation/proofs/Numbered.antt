@@ -5,12 +5,12 @@ use Rattle.std.proofs.lemmas.Bool.{ne_eqb}
 use Rattle.std.proofs.lemmas.Option.{slice_get_within}
 use Rattle.line_model.specs.Log.{numbered_from_one}
 
-set_there : {X : Type 0} (xs : List X) (i : ℕ) (y : X) → i < length xs → slice_get (set xs i y) i ≡ Some y
+pub set_there : {X : Type 0} (xs : List X) (i : ℕ) (y : X) → i < length xs → slice_get (set xs i y) i ≡ Some y
 set_there [] i y lt = absurd (omega arith)
 set_there (x ∷ xs) zero y lt = refl
 set_there (x ∷ xs) (suc i) y lt = set_there xs i y (omega arith)
 
-set_elsewhere : {X : Type 0} (xs : List X) (i j : ℕ) (y : X) → j ≢ i → slice_get (set xs i y) j ≡ slice_get xs j
+pub set_elsewhere : {X : Type 0} (xs : List X) (i j : ℕ) (y : X) → j ≢ i → slice_get (set xs i y) j ≡ slice_get xs j
 set_elsewhere [] i j y apart = refl
 set_elsewhere (x ∷ xs) zero zero y apart = absurd (apart refl)
 set_elsewhere (x ∷ xs) zero (suc j) y apart = refl

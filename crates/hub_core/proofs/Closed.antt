@@ -5,7 +5,7 @@ use Rattle.line_model.specs.declared.group.GroupTurn.{GroupTurn}
 use Rattle.line_model.specs.declared.log.LogEntry.{LogEntry}
 use Rattle.line_model.specs.declared.log.LogWhat.{LogWhat}
 use Rattle.line_model.specs.declared.log.LogWhat.TheVariants.{Took, Done, Failed, Refused, Sent, Lost}
-use Rattle.line_model.specs.Log.{Job, JobState, Untaken, Held, Over, job_of, takes_it, ends_it, state_after, state_of, JobUnfinished, TurnUnfinished, MayFollow, EndsHeld, IsLog}
+use Rattle.line_model.specs.Log.{Job, JobState, Untaken, Held, Over, job_of, takes_it, ends_it, state_after, state_of, JobUnfinished, TurnUnfinished, HoldsNone, MayFollow, EndsHeld, IsLog}
 
 same_number : (j k : ℕ) → (j == k) ≡ true → j ≡ k
 same_number j k e = grind (arith, e)
@@ -33,7 +33,7 @@ ends_held jobs turns worker k log (Sent j) e h = absurd (cc)
 ends_held jobs turns worker k log (Lost j) e h = absurd (cc)
 
 module _ (jobs : List Job) (turns : List GroupTurn) where
-  taken_now : (k : ℕ) (e : LogEntry) (log : List LogEntry) → takes_it k e.what ≡ true → MayFollow jobs turns e.worker log e.what → (job_of jobs k ≢ None) × (state_of k log ≡ Untaken) × (1 ≤ e.worker)
+  taken_now : (k : ℕ) (e : LogEntry) (log : List LogEntry) → takes_it k e.what ≡ true → MayFollow jobs turns e.worker log e.what → (job_of jobs k ≢ None) × (state_of k log ≡ Untaken) × (1 ≤ e.worker) × HoldsNone e.worker log
   taken_now k e log t h = subst (MayFollow jobs turns e.worker log) (takes k e.what t) h
 
   over_stays : (k : ℕ) (e : LogEntry) (log : List LogEntry) → MayFollow jobs turns e.worker log e.what → state_of k log ≡ Over → state_of k (e ∷ log) ≡ Over

@@ -1,16 +1,21 @@
 -- How far the closing is, is nothing to what is kept.
-use Rattle.std.proofs.Common.{ℕ, Bool, List, Option}
+use Rattle.std.proofs.Common.{◌≡◌, ◌≢◌, ℕ, Bool, List, Option, Some, None, refl, sym, subst}
 use Rattle.line_model.specs.declared.fault.HubFault.{HubFault}
 use Rattle.line_model.specs.Record.{Placed}
 use Rattle.line_model.specs.LinkStory.{Story}
 use Rattle.line_model.specs.Moments.{moments, time}
 use Rattle.line_model.specs.Log.{Job}
+use Rattle.tunnel_link.specs.declared.known.Known.{Known as TunnelKnown}
+use Rattle.line_model.specs.Closing as line
 use Rattle.hub_work.specs.declared.closing.Closing.{Closing}
 use Rattle.hub_work.specs.declared.work.Work.{Work}
 use Rattle.hub_work.specs.Books.{AreJobsOf}
+use Rattle.hub_work.specs.Closes.{closing_of, Begins, GoesOnAs}
 use Rattle.hub_work.specs.Works.{KeepsBooks}
 use Rattle.hub_core.specs.Keeps.{IsAllOver, KeepsTold, Keeps}
+use Rattle.hub_core.specs.Seen.{SameRun}
 use Rattle.hub_core.proofs.Losing.{closing_fits}
+use Rattle.hub_core.proofs.View.{seen}
 
 books_kept : (w : Work) (x : Option Closing) (at : ℕ) → KeepsBooks at w → KeepsBooks at (record w { closing = x })
 books_kept w x at b = record { written = b.written; telling = b.telling; live = b.live; counts = record { unfinished = b.counts.unfinished; room = b.counts.room } }
@@ -23,7 +28,7 @@ told_kept w x met f jobs n places k = record {
   cause = k.cause;
 }
 
-pub closing_kept : (p : ℕ) (s : Story) (w : Work) (met : Bool) (f : Option HubFault) (x : Option Closing) → ((jobs : List Job) → AreJobsOf w.reservation.devices jobs → IsAllOver jobs w.telegrams.turns w.journal.entries) → Keeps p s w met f → Keeps p s (record w { closing = x }) met f
+closing_kept : (p : ℕ) (s : Story) (w : Work) (met : Bool) (f : Option HubFault) (x : Option Closing) → ((jobs : List Job) → AreJobsOf w.reservation.devices jobs → IsAllOver jobs w.telegrams.turns w.journal.entries) → Keeps p s w met f → Keeps p s (record w { closing = x }) met f
 closing_kept p s w met f x over k = record {
   books = books_kept w x p k.books;
   jobs_are = k.jobs_are;
@@ -31,3 +36,20 @@ closing_kept p s w met f x over k = record {
   told = λ jobs of places e. told_kept w x met f jobs _ places (k.told jobs of places e);
   prompt = k.prompt;
 }
+
+-- ---- a work that differs in how far its closing is
+
+pub kept_as : (p : ℕ) (s : Story) (w v : Work) (met : Bool) (f : Option HubFault) → v ≡ record w { closing = v.closing } → ((jobs : List Job) → AreJobsOf w.reservation.devices jobs → IsAllOver jobs w.telegrams.turns w.journal.entries) → Keeps p s w met f → Keeps p s v met f
+kept_as p s w v met f rest over k = subst (λ (u : Work). Keeps p s u met f) (sym rest) (closing_kept p s w met f v.closing over k)
+
+pub closing_run : {L : Type 0} (l m : L) (c d : TunnelKnown) (w v : Work) (f g : Option HubFault) (x : ℕ) → v ≡ record w { closing = v.closing } → SameRun (seen l c w f x) (seen m d v g x)
+closing_run l m c d w v f g x rest = subst (λ (u : Work). SameRun (seen l c w f x) (seen m d u g x)) (sym rest) (record { tasks = refl; devices = refl; turns = refl; workers = refl; missed = refl })
+
+pub begun_stays : (now : ℕ) (old new : Option Closing) → Begins now old new → old ≢ None → new ≡ old
+begun_stays now None new begins begun = absurd (begun refl)
+begun_stays now (Some c) new begins begun = begins
+
+-- the gateway was asked to end the channel in a closing that had begun
+pub asked_since : (now : ℕ) (old new : Option Closing) → GoesOnAs (λ (s : line.Closing). line.Leaving now 0) old new → old ≢ None → (d : Closing) × (new ≡ Some d) × (closing_of d ≡ line.Leaving now 0)
+asked_since now None new asked begun = absurd (begun refl)
+asked_since now (Some c) new asked begun = asked

@@ -19,8 +19,8 @@ use Rattle.tunnel_link.proofs.Times.{times_told}
 use Rattle.hub_core.specs.declared.answers.Finished.{Finished}
 use Rattle.hub_core.specs.declared.answers.Finished.TheVariants as end
 use Rattle.hub_work.specs.declared.closing.Closing.{Closing}
-use Rattle.hub_work.specs.Closes.{closing_of}
-use Rattle.hub_core.specs.Closes.{capped, HasCome, resumed, Resumes, Closes, ClosesBy, Begins, IsOver, HasListened, AsksNow, has_done, HasDone, GoesSo}
+use Rattle.hub_work.specs.Closes.{closing_of, Begins}
+use Rattle.hub_core.specs.Closes.{capped, HasCome, resumed, Resumes, Closes, ClosesBy, IsOver, HasListened, AsksNow, has_done, HasDone, GoesSo}
 use Rattle.hub_core.specs.Pumps.{AddsSo}
 use Rattle.hub_core.specs.Taking.{is_got as got_one}
 use Rattle.hub_core.proofs.Closes.{resumed_both, closing_is, resumed_sent, resumed_asked, sent_time, brings_after, capped_asked, capped_began, closes_by}

@@ -22,11 +22,11 @@ use Rattle.tunnel_link.proofs.Growth.{entries_append}
 use Rattle.tunnel_link.proofs.Times.{times_told}
 use Rattle.hub_work.specs.declared.closing.Closing.{Closing}
 use Rattle.hub_work.specs.declared.work.Work.{Work}
-use Rattle.hub_work.specs.Closes.{closing_of}
+use Rattle.hub_work.specs.Closes.{closing_of, Begins}
 use Rattle.hub_work.specs.Downloaders.{Task, AreJobsWith}
 use Rattle.hub_work.specs.Follows.{StaysFitting}
 use Rattle.hub_work.specs.Polls.{PollsRightly, came_for, closing_so_far}
-use Rattle.hub_core.specs.Closes.{capped, resumed, Begins, HasntWaited, WaitsNow, MayAwait, MayAwaitNow}
+use Rattle.hub_core.specs.Closes.{capped, resumed, HasntWaited, WaitsNow, MayAwait, MayAwaitNow}
 use Rattle.hub_core.specs.Keeps.{Keeps}
 use Rattle.hub_core.specs.Leaving.{EachFrom, WaitsOn}
 use Rattle.hub_core.specs.Polls.{has_poll, SendsOnly}

@@ -18,7 +18,8 @@ use Rattle.tunnel_link.proofs.Growth.{entries_append}
 use Rattle.tunnel_link.proofs.Places.{unmoved}
 use Rattle.tunnel_link.proofs.SeekKept.{grows_as}
 use Rattle.hub_work.specs.declared.closing.Closing.{Closing}
-use Rattle.hub_core.specs.Closes.{capped, HasCome, resumed, Resumes, Begins, HasListened, AsksNow}
+use Rattle.hub_work.specs.Closes.{Begins}
+use Rattle.hub_core.specs.Closes.{capped, HasCome, resumed, Resumes, HasListened, AsksNow}
 use Rattle.hub_core.specs.Leaving.{EachFrom, EachOn, ClosesOn}
 use Rattle.hub_core.specs.Pumps.{AddsSo}
 use Rattle.hub_core.proofs.Closes.{resumed_both, closing_is, capped_began}

@@ -53,7 +53,7 @@ closing_fits jobs v x now at l f = record {
 }
   where
     held_fits : {ms : List Moment} (k worker : ℕ) (job : Job) → FitsJob v now ms k worker job → FitsJob (record v { closing = x }) now ms k worker job
-    held_fits k worker job h = record { from_1 = h.from_1; state = h.state; there = h.there; device = h.device; plan = h.plan; fits = h.fits; flight = h.flight; holds = h.holds; nobody = h.nobody }
+    held_fits k worker job h = record { from_1 = h.from_1; state = h.state; there = h.there; device = h.device; plan = h.plan; fits = h.fits; flight = h.flight; holds = h.holds }
 
 pub closing_follows : (AreSo : List Moment → Type 0) (now : ℕ) (w v : Work) (x : Option Closing) → FollowsAll AreSo now w v → FollowsAll AreSo now w (record v { closing = x })
 closing_follows AreSo now w v x f jobs at added l books fits rise so then = closing_fits jobs v x now (place_or at added) (added ++ l) (f jobs at added l books fits rise so then)

@@ -30,7 +30,7 @@ use Rattle.hub_work.specs.Downloaders.{Task, AreJobsWith}
 use Rattle.hub_work.specs.Fits.{Fits}
 use Rattle.hub_work.specs.Follows.{StaysFitting}
 use Rattle.hub_work.specs.Polls.{PollsRightly, came_for, closing_so_far}
-use Rattle.hub_core.specs.Closes.{Begins}
+use Rattle.hub_work.specs.Closes.{Begins}
 use Rattle.hub_core.specs.Keeps.{Keeps}
 use Rattle.hub_core.specs.Polls.{has_poll, SendsOnly, PollsOnce, Polls, closing_at, PollsOrNot, PollsInClosing}
 use Rattle.hub_core.specs.Seen.{Seen, SameRun, AreJobs, hub_job_of}
@@ -183,7 +183,7 @@ closes_unpolled hub_jobs turns log crew closing s t g jobs of = grows_as SendsOn
 -- ---- a run of two calls
 
 pub runs_on : {L : Type 0} (x y z : Seen L) → SameRun x y → SameRun y z → SameRun x z
-runs_on x y z f g = record { tasks = g.tasks ∙ f.tasks; devices = g.devices ∙ f.devices; turns = g.turns ∙ f.turns; missed = g.missed ∙ f.missed }
+runs_on x y z f g = record { tasks = g.tasks ∙ f.tasks; devices = g.devices ∙ f.devices; turns = g.turns ∙ f.turns; workers = g.workers ∙ f.workers; missed = g.missed ∙ f.missed }
 
 pub ok_as : {X : Type 0} {P Q : Type 0} (result : Result X HubFault) → (P → Q) → OnOk result P → OnOk result Q
 ok_as (Ok x) to h = to h

@@ -82,7 +82,7 @@ module _ {L : Type 0} {story_of : L → Story} {script_of : L → Script} {fault
   since_again {a = a} {b = b} {c = c} first then = record {
     grows = goes_again (story_of a.link) (story_of b.link) (story_of c.link) first.grows then.grows;
     script = then.script ∙ first.script;
-    run = record { tasks = then.run.tasks ∙ first.run.tasks; devices = then.run.devices ∙ first.run.devices; turns = then.run.turns ∙ first.run.turns; missed = then.run.missed ∙ first.run.missed };
+    run = record { tasks = then.run.tasks ∙ first.run.tasks; devices = then.run.devices ∙ first.run.devices; turns = then.run.turns ∙ first.run.turns; workers = then.run.workers ∙ first.run.workers; missed = then.run.missed ∙ first.run.missed };
     count = (let one : faults_of a.link ≤ faults_of b.link = first.count in let two : faults_of b.link ≤ faults_of c.link = then.count in omega (arith, one, two));
     caused = λ before was. then.caused before (first.caused before was);
   }
@@ -91,7 +91,7 @@ module _ {L : Type 0} {story_of : L → Story} {script_of : L → Script} {fault
   since_itself {a = a} = record {
     grows = (stays (story_of a.link) (story_of a.link) refl).on;
     script = refl;
-    run = record { tasks = refl; devices = refl; turns = refl; missed = refl };
+    run = record { tasks = refl; devices = refl; turns = refl; workers = refl; missed = refl };
     count = omega arith;
     caused = λ before was. was;
   }

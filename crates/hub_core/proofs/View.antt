@@ -6,6 +6,7 @@ use Rattle.tunnel_link.specs.declared.known.Known.{Known as TunnelKnown}
 use Rattle.hub_work.specs.declared.work.Work.{Work}
 use Rattle.hub_work.specs.Downloaders.{states, task_of_state, task_of_hub_job}
 use Rattle.hub_work.specs.Works.{SameRun as SameWorkRun, tasks}
+use Rattle.hub_work.proofs.Crews.{as_many}
 use Rattle.hub_core.specs.Taking.{SameWork}
 use Rattle.hub_core.specs.Seen.{Seen, SameRun, hub_job_of, tasks_seen}
 
@@ -25,7 +26,7 @@ abbrev pub seen : {L : Type 0} → L → TunnelKnown → Work → Option HubFaul
 seen link known w fault missed = record { link = link; known = known; jobs = map hub_job_of w.downloaders; devices = w.reservation.devices; crew = w.crew; turns = w.telegrams.turns; log = w.journal.entries; fault = fault; closing = w.closing; missed = missed }
 
 pub same_run : {L : Type 0} (l m : L) (c d : TunnelKnown) (w v : Work) (f g : Option HubFault) (x : ℕ) → SameWork w v → SameRun (seen l c w f x) (seen m d v g x)
-same_run l m c d w v f g x s = record { tasks = tasks_stay w v s.tasks_are; devices = ap (λ r. r.devices) s.reservation; turns = s.turns; missed = refl }
+same_run l m c d w v f g x s = record { tasks = tasks_stay w v s.tasks_are; devices = ap (λ r. r.devices) s.reservation; turns = s.turns; workers = as_many w.crew v.crew s.held; missed = refl }
 
 pub work_run : {L : Type 0} (l m : L) (c d : TunnelKnown) (w v : Work) (f g : Option HubFault) (x : ℕ) → SameWorkRun w v → SameRun (seen l c w f x) (seen m d v g x)
-work_run l m c d w v f g x s = record { tasks = tasks_stay w v s.tasks_are; devices = s.devices; turns = s.turns; missed = refl }
+work_run l m c d w v f g x s = record { tasks = tasks_stay w v s.tasks_are; devices = s.devices; turns = s.turns; workers = s.workers; missed = refl }

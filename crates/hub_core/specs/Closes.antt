@@ -11,7 +11,7 @@ use Rattle.tunnel_link.specs.Rights.{WhereTold}
 use Rattle.hub_work.specs.declared.closing.Closing.{Closing}
 use Rattle.hub_core.specs.declared.answers.Finished.{Finished}
 use Rattle.hub_core.specs.declared.answers.Finished.TheVariants as end
-use Rattle.hub_work.specs.Closes.{closing_of, after_datagram}
+use Rattle.hub_work.specs.Closes.{closing_of, after_datagram, GoesOnAs}
 use Rattle.hub_core.specs.Pumps.{AddsSo}
 
 -- ---- how far it is
@@ -45,13 +45,7 @@ abbrev pub after_poll : Bool → Loss → ℕ → line.Closing → line.Closing
 after_poll got loss now s = if is_told loss then line.Leaving now 0 else (if got then after_datagram now s else s)
 
 abbrev pub ClosesBy : Bool → Loss → ℕ → Option Closing → Option Closing → Type 0
-ClosesBy got loss now None new = new ≡ None
-ClosesBy got loss now (Some c) new = (d : Closing) × (new ≡ Some d) × (closing_of d ≡ after_poll got loss now (closing_of c))
-
--- where it hasn't begun it begins at this time, and else it stays
-abbrev pub Begins : ℕ → Option Closing → Option Closing → Type 0
-Begins now None new = (d : Closing) × (new ≡ Some d) × (closing_of d ≡ line.Listening now 0)
-Begins now (Some c) new = new ≡ Some c
+ClosesBy got loss now old new = GoesOnAs (after_poll got loss now) old new
 
 -- ---- whether it is over
 

@@ -9,7 +9,7 @@ use Rattle.line_model.specs.declared.log.Report.{Report}
 use Rattle.line_model.specs.Headline.{Keeps, IsGoodJob}
 use Rattle.line_model.specs.Lines.{Script}
 use Rattle.line_model.specs.LinkStory.{Story, record_in}
-use Rattle.line_model.specs.Log.{Job, IsLog, OneDownloaderPerDevice, AllOver, TurnUnfinished}
+use Rattle.line_model.specs.Log.{Job, IsLog, OneDownloaderPerDevice, TakenInOrder, AllOver, TurnUnfinished}
 use Rattle.tunnel_link.specs.Goes.{GoesOn}
 use Rattle.tunnel_link.specs.Rights.{FailsWhere, WhereTold}
 use Rattle.hub_work.specs.declared.job.HubJob.{HubJob}
@@ -37,9 +37,11 @@ pub record TellsRun (workers : ℕ) (tasks : List Task) (devices : List IndAddr)
   -- and a fault has its cause
   pub fault : (jobs : List Job) → AreJobsWith tasks jobs → FaultRightIn jobs (log_of report) report.fault (record_in story)
   pub dropped : DropsIn report.dropped (record_in story)
-  -- for any jobs of these devices: the log is one of theirs, no device had two downloaders at once, and the channel was left rightly
+  -- for any jobs of these devices: the log is one of theirs, no device had two downloaders at once, each job that was taken was the first that was free,
+  -- and the channel was left rightly
   pub form : (jobs : List Job) → AreJobsOf devices jobs → IsLog jobs turns place (log_of report)
   pub alone : (jobs : List Job) → AreJobsOf devices jobs → OneDownloaderPerDevice jobs (log_of report)
+  pub in_order : (jobs : List Job) → AreJobsOf devices jobs → TakenInOrder jobs (log_of report)
   pub leaves : (jobs : List Job) → AreJobsOf devices jobs → LeavesOver jobs turns story (log_of report)
   pub seats : IsOfWorkers workers (log_of report)
   -- without a fault every job has its end, every group telegram is told, the closing is over, and all that was heard is told

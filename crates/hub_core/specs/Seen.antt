@@ -1,7 +1,7 @@
 -- What contracts see of a hub: its link, what its end of the tunnel knows, its jobs, by device and plan, their devices, what each worker holds and how
 -- much of what came for it waits, its group telegrams, its log, the newest entry first, why it has ended, how far its closing is, and how many
 -- indications were counted as missed. After a fault each later call answers that fault, and the link stays as it is.
-use Rattle.std.specs.Prelude.{◌≡◌, ℕ, List, map, Option, Some, None, Result, Err}
+use Rattle.std.specs.Prelude.{◌≡◌, ℕ, List, length, map, Option, Some, None, Result, Err}
 use Rattle.knx_model.specs.declared.address.IndAddr.{IndAddr}
 use Rattle.line_model.specs.declared.fault.HubFault.{HubFault}
 use Rattle.line_model.specs.declared.group.GroupTurn.{GroupTurn}
@@ -37,11 +37,12 @@ tasks_seen jobs = map task_of_hub_job jobs
 abbrev pub AreJobs : List HubJob → List Job → Type 0
 AreJobs hub_jobs jobs = AreJobsWith (tasks_seen hub_jobs) jobs
 
--- the same jobs and the same group telegrams, and no indication more is counted as missed
+-- the same jobs, the same group telegrams and as many workers, and no indication more is counted as missed
 pub record SameRun {L : Type 0} (old new : Seen L) : Type 0 where
   pub tasks : tasks_seen new.jobs ≡ tasks_seen old.jobs
   pub devices : new.devices ≡ old.devices
   pub turns : new.turns ≡ old.turns
+  pub workers : length new.crew ≡ length old.crew
   pub missed : new.missed ≡ old.missed
 
 -- a call of a hub that had this fault before, its answer, the fault after it, and that its link stayed as it was

@@ -3,7 +3,9 @@
 //!
 //! ```
 //! /// Does all jobs as the hub's only worker, in so many turns at most: it polls where a turn has nothing to do.
-//! fn work<L: Link>(hub: &mut Hub<L>, turns: u32) -> Result<bool, HubFault> {
+//! fn work<L: Link>(hub: &mut Hub<L>, turns: u32) -> Result<bool, HubFault>
+//!     requires { 1 ≤ length hub.old.crew }
+//! {
 //!     for _ in 0..turns {
 //!         match hub.turn(1)? {
 //!             Turned::NoMore => return Ok(true),

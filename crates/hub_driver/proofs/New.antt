@@ -9,7 +9,7 @@ use Rattle.line_model.specs.declared.log.Report.{Report}
 use Rattle.line_model.specs.Headline.{IsDisciplined, KeepsFull, Keeps, IsGoodJob}
 use Rattle.line_model.specs.Leaves.{StaysOpen, since_last, LeavesRightly}
 use Rattle.line_model.specs.LinkStory.{Story, Untold, Recorded, Full, IsNewLink, record_in, places_in}
-use Rattle.line_model.specs.Log.{Job, IsLog, OneDownloaderPerDevice, latest}
+use Rattle.line_model.specs.Log.{Job, IsLog, OneDownloaderPerDevice, TakenInOrder, latest}
 use Rattle.line_model.specs.Record.{Placed, entries, placed, counted}
 use Rattle.line_law.specs.Safe.{IsSafe, KeepsSafe, EverySafeInterleaving}
 use Rattle.hub_work.specs.Downloaders.{Task}
@@ -100,6 +100,7 @@ module _ (law : EverySafeInterleaving) (workers : ℕ) (tasks : List Task) (devi
         dropped = subst (λ n. DropsIn n (record_in s)) (sym none_dropped) (new_drops_none s new);
         form = λ jobs are. subst (λ (l : List LogEntry). IsLog jobs turns place l) empty tt;
         alone = λ jobs are. subst (λ (l : List LogEntry). OneDownloaderPerDevice jobs l) empty tt;
+        in_order = λ jobs are. subst (λ (l : List LogEntry). TakenInOrder jobs l) empty tt;
         leaves = λ jobs are. subst (λ (l : List LogEntry). LeavesOver jobs turns s l) empty (new_leaves jobs turns s new);
         seats = subst (λ (l : List LogEntry). IsOfWorkers workers l) empty tt;
         over = λ fine. absurd (faulty fine);

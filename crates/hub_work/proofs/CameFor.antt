@@ -159,7 +159,7 @@ RisenSoFar n now old new = (at : ℕ) → KeepsBooks at old → RisesWhere (λ p
 
 -- a job is held by one worker
 pub held_once : (w : Work) (at p q : ℕ) (g h : Held) → KeepsBooks at w → Some g ≡ held_at w.crew p → Some h ≡ held_at w.crew q → g.job ≡ h.job → p ≡ q
-held_once w at p q g h books eg eh same = by_stage (books.live.holds p g.job (job_at w.crew p g eg)) (subst (λ k. stage_of w.reservation k ≡ Some (IsHeldBy (suc q))) (sym same) (books.live.holds q h.job (job_at w.crew q h eh))) where
+held_once w at p q g h books eg eh same = by_stage ((books.live.holds p g.job).0 (job_at w.crew p g eg)) (subst (λ k. stage_of w.reservation k ≡ Some (IsHeldBy (suc q))) (sym same) ((books.live.holds q h.job).0 (job_at w.crew q h eh))) where
   by_stage : stage_of w.reservation g.job ≡ Some (IsHeldBy (suc p)) → stage_of w.reservation g.job ≡ Some (IsHeldBy (suc q)) → p ≡ q
   by_stage a b = let e : Some (IsHeldBy (suc p)) ≡ Some (IsHeldBy (suc q)) = sym a ∙ b in cc
 

@@ -1,6 +1,6 @@
 -- A hub's work fits the record after a confirmation: of nobody's request, of a group telegram, and of a job's frame.
-use Rattle.std.proofs.Common.{◌≡◌, ◌≢◌, inl, inr, ◌↔◌, ℕ, ◌-◌, ◌≤◌, Bool, true, false, List, ◌∷◌, length, Option, Some, None, refl, sym, ap, subst, ◌∙◌}
-use Rattle.std.proofs.lemmas.Bool.{cases_eq, cases_lt}
+use Rattle.std.proofs.Common.{◌≡◌, ◌≢◌, inl, inr, ◌↔◌, ℕ, ◌-◌, ◌≤◌, Bool, true, false, List, ◌∷◌, Option, Some, None, refl, sym, ap, subst, ◌∙◌}
+use Rattle.std.proofs.lemmas.Bool.{cases_eq}
 use Rattle.line_model.specs.declared.group.GroupTurn.{GroupTurn}
 use Rattle.line_model.specs.Moments.{Moment, between}
 use Rattle.line_model.specs.Log.{Job, Untaken, Held, state_of}
@@ -24,7 +24,7 @@ use Rattle.hub_work.specs.Comes.{Confirms, ConfirmationFollows}
 use Rattle.hub_work.specs.Works.{KeepsBooks, SameBooks}
 use Rattle.hub_work.specs.Telegrams.{Telling, after_confirmation}
 use Rattle.hub_work.proofs.Changed.{changed_there, changed_elsewhere}
-use Rattle.hub_work.proofs.Crews.{unheld, same_slot, same_worker, within_crew, crew_holds_worker}
+use Rattle.hub_work.proofs.Crews.{unheld, same_slot, same_worker, crew_holds_worker}
 use Rattle.hub_work.proofs.Events.{fits_on}
 use Rattle.hub_work.proofs.JobEvents.{job_on, not_flying, others_become, confirmed_becomes, landed}
 use Rattle.hub_work.proofs.Moments.{changed_books}
@@ -107,16 +107,13 @@ module _ (laws : Laws) (jobs : List Job) (old new : Work) (error : Bool) (before
       not_its : (k worker since : ℕ) (job : Job) → FitsJob old before (between since at l) k worker job → k ≢ h.job → old.sender ≡ Worker worker → ⊥
       not_its k worker since job j apart s =
           let is : by ≡ worker = same_worker by worker (sym sender ∙ s) in
-          apart (same_slot old.crew h worker k job _ (subst (λ w. Some h ≡ held_at old.crew (w - 1)) is holds) (j.holds (within_crew old.crew (worker - 1) h (subst (λ w. Some h ≡ held_at old.crew (w - 1)) is holds))))
+          apart (same_slot old.crew h worker k job _ (subst (λ w. Some h ≡ held_at old.crew (w - 1)) is holds) j.holds)
 
 -- ---- each case of the call
 
--- a job whose worker holds none has nothing in flight
+-- no job is held by a worker that holds none
 idle_worker : (old : Work) (before : ℕ) (x : List Moment) (k worker : ℕ) (job : Job) (j : FitsJob old before x k worker job) → None ≡ held_at old.crew (worker - 1) → flies j.state.phase ≡ false
-idle_worker old before x k worker job j none = elim (cases_lt (worker - 1) (length (holdings old.crew))) [
-  | inl lt ↦ absurd (unheld old.crew (worker - 1) _ none (j.holds lt))
-  | inr le ↦ ap flies (j.nobody le)
-]
+idle_worker old before x k worker job j none = absurd (unheld old.crew (worker - 1) _ none j.holds)
 
 sender_books : (old : Work) (s : Sender) → SameBooks old (record old { sender = s })
 sender_books old s = record { reservation = refl; turns = refl; told = refl; held = refl; journal = refl; unfinished = refl; tasks_are = refl; closing = refl }

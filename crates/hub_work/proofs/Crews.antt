@@ -1,7 +1,7 @@
 -- What the workers hold, and the jobs that they hold by the log.
-use Rattle.std.proofs.Common.{◌≡◌, ◌≢◌, Bool, true, ℕ, zero, suc, ◌-◌, ◌<◌, ◌≤◌, List, [], ◌∷◌, length, map, set, Option, Some, None, refl, sym, ap, subst, ◌∙◌, arith}
+use Rattle.std.proofs.Common.{◌≡◌, ◌≢◌, Bool, true, ℕ, zero, suc, ◌-◌, ◌≤◌, List, [], ◌∷◌, length, map, set, Option, Some, None, refl, sym, ap, subst, ◌∙◌, arith}
 use Rattle.std.specs.Prelude.{slice_get}
-use Rattle.std.proofs.lemmas.List.{map-set}
+use Rattle.std.proofs.lemmas.List.{length-map, map-set}
 use Rattle.line_model.specs.Moments.{Moment, between}
 use Rattle.line_model.specs.Log.{Job, Held, job_of, state_of}
 use Rattle.device_reservation.specs.declared.stage.Stage.TheVariants.{Held as IsHeldBy}
@@ -22,11 +22,6 @@ pub holding_at : (crew : List (Option Holds)) (place : ℕ) (h : Holds) → Some
 holding_at [] place h e = absurd (cc)
 holding_at (x ∷ crew) zero h e = ap (λ (o : Option Holds). Some (holding_in o)) (sym e)
 holding_at (x ∷ crew) (suc place) h e = holding_at crew place h e
-
-pub within_crew : (crew : List (Option Holds)) (place : ℕ) (h : Holds) → Some h ≡ held_at crew place → place < length (holdings crew)
-within_crew [] place h e = absurd (cc)
-within_crew (x ∷ crew) zero h e = omega arith
-within_crew (x ∷ crew) (suc place) h e = let lt : place < length (holdings crew) = within_crew crew place h e in omega arith
 
 pub job_at : (crew : List (Option Holds)) (place : ℕ) (h : Holds) → Some h ≡ held_at crew place → slice_get (jobs_held crew) place ≡ Some (Some h.job)
 job_at [] place h e = absurd (cc)
@@ -117,27 +112,10 @@ begun_elsewhere zero (suc other) (y ∷ held) apart = refl
 begun_elsewhere (suc place) zero (y ∷ held) apart = refl
 begun_elsewhere (suc place) (suc other) (y ∷ held) apart = begun_elsewhere place other held (λ e. apart (ap suc e))
 
-pub length_begun : (place : ℕ) (held : List (Option Holding)) → length (after_begun place held) ≡ length held
-length_begun place [] = refl
-length_begun zero (y ∷ held) = refl
-length_begun (suc place) (y ∷ held) = ap suc (length_begun place held)
-
 -- ---- a slot is written
 
 pub set_holdings : (crew : List (Option Holds)) (place : ℕ) (o : Option Holds) → holdings (set crew place o) ≡ set (holdings crew) place (holding_in o)
 set_holdings crew place o = map-set holding_in crew place o
-
-pub slot_there : (held : List (Option Holding)) (place : ℕ) (o : Option Holding) → place < length held → slice_get (set held place o) place ≡ Some o
-slot_there [] place o lt = absurd (omega arith)
-slot_there (x ∷ held) zero o lt = refl
-slot_there (x ∷ held) (suc place) o lt = slot_there held place o (omega arith)
-
-pub slot_elsewhere : (held : List (Option Holding)) (place other : ℕ) (o : Option Holding) → other ≢ place → slice_get (set held place o) other ≡ slice_get held other
-slot_elsewhere [] place other o apart = refl
-slot_elsewhere (x ∷ held) zero zero o apart = absurd (apart refl)
-slot_elsewhere (x ∷ held) zero (suc other) o apart = refl
-slot_elsewhere (x ∷ held) (suc place) zero o apart = refl
-slot_elsewhere (x ∷ held) (suc place) (suc other) o apart = slot_elsewhere held place other o (λ e. apart (ap suc e))
 
 -- a worker that holds none
 pub unheld : (crew : List (Option Holds)) (place : ℕ) (x : Holding) → None ≡ held_at crew place → slice_get (holdings crew) place ≡ Some (Some x) → ⊥
@@ -146,12 +124,25 @@ unheld (None ∷ crew) zero x e h = cc
 unheld (Some y ∷ crew) zero x e h = cc
 unheld (y ∷ crew) (suc place) x e h = unheld crew place x e h
 
+pub no_job : (crew : List (Option Holds)) (place : ℕ) → None ≡ held_at crew place → (k : ℕ) → slice_get (jobs_held crew) place ≢ Some (Some k)
+no_job [] place e k h = cc
+no_job (None ∷ crew) zero e k h = cc
+no_job (Some x ∷ crew) zero e k h = cc
+no_job (x ∷ crew) (suc place) e k h = no_job crew place e k h
+
+-- as many workers
+pub same_length : (old new : List (Option Holds)) → holdings new ≡ holdings old → length new ≡ length old
+same_length old new e = sym (length-map new holding_in) ∙ (ap (λ (hs : List (Option Holding)). length hs) e ∙ length-map old holding_in)
+
+pub as_many : (old new : List (Option Holds)) → jobs_held new ≡ jobs_held old → length new ≡ length old
+as_many old new e = sym (length-map new job_in) ∙ (ap (λ (js : List (Option ℕ)). length js) e ∙ length-map old job_in)
+
 -- ---- by the log
 
 pub crew_holds : (w : Work) (jobs : List Job) (at place : ℕ) (h : Holds) → KeepsBooks at w → AreJobsOf w.reservation.devices jobs → Some h ≡ held_at w.crew place → (since : ℕ) × (state_of h.job w.journal.entries ≡ Held (suc place) since)
 crew_holds w jobs at place h books of e =
     held_by_log jobs w.journal.entries h.job (suc place) (books.written.reserved jobs of)
-    (subst (λ (r : Reservation). stage_of r h.job ≡ Some (IsHeldBy (suc place))) (sym (books.live.reservation_is jobs of)) (books.live.holds place h.job (job_at w.crew place h e)))
+    (subst (λ (r : Reservation). stage_of r h.job ≡ Some (IsHeldBy (suc place))) (sym (books.live.reservation_is jobs of)) ((books.live.holds place h.job).0 (job_at w.crew place h e)))
 
 pub crew_holds_worker : (w : Work) (jobs : List Job) (at worker : ℕ) (h : Holds) → 1 ≤ worker → KeepsBooks at w → AreJobsOf w.reservation.devices jobs → Some h ≡ held_at w.crew (worker - 1) → (since : ℕ) × (state_of h.job w.journal.entries ≡ Held worker since)
 crew_holds_worker w jobs at worker h from books of e =
@@ -178,10 +169,8 @@ held_anywhere (None ∷ crew) zero x e apart = cc
 held_anywhere (Some h ∷ crew) zero x e apart = apart h refl (same_held_device (record { job = h.job; device = h.device; begun = h.begun }) x e)
 held_anywhere (y ∷ crew) (suc place) x e apart = held_anywhere crew place x e apart
 
-at_place : (crew : List (Option Holds)) (place : ℕ) (x : Option (Option Holding)) → (suc place - 1 < length (holdings crew) → slice_get (holdings crew) (suc place - 1) ≡ x) → place < length (holdings crew) → slice_get (holdings crew) place ≡ x
-at_place crew place x h lt =
-    let same : suc place - 1 ≡ place = omega arith in
-    subst (λ i. slice_get (holdings crew) i ≡ x) same (h (omega (arith, same)))
+at_place : (crew : List (Option Holds)) (place : ℕ) (x : Option (Option Holding)) → slice_get (holdings crew) (suc place - 1) ≡ x → slice_get (holdings crew) place ≡ x
+at_place crew place x h = let same : suc place - 1 ≡ place = omega arith in subst (λ i. slice_get (holdings crew) i ≡ x) same h
 
 pub record IsHeldSo (jobs : List Job) (w : Work) (at place : ℕ) (h : Holds) : Type 0 where
   pub since : ℕ
@@ -200,5 +189,5 @@ held_so jobs w now at l place h books f e =
       held = c.1;
       job = i.0;
       there = i.1;
-      device = same_held_device _ (record { job = h.job; device = h.device; begun = h.begun }) (sym (at_place w.crew place _ j.holds (within_crew w.crew place h e)) ∙ holding_at w.crew place h e);
+      device = same_held_device _ (record { job = h.job; device = h.device; begun = h.begun }) (sym (at_place w.crew place _ j.holds) ∙ holding_at w.crew place h e);
     }

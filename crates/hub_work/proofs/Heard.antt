@@ -1,6 +1,6 @@
 -- A hub's work fits the record after a frame of a device, and after the loss of the channel.
-use Rattle.std.proofs.Common.{◌≡◌, ◌≢◌, inl, inr, ℕ, suc, ◌-◌, eqb, Bool, true, false, List, ◌∷◌, length, Option, Some, None, refl, sym, ap, subst, ◌∙◌}
-use Rattle.std.proofs.lemmas.Bool.{cases_eq, eq-eqb, eqb-true, cases_lt}
+use Rattle.std.proofs.Common.{◌≡◌, ◌≢◌, inl, inr, ℕ, suc, ◌-◌, eqb, Bool, true, false, List, ◌∷◌, Option, Some, None, refl, sym, ap, subst, ◌∙◌}
+use Rattle.std.proofs.lemmas.Bool.{cases_eq, eq-eqb, eqb-true}
 use Rattle.std.proofs.lemmas.Option.{same_Some}
 use Rattle.knx_model.specs.declared.address.IndAddr.{IndAddr}
 use Rattle.knx_model.specs.declared.frames.cemi.Ldata.{Ldata}
@@ -26,7 +26,7 @@ use Rattle.hub_work.proofs.Changed.{changed_there, changed_elsewhere}
 use Rattle.hub_work.proofs.Crews.{IsHeldSo, held_so, held_anywhere}
 use Rattle.hub_work.proofs.Events.{fits_on}
 use Rattle.hub_work.proofs.HeldJobs.{alone_held}
-use Rattle.hub_work.proofs.JobEvents.{job_on, aside_becomes, heard_becomes, heard_flies, taken_at_rest}
+use Rattle.hub_work.proofs.JobEvents.{job_on, aside_becomes, heard_becomes, heard_flies}
 use Rattle.hub_work.proofs.Moments.{lasts, same_books, changed_books}
 use Rattle.hub_work.proofs.Stages.{aside_telegram}
 
@@ -117,10 +117,7 @@ module _ (laws : Laws) (jobs : List Job) (old new : Work) (source : ℕ) (tpdu :
     where
       on : (k worker since : ℕ) (job : Job) → job_of jobs k ≡ Some job → state_of k old.journal.entries ≡ Held worker since → FitsJob old before (between since at l) k worker job → FitsJob new now (m ∷ between since at l) k worker job
       on k worker since job there e j = elim (cases_eq job.device.raw source) [
-        | inl eq ↦ elim (cases_lt (worker - 1) (length (holdings old.crew))) [
-          | inl lt ↦ absurd (held_anywhere old.crew (worker - 1) _ (j.holds lt) (λ h at_it is. none (worker - 1) h at_it (ap (λ (d : IndAddr). d.raw) is ∙ eq)))
-          | inr le ↦ its_job k worker since job j (ap (λ (all : List DownloaderState). downloader_of all k) ds ∙ (j.there ∙ ap Some (sym (taken_at_rest j.state tpdu now (j.nobody le))))) eq
-        ]
+        | inl eq ↦ absurd (held_anywhere old.crew (worker - 1) _ j.holds (λ h at_it is. none (worker - 1) h at_it (ap (λ (d : IndAddr). d.raw) is ∙ eq)))
         | inr apart ↦ aside_job k worker since job j (ap (λ (all : List DownloaderState). downloader_of all k) ds) apart
       ]
 

@@ -1,11 +1,11 @@
 -- The downloader of a job that is held fits the moments since the job was taken after each moment.
-use Rattle.std.proofs.Common.{◌≡◌, ◌≢◌, ℕ, ◌-◌, ◌<◌, ◌≤◌, Bool, true, false, List, ◌∷◌, length, Option, Some, None, refl, sym, ap, subst, ◌∙◌}
+use Rattle.std.proofs.Common.{◌≡◌, ◌≢◌, ℕ, ◌-◌, Bool, true, false, List, ◌∷◌, Option, Some, None, refl, sym, ap, subst, ◌∙◌}
 use Rattle.std.specs.Prelude.{slice_get, nat_le}
 use Rattle.knx_model.specs.Connection.{frame_in}
 use Rattle.line_model.specs.Moments.{Moment, is_loss, put_to}
 use Rattle.line_model.specs.Log.{Job}
 use Rattle.download_core.specs.Attempt.{DownloaderState, Phase, Resting, Running, Closing, Leaving, Ended}
-use Rattle.download_core.specs.Calls.{confirmed, taken, lost, phase_heard, phase_lost}
+use Rattle.download_core.specs.Calls.{confirmed, taken, lost, phase_lost}
 use Rattle.download_core.specs.Record.{FitsRecord}
 use Rattle.download_core.specs.Follows.{IsMoment, flies}
 use Rattle.hub_work.specs.declared.work.Sender.TheVariants.{Worker}
@@ -21,7 +21,6 @@ pub record Becomes (s t : DownloaderState) (now : ℕ) (m : Moment) (l : List Mo
   pub device : t.device ≡ s.device
   pub plan : t.plan ≡ s.plan
   pub fits : FitsRecord t now (m ∷ l)
-  pub rests : s.phase ≡ Resting → t.phase ≡ Resting
 
 module _ (old new : Work) (before now k worker : ℕ) (m : Moment) (l : List Moment) (job : Job) (f : FitsJob old before l k worker job) where
   -- it fits, where nothing was put to the device
@@ -35,10 +34,9 @@ module _ (old new : Work) (before now k worker : ℕ) (m : Moment) (l : List Mom
     from_1 = f.from_1;
     fits = b.fits;
     flight = flight;
-    holds = λ lt. ap (λ (held : List (Option Holding)). slice_get held (worker - 1)) same
-        ∙ (f.holds (subst (λ (held : List (Option Holding)). worker - 1 < length held) same lt)
+    holds = ap (λ (held : List (Option Holding)). slice_get held (worker - 1)) same
+        ∙ (f.holds
         ∙ ap (λ n. Some (Some (record { job = k; device = job.device; begun = nat_le 1 n }))) (sym (begun_stays job.device job.plan m l unput)));
-    nobody = λ le. b.rests (f.nobody (subst (λ (held : List (Option Holding)). length held ≤ worker - 1) same le));
   }
 
   -- nothing of it is in flight, where another has put what is unconfirmed
@@ -56,17 +54,16 @@ at_now t m l now e f = subst (λ n. FitsRecord t n l) e f
 
 module _ (laws : Laws) (s : DownloaderState) (before now : ℕ) (m : Moment) (l : List Moment) (fits : FitsRecord s before l) (time : m.now ≡ now) where
   pub aside_becomes : IsMoment s.device None None None m → Becomes s s now m l
-  aside_becomes w = record { device = refl; plan = refl; fits = at_now s m (m ∷ l) now time (laws.aside s before m l fits w); rests = λ e. e }
+  aside_becomes w = record { device = refl; plan = refl; fits = at_now s m (m ∷ l) now time (laws.aside s before m l fits w) }
 
   pub others_become : (error : Bool) → flies s.phase ≡ false → IsMoment s.device None None (Some error) m → Becomes s s now m l
-  others_become error e w = record { device = refl; plan = refl; fits = at_now s m (m ∷ l) now time (laws.others s before error m l fits e w); rests = λ e. e }
+  others_become error e w = record { device = refl; plan = refl; fits = at_now s m (m ∷ l) now time (laws.others s before error m l fits e w) }
 
   pub confirmed_becomes : (error : Bool) → IsMoment s.device None None (Some error) m → Becomes s (confirmed s error now) now m l
   confirmed_becomes error w = record {
     device = refl;
     plan = refl;
     fits = subst (λ n. FitsRecord (confirmed s error n) n (m ∷ l)) time (laws.confirmation s before error m l fits w);
-    rests = λ e. ap (λ p. (confirmed (record s { phase = p }) error now).phase) e;
   }
 
   pub heard_becomes : (tpdu : List ℕ) → IsMoment s.device None (Some (frame_in tpdu)) None m → Becomes s (taken s tpdu now) now m l
@@ -74,7 +71,6 @@ module _ (laws : Laws) (s : DownloaderState) (before now : ℕ) (m : Moment) (l 
     device = refl;
     plan = refl;
     fits = subst (λ n. FitsRecord (taken s tpdu n) n (m ∷ l)) time (laws.hearing s before tpdu m l fits w);
-    rests = λ e. ap (λ p. (taken (record s { phase = p }) tpdu now).phase) e;
   }
 
   pub lost_becomes : is_loss m.what ≡ true → Becomes s (lost s) now m l
@@ -82,7 +78,6 @@ module _ (laws : Laws) (s : DownloaderState) (before now : ℕ) (m : Moment) (l 
     device = refl;
     plan = refl;
     fits = at_now (lost s) m (m ∷ l) now time (laws.loss s before m l fits w);
-    rests = λ e. ap (λ p. (lost (record s { phase = p })).phase) e;
   }
 
 -- a confirmation and a loss leave nothing in flight, and a frame of the device begins no flight
@@ -109,9 +104,6 @@ lost_twice s = ap (λ p. record s { phase = p }) (phase_twice s.phase)
     phase_twice (Closing flight outcome) = refl
     phase_twice (Leaving outcome) = refl
     phase_twice (Ended outcome) = refl
-
-pub taken_at_rest : (s : DownloaderState) (tpdu : List ℕ) (now : ℕ) → s.phase ≡ Resting → taken s tpdu now ≡ s
-taken_at_rest s tpdu now e = ap (λ p. record s { phase = phase_heard p (frame_in tpdu) now }) e ∙ ap (λ p. record s { phase = p }) (sym e)
 
 pub lost_at_rest : (s : DownloaderState) → s.phase ≡ Resting → lost s ≡ s
 lost_at_rest s e = ap (λ p. record s { phase = phase_lost p }) e ∙ ap (λ p. record s { phase = p }) (sym e)

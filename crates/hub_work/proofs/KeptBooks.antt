@@ -9,22 +9,23 @@ use Rattle.line_model.specs.Log.{IsNextTurn}
 use Rattle.device_reservation.specs.Reservation.{job_ended}
 use Rattle.hub_work.specs.declared.crew.Held.{Held}
 use Rattle.hub_work.specs.declared.work.Work.{Work}
-use Rattle.hub_work.specs.Books.{jobs_held}
+use Rattle.hub_work.specs.Books.{jobs_held, held_at}
 use Rattle.hub_work.specs.Turns.{EndsJob, TellsTurn}
-use Rattle.hub_work.specs.Works.{KeepsBooks, SameBooks, IsHolder, IsTaking, BeginsWith}
+use Rattle.hub_work.specs.Works.{KeepsBooks, SameRun, SameBooks, IsHolder, IsTaking, BeginsWith}
 use Rattle.hub_work.specs.Counts.{is_unfinished, entries_to_come}
+use Rattle.hub_work.proofs.Crews.{as_many}
 use Rattle.hub_work.proofs.Rooms.{room_to_end, take_counts, end_counts, begins_counts}
 use Rattle.hub_work.proofs.Books.{told_written, told_live, holds_it}
 use Rattle.hub_work.proofs.Works.{entry_of, written_as, live_as, telling_as, turn_within, next_is, take_written, take_telling, take_live, end_written, end_telling, end_live, tell_telling, begins_written, begins_telling, begins_live}
 
 -- ---- all of it
 
-pub take_books : (w v : Work) (at worker job : ℕ) (held : Held) → held.job ≡ job → IsTaking w at worker job → 1 ≤ worker
+pub take_books : (w v : Work) (at worker job : ℕ) (held : Held) → held.job ≡ job → IsTaking w at worker job → 1 ≤ worker → worker ≤ length w.crew → None ≡ held_at w.crew (worker - 1)
     → v.reservation ≡ w.reservation → v.telegrams ≡ w.telegrams → v.unfinished ≡ w.unfinished → v.crew ≡ set w.crew (worker - 1) (Some held) → v.journal.entries ≡ entry_of at worker (Took job) ∷ w.journal.entries → w.journal.room ≤ v.journal.room + 1 → KeepsBooks at v
-take_books w v at worker job held same t from er et eu ec el room = record {
-  written = take_written w v at worker job t from er (ap (λ x. x.turns) et) el;
+take_books w v at worker job held same t from within empty er et eu ec el room = record {
+  written = take_written w v at worker job t from empty er (ap (λ x. x.turns) et) el;
   telling = take_telling w v at worker job (ap (λ x. x.told) et) (ap (λ x. x.turns) et) el t.telling;
-  live = take_live w v at worker job held same t from er ec el;
+  live = take_live w v at worker job held same t from within empty er ec el;
   counts = take_counts w v at worker job t er et eu room;
 }
 
@@ -41,6 +42,9 @@ pub room_for_end : (w : Work) (at worker : ℕ) (held : Held) → KeepsBooks at 
 room_for_end w at worker held b from holder = room_to_end w held.job worker b.counts (holds_it w.reservation w.crew w.journal.entries worker held b.live from holder)
 
 -- a call that leaves the books
+pub same_run : (w v : Work) → SameBooks w v → SameRun w v
+same_run w v s = record { devices = ap (λ r. r.devices) s.reservation; tasks_are = s.tasks_are; closing = s.closing; turns = s.turns; workers = as_many w.crew v.crew s.held }
+
 pub same_keeps : (at : ℕ) (w v : Work) → SameBooks w v → KeepsBooks at w → KeepsBooks at v
 same_keeps at w v s b = record {
   written = written_as v w.reservation (jobs_held w.crew) w.journal.entries w.telegrams.turns at s.reservation s.turns (ap (λ j. j.entries) s.journal) b.written;

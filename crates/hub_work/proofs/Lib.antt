@@ -9,7 +9,7 @@ mod Begun
 mod JobEvents
 mod Events
 mod Moments
-mod Crews
+pub mod Crews
 mod Rooms
 pub mod Works
 mod KeptBooks

@@ -1,8 +1,8 @@
 -- A hub's work fits the record after an entry of its log: a job is taken, a job has ended, a group telegram is told.
-use Rattle.std.proofs.Common.{◌≡◌, ◌≢◌, inl, inr, ◌↔◌, ℕ, ◌+◌, ◌-◌, ◌<◌, ◌≤◌, eqb, Bool, true, false, List, [], ◌∷◌, length, map, set, Option, Some, None, refl, sym, ap, subst, ◌∙◌, arith}
-use Rattle.std.specs.Prelude.{slice_get, nat_le, if◌then◌else◌}
+use Rattle.std.proofs.Common.{◌≡◌, ◌≢◌, inl, inr, ◌↔◌, ℕ, ◌+◌, ◌-◌, ◌≤◌, eqb, Bool, true, false, List, [], ◌∷◌, length, map, set, Option, Some, None, refl, sym, ap, subst, ◌∙◌, arith}
+use Rattle.std.specs.Prelude.{slice_get, if◌then◌else◌}
 use Rattle.std.proofs.lemmas.Bool.{cases_eq, eq-eqb, ne_eqb}
-use Rattle.std.proofs.lemmas.List.{length-set}
+use Rattle.std.proofs.lemmas.List.{length-map}
 use Rattle.knx_model.specs.declared.address.IndAddr.{IndAddr}
 use Rattle.line_model.specs.declared.log.LogEntry.{LogEntry}
 use Rattle.line_model.specs.declared.log.LogWhat.{LogWhat}
@@ -12,7 +12,7 @@ use Rattle.line_model.specs.Moments.{Moment, moments, between}
 use Rattle.line_model.specs.Log.{Job, JobState, numbered_from_one, Untaken, Held, Over, job_of, turn_of, state_of, turn_place, takes_it, ends_it, is_turn}
 use Rattle.line_model.specs.Told.{ToldTruly}
 use Rattle.line_model.specs.Ends.{EndsAtRest}
-use Rattle.line_model.specs.Attempts.{begun, attempts}
+use Rattle.device_reservation.proofs.Numbered.{set_there, set_elsewhere}
 use Rattle.download_core.specs.Attempt.{DownloaderState}
 use Rattle.download_core.specs.Follows.{flies}
 use Rattle.hub_work.specs.declared.crew.Held.{Held as Holds}
@@ -29,7 +29,7 @@ use Rattle.hub_work.specs.Journals.{Written}
 use Rattle.hub_work.specs.Telegrams.{Telling}
 use Rattle.hub_work.specs.Turns.{EndsJob}
 use Rattle.hub_work.proofs.Between.{none_since}
-use Rattle.hub_work.proofs.Crews.{same_slot, within_crew, set_holdings, slot_there, slot_elsewhere, unheld}
+use Rattle.hub_work.proofs.Crews.{same_slot, set_holdings, unheld}
 use Rattle.hub_work.proofs.Devices.{is_its_device}
 use Rattle.hub_work.proofs.HeldJobs.{before}
 
@@ -46,10 +46,7 @@ place_stays k at worker what log none = ap (λ (b : Bool). if b then at else tur
 -- ---- a job that goes on, where another worker's slot is written
 
 module _ (old new : Work) (now k worker by : ℕ) (o : Option Holds) (job : Job) (x : List Moment) (j : FitsJob old now x k worker job) (ds : states new.downloaders ≡ states old.downloaders) (crew : new.crew ≡ set old.crew (by - 1) o)
-    (apart : worker - 1 < length (holdings old.crew) → worker - 1 ≢ by - 1) (flight : flies j.state.phase ≡ true → new.sender ≡ Worker worker) where
-  same_count : length (holdings new.crew) ≡ length (holdings old.crew)
-  same_count = ap (λ (c : List (Option Holds)). length (holdings c)) crew ∙ (ap (λ (hs : List (Option Holding)). length hs) (set_holdings old.crew (by - 1) o) ∙ length-set (holdings old.crew) (by - 1) (holding_in o))
-
+    (apart : worker - 1 ≢ by - 1) (flight : flies j.state.phase ≡ true → new.sender ≡ Worker worker) where
   pub job_stays : FitsJob new now x k worker job
   job_stays = record {
     state = j.state;
@@ -59,16 +56,12 @@ module _ (old new : Work) (now k worker by : ℕ) (o : Option Holds) (job : Job)
     from_1 = j.from_1;
     fits = j.fits;
     flight = flight;
-    holds = λ lt. slot (omega (arith, lt, same_count));
-    nobody = λ le. j.nobody (omega (arith, le, same_count));
+    holds =
+        ap (λ (c : List (Option Holds)). slice_get (holdings c) (worker - 1)) crew
+        ∙ (ap (λ (hs : List (Option Holding)). slice_get hs (worker - 1)) (set_holdings old.crew (by - 1) o)
+        ∙ (set_elsewhere (holdings old.crew) (by - 1) (worker - 1) (holding_in o) apart
+        ∙ j.holds));
   }
-    where
-      slot : worker - 1 < length (holdings old.crew) → slice_get (holdings new.crew) (worker - 1) ≡ Some (Some (record { job = k; device = job.device; begun = nat_le 1 (begun (attempts job.device job.plan x)) }))
-      slot lt =
-          ap (λ (c : List (Option Holds)). slice_get (holdings c) (worker - 1)) crew
-          ∙ (ap (λ (hs : List (Option Holding)). slice_get hs (worker - 1)) (set_holdings old.crew (by - 1) o)
-          ∙ (slot_elsewhere (holdings old.crew) (by - 1) (worker - 1) (holding_in o) (apart lt)
-          ∙ j.holds lt))
 
 -- ---- a job is taken
 
@@ -76,7 +69,7 @@ same_worker_since : (w s v t : ℕ) → Held w s ≡ Held v t → (w ≡ v) × (
 same_worker_since w s v t e = (cc, cc)
 
 module _ (laws : Laws) (old : Work) (jn : Written) (cr : List (Option Holds)) (at worker job : ℕ) (h : Holds) (log : jn.entries ≡ entry at worker (Took job) ∷ old.journal.entries) (crew : cr ≡ set old.crew (worker - 1) (Some h))
-    (its : h.job ≡ job) (unbegun : h.begun ≡ false) (from : 1 ≤ worker) (empty : None ≡ held_at old.crew (worker - 1)) (device : numbered_from_one old.reservation.devices job ≡ Some h.device)
+    (its : h.job ≡ job) (unbegun : h.begun ≡ false) (from : 1 ≤ worker) (within : worker ≤ length old.crew) (empty : None ≡ held_at old.crew (worker - 1)) (device : numbered_from_one old.reservation.devices job ≡ Some h.device)
     (free : (jobs : List Job) → AreJobsOf old.reservation.devices jobs → state_of job old.journal.entries ≡ Untaken) where
   abbrev new : Work
   new = record old { journal = jn; crew = cr }
@@ -91,14 +84,13 @@ module _ (laws : Laws) (old : Work) (jn : Written) (cr : List (Option Holds)) (a
       from_1 = from;
       fits = laws.begins b.device b.plan now (f.sendable job b there).0 (f.sendable job b there).1;
       flight = λ moves. absurd (cc);
-      holds = λ lt.
+      holds =
           ap (λ (c : List (Option Holds)). slice_get (holdings c) (worker - 1)) crew
           ∙ (ap (λ (hs : List (Option Holding)). slice_get hs (worker - 1)) (set_holdings old.crew (worker - 1) (Some h))
-          ∙ (slot_there (holdings old.crew) (worker - 1) (holding_in (Some h)) (omega (arith, lt, ap (λ (c : List (Option Holds)). length (holdings c)) crew, ap (λ (hs : List (Option Holding)). length hs) (set_holdings old.crew (worker - 1) (Some h)), length-set (holdings old.crew) (worker - 1) (holding_in (Some h))))
+          ∙ (set_there (holdings old.crew) (worker - 1) (holding_in (Some h)) (omega (arith, from, within, length-map old.crew holding_in))
           ∙ (ap (λ k. Some (Some (record { job = k; device = h.device; begun = h.begun }))) its
           ∙ (ap (λ (d : IndAddr). Some (Some (record { job = job; device = d; begun = h.begun }))) (is_its_device jobs old.reservation.devices job b h.device f.devices device there)
           ∙ ap (λ t. Some (Some (record { job = job; device = b.device; begun = t }))) unbegun))));
-      nobody = λ le. refl;
     }
 
     held_then : (k w s : ℕ) (b : Job) → job_of jobs k ≡ Some b → (if eqb job k then Held worker at else (if false then Over else state_of k old.journal.entries)) ≡ Held w s → FitsJob new now (between s at (moments places)) k w b
@@ -119,7 +111,7 @@ module _ (laws : Laws) (old : Work) (jn : Written) (cr : List (Option Holds)) (a
         held_before held =
             let j : FitsJob old now (between s at (moments places)) k w b = f.held k w s b there held in
             job_stays old new now k w worker (Some h) b (between s at (moments places)) j refl crew
-            (λ lt same. unheld old.crew (w - 1) _ (subst (λ p. None ≡ held_at old.crew p) (sym same) empty) (j.holds lt)) j.flight
+            (λ same. unheld old.crew (w - 1) _ (subst (λ p. None ≡ held_at old.crew p) (sym same) empty) j.holds) j.flight
 
     pub took_fits : Fits jobs new now at (moments places)
     took_fits = record {
@@ -209,8 +201,8 @@ module _ (old new : Work) (at worker : ℕ) (h : Holds) (what : LogWhat) (device
     held_still : (k w s : ℕ) (b : Job) → job_of jobs k ≡ Some b → (k ≢ h.job) × (state_of k old.journal.entries ≡ Held w s) → FitsJob new now (between s at (moments places)) k w b
     held_still k w s b there e =
         job_stays old new now k w worker None b (between s at (moments places)) j (ap states ds) crew
-        (λ lt same. e.0 (same_slot old.crew h w k b _ (subst (λ p. Some h ≡ held_at old.crew p) (sym same) holds) (j.holds lt)))
-        (λ moves. sender ∙ others_stay worker w old.sender (j.flight moves) (λ same. e.0 (same_slot old.crew h w k b _ (subst (λ v. Some h ≡ held_at old.crew (v - 1)) (sym same) holds) (j.holds (subst (λ v. v - 1 < length (holdings old.crew)) (sym same) (within_crew old.crew (worker - 1) h holds))))))
+        (λ same. e.0 (same_slot old.crew h w k b _ (subst (λ p. Some h ≡ held_at old.crew p) (sym same) holds) j.holds))
+        (λ moves. sender ∙ others_stay worker w old.sender (j.flight moves) (λ same. e.0 (same_slot old.crew h w k b _ (subst (λ v. Some h ≡ held_at old.crew (v - 1)) (sym same) holds) j.holds)))
       where
         j : FitsJob old now (between s at (moments places)) k w b
         j = f.held k w s b there e.1

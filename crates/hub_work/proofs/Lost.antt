@@ -1,9 +1,9 @@
 -- A hub's work fits the record after the loss of the channel.
 use Rattle.std.proofs.Common.{◌≡◌, ◌≢◌, ◌⊎◌, inl, inr, ℕ, zero, suc, ◌+◌, ◌-◌, ◌<◌, ◌≤◌, false, List, [], ◌∷◌, length, Option, Some, None, refl, sym, ap, subst, ◌∙◌, arith}
 use Rattle.std.specs.Prelude.{slice_get}
-use Rattle.std.proofs.lemmas.Bool.{cases_eq, cases_lt}
+use Rattle.std.proofs.lemmas.Bool.{cases_eq}
 use Rattle.std.proofs.lemmas.List.{length-map}
-use Rattle.std.proofs.lemmas.Option.{same_Some}
+use Rattle.std.proofs.lemmas.Option.{same_Some, slice_get_within}
 use Rattle.line_model.specs.ClientView.{Loses}
 use Rattle.line_model.specs.Moments.{Moment, between, is_loss, put_to, put_frame}
 use Rattle.line_model.specs.Log.{Job}
@@ -111,7 +111,6 @@ loss_follows laws old new now n end crew all same held_same nobody telling so_fa
     ]
 
     its : (k worker since : ℕ) (job : Job) (j : FitsJob old before (between since at l) k worker job) → downloader_of (states new.downloaders) k ≡ Some (lost j.state)
-    its k worker since job j = elim (cases_lt (worker - 1) (length (holdings old.crew))) [
-      | inl lt ↦ so_far.told (worker - 1) _ j.state (omega (arith, crew, length-map old.crew holding_in)) (j.holds lt) j.there
-      | inr le ↦ resting k j.state j.there (j.nobody le) ∙ ap Some (sym (lost_at_rest j.state (j.nobody le)))
-    ]
+    its k worker since job j =
+        let within : worker - 1 < length (holdings old.crew) = slice_get_within (holdings old.crew) (worker - 1) _ j.holds in
+        so_far.told (worker - 1) _ j.state (omega (arith, within, crew, length-map old.crew holding_in)) j.holds j.there

@@ -122,7 +122,7 @@ module _ (old : Work) (jn : Written) (t : Telling) (at k : ℕ) (what : LogWhat)
   new = record old { journal = jn; telegrams = t }
 
   job_same : (now i worker : ℕ) (job : Job) (x : List Moment) → FitsJob old now x i worker job → FitsJob new now x i worker job
-  job_same now i worker job x j = record { state = j.state; there = j.there; device = j.device; plan = j.plan; from_1 = j.from_1; fits = j.fits; flight = j.flight; holds = j.holds; nobody = j.nobody }
+  job_same now i worker job x j = record { state = j.state; there = j.there; device = j.device; plan = j.plan; from_1 = j.from_1; fits = j.fits; flight = j.flight; holds = j.holds }
 
   module _ (jobs : List Job) (places : List Placed) (now : ℕ) (f : Fits jobs old now at (moments places)) where
     state_stays : (i : ℕ) → state_of i jn.entries ≡ state_of i old.journal.entries

@@ -1,5 +1,5 @@
 -- What a worker's turn comes to, for the record and for the log.
-use Rattle.std.proofs.Common.{◌≡◌, ℕ, ◌+◌, ◌-◌, ◌<◌, ◌≤◌, false, List, length, map, Option, Some, refl, sym, ap, subst, ◌∙◌, suc}
+use Rattle.std.proofs.Common.{◌≡◌, ℕ, ◌+◌, ◌-◌, ◌≤◌, false, List, map, Option, Some, refl, sym, ap, subst, ◌∙◌, suc}
 use Rattle.std.specs.Prelude.{slice_get, option_map}
 use Rattle.std.proofs.lemmas.Option.{same_Some}
 use Rattle.line_model.specs.declared.group.GroupTurn.{GroupTurn}
@@ -50,8 +50,7 @@ module _ (v w : Work) (devices : v.reservation.devices ≡ w.reservation.devices
     from_1 = j.from_1;
     fits = j.fits;
     flight = λ moves. sender ∙ j.flight moves;
-    holds = λ lt. ap (λ (hs : List (Option Holding)). slice_get hs (worker - 1)) same ∙ j.holds (subst (λ (hs : List (Option Holding)). worker - 1 < length hs) same lt);
-    nobody = λ le. j.nobody (subst (λ (hs : List (Option Holding)). length hs ≤ worker - 1) same le);
+    holds = ap (λ (hs : List (Option Holding)). slice_get hs (worker - 1)) same ∙ j.holds;
   }
 
   pub same_fits : (jobs : List Job) (now at : ℕ) (l : List Moment) → Fits jobs w now at l → Fits jobs v now at l

@@ -1,7 +1,7 @@
 -- By record and log a poll lasts as it should: who has something to do and which deadlines there are is what these say.
-use Rattle.std.proofs.Common.{◌≡◌, ◌≢◌, ◌⊎◌, inl, inr, ◌↔◌, ℕ, zero, suc, ◌+◌, ◌-◌, ◌<◌, ◌≤◌, eqb, Bool, true, false, List, [], ◌∷◌, length, min, Option, Some, None, refl, sym, subst, ap, ◌∙◌, arith}
+use Rattle.std.proofs.Common.{◌≡◌, ◌≢◌, ◌⊎◌, inl, inr, ◌↔◌, ℕ, zero, suc, ◌+◌, ◌-◌, ◌<◌, ◌≤◌, eqb, Bool, true, false, List, [], ◌∷◌, min, Option, Some, None, refl, sym, subst, ap, ◌∙◌, arith}
 use Rattle.std.specs.Prelude.{Contains, slice_get, nat_le, not, ◌&&◌, ◌||◌}
-use Rattle.std.proofs.lemmas.Bool.{cases_eq, ne_eqb, cases_lt, false_from_ne_true}
+use Rattle.std.proofs.lemmas.Bool.{cases_eq, ne_eqb, false_from_ne_true}
 use Rattle.std.proofs.lemmas.Bool.Decides.{nat_tests}
 use Rattle.std.proofs.lemmas.Option.{same_Some}
 use Rattle.knx_model.specs.Connection.{last_time, wait_end}
@@ -12,7 +12,6 @@ use Rattle.line_model.specs.ChannelLost.{answer_wait}
 use Rattle.line_model.specs.Moments.{moments, between}
 use Rattle.line_model.specs.Log.{Job, Held, job_of, state_of}
 use Rattle.line_model.specs.Asks.{HasPlace}
-use Rattle.line_model.specs.Attempts as line
 use Rattle.line_model.specs.Attempts.{Attempts, attempts, begun}
 use Rattle.line_model.specs.Closing as close
 use Rattle.line_model.specs.Waiting.{IsHeldJob, TurnWaits, HasWork, IsDeadline, OfChannel, OfJob, attempts_of, attempt_deadline, closing_deadline, channel_deadlines, longest_poll, PollEnds, AsLongAsItMay, AtDeadline, AtLastTime, LastsUntil, PollsSo}
@@ -38,7 +37,7 @@ use Rattle.hub_work.specs.Fits.{Fits, FitsJob}
 use Rattle.hub_work.specs.Laws.{Laws}
 use Rattle.hub_work.specs.Polls.{does_something, next_of_job, is_busy, is_busy_at, deadline_at, closing_end, end_of_closing, IsDue, OfClosing, OfWorker, came_for, closing_so_far, PollsRightly}
 use Rattle.hub_work.specs.Works.{KeepsBooks}
-use Rattle.hub_work.proofs.Crews.{IsHeldSo, held_so, crew_holds, within_crew, holding_at, job_at}
+use Rattle.hub_work.proofs.Crews.{IsHeldSo, held_so, holding_at, job_at}
 
 -- ---- what came for a job, by its one worker
 
@@ -54,16 +53,8 @@ came_of (Some y ∷ crew) (suc place) h e alone =
     let apart : eqb y.job h.job ≡ false = ne_eqb y.job h.job (λ same. let q = alone 0 y refl same in omega (arith, q)) in
     rw apart (came_of crew place h e (λ other x is same. let q = alone (suc other) x is same in omega (arith, q)))
 
-none_for : (crew : List (Option Holds)) (k : ℕ) → ((place : ℕ) (x : Holds) → Some x ≡ held_at crew place → x.job ≡ k → ⊥) → came_for crew k ≡ 0
-none_for [] k none = refl
-none_for (None ∷ crew) k none = none_for crew k (λ place x is. none (suc place) x is)
-none_for (Some y ∷ crew) k none = rw (ne_eqb y.job k (none 0 y refl)) (none_for crew k (λ place x is. none (suc place) x is))
-
 same_stage : (a b : ℕ) → Some (IsHeldBy (suc a)) ≡ Some (IsHeldBy (suc b)) → a ≡ b
 same_stage a b e = cc
-
-same_state : (a b s t : ℕ) → Held (suc a) s ≡ Held b t → suc a ≡ b
-same_state a b s t e = cc
 
 held_since : (a b s t : ℕ) → Held a s ≡ Held b t → s ≡ t
 held_since a b s t e = cc
@@ -90,9 +81,6 @@ deadline_is signs (Running a) t (x, is, knows) = rw is (ap client_deadline knows
 deadline_is signs (Closing flight outcome) t (x, is, closes) = rw is (ap client_deadline closes.end)
 deadline_is signs (Leaving outcome) t (x, is, leaves) = rw is (ap client_deadline leaves.end)
 deadline_is signs (Ended outcome) t f = rw f refl
-
-rests_none : (signs : Signs) (phase : Phase) (t : Attempts) → phase ≡ Resting → FitsPhase signs phase t → t ≡ line.Resting 0
-rests_none signs phase t rests f = (subst (λ (p : Phase). FitsPhase signs p t) rests f).1
 
 -- ---- something is done exactly where the step doesn't wait
 
@@ -196,7 +184,7 @@ module _ (laws : Laws) (w : Work) (now at : ℕ) (has_place : Bool) (jobs : List
   -- one worker holds it
   alone : (place other : ℕ) (h x : Holds) → Some h ≡ held_at w.crew place → Some x ≡ held_at w.crew other → x.job ≡ h.job → other ≡ place
   alone place other h x eh ex same =
-      same_stage other place (sym (books.live.holds other x.job (job_at w.crew other x ex)) ∙ (ap (stage_of w.reservation) same ∙ books.live.holds place h.job (job_at w.crew place h eh)))
+      same_stage other place (sym ((books.live.holds other x.job).0 (job_at w.crew other x ex)) ∙ (ap (stage_of w.reservation) same ∙ (books.live.holds place h.job).0 (job_at w.crew place h eh)))
 
   came_is : (place : ℕ) (h : Holds) → Some h ≡ held_at w.crew place → came_for w.crew h.job ≡ h.came
   came_is place h e = came_of w.crew place h e (λ other x is same. alone place other h x e is same)
@@ -225,8 +213,7 @@ module _ (laws : Laws) (w : Work) (now at : ℕ) (has_place : Bool) (jobs : List
     begun_is : h.begun ≡ nat_le 1 (begun (attempts_of its.job its.since at places))
     begun_is =
         let same : suc place - 1 ≡ place = omega arith in
-        let within : place < length (holdings w.crew) = within_crew w.crew place h e in
-        let there : slice_get (holdings w.crew) place ≡ Some (Some (record { job = h.job; device = its.job.device; begun = nat_le 1 (begun (attempts_of its.job its.since at places)) })) = subst (λ i. slice_get (holdings w.crew) i ≡ Some (Some (record { job = h.job; device = its.job.device; begun = nat_le 1 (begun (attempts_of its.job its.since at places)) }))) same (j.holds (omega (arith, same, within))) in
+        let there : slice_get (holdings w.crew) place ≡ Some (Some (record { job = h.job; device = its.job.device; begun = nat_le 1 (begun (attempts_of its.job its.since at places)) })) = subst (λ i. slice_get (holdings w.crew) i ≡ Some (Some (record { job = h.job; device = its.job.device; begun = nat_le 1 (begun (attempts_of its.job its.since at places)) }))) same j.holds in
         held_begun h (record { job = h.job; device = its.job.device; begun = nat_le 1 (begun (attempts_of its.job its.since at places)) }) (same_Some (holding_in (Some h)) (Some (record { job = h.job; device = its.job.device; begun = nat_le 1 (begun (attempts_of its.job its.since at places)) })) (sym (holding_at w.crew place h e) ∙ there))
 
     -- it has something to do
@@ -258,24 +245,11 @@ module _ (laws : Laws) (w : Work) (now at : ℕ) (has_place : Bool) (jobs : List
         let same : attempts j.state.device j.state.plan (between its.since at (moments places)) ≡ attempts_of its.job its.since at places = rw (j.device, j.plan) refl in
         at_it ∙ (sym mine ∙ ap attempt_deadline same)
 
-  -- ---- a job that is held by the log: its worker is at a place, or there is none and nothing was done for it
+  -- ---- a job that is held by the log: its worker is at a place
 
   module _ (k since : ℕ) (job : Job) (h : IsHeldJob jobs w.journal.entries k job since) where
     of_it : FitsJob w now (between since at (moments places)) k h.worker job
     of_it = f.held k h.worker since job h.there h.held
-
-    unheld : length (holdings w.crew) ≤ h.worker - 1 → (attempts_of job since at places ≡ line.Resting 0) × (came_for w.crew k ≡ 0)
-    unheld le = (sym same ∙ rests_none of_it.state.signs of_it.state.phase _ (of_it.nobody le) of_it.fits.job, none_for w.crew k nobody)
-      where
-        same : attempts of_it.state.device of_it.state.plan (between since at (moments places)) ≡ attempts_of job since at places
-        same = rw (of_it.device, of_it.plan) refl
-
-        nobody : (place : ℕ) (x : Holds) → Some x ≡ held_at w.crew place → x.job ≡ k → ⊥
-        nobody place x e is =
-            let c = crew_holds w jobs at place x books f.devices e in
-            let number : suc place ≡ h.worker = same_state place h.worker c.0 since (sym c.1 ∙ (ap (λ i. state_of i w.journal.entries) is ∙ h.held)) in
-            let within : place < length (holdings w.crew) = within_crew w.crew place x e in
-            omega (arith, number, within, le)
 
     -- at its worker's place
     record IsAtPlace : Type 0 where
@@ -286,8 +260,8 @@ module _ (laws : Laws) (w : Work) (now at : ℕ) (has_place : Bool) (jobs : List
       pub same_job : (its place holder there).job ≡ job
       pub same_since : (its place holder there).since ≡ since
 
-    at_place : h.worker - 1 < length (holdings w.crew) → IsAtPlace
-    at_place lt = by_holder (holder_there w.crew (h.worker - 1) _ (of_it.holds lt))
+    at_place : IsAtPlace
+    at_place = by_holder (holder_there w.crew (h.worker - 1) _ of_it.holds)
       where
         by_holder : (x : Holds) × (Some x ≡ held_at w.crew (h.worker - 1)) × (holding_in (Some x) ≡ Some (record { job = k; device = job.device; begun = nat_le 1 (begun (attempts job.device job.plan (between since at (moments places)))) })) → IsAtPlace
         by_holder (x, e, same) =
@@ -303,15 +277,8 @@ module _ (laws : Laws) (w : Work) (now at : ℕ) (has_place : Bool) (jobs : List
             }
 
     busy_there : (came_for w.crew k ≢ 0) ⊎ ((1 ≤ begun (attempts_of job since at places)) × ¬ Waits k (came_for w.crew k)) → (place : ℕ) × (is_busy_at w now has_place place ≡ true)
-    busy_there why = elim (cases_lt (h.worker - 1) (length (holdings w.crew))) [
-      | inl lt ↦ held (at_place lt)
-      | inr le ↦ absurd (idle (unheld le) why)
-    ]
+    busy_there why = held at_place
       where
-        idle : (attempts_of job since at places ≡ line.Resting 0) × (came_for w.crew k ≡ 0) → (came_for w.crew k ≢ 0) ⊎ ((1 ≤ begun (attempts_of job since at places)) × ¬ Waits k (came_for w.crew k)) → ⊥
-        idle (rests, none) (inl some) = some none
-        idle (rests, none) (inr (le, waits)) = let z : begun (attempts_of job since at places) ≡ 0 = ap begun rests in omega (arith, z, le)
-
         held : IsAtPlace → (place : ℕ) × (is_busy_at w now has_place place ≡ true)
         held a = (a.place, rw (← a.there) (works_busy a.place a.holder a.there moved))
           where
@@ -322,10 +289,7 @@ module _ (laws : Laws) (w : Work) (now at : ℕ) (has_place : Bool) (jobs : List
             moved = subst (λ n. Why n (its a.place a.holder a.there).job (its a.place a.holder a.there).since) (sym a.is) (subst (λ (x : Job). Why k x (its a.place a.holder a.there).since) (sym a.same_job) (subst (Why k job) (sym a.same_since) why))
 
     due_there : (t : ℕ) → attempt_deadline (attempts_of job since at places) ≡ Some t → (place : ℕ) × (deadline_at w place ≡ Some t)
-    due_there t due = elim (cases_lt (h.worker - 1) (length (holdings w.crew))) [
-      | inl lt ↦ held (at_place lt)
-      | inr le ↦ absurd (let none : attempt_deadline (attempts_of job since at places) ≡ None = ap attempt_deadline (unheld le).0 in let isnt : None ≡ Some t = sym none ∙ due in cc)
-    ]
+    due_there t due = held at_place
       where
         held : IsAtPlace → (place : ℕ) × (deadline_at w place ≡ Some t)
         held a = (a.place, deadline_here a.place a.holder a.there ∙ (ap (λ (x : Job). attempt_deadline (attempts_of x (its a.place a.holder a.there).since at places)) a.same_job ∙ (ap (λ n. attempt_deadline (attempts_of job n at places)) a.same_since ∙ due)))

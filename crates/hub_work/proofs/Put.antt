@@ -1,5 +1,5 @@
 -- What a worker puts for its job is a right request, and the work fits the record once it is put.
-use Rattle.std.proofs.Common.{◌≡◌, ◌≢◌, inl, inr, ℕ, suc, ◌-◌, ◌<◌, ◌≤◌, true, false, List, ◌∷◌, length, Option, Some, None, refl, sym, ap, subst, ◌∙◌, arith}
+use Rattle.std.proofs.Common.{◌≡◌, ◌≢◌, inl, inr, ℕ, suc, ◌-◌, ◌≤◌, true, false, List, ◌∷◌, Option, Some, None, refl, sym, ap, subst, ◌∙◌, arith}
 use Rattle.std.specs.Prelude.{slice_get, nat_le, option_map}
 use Rattle.std.proofs.lemmas.Bool.{cases_eq}
 use Rattle.std.proofs.lemmas.Option.{same_Some}
@@ -41,7 +41,7 @@ use Rattle.hub_work.specs.Works.{KeepsBooks, SameBooks}
 use Rattle.hub_work.proofs.Begun.{flying_begun, begun_stays}
 use Rattle.hub_work.proofs.Between.{same_up_to}
 use Rattle.hub_work.proofs.Changed.{changed_there, changed_elsewhere}
-use Rattle.hub_work.proofs.Crews.{IsHeldSo, held_so, same_slot, within_crew, holding_at, begun_there, begun_elsewhere, length_begun}
+use Rattle.hub_work.proofs.Crews.{IsHeldSo, held_so, same_slot, holding_at, begun_there, begun_elsewhere}
 use Rattle.hub_work.proofs.Deeds.{puts_to}
 use Rattle.hub_work.proofs.Events.{fits_on}
 use Rattle.hub_work.proofs.Heard.{one_job}
@@ -159,9 +159,6 @@ module _ (laws : Laws) (jobs : List Job) (places : List Placed) (old new : Work)
         ∙ (ap (λ (d : IndAddr). Some (Some (record { job = h.job; device = d; begun = true }))) (sym its.device)
         ∙ ap (λ b. Some (Some (record { job = h.job; device = its.job.device; begun = b }))) (sym has_begun)))
 
-    within : worker - 1 < length (holdings new.crew)
-    within = let lt : worker - 1 < length (holdings old.crew) = within_crew old.crew (worker - 1) h holds in omega (arith, ap (λ (hs : List (Option Holding)). length hs) held, length_begun (worker - 1) (holdings old.crew))
-
     sent_job : FitsJob new now (m ∷ l) h.job worker its.job
     sent_job = record {
       state = stepped j.state now;
@@ -171,8 +168,7 @@ module _ (laws : Laws) (jobs : List Job) (places : List Placed) (old new : Work)
       from_1 = from;
       fits = fits_sent;
       flight = λ x. sender;
-      holds = λ lt. its_slot;
-      nobody = λ le. absurd (let lt : worker - 1 < length (holdings new.crew) = within in omega arith);
+      holds = its_slot;
     }
 
     -- another job
@@ -185,8 +181,7 @@ module _ (laws : Laws) (jobs : List Job) (places : List Placed) (old new : Work)
       from_1 = i.from_1;
       fits = b.fits;
       flight = λ x. absurd (let s : Nobody ≡ Worker by = sym nobody ∙ i.flight x in cc);
-      holds = λ lt. slot (omega (arith, lt, ap (λ (hs : List (Option Holding)). length hs) held, length_begun (worker - 1) (holdings old.crew)));
-      nobody = λ le. i.nobody (omega (arith, le, ap (λ (hs : List (Option Holding)). length hs) held, length_begun (worker - 1) (holdings old.crew)));
+      holds = slot;
     }
       where
         elsewhere : job.device.raw ≢ h.device.raw
@@ -195,11 +190,11 @@ module _ (laws : Laws) (jobs : List Job) (places : List Placed) (old new : Work)
         b : Becomes i.state i.state now m (between since at (moments places))
         b = aside_becomes laws i.state now now m (between since at (moments places)) i.fits n.time (to.others i.state.device (λ is. elsewhere (ap (λ (d : IndAddr). d.raw) (sym i.device) ∙ is)))
 
-        slot : by - 1 < length (holdings old.crew) → slice_get (holdings new.crew) (by - 1) ≡ Some (Some (record { job = k; device = job.device; begun = nat_le 1 (begun (attempts job.device job.plan (m ∷ between since at (moments places)))) }))
-        slot lt =
+        slot : slice_get (holdings new.crew) (by - 1) ≡ Some (Some (record { job = k; device = job.device; begun = nat_le 1 (begun (attempts job.device job.plan (m ∷ between since at (moments places)))) }))
+        slot =
             ap (λ (hs : List (Option Holding)). slice_get hs (by - 1)) held
-            ∙ (begun_elsewhere (worker - 1) (by - 1) (holdings old.crew) (λ is. apart (same_slot old.crew h by k job _ (subst (λ p. Some h ≡ held_at old.crew p) (sym is) holds) (i.holds lt)))
-            ∙ (i.holds lt
+            ∙ (begun_elsewhere (worker - 1) (by - 1) (holdings old.crew) (λ is. apart (same_slot old.crew h by k job _ (subst (λ p. Some h ≡ held_at old.crew p) (sym is) holds) i.holds))
+            ∙ (i.holds
             ∙ ap (λ c. Some (Some (record { job = k; device = job.device; begun = nat_le 1 c }))) (sym (begun_stays job.device job.plan m (between since at (moments places)) (to.others job.device elsewhere).put_is))))
 
     settled : old.telegrams.stage ≢ UnderWay

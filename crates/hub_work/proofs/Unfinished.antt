@@ -7,13 +7,16 @@ use Rattle.std.proofs.lemmas.List.Sums.{sum_by-cons}
 use Rattle.std.proofs.lemmas.Option.{same_Some}
 use Rattle.line_model.specs.Log.{Job, JobState, Untaken, Held, Over, AllOver, JobUnfinished, job_of, state_of}
 use Rattle.device_reservation.specs.declared.stage.Stage.{Stage}
-use Rattle.device_reservation.specs.Reservation.{Reservation, stage_of}
-use Rattle.device_reservation.proofs.Logged.{stage_in, stage_is, length_is, is_there}
+use Rattle.device_reservation.specs.Reservation.{Reservation, AllTaken, stage_of}
+use Rattle.device_reservation.proofs.Logged.{stage_in, length_is, is_there}
 use Rattle.device_reservation.proofs.Numbered.{by_place, from_1}
 use Rattle.hub_work.specs.declared.work.Work.{Work}
-use Rattle.hub_work.specs.Books.{AreJobsOf}
+use Rattle.hub_work.specs.Books.{AreJobsOf, jobs_held, held_at}
 use Rattle.hub_work.specs.Counts.{is_unfinished}
+use Rattle.hub_work.specs.Turns.{HasFinished}
 use Rattle.hub_work.specs.Works.{KeepsBooks, HasUnfinished}
+use Rattle.hub_work.proofs.Books.{stage_by_log, holds_none}
+use Rattle.hub_work.proofs.Crews.{no_job}
 use Rattle.hub_work.proofs.Rooms.{at_least, one_if}
 
 abbrev one_of : Bool → ℕ
@@ -33,7 +36,7 @@ over_isnt Over e f = cc
 
 module _ (w : Work) (jobs : List Job) (at : ℕ) (books : KeepsBooks at w) (of : AreJobsOf w.reservation.devices jobs) where
   its_stage : (k : ℕ) → job_of jobs k ≢ None → stage_of w.reservation k ≡ Some (stage_in (state_of k w.journal.entries))
-  its_stage k there = subst (λ (r : Reservation). stage_of r k ≡ Some (stage_in (state_of k w.journal.entries))) (books.live.reservation_is jobs of) (stage_is jobs w.journal.entries k (books.written.reserved jobs of) there)
+  its_stage k there = stage_by_log w.reservation (jobs_held w.crew) w.telegrams.turns at w.journal.entries books.written books.live jobs of k there
 
   stages_are : length w.reservation.stages ≡ length jobs
   stages_are = subst (λ (r : Reservation). length r.stages ≡ length jobs) (books.live.reservation_is jobs of) (length_is jobs w.journal.entries)
@@ -100,3 +103,11 @@ module _ (w : Work) (jobs : List Job) (at : ℕ) (books : KeepsBooks at w) (of :
 
 pub has_unfinished : (w : Work) → HasUnfinished w (nat_lt 0 w.unfinished)
 has_unfinished w jobs at books of = (λ e. some_left w jobs at books of e, λ u. left_so w jobs at books of u)
+
+-- ---- where all jobs are taken, a worker that holds none has finished
+
+pub finished : (w : Work) (jobs : List Job) (at worker : ℕ) → KeepsBooks at w → AreJobsOf w.reservation.devices jobs → 1 ≤ worker → None ≡ held_at w.crew (worker - 1) → AllTaken w.reservation → HasFinished worker jobs w.journal.entries
+finished w jobs at worker books of from empty taken = record {
+  all_taken = λ k there waits. taken k (its_stage w jobs at books of k there ∙ ap (λ s. Some (stage_in s)) waits);
+  holds_none = holds_none w.reservation (jobs_held w.crew) w.telegrams.turns at worker w.journal.entries books.written books.live from (no_job w.crew (worker - 1) empty) jobs of;
+}

@@ -111,6 +111,13 @@ did_is a b e = cc
 pub end_isnt_wait : (result : Turn) (turned : Turned) → result ≡ turn.Did turned → IsEnd turned → result ≢ turn.Did answer.Wait
 end_isnt_wait result turned is ends w = subst IsEnd (did_is turned answer.Wait (sym is ∙ w)) ends
 
+-- a worker that took or holds a job isn't told that there are no more
+pub took_isnt_no_more : (result : Turn) (job : ℕ) → result ≡ turn.Did (answer.Took job) → result ≢ turn.Did answer.NoMore
+took_isnt_no_more result job is e = let z : turn.Did (answer.Took job) ≡ turn.Did answer.NoMore = sym is ∙ e in cc
+
+pub holder_isnt_done : (result : Turn) (h : Holds) → TurnSuits result (Some h) → result ≢ turn.Did answer.NoMore
+holder_isnt_done result h suits e = subst (λ (r : Turn). TurnSuits r (Some h)) e suits
+
 pub unsent : (has_place : Bool) → is_send did.Wait ≡ true → has_place ≡ false
 unsent has_place e = absurd (cc)
 

@@ -3,20 +3,23 @@ use Rattle.std.proofs.Common.{◌≡◌, ◌≢◌, ◌⊎◌, inl, inr, ℕ, ze
 use Rattle.std.specs.Prelude.{slice_get, ◌&&◌, ◌||◌, nat_lt, nat_le}
 use Rattle.std.proofs.lemmas.Bool.{cases_eq}
 use Rattle.std.proofs.lemmas.Bool.Decides.{nat_tests}
+use Rattle.std.proofs.lemmas.List.{length-map}
 use Rattle.knx_model.specs.declared.address.IndAddr.{IndAddr}
 use Rattle.line_model.specs.declared.group.GroupTurn.{GroupTurn}
 use Rattle.line_model.specs.declared.log.LogEntry.{LogEntry}
 use Rattle.line_model.specs.declared.log.LogWhat.{LogWhat}
 use Rattle.line_model.specs.declared.log.LogWhat.TheVariants.{Took, Done, Failed, Refused, Sent, Lost}
 use Rattle.line_model.specs.Log.{Job, Untaken, state_of, IsNextTurn, has_entry, is_turn, turn_of}
-use Rattle.device_reservation.specs.Reservation.{Reservation, IsFree, IsHeld, none_taken, job_taken, job_ended}
+use Rattle.device_reservation.specs.declared.stage.Stage.TheVariants.{Untaken as IsUntaken, Held as IsHeldBy}
+use Rattle.device_reservation.specs.Reservation.{Reservation, IsFree, IsHeld, none_taken, job_taken, job_ended, stage_of}
 use Rattle.device_reservation.proofs.Logged.{waits_in_log}
-use Rattle.device_reservation.proofs.Numbered.{by_place, from_1, within}
+use Rattle.device_reservation.proofs.Numbered.{by_place, from_1, of_all, within}
 use Rattle.hub_work.specs.declared.crew.Held.{Held}
 use Rattle.hub_work.specs.declared.work.Work.{Work}
-use Rattle.hub_work.specs.Books.{AreJobsOf, IsWritten, IsLive, TellsInTurn, jobs_held}
+use Rattle.hub_work.specs.Books.{AreJobsOf, IsWritten, IsLive, TellsInTurn, job_in, jobs_held, held_at}
 use Rattle.hub_work.specs.Turns.{EndsJob, TellsTurn}
 use Rattle.hub_work.specs.Works.{WritesRightly, Lives, TellsRightly, IsHolder, IsTaking, BeginsWith}
+use Rattle.hub_work.proofs.Crews.{no_job}
 use Rattle.hub_work.proofs.Books.{took_written, took_live, ended_written, ended_live, set_jobs, holds_it, taken_held}
 
 abbrev pub entry_of : ℕ → ℕ → LogWhat → LogEntry
@@ -65,18 +68,18 @@ taking_untaken w at worker job t jobs of =
     let of_before : AreJobsOf t.before.devices jobs = of ∙ ap (λ (r : Reservation). r.devices) t.taken in
     waits_in_log jobs w.journal.entries job (t.written.reserved jobs of_before) (subst (λ (r : Reservation). IsFree r job) (sym (t.live.reservation_is jobs of_before)) t.first.free)
 
-pub take_written : (w v : Work) (at worker job : ℕ) → IsTaking w at worker job → 1 ≤ worker
+pub take_written : (w v : Work) (at worker job : ℕ) → IsTaking w at worker job → 1 ≤ worker → None ≡ held_at w.crew (worker - 1)
     → v.reservation ≡ w.reservation → v.telegrams.turns ≡ w.telegrams.turns → v.journal.entries ≡ entry_of at worker (Took job) ∷ w.journal.entries → WritesRightly at v
-take_written w v at worker job t from er et el =
+take_written w v at worker job t from empty er et el =
     written_as v (job_taken worker job t.before) (jobs_held v.crew) (entry_of at worker (Took job) ∷ w.journal.entries) w.telegrams.turns at (er ∙ t.taken) et el
-    (took_written t.before (jobs_held w.crew) w.telegrams.turns at worker job w.journal.entries t.written t.live t.first from)
+    (took_written t.before (jobs_held w.crew) w.telegrams.turns at worker job w.journal.entries t.written t.live t.first from (no_job w.crew (worker - 1) empty))
 
-pub take_live : (w v : Work) (at worker job : ℕ) (held : Held) → held.job ≡ job → IsTaking w at worker job → 1 ≤ worker
+pub take_live : (w v : Work) (at worker job : ℕ) (held : Held) → held.job ≡ job → IsTaking w at worker job → 1 ≤ worker → worker ≤ length w.crew → None ≡ held_at w.crew (worker - 1)
     → v.reservation ≡ w.reservation → v.crew ≡ set w.crew (worker - 1) (Some held) → v.journal.entries ≡ entry_of at worker (Took job) ∷ w.journal.entries → Lives v
-take_live w v at worker job held same t from er ec el =
+take_live w v at worker job held same t from within empty er ec el =
     live_as v (job_taken worker job t.before) (set (jobs_held w.crew) (worker - 1) (Some job)) (entry_of at worker (Took job) ∷ w.journal.entries) v.telegrams.turns at (er ∙ t.taken) refl el
     (ap jobs_held ec ∙ (set_jobs w.crew (worker - 1) (Some held) ∙ ap (λ k. set (jobs_held w.crew) (worker - 1) (Some k)) same))
-    (took_live t.before (jobs_held w.crew) at worker job w.journal.entries t.live t.first from)
+    (took_live t.before (jobs_held w.crew) at worker job w.journal.entries t.live t.first from (omega (arith, within, length-map w.crew job_in)) (no_job w.crew (worker - 1) empty))
 
 -- ---- the group telegrams
 
@@ -195,6 +198,12 @@ nobody zero place job e = cc
 nobody (suc n) zero job e = cc
 nobody (suc n) (suc place) job e = nobody n place job e
 
+untaken_all : (devices : List IndAddr) (job worker : ℕ) → stage_of (none_taken devices) job ≡ Some (IsHeldBy worker) → ⊥
+untaken_all devices job worker e = differ (of_all (length devices) job IsUntaken (IsHeldBy worker) e)
+  where
+    differ : IsUntaken ≡ IsHeldBy worker → ⊥
+    differ e = cc
+
 pub begins_written : (workers : ℕ) (devices : List IndAddr) (turns : List GroupTurn) (w : Work) (place : ℕ) → BeginsWith workers devices turns w → WritesRightly place w
 begins_written workers devices turns w place b = written_as w (none_taken devices) (jobs_held w.crew) [] turns place b.reservation b.turns_are b.journal
     (record { form = λ jobs of. tt; reserved = λ jobs of. tt; so_far = omega arith })
@@ -204,4 +213,4 @@ begins_telling workers devices turns w b = telling_as w 0 turns [] b.none_told b
 
 pub begins_live : (workers : ℕ) (devices : List IndAddr) (turns : List GroupTurn) (w : Work) → BeginsWith workers devices turns w → Lives w
 begins_live workers devices turns w b = live_as w (none_taken devices) (jobs_held (replicate workers None)) [] turns 0 b.reservation b.turns_are b.journal (ap jobs_held b.crew)
-    (record { reservation_is = λ jobs of. ap none_taken of; holds = λ place job e. absurd (nobody workers place job e) })
+    (record { reservation_is = λ jobs of. ap none_taken of; holds = λ place job. (λ e. absurd (nobody workers place job e), λ e. absurd (untaken_all devices job (suc place) e)) })

@@ -1,6 +1,6 @@
 -- What a hub writes: the log of its run, whose jobs are taken and ended through one reservation, and which job each worker holds. The jobs are
 -- seen by their devices alone, in their order.
-use Rattle.std.specs.Prelude.{◌≡◌, ℕ, suc, Bool, false, ◌==◌, ◌≤◌, ◌&&◌, nat_lt, nat_le, List, length, map, Option, Some, None, slice_get}
+use Rattle.std.specs.Prelude.{◌≡◌, ◌↔◌, ℕ, suc, Bool, false, ◌==◌, ◌≤◌, ◌&&◌, nat_lt, nat_le, List, length, map, Option, Some, None, slice_get}
 use Rattle.knx_model.specs.declared.address.IndAddr.{IndAddr}
 use Rattle.line_model.specs.declared.group.GroupTurn.{GroupTurn}
 use Rattle.line_model.specs.declared.log.LogEntry.{LogEntry}
@@ -30,10 +30,10 @@ job_in (Some held) = Some held.job
 abbrev pub jobs_held : List (Option Held) → List (Option ℕ)
 jobs_held held = map job_in held
 
--- the reservation is that of the log, and each worker holds in it what it holds
+-- the reservation is that of the log, and a worker holds a job exactly where the job is held by it there
 pub record IsLive (r : Reservation) (held : List (Option ℕ)) (log : List LogEntry) : Type 0 where
   pub reservation_is : (jobs : List Job) → AreJobsOf r.devices jobs → reservation_after jobs log ≡ r
-  pub holds : (place job : ℕ) → slice_get held place ≡ Some (Some job) → stage_of r job ≡ Some (IsHeldBy (suc place))
+  pub holds : (place job : ℕ) → (slice_get held place ≡ Some (Some job)) ↔ (stage_of r job ≡ Some (IsHeldBy (suc place)))
 
 -- ---- the worker at a place
 

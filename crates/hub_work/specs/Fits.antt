@@ -1,7 +1,7 @@
 -- A hub's work fits the record of a link, whatever that is: of the moments up to now, the newest first, each job that a worker holds has the
 -- downloader that fits those since it was taken, and the next group telegram stands where those since the entry before it show it. At most one
 -- request is unconfirmed, and the work knows who put it.
-use Rattle.std.specs.Prelude.{◌≡◌, ◌↔◌, ℕ, ◌+◌, ◌-◌, ◌<◌, ◌≤◌, nat_le, is_some, Bool, true, false, List, [], ◌∷◌, length, Option, Some, None, slice_get, if◌then◌else◌}
+use Rattle.std.specs.Prelude.{◌≡◌, ◌↔◌, ℕ, ◌+◌, ◌-◌, ◌≤◌, nat_le, is_some, Bool, true, false, List, [], ◌∷◌, Option, Some, None, slice_get, if◌then◌else◌}
 use Rattle.knx_model.specs.GoodPlan.{IsSendable}
 use Rattle.knx_model.specs.Plans.{Over}
 use Rattle.line_model.specs.declared.group.GroupTurn.{GroupTurn}
@@ -12,7 +12,7 @@ use Rattle.line_model.specs.Log.{Job, Untaken, Held as IsHeld, job_of, turn_of, 
 use Rattle.line_model.specs.Told.{PutsNoGroup, PutOnce, IsConfirmed, IsLoss}
 use Rattle.line_model.specs.Attempts.{attempts, begun}
 use Rattle.line_model.specs.Waiting.{IsUnderWay}
-use Rattle.download_core.specs.Attempt.{DownloaderState, Resting}
+use Rattle.download_core.specs.Attempt.{DownloaderState}
 use Rattle.download_core.specs.Record.{FitsRecord}
 use Rattle.download_core.specs.Follows.{flies}
 use Rattle.hub_work.specs.declared.telegrams.Stage.{Stage}
@@ -36,7 +36,7 @@ abbrev pub in_flight : List Moment → Bool
 in_flight [] = false
 in_flight (m ∷ l) = flies_after m.what (in_flight l)
 
--- ---- a job that this worker took, by the moments since then: its worker holds it, and where there is no such worker nothing was put for it
+-- ---- a job that this worker took, by the moments since then: its worker holds it
 
 pub record FitsJob (w : Work) (now : ℕ) (l : List Moment) (k worker : ℕ) (job : Job) : Type 0 where
   pub state : DownloaderState
@@ -46,8 +46,7 @@ pub record FitsJob (w : Work) (now : ℕ) (l : List Moment) (k worker : ℕ) (jo
   pub from_1 : 1 ≤ worker
   pub fits : FitsRecord state now l
   pub flight : flies state.phase ≡ true → w.sender ≡ Worker worker
-  pub holds : worker - 1 < length (holdings w.crew) → slice_get (holdings w.crew) (worker - 1) ≡ Some (Some (record { job = k; device = job.device; begun = nat_le 1 (begun (attempts job.device job.plan l)) }))
-  pub nobody : length (holdings w.crew) ≤ worker - 1 → state.phase ≡ Resting
+  pub holds : slice_get (holdings w.crew) (worker - 1) ≡ Some (Some (record { job = k; device = job.device; begun = nat_le 1 (begun (attempts job.device job.plan l)) }))
 
 -- ---- the next group telegram, by the moments since the entry before it
 

@@ -6,8 +6,8 @@ use Rattle.line_model.specs.declared.log.LogWhat.{LogWhat}
 use Rattle.line_model.specs.declared.log.LogWhat.TheVariants.{Took, Done, Failed, Refused, Sent, Lost}
 use Rattle.line_model.specs.ClientEnd.{IsCemi}
 use Rattle.knx_model.specs.declared.address.IndAddr.{IndAddr}
-use Rattle.line_model.specs.Log.{Job}
-use Rattle.device_reservation.specs.Reservation.{Reservation, AllWait, AllTaken}
+use Rattle.line_model.specs.Log.{Job, Untaken, HoldsNone, job_of, state_of}
+use Rattle.device_reservation.specs.Reservation.{Reservation, IsFirstFree, AllWait, AllTaken}
 use Rattle.device_reservation.specs.Reserved.{reservation_after}
 use Rattle.hub_work.specs.Books.{AreJobsOf}
 use Rattle.hub_work.specs.declared.answers.Turned.{Turned}
@@ -97,10 +97,10 @@ abbrev pub TurnSuits : Turn → Option Held → Type 0
 TurnSuits (Did turned) held = Suits held turned
 TurnSuits (Puts cemi) held = held ≢ None
 
--- ---- why a worker gets no job
+-- ---- which job a worker gets, and why it gets none
 
 abbrev pub WhyFree : Reservation → Turned → Type 0
-WhyFree r (answer.Took job) = Unit {0}
+WhyFree r (answer.Took job) = IsFirstFree r job
 WhyFree r answer.Moved = Unit {0}
 WhyFree r answer.Wait = Unit {0}
 WhyFree r (answer.Done job) = Unit {0}
@@ -126,3 +126,9 @@ IsEnd answer.NoMore = ⊥
 -- by the log, of any jobs of these devices
 abbrev pub WhyFreeByLog : List IndAddr → List LogEntry → Turned → Type 0
 WhyFreeByLog devices log turned = (jobs : List Job) → AreJobsOf devices jobs → WhyFree (reservation_after jobs log) turned
+
+-- ---- a worker has finished: all jobs are taken, and those that it took have their ends
+
+pub record HasFinished (worker : ℕ) (jobs : List Job) (log : List LogEntry) : Type 0 where
+  pub all_taken : (k : ℕ) → job_of jobs k ≢ None → state_of k log ≢ Untaken
+  pub holds_none : HoldsNone worker log

@@ -38,12 +38,13 @@ pub record KeepsBooks (at : ℕ) (w : Work) : Type 0 where
 abbrev pub tasks : Work → List Task
 tasks w = map task_of_state (states w.downloaders)
 
--- the same jobs and the same group telegrams
+-- the same jobs, the same group telegrams and as many workers
 pub record SameRun (old new : Work) : Type 0 where
   pub devices : new.reservation.devices ≡ old.reservation.devices
   pub tasks_are : tasks new ≡ tasks old
   pub closing : new.closing ≡ old.closing
   pub turns : new.telegrams.turns ≡ old.telegrams.turns
+  pub workers : length new.crew ≡ length old.crew
 
 -- the books stay as they are
 pub record SameBooks (old new : Work) : Type 0 where

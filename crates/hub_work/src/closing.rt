@@ -24,7 +24,7 @@ pub enum Closing {
 
 impl Closing {
     /// It begins.
-    pub fn begin(now: u64) -> Closing
+    pub(crate) fn begin(now: u64) -> Closing
         ensures { closing_of result ≡ Listening now 0 }
     {
         Closing::Listening {
@@ -34,7 +34,7 @@ impl Closing {
     }
 
     /// After a datagram was got.
-    pub fn got(self, now: u64) -> Closing
+    pub(crate) fn got(self, now: u64) -> Closing
         ensures { closing_of result ≡ after_datagram now (closing_of self) }
     {
         match self {
@@ -50,7 +50,7 @@ impl Closing {
     }
 
     /// After a disconnect request was sent.
-    pub fn asked(now: u64) -> Closing
+    pub(crate) fn asked(now: u64) -> Closing
         ensures { closing_of result ≡ Leaving now 0 }
     {
         Closing::Leaving {
@@ -94,7 +94,7 @@ impl Closing {
     }
 
     /// When its wait has passed.
-    pub fn deadline(self) -> u64
+    pub(crate) fn deadline(self) -> u64
         ensures { result ≡ closing_end (closing_of self) }
     {
         match self {

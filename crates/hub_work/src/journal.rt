@@ -1,6 +1,6 @@
 //! The log as it is written.
 
-ghost use Rattle.std.specs.Prelude.{◌≡◌, ◌+◌, ◌≤◌, [], ◌∷◌, reverse, IfOk};
+ghost use Rattle.std.specs.Prelude.{◌≡◌, ◌+◌, ◌≤◌, [], ◌∷◌, length, reverse, IfOk};
 
 use knx_model::{List, NoMemory};
 use line_model::{LogEntry, LogWhat};
@@ -39,6 +39,13 @@ impl Journal {
         ensures room { self.old.room ≤ self.new.room + 1 }
     {
         let _ = self.entries.push(LogEntry { at, worker, what });
+    }
+
+    /// How many entries there are.
+    pub fn len(&self) -> usize
+        ensures { result ≡ length self.now.entries }
+    {
+        self.entries.len()
     }
 
     /// The entries, the oldest first.

@@ -72,6 +72,7 @@ told_over plans groups began after place report none new goes good tells missed 
       place = place;
       form = subst (λ (turns : List GroupTurn). IsLog jobs turns place (log_in report)) none (tells.form jobs of);
       alone = tells.alone jobs of;
+      in_order = tells.in_order jobs of;
       seats = tells.seats;
       heard = tells.heard;
       missed = missed;

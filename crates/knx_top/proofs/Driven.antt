@@ -152,6 +152,7 @@ driven c order line place report is one goes says fresh legal follows good tells
         leaves = rw is.turns left;
         fault = subst (λ s. FaultRightIn jobs (log_in report) report.fault (record_in s)) whole (tells.fault jobs are);
         ended = λ none. tells.over none jobs of;
+        in_order = tells.in_order jobs of;
         closed = λ none. subst (λ s. WhereTold (HasClosed (log_in report)) s) whole (tells.closed none) (placed (start line.run) line.run.events) refl;
         heard = λ none. subst (λ s. HeardAll report.heard (record_in s)) whole (tells.heard none);
         seats = rw is.workers tells.seats;

@@ -24,7 +24,7 @@ use Rattle.line_model.specs.declared.log.Report.{Report}
 use Rattle.line_model.specs.Dialled.{Address, DialerNow, TakesBack, Tells}
 use Rattle.line_model.specs.Headline.{Keeps}
 use Rattle.line_model.specs.LinkStory.{Story, Untold, Recorded, Full, IsNewLink, record_in}
-use Rattle.line_model.specs.Log.{Job, IsLog, OneDownloaderPerDevice, AllOver}
+use Rattle.line_model.specs.Log.{Job, IsLog, OneDownloaderPerDevice, TakenInOrder, AllOver}
 use Rattle.line_model.specs.OldStoppedOrNew.{OldStoppedOrNew, RunsMeaning, MeansWhereDone}
 use Rattle.call_words.specs.Printed.{fault_line, line_report_text}
 use Rattle.report_text.specs.LineStatus.{line_status}
@@ -104,10 +104,11 @@ pub record IsToldOver (workers : ℕ) (turns : List GroupTurn) (jobs : List Job)
   pub fault : FaultRightIn jobs (log_in report) report.fault (record_in story)
   pub ended : report.fault ≡ None → AllOver jobs (log_in report)
   pub closed : report.fault ≡ None → WhereTold (HasClosed (log_in report)) story
-  -- over every link the log is one of the jobs, and no device has two downloaders at once
+  -- over every link the log is one of the jobs, no device has two downloaders at once, and each job that was taken was the first that was free
   pub place : ℕ
   pub form : IsLog jobs turns place (log_in report)
   pub alone : OneDownloaderPerDevice jobs (log_in report)
+  pub in_order : TakenInOrder jobs (log_in report)
   -- what was done was done by one of the workers, or by the group thread
   pub seats : IsOfWorkers workers (log_in report)
   -- what was heard, and what was dropped

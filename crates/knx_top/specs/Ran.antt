@@ -24,7 +24,7 @@ use Rattle.line_model.specs.Headline.{IsDisciplined}
 use Rattle.line_model.specs.Leaves.{LeavesRightly}
 use Rattle.line_model.specs.Legal.{IsLegal}
 use Rattle.line_model.specs.Lines.{script_of}
-use Rattle.line_model.specs.Log.{Job, AllOver}
+use Rattle.line_model.specs.Log.{Job, TakenInOrder, AllOver}
 use Rattle.line_model.specs.OldStoppedOrNew.{OldStoppedOrNew, RunsMeaning, MeansWhereDone}
 use Rattle.call_words.specs.Printed.{DeviceShown}
 use Rattle.line_model.specs.Record.{placed, record_of}
@@ -67,6 +67,8 @@ pub record IsTold (c : Commission) (jobs : List Job) (r : RunNow) (report : Repo
   pub leaves : LeavesRightly jobs c.turns (log_in report) (placed (start r) r.events)
   pub fault : FaultRight jobs (log_in report) (record_of (start r) r.events) report.fault
   pub ended : report.fault ≡ None → AllOver jobs (log_in report)
+  -- each job that was taken was the first that was free
+  pub in_order : TakenInOrder jobs (log_in report)
   pub closed : report.fault ≡ None → HasClosed (log_in report) (placed (start r) r.events)
   pub heard : report.fault ≡ None → report.heard ≡ reverse (indications (record_of (start r) r.events))
   -- what was done was done by one of the workers, or by the group thread

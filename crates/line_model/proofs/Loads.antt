@@ -41,7 +41,7 @@ before_it zero less same = same
 before_it (suc other) less same = omega arith
 
 is_log : IsLog (load ∷ []) [] 33 told_done
-is_log = (record { so_far = omega arith; later = omega arith; follows = refl }, (record { so_far = omega arith; later = omega arith; follows = (λ e. cc, refl, omega arith) }, tt))
+is_log = (record { so_far = omega arith; later = omega arith; follows = refl }, (record { so_far = omega arith; later = omega arith; follows = (λ e. cc, refl, omega arith, λ other since e. cc) }, tt))
 
 alone : OneDownloaderPerDevice (load ∷ []) told_done
 alone = (tt, (record { alone = λ other worker since same e. cc; in_order = λ other less same e. before_it other less same }, tt))

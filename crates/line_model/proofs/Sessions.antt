@@ -39,7 +39,7 @@ before_it zero less same = same
 before_it (suc other) less same = omega arith
 
 is_log : (kept : NonVolatile) → IsLog (job ∷ []) [] 33 told_done
-is_log kept = (record { so_far = omega arith; later = omega arith; follows = refl }, (record { so_far = omega arith; later = omega arith; follows = (λ e. cc, refl, omega arith) }, tt))
+is_log kept = (record { so_far = omega arith; later = omega arith; follows = refl }, (record { so_far = omega arith; later = omega arith; follows = (λ e. cc, refl, omega arith, λ other since e. cc) }, tt))
 
 alone : OneDownloaderPerDevice (job ∷ []) told_done
 alone = (tt, (record { alone = λ other worker since same e. cc; in_order = λ other less same e. before_it other less same }, tt))

@@ -89,14 +89,19 @@ pub record IsNextTurn (turns : List GroupTurn) (log : List LogEntry) (k : ℕ) :
 
 -- ---- the form of a log
 
--- a job is taken once, and ends once, by the worker that holds it; a telegram is told once, after those before it, by the group thread
+-- a worker holds no job
+abbrev pub HoldsNone : ℕ → List LogEntry → Type 0
+HoldsNone worker log = (job since : ℕ) → state_of job log ≢ Held worker since
+
+-- a job is taken once, by a worker that holds none, and ends once, by the worker that holds it; a telegram is told once, after those before it, by the
+-- group thread
 abbrev pub EndsHeld : ℕ → JobState → Type 0
 EndsHeld worker Untaken = ⊥
 EndsHeld worker (Held by since) = by ≡ worker
 EndsHeld worker Over = ⊥
 
 abbrev pub MayFollow : List Job → List GroupTurn → ℕ → List LogEntry → LogWhat → Type 0
-MayFollow jobs turns worker log (Took job) = (job_of jobs job ≢ None) × (state_of job log ≡ Untaken) × (1 ≤ worker)
+MayFollow jobs turns worker log (Took job) = (job_of jobs job ≢ None) × (state_of job log ≡ Untaken) × (1 ≤ worker) × HoldsNone worker log
 MayFollow jobs turns worker log (Done job) = EndsHeld worker (state_of job log)
 MayFollow jobs turns worker log (Failed job signs) = EndsHeld worker (state_of job log)
 MayFollow jobs turns worker log (Refused job op got expected) = EndsHeld worker (state_of job log)
@@ -135,3 +140,17 @@ TakesFree jobs log _ = Unit {0}
 abbrev pub OneDownloaderPerDevice : List Job → List LogEntry → Type 0
 OneDownloaderPerDevice jobs [] = Unit {0}
 OneDownloaderPerDevice jobs (e ∷ log) = TakesFree jobs log e.what × OneDownloaderPerDevice jobs log
+
+-- ---- in order: a job that is taken is the first that is free
+
+pub record IsFirstFree (jobs : List Job) (log : List LogEntry) (job : ℕ) : Type 0 where
+  pub free : IsFree jobs log job
+  pub first : (other : ℕ) → other < job → job_of jobs other ≢ None → state_of other log ≡ Untaken → ¬ IsFree jobs log other
+
+abbrev pub TakesFirst : List Job → List LogEntry → LogWhat → Type 0
+TakesFirst jobs log (Took job) = IsFirstFree jobs log job
+TakesFirst jobs log _ = Unit {0}
+
+abbrev pub TakenInOrder : List Job → List LogEntry → Type 0
+TakenInOrder jobs [] = Unit {0}
+TakenInOrder jobs (e ∷ log) = TakesFirst jobs log e.what × TakenInOrder jobs log

@@ -5,10 +5,11 @@ ghost use Rattle.line_model.specs.Log.{Job, AllOver, TurnUnfinished};
 ghost use Rattle.tunnel_link.specs.Adds.{AllNothing, Growing, HasActed};
 ghost use Rattle.tunnel_link.specs.Rights.{WhereTold};
 ghost use Rattle.hub_work.specs.Books.{AreJobsOf};
+ghost use Rattle.hub_work.specs.Closes.{Begins};
 ghost use Rattle.line_model.specs.LinkStory.{newest_time};
 ghost use Rattle.line_model.specs.Record.{entries};
 ghost use Rattle.hub_core.specs.Came.{Comes};
-ghost use Rattle.hub_core.specs.Closes.{AsksNow, Begins, Closes, EndsAs, FinishesSo, GoesSo, MayAwaitNow, OverExactly, Resumes, WaitsNow};
+ghost use Rattle.hub_core.specs.Closes.{AsksNow, Closes, EndsAs, FinishesSo, GoesSo, MayAwaitNow, OverExactly, Resumes, WaitsNow};
 ghost use Rattle.hub_core.specs.Leaving.{ClosesOn, WaitsOn};
 ghost use Rattle.hub_core.specs.Hears.{HearsSo, heard_at_end};
 ghost use Rattle.hub_core.specs.Keeps.{IsAllDone};
@@ -81,6 +82,7 @@ impl<L: Link> Hub<L> {
     /// Asks to end the channel.
     fn leave(&mut self) -> Result<Finished, HubFault>
         requires stands { self.old.fault ≡ None }
+        requires begun { self.old.closing ≢ None }
         requires waited { AsksNow self.old.closing (L.story self.old.link) }
         requires over { IsAllDone self.old.devices self.old.turns self.old.log }
         ensures since { Since L.story L.script L.faults self.old self.new }
@@ -103,7 +105,7 @@ impl<L: Link> Hub<L> {
         if !asked {
             return Ok(Finished::Over);
         }
-        self.work.closing = Some(Closing::asked(now));
+        self.work.asked_to_leave(now);
         let is_over = self.is_over();
         Ok(finished(None, is_over))
     }
@@ -148,14 +150,8 @@ impl<L: Link> Hub<L> {
         ensures log { self.new.log ≡ self.old.log }
         ensures stands { self.new.fault ≡ None }
     {
-        match self.work.closing {
-            Some(closing) => closing,
-            None => {
-                let closing = Closing::begin(self.tunnel.now());
-                self.work.closing = Some(closing);
-                closing
-            }
-        }
+        let now = self.tunnel.now();
+        self.work.closing_at(now)
     }
 
     /// Whether the closing is over.

@@ -10,7 +10,7 @@ ghost use Rattle.std.specs.Prelude.{◌≡◌, ◌≤◌, ◌<◌, ◌+◌, ◌^
 ghost use Rattle.std.specs.List.{AllByRecursion};
 ghost use Rattle.line_model.specs.Headline.{Keeps, IsGoodJob};
 ghost use Rattle.line_model.specs.LinkStory.{IsNewLink, IsPlace, record_in};
-ghost use Rattle.line_model.specs.Log.{Job, IsLog, OneDownloaderPerDevice};
+ghost use Rattle.line_model.specs.Log.{Job, IsLog, OneDownloaderPerDevice, TakenInOrder};
 ghost use Rattle.hub_work.specs.Books.{AreJobsOf};
 ghost use Rattle.hub_work.specs.Requests.{IsTurnInRange};
 ghost use Rattle.hub_work.specs.declared.job.HubJob.{HubJob as JobOfHub};
@@ -113,6 +113,13 @@ impl<L: Link> Hub<L> {
         self.missed = self.missed.saturating_add(1);
     }
 
+    /// How many entries the log has.
+    pub fn entries(&self) -> u64
+        ensures { result ≡ length self.now.log }
+    {
+        self.work.entries()
+    }
+
     /// Hands the link back, and what is told of the run.
     pub fn close(self) -> HubEnd<L>
         ensures link { result.link ≡ self.link }
@@ -142,7 +149,8 @@ impl<L: Link> Hub<L> {
     /// What its type keeps, at every moment and after a fault too, for any jobs with its devices and plans. Where its link tells something: the log is
     /// one of its jobs and telegrams, what it tells is true, and each request was right; all is kept that the line's promises need of the client, and it
     /// polled promptly, so that it kept the client's whole discipline; it is thorough in what it ends; it has ended exactly where there is a cause; and over
-    /// a link that tells its events and with good jobs, what the law of the line says. Over every link its log is one of its jobs and telegrams, with one downloader for each device.
+    /// a link that tells its events and with good jobs, what the law of the line says. Over every link its log is one of its jobs and telegrams, with one downloader for each
+    /// device, and each job that was taken was the first that was free.
     pub fn keeps(&self)
         ensures tells { (jobs : List Job) → AreJobs self.now.jobs jobs → TellsIn jobs self.now.turns self.now.log (L.story self.now.link) }
         ensures headline { (jobs : List Job) → AreJobs self.now.jobs jobs → Keeps jobs self.now.turns (L.story self.now.link) self.now.log }
@@ -152,6 +160,7 @@ impl<L: Link> Hub<L> {
         ensures fault { (jobs : List Job) → AreJobs self.now.jobs jobs → FaultRightIn jobs self.now.log self.now.fault (record_in (L.story self.now.link)) }
         ensures form { (jobs : List Job) → AreJobsOf self.now.devices jobs → IsLog jobs self.now.turns (L.place self.now.link) self.now.log }
         ensures alone { (jobs : List Job) → AreJobsOf self.now.devices jobs → OneDownloaderPerDevice jobs self.now.log }
+        ensures in_order { (jobs : List Job) → AreJobsOf self.now.devices jobs → TakenInOrder jobs self.now.log }
         ensures place { IsPlace (L.place self.now.link) (L.story self.now.link) }
     {
         one_downloader_per_device();

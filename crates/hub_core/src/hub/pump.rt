@@ -89,14 +89,12 @@ impl<L: Link> Hub<L> {
         ensures log { self.new.log ≡ self.old.log }
     {
         moments_go_on();
-        match self.work.closing {
-            Some(_) => Ok(false),
-            None => {
-                let sought = self.tunnel.seek();
-                let _now = self.tunnel.now();
-                sought
-            }
+        if self.work.is_closing() {
+            return Ok(false);
         }
+        let sought = self.tunnel.seek();
+        let _now = self.tunnel.now();
+        sought
     }
 
     /// Makes one poll.

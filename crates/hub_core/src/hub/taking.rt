@@ -6,7 +6,7 @@ ghost use Rattle.hub_core.specs.Came.{CountsIn, CountsLoss, CountsTaken};
 ghost use Rattle.hub_core.specs.Closes.{ClosesBy};
 ghost use Rattle.hub_core.specs.Taking.{SameWork, DeliversIn, EndsSo, HeardIn, LosesIn, MeetsSo, TakesIn, is_got as got_one, is_taken as took_one};
 
-use hub_work::{Closing, Work, moments_go_on};
+use hub_work::{Work, moments_go_on};
 use line_model::{HubFault, Indication};
 use tunnel_link::{Came, Loss, What};
 
@@ -63,7 +63,7 @@ pub fn lose(work: &mut Work, got: bool, loss: Loss, now: u64)
     ensures closing { loss ≡ Loss.Stays → got ≡ false → work.new.closing ≡ work.old.closing }
 {
     give_up(work, loss, now);
-    work.closing = closing_after(work.closing, got, loss, now);
+    closes(work, got, loss, now);
 }
 
 /// Tells the work of the loss of its channel, at this time, where it was lost.
@@ -80,16 +80,16 @@ fn give_up(work: &mut Work, loss: Loss, now: u64)
     }
 }
 
-/// How far the closing is after a datagram was got or wasn't, and after this became of the channel.
-fn closing_after(closing: Option<Closing>, got: bool, loss: Loss, now: u64) -> Option<Closing>
-    ensures closes { ClosesBy got loss now closing result }
-    ensures stays { loss ≡ Loss.Stays → got ≡ false → result ≡ closing }
+/// Tells the work for its closing that a datagram was got or wasn't, and what became of the channel.
+fn closes(work: &mut Work, got: bool, loss: Loss, now: u64)
+    ensures closes { ClosesBy got loss now work.old.closing work.new.closing }
+    ensures stays { loss ≡ Loss.Stays → got ≡ false → work.new.closing ≡ work.old.closing }
+    ensures rest { work.new ≡ record work.old { closing = work.new.closing } }
 {
-    let closing = closing?;
     match loss {
-        Loss::Told => Some(Closing::asked(now)),
-        Loss::Stays | Loss::Ended if got => Some(closing.got(now)),
-        Loss::Stays | Loss::Ended => Some(closing),
+        Loss::Told => work.asked_to_leave(now),
+        Loss::Stays | Loss::Ended if got => work.got(now),
+        Loss::Stays | Loss::Ended => {}
     }
 }
 

@@ -1,9 +1,10 @@
 //! A worker's turn.
 
-ghost use Rattle.std.specs.Prelude.{◌≡◌, ◌≢◌, ◌≤◌, ◌-◌, IfErr, IfOk, OnErr, OnOk, Some, None};
-ghost use Rattle.hub_work.specs.Books.{held_at};
+ghost use Rattle.std.specs.Prelude.{◌≡◌, ◌≢◌, ◌≤◌, ◌-◌, List, length, IfErr, IfOk, OnErr, OnOk, Some, None};
+ghost use Rattle.line_model.specs.Log.{Job};
+ghost use Rattle.hub_work.specs.Books.{AreJobsOf, held_at};
 ghost use Rattle.hub_work.specs.Came.{TakesOneIn, waiting_at};
-ghost use Rattle.hub_work.specs.Turns.{Suits, TurnTells, WhyFreeByLog};
+ghost use Rattle.hub_work.specs.Turns.{HasFinished, Suits, TurnTells, WhyFreeByLog};
 ghost use Rattle.tunnel_link.specs.Adds.{Growing};
 ghost use Rattle.tunnel_link.specs.Alone.{Each, LeavesAlone};
 ghost use Rattle.hub_work.specs.declared.answers.Turned.TheVariants as answer;
@@ -18,9 +19,11 @@ use hub_work::{Turn, Turned, places_are_free};
 use line_model::{HubFault, Link};
 
 impl<L: Link> Hub<L> {
-    /// One step of a worker, from 1: it takes a job, takes in what came for its job, sends what its job sends next, or tells its job's end.
+    /// One step of a worker, from 1 up to the number that `begin` was given: it takes the first job that is free, takes in what came for its job, sends what
+    /// its job sends next, or tells its job's end.
     pub fn turn(&mut self, worker: u8) -> Result<Turned, HubFault>
         requires worker { 1 ≤ worker }
+        requires within { worker ≤ length self.old.crew }
         ensures since { Since L.story L.script L.faults self.old self.new }
         ensures stands { OnOk result (self.new.fault ≡ None) }
         ensures heard { OnOk result (HearsSo None (L.story self.old.link) (L.story self.new.link)) }
@@ -28,6 +31,8 @@ impl<L: Link> Hub<L> {
         ensures waits { IfOk result (λ turned. TurnWaitsExactly self.old.jobs self.old.turns self.old.log self.old.crew (L.place self.old.link) worker turned (L.story self.old.link)) }
         ensures suits { IfOk result (Suits (held_at self.old.crew (worker - 1))) }
         ensures free { IfOk result (WhyFreeByLog self.old.devices self.old.log) }
+        // once it is told that there are no more it has finished
+        ensures finished { IfOk result (λ turned. turned ≡ answer.NoMore → (jobs : List Job) → AreJobsOf self.new.devices jobs → HasFinished worker jobs self.new.log) }
         ensures came { OnOk result (TakesOneIn worker self.old.crew self.new.crew) }
         // where something came for its job, it takes one thing in, and sends nothing; else it moves only where it sends a request
         ensures takes_in { IfOk result (λ turned. 1 ≤ waiting_at self.old.crew (worker - 1) → (turned ≡ answer.Moved) × (self.new.link ≡ self.old.link)) }

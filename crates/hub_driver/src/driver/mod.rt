@@ -3,7 +3,7 @@
 mod closing;
 mod end;
 
-ghost use Rattle.std.specs.Prelude.{◌≡◌, ◌+◌, ℕ, None, List, [], ◌∷◌, ◌++◌, IfErr, OnOk, true, false, length, reverse};
+ghost use Rattle.std.specs.Prelude.{◌≡◌, ◌≤◌, ◌+◌, ℕ, None, List, [], ◌∷◌, ◌++◌, IfErr, OnOk, true, false, length, reverse};
 ghost use Rattle.hub_core.specs.Commissioned.{TellsRun};
 ghost use Rattle.hub_core.specs.Left.{AllDone, IsLeft};
 ghost use Rattle.hub_core.specs.Promises.{LeavesOver};
@@ -55,6 +55,7 @@ impl<L: Link> Driver<L> {
 
     /// Goes through all jobs and group telegrams, and then through the closing. It gives the link back, and what is told.
     pub fn drives<R: Wait, G: Gate>(self, rt: &R, gate: &G) -> (L, Report)
+        requires manned { 1 ≤ length self.hub.crew }
         requires seats { IsOfWorkers 1 self.hub.log }
         requires through { GoesThrough self.hub (L.story self.hub.link) }
         requires heard { HeardAll self.heard (record_in (L.story self.hub.link)) }
@@ -71,6 +72,7 @@ impl<L: Link> Driver<L> {
 
     /// Goes through all jobs and group telegrams, and then through the closing.
     fn runs<R: Wait, G: Gate>(&mut self, rt: &R, gate: &G) -> Result<(), HubFault>
+        requires manned { 1 ≤ length self.old.hub.crew }
         requires seats { IsOfWorkers 1 self.old.hub.log }
         requires through { GoesThrough self.old.hub (L.story self.old.hub.link) }
         requires heard { HeardAll self.old.heard (record_in (L.story self.old.hub.link)) }
@@ -88,6 +90,7 @@ impl<L: Link> Driver<L> {
 
     /// Goes through all jobs and group telegrams.
     fn commissions<R: Wait, G: Gate>(&mut self, rt: &R, gate: &G) -> Result<(), HubFault>
+        requires manned { 1 ≤ length self.old.hub.crew }
         requires seats { IsOfWorkers 1 self.old.hub.log }
         requires through { GoesThrough self.old.hub (L.story self.old.hub.link) }
         requires heard { HeardAll self.old.heard (record_in (L.story self.old.hub.link)) }
@@ -110,6 +113,7 @@ impl<L: Link> Driver<L> {
 
     /// One turn of the worker, and a poll where it waits.
     fn works<G: Gate>(&mut self, gate: &G) -> Result<(), HubFault>
+        requires manned { 1 ≤ length self.old.hub.crew }
         requires seats { IsOfWorkers 1 self.old.hub.log }
         requires through { GoesThrough self.old.hub (L.story self.old.hub.link) }
         requires left { IsLeft self.old.hub }

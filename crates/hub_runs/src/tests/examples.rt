@@ -1,6 +1,6 @@
 //! The examples that stand on the pages of the crates of hub, tunnel and simulated line, each with what comes of it.
 
-ghost use Rattle.std.specs.Prelude.{IfOk};
+ghost use Rattle.std.specs.Prelude.{◌≤◌, length, IfOk};
 ghost use Rattle.bus_sim.specs.RunNow.{story};
 ghost use Rattle.line_model.specs.LinkStory.{IsNewLink};
 
@@ -42,7 +42,9 @@ fn open<L: Link>(tunnel: &mut Tunnel<L>, polls: u32) -> Result<bool, HubFault> {
 }
 
 /// Does all jobs as the hub's only worker, in so many turns at most: it polls where a turn has nothing to do.
-fn work<L: Link>(hub: &mut Hub<L>, turns: u32) -> Result<bool, HubFault> {
+fn work<L: Link>(hub: &mut Hub<L>, turns: u32) -> Result<bool, HubFault>
+    requires { 1 ≤ length hub.old.crew }
+{
     for _ in 0..turns {
         match hub.turn(1)? {
             Turned::NoMore => return Ok(true),

@@ -1,5 +1,7 @@
 //! How long polls last: a worker that has something to do isn't kept waiting.
 
+ghost use Rattle.std.specs.Prelude.{◌≡◌, ◌≤◌, length};
+
 use super::{JobKind, group_turns, jobs_of};
 use hub_core::Hub;
 use knx_model::{List, NoMemory, Octets};
@@ -45,7 +47,10 @@ fn newest_time(link: &FixedLink) -> Option<u64> {
 }
 
 /// Makes a call. Tells whether there was no fault.
-fn is_done(hub: &mut Hub<FixedLink>, call: Call) -> bool {
+fn is_done(hub: &mut Hub<FixedLink>, call: Call) -> bool
+    requires { 1 ≤ length hub.old.crew }
+    ensures { length hub.new.crew ≡ length hub.old.crew }
+{
     match call {
         Call::Turn => hub.turn(1).is_ok(),
         Call::Pump => hub.pump().is_ok(),
@@ -53,7 +58,9 @@ fn is_done(hub: &mut Hub<FixedLink>, call: Call) -> bool {
 }
 
 /// At how many milliseconds the last of these calls ends; None where one of them has a fault.
-fn ends_at(hub: Hub<FixedLink>, calls: &[Call]) -> Option<u64> {
+fn ends_at(hub: Hub<FixedLink>, calls: &[Call]) -> Option<u64>
+    requires { 1 ≤ length hub.crew }
+{
     let mut hub = hub;
     for call in calls {
         if !is_done(&mut hub, *call) {

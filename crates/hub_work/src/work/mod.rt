@@ -1,5 +1,6 @@
 //! What is done, without any link: the jobs with their downloaders, the workers, the group telegrams, and the log.
 
+mod closing;
 mod deliver;
 mod turn;
 
@@ -51,7 +52,7 @@ pub struct Work {
     crew: Crew,
     telegrams: Telegrams,
     sender: Sender,
-    pub closing: Option<Closing>,
+    closing: Option<Closing>,
     journal: Journal,
 }
 
@@ -107,6 +108,13 @@ impl Work {
             journal,
         } = self;
         journal.into_list()
+    }
+
+    /// How many entries the log has.
+    pub fn entries(&self) -> u64
+        ensures { result ≡ length self.now.journal.entries }
+    {
+        self.journal.len() as u64
     }
 
     /// Whether a job has no end yet.

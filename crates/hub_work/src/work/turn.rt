@@ -1,17 +1,18 @@
 //! A worker's turn.
 
-ghost use Rattle.std.specs.Prelude.{◌≡◌, ◌≢◌, ◌↔◌, ℕ, Bool, ◌-◌, ◌≤◌, false, length, Some, None};
+ghost use Rattle.std.specs.Prelude.{◌≡◌, ◌≢◌, ◌↔◌, ℕ, Bool, ◌-◌, ◌≤◌, List, false, length, Some, None};
 ghost use Rattle.download_core.specs.Attempt.{DownloaderState};
 ghost use Rattle.download_core.specs.Steps.{stepped};
 ghost use Rattle.line_model.specs.Reading.{ldata_in};
-ghost use Rattle.hub_work.specs.Books.{held_at};
+ghost use Rattle.line_model.specs.Log.{Job};
+ghost use Rattle.hub_work.specs.Books.{AreJobsOf, held_at};
 ghost use Rattle.hub_work.specs.Came.{waiting_at, TakesOneIn};
 ghost use Rattle.hub_work.specs.Crew.{holdings, after_begun};
 ghost use Rattle.hub_work.specs.Comes.{TookFollows, EndFollows, after_end};
 ghost use Rattle.hub_work.specs.Downloaders.{changed, states};
 ghost use Rattle.hub_work.specs.Requests.{request_with};
 ghost use Rattle.line_model.specs.ClientEnd.{IsCemi};
-ghost use Rattle.hub_work.specs.Turns.{Adds, IsEnd, WaitsFree, PutsCemi, PutsWhere, EndsJob, TurnSuits, TurnTold};
+ghost use Rattle.hub_work.specs.Turns.{Adds, HasFinished, IsEnd, WaitsFree, PutsCemi, PutsWhere, EndsJob, TurnSuits, TurnTold};
 ghost use Rattle.hub_work.specs.Follows.{TurnFollows};
 ghost use Rattle.hub_work.specs.Waits.{WaitsFor, WaitsExactly};
 ghost use Rattle.hub_work.specs.Works.{KeepsBooks, SameRun, SameBooks, IsHolder, IsTaking};
@@ -39,6 +40,7 @@ impl Work {
     /// A worker's turn at a time, when the link tells of so many events and the place in flight is free or not.
     pub fn turn(&mut self, worker: u8, now: u64, at: u64, has_place: bool) -> Turn
         requires worker { 1 ≤ worker }
+        requires within { worker ≤ length self.old.crew }
         requires books { KeepsBooks at self.old }
         ensures suits { TurnSuits result (held_at self.old.crew (worker - 1)) }
         ensures takes_in { (1 ≤ waiting_at self.old.crew (worker - 1)) ↔ (result ≡ Turn.Did Turned.Moved) }
@@ -51,6 +53,7 @@ impl Work {
         ensures waits { WaitsExactly now at has_place worker self.old result }
         ensures follows { TurnFollows now at self.old self.new result }
         ensures came { TakesOneIn worker self.old.crew self.new.crew }
+        ensures finished { result ≡ Turn.Did Turned.NoMore → (jobs : List Job) → AreJobsOf self.new.reservation.devices jobs → HasFinished worker jobs self.new.journal.entries }
     {
         match self.crew.held(worker) {
             None => self.takes_job(worker, at),
@@ -65,6 +68,7 @@ impl Work {
     /// The worker takes the first job that is free.
     fn takes_job(&mut self, worker: u8, at: u64) -> Turn
         requires worker { 1 ≤ worker }
+        requires within { worker ≤ length self.old.crew }
         requires empty { None ≡ held_at self.old.crew (worker - 1) }
         requires books { KeepsBooks at self.old }
         ensures suits { TurnSuits result None }
@@ -76,6 +80,7 @@ impl Work {
         ensures books { KeepsBooks at self.new }
         ensures follows { (now : ℕ) → TurnFollows now at self.old self.new result }
         ensures came { TakesOneIn worker self.old.crew self.new.crew }
+        ensures finished { result ≡ Turn.Did Turned.NoMore → (jobs : List Job) → AreJobsOf self.new.reservation.devices jobs → HasFinished worker jobs self.new.journal.entries }
     {
         match self.reservation.take(worker) {
             Taken::Job(job) => self.took(worker, job, at),
@@ -87,6 +92,7 @@ impl Work {
     /// It took this job.
     fn took(&mut self, worker: u8, job: u32, at: u64) -> Turn
         requires worker { 1 ≤ worker }
+        requires within { worker ≤ length self.old.crew }
         requires empty { None ≡ held_at self.old.crew (worker - 1) }
         requires taking { IsTaking self.old at worker job }
         ensures took { result ≡ Turn.Did (Turned.Took job) }

@@ -1,15 +1,21 @@
-use Rattle.std.proofs.Common.{◌≡◌, Option, None, refl, sym, subst, ap, ◌∙◌, arith}
+use Rattle.std.proofs.Common.{◌≡◌, ◌≤◌, List, length, replicate, Option, None, refl, sym, subst, ap, ◌∙◌, arith}
 use Rattle.std.specs.Prelude.{IfSome}
 use Rattle.line_model.specs.declared.fault.HubFault.{HubFault}
 use Rattle.line_model.specs.LinkStory.{IsNewLink}
 use Rattle.tunnel_link.specs.Goes.{GoesOn}
 use Rattle.tunnel_link.specs.Rights.{FailsWhere}
 use Rattle.tunnel_link.proofs.Stories.{stays}
+use Rattle.hub_work.specs.declared.crew.Held.{Held}
 use Rattle.hub_core.specs.Seen.{tasks_seen}
 use Rattle.hub_core.specs.Since.{CausedSince}
 use Rattle.hub_driver.proofs.New.{new_tells}
 use Rattle.hub_driver.proofs.Told.{told_for}
 use Rattle.hub_driver.proofs.run.commission.Goals as goal
+
+pub drives-requires-clause-manned : goal.drives-requires-clause-manned
+drives-requires-clause-manned g c =
+    let one : c.new.result.hub.crew ≡ replicate 1 None = ap (λ h. h.crew) c.new.ensures.hub ∙ c.in-Ok.ensures.crew in
+    subst (λ (crew : List (Option Held)). 1 ≤ length crew) (sym one) (omega arith)
 
 pub returns-in-Ok : goal.returns-in-Ok
 returns-in-Ok g c =

@@ -1,6 +1,7 @@
 use Rattle.hub_core.proofs.Hears.{hears_after}
 use Rattle.std.proofs.Common.{◌≡◌, None, sym, subst}
-use Rattle.hub_core.specs.Closes.{Begins, Closes, Resumes}
+use Rattle.hub_work.specs.Closes.{Begins}
+use Rattle.hub_core.specs.Closes.{Closes, Resumes}
 use Rattle.hub_core.specs.Pumps.{AddsSo}
 use Rattle.hub_core.proofs.Endings.{closes_now, closes_all, goes_after}
 use Rattle.line_model.specs.LinkStory.{newest_time}

@@ -1,6 +1,6 @@
 use Rattle.std.proofs.Common.{◌≡◌, Some, false, refl, sym, subst}
 use Rattle.std.specs.Prelude.{OnOk, ◌&&◌}
-use Rattle.hub_core.specs.Closes.{Begins, Resumes}
+use Rattle.hub_core.specs.Closes.{Resumes}
 use Rattle.hub_core.specs.Pumps.{AddsSo}
 use Rattle.hub_core.proofs.Endings.{closes_ok}
 use Rattle.line_model.specs.LinkStory.{places_in, newest_time}
@@ -10,7 +10,7 @@ use Rattle.tunnel_link.specs.Rights.{WhereTold}
 use Rattle.hub_core.specs.Leaving.{ClosesOn, WaitsOn}
 use Rattle.line_model.specs.Closing as line
 use Rattle.hub_core.proofs.Leaving.{on_begun}
-use Rattle.hub_work.specs.Closes.{closing_of}
+use Rattle.hub_work.specs.Closes.{closing_of, Begins}
 use Rattle.hub_core.proofs.InTime.{begun_waits, waits_sending}
 use Rattle.tunnel_link.proofs.Stories.{stays}
 use Rattle.hub_core.specs.Polls.{SendsOnly, Polls}

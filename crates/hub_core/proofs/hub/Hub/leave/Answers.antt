@@ -1,7 +1,8 @@
-use Rattle.std.proofs.Common.{◌≡◌, Some, None, sym, subst, refl, ◌∙◌}
+use Rattle.std.proofs.Common.{◌≡◌, ◌≢◌, Some, None, sym, ap, subst, refl, ◌∙◌}
+use Rattle.hub_work.specs.declared.work.Work.{Work}
 use Rattle.hub_core.specs.Keeps.{IsAllDone}
 use Rattle.hub_core.proofs.Calls.{leaves_failed, leaves_done, same_refl}
-use Rattle.hub_core.proofs.Closings.{closing_kept}
+use Rattle.hub_core.proofs.Closings.{kept_as, closing_run, asked_since}
 use Rattle.hub_core.proofs.Keeps.{none_inside}
 use Rattle.hub_core.proofs.Prompting.{prompts_told}
 use Rattle.hub_core.proofs.Quiet.{asides_fit}
@@ -28,7 +29,7 @@ pub invariant_of-self-2 : goal.invariant_of-self-2
 invariant_of-self-2 g c =
     let over : IsAllDone c.self.inside.work.reservation.devices c.self.inside.work.telegrams.turns c.self.inside.work.journal.entries = subst (λ v. IsAllDone v.devices v.turns v.log) (sym c.self.view_is) c.requires.over in
     let none : c.self.inside.tunnel.known.fault ≡ None = none_inside _ _ c.self.view_is c.requires.stands in
-    closing_kept _ _ c.self.inside.work _ _ _ over
+    kept_as _ _ c.self.inside.work c.asked_to_leave.new.self _ _ c.asked_to_leave.ensures.rest over
     (leaves_done _ _ _ _ _ _ _ none c.leave.ensures.events c.leave.ensures.grows c.self.inside.work c.self.inside.work c.in_ok-asked.asked c.now-now.result c.in_ok-asked.ensures.adds c.in_ok-asked.ensures.stands (same_refl c.self.inside.work)
     c.moments_go_on.ensures.later (asides_fit c.self.inside.work c.now-now.result c.moments_go_on.ensures.aside) c.now-now.ensures.newest (prompts_told _ _ c.self.inside.work c.leave.ensures.prompt) c.self.invariant)
 
@@ -38,20 +39,24 @@ invariant_of-self-then-not-asked g c =
     leaves_done _ _ _ _ _ _ _ none c.leave.ensures.events c.leave.ensures.grows c.self.inside.work c.self.inside.work c.in_ok-asked.asked c.now-now.result c.in_ok-asked.ensures.adds c.in_ok-asked.ensures.stands (same_refl c.self.inside.work)
     c.moments_go_on.ensures.later (asides_fit c.self.inside.work c.now-now.result c.moments_go_on.ensures.aside) c.now-now.ensures.newest (prompts_told _ _ c.self.inside.work c.leave.ensures.prompt) c.self.invariant
 
+pub is_over-is_over-requires-clause-over : goal.is_over-is_over-requires-clause-over
+is_over-is_over-requires-clause-over g c =
+    subst (λ (w : Work). IsAllDone w.reservation.devices w.telegrams.turns w.journal.entries) (sym c.asked_to_leave.ensures.rest) (subst (λ v. IsAllDone v.devices v.turns v.log) (sym c.self.view_is) c.requires.over)
+
 pub returns-in_err-asked-clause-since : goal.returns-in_err-asked-clause-since
 returns-in_err-asked-clause-since g c =
     let none : c.self.inside.tunnel.known.fault ≡ None = none_inside _ _ c.self.view_is c.requires.stands in
-    rw (← c.self.view_is) (call_since c.leave.result none c.leave.ensures.grows c.leave.ensures.script (record { tasks = refl; devices = refl; turns = refl; missed = refl }) c.leave.ensures.count (c.leave.ensures.cause none) c.leave.ensures.stands c.leave.ensures.fault)
+    rw (← c.self.view_is) (call_since c.leave.result none c.leave.ensures.grows c.leave.ensures.script (record { tasks = refl; devices = refl; turns = refl; workers = refl; missed = refl }) c.leave.ensures.count (c.leave.ensures.cause none) c.leave.ensures.stands c.leave.ensures.fault)
 
 pub returns-then-not-asked-clause-since : goal.returns-then-not-asked-clause-since
 returns-then-not-asked-clause-since g c =
     let none : c.self.inside.tunnel.known.fault ≡ None = none_inside _ _ c.self.view_is c.requires.stands in
-    rw (← c.self.view_is) (call_since c.leave.result none c.leave.ensures.grows c.leave.ensures.script (record { tasks = refl; devices = refl; turns = refl; missed = refl }) c.leave.ensures.count (c.leave.ensures.cause none) c.leave.ensures.stands c.leave.ensures.fault)
+    rw (← c.self.view_is) (call_since c.leave.result none c.leave.ensures.grows c.leave.ensures.script (record { tasks = refl; devices = refl; turns = refl; workers = refl; missed = refl }) c.leave.ensures.count (c.leave.ensures.cause none) c.leave.ensures.stands c.leave.ensures.fault)
 
 pub returns-clause-since : goal.returns-clause-since
 returns-clause-since g c =
     let none : c.self.inside.tunnel.known.fault ≡ None = none_inside _ _ c.self.view_is c.requires.stands in
-    rw (← c.self.view_is) (since_again (call_since c.leave.result none c.leave.ensures.grows c.leave.ensures.script (record { tasks = refl; devices = refl; turns = refl; missed = refl }) c.leave.ensures.count (c.leave.ensures.cause none) c.leave.ensures.stands c.leave.ensures.fault) (still_since c.is_over-is_over.ensures.link (c.is_over-is_over.ensures.stands ∙ sym c.in_ok-asked.ensures.stands) c.is_over-is_over.ensures.run))
+    rw (← c.self.view_is) (since_again (call_since c.leave.result none c.leave.ensures.grows c.leave.ensures.script (closing_run c.self.inside.tunnel.link c.leave.new.self.link c.self.inside.tunnel.known c.leave.new.self.known c.self.inside.work c.asked_to_leave.new.self c.self.inside.tunnel.known.fault c.leave.new.self.known.fault c.self.inside.missed c.asked_to_leave.ensures.rest) c.leave.ensures.count (c.leave.ensures.cause none) c.leave.ensures.stands c.leave.ensures.fault) (still_since c.is_over-is_over.ensures.link (c.is_over-is_over.ensures.stands ∙ sym c.in_ok-asked.ensures.stands) c.is_over-is_over.ensures.run))
 
 pub returns-then-not-asked-clause-heard : goal.returns-then-not-asked-clause-heard
 returns-then-not-asked-clause-heard g c = rw (← c.self.view_is) (hears_none _ _ _ c.in_ok-asked.ensures.adds (λ old added h. h.nothing))
@@ -70,9 +75,17 @@ returns-clause-heard g c =
 
 pub returns-clause-resumes : goal.returns-clause-resumes
 returns-clause-resumes g c =
-    rw (← c.self.view_is) (subst (λ o. AddsSo (Resumes c.self.inside.work.closing o) (g.L.Link.story c.self.inside.tunnel.link) (g.L.Link.story c.is_over-is_over.new.self.link)) (sym (c.is_over-is_over.ensures.stays (some_begun c.asked.result)))
-    (subst (λ l. AddsSo (Resumes c.self.inside.work.closing (Some c.asked.result)) (g.L.Link.story c.self.inside.tunnel.link) (g.L.Link.story l)) (sym c.is_over-is_over.ensures.link)
-    (asked_resumes _ _ c.in_ok-asked.asked c.now-now.result _ c.asked.result c.keeps.ensures.legal c.now-now.ensures.newest c.in_ok-asked.ensures.adds c.if-not-asked.false c.asked.ensures)))
+    let begun : c.self.inside.work.closing ≢ None = subst (λ v. v.closing ≢ None) (sym c.self.view_is) c.requires.begun in
+    let asked = asked_since c.now-now.result c.self.inside.work.closing c.asked_to_leave.new.self.closing c.asked_to_leave.ensures.closing begun in
+    rw (← c.self.view_is) (subst (λ o. AddsSo (Resumes c.self.inside.work.closing o) (g.L.Link.story c.self.inside.tunnel.link) (g.L.Link.story c.is_over-is_over.new.self.link)) (sym (c.is_over-is_over.ensures.stays (λ none. some_begun asked.0 (sym asked.1 ∙ none)) ∙ asked.1))
+    (subst (λ l. AddsSo (Resumes c.self.inside.work.closing (Some asked.0)) (g.L.Link.story c.self.inside.tunnel.link) (g.L.Link.story l)) (sym c.is_over-is_over.ensures.link)
+    (asked_resumes _ _ c.in_ok-asked.asked c.now-now.result _ asked.0 c.keeps.ensures.legal c.now-now.ensures.newest c.in_ok-asked.ensures.adds c.if-not-asked.false asked.2)))
+
+pub returns-clause-crew : goal.returns-clause-crew
+returns-clause-crew g c = rw (← c.self.view_is) (c.is_over-is_over.ensures.crew ∙ ap (λ (w : Work). w.crew) c.asked_to_leave.ensures.rest)
+
+pub returns-clause-log : goal.returns-clause-log
+returns-clause-log g c = rw (← c.self.view_is) (c.is_over-is_over.ensures.log ∙ ap (λ (w : Work). w.journal.entries) c.asked_to_leave.ensures.rest)
 
 pub returns-clause-goes : goal.returns-clause-goes
 returns-clause-goes g c =

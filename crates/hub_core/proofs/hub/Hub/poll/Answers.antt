@@ -41,7 +41,7 @@ invariant_of-self-in-None g c =
 pub returns-in_err-came-clause-since : goal.returns-in_err-came-clause-since
 returns-in_err-came-clause-since g c =
     let none : c.self.inside.tunnel.known.fault ≡ None = none_inside _ _ c.self.view_is c.requires.stands in
-    rw (← c.self.view_is) (call_since c.poll.result none c.poll.ensures.grows c.poll.ensures.script (record { tasks = refl; devices = refl; turns = refl; missed = refl }) c.poll.ensures.count (c.poll.ensures.cause none) c.poll.ensures.stands c.poll.ensures.fault)
+    rw (← c.self.view_is) (call_since c.poll.result none c.poll.ensures.grows c.poll.ensures.script (record { tasks = refl; devices = refl; turns = refl; workers = refl; missed = refl }) c.poll.ensures.count (c.poll.ensures.cause none) c.poll.ensures.stands c.poll.ensures.fault)
 
 pub returns-in-Some-clause-since : goal.returns-in-Some-clause-since
 returns-in-Some-clause-since g c =

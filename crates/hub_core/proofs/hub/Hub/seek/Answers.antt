@@ -1,6 +1,4 @@
-use Rattle.std.proofs.Common.{◌≡◌, false, Option, None, IfOk, refl, sym, subst}
-use Rattle.std.specs.Prelude.{is_some}
-use Rattle.hub_work.specs.declared.closing.Closing.{Closing}
+use Rattle.std.proofs.Common.{◌≡◌, Bool, false, None, IfOk, refl, sym, subst, ◌∙◌}
 use Rattle.hub_core.specs.Pumps.{AddsSo, Does, is_left_now}
 use Rattle.hub_core.proofs.Calls.{seeks_kept}
 use Rattle.hub_core.proofs.Keeps.{none_inside}
@@ -19,41 +17,41 @@ invariant_of-self g c =
     seeks_kept _ _ _ _ _ _ _ none c.seek-sought.ensures.events c.seek-sought.ensures.grows _ c.seek-sought.result _ c.seek-sought.ensures.adds c.seek-sought.ensures.fault c.seek-sought.ensures.stands (c.seek-sought.ensures.by_tunnel none)
     c.moments_go_on.ensures.later c.moments_go_on.ensures.aside c.now-now.ensures.newest (prompts_told _ _ c.self.inside.work c.seek-sought.ensures.prompt) c.self.invariant
 
-pub returns-in-Some-clause-since : goal.returns-in-Some-clause-since
-returns-in-Some-clause-since g c = since_itself
+pub returns-then-is_closing-clause-since : goal.returns-then-is_closing-clause-since
+returns-then-is_closing-clause-since g c = since_itself
 
-pub returns-in-None-clause-since : goal.returns-in-None-clause-since
-returns-in-None-clause-since g c =
+pub returns-clause-since : goal.returns-clause-since
+returns-clause-since g c =
     let none : c.self.inside.tunnel.known.fault ≡ None = none_inside _ _ c.self.view_is c.requires.stands in
-    rw (← c.self.view_is) (call_since c.seek-sought.result none c.seek-sought.ensures.grows c.seek-sought.ensures.script (record { tasks = refl; devices = refl; turns = refl; missed = refl }) c.seek-sought.ensures.count (c.seek-sought.ensures.cause none) c.seek-sought.ensures.stands c.seek-sought.ensures.fault)
+    rw (← c.self.view_is) (call_since c.seek-sought.result none c.seek-sought.ensures.grows c.seek-sought.ensures.script (record { tasks = refl; devices = refl; turns = refl; workers = refl; missed = refl }) c.seek-sought.ensures.count (c.seek-sought.ensures.cause none) c.seek-sought.ensures.stands c.seek-sought.ensures.fault)
 
-pub returns-in-None-clause-heard : goal.returns-in-None-clause-heard
-returns-in-None-clause-heard g c = rw (← c.self.view_is) (seeks_heard _ _ c.seek-sought.result c.seek-sought.ensures.adds)
+pub returns-clause-heard : goal.returns-clause-heard
+returns-clause-heard g c = rw (← c.self.view_is) (seeks_heard _ _ c.seek-sought.result c.seek-sought.ensures.adds)
 
-pub returns-in-None-clause-does : goal.returns-in-None-clause-does
-returns-in-None-clause-does g c =
-    rw (← c.self.view_is) (subst (λ (o : Option Closing). IfOk c.seek-sought.result (λ did. AddsSo (Does (is_left_now (is_some o)) did) (g.L.Link.story c.self.inside.tunnel.link) (g.L.Link.story c.seek-sought.new.self.link))) (sym c.in-None.is)
+pub returns-clause-does : goal.returns-clause-does
+returns-clause-does g c =
+    rw (← c.self.view_is) (subst (λ (b : Bool). IfOk c.seek-sought.result (λ did. AddsSo (Does (is_left_now b) did) (g.L.Link.story c.self.inside.tunnel.link) (g.L.Link.story c.seek-sought.new.self.link))) (sym c.if-is_closing.false ∙ c.is_closing.ensures)
     (seeks_answer _ _ c.seek-sought.result c.seek-sought.ensures.adds))
 
-pub returns-in-Some-clause-does : goal.returns-in-Some-clause-does
-returns-in-Some-clause-does g c =
-    rw (← c.self.view_is) (subst (λ (o : Option Closing). AddsSo (Does (is_left_now (is_some o)) false) (g.L.Link.story c.self.inside.tunnel.link) (g.L.Link.story c.self.inside.tunnel.link)) (sym c.in-Some.is) (seeks_none (g.L.Link.story c.self.inside.tunnel.link)))
+pub returns-then-is_closing-clause-does : goal.returns-then-is_closing-clause-does
+returns-then-is_closing-clause-does g c =
+    rw (← c.self.view_is) (subst (λ (b : Bool). AddsSo (Does (is_left_now b) false) (g.L.Link.story c.self.inside.tunnel.link) (g.L.Link.story c.self.inside.tunnel.link)) (sym c.if-is_closing.true ∙ c.is_closing.ensures) (seeks_none (g.L.Link.story c.self.inside.tunnel.link)))
 
-pub returns-in-None-clause-ends_none : goal.returns-in-None-clause-ends_none
-returns-in-None-clause-ends_none g c = rw (← c.self.view_is) c.seek-sought.ensures.alone
+pub returns-clause-ends_none : goal.returns-clause-ends_none
+returns-clause-ends_none g c = rw (← c.self.view_is) c.seek-sought.ensures.alone
 
-pub returns-in-None-clause-sends : goal.returns-in-None-clause-sends
-returns-in-None-clause-sends g c = rw (← c.self.view_is) (seeks_send _ _ c.seek-sought.result c.seek-sought.ensures.adds)
+pub returns-clause-sends : goal.returns-clause-sends
+returns-clause-sends g c = rw (← c.self.view_is) (seeks_send _ _ c.seek-sought.result c.seek-sought.ensures.adds)
 
-pub returns-in-Some-clause-sends : goal.returns-in-Some-clause-sends
-returns-in-Some-clause-sends g c = rw (← c.self.view_is) (none_sent _ _ refl)
+pub returns-then-is_closing-clause-sends : goal.returns-then-is_closing-clause-sends
+returns-then-is_closing-clause-sends g c = rw (← c.self.view_is) (none_sent _ _ refl)
 
-pub returns-in-None-clause-acted : goal.returns-in-None-clause-acted
-returns-in-None-clause-acted g c =
+pub returns-clause-acted : goal.returns-clause-acted
+returns-clause-acted g c =
     seeks_acted c.self.inside.tunnel.known c.seek-sought.new.self.known (g.L.Link.story c.self.inside.tunnel.link) (g.L.Link.story c.seek-sought.new.self.link) c.seek-sought.result c.seek-sought.ensures.ready (subst (λ v. HasActed v.known (g.L.Link.story v.link)) (sym c.self.view_is) c.requires.acted)
 
-pub returns-in-None-clause-nothing : goal.returns-in-None-clause-nothing
-returns-in-None-clause-nothing g c = rw (← c.self.view_is) (seeks_nothing _ _ c.seek-sought.result c.seek-sought.ensures.adds)
+pub returns-clause-nothing : goal.returns-clause-nothing
+returns-clause-nothing g c = rw (← c.self.view_is) (seeks_nothing _ _ c.seek-sought.result c.seek-sought.ensures.adds)
 
-pub returns-in-Some-clause-nothing : goal.returns-in-Some-clause-nothing
-returns-in-Some-clause-nothing g c = rw (← c.self.view_is) (none_added _ _ refl)
+pub returns-then-is_closing-clause-nothing : goal.returns-then-is_closing-clause-nothing
+returns-then-is_closing-clause-nothing g c = rw (← c.self.view_is) (none_added _ _ refl)

@@ -1,4 +1,4 @@
-use Rattle.std.proofs.Common.{◌≡◌, ℕ, ◌-◌, ◌≤◌, None, refl, sym, ap, subst, ◌∙◌, arith}
+use Rattle.std.proofs.Common.{◌≡◌, ℕ, ◌-◌, ◌≤◌, length, None, refl, sym, ap, subst, ◌∙◌, arith}
 use Rattle.std.specs.Prelude.{is_some}
 use Rattle.line_model.specs.Asks.{HasPlace}
 use Rattle.line_model.specs.ClientView.{channel}
@@ -11,12 +11,16 @@ use Rattle.hub_core.proofs.Written.{written, turn_writes}
 use Rattle.hub_core.proofs.Hears.{hears_put, puts_request}
 use Rattle.line_model.specs.LinkStory.{IsPlace}
 use Rattle.hub_work.specs.declared.answers.Turned.TheVariants as answer
+use Rattle.hub_work.specs.declared.work.turn.Turn.TheVariants as turn
 use Rattle.hub_work.specs.Waits.{WaitsExactly}
 use Rattle.hub_work.specs.Came.{waiting_at}
 use Rattle.hub_core.proofs.Waits.{turn_waits, did_same, puts_same, did_takes_in, did_moves, puts_takes_none_in, holder_moves}
 use Rattle.tunnel_link.specs.Alone.{LeavesAlone}
 use Rattle.tunnel_link.proofs.Alone.{none_each}
 use Rattle.hub_core.proofs.hub.Hub.turn.Goals as goal
+
+pub turn-requires-clause-within : goal.turn-requires-clause-within
+turn-requires-clause-within g c = subst (λ v. c.args.worker ≤ length v.crew) (sym c.self.view_is) c.requires.within
 
 pub invariant_of-self : goal.invariant_of-self
 invariant_of-self g c =
@@ -77,6 +81,9 @@ returns-in_ok-put-in-Puts-clause-waits g c =
     rw (← c.self.view_is) (turn_waits (g.L.Link.place c.self.inside.tunnel.link) (g.L.Link.story c.self.inside.tunnel.link) c.self.inside.work _ _ none (subst (λ (n : ℕ). IsPlace n (g.L.Link.story c.self.inside.tunnel.link)) c.at-at.ensures.value c.at-at.ensures.told) c.self.invariant
     c.args.worker c.now-now.result c.now-now.ensures.newest c.has_place-has_place.result (c.has_place-has_place.ensures.told none) c.turn.result answer.Moved
     (subst (λ (n : ℕ). WaitsExactly c.now-now.result n c.has_place-has_place.result c.args.worker c.self.inside.work c.turn.result) c.at-at.ensures.value c.turn.ensures.waits) (puts_same c.turn.result c.in-Puts.cemi c.in-Puts.is))
+
+pub returns-in-Did-clause-finished : goal.returns-in-Did-clause-finished
+returns-in-Did-clause-finished g c = λ no_more. c.in-Did.ensures.finished (ap turn.Did no_more)
 
 pub returns-in_err-put-in-Puts-clause-alone : goal.returns-in_err-put-in-Puts-clause-alone
 returns-in_err-put-in-Puts-clause-alone g c = rw (← c.self.view_is) c.put.ensures.alone

@@ -21,6 +21,7 @@ returns-clause-tells g c =
       dropped = rw link_is c.close-link.ensures.dropped;
       form = λ jobs are. rw (log_is, link_is) (c.keeps.ensures.form jobs are);
       alone = λ jobs are. rw log_is (c.keeps.ensures.alone jobs are);
+      in_order = λ jobs are. rw log_is (c.keeps.ensures.in_order jobs are);
       leaves = λ jobs are. rw (log_is, link_is) (c.requires.leaves jobs are);
       seats = rw log_is c.requires.seats;
       over = λ fine jobs are. rw log_is ((c.requires.done (c.told_fault.ensures.none fine)).jobs jobs are);

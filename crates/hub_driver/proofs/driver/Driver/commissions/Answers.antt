@@ -1,5 +1,9 @@
+use Rattle.std.proofs.Common.{◌≤◌, sym, subst}
 use Rattle.hub_core.proofs.Since.{since_again, since_itself}
 use Rattle.hub_driver.proofs.driver.Driver.commissions.Goals as goal
+
+pub works-requires-clause-manned : goal.works-requires-clause-manned
+works-requires-clause-manned g c = subst (λ n. 1 ≤ n) (sym c.loop.invariant.since.run.workers) c.requires.manned
 
 pub returns-in_err-works-clause-since : goal.returns-in_err-works-clause-since
 returns-in_err-works-clause-since g c = since_again c.loop.invariant.since c.works.ensures.since

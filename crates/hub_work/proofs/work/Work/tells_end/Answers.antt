@@ -1,4 +1,6 @@
-use Rattle.std.proofs.Common.{refl, ap, sym, subst, map, ◌≤◌, ◌+◌, ◌∙◌}
+use Rattle.std.proofs.Common.{refl, ap, sym, subst, map, ◌≤◌, ◌+◌, ◌-◌, ◌∙◌, List, length, Option, None}
+use Rattle.std.proofs.lemmas.List.{length-set}
+use Rattle.hub_work.specs.declared.crew.Held.{Held}
 use Rattle.hub_work.specs.Downloaders.{states, task_of_state}
 use Rattle.hub_work.proofs.Works.{holder_holds}
 use Rattle.hub_work.proofs.KeptBooks.{room_for_end, end_books}
@@ -30,6 +32,7 @@ returns-clause-run c = record {
   tasks_are = ap (λ d. map task_of_state (states d)) c.forget.ensures.downloaders;
   turns = ap (λ t. t.turns) c.forget.ensures.telegrams;
   closing = c.forget.ensures.closing;
+  workers = ap (λ (crew : List (Option Held)). length crew) (c.forget.ensures.crew ∙ c.ends.ensures) ∙ length-set c.args.self.now.crew (c.args.worker - 1) None;
 }
 
 pub returns-clause-came : goal.returns-clause-came

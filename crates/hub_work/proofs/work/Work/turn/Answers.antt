@@ -1,11 +1,11 @@
 use Rattle.std.proofs.Common.{refl, subst}
 use Rattle.hub_work.specs.declared.answers.Turned.TheVariants as answer
 use Rattle.hub_work.proofs.OneTurn.{counted_follows}
-use Rattle.hub_work.proofs.Crews.{same_jobs_held}
+use Rattle.hub_work.proofs.Crews.{same_jobs_held, same_length}
 use Rattle.hub_work.proofs.KeptBooks.{same_keeps}
 use Rattle.hub_work.specs.declared.work.turn.Turn.TheVariants as turn
 use Rattle.hub_work.specs.Turns.{TurnSuits}
-use Rattle.hub_work.proofs.Waits.{none_taken_in, one_taken_in, nothing_taken_in, nothing_held, something_came, all_taken, moved_isnt_wait, is_some_number, none_came}
+use Rattle.hub_work.proofs.Waits.{none_taken_in, one_taken_in, nothing_taken_in, nothing_held, something_came, all_taken, moved_isnt_wait, holder_isnt_done, is_some_number, none_came}
 use Rattle.hub_work.proofs.work.Work.turn.Goals as goal
 
 pub returns-in-None-clause-placed : goal.returns-in-None-clause-placed
@@ -18,6 +18,12 @@ pub returns-in-Some-clause-books : goal.returns-in-Some-clause-books
 returns-in-Some-clause-books c =
     same_keeps c.args.at c.args.self.now (record c.args.self.now { crew = c.takes_in.new.self })
     (record { reservation = refl; turns = refl; told = refl; held = same_jobs_held c.args.self.now.crew c.takes_in.new.self c.takes_in.ensures.held; journal = refl; unfinished = refl; tasks_are = refl; closing = refl }) c.requires.books
+
+pub returns-in-Some-clause-run : goal.returns-in-Some-clause-run
+returns-in-Some-clause-run c = record { devices = refl; tasks_are = refl; closing = refl; turns = refl; workers = same_length c.args.self.now.crew c.takes_in.new.self c.takes_in.ensures.held }
+
+pub returns-in-Some-2-clause-finished : goal.returns-in-Some-2-clause-finished
+returns-in-Some-2-clause-finished c = λ no_more. absurd (holder_isnt_done c.works.result c.in-Some.held c.works.ensures.suits no_more)
 
 pub returns-in-Some-clause-follows : goal.returns-in-Some-clause-follows
 returns-in-Some-clause-follows c = counted_follows c.args.now c.args.at c.args.self.now c.takes_in.new.self answer.Moved c.takes_in.ensures.held

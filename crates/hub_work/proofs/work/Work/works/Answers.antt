@@ -3,6 +3,7 @@ use Rattle.line_model.specs.declared.log.LogWhat.TheVariants as log
 use Rattle.download_core.specs.declared.did.Did.TheVariants as did
 use Rattle.hub_work.specs.declared.work.turn.Turn.TheVariants as turn
 use Rattle.hub_work.specs.declared.answers.Turned.TheVariants as answer
+use Rattle.hub_work.proofs.KeptBooks.{same_run}
 use Rattle.hub_work.proofs.OneTurn.{puts_follows, ends_follow}
 use Rattle.hub_work.proofs.Waits.{waits_so, moves_so, never_none, never_empty, puts_isnt_wait, end_isnt_wait, unsent, no_octets}
 use Rattle.hub_work.proofs.work.Work.works.Goals.{then-has_place+else-not-is_empty, else-has_place}
@@ -28,6 +29,9 @@ pub returns-in-Refused-clause-follows : goal.returns-in-Refused-clause-follows
 returns-in-Refused-clause-follows c =
     ends_follow c.of_a_downloader.ensures c.args.self.now c.tells_end-in-Refused.new.self c.args.worker c.args.now c.args.at c.args.held (did.Refused c.in-Refused.op c.in-Refused.got c.in-Refused.expected) (log.Refused c.args.held.job c.in-Refused.op c.in-Refused.got c.in-Refused.expected)
     (answer.Refused c.args.held.job) c.tells_end-in-Refused.result c.tells_end-in-Refused.ensures.answer c.requires.books c.requires.worker c.requires.holder (ap Some (sym c.in-Refused.is) ∙ c.in-Some.ensures) refl c.tells_end-in-Refused.ensures.follows
+
+pub returns-in-Send-clause-run : goal.returns-in-Send-clause-run
+returns-in-Send-clause-run c = same_run c.args.self.now c.puts.new.self c.puts.ensures.books
 
 pub returns-in_default-clause-waits : goal.returns-in_default-clause-waits
 returns-in_default-clause-waits c = never_none c.of_a_downloader.ensures c.args.self.now c.args.worker c.args.now c.args.at c.args.has_place c.args.held c.requires.holder (turn.Did answer.Wait) c.in_default.ensures
