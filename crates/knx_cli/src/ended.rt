@@ -4,14 +4,19 @@ ghost use Rattle.std.specs.Prelude.{◌≡◌, ◌≤◌, ◌+◌, ℕ, IfErr, I
 ghost use Rattle.call_words.specs.declared.stop.Stop.TheVariants.{Usage, NoMemory as Wanting};
 ghost use Rattle.knx_model.specs.Outside.{one_more};
 ghost use Rattle.call_words.specs.Statuses.{status_number};
-ghost use Rattle.knx_top.specs.Call.{AtMostOneRose, HasRunOf, IsCountsText, IsTablesText, Replies, RunsScript, TellsOfFrame, TellsOfProject};
-ghost use Rattle.knx_top.specs.Command.{DownloadWords, GatewayWords, ProjectWords, SimWords, asked, Check as AskedCheck, Decode as AskedDecode, Download as AskedDownload, Gateway as AskedGateway, Sim as AskedSim, Tables as AskedTables};
-ghost use Rattle.knx_top.specs.Dialled.{RepliesEnd, RunsDialled};
-ghost use Rattle.knx_top.specs.Gateway.{RepliesServed, RunsGateway};
+ghost use Rattle.knx_top.specs.declared.ending.End.TheVariants.{Stops};
+ghost use Rattle.knx_top.specs.Call.{AtMostOneRose, HasRunOf, files_of, touches};
+ghost use Rattle.knx_top.specs.Command.{asked, Check as AskedCheck, Decode as AskedDecode, Download as AskedDownload, Gateway as AskedGateway, Sim as AskedSim, Tables as AskedTables};
+ghost use Rattle.knx_top.specs.Ending.{Replies};
 ghost use Rattle.knx_top.specs.Headline.{ActsOnce, BeganRightly, ClosesToItsEnd, EndsEveryJob, EndsThoroughly, HasFaultRight, HasOldStoppedOrNew, HasTelegramsRight, IsOfItsWorkers, IsToldRightly, LeavesItsChannel, RunsWhereDone};
-ghost use Rattle.knx_top.specs.Input.{files_of};
-ghost use Rattle.knx_top.specs.Ran.{FaultsOfLine, Stops};
-ghost use Rattle.knx_top.specs.Touches.{touches};
+ghost use Rattle.knx_top.specs.Ran.{FaultsOfLine};
+ghost use Rattle.knx_top.specs.commands.Check.{IsCountsText};
+ghost use Rattle.knx_top.specs.commands.Decode.{TellsOfFrame};
+ghost use Rattle.knx_top.specs.commands.Download.{DownloadWords, RunsDialled};
+ghost use Rattle.knx_top.specs.commands.Gateway.{GatewayWords, RunsGateway};
+ghost use Rattle.knx_top.specs.commands.Project.{ProjectWords, TellsOfProject};
+ghost use Rattle.knx_top.specs.commands.Sim.{RunsScript, SimWords};
+ghost use Rattle.knx_top.specs.commands.Tables.{IsTablesText};
 ghost use Rattle.knx_cli.specs.Exit.{status_of};
 
 use call_words::Status;
@@ -50,8 +55,8 @@ pub fn status_of<R: Wait, F: Files, K: Sink, D: Dialer>(
     ensures tables { IfOk words.now (λ words. (names : ProjectWords) → asked (map string_bytes words.items) ≡ Some (AskedTables names) → TellsOfProject IsTablesText names (F.now files.old) (F.now files.new) (Replies (K.now out.old) (K.now out.new) (status_of result))) }
     ensures decode { IfOk words.now (λ words. (word : List ℕ) → asked (map string_bytes words.items) ≡ Some (AskedDecode word) → TellsOfFrame word (Replies (K.now out.old) (K.now out.new) (status_of result))) }
     ensures sim { IfOk words.now (λ words. (names : SimWords) → asked (map string_bytes words.items) ≡ Some (AskedSim names) → RunsScript names (F.now files.old) (F.now files.new) sim.old (record { line = sim.new; report = last.new }) (Replies (K.now out.old) (K.now out.new) (status_of result))) }
-    ensures download { IfOk words.now (λ words. (names : DownloadWords) → asked (map string_bytes words.items) ≡ Some (AskedDownload names) → RunsDialled names (F.now files.old) (F.now files.new) (D.now dial.old) (D.now dial.new) last.new (RepliesEnd (K.now out.old) (K.now out.new) (status_of result))) }
-    ensures gateway { IfOk words.now (λ words. (names : GatewayWords) → asked (map string_bytes words.items) ≡ Some (AskedGateway names) → RunsGateway names (F.now files.old) (F.now files.new) (D.now dial.old) (D.now dial.new) sim.old sim.new (RepliesServed (K.now out.old) (K.now out.new) (status_of result))) }
+    ensures download { IfOk words.now (λ words. (names : DownloadWords) → asked (map string_bytes words.items) ≡ Some (AskedDownload names) → RunsDialled names (F.now files.old) (F.now files.new) (D.now dial.old) (D.now dial.new) last.new (Replies (K.now out.old) (K.now out.new) (status_of result))) }
+    ensures gateway { IfOk words.now (λ words. (names : GatewayWords) → asked (map string_bytes words.items) ≡ Some (AskedGateway names) → RunsGateway names (F.now files.old) (F.now files.new) (D.now dial.old) (D.now dial.new) sim.old sim.new (Replies (K.now out.old) (K.now out.new) (status_of result))) }
     ensures begins { IfOk words.now (λ words. HasRunOf BeganRightly (map string_bytes words.items) (F.now files.old) sim.old (record { line = sim.new; report = last.new })) }
     ensures old_stopped_or_new { IfOk words.now (λ words. HasRunOf HasOldStoppedOrNew (map string_bytes words.items) (F.now files.old) sim.old (record { line = sim.new; report = last.new })) }
     ensures telegrams { IfOk words.now (λ words. HasRunOf HasTelegramsRight (map string_bytes words.items) (F.now files.old) sim.old (record { line = sim.new; report = last.new })) }

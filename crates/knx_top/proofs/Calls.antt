@@ -1,207 +1,129 @@
--- A whole call, from what was read to what was written.
-use Rattle.std.proofs.Common.{ℕ, ◌≡◌, true, false, List, Option, Some, None, Result, Ok, Err, ◌⊎◌, refl, sym, ◌∙◌, subst, inl, inr}
-use Rattle.frame_text.specs.FrameText.{IsFrameText, hex_word}
-use Rattle.std.specs.Prelude.{IfErr, IfOk}
-use Rattle.call_words.specs.declared.stop.Stop.{Stop}
-use Rattle.call_words.specs.declared.stop.Stop.TheVariants as stop
-use Rattle.knx_model.specs.declared.no_memory.NoMemory.{NoMemory}
-use Rattle.call_words.specs.declared.status.Status.{Status}
-use Rattle.call_words.specs.declared.job_word.JobWord.{JobWord}
-use Rattle.call_words.specs.declared.status.Status.TheVariants as status
-use Rattle.call_words.specs.ReportText.{stop_text}
+-- A whole call: what its command does and what is written of its end come to each clause of `knx`.
+use Rattle.std.proofs.Common.{◌≡◌, true, false, List, Option, Some, None, ◌⊎◌, refl, ◌∙◌, subst, ℕ}
+use Rattle.knx_top.specs.Call.{AtMostOneRose, AtPort, Does, Elsewhere, HasRun, HasRunOf, NoRun, Outside, left_in, touches}
 use Rattle.bus_sim.specs.Loaded.{BusNow}
-use Rattle.bus_sim.specs.RunNow.{RunNow}
-use Rattle.knx_model.specs.Meaning.{Installation}
-use Rattle.knx_model.specs.Outside.{FilesNow, SinkNow}
+use Rattle.knx_top.specs.Command.{Check, Command, Decode, Gateway, Sim, Tables, asked, Download}
+use Rattle.knx_top.specs.declared.ending.End.{End}
+use Rattle.knx_top.specs.Ran.{FaultsOfLine, Ran, Left, Commission}
+use Rattle.knx_model.specs.Outside.{FilesNow}
+use Rattle.knx_top.specs.Ending.{Is, report_in, wanting}
+use Rattle.call_words.specs.declared.job_word.JobWord.{JobWord}
 use Rattle.line_model.specs.declared.log.Report.{Report}
-use Rattle.knx_top.specs.Command.{Command, Check, Tables, Sim, Decode, Download, Gateway, ProjectWords, SimWords, asked}
-use Rattle.knx_top.specs.Call.{Does, TellsText, TellsOf, TellsOfProject, TellsOfFrame, Left, RunsScript, HasRunOf, NoRun, Elsewhere, AtPort, HasRun, IsCountsText, IsTablesText, AtMostOneRose, Replies, Writes, octets_or_usage, outcome_status}
-use Rattle.knx_top.specs.Ended.{IsTextOf, RepliesOf, wanting}
-use Rattle.knx_top.specs.Input.{ProjectIsRead, SimIsRead, OnlyRose, failed_of_project, failed_of_sim, first_some}
-use Rattle.knx_top.specs.Judged.{judged, judged_project}
-use Rattle.knx_top.specs.Ran.{Outcome, Stops, Tells, BreaksOff, Reports, StopsFor, Ran, Runs, Comes, report_in}
-use Rattle.knx_top.specs.Stops.{Commission, project_tests, project_told, sim_tests, commission_told}
-use Rattle.knx_top.specs.Touches.{touches}
-use Rattle.knx_top.specs.declared.input.ProjectTexts.{ProjectTexts}
-use Rattle.knx_top.specs.declared.input.SimTexts.{SimTexts}
-use Rattle.knx_top.specs.declared.tell.Text.{Text}
-use Rattle.knx_top.proofs.Stops.{unless_stopped, stopped_by, stopped_by_none, judged_is, judged_project_is}
+use Rattle.bus_sim.specs.RunNow.{RunNow}
+use Rattle.knx_top.specs.Input.{first_some}
+use Rattle.knx_top.specs.declared.commands.sim.SimTexts.{SimTexts}
+use Rattle.call_words.specs.declared.stop.Stop.{Stop}
+use Rattle.knx_top.proofs.commands.Downloads.{dialled_written}
+use Rattle.knx_top.proofs.commands.Decodes.{frame_written}
+use Rattle.knx_top.proofs.commands.Gateways.{gateway_written}
+use Rattle.knx_top.proofs.commands.Projects.{project_written}
+use Rattle.knx_top.proofs.commands.Sims.{script_written}
+use Rattle.knx_top.proofs.Ends.{stopped_report}
+use Rattle.call_words.specs.declared.stop.Stop.TheVariants as stop
+use Rattle.knx_top.specs.declared.ending.End.TheVariants as ends
+use Rattle.knx_top.specs.commands.Check.{IsCountsText}
+use Rattle.knx_top.specs.commands.Tables.{IsTablesText}
+use Rattle.knx_top.specs.commands.Sim.{RunsScript, SimWords, commission_told, sim_tests, Runs, SimIsRead, failed_of_sim}
+use Rattle.knx_top.specs.commands.Decode.{TellsOfFrame}
+use Rattle.knx_top.specs.commands.Project.{TellsOfProject, ProjectWords, failed_of_project}
+use Rattle.knx_top.specs.commands.Download.{DownloadWords, RunsDialled, project_named}
+use Rattle.knx_top.specs.commands.Gateway.{GatewayWords, RunsGateway, failed_of_gateway}
 
--- ---- memory may be wanting after all
+-- ---- what was done, and then written
 
-stop_wants : (why : Stop) (outcome : Outcome) → StopsFor why outcome → StopsFor why (wanting outcome)
-stop_wants why (Stops told) h = inr refl
-stop_wants why (Tells text) h = absurd h
-stop_wants why (BreaksOff report) h = absurd h
-stop_wants why (Reports report jobs turns devices log) h = absurd h
-
-text_wants : (IsText : List ℕ → Type 0) (outcome : Outcome) → TellsText IsText outcome → TellsText IsText (wanting outcome)
-text_wants IsText (Stops told) h = refl
-text_wants IsText (Tells text) h = refl
-text_wants IsText (BreaksOff report) h = absurd h
-text_wants IsText (Reports report jobs turns devices log) h = absurd h
-
-told_wants : {A : Type 0} (IsText : A → List ℕ → Type 0) (found : Result A Stop) (outcome : Outcome) → TellsOf IsText found outcome → TellsOf IsText found (wanting outcome)
-told_wants IsText (Err why) outcome h = stop_wants why outcome h
-told_wants IsText (Ok found) outcome h = text_wants (IsText found) outcome h
-
-run_wants : (c : Commission) (before after : BusNow) (outcome : Outcome) → Runs c before after outcome → Runs c before after (wanting outcome)
-run_wants c before after (Stops told) h = (refl, h.1)
-run_wants c before after (Tells text) h = absurd h
-run_wants c before after (BreaksOff report) h = h
-run_wants c before after (Reports report jobs turns devices log) h = (jobs, h.ran)
-
-comes_wanting : (j : Result Commission Stop) (before after : BusNow) (outcome : Outcome) → Comes j before after outcome → Comes j before after (wanting outcome)
-comes_wanting (Err why) before after outcome h = (stop_wants why outcome h.0, h.1)
-comes_wanting (Ok c) before after outcome h = run_wants c before after outcome h
-
--- the same run
-report_wants : (outcome : Outcome) → report_in (wanting outcome) ≡ report_in outcome
-report_wants (Stops told) = refl
-report_wants (Tells text) = refl
-report_wants (BreaksOff report) = refl
-report_wants (Reports report jobs turns devices log) = refl
-
--- what is written where memory is wanting for a text is the text of the outcome that wants it
-replied_wanting : (outcome : Outcome) (out out' : SinkNow) (told : Status) → Writes (stop_text (stop.NoMemory tt)) (status.NoMemory tt) out out' told → Replies out out' told (wanting outcome)
-replied_wanting (Stops why) out out' told h = h
-replied_wanting (Tells text) out out' told h = h
-replied_wanting (BreaksOff report) out out' told h = h
-replied_wanting (Reports report jobs turns devices log) out out' told h = h
-
--- a text is written, or that there was no memory for it
-pub text_replied : (outcome : Outcome) (text : Result Text NoMemory) (out out' : SinkNow) (told : Status) → IfOk text (λ p. IsTextOf outcome p.octets p.status)
-    → IfOk text (λ p. Writes p.octets p.status out out' told) → IfErr text (λ _. Writes (stop_text (stop.NoMemory tt)) (status.NoMemory tt) out out' told)
-    → RepliesOf out out' told outcome
-text_replied outcome (Ok text) out out' told is writes wants =
-    inl (subst (λ (t : List ℕ). Writes t (outcome_status outcome) out out' told) is.0 (subst (λ (s : Status). Writes text.octets s out out' told) is.1 writes))
-text_replied outcome (Err want) out out' told is writes wants = inr (replied_wanting outcome out out' told wants)
-
--- ---- the commands
-
-project_from : (IsText : Installation → List ℕ → Type 0) (words : ProjectWords) (files files' : FilesNow) (Replied : Outcome → Type 0) (texts : ProjectTexts) (outcome : Outcome)
-    → ProjectIsRead files.file words texts → OnlyRose (failed_of_project words texts) files.faults files'.faults → TellsOf IsText (judged_project words texts) outcome → Replied outcome → TellsOfProject IsText words files files' Replied
-project_from IsText words files files' Replied texts outcome is counts tells replied =
-    let told : TellsOf IsText (unless_stopped (project_tests words texts) (project_told texts)) outcome = subst (λ (r : Result Installation Stop). TellsOf IsText r outcome) (judged_project_is words texts) tells in
-    record {
-      texts = texts;
-      is_read = is;
-      counts = counts;
-      outcome = outcome;
-      stops = λ why e. subst (λ (r : Result Installation Stop). TellsOf IsText r outcome) (stopped_by (project_tests words texts) (project_told texts) why e) told;
-      tells = λ e. subst (λ (r : Result Installation Stop). TellsOf IsText r outcome) (stopped_by_none (project_tests words texts) (project_told texts) e) told;
-      replied = replied;
-    }
-
-pub project_tells : (IsText : Installation → List ℕ → Type 0) (words : ProjectWords) (files files' : FilesNow) (Replied : Outcome → Type 0) (texts : ProjectTexts) (outcome : Outcome)
-    → ProjectIsRead files.file words texts → OnlyRose (failed_of_project words texts) files.faults files'.faults → TellsOf IsText (judged_project words texts) outcome → Replied outcome ⊎ Replied (wanting outcome) → TellsOfProject IsText words files files' Replied
-project_tells IsText words files files' Replied texts outcome is counts tells (inl replied) = project_from IsText words files files' Replied texts outcome is counts tells replied
-project_tells IsText words files files' Replied texts outcome is counts tells (inr replied) = project_from IsText words files files' Replied texts (wanting outcome) is counts (told_wants IsText _ outcome tells) replied
-
-pub frame_tells : (word : List ℕ) (Replied : Outcome → Type 0) (outcome : Outcome) → TellsOf IsFrameText (octets_or_usage (hex_word word)) outcome → Replied outcome ⊎ Replied (wanting outcome) → TellsOfFrame word Replied
-frame_tells word Replied outcome tells (inl replied) = record { outcome = outcome; tells = tells; replied = replied }
-frame_tells word Replied outcome tells (inr replied) = record { outcome = wanting outcome; tells = told_wants IsFrameText _ outcome tells; replied = replied }
-
-sim_from : (words : SimWords) (files files' : FilesNow) (before : BusNow) (after : Left) (Replied : Outcome → Type 0) (texts : SimTexts) (outcome : Outcome)
-    → SimIsRead files.file words texts → OnlyRose (failed_of_sim words texts) files.faults files'.faults → Comes (judged words texts) before after.line outcome → after.report ≡ report_in outcome → Replied outcome → RunsScript words files files' before after Replied
-sim_from words files files' before after Replied texts outcome is counts comes report replied =
-    let came : Comes (unless_stopped (sim_tests words texts) (commission_told words texts)) before after.line outcome = subst (λ (r : Result Commission Stop). Comes r before after.line outcome) (judged_is words texts) comes in
-    record {
-      texts = texts;
-      is_read = is;
-      counts = counts;
-      outcome = outcome;
-      stops = λ why e. subst (λ (r : Result Commission Stop). Comes r before after.line outcome) (stopped_by (sim_tests words texts) (commission_told words texts) why e) came;
-      runs = λ e. subst (λ (r : Result Commission Stop). Comes r before after.line outcome) (stopped_by_none (sim_tests words texts) (commission_told words texts) e) came;
-      report = report;
-      replied = replied;
-    }
-
-pub sim_runs : (words : SimWords) (files files' : FilesNow) (before : BusNow) (after : Left) (Replied : Outcome → Type 0) (texts : SimTexts) (outcome : Outcome)
-    → SimIsRead files.file words texts → OnlyRose (failed_of_sim words texts) files.faults files'.faults → Comes (judged words texts) before after.line outcome → after.report ≡ report_in outcome → Replied outcome ⊎ Replied (wanting outcome) → RunsScript words files files' before after Replied
-sim_runs words files files' before after Replied texts outcome is counts comes report (inl replied) = sim_from words files files' before after Replied texts outcome is counts comes report replied
-sim_runs words files files' before after Replied texts outcome is counts comes report (inr replied) =
-    sim_from words files files' before after Replied texts (wanting outcome) is counts (comes_wanting _ before after.line outcome comes) (report ∙ sym (report_wants outcome)) replied
+pub written : (command : Command) (before after : Outside) (end : End) (Replied : End → Type 0) → Does (Some command) before after (Is end) → Replied end ⊎ Replied (wanting end) → Does (Some command) before after Replied
+written (Check words) before after end Replied does replied = (project_written IsCountsText words before.files after.files end Replied does.0 replied, does.1)
+written (Tables words) before after end Replied does replied = (project_written IsTablesText words before.files after.files end Replied does.0 replied, does.1)
+written (Sim words) before after end Replied does replied = (script_written words before.files after.files before.line (left_in after) end Replied does.0 replied, does.1)
+written (Decode word) before after end Replied does replied = (frame_written word end Replied does.0 replied, does.1, does.2)
+written (Download words) before after end Replied does replied = (dialled_written words before.files after.files before.dialer after.dialer after.report end Replied does.0 replied, does.1)
+written (Gateway words) before after end Replied does replied = (gateway_written words before.files after.files before.dialer after.dialer before.line after.line end Replied does.0 replied, does.1)
 
 -- ---- each clause of the whole call
 
-pub usage_of : (command : Option Command) (files files' : FilesNow) (before : BusNow) (after : Left) (Replied : Outcome → Type 0) → Does command files files' before after Replied → command ≡ None → Replied (Stops stop.Usage)
-usage_of command files files' before after Replied does e = (subst (λ (o : Option Command). Does o files files' before after Replied) e does).0
+pub usage_of : (command : Option Command) (before after : Outside) (Replied : End → Type 0) → Does command before after Replied → command ≡ None → Replied (ends.Stops stop.Usage)
+usage_of command before after Replied does e = (subst (λ (o : Option Command). Does o before after Replied) e does).0
 
-pub check_of : (command : Option Command) (files files' : FilesNow) (before : BusNow) (after : Left) (Replied : Outcome → Type 0) (words : ProjectWords) → Does command files files' before after Replied → command ≡ Some (Check words) → TellsOfProject IsCountsText words files files' Replied
-check_of command files files' before after Replied words does e = (subst (λ (o : Option Command). Does o files files' before after Replied) e does).0
+pub check_of : (command : Option Command) (before after : Outside) (Replied : End → Type 0) (words : ProjectWords) → Does command before after Replied → command ≡ Some (Check words) → TellsOfProject IsCountsText words before.files after.files Replied
+check_of command before after Replied words does e = (subst (λ (o : Option Command). Does o before after Replied) e does).0
 
-pub tables_of : (command : Option Command) (files files' : FilesNow) (before : BusNow) (after : Left) (Replied : Outcome → Type 0) (words : ProjectWords) → Does command files files' before after Replied → command ≡ Some (Tables words) → TellsOfProject IsTablesText words files files' Replied
-tables_of command files files' before after Replied words does e = (subst (λ (o : Option Command). Does o files files' before after Replied) e does).0
+pub tables_of : (command : Option Command) (before after : Outside) (Replied : End → Type 0) (words : ProjectWords) → Does command before after Replied → command ≡ Some (Tables words) → TellsOfProject IsTablesText words before.files after.files Replied
+tables_of command before after Replied words does e = (subst (λ (o : Option Command). Does o before after Replied) e does).0
 
-pub decode_of : (command : Option Command) (files files' : FilesNow) (before : BusNow) (after : Left) (Replied : Outcome → Type 0) (word : List ℕ) → Does command files files' before after Replied → command ≡ Some (Decode word) → TellsOfFrame word Replied
-decode_of command files files' before after Replied word does e = (subst (λ (o : Option Command). Does o files files' before after Replied) e does).0
+pub decode_of : (command : Option Command) (before after : Outside) (Replied : End → Type 0) (word : List ℕ) → Does command before after Replied → command ≡ Some (Decode word) → TellsOfFrame word Replied
+decode_of command before after Replied word does e = (subst (λ (o : Option Command). Does o before after Replied) e does).0
 
-pub sim_of : (command : Option Command) (files files' : FilesNow) (before : BusNow) (after : Left) (Replied : Outcome → Type 0) (words : SimWords) → Does command files files' before after Replied → command ≡ Some (Sim words) → RunsScript words files files' before after Replied
-sim_of command files files' before after Replied words does e = subst (λ (o : Option Command). Does o files files' before after Replied) e does
+pub sim_of : (command : Option Command) (before after : Outside) (Replied : End → Type 0) (words : SimWords) → Does command before after Replied → command ≡ Some (Sim words) → RunsScript words before.files after.files before.line (left_in after) Replied
+sim_of command before after Replied words does e = (subst (λ (o : Option Command). Does o before after Replied) e does).0
+
+pub link_of : (command : Option Command) (before after : Outside) (Replied : End → Type 0) (words : SimWords) → Does command before after Replied → command ≡ Some (Sim words) → FaultsOfLine after.report after.line
+link_of command before after Replied words does e = (subst (λ (o : Option Command). Does o before after Replied) e does).1
+
+pub download_of : (command : Option Command) (before after : Outside) (Replied : End → Type 0) (words : DownloadWords) → Does command before after Replied → command ≡ Some (Download words)
+    → RunsDialled words before.files after.files before.dialer after.dialer after.report Replied
+download_of command before after Replied words does e = (subst (λ (o : Option Command). Does o before after Replied) e does).0
+
+pub gateway_of : (command : Option Command) (before after : Outside) (Replied : End → Type 0) (words : GatewayWords) → Does command before after Replied → command ≡ Some (Gateway words)
+    → RunsGateway words before.files after.files before.dialer after.dialer before.line after.line Replied
+gateway_of command before after Replied words does e = (subst (λ (o : Option Command). Does o before after Replied) e does).0
 
 -- what a command doesn't touch
-pub line_of : (command : Option Command) (files files' : FilesNow) (before : BusNow) (after : Left) (Replied : Outcome → Type 0) → Does command files files' before after Replied → (touches command).line ≡ false → after.line ≡ before
-line_of None files files' before after Replied does untouched = does.2.line
-line_of (Some (Check words)) files files' before after Replied does untouched = does.1.line
-line_of (Some (Tables words)) files files' before after Replied does untouched = does.1.line
-line_of (Some (Sim words)) files files' before after Replied does untouched = absurd (let e : true ≡ false = untouched in cc)
-line_of (Some (Decode word)) files files' before after Replied does untouched = does.2.line
-line_of (Some (Download words)) files files' before after Replied does untouched = does.0
-line_of (Some (Gateway words)) files files' before after Replied does untouched = absurd (let e : true ≡ false = untouched in cc)
+pub line_of : (command : Option Command) (before after : Outside) (Replied : End → Type 0) → Does command before after Replied → (touches command).line ≡ false → after.line ≡ before.line
+line_of None before after Replied does untouched = does.2.line
+line_of (Some (Check words)) before after Replied does untouched = does.1.line
+line_of (Some (Tables words)) before after Replied does untouched = does.1.line
+line_of (Some (Sim words)) before after Replied does untouched = absurd (let e : true ≡ false = untouched in cc)
+line_of (Some (Decode word)) before after Replied does untouched = does.2.line
+line_of (Some (Download words)) before after Replied does untouched = does.1
+line_of (Some (Gateway words)) before after Replied does untouched = absurd (let e : true ≡ false = untouched in cc)
 
-pub no_run_of : (command : Option Command) (files files' : FilesNow) (before : BusNow) (after : Left) (Replied : Outcome → Type 0) → Does command files files' before after Replied → (touches command).run ≡ false → after.report ≡ None
-no_run_of None files files' before after Replied does untouched = does.2.report
-no_run_of (Some (Check words)) files files' before after Replied does untouched = does.1.report
-no_run_of (Some (Tables words)) files files' before after Replied does untouched = does.1.report
-no_run_of (Some (Sim words)) files files' before after Replied does untouched = absurd (let e : true ≡ false = untouched in cc)
-no_run_of (Some (Decode word)) files files' before after Replied does untouched = does.2.report
-no_run_of (Some (Download words)) files files' before after Replied does untouched = absurd (let e : true ≡ false = untouched in cc)
-no_run_of (Some (Gateway words)) files files' before after Replied does untouched = does.0
+pub no_run_of : (command : Option Command) (before after : Outside) (Replied : End → Type 0) → Does command before after Replied → (touches command).run ≡ false → after.report ≡ None
+no_run_of None before after Replied does untouched = does.2.report
+no_run_of (Some (Check words)) before after Replied does untouched = does.1.report
+no_run_of (Some (Tables words)) before after Replied does untouched = does.1.report
+no_run_of (Some (Sim words)) before after Replied does untouched = absurd (let e : true ≡ false = untouched in cc)
+no_run_of (Some (Decode word)) before after Replied does untouched = does.2.report
+no_run_of (Some (Download words)) before after Replied does untouched = absurd (let e : true ≡ false = untouched in cc)
+no_run_of (Some (Gateway words)) before after Replied does untouched = does.1
 
-pub faults_in : (command : Option Command) (files files' : FilesNow) (before : BusNow) (after : Left) (Replied : Outcome → Type 0) → Does command files files' before after Replied → AtMostOneRose files.faults files'.faults
-faults_in None files files' before after Replied does = (None, does.1)
-faults_in (Some (Check words)) files files' before after Replied does = (failed_of_project words does.0.texts, does.0.counts)
-faults_in (Some (Tables words)) files files' before after Replied does = (failed_of_project words does.0.texts, does.0.counts)
-faults_in (Some (Sim words)) files files' before after Replied does = (failed_of_sim words does.texts, does.counts)
-faults_in (Some (Decode word)) files files' before after Replied does = (None, does.1)
-faults_in (Some (Download words)) files files' before after Replied does = does.1
-faults_in (Some (Gateway words)) files files' before after Replied does = does.1
+pub faults_in : (command : Option Command) (before after : Outside) (Replied : End → Type 0) → Does command before after Replied → AtMostOneRose before.files.faults after.files.faults
+faults_in None before after Replied does = (None, does.1)
+faults_in (Some (Check words)) before after Replied does = (failed_of_project words does.0.texts, does.0.counts)
+faults_in (Some (Tables words)) before after Replied does = (failed_of_project words does.0.texts, does.0.counts)
+faults_in (Some (Sim words)) before after Replied does = (failed_of_sim words does.0.texts, does.0.counts)
+faults_in (Some (Decode word)) before after Replied does = (None, does.1)
+faults_in (Some (Download words)) before after Replied does = (failed_of_project (project_named words) does.0.texts, does.0.counts)
+faults_in (Some (Gateway words)) before after Replied does = (failed_of_gateway words does.0.texts, does.0.counts)
 
 -- ---- what is so of each run
 
 begun_of : (P : Commission → RunNow → Report → Type 0) → ((c : Commission) (r : RunNow) (report : Report) (jobs : List JobWord) → Ran c r report jobs → P c r report)
-    → (words : List (List ℕ)) (names : SimWords) (files : FilesNow) (before : BusNow) (after : Left) (texts : SimTexts) (outcome : Outcome) → after.report ≡ report_in outcome
-    → asked words ≡ Some (Sim names) → SimIsRead files.file names texts → first_some (sim_tests names texts) ≡ None → Runs (commission_told names texts) before after.line outcome → HasRunOf P words files before after
-begun_of P get words names files before after texts (Stops told) report e is passes runs = NoRun (record { line = runs.1; report = report })
-begun_of P get words names files before after texts (Tells text) report e is passes runs = absurd runs
-begun_of P get words names files before after texts (BreaksOff told) report e is passes runs = HasRun names texts told e is passes report (get (commission_told names texts) after.line.run told runs.0 runs.1)
-begun_of P get words names files before after texts (Reports told jobs turns devices log) report e is passes runs = HasRun names texts told e is passes report (get (commission_told names texts) after.line.run told jobs runs.ran)
-
--- where a test fails there is no run
-stopped_of : (why : Stop) (outcome : Outcome) → StopsFor why outcome → report_in outcome ≡ None
-stopped_of why (Stops told) h = refl
-stopped_of why (Tells text) h = refl
-stopped_of why (BreaksOff report) h = absurd h
-stopped_of why (Reports report jobs turns devices log) h = absurd h
+    → (words : List (List ℕ)) (names : SimWords) (files : FilesNow) (before : BusNow) (after : Left) (texts : SimTexts) (end : End) → after.report ≡ report_in end
+    → asked words ≡ Some (Sim names) → SimIsRead files.file names texts → first_some (sim_tests names texts) ≡ None → Runs (commission_told names texts) before after.line end → HasRunOf P words files before after
+begun_of P get words names files before after texts (ends.Stops told) report e is passes runs = NoRun (record { line = runs.1; report = report })
+begun_of P get words names files before after texts (ends.Tells text) report e is passes runs = absurd runs
+begun_of P get words names files before after texts ends.NotOpened report e is passes runs = absurd runs
+begun_of P get words names files before after texts (ends.BreaksOff told want) report e is passes runs = HasRun names texts told e is passes report (get (commission_told names texts) after.line.run told runs.0 runs.1)
+begun_of P get words names files before after texts (ends.Reports told) report e is passes runs = HasRun names texts told.report e is passes report (get (commission_told names texts) after.line.run told.report told.jobs runs.ran)
+begun_of P get words names files before after texts (ends.Serves served) report e is passes runs = absurd runs
 
 tested : (P : Commission → RunNow → Report → Type 0) → ((c : Commission) (r : RunNow) (report : Report) (jobs : List JobWord) → Ran c r report jobs → P c r report)
-    → (tests : Option Stop) (words : List (List ℕ)) (names : SimWords) (files files' : FilesNow) (before : BusNow) (after : Left) (Replied : Outcome → Type 0) (run : RunsScript names files files' before after Replied)
+    → (tests : Option Stop) (words : List (List ℕ)) (names : SimWords) (files files' : FilesNow) (before : BusNow) (after : Left) (Replied : End → Type 0) (run : RunsScript names files files' before after Replied)
     → first_some (sim_tests names run.texts) ≡ tests → asked words ≡ Some (Sim names) → HasRunOf P words files before after
-tested P get (Some why) words names files files' before after Replied run t e = NoRun (record { line = (run.stops why t).1; report = run.report ∙ stopped_of why run.outcome (run.stops why t).0 })
-tested P get None words names files files' before after Replied run t e = begun_of P get words names files before after run.texts run.outcome run.report e run.is_read t (run.runs t)
+tested P get (Some why) words names files files' before after Replied run t e = NoRun (record { line = (run.stops why t).1; report = run.report ∙ stopped_report why run.end (run.stops why t).0 })
+tested P get None words names files files' before after Replied run t e = begun_of P get words names files before after run.texts run.end run.report e run.is_read t (run.runs t)
 
 ran_in : (P : Commission → RunNow → Report → Type 0) → ((c : Commission) (r : RunNow) (report : Report) (jobs : List JobWord) → Ran c r report jobs → P c r report)
-    → (command : Option Command) (words : List (List ℕ)) (files files' : FilesNow) (before : BusNow) (after : Left) (Replied : Outcome → Type 0) → asked words ≡ command → Does command files files' before after Replied → HasRunOf P words files before after
-ran_in P get None words files files' before after Replied e does = NoRun does.2
-ran_in P get (Some (Check names)) words files files' before after Replied e does = NoRun does.1
-ran_in P get (Some (Tables names)) words files files' before after Replied e does = NoRun does.1
-ran_in P get (Some (Sim names)) words files files' before after Replied e does = tested P get _ words names files files' before after Replied does refl e
-ran_in P get (Some (Decode word)) words files files' before after Replied e does = NoRun does.2
-ran_in P get (Some (Download names)) words files files' before after Replied e does = Elsewhere names e does.0
-ran_in P get (Some (Gateway names)) words files files' before after Replied e does = AtPort names e does.0
+    → (command : Option Command) (words : List (List ℕ)) (before after : Outside) (Replied : End → Type 0) → asked words ≡ command → Does command before after Replied → HasRunOf P words before.files before.line (left_in after)
+ran_in P get None words before after Replied e does = NoRun does.2
+ran_in P get (Some (Check names)) words before after Replied e does = NoRun does.1
+ran_in P get (Some (Tables names)) words before after Replied e does = NoRun does.1
+ran_in P get (Some (Sim names)) words before after Replied e does = tested P get _ words names before.files after.files before.line (left_in after) Replied does.0 refl e
+ran_in P get (Some (Decode word)) words before after Replied e does = NoRun does.2
+ran_in P get (Some (Download names)) words before after Replied e does = Elsewhere names e does.1
+ran_in P get (Some (Gateway names)) words before after Replied e does = AtPort names e does.1
 
 -- what is so of each run that a commission describes is so of the call's
 pub ran_of : (P : Commission → RunNow → Report → Type 0) → ((c : Commission) (r : RunNow) (report : Report) (jobs : List JobWord) → Ran c r report jobs → P c r report)
-    → (words : List (List ℕ)) (files files' : FilesNow) (before : BusNow) (after : Left) (Replied : Outcome → Type 0) → Does (asked words) files files' before after Replied → HasRunOf P words files before after
-ran_of P get words files files' before after Replied does = ran_in P get (asked words) words files files' before after Replied refl does
+    → (words : List (List ℕ)) (before after : Outside) (Replied : End → Type 0) → Does (asked words) before after Replied → HasRunOf P words before.files before.line (left_in after)
+ran_of P get words before after Replied does = ran_in P get (asked words) words before after Replied refl does

@@ -1,5 +1,5 @@
 -- Valid input is told whole, or there was no memory.
-use Rattle.std.proofs.Common.{ℕ, ◌≡◌, Bool, true, false, List, [], ◌∷◌, Option, Some, None, Ok, Err, refl, sym, ap, ◌∙◌, subst, inl, inr, ◌⊎◌}
+use Rattle.std.proofs.Common.{◌≡◌, Bool, true, false, List, [], ◌∷◌, Option, Some, None, Ok, Err, refl, sym, ap, ◌∙◌, subst, inl, inr, ◌⊎◌, ℕ}
 use Rattle.frame_text.specs.FrameText.{IsFrameText, hex_word}
 use Rattle.call_words.specs.declared.stop.Stop.{Stop}
 use Rattle.call_words.specs.declared.stop.Stop.TheVariants as stop
@@ -9,15 +9,16 @@ use Rattle.call_words.specs.declared.status.Status.TheVariants as status
 use Rattle.knx_model.specs.Meaning.{Installation}
 use Rattle.knx_model.specs.Outside.{FileContent, FilesNow, SinkNow, Untold, Absent, Holds, MayRead, Rose}
 use Rattle.call_words.specs.ReportText.{stop_status}
-use Rattle.knx_top.specs.Command.{ProjectWords}
-use Rattle.knx_top.specs.Input.{limit, goes_on, IsRead, failed, first_some, OnlyRose, failed_of_project, fault_in}
-use Rattle.knx_top.specs.Stops.{project_tests, project_told}
-use Rattle.knx_top.specs.Ran.{Outcome, Stops, Tells, BreaksOff, Reports, StopsFor}
-use Rattle.knx_top.specs.Call.{TellsText, TellsOf, TellsOfProject, TellsOfFrame, octets_or_usage, Replies, outcome_status}
+use Rattle.knx_top.specs.Input.{limit, goes_on, IsRead, failed, first_some, OnlyRose, fault_in}
+use Rattle.knx_top.specs.Ending.{StopsFor, Replies, end_status, TellsText, TellsOf}
 use Rattle.knx_top.specs.Complete.{reading_told, named_told, texts_told, IsValid, NoneRose, IsToldWhole}
-use Rattle.knx_top.specs.declared.input.ProjectTexts.{ProjectTexts}
+use Rattle.knx_top.specs.declared.project.ProjectTexts.{ProjectTexts}
 use Rattle.knx_top.specs.declared.input.Reading.{Reading}
 use Rattle.knx_top.specs.declared.input.Reading.TheVariants as read
+use Rattle.knx_top.specs.declared.ending.End.{End}
+use Rattle.knx_top.specs.declared.ending.End.TheVariants as ends
+use Rattle.knx_top.specs.commands.Project.{ProjectWords, failed_of_project, project_tests, project_told, TellsOfProject}
+use Rattle.knx_top.specs.commands.Decode.{TellsOfFrame, octets_or_usage}
 
 -- ---- what was read
 
@@ -85,23 +86,27 @@ second_wants words catalogue project on e =
 
 -- ---- what is told
 
-memory_told : (outcome : Outcome) → StopsFor (stop.NoMemory tt) outcome → outcome_status outcome ≡ status.NoMemory tt
-memory_told (Stops told) (inl e) = ap stop_status e
-memory_told (Stops told) (inr e) = ap stop_status e
-memory_told (Tells text) h = absurd h
-memory_told (BreaksOff report) h = absurd h
-memory_told (Reports report jobs turns devices log) h = absurd h
+memory_told : (end : End) → StopsFor (stop.NoMemory tt) end → end_status end ≡ status.NoMemory tt
+memory_told (ends.Stops told) (inl e) = ap stop_status e
+memory_told (ends.Stops told) (inr e) = ap stop_status e
+memory_told (ends.Tells text) h = absurd h
+memory_told ends.NotOpened h = absurd h
+memory_told (ends.BreaksOff report want) h = absurd h
+memory_told (ends.Reports told) h = absurd h
+memory_told (ends.Serves served) h = absurd h
 
-ended : (outcome : Outcome) (out out' : SinkNow) (ending : Status) → ¬ Rose out.faults out'.faults → Replies out out' ending outcome → ending ≡ outcome_status outcome
-ended outcome out out' ending still (inl wrote) = wrote.0
-ended outcome out out' ending still (inr refused) = absurd (still refused.2)
+ended : (end : End) (out out' : SinkNow) (ending : Status) → ¬ Rose out.faults out'.faults → Replies out out' ending end → ending ≡ end_status end
+ended end out out' ending still (inl wrote) = wrote.0
+ended end out out' ending still (inr refused) = absurd (still refused.2)
 
-told_whole : (IsText : List ℕ → Type 0) (outcome : Outcome) (out out' : SinkNow) (ending : Status) → ¬ Rose out.faults out'.faults → TellsText IsText outcome → Replies out out' ending outcome → IsToldWhole IsText out out' ending
-told_whole IsText (Stops told) out out' ending still h replied = inl (ended (Stops told) out out' ending still replied ∙ ap stop_status h)
-told_whole IsText (Tells text) out out' ending still h (inl wrote) = inr (wrote.0, (text, (h, wrote.1)))
-told_whole IsText (Tells text) out out' ending still h (inr refused) = absurd (still refused.2)
-told_whole IsText (BreaksOff report) out out' ending still h replied = absurd h
-told_whole IsText (Reports report jobs turns devices log) out out' ending still h replied = absurd h
+told_whole : (IsText : List ℕ → Type 0) (end : End) (out out' : SinkNow) (ending : Status) → ¬ Rose out.faults out'.faults → TellsText IsText end → Replies out out' ending end → IsToldWhole IsText out out' ending
+told_whole IsText (ends.Stops told) out out' ending still h replied = inl (ended (ends.Stops told) out out' ending still replied ∙ ap stop_status h)
+told_whole IsText (ends.Tells text) out out' ending still h (inl wrote) = inr (wrote.0, (text, (h, wrote.1)))
+told_whole IsText (ends.Tells text) out out' ending still h (inr refused) = absurd (still refused.2)
+told_whole IsText ends.NotOpened out out' ending still h replied = absurd h
+told_whole IsText (ends.BreaksOff report want) out out' ending still h replied = absurd h
+told_whole IsText (ends.Reports told) out out' ending still h replied = absurd h
+told_whole IsText (ends.Serves served) out out' ending still h replied = absurd h
 
 -- by what came of both files
 by_readings : (IsText : Installation → List ℕ → Type 0) (words : ProjectWords) (files files' : FilesNow) (out out' : SinkNow) (ending : Status)
@@ -110,7 +115,7 @@ by_readings : (IsText : Installation → List ℕ → Type 0) (words : ProjectWo
     → (goes_on t.texts.catalogue ≡ true → (t.texts.project ≡ reading_told (files.file words.project)) ⊎ (t.texts.project ≡ wanting))
     → IsToldWhole (IsText (project_told (texts_told files.file words))) out out' ending
 by_readings IsText words files files' out out' ending valid still t (inr none) project =
-    inl (ended t.outcome out out' ending still t.replied ∙ memory_told t.outcome (t.stops (stop.NoMemory tt) (first_wants words t.texts.catalogue t.texts.project none)))
+    inl (ended t.end out out' ending still t.replied ∙ memory_told t.end (t.stops (stop.NoMemory tt) (first_wants words t.texts.catalogue t.texts.project none)))
 by_readings IsText words files files' out out' ending valid still t (inl read) project =
     let on : goes_on t.texts.catalogue ≡ true = ap goes_on read ∙ valid.catalogue in
     by_project (project on)
@@ -120,12 +125,12 @@ by_readings IsText words files files' out out' ending valid still t (inl read) p
 
     by_project : (t.texts.project ≡ reading_told (files.file words.project)) ⊎ (t.texts.project ≡ wanting) → IsToldWhole (IsText (project_told (texts_told files.file words))) out out' ending
     by_project (inr none) =
-        inl (ended t.outcome out out' ending still t.replied ∙ memory_told t.outcome (t.stops (stop.NoMemory tt) (second_wants words t.texts.catalogue t.texts.project (ap goes_on read ∙ valid.catalogue) none)))
+        inl (ended t.end out out' ending still t.replied ∙ memory_told t.end (t.stops (stop.NoMemory tt) (second_wants words t.texts.catalogue t.texts.project (ap goes_on read ∙ valid.catalogue) none)))
     by_project (inl whole) =
         let same : texts_told files.file words ≡ t.texts = sym (both t.texts.catalogue (named_told files.file words.catalogue) t.texts.project (reading_told (files.file words.project)) read whole) in
         let passes : first_some (project_tests words t.texts) ≡ None = subst (λ (x : ProjectTexts). first_some (project_tests words x) ≡ None) same valid.passes in
-        let told : TellsText (IsText (project_told (texts_told files.file words))) t.outcome = subst (λ (x : ProjectTexts). TellsText (IsText (project_told x)) t.outcome) (sym same) (t.tells passes) in
-        told_whole (IsText (project_told (texts_told files.file words))) t.outcome out out' ending still told t.replied
+        let told : TellsText (IsText (project_told (texts_told files.file words))) t.end = subst (λ (x : ProjectTexts). TellsText (IsText (project_told x)) t.end) (sym same) (t.tells passes) in
+        told_whole (IsText (project_told (texts_told files.file words))) t.end out out' ending still told t.replied
 
 pub complete : (IsText : Installation → List ℕ → Type 0) (words : ProjectWords) (files files' : FilesNow) (out out' : SinkNow) (ending : Status)
     → IsValid files.file words → NoneRose files files' out out' → TellsOfProject IsText words files files' (Replies out out' ending) → IsToldWhole (IsText (project_told (texts_told files.file words))) out out' ending
@@ -139,4 +144,4 @@ complete IsText words files files' out out' ending valid still t =
 
 pub decoded : (word octets : List ℕ) (out out' : SinkNow) (ending : Status) → hex_word word ≡ Some octets → ¬ Rose out.faults out'.faults → TellsOfFrame word (Replies out out' ending) → IsToldWhole (IsFrameText octets) out out' ending
 decoded word octets out out' ending is still t =
-    told_whole (IsFrameText octets) t.outcome out out' ending still (subst (λ (found : Option (List ℕ)). TellsOf IsFrameText (octets_or_usage found) t.outcome) is t.tells) t.replied
+    told_whole (IsFrameText octets) t.end out out' ending still (subst (λ (found : Option (List ℕ)). TellsOf IsFrameText (octets_or_usage found) t.end) is t.tells) t.replied

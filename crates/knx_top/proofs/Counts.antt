@@ -1,13 +1,9 @@
 -- The counts of faults over the reads of a call: only the read that failed is counted.
-use Rattle.std.proofs.Common.{ℕ, ◌≡◌, Bool, true, false, List, [], ◌∷◌, Option, Some, None, Ok, Err, refl, sym, ◌∙◌, subst, inl, inr, ◌⊎◌}
+use Rattle.std.proofs.Common.{◌≡◌, Bool, true, false, List, [], ◌∷◌, Option, Some, None, Ok, Err, refl, sym, ◌∙◌, subst, inl, inr, ◌⊎◌, ℕ}
 use Rattle.knx_model.specs.Outside.{FileContent, MayRead, Rose}
-use Rattle.knx_top.specs.Command.{GatewayWords, ProjectWords, SimWords}
-use Rattle.knx_top.specs.Input.{limit, goes_on, IsRead, failed, first_some, OnlyRose, failed_of_gateway, failed_of_project, failed_of_sim, GatewayIsRead, ProjectIsRead, SimIsRead}
-use Rattle.knx_top.specs.declared.input.GatewayTexts.{GatewayTexts}
-use Rattle.knx_top.specs.declared.input.ProjectTexts.{ProjectTexts}
+use Rattle.knx_top.specs.Input.{limit, goes_on, IsRead, failed, first_some, OnlyRose}
 use Rattle.knx_top.specs.declared.input.Reading.{Reading}
 use Rattle.knx_top.specs.declared.input.Reading.TheVariants as read
-use Rattle.knx_top.specs.declared.input.SimTexts.{SimTexts}
 
 -- nothing failed in a file that isn't read
 unread_failed : (file : List ℕ → FileContent) (name : Option (List ℕ)) (reading : Reading) → IsRead file false name reading → failed name reading ≡ None
@@ -65,7 +61,7 @@ unread_goes file (Some name) read.Unread h = refl
 unread_goes file (Some name) (read.Whole octets) h = absurd (let e : false ≡ true = h.0 in cc)
 unread_goes file (Some name) (read.Fault why) h = refl
 
-tail_of : (turn : Bool) (file : List ℕ → FileContent) (name : Option (List ℕ)) (reading : Reading) (others : List (Option (List ℕ))) → IsRead file turn name reading → (goes_on reading ≡ false → first_some others ≡ None) → turn ≡ false → first_some (failed name reading ∷ others) ≡ None
+pub tail_of : (turn : Bool) (file : List ℕ → FileContent) (name : Option (List ℕ)) (reading : Reading) (others : List (Option (List ℕ))) → IsRead file turn name reading → (goes_on reading ≡ false → first_some others ≡ None) → turn ≡ false → first_some (failed name reading ∷ others) ≡ None
 tail_of true file name reading others h behind off = absurd cc
 tail_of false file name reading others h behind off = rest_failed file name reading others h (behind (unread_goes file name reading h))
 
@@ -80,42 +76,9 @@ rose_then name reading others a b c behind first next =
     rose_more (failed name reading) (first_some others) (first_some (failed name reading ∷ others)) a b c (goes_step (goes_on reading) name reading others refl behind) first next
     (λ none. head_none (failed name reading) others none) (λ none. rest_none (failed name reading) others none)
 
-alone : (one : Option (List ℕ)) → first_some (one ∷ []) ≡ one
+pub alone : (one : Option (List ℕ)) → first_some (one ∷ []) ≡ one
 alone None = refl
 alone (Some name) = refl
-
-pub project_rose : (file : List ℕ → FileContent) (words : ProjectWords) (texts : ProjectTexts) (a b c : List ℕ → ℕ) → ProjectIsRead file words texts
-    → OnlyRose (failed words.catalogue texts.catalogue) a b → OnlyRose (failed (Some words.project) texts.project) b c → OnlyRose (failed_of_project words texts) a c
-project_rose file words texts a b c is first second =
-    let project : List (Option (List ℕ)) = failed (Some words.project) texts.project ∷ [] in
-    let behind : goes_on texts.catalogue ≡ false → first_some project ≡ None = tail_of (goes_on texts.catalogue) file (Some words.project) texts.project [] is.project (λ _. refl) in
-    rose_then words.catalogue texts.catalogue project a b c behind first (subst (λ (o : Option (List ℕ)). OnlyRose o b c) (sym (alone (failed (Some words.project) texts.project))) second)
-
-pub sim_rose : (file : List ℕ → FileContent) (words : SimWords) (texts : SimTexts) (a b c d e : List ℕ → ℕ) → SimIsRead file words texts
-    → OnlyRose (failed words.options.catalogue texts.catalogue) a b → OnlyRose (failed (Some words.new) texts.new) b c → OnlyRose (failed (Some words.old) texts.old) c d → OnlyRose (failed (Some words.script) texts.script) d e
-    → OnlyRose (failed_of_sim words texts) a e
-sim_rose file words texts a b c d e is first second third fourth =
-    let script : List (Option (List ℕ)) = failed (Some words.script) texts.script ∷ [] in
-    let old : List (Option (List ℕ)) = failed (Some words.old) texts.old ∷ script in
-    let new : List (Option (List ℕ)) = failed (Some words.new) texts.new ∷ old in
-    let behind_old : goes_on texts.old ≡ false → first_some script ≡ None = tail_of (goes_on texts.old) file (Some words.script) texts.script [] is.script (λ _. refl) in
-    let behind_new : goes_on texts.new ≡ false → first_some old ≡ None = tail_of (goes_on texts.new) file (Some words.old) texts.old script is.old behind_old in
-    let behind_catalogue : goes_on texts.catalogue ≡ false → first_some new ≡ None = tail_of (goes_on texts.catalogue) file (Some words.new) texts.new old is.new behind_new in
-    let scripted : OnlyRose (first_some script) d e = subst (λ (o : Option (List ℕ)). OnlyRose o d e) (sym (alone (failed (Some words.script) texts.script))) fourth in
-    rose_then words.options.catalogue texts.catalogue new a b e behind_catalogue first
-    (rose_then (Some words.new) texts.new old b c e behind_new second
-    (rose_then (Some words.old) texts.old script c d e behind_old third scripted))
-
-pub gateway_rose : (file : List ℕ → FileContent) (words : GatewayWords) (texts : GatewayTexts) (a b c d : List ℕ → ℕ) → GatewayIsRead file words texts
-    → OnlyRose (failed words.catalogue texts.catalogue) a b → OnlyRose (failed (Some words.old) texts.old) b c → OnlyRose (failed (Some words.script) texts.script) c d → OnlyRose (failed_of_gateway words texts) a d
-gateway_rose file words texts a b c d is first second third =
-    let script : List (Option (List ℕ)) = failed (Some words.script) texts.script ∷ [] in
-    let old : List (Option (List ℕ)) = failed (Some words.old) texts.old ∷ script in
-    let behind_old : goes_on texts.old ≡ false → first_some script ≡ None = tail_of (goes_on texts.old) file (Some words.script) texts.script [] is.script (λ _. refl) in
-    let behind_catalogue : goes_on texts.catalogue ≡ false → first_some old ≡ None = tail_of (goes_on texts.catalogue) file (Some words.old) texts.old script is.old behind_old in
-    let scripted : OnlyRose (first_some script) c d = subst (λ (o : Option (List ℕ)). OnlyRose o c d) (sym (alone (failed (Some words.script) texts.script))) third in
-    rose_then words.catalogue texts.catalogue old a b d behind_catalogue first
-    (rose_then (Some words.old) texts.old script b c d behind_old second scripted)
 
 -- ---- what the files tell stays, so that later reads are of the same files
 

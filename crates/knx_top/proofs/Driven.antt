@@ -38,9 +38,8 @@ use Rattle.tunnel_link.specs.Goes.{GoesOn}
 use Rattle.tunnel_link.specs.Rights.{FailsWhere, WhereTold}
 use Rattle.knx_top.specs.Begun.{IsOrder}
 use Rattle.knx_top.specs.Jobs.{seen_job}
-use Rattle.knx_top.specs.Ran.{FailsAtLast, IsRunOf, KeepsPromises, Ran, log_in}
-use Rattle.knx_top.specs.Stops.{Commission}
-use Rattle.knx_top.specs.declared.judge.Order.{Order}
+use Rattle.knx_top.specs.Ran.{FailsAtLast, IsRunOf, KeepsPromises, Ran, log_in, Commission}
+use Rattle.knx_top.specs.declared.commands.sim.judge.Order.{Order}
 use Rattle.knx_top.proofs.Meanings.{devices_mean, done_means}
 use Rattle.knx_top.proofs.Telegrams.{telegrams_by_project}
 

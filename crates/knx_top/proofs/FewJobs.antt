@@ -11,8 +11,8 @@ use Rattle.knx_model.specs.Meaning.{Installation}
 use Rattle.knx_model.specs.Rules.{devices_of, first_broken}
 use Rattle.project_check.proofs.Limits.{few_devices}
 use Rattle.project_check.proofs.Totals.{devices_counted}
-use Rattle.knx_top.specs.Command.{most_jobs}
 use Rattle.knx_top.specs.Jobs.{ArePlanned, IsPlanned, load_of, seen_job}
+use Rattle.knx_top.specs.Options.{most_jobs}
 
 -- one for each device of a project that breaks no rule
 pub loads_few : (project : Installation) (devices : List IndAddr) → first_broken project.catalogue project.statements ≡ None → IsPermutation (devices_of project.statements) devices → length (map load_of devices) ≤ most_jobs

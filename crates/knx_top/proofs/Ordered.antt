@@ -9,10 +9,11 @@ use Rattle.call_words.specs.declared.job_word.JobWord.{JobWord}
 use Rattle.knx_model.specs.declared.script.ScriptLine.{ScriptLine}
 use Rattle.knx_model.specs.Meaning.{Installation}
 use Rattle.knx_top.specs.Begun.{BeginsLine, IsPrepared, OrderFor}
-use Rattle.knx_top.specs.Command.{SimOptions}
-use Rattle.knx_top.specs.Judged.{unless_strange, with_lines}
-use Rattle.knx_top.specs.Stops.{is_group_line, is_known, not_built, unknown_job}
-use Rattle.knx_top.specs.declared.judge.Order.{Order}
+use Rattle.knx_top.specs.Judged.{unless_strange}
+use Rattle.knx_top.specs.Stops.{is_known, unknown_job}
+use Rattle.knx_top.specs.declared.commands.sim.judge.Order.{Order}
+use Rattle.knx_top.specs.Options.{SimOptions}
+use Rattle.knx_top.specs.commands.Sim.{with_lines, is_group_line, not_built}
 
 pub strange_ends : (o : SimOptions) (new old : Installation) (lines : List ScriptLine) (why : Stop) → (why ≢ stop.NoMemory tt → unless_strange new old lines ≡ Err why) → why ≢ stop.NoMemory tt → with_lines o new old lines ≡ Err why
 strange_ends o new old lines why h w = rw (h w) refl

@@ -13,8 +13,8 @@ use Rattle.line_model.specs.StartOf.{BusOf, DeviceBegins, is_on_bus, line_of, tu
 use Rattle.line_model.specs.World.{World, Event, replay}
 use Rattle.knx_top.specs.Begun.{BeginsLine, IsOrder}
 use Rattle.knx_top.specs.OnLine.{AreCompiled, addresses_of_line, on_bus}
-use Rattle.knx_top.specs.Stops.{Commission}
-use Rattle.knx_top.specs.declared.judge.Order.{Order}
+use Rattle.knx_top.specs.declared.commands.sim.judge.Order.{Order}
+use Rattle.knx_top.specs.Ran.{Commission}
 
 each_passes : (p : IndAddr → Bool) (listed : List IndAddr) → AllByRecursion (λ a. p a ≡ true) (filter p listed)
 each_passes p [] = tt

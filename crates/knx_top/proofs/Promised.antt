@@ -5,8 +5,7 @@ use Rattle.call_words.specs.declared.job_word.JobWord.{JobWord}
 use Rattle.line_model.specs.declared.log.Report.{Report}
 use Rattle.line_model.specs.Log.{Job}
 use Rattle.knx_top.specs.Headline.{OfItsJobs, BeganRightly, HasOldStoppedOrNew, HasTelegramsRight, RunsWhereDone, ActsOnce, IsToldRightly, EndsThoroughly, LeavesItsChannel, HasFaultRight, EndsEveryJob, ClosesToItsEnd, IsOfItsWorkers}
-use Rattle.knx_top.specs.Ran.{Ran}
-use Rattle.knx_top.specs.Stops.{Commission}
+use Rattle.knx_top.specs.Ran.{Ran, Commission}
 
 of_its_jobs : (c : Commission) (r : RunNow) (report : Report) (words : List JobWord) (P : List Job → Type 0) (ran : Ran c r report words) → P ran.jobs → OfItsJobs c P
 of_its_jobs c r report words P ran h = record { words = words; are = ran.words_are; jobs = ran.jobs; planned = ran.planned; holds = h }

@@ -1,5 +1,5 @@
 -- What is shown of the devices of the line when a run has ended: each is there still, and its case is told by what the project says of it.
-use Rattle.std.proofs.Common.{◌≡◌, ℕ, List, [], ◌∷◌, length, Option, Some, None, All, refl, sym, ap, ◌∙◌, subst}
+use Rattle.std.proofs.Common.{◌≡◌, List, [], ◌∷◌, length, Option, Some, None, All, refl, sym, ap, ◌∙◌, subst, ℕ}
 use Rattle.std.specs.Prelude.{Bool, IsSome}
 use Rattle.std.proofs.lemmas.List.Elements.{All-weaker}
 use Rattle.bus_sim.specs.declared.clients.Clients.TheVariants.{One}
@@ -20,13 +20,15 @@ use Rattle.call_words.specs.Printed.{DeviceShown}
 use Rattle.line_model.specs.World.{World, Event, replay}
 use Rattle.call_words.specs.declared.job_word.JobWord.{JobWord}
 use Rattle.tunnel_link.specs.Goes.{GoesOn}
-use Rattle.knx_top.specs.Ended.{ShowsRun}
+use Rattle.knx_top.specs.Ran.{FaultsOfLine, Ran, Commission}
 use Rattle.knx_top.specs.OnLine.{AreCompiled, IsCompiled, IsImageWhere, on_bus}
-use Rattle.knx_top.specs.Ran.{FaultsOfLine, Outcome, Stops, Tells, BreaksOff, Reports, Ran, Runs, report_in}
+use Rattle.knx_top.specs.Ending.{report_in}
 use Rattle.knx_top.specs.Shown.{AreShown, AreShownOf, IsShown, IsShownIn}
-use Rattle.knx_top.specs.Stops.{Commission}
 use Rattle.knx_top.proofs.Driven.{same_start, told_whole}
 use Rattle.knx_top.proofs.Meanings.{now_case}
+use Rattle.knx_top.specs.declared.ending.End.{End}
+use Rattle.knx_top.specs.declared.ending.End.TheVariants as ends
+use Rattle.knx_top.specs.commands.Sim.{ShowsRun, Runs}
 
 -- ---- the devices of the line stay on it
 
@@ -72,22 +74,26 @@ are_shown project w (s ∷ shown) (d ∷ devices) (a ∷ listed) of compiled = (
 
 -- ---- the end of a run, as it is reported or as memory was wanting for that
 
-pub runs_so : (c : Commission) (before after : BusNow) (report : Report) (jobs : List JobWord) (turns : ℕ) (devices : List (IndAddr × Option Image)) (log : Bool) (outcome : Outcome) → Ran c after.run report jobs → AreCompiled c.project devices (on_bus c.project c.before)
-    → turns ≡ length c.turns → log ≡ c.options.log → ShowsRun after.run report jobs turns devices log outcome → Runs c before after outcome
-runs_so c before after report jobs turns devices log (Stops why) ran compiled many logs shows = absurd shows
-runs_so c before after report jobs turns devices log (Tells text) ran compiled many logs shows = absurd shows
-runs_so c before after report jobs turns devices log (BreaksOff told) ran compiled many logs shows = (jobs, subst (λ (r : Report). Ran c after.run r jobs) (sym shows) ran)
-runs_so c before after report jobs turns devices log (Reports told words sent shown with_log) ran compiled many logs shows = record {
-  ran = subst (λ (r : Report). Ran c after.run r words) (sym shows.0) (subst (λ (ws : List JobWord). Ran c after.run report ws) (sym shows.1) ran);
+pub runs_so : (c : Commission) (before after : BusNow) (report : Report) (jobs : List JobWord) (turns : ℕ) (devices : List (IndAddr × Option Image)) (log : Bool) (end : End) → Ran c after.run report jobs → AreCompiled c.project devices (on_bus c.project c.before)
+    → turns ≡ length c.turns → log ≡ c.options.log → ShowsRun after.run report jobs turns devices log end → Runs c before after end
+runs_so c before after report jobs turns devices log (ends.Stops why) ran compiled many logs shows = absurd shows
+runs_so c before after report jobs turns devices log (ends.Tells text) ran compiled many logs shows = absurd shows
+runs_so c before after report jobs turns devices log ends.NotOpened ran compiled many logs shows = absurd shows
+runs_so c before after report jobs turns devices log (ends.BreaksOff told want) ran compiled many logs shows = (jobs, subst (λ (r : Report). Ran c after.run r jobs) (sym shows) ran)
+runs_so c before after report jobs turns devices log (ends.Reports told) ran compiled many logs shows = record {
+  ran = subst (λ (r : Report). Ran c after.run r told.jobs) (sym shows.0) (subst (λ (ws : List JobWord). Ran c after.run report ws) (sym shows.1) ran);
   with_turns = shows.2 ∙ many;
-  shown = are_shown c.project (world after.run) shown devices (on_bus c.project c.before) shows.3 compiled;
+  shown = are_shown c.project (world after.run) told.devices devices (on_bus c.project c.before) shows.3 compiled;
   with_log = shows.4 ∙ logs;
 }
+runs_so c before after report jobs turns devices log (ends.Serves served) ran compiled many logs shows = absurd shows
 
 -- it is told with the same fault
-pub fault_so : (r : RunNow) (report : Report) (jobs : List JobWord) (turns : ℕ) (devices : List (IndAddr × Option Image)) (log : Bool) (outcome : Outcome) (after : BusNow) → ShowsRun r report jobs turns devices log outcome
-    → FaultsOfLine (Some report) after → FaultsOfLine (report_in outcome) after
-fault_so r report jobs turns devices log (Stops why) after shows cause = absurd shows
-fault_so r report jobs turns devices log (Tells text) after shows cause = absurd shows
-fault_so r report jobs turns devices log (BreaksOff told) after shows cause = subst (λ (told : Report). FaultsOfLine (Some told) after) (sym shows) cause
-fault_so r report jobs turns devices log (Reports told words sent shown with_log) after shows cause = subst (λ (told : Report). FaultsOfLine (Some told) after) (sym shows.0) cause
+pub fault_so : (r : RunNow) (report : Report) (jobs : List JobWord) (turns : ℕ) (devices : List (IndAddr × Option Image)) (log : Bool) (end : End) (after : BusNow) → ShowsRun r report jobs turns devices log end
+    → FaultsOfLine (Some report) after → FaultsOfLine (report_in end) after
+fault_so r report jobs turns devices log (ends.Stops why) after shows cause = absurd shows
+fault_so r report jobs turns devices log (ends.Tells text) after shows cause = absurd shows
+fault_so r report jobs turns devices log ends.NotOpened after shows cause = absurd shows
+fault_so r report jobs turns devices log (ends.BreaksOff told want) after shows cause = subst (λ (told : Report). FaultsOfLine (Some told) after) (sym shows) cause
+fault_so r report jobs turns devices log (ends.Reports told) after shows cause = subst (λ (told : Report). FaultsOfLine (Some told) after) (sym shows.0) cause
+fault_so r report jobs turns devices log (ends.Serves served) after shows cause = absurd shows

@@ -1,14 +1,20 @@
 -- What words ask for is just the command that they spell.
 use Rattle.std.proofs.Common.{ℕ, ◌≡◌, ◌↔◌, Bool, true, false, codes, List, [], ◌∷◌, Option, Some, None, refl, sym, ap, subst}
-use Rattle.std.specs.Prelude.{bytes_eq, if◌then◌else◌}
+use Rattle.std.specs.Prelude.{bytes_eq, if◌then◌else◌, option_and_then}
 use Rattle.std.specs.Option.{option_map}
 use Rattle.std.proofs.lemmas.Slice.Eq.{bytes_eq-Decides}
-use Rattle.knx_top.specs.Command.{Command, Check, Tables, Sim, Decode, ProjectWords, SimOptions, SimWords, SpellsCommand, SpellsCheck, SpellsTables, SpellsSim, SpellsDecode, SpellsDownload, SpellsGateway, Download, DownloadWords, Gateway, GatewayWords, no_options, project_options, project_rows, project_words, run_rows, sim_options, sim_words, decode_word, download_words, gateway_words, turns_rows, turns_value, asked}
+use Rattle.knx_top.specs.Command.{Command, Check, Tables, Sim, Decode, SpellsCommand, SpellsCheck, SpellsTables, SpellsSim, SpellsDecode, SpellsDownload, SpellsGateway, Download, Gateway, asked}
 use Rattle.knx_model.specs.Addresses.{◌>>=◌}
 use Rattle.line_model.specs.Dialled.{Address}
 use Rattle.knx_top.specs.Fronts.{Spells, SpellsAll}
 use Rattle.knx_top.specs.Host.{address_value}
 use Rattle.knx_top.proofs.ReadBy.{AreApart, all_from, all_to, fronts, none_begins_another, reads_spelled, spells_read}
+use Rattle.knx_top.specs.commands.Project.{ProjectWords, project_words}
+use Rattle.knx_top.specs.Options.{SimOptions, no_options, project_options, project_rows, run_rows, sim_options}
+use Rattle.knx_top.specs.commands.Sim.{SimWords, sim_words}
+use Rattle.knx_top.specs.commands.Download.{DownloadWords, download_words}
+use Rattle.knx_top.specs.commands.Gateway.{GatewayWords, gateway_words, turns_rows, turns_value}
+use Rattle.knx_top.specs.commands.Decode.{decode_word}
 
 -- ---- in each table no front begins another
 
@@ -87,7 +93,7 @@ abbrev with_options : Address → List ℕ → Option SimOptions → Option Down
 with_options at new o = option_map (λ (options : SimOptions). let w : DownloadWords = record { at = at; new = new; options = options } in w) o
 
 download_to : (at : Option Address) (o : Option SimOptions) (address new : List ℕ) (others : List (List ℕ)) (command : Command) → address_value address ≡ at → sim_options others ≡ o
-    → option_map Download (at >>= λ to. with_options to new o) ≡ Some command → SpellsCommand (codes "download" ∷ address ∷ new ∷ others) command
+    → option_map Download (option_and_then (λ (to : Address). with_options to new o) at) ≡ Some command → SpellsCommand (codes "download" ∷ address ∷ new ∷ others) command
 download_to None o address new others command is_at is e = absurd cc
 download_to (Some at) None address new others command is_at is e = absurd cc
 download_to (Some at) (Some options) address new others command is_at is e =
@@ -102,7 +108,7 @@ abbrev gateway_with : Address → ℕ → List ℕ → List ℕ → Option SimOp
 gateway_with at turns old script o = option_map (λ (options : SimOptions). let w : GatewayWords = record { at = at; old = old; script = script; turns = turns; catalogue = options.catalogue } in w) o
 
 gateway_to : (at : Option Address) (turns : Option ℕ) (o : Option SimOptions) (address old script word : List ℕ) (others : List (List ℕ)) (command : Command) → address_value address ≡ at → turns_value word ≡ turns → project_options others ≡ o
-    → option_map Gateway (at >>= λ to. turns >>= λ n. gateway_with to n old script o) ≡ Some command → SpellsCommand (codes "gateway" ∷ address ∷ old ∷ script ∷ word ∷ others) command
+    → option_map Gateway (option_and_then (λ (to : Address). option_and_then (λ (n : ℕ). gateway_with to n old script o) turns) at) ≡ Some command → SpellsCommand (codes "gateway" ∷ address ∷ old ∷ script ∷ word ∷ others) command
 gateway_to None turns o address old script word others command is_at is_turns is e = absurd cc
 gateway_to (Some at) None o address old script word others command is_at is_turns is e = absurd cc
 gateway_to (Some at) (Some turns) None address old script word others command is_at is_turns is e = absurd cc

@@ -15,8 +15,8 @@ use Rattle.line_model.specs.Headline.{IsGoodJob}
 use Rattle.line_model.specs.StartOf.{BusOf, is_on_bus}
 use Rattle.knx_top.specs.Jobs.{AreJobs, ArePlanned, seen_job}
 use Rattle.knx_top.specs.OnLine.{AreCompiled, on_bus}
-use Rattle.knx_top.specs.Stops.{Commission}
-use Rattle.knx_top.specs.declared.judge.Order.{Order}
+use Rattle.knx_top.specs.Ran.{Commission}
+use Rattle.knx_top.specs.declared.commands.sim.judge.Order.{Order}
 
 -- what the old project says of each device on the bus that it has is of two octets
 abbrev pub IsOldInRange : Installation → Installation → Type 0

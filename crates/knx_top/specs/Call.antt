@@ -1,148 +1,84 @@
--- What a call of the program does, for each of its commands.
-use Rattle.std.specs.Prelude.{ℕ, ◌≡◌, ◌⊎◌, List, map, IsPermutation, Option, Some, None, Result, Ok, Err}
-use Rattle.std.specs.List.{AllZip, flat_map, zip}
-use Rattle.std.specs.List.Sorted.{IsStrictlyIncreasing}
+-- What a call of the program touches, reads and does, by what its words ask for.
+use Rattle.std.specs.Prelude.{ℕ, Bool, true, false, List, [], None, Option, Some, ◌≡◌}
 use Rattle.bus_sim.specs.Loaded.{BusNow}
-use Rattle.bus_sim.specs.RunNow.{RunNow}
-use Rattle.frame_text.specs.FrameText.{IsFrameText, hex_word}
-use Rattle.knx_model.specs.declared.address.IndAddr.{IndAddr}
-use Rattle.call_words.specs.declared.stop.Stop.{Stop}
-use Rattle.call_words.specs.declared.stop.Stop.TheVariants as stop
-use Rattle.knx_model.specs.declared.config.Image.{Image}
-use Rattle.call_words.specs.declared.status.Status.{Status}
-use Rattle.call_words.specs.declared.status.Status.TheVariants as status
-use Rattle.knx_model.specs.Meaning.{Installation, meaning}
-use Rattle.knx_model.specs.Outside.{FilesNow, Rose, SinkNow, Wrote, WroteFront}
-use Rattle.call_words.specs.ReportText.{counts_line, tables_lines, stop_text, stop_status}
-use Rattle.knx_model.specs.Counts.{counts_of}
-use Rattle.knx_model.specs.Rules.{devices_of}
-use Rattle.knx_model.specs.Tables.{StandsFor}
+use Rattle.knx_top.specs.Command.{Check, Command, Decode, Download, Gateway, Sim, Tables, asked}
+use Rattle.knx_top.specs.Ran.{Commission, FaultsOfLine, Left}
+use Rattle.line_model.specs.Dialled.{DialerNow}
+use Rattle.knx_top.specs.commands.Download.{DownloadWords, RunsDialled, files_of_download}
+use Rattle.knx_top.specs.declared.ending.End.{End}
+use Rattle.knx_model.specs.Outside.{FilesNow}
+use Rattle.knx_top.specs.commands.Gateway.{GatewayWords, RunsGateway, files_of_gateway}
+use Rattle.knx_top.specs.commands.Check.{IsCountsText}
+use Rattle.knx_top.specs.commands.Tables.{IsTablesText}
+use Rattle.knx_top.specs.Input.{OnlyRose, first_some}
 use Rattle.line_model.specs.declared.log.Report.{Report}
-use Rattle.call_words.specs.Printed.{line_report_text}
-use Rattle.report_text.specs.LineStatus.{line_status}
-use Rattle.knx_top.specs.Command.{Command, Check, Tables, Sim, Decode, Download, DownloadWords, Gateway, GatewayWords, ProjectWords, SimWords, asked}
-use Rattle.knx_top.specs.Input.{ProjectIsRead, SimIsRead, OnlyRose, failed_of_project, failed_of_sim, first_some}
-use Rattle.knx_top.specs.Ran.{Outcome, Stops, Tells, BreaksOff, Reports, StopsFor, Runs, report_in}
-use Rattle.knx_top.specs.Stops.{Commission, project_tests, project_told, sim_tests, commission_told}
-use Rattle.knx_top.specs.declared.input.ProjectTexts.{ProjectTexts}
-use Rattle.knx_top.specs.declared.input.SimTexts.{SimTexts}
+use Rattle.bus_sim.specs.RunNow.{RunNow}
+use Rattle.knx_top.specs.commands.Sim.{RunsScript, files_of_sim, SimIsRead, SimWords, commission_told, sim_tests}
+use Rattle.knx_top.specs.declared.commands.sim.SimTexts.{SimTexts}
+use Rattle.knx_top.specs.commands.Decode.{TellsOfFrame}
+use Rattle.knx_top.specs.commands.Project.{TellsOfProject, files_of_project}
+use Rattle.call_words.specs.declared.stop.Stop.TheVariants as stop
+use Rattle.knx_top.specs.declared.ending.End.TheVariants as ends
 
--- ---- the texts of the commands without a run
+-- ---- what it touches and reads
 
--- `check`: how many devices, objects and links there are
-abbrev pub IsCountsText : Installation → List ℕ → Type 0
-IsCountsText i text = text ≡ counts_line (counts_of i)
+-- the simulated line, which it begins anew; a network, which it reaches; and a run, which it begins
+pub record Touches : Type 0 where
+  pub line : Bool
+  pub network : Bool
+  pub run : Bool
 
--- `tables`: the devices, ascending, each with the tables of an image that stands for what the project says of it
-pub record IsTablesText (i : Installation) (text : List ℕ) : Type 0 where
-  pub devices : List IndAddr
-  pub all : IsPermutation (devices_of i.statements) devices
-  pub ascending : IsStrictlyIncreasing (map (λ d. d.raw) devices)
-  pub images : List Image
-  pub stand : AllZip (λ image device. StandsFor image (meaning i device)) images devices
-  pub lines : text ≡ flat_map (λ c. tables_lines c.0 c.1) (zip devices images)
+abbrev pub touches : Option Command → Touches
+touches None = record { line = false; network = false; run = false }
+touches (Some (Check words)) = record { line = false; network = false; run = false }
+touches (Some (Tables words)) = record { line = false; network = false; run = false }
+touches (Some (Sim words)) = record { line = true; network = false; run = true }
+touches (Some (Decode word)) = record { line = false; network = false; run = false }
+touches (Some (Download words)) = record { line = false; network = true; run = true }
+touches (Some (Gateway words)) = record { line = true; network = true; run = false }
 
--- `decode`: the octets of a word of hexadecimal digits; another word is usage
-abbrev pub octets_or_usage : Option (List ℕ) → Result (List ℕ) Stop
-octets_or_usage None = Err stop.Usage
-octets_or_usage (Some octets) = Ok octets
+-- the files that the words name, in the order in which they are read
+abbrev pub files_of : Option Command → List (List ℕ)
+files_of None = []
+files_of (Some (Check words)) = files_of_project words
+files_of (Some (Tables words)) = files_of_project words
+files_of (Some (Sim words)) = files_of_sim words
+files_of (Some (Decode word)) = []
+files_of (Some (Download words)) = files_of_download words
+files_of (Some (Gateway words)) = files_of_gateway words
 
--- what a call tells of what it has found: a text of it, or that there was no memory
-abbrev pub TellsText : (List ℕ → Type 0) → Outcome → Type 0
-TellsText IsText (Stops told) = told ≡ stop.NoMemory tt
-TellsText IsText (Tells text) = IsText text
-TellsText IsText outcome = ⊥
-
--- it stops where it must, or for want of memory, and else tells a text of what it has found
-abbrev pub TellsOf : {A : Type 0} → (A → List ℕ → Type 0) → Result A Stop → Outcome → Type 0
-TellsOf IsText (Err why) outcome = StopsFor why outcome
-TellsOf IsText (Ok found) outcome = TellsText (IsText found) outcome
-
--- ---- what is written
-
-abbrev pub outcome_status : Outcome → Status
-outcome_status (Stops why) = stop_status why
-outcome_status (Tells text) = status.Done
-outcome_status (BreaksOff report) = status.NoMemory tt
-outcome_status (Reports report jobs turns devices log) = line_status report
-
--- the text of an outcome
-abbrev pub outcome_text : Outcome → List ℕ
-outcome_text (Stops why) = stop_text why
-outcome_text (Tells text) = text
-outcome_text (BreaksOff report) = stop_text (stop.NoMemory tt)
-outcome_text (Reports report jobs turns devices log) = line_report_text report jobs turns devices log
-
--- A text was to be written, where the sink told `out` and tells `out'`: it was written whole and the status is its own; or the write failed, a front of
--- the text was taken, and the status tells that.
-abbrev pub Writes : List ℕ → Status → SinkNow → SinkNow → Status → Type 0
-Writes text ending out out' told =
-    ((told ≡ ending) × Wrote text out.taken out'.taken × (out'.faults ≡ out.faults))
-    ⊎ ((told ≡ status.Write) × WroteFront text out.taken out'.taken × Rose out.faults out'.faults)
-
--- an outcome was to be written, with its status
-abbrev pub Replies : SinkNow → SinkNow → Status → Outcome → Type 0
-Replies out out' told outcome = Writes (outcome_text outcome) (outcome_status outcome) out out' told
-
--- ---- the commands, where the files told `files` and tell `files'`, and `Replied` says what was written
-
--- `check P` and `tables P`
-pub record TellsOfProject (IsText : Installation → List ℕ → Type 0) (words : ProjectWords) (files files' : FilesNow) (Replied : Outcome → Type 0) : Type 0 where
-  -- what was read, in order, up to the first read that was refused
-  pub texts : ProjectTexts
-  pub is_read : ProjectIsRead files.file words texts
-  -- the count of no file rose but of the one whose read failed
-  pub counts : OnlyRose (failed_of_project words texts) files.faults files'.faults
-  pub outcome : Outcome
-  -- the first test that fails is told
-  pub stops : (why : Stop) → first_some (project_tests words texts) ≡ Some why → StopsFor why outcome
-  -- where none fails, the project's text is told
-  pub tells : first_some (project_tests words texts) ≡ None → TellsText (IsText (project_told texts)) outcome
-  pub replied : Replied outcome
-
--- `decode HEX`
-pub record TellsOfFrame (word : List ℕ) (Replied : Outcome → Type 0) : Type 0 where
-  pub outcome : Outcome
-  pub tells : TellsOf IsFrameText (octets_or_usage (hex_word word)) outcome
-  pub replied : Replied outcome
-
--- what a call leaves: the simulated line, and the report of the run, where the call began one
-pub record Left : Type 0 where
-  pub line : BusNow
-  pub report : Option Report
+-- ---- what it does
 
 -- no run was begun
 pub record HasNoRun (before : BusNow) (after : Left) : Type 0 where
   pub line : after.line ≡ before
   pub report : after.report ≡ None
 
--- `sim NEW OLD SCRIPT` with options and jobs
-pub record RunsScript (words : SimWords) (files files' : FilesNow) (before : BusNow) (after : Left) (Replied : Outcome → Type 0) : Type 0 where
-  pub texts : SimTexts
-  pub is_read : SimIsRead files.file words texts
-  pub counts : OnlyRose (failed_of_sim words texts) files.faults files'.faults
-  pub outcome : Outcome
-  -- the first test that fails is told, and no run is begun
-  pub stops : (why : Stop) → first_some (sim_tests words texts) ≡ Some why → StopsFor why outcome × (after.line ≡ before)
-  -- where none fails, what the words and the texts ask for is run
-  pub runs : first_some (sim_tests words texts) ≡ None → Runs (commission_told words texts) before after.line outcome
-  pub report : after.report ≡ report_in outcome
-  pub replied : Replied outcome
-
 -- the count of one file rose at most
 abbrev pub AtMostOneRose : (List ℕ → ℕ) → (List ℕ → ℕ) → Type 0
 AtMostOneRose faults faults' = (one : Option (List ℕ)) × OnlyRose one faults faults'
 
--- ---- a call, by what its words ask for; what `download` does besides is in Dialled.antt, and what `gateway` does in Gateway.antt
+-- what a call finds outside, and leaves there: what the files tell, the simulated line, what the dialer tells, and the report of the run, where one was begun
+pub record Outside : Type 0 where
+  pub files : FilesNow
+  pub line : BusNow
+  pub dialer : DialerNow
+  pub report : Option Report
 
-abbrev pub Does : Option Command → FilesNow → FilesNow → BusNow → Left → (Outcome → Type 0) → Type 0
-Does None files files' before after Replied = Replied (Stops stop.Usage) × OnlyRose None files.faults files'.faults × HasNoRun before after
-Does (Some (Check words)) files files' before after Replied = TellsOfProject IsCountsText words files files' Replied × HasNoRun before after
-Does (Some (Tables words)) files files' before after Replied = TellsOfProject IsTablesText words files files' Replied × HasNoRun before after
-Does (Some (Sim words)) files files' before after Replied = RunsScript words files files' before after Replied
-Does (Some (Decode word)) files files' before after Replied = TellsOfFrame word Replied × OnlyRose None files.faults files'.faults × HasNoRun before after
-Does (Some (Download words)) files files' before after Replied = (after.line ≡ before) × AtMostOneRose files.faults files'.faults
-Does (Some (Gateway words)) files files' before after Replied = (after.report ≡ None) × AtMostOneRose files.faults files'.faults
+abbrev pub left_in : Outside → Left
+left_in o = record { line = o.line; report = o.report }
+
+-- of `sim` it is said too that the link failed only where a call of the simulated line did
+abbrev pub Does : Option Command → Outside → Outside → (End → Type 0) → Type 0
+Does None before after Replied = Replied (ends.Stops stop.Usage) × OnlyRose None before.files.faults after.files.faults × HasNoRun before.line (left_in after)
+Does (Some (Check words)) before after Replied = TellsOfProject IsCountsText words before.files after.files Replied × HasNoRun before.line (left_in after)
+Does (Some (Tables words)) before after Replied = TellsOfProject IsTablesText words before.files after.files Replied × HasNoRun before.line (left_in after)
+Does (Some (Sim words)) before after Replied = RunsScript words before.files after.files before.line (left_in after) Replied × FaultsOfLine after.report after.line
+Does (Some (Decode word)) before after Replied = TellsOfFrame word Replied × OnlyRose None before.files.faults after.files.faults × HasNoRun before.line (left_in after)
+Does (Some (Download words)) before after Replied = RunsDialled words before.files after.files before.dialer after.dialer after.report Replied × (after.line ≡ before.line)
+Does (Some (Gateway words)) before after Replied = RunsGateway words before.files after.files before.dialer after.dialer before.line after.line Replied × (after.report ≡ None)
+
+-- ---- the run of a call
 
 -- no run was begun, or only one over a dialled link, or the simulated line was for a port; or it has a run of what the words ask for and the files gave, in which
 -- no test fails, of which P holds, and its report is left

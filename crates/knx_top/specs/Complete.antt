@@ -4,10 +4,9 @@ use Rattle.std.specs.Prelude.{ℕ, ◌≡◌, ◌⊎◌, true, List, take, Optio
 use Rattle.call_words.specs.declared.status.Status.{Status}
 use Rattle.call_words.specs.declared.status.Status.TheVariants as status
 use Rattle.knx_model.specs.Outside.{FileContent, FilesNow, SinkNow, Untold, Absent, Holds, Rose, Wrote}
-use Rattle.knx_top.specs.Command.{ProjectWords}
+use Rattle.knx_top.specs.commands.Project.{ProjectWords, project_tests}
 use Rattle.knx_top.specs.Input.{limit, goes_on, first_some}
-use Rattle.knx_top.specs.Stops.{project_tests}
-use Rattle.knx_top.specs.declared.input.ProjectTexts.{ProjectTexts}
+use Rattle.knx_top.specs.declared.project.ProjectTexts.{ProjectTexts}
 use Rattle.knx_top.specs.declared.input.Reading.{Reading}
 use Rattle.knx_top.specs.declared.input.Reading.TheVariants as read
 

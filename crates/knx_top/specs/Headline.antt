@@ -15,8 +15,7 @@ use Rattle.hub_core.specs.Thorough.{IsThorough}
 use Rattle.hub_core.specs.Closed.{HasClosed}
 use Rattle.hub_core.specs.Seats.{IsOfWorkers}
 use Rattle.knx_top.specs.Jobs.{AreJobs, ArePlanned}
-use Rattle.knx_top.specs.Ran.{IsRunOf, log_in}
-use Rattle.knx_top.specs.Stops.{Commission}
+use Rattle.knx_top.specs.Ran.{IsRunOf, log_in, Commission}
 
 -- P holds of the jobs of the run: those that the words name, or a load of each device, with the plans of the new project's compiled images
 pub record OfItsJobs (c : Commission) (P : List Job → Type 0) : Type 0 where

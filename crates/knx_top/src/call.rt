@@ -1,174 +1,57 @@
 //! The top call.
 
-ghost use Rattle.std.specs.Prelude.{◌≡◌, ◌≤◌, ◌+◌, ℕ, List, None, Some, false, length, map, string_bytes, IfOk};
+ghost use Rattle.std.specs.Prelude.{◌≡◌, ◌≤◌, ◌+◌, ℕ, List, None, Some, false, length, map, string_bytes};
 ghost use Rattle.call_words.specs.declared.stop.Stop.TheVariants.{Usage};
 ghost use Rattle.knx_model.specs.Outside.{one_more};
-ghost use Rattle.knx_top.specs.Call.{AtMostOneRose, Does, HasRunOf, IsCountsText, IsTablesText, Replies, RunsScript, TellsOfFrame, TellsOfProject};
-ghost use Rattle.knx_top.specs.Command.{ProjectWords, SimWords, asked, Check as AskedCheck, Decode as AskedDecode, Download as AskedDownload, DownloadWords, Gateway as AskedGateway, GatewayWords, Sim as AskedSim, Tables as AskedTables};
-ghost use Rattle.knx_top.specs.Dialled.{RepliesEnd, RunsDialled};
-ghost use Rattle.knx_top.specs.Ended.{IsTextOf, outcome_of, told_outcome};
-ghost use Rattle.knx_top.specs.Gateway.{RepliesServed, RunsGateway};
+ghost use Rattle.knx_top.specs.declared.ending.End.TheVariants.{Stops};
+ghost use Rattle.knx_top.specs.Call.{AtMostOneRose, Does, HasRunOf, files_of, touches};
+ghost use Rattle.knx_top.specs.Command.{Check as AskedCheck, Decode as AskedDecode, Download as AskedDownload, Gateway as AskedGateway, Sim as AskedSim, Tables as AskedTables, asked, command_of};
+ghost use Rattle.knx_top.specs.Ending.{Is, Replies, report_in};
 ghost use Rattle.knx_top.specs.Headline.{ActsOnce, BeganRightly, ClosesToItsEnd, EndsEveryJob, EndsThoroughly, HasFaultRight, HasOldStoppedOrNew, HasTelegramsRight, IsOfItsWorkers, IsToldRightly, LeavesItsChannel, RunsWhereDone};
-ghost use Rattle.knx_top.specs.Input.{files_of, files_of_project, files_of_sim};
-ghost use Rattle.knx_top.specs.Names.{command_of, project_words_of, sim_words_of};
-ghost use Rattle.knx_top.specs.Ran.{FaultsOfLine, Stops};
-ghost use Rattle.knx_top.specs.Touches.{touches};
+ghost use Rattle.knx_top.specs.Ran.{FaultsOfLine};
+ghost use Rattle.knx_top.specs.commands.Check.{IsCountsText};
+ghost use Rattle.knx_top.specs.commands.Decode.{TellsOfFrame};
+ghost use Rattle.knx_top.specs.commands.Download.{DownloadWords, RunsDialled};
+ghost use Rattle.knx_top.specs.commands.Gateway.{GatewayWords, RunsGateway};
+ghost use Rattle.knx_top.specs.commands.Project.{ProjectWords, TellsOfProject};
+ghost use Rattle.knx_top.specs.commands.Sim.{RunsScript, SimWords};
+ghost use Rattle.knx_top.specs.commands.Tables.{IsTablesText};
 
-use crate::command::{Command, ProjectNames, SimNames, asked};
-use crate::commission::{Reported, SimEnd, commission};
-use crate::dialled::tell_download;
-use crate::gateway::tell_gateway;
-use crate::input::{read_project_texts, read_sim_texts};
-use crate::tell::{Text, tell, tell_or_want, text_of_stop};
-use crate::told::{check_told, decode_told, tables_told};
+use crate::commands::{Command, asked, check, decode, download, gateway, sim, tables};
+use crate::ending::{End, tell, tell_end};
 use bus_sim::SimBus;
-use call_words::{Status, Stop};
-use knx_model::{Files, NoMemory, Octets, Sink};
+use call_words::Status;
+use knx_model::{Files, Sink};
 use line_model::{Dialer, Report};
-use report_text::{USAGE, line_report_of, line_status};
+use report_text::USAGE;
 use std::alloc::Global;
 use std::sync::Wait;
 
-/// What is printed of a command without a run.
-fn text_of_told(alloc: Global, told: Result<Octets, Stop>) -> Result<Text, NoMemory>
-    ensures { IfOk result (λ p. IsTextOf (told_outcome told) p.octets p.status) }
-{
-    match told {
-        Ok(octets) => Ok(Text {
-            status: Status::Done,
-            octets,
-        }),
-        Err(stop) => text_of_stop(alloc, &stop),
-    }
-}
-
-/// What is printed of a run.
-fn text_of_report(alloc: Global, reported: &Reported) -> Result<Text, NoMemory>
-    ensures { IfOk result (λ p. IsTextOf (outcome_of (SimEnd.Reported reported.now)) p.octets p.status) }
-{
-    let octets = line_report_of(
-        alloc,
-        &reported.report,
-        reported.jobs.as_slice(),
-        reported.turns,
-        reported.devices.as_slice(),
-        reported.log,
-    )?;
-    Ok(Text {
-        status: line_status(&reported.report),
-        octets,
-    })
-}
-
-/// What is printed of `sim`.
-fn text_of_sim(alloc: Global, end: &SimEnd) -> Result<Text, NoMemory>
-    ensures { IfOk result (λ p. IsTextOf (outcome_of end.now) p.octets p.status) }
-{
-    match end {
-        SimEnd::Stopped(stop) => text_of_stop(alloc, stop),
-        SimEnd::BrokenOff(_, want) => Err(*want),
-        SimEnd::Reported(reported) => text_of_report(alloc, reported),
-    }
-}
-
-/// `check`: the counts of a project.
-fn tell_check<F: Files, K: Sink>(
-    alloc: Global,
-    names: ProjectNames<'_>,
-    files: &mut F,
-    out: &mut K,
-) -> Status
-    ensures told { TellsOfProject IsCountsText (project_words_of names.entry) (F.now files.old) (F.now files.new) (Replies (K.now out.old) (K.now out.new) result) }
-    ensures stays { (other : List ℕ) → (F.now files.new).file other ≡ (F.now files.old).file other }
-    ensures reads { (F.now files.new).reads ≤ (F.now files.old).reads + length (files_of_project (project_words_of names.entry)) }
-    ensures written { (K.now out.new).writes ≡ one_more (K.now out.old).writes }
-{
-    let texts = read_project_texts(alloc, files, names);
-    let told = check_told(alloc, names, &texts);
-    tell_or_want(out, text_of_told(alloc, told))
-}
-
-/// `tables`: the tables of a project's devices.
-fn tell_tables<F: Files, K: Sink>(
-    alloc: Global,
-    names: ProjectNames<'_>,
-    files: &mut F,
-    out: &mut K,
-) -> Status
-    ensures told { TellsOfProject IsTablesText (project_words_of names.entry) (F.now files.old) (F.now files.new) (Replies (K.now out.old) (K.now out.new) result) }
-    ensures stays { (other : List ℕ) → (F.now files.new).file other ≡ (F.now files.old).file other }
-    ensures reads { (F.now files.new).reads ≤ (F.now files.old).reads + length (files_of_project (project_words_of names.entry)) }
-    ensures written { (K.now out.new).writes ≡ one_more (K.now out.old).writes }
-{
-    let texts = read_project_texts(alloc, files, names);
-    let told = tables_told(alloc, names, &texts);
-    tell_or_want(out, text_of_told(alloc, told))
-}
-
-/// `decode`: the frame of octets.
-fn tell_decode<K: Sink>(alloc: Global, word: &str, out: &mut K) -> Status
-    ensures told { TellsOfFrame word.now (Replies (K.now out.old) (K.now out.new) result) }
-    ensures written { (K.now out.new).writes ≡ one_more (K.now out.old).writes }
-{
-    let told = decode_told(alloc, word);
-    tell_or_want(out, text_of_told(alloc, told))
-}
-
-/// `sim`: a run, and its report.
-fn tell_sim<R: Wait, F: Files, K: Sink>(
-    rt: &R,
-    alloc: Global,
-    names: &SimNames<'_>,
-    files: &mut F,
-    out: &mut K,
-    sim: &mut SimBus,
-    last: &mut Option<Report>,
-) -> Status
-    ensures told { RunsScript (sim_words_of names.now) (F.now files.old) (F.now files.new) sim.old (record { line = sim.new; report = last.new }) (Replies (K.now out.old) (K.now out.new) result) }
-    ensures link { FaultsOfLine last.new sim.new }
-    ensures stays { (other : List ℕ) → (F.now files.new).file other ≡ (F.now files.old).file other }
-    ensures reads { (F.now files.new).reads ≤ (F.now files.old).reads + length (files_of_sim (sim_words_of names.now)) }
-    ensures written { (K.now out.new).writes ≡ one_more (K.now out.old).writes }
-{
-    let texts = read_sim_texts(alloc, files, names);
-    let end = commission(rt, alloc, names, &texts, sim);
-    let status = tell_or_want(out, text_of_sim(alloc, &end));
-    *last = end.report();
-    status
-}
-
-/// A command of words, where no run was begun yet.
-fn run<R: Wait, F: Files, K: Sink, D: Dialer>(
+/// A command of words.
+fn run<R: Wait, F: Files, D: Dialer>(
     rt: &R,
     alloc: Global,
     command: Command<'_>,
     files: &mut F,
-    out: &mut K,
     sim: &mut SimBus,
     dial: &mut D,
-    last: &mut Option<Report>,
-) -> Status
-    requires { last.old ≡ None }
-    ensures does { Does (Some (command_of command.entry)) (F.now files.old) (F.now files.new) sim.old (record { line = sim.new; report = last.new }) (Replies (K.now out.old) (K.now out.new) result) }
-    ensures link { (names : SimWords) → command_of command.entry ≡ AskedSim names → FaultsOfLine last.new sim.new }
-    ensures download { (names : DownloadWords) → command_of command.entry ≡ AskedDownload names → RunsDialled names (F.now files.old) (F.now files.new) (D.now dial.old) (D.now dial.new) last.new (RepliesEnd (K.now out.old) (K.now out.new) result) }
-    ensures gateway { (names : GatewayWords) → command_of command.entry ≡ AskedGateway names → RunsGateway names (F.now files.old) (F.now files.new) (D.now dial.old) (D.now dial.new) sim.old sim.new (RepliesServed (K.now out.old) (K.now out.new) result) }
+) -> End
+    ensures does { Does (Some (command_of command.entry)) (record { files = F.now files.old; line = sim.old; dialer = D.now dial.old; report = None }) (record { files = F.now files.new; line = sim.new; dialer = D.now dial.new; report = report_in result }) (Is result) }
     ensures undialled { (touches (Some (command_of command.entry))).network ≡ false → dial.new ≡ dial.old }
     ensures stays { (other : List ℕ) → (F.now files.new).file other ≡ (F.now files.old).file other }
     ensures reads { (F.now files.new).reads ≤ (F.now files.old).reads + length (files_of (Some (command_of command.entry))) }
-    ensures written { (K.now out.new).writes ≡ one_more (K.now out.old).writes }
 {
     match command {
-        Command::Check(names) => tell_check(alloc, names, files, out),
-        Command::Tables(names) => tell_tables(alloc, names, files, out),
-        Command::Sim(names) => tell_sim(rt, alloc, &names, files, out, sim, last),
-        Command::Decode(word) => tell_decode(alloc, word, out),
-        Command::Download(names) => tell_download(rt, alloc, &names, files, out, dial, last),
-        Command::Gateway(names) => tell_gateway(alloc, names, files, out, sim, dial),
+        Command::Check(names) => check::call(alloc, names, files),
+        Command::Tables(names) => tables::call(alloc, names, files),
+        Command::Sim(names) => sim::call(rt, alloc, &names, files, sim),
+        Command::Decode(word) => decode::call(alloc, word),
+        Command::Download(names) => download::call(rt, alloc, &names, files, dial),
+        Command::Gateway(names) => gateway::call(alloc, names, files, sim, dial),
     }
 }
 
-/// What the words ask for is done, where no run was begun yet.
+/// What the words ask for is done, and its end is written, where no run was begun yet.
 fn answer<R: Wait, F: Files, K: Sink, D: Dialer>(
     rt: &R,
     alloc: Global,
@@ -180,17 +63,19 @@ fn answer<R: Wait, F: Files, K: Sink, D: Dialer>(
     last: &mut Option<Report>,
 ) -> Status
     requires { last.old ≡ None }
-    ensures does { Does (asked (map string_bytes words.now)) (F.now files.old) (F.now files.new) sim.old (record { line = sim.new; report = last.new }) (Replies (K.now out.old) (K.now out.new) result) }
-    ensures link { (names : SimWords) → asked (map string_bytes words.now) ≡ Some (AskedSim names) → FaultsOfLine last.new sim.new }
-    ensures download { (names : DownloadWords) → asked (map string_bytes words.now) ≡ Some (AskedDownload names) → RunsDialled names (F.now files.old) (F.now files.new) (D.now dial.old) (D.now dial.new) last.new (RepliesEnd (K.now out.old) (K.now out.new) result) }
-    ensures gateway { (names : GatewayWords) → asked (map string_bytes words.now) ≡ Some (AskedGateway names) → RunsGateway names (F.now files.old) (F.now files.new) (D.now dial.old) (D.now dial.new) sim.old sim.new (RepliesServed (K.now out.old) (K.now out.new) result) }
+    ensures does { Does (asked (map string_bytes words.now)) (record { files = F.now files.old; line = sim.old; dialer = D.now dial.old; report = None }) (record { files = F.now files.new; line = sim.new; dialer = D.now dial.new; report = last.new }) (Replies (K.now out.old) (K.now out.new) result) }
     ensures undialled { (touches (asked (map string_bytes words.now))).network ≡ false → dial.new ≡ dial.old }
     ensures stays { (other : List ℕ) → (F.now files.new).file other ≡ (F.now files.old).file other }
     ensures reads { (F.now files.new).reads ≤ (F.now files.old).reads + length (files_of (asked (map string_bytes words.now))) }
     ensures written { (K.now out.new).writes ≡ one_more (K.now out.old).writes }
 {
     match asked(words) {
-        Some(command) => run(rt, alloc, command, files, out, sim, dial, last),
+        Some(command) => {
+            let end = run(rt, alloc, command, files, sim, dial);
+            let status = tell_end(alloc, out, &end);
+            *last = end.report();
+            status
+        }
         None => tell(out, USAGE, Status::Usage),
     }
 }
@@ -214,8 +99,8 @@ pub fn knx<R: Wait, F: Files, K: Sink, D: Dialer>(
     ensures tables { (names : ProjectWords) → asked (map string_bytes words.now) ≡ Some (AskedTables names) → TellsOfProject IsTablesText names (F.now files.old) (F.now files.new) (Replies (K.now out.old) (K.now out.new) result) }
     ensures decode { (word : List ℕ) → asked (map string_bytes words.now) ≡ Some (AskedDecode word) → TellsOfFrame word (Replies (K.now out.old) (K.now out.new) result) }
     ensures sim { (names : SimWords) → asked (map string_bytes words.now) ≡ Some (AskedSim names) → RunsScript names (F.now files.old) (F.now files.new) sim.old (record { line = sim.new; report = last.new }) (Replies (K.now out.old) (K.now out.new) result) }
-    ensures download { (names : DownloadWords) → asked (map string_bytes words.now) ≡ Some (AskedDownload names) → RunsDialled names (F.now files.old) (F.now files.new) (D.now dial.old) (D.now dial.new) last.new (RepliesEnd (K.now out.old) (K.now out.new) result) }
-    ensures gateway { (names : GatewayWords) → asked (map string_bytes words.now) ≡ Some (AskedGateway names) → RunsGateway names (F.now files.old) (F.now files.new) (D.now dial.old) (D.now dial.new) sim.old sim.new (RepliesServed (K.now out.old) (K.now out.new) result) }
+    ensures download { (names : DownloadWords) → asked (map string_bytes words.now) ≡ Some (AskedDownload names) → RunsDialled names (F.now files.old) (F.now files.new) (D.now dial.old) (D.now dial.new) last.new (Replies (K.now out.old) (K.now out.new) result) }
+    ensures gateway { (names : GatewayWords) → asked (map string_bytes words.now) ≡ Some (AskedGateway names) → RunsGateway names (F.now files.old) (F.now files.new) (D.now dial.old) (D.now dial.new) sim.old sim.new (Replies (K.now out.old) (K.now out.new) result) }
     // a run begins as it is stated, and what happens on the line is legal and follows the script
     ensures begins { HasRunOf BeganRightly (map string_bytes words.now) (F.now files.old) sim.old (record { line = sim.new; report = last.new }) }
     // whatever is lost, repeated or cut, at every moment of a run each device keeps its starting content, or is stopped, or runs what the project says

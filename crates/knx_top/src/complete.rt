@@ -4,10 +4,12 @@ ghost use Rattle.std.specs.Prelude.{◌≡◌, ℕ, List, Some};
 ghost use Rattle.frame_text.specs.FrameText.{IsFrameText, hex_word};
 ghost use Rattle.call_words.specs.declared.status.Status.{Status};
 ghost use Rattle.knx_model.specs.Outside.{FilesNow, Rose, SinkNow};
-ghost use Rattle.knx_top.specs.Call.{IsCountsText, IsTablesText, Replies, TellsOfFrame, TellsOfProject};
-ghost use Rattle.knx_top.specs.Command.{ProjectWords};
 ghost use Rattle.knx_top.specs.Complete.{IsToldWhole, IsValid, NoneRose, texts_told};
-ghost use Rattle.knx_top.specs.Stops.{project_told};
+ghost use Rattle.knx_top.specs.Ending.{Replies};
+ghost use Rattle.knx_top.specs.commands.Check.{IsCountsText};
+ghost use Rattle.knx_top.specs.commands.Decode.{TellsOfFrame};
+ghost use Rattle.knx_top.specs.commands.Project.{ProjectWords, TellsOfProject, project_told};
+ghost use Rattle.knx_top.specs.commands.Tables.{IsTablesText};
 
 /// Where the files of `check` or `tables` are told, no test fails and no count rose, what the clauses of `knx` say comes to this: the
 /// whole text is written with status 0, or there was no memory. So it is with `decode`, where the word is one of octets.

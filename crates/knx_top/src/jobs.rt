@@ -2,10 +2,10 @@
 
 ghost use Rattle.std.specs.Prelude.{◌≡◌, ◌≤◌, IfOk, length, map};
 ghost use Rattle.std.specs.List.{list_all};
-ghost use Rattle.knx_top.specs.Command.{most_jobs};
-ghost use Rattle.knx_top.specs.Jobs.{AreJobs, ArePlanned, IsPlanned, LoadsEach, load_of, PlansImage, seen_job};
-ghost use Rattle.knx_model.specs.Device.{Fits};
+ghost use Rattle.knx_top.specs.Jobs.{AreJobs, ArePlanned, IsPlanned, LoadsEach, PlansImage, load_of, seen_job};
+ghost use Rattle.knx_top.specs.Options.{most_jobs};
 ghost use Rattle.knx_top.specs.Stops.{is_known};
+ghost use Rattle.knx_model.specs.Device.{Fits};
 
 use call_words::{JobKind, JobWord};
 use hub_work::{CheckPlan, HubJob, JobPlan, LoadPlan};

@@ -2,26 +2,21 @@
 #![tactic(auto)]
 
 mod call;
-mod command;
-mod commission;
+mod commands;
 mod complete;
-mod dialled;
-mod gateway;
+mod ending;
 mod host;
 mod input;
 mod jobs;
-mod judge;
 mod line;
 mod options;
 mod project;
 mod shown;
-mod tell;
-mod told;
 
 pub use bus_sim::SimBus;
 pub use call::knx;
 pub use call_words::Status;
-pub use command::commands_spelled;
+pub use commands::commands_spelled;
 pub use complete::valid_input_is_told;
 pub use line_model::Report;
 pub use report_text::NO_MEMORY;

@@ -3,9 +3,9 @@
 ghost use Rattle.std.specs.Prelude.{◌≡◌, None, Some, drop, length, map, nat_eq, string_bytes, if◌then◌else◌};
 ghost use Rattle.std.specs.List.{starts_with};
 ghost use Rattle.std.specs.Option.{option_map};
-ghost use Rattle.knx_top.specs.Command.{no_options, project_options, project_rows, run_rows, sim_options, with_catalogue, with_job, with_log};
 ghost use Rattle.knx_top.specs.Fronts.{read_by};
 ghost use Rattle.knx_top.specs.Names.{options_of, the_word};
+ghost use Rattle.knx_top.specs.Options.{no_options, project_options, project_rows, run_rows, sim_options, with_catalogue, with_job, with_log};
 
 use arrayvec::ArrayVec;
 use call_words::{JobKind, JobWord};

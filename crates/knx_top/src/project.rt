@@ -1,28 +1,72 @@
-//! A catalogue and a project are read and checked.
+//! A command of one project: its names, what it reads; and a catalogue, a project and a script are read and checked.
 
-ghost use Rattle.std.specs.Prelude.{◌≡◌, ◌≢◌, [], IfOk, IsNone, IsSome, unwrap_or};
+ghost use Rattle.std.specs.Prelude.{◌≡◌, ◌≢◌, ◌≤◌, ◌+◌, ℕ, [], IfOk, IsNone, IsSome, List, length, map, string_bytes, unwrap_or};
+ghost use Rattle.std.specs.Option.{option_map};
+ghost use Rattle.call_words.specs.declared.input_file.InputFile.TheVariants.{Script as OfScript};
 ghost use Rattle.call_words.specs.declared.stop.Stop.TheVariants.{CatalogueRefused, NoMemory, Refused as Refuses};
 ghost use Rattle.knx_model.specs.declared.refusal.Why.TheVariants.{NoMemory as WithoutMemory};
+ghost use Rattle.knx_model.specs.ScriptText.{script_reading};
 ghost use Rattle.knx_model.specs.Statements.{reading};
-ghost use Rattle.knx_top.specs.Input.{fault_told};
+ghost use Rattle.knx_top.specs.Input.{OnlyRose, fault_told};
 ghost use Rattle.knx_top.specs.Judged.{Gives, models_of, read_of, sound, unless_refused};
 ghost use Rattle.knx_top.specs.Names.{named};
-ghost use Rattle.knx_top.specs.Stops.{not_built, unknown_job};
+ghost use Rattle.knx_top.specs.Stops.{unknown_job};
+ghost use Rattle.knx_top.specs.commands.Project.{ProjectIsRead, failed_of_project, files_of_project, installation_of, project_of, project_words, project_words_of};
 
-use crate::input::Reading;
+use crate::input::{Reading, read_after, read_named};
+use crate::options::project_options;
 use call_words::{InputFile, Stop};
 use catalogue::read_catalogue;
-use knx_model::{CatRefused, Catalogue, FileFault, NoMemory as OutOfMemory, Octets, Refused, Why};
+use knx_model::{
+    CatRefused, Catalogue, FileFault, Files, NoMemory as OutOfMemory, Octets, Refused, Why,
+};
 use project_check::{Checked, check};
 use project_text::{Project, read_project};
+use script_text::{Script, read_script};
 use std::alloc::Global;
 
-/// A text that isn't of the form that is built.
-pub fn not_built(place: InputFile) -> Stop
-    ensures { result ≡ not_built place }
+/// The names in `P [catalogue=F]`.
+#[derive(Clone, Copy)]
+pub struct ProjectNames<'a> {
+    pub project: &'a str,
+    pub catalogue: Option<&'a str>,
+}
+
+/// The texts of `check`, `tables` and `download`.
+#[derive(Drop)]
+pub struct ProjectTexts {
+    pub catalogue: Reading,
+    pub project: Reading,
+}
+
+/// The names of a command of one project.
+pub fn project_names(words: &[String]) -> Option<ProjectNames<'_>>
+    ensures { option_map project_words_of result ≡ project_words (map string_bytes words.now) }
 {
-    let why = Why::NotBuilt;
-    Stop::Refused(place, Refused { line: 0, why })
+    let [project, others @ ..] = words else {
+        return None;
+    };
+    let options = project_options(others)?;
+    Some(ProjectNames {
+        project: project.as_str(),
+        catalogue: options.catalogue,
+    })
+}
+
+/// Reads the catalogue, then the project.
+pub fn read_project_texts<F: Files>(
+    alloc: Global,
+    files: &mut F,
+    names: ProjectNames<'_>,
+) -> ProjectTexts
+    ensures read { ProjectIsRead (F.now files.old).file (project_words_of names.entry) result }
+    ensures counts { OnlyRose (failed_of_project (project_words_of names.entry) result) (F.now files.old).faults (F.now files.new).faults }
+    ensures stays { (other : List ℕ) → (F.now files.new).file other ≡ (F.now files.old).file other }
+    ensures reads { (F.now files.new).reads ≤ (F.now files.old).reads + length (files_of_project (project_words_of names.entry)) }
+{
+    let catalogue = read_named(alloc, files, names.catalogue);
+    let project = read_after(alloc, files, &catalogue, names.project);
+    ProjectTexts { catalogue, project }
 }
 
 /// A job names a device that the project hasn't.
@@ -150,4 +194,36 @@ pub fn sound_in<'b, 'a>(
         Ok(checked) => Ok(checked),
         Err(refused) => Err(refusal(place, refused)),
     }
+}
+
+/// A script, where it reads.
+pub fn script_in(alloc: Global, octets: &[u8]) -> Result<Script, Stop>
+    ensures { Gives (λ s. s.lines) result (unless_refused OfScript (script_reading octets.now)) }
+{
+    match read_script(alloc, octets) {
+        Ok(script) => Ok(script),
+        Err(refused) => Err(refusal(InputFile::Script, refused)),
+    }
+}
+
+/// A project that was read, with the models of its catalogue.
+#[derive(Drop)]
+pub struct ReadProject<'a> {
+    pub project: Project<'a>,
+    pub models: Catalogue,
+}
+
+/// The catalogue and the project of `check`, `tables` and `download` are read.
+pub fn read_in<'a>(
+    alloc: Global,
+    names: ProjectNames<'_>,
+    texts: &'a ProjectTexts,
+) -> Result<ReadProject<'a>, Stop>
+    ensures { Gives installation_of result (project_of (project_words_of names.entry) texts.now) }
+{
+    read_of(alloc, names.catalogue, &texts.catalogue)?;
+    let project = read_of(alloc, Some(names.project), &texts.project)?;
+    let models = models_in(alloc, &texts.catalogue)?;
+    let project = project_in(alloc, InputFile::New, project)?;
+    Ok(ReadProject { project, models })
 }

@@ -1,5 +1,6 @@
-use Rattle.knx_top.specs.Call.{IsCountsText, IsTablesText}
 use Rattle.knx_top.proofs.Completeness.{complete, decoded}
+use Rattle.knx_top.specs.commands.Check.{IsCountsText}
+use Rattle.knx_top.specs.commands.Tables.{IsTablesText}
 use Rattle.knx_top.proofs.complete.valid_input_is_told.Goals as goal
 
 pub returns-clause-check : goal.returns-clause-check

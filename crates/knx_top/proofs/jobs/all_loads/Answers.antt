@@ -1,7 +1,7 @@
 use Rattle.std.proofs.Common.{List, length, ◌≤◌, subst, sym}
 use Rattle.call_words.specs.declared.job_word.JobWord.{JobWord}
-use Rattle.knx_top.specs.Command.{most_jobs}
 use Rattle.knx_top.proofs.FewJobs.{loads_few}
+use Rattle.knx_top.specs.Options.{most_jobs}
 use Rattle.knx_top.proofs.jobs.all_loads.Goals as goal
 
 pub returns-clause-loads : goal.returns-clause-loads

@@ -1,0 +1,6 @@
+-- Each command, from what was read to how the call ends.
+pub mod Decodes
+pub mod Downloads
+pub mod Gateways
+pub mod Projects
+pub mod Sims

@@ -1,0 +1,21 @@
+-- `decode`, and what is written of it.
+use Rattle.knx_top.specs.declared.ending.End.{End}
+use Rattle.knx_top.specs.Ending.{Is, wanting, TellsOf}
+use Rattle.frame_text.specs.FrameText.{IsFrameText, hex_word}
+use Rattle.call_words.specs.declared.stop.Stop.{Stop}
+use Rattle.std.proofs.Common.{inl, inr, sym, ◌⊎◌, Err, List, Ok, Result, ℕ, subst}
+use Rattle.knx_top.proofs.Ends.{stop_wants}
+use Rattle.knx_top.proofs.commands.Projects.{text_wants}
+use Rattle.knx_top.specs.commands.Decode.{TellsOfFrame, octets_or_usage}
+
+word_wants : (found : Result (List ℕ) Stop) (end : End) → TellsOf IsFrameText found end → TellsOf IsFrameText found (wanting end)
+word_wants (Err why) end h = stop_wants why end h
+word_wants (Ok octets) end h = text_wants (IsFrameText octets) end h
+
+pub frame_written : (word : List ℕ) (end : End) (Replied : End → Type 0) → TellsOfFrame word (Is end) → Replied end ⊎ Replied (wanting end) → TellsOfFrame word Replied
+frame_written word end Replied t (inl replied) = record { end = t.end; tells = t.tells; replied = subst Replied (sym t.replied) replied }
+frame_written word end Replied t (inr replied) = record {
+  end = wanting t.end;
+  tells = word_wants (octets_or_usage (hex_word word)) t.end t.tells;
+  replied = subst (λ (told : End). Replied (wanting told)) (sym t.replied) replied;
+}

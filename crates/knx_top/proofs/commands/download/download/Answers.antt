@@ -1,0 +1,15 @@
+use Rattle.knx_top.specs.commands.Download.{download_words_of}
+use Rattle.knx_top.proofs.commands.Downloads.{dialled_run, dialled_stop, of_ready}
+use Rattle.knx_top.proofs.commands.download.download.Goals as goal
+
+pub dial_and_run-requires-clause-few : goal.dial_and_run-requires-clause-few
+dial_and_run-requires-clause-few g c = λ κs within. of_ready _ _ _ c.in-Ok.ensures.ok (λ d is. is.prepared.few)
+
+pub dial_and_run-requires-clause-good : goal.dial_and_run-requires-clause-good
+dial_and_run-requires-clause-good g c = λ κs within. of_ready _ _ _ c.in-Ok.ensures.ok (λ d is. is.prepared.good)
+
+pub returns-in-Ok : goal.returns-in-Ok
+returns-in-Ok g c = dialled_run (download_words_of c.args.names.now) c.args.texts.now _ _ _ _ c.in-Ok.ensures.ok c.dial_and_run.ensures
+
+pub returns-in-Err : goal.returns-in-Err
+returns-in-Err g c = dialled_stop _ _ _ c.in-Err.ensures.err

@@ -1,0 +1,8 @@
+use Rattle.std.proofs.Common.{refl}
+use Rattle.knx_top.specs.commands.Sim.{sim_words_of}
+use Rattle.knx_top.proofs.commands.Sims.{runs_script}
+use Rattle.knx_top.proofs.commands.sim.call.Goals as goal
+
+pub returns-clause-told : goal.returns-clause-told
+returns-clause-told g c =
+    runs_script (sim_words_of c.args.names.now) _ _ _ _ c.read_sim_texts-texts.result c.commission.result c.read_sim_texts-texts.ensures.read c.read_sim_texts-texts.ensures.counts c.commission.ensures.comes refl

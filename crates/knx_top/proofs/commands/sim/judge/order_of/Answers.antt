@@ -1,0 +1,14 @@
+use Rattle.knx_top.proofs.FewJobs.{plans_few}
+use Rattle.knx_top.proofs.GoodJobs.{all_good}
+use Rattle.knx_top.proofs.commands.sim.judge.order_of.Goals as goal
+
+pub returns-clause-prepared : goal.returns-clause-prepared
+returns-clause-prepared c =
+    let planned = rw c.as_slice.ensures at c.in_ok-plans.ensures in
+    record {
+      jobs = c.in_ok-jobs.ensures.are;
+      few = plans_few c.args.new.now c.in_ok-plans.plans c.in_ok-jobs.jobs planned (c.in_ok-jobs.ensures.few c.requires);
+      plans = planned;
+      good = all_good c.args.new.now _ c.in_ok-jobs.jobs planned;
+      devices = rw (c.as_slice-2.ensures, c.in_ok-bus.ensures) at c.in_ok-devices.ensures;
+    }

@@ -1,6 +1,0 @@
-use Rattle.knx_top.specs.Names.{gateway_words_of}
-use Rattle.knx_top.proofs.Services.{line_for}
-use Rattle.knx_top.proofs.gateway.judge_script.Goals as goal
-
-pub returns-clause-ok : goal.returns-clause-ok
-returns-clause-ok c = line_for (gateway_words_of c.args.names) c.args.old.now c.args.script.now.lines c.in_ok-line.line c.in_ok-line.ensures.begun c.in_ok-line.ensures.sound

@@ -1,0 +1,8 @@
+-- The commands: each with its words, what it reads, its tests, and what a call of it comes to.
+pub mod Check
+pub mod Decode
+pub mod Download
+pub mod Gateway
+pub mod Project
+pub mod Sim
+pub mod Tables

@@ -1,0 +1,244 @@
+-- `gateway ADDR OLD SCRIPT turns=N` with its option. It reads the catalogue, OLD and the script and tells the first test that fails; no port is bound then. Else
+-- it binds the port that its words name. Where that fails, a link fault is told, and nothing else. Else it serves the line that OLD and the script say, at that
+-- port, for at most so many turns, and hands the port back: all that is told is told of what that port told last. The dialer's count of faults takes in those of
+-- the port.
+use Rattle.std.specs.Prelude.{ℕ, Err, List, None, Ok, Option, Result, Some, option_to_list, ◌≡◌, ◌≤◌, ◌⊎◌, ◌++◌, ◌∷◌, codes, true, [], option_and_then}
+use Rattle.line_model.specs.Dialled.{Address, DialerNow, TakesBack, Tells}
+use Rattle.knx_top.specs.Begun.{BeginsLine}
+use Rattle.bus_sim.specs.Serving.{BreaksOff, FailsAt, ServedSo}
+use Rattle.bus_sim.specs.Loaded.{BusNow}
+use Rattle.line_model.specs.StartOf.{BusOf}
+use Rattle.knx_top.specs.Judged.{ComesTo, models_of, read_of, unless_refused, unless_strange, installed, sound}
+use Rattle.knx_top.specs.declared.ending.End.{End}
+use Rattle.knx_top.specs.Dialled.{FailsToOpen}
+use Rattle.knx_model.specs.Outside.{FileContent, FilesNow, one_more}
+use Rattle.line_model.specs.Follows.{Follows}
+use Rattle.knx_top.specs.declared.commands.gateway.GatewayNames.{GatewayNames}
+use Rattle.knx_top.specs.declared.commands.gateway.GatewayTexts.{GatewayTexts}
+use Rattle.knx_model.specs.Meaning.{Installation}
+use Rattle.line_model.specs.Fresh.{IsFresh}
+use Rattle.line_model.specs.Legal.{IsLegal}
+use Rattle.line_model.specs.PortStory.{IsNewPort, PortStory}
+use Rattle.knx_top.specs.Input.{IsRead, OnlyRose, fault_in, first_some, goes_on, octets_of, failed}
+use Rattle.knx_model.specs.declared.catalogue.model.NamedModel.{NamedModel}
+use Rattle.line_model.specs.declared.outside.port.PortFault.{PortFault}
+use Rattle.knx_top.specs.Fronts.{Row, read_by}
+use Rattle.bus_sim.specs.RunNow.{RunNow, start}
+use Rattle.knx_model.specs.declared.script.ScriptLine.{ScriptLine}
+use Rattle.bus_sim.specs.declared.serve.Served.{Served}
+use Rattle.knx_top.specs.declared.ending.ServiceEnd.{ServiceEnd}
+use Rattle.knx_top.specs.Options.{SimOptions, project_options}
+use Rattle.knx_model.specs.declared.project.Statement.{Statement}
+use Rattle.call_words.specs.declared.stop.Stop.{Stop}
+use Rattle.knx_top.specs.Ending.{StopsFor}
+use Rattle.knx_top.specs.Names.{address_of, named}
+use Rattle.knx_top.specs.Host.{address_value, unless_zero}
+use Rattle.knx_top.specs.Stops.{catalogue_refused, lines_in, project_in, rule_broken, stranger_named, text_refused}
+use Rattle.knx_model.specs.ScriptText.{first_stranger, script_reading}
+use Rattle.knx_model.specs.Numbers.{number_value, up_to}
+use Rattle.knx_top.specs.OnLine.{on_bus}
+use Rattle.line_model.specs.Lines.{script_of}
+use Rattle.call_words.specs.declared.stop.Stop.TheVariants as stop
+use Rattle.knx_top.specs.declared.ending.End.TheVariants as ends
+use Rattle.knx_top.specs.declared.ending.ServiceEnd.TheVariants as over
+use Rattle.bus_sim.specs.declared.serve.Served.TheVariants as served
+use Rattle.call_words.specs.declared.input_file.InputFile.TheVariants as file
+use Rattle.line_model.specs.Tunnel as tunnel
+use Rattle.knx_model.specs.Statements.{reading}
+use Rattle.std.specs.Option.{option_map}
+use Rattle.line_model.specs.declared.outside.port.PortFault.TheVariants as fault
+use Rattle.knx_model.specs.Answers.{◌>>=◌}
+
+-- ADDR OLD SCRIPT turns=N [catalogue=F]
+pub record GatewayWords : Type 0 where
+  pub at : Address
+  pub old : List ℕ
+  pub script : List ℕ
+  pub turns : ℕ
+  pub catalogue : Option (List ℕ)
+
+-- a gateway serves 1 to 1,000,000,000 turns
+abbrev pub most_turns : ℕ
+most_turns = 1000000000
+
+-- `turns=N`
+abbrev pub turns_rows : List (Row ℕ)
+turns_rows = record { front = codes "turns="; reads = λ number. option_and_then unless_zero (up_to most_turns (number_value number)) } ∷ []
+
+abbrev pub turns_value : List ℕ → Option ℕ
+turns_value word = read_by turns_rows word
+
+abbrev pub gateway_words : List (List ℕ) → Option GatewayWords
+gateway_words (address ∷ old ∷ script ∷ number ∷ others) =
+    option_and_then (λ (at : Address). option_and_then (λ (turns : ℕ). option_map (λ (options : SimOptions). let w : GatewayWords = record { at = at; old = old; script = script; turns = turns; catalogue = options.catalogue } in w)
+    (project_options others)) (turns_value number)) (address_value address)
+gateway_words _ = None
+
+-- ---- what it reads
+
+abbrev pub files_of_gateway : GatewayWords → List (List ℕ)
+files_of_gateway words = option_to_list words.catalogue ++ words.old ∷ words.script ∷ []
+
+pub record GatewayIsRead (file : List ℕ → FileContent) (words : GatewayWords) (texts : GatewayTexts) : Type 0 where
+  pub catalogue : IsRead file true words.catalogue texts.catalogue
+  pub old : IsRead file (goes_on texts.catalogue) (Some words.old) texts.old
+  pub script : IsRead file (goes_on texts.old) (Some words.script) texts.script
+
+abbrev pub failed_of_gateway : GatewayWords → GatewayTexts → Option (List ℕ)
+failed_of_gateway words texts = first_some (failed words.catalogue texts.catalogue ∷ failed (Some words.old) texts.old ∷ failed (Some words.script) texts.script ∷ [])
+
+-- ---- what it asks for, and its tests
+
+-- a service: the port, what the line begins with, the lines of the script, and the most turns
+pub record Service : Type 0 where
+  pub at : Address
+  pub before : Installation
+  pub script : List ScriptLine
+  pub turns : ℕ
+
+abbrev pub service : GatewayWords → Installation → List ScriptLine → Service
+service words before ls = record { at = words.at; before = before; script = ls; turns = words.turns }
+
+abbrev pub gateway_told : GatewayWords → GatewayTexts → Service
+gateway_told words texts = service words (project_in texts.catalogue texts.old) (lines_in texts.script)
+
+abbrev pub gateway_tests : GatewayWords → GatewayTexts → List (Option Stop)
+gateway_tests words texts =
+    let s : Service = gateway_told words texts in
+    fault_in words.catalogue texts.catalogue
+    ∷ fault_in (Some words.old) texts.old
+    ∷ fault_in (Some words.script) texts.script
+    ∷ catalogue_refused texts.catalogue
+    ∷ text_refused file.Old (reading (octets_of texts.old))
+    ∷ rule_broken file.Old s.before
+    ∷ text_refused file.Script (script_reading (octets_of texts.script))
+    ∷ stranger_named (first_stranger (on_bus s.before s.before) s.script)
+    ∷ []
+
+-- ---- a serving at the port that came back
+
+-- the line began as OLD and the script say, its devices loaded with OLD's images; what happened on it is legal where clients come to a port, and follows the script,
+-- whose lines with `group` call for nothing here
+pub record IsServed (s : Service) (r : RunNow) : Type 0 where
+  pub begins : BusOf s.before s.before (script_of s.script) (start r)
+  pub fresh : IsFresh (start r)
+  pub legal : IsLegal tunnel.Serves (start r) r.events
+  pub follows : Follows (script_of s.script) tunnel.Serves (start r) r.events
+
+-- by the line's events and what the port told, from a beginning to this end: a channel was made and closed, and ten turns were quiet; or just all turns were
+-- used before that; or it broke off; and where memory is wanting, it broke off for that, or all turns were used and there was none to tell it
+abbrev pub ServesTo : ServiceEnd → ℕ → RunNow → RunNow → PortStory → PortStory → Type 0
+ServesTo over.Ended turns began r new_port port = ServedSo served.Ended turns began r new_port port
+ServesTo (over.OpenTurns used) turns began r new_port port = (used ≡ turns) × ServedSo served.OpenTurns turns began r new_port port
+ServesTo over.Failed turns began r new_port port = BreaksOff turns began r new_port port
+ServesTo (over.Unserved want) turns began r new_port port = BreaksOff turns began r new_port port ⊎ ServedSo served.OpenTurns turns began r new_port port
+
+-- Of the counts of failed calls of the port and of the line, which are 0 where it begins: that it failed is told only where the port's rose, or the line's did at
+-- the last time of 64 bits, 2^64 - 1 ms after it began. Else no call of the line failed.
+abbrev pub HasCause : ServiceEnd → ℕ → BusNow → Type 0
+HasCause over.Failed port line = FailsAt fault.Failed 0 port 0 line.faults line.run
+HasCause end port line = line.faults ≡ 0
+
+-- a serving, over whose port's return the dialer's count was `since` and is `after`
+pub record Serving (s : Service) (line : BusNow) (port : PortStory) (since after : ℕ) (end : ServiceEnd) : Type 0 where
+  pub run : IsServed s line.run
+  -- the line before the first turn, and the port, which was new
+  pub began : RunNow
+  pub begins : BeginsLine s.before s.before s.script began
+  pub new_port : PortStory
+  pub new : IsNewPort new_port
+  pub serves : ServesTo end s.turns began line.run new_port port
+  -- the port's count of failed calls, which the dialer's takes in
+  pub faults : ℕ
+  pub taken : TakesBack faults since after
+  pub cause : HasCause end faults line
+
+-- a port was bound, the line served there, and the port handed back, where the dialer told `before` and tells `after`
+pub record ServedRun (s : Service) (before after : DialerNow) (line : BusNow) (end : ServiceEnd) : Type 0 where
+  -- there was one call of `bind`, with just the host and the port number of the words
+  pub given : Tells s.at.host s.at.port after.given
+  pub once : after.dials ≡ one_more before.dials
+  -- the dialer's count once the port was bound
+  pub since : ℕ
+  pub count : before.faults ≤ since
+  pub serving : Serving s line after.port_back since after.faults end
+
+-- ---- what comes of it
+
+-- memory is wanting before a port is bound; or the port isn't bound, and the line is as it was; or the line is the one that was served
+abbrev pub Serves : Service → DialerNow → DialerNow → BusNow → BusNow → End → Type 0
+Serves s before after line line' (ends.Stops told) = (told ≡ stop.NoMemory tt) × (after ≡ before) × (line' ≡ line)
+Serves s before after line line' ends.NotOpened = FailsToOpen s.at before after × (line' ≡ line)
+Serves s before after line line' (ends.Serves end) = ServedRun s before after line' end
+Serves s before after line line' end = ⊥
+
+-- ---- a call, where the simulated line was `line` and is `line'`, and `Replied` says what was written
+
+-- `gateway ADDR OLD SCRIPT turns=N` with its option, where the simulated line was `line` and is `line'`
+pub record RunsGateway (words : GatewayWords) (files files' : FilesNow) (before after : DialerNow) (line line' : BusNow) (Replied : End → Type 0) : Type 0 where
+  -- what was read, in order, up to the first read that was refused
+  pub texts : GatewayTexts
+  pub is_read : GatewayIsRead files.file words texts
+  pub counts : OnlyRose (failed_of_gateway words texts) files.faults files'.faults
+  pub end : End
+  -- the first test that fails is told, and no port is bound
+  pub stops : (why : Stop) → first_some (gateway_tests words texts) ≡ Some why → StopsFor why end × (after ≡ before) × (line' ≡ line)
+  -- where none fails, the port of the words is bound and the line served there
+  pub serves : first_some (gateway_tests words texts) ≡ None → Serves (gateway_told words texts) before after line line' end
+  pub replied : Replied end
+
+-- ---- the same tests one after another: what the code does
+
+abbrev pub with_lines : GatewayWords → Installation → List ScriptLine → Result Service Stop
+with_lines words before ls = unless_strange before before ls >>= λ known. Ok (service words before ls)
+
+abbrev pub with_before : GatewayWords → List ℕ → Installation → Result Service Stop
+with_before words script before = unless_refused file.Script (script_reading script) >>= with_lines words before
+
+abbrev pub with_old : GatewayWords → List NamedModel → List ℕ → List Statement → Result Service Stop
+with_old words models script ss = sound file.Old (installed models ss) >>= with_before words script
+
+abbrev pub with_models : GatewayWords → List ℕ → List ℕ → List NamedModel → Result Service Stop
+with_models words old script models = unless_refused file.Old (reading old) >>= with_old words models script
+
+abbrev pub after_script : GatewayWords → GatewayTexts → List ℕ → List ℕ → Result Service Stop
+after_script words texts old script = models_of texts.catalogue >>= with_models words old script
+
+abbrev pub after_old : GatewayWords → GatewayTexts → List ℕ → Result Service Stop
+after_old words texts old = read_of (Some words.script) texts.script >>= after_script words texts old
+
+abbrev pub after_catalogue : GatewayWords → GatewayTexts → List ℕ → Result Service Stop
+after_catalogue words texts catalogue = read_of (Some words.old) texts.old >>= after_old words texts
+
+abbrev pub judged_gateway : GatewayWords → GatewayTexts → Result Service Stop
+judged_gateway words texts = read_of words.catalogue texts.catalogue >>= after_catalogue words texts
+
+-- it stops where it must, and the dialer and the line are as they were, or else it serves
+abbrev pub ServesOr : Result Service Stop → DialerNow → DialerNow → BusNow → BusNow → End → Type 0
+ServesOr j before after line line' end = ComesTo ((after ≡ before) × (line' ≡ line)) (λ s. Serves s before after line line') j end
+
+-- ---- the words, the line, and how a serving ends, in the code
+
+abbrev pub gateway_words_of : GatewayNames → GatewayWords
+gateway_words_of names = record { at = address_of names.at; old = names.old.now; script = names.script.now; turns = names.turns; catalogue = named names.catalogue }
+
+-- a line that begins as the service says, of which no call has failed
+pub record IsLineOf (s : Service) (line : BusNow) : Type 0 where
+  pub begins : BeginsLine s.before s.before s.script line.run
+  pub sound : line.faults ≡ 0
+
+-- what was judged has its line
+abbrev pub LineFor : Result Service Stop → BusNow → Type 0
+LineFor (Ok s) line = IsLineOf s line
+LineFor (Err why) line = ⊥
+
+-- the end of a serving that broke off so
+abbrev pub end_of_fault : PortFault → ServiceEnd
+end_of_fault fault.Failed = over.Failed
+end_of_fault (fault.NoMemory want) = over.Unserved want
+
+-- the end of a serving of at most so many turns
+abbrev pub end_of_serving : ℕ → Result Served PortFault → ServiceEnd
+end_of_serving turns (Ok served.Ended) = over.Ended
+end_of_serving turns (Ok served.OpenTurns) = over.OpenTurns turns
+end_of_serving turns (Err why) = end_of_fault why

@@ -1,0 +1,42 @@
+//! `decode HEX`: the frame of octets.
+
+ghost use Rattle.std.specs.Prelude.{◌≡◌, map, string_bytes};
+ghost use Rattle.std.specs.Option.{option_map};
+ghost use Rattle.frame_text.specs.FrameText.{IsFrameText, hex_word};
+ghost use Rattle.knx_top.specs.Ending.{Is, TellsOf, end_told};
+ghost use Rattle.knx_top.specs.Names.{the_word};
+ghost use Rattle.knx_top.specs.commands.Decode.{TellsOfFrame, decode_word, octets_or_usage};
+
+use crate::ending::End;
+use call_words::Stop;
+use frame_text::{frame_text, hex_in};
+use knx_model::Octets;
+use std::alloc::Global;
+
+/// The word of `decode`.
+pub fn decode_word(words: &[String]) -> Option<&str>
+    ensures { option_map the_word result ≡ decode_word (map string_bytes words.now) }
+{
+    match words {
+        [word] => Some(word.as_str()),
+        _ => None,
+    }
+}
+
+/// The frame of the octets that the word writes.
+fn told(alloc: Global, word: &str) -> Result<Octets, Stop>
+    ensures { TellsOf IsFrameText (octets_or_usage (hex_word word.now)) (end_told result) }
+{
+    let Some(octets) = hex_in(alloc, word.as_bytes())? else {
+        return Err(Stop::Usage);
+    };
+    let text = frame_text(alloc, octets.as_slice())?;
+    Ok(text)
+}
+
+/// A call of `decode`.
+pub fn call(alloc: Global, word: &str) -> End
+    ensures { TellsOfFrame word.now (Is result) }
+{
+    End::told(told(alloc, word))
+}

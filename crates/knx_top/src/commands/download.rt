@@ -1,0 +1,197 @@
+//! `download ADDR NEW [catalogue=F] [log]` and jobs: the jobs of a project over a dialled link, which is handed back to the dialer before the call answers.
+
+ghost use Rattle.std.specs.Prelude.{◌≡◌, ◌≢◌, ◌≤◌, ◌<◌, ◌+◌, ℕ, [], Err, IfErr, IfOk, List as Seq, length, map, string_bytes};
+ghost use Rattle.std.specs.List.{AllByRecursion};
+ghost use Rattle.std.specs.Option.{option_map};
+ghost use Rattle.call_words.specs.declared.stop.Stop.TheVariants.{NoMemory as OutOfMemory};
+ghost use Rattle.line_model.specs.Headline.{IsGoodJob};
+ghost use Rattle.line_model.specs.LinkStory.{IsNewLink};
+ghost use Rattle.knx_top.specs.Dialled.{HasItsCause, IsToldOver};
+ghost use Rattle.knx_top.specs.Ending.{Is, report_in};
+ghost use Rattle.knx_top.specs.Jobs.{seen_job};
+ghost use Rattle.knx_top.specs.Names.{address_of};
+ghost use Rattle.knx_top.specs.Options.{most_jobs};
+ghost use Rattle.knx_top.specs.commands.Download.{Dials, DialsOr, Download, IsReady, IsReadyFor, ReadyFor, RunsDialled, download_words, download_words_of, files_of_download, judged_download, project_named, with_project};
+ghost use Rattle.knx_top.specs.commands.Project.{project_words_of};
+
+use crate::commands::Open;
+use crate::ending::{End, Reported};
+use crate::host::{GatewayAddress, address_in};
+use crate::jobs::{all_planned, are_known, jobs_of};
+use crate::options::{SimOptions, sim_options};
+use crate::project::{
+    ProjectNames, ProjectTexts, read_in, read_project_texts, sound_in, unknown_job,
+};
+use call_words::{InputFile, JobWord, Stop};
+use hub_driver::commission;
+use hub_work::HubJob;
+use knx_model::{Files, List, NoMemory};
+use line_model::{Dialer, Report};
+use project_check::Checked;
+use std::alloc::Global;
+use std::sync::Wait;
+
+/// The gateway and the name in `ADDR NEW`, with options and jobs.
+#[derive(Drop)]
+pub struct DownloadNames<'a> {
+    pub at: GatewayAddress,
+    pub new: &'a str,
+    pub options: SimOptions<'a>,
+}
+
+impl<'a> DownloadNames<'a> {
+    /// The names of the files.
+    pub fn project(&self) -> ProjectNames<'a>
+        ensures { project_words_of result ≡ project_named (download_words_of self.now) }
+    {
+        ProjectNames {
+            project: self.new,
+            catalogue: self.options.catalogue,
+        }
+    }
+}
+
+/// The names of `download`.
+pub fn download_names(words: &[String]) -> Option<DownloadNames<'_>>
+    ensures { option_map download_words_of result ≡ download_words (map string_bytes words.now) }
+{
+    let [address, new, others @ ..] = words else {
+        return None;
+    };
+    let at = address_in(address.as_str())?;
+    let options = sim_options(others)?;
+    Some(DownloadNames {
+        at,
+        new: new.as_str(),
+        options,
+    })
+}
+
+/// The jobs of a download.
+#[derive(Drop)]
+pub struct Ready {
+    /// As words name them.
+    pub jobs: List<JobWord>,
+    /// With their plans.
+    pub plans: List<HubJob>,
+}
+
+/// The jobs of a run, each with its plan.
+fn ready_for(alloc: Global, named: &[JobWord], project: &Checked<'_, '_>) -> Result<Ready, NoMemory>
+    requires { length named.now ≤ most_jobs }
+    ensures { IfOk result (λ ready. IsReady project.now named.now ready) }
+{
+    let jobs = jobs_of(alloc, named, project)?;
+    let plans = all_planned(alloc, project, jobs.as_slice())?;
+    Ok(Ready { jobs, plans })
+}
+
+/// The last test, of the devices that the jobs name.
+fn judge_jobs(
+    alloc: Global,
+    names: &DownloadNames<'_>,
+    project: &Checked<'_, '_>,
+) -> Result<Ready, Stop>
+    ensures ok { IfOk result (λ ready. ReadyFor (with_project (download_words_of names.now) project.now) ready) }
+    ensures err { IfErr result (λ why. why ≢ OutOfMemory tt → with_project (download_words_of names.now) project.now ≡ Err why) }
+{
+    let named = names.options.jobs.as_slice();
+    if !are_known(project, named) {
+        return Err(unknown_job());
+    }
+    let ready = ready_for(alloc, named, project)?;
+    Ok(ready)
+}
+
+/// What was read is judged in order: the catalogue, NEW, then the devices of the jobs.
+fn judge(alloc: Global, names: &DownloadNames<'_>, texts: &ProjectTexts) -> Result<Ready, Stop>
+    ensures ok { IfOk result (λ ready. ReadyFor (judged_download (download_words_of names.now) texts.now) ready) }
+    ensures err { IfErr result (λ why. why ≢ OutOfMemory tt → judged_download (download_words_of names.now) texts.now ≡ Err why) }
+{
+    let read = read_in(alloc, names.project(), texts)?;
+    let checked = sound_in(alloc, InputFile::New, &read.project, &read.models)?;
+    let ready = judge_jobs(alloc, names, &checked)?;
+    Ok(ready)
+}
+
+/// Goes through the jobs over a link that was dialled, and hands it back.
+fn run<R: Wait, D: Dialer>(
+    rt: &R,
+    alloc: Global,
+    plans: List<HubJob>,
+    dial: &mut D,
+    line: D::L,
+) -> Report
+    requires new { IsNewLink (D.L.story line) }
+    requires sound { D.L.faults line ≡ 0 }
+    requires few { length plans < 4294967296 }
+    requires good { AllByRecursion IsGoodJob (map seen_job plans) }
+    ensures told { IsToldOver 1 [] (map seen_job plans) (D.now dial.new).link_back result }
+    ensures given { (D.now dial.new).given ≡ (D.now dial.old).given }
+    ensures dials { (D.now dial.new).dials ≡ (D.now dial.old).dials }
+    ensures cause { HasItsCause result (D.now dial.old).faults (D.now dial.new).faults }
+{
+    let (line, report) = commission(rt, alloc, plans, List::new(alloc), line, &Open);
+    dial.hang(line);
+    report
+}
+
+/// Dials the gateway, and goes through the jobs over the link. No group telegrams are sent.
+fn dial_and_run<R: Wait, D: Dialer>(
+    rt: &R,
+    alloc: Global,
+    at: GatewayAddress,
+    ready: Ready,
+    log: bool,
+    dial: &mut D,
+) -> End
+    requires few { length ready.plans < 4294967296 }
+    requires good { AllByRecursion IsGoodJob (map seen_job ready.plans) }
+    ensures { (d : Download) → IsReadyFor d ready → d.at ≡ address_of at → log ≡ d.options.log → Dials d (D.now dial.old) (D.now dial.new) result }
+{
+    match dial.dial(at.host, at.port) {
+        Ok(line) => {
+            let report = run(rt, alloc, ready.plans, dial, line);
+            End::Reports(Reported {
+                report,
+                jobs: ready.jobs,
+                turns: 0,
+                devices: List::new(alloc),
+                log,
+            })
+        }
+        Err(_) => End::NotOpened,
+    }
+}
+
+/// Judges what was read, and dials what it asks for.
+fn download<R: Wait, D: Dialer>(
+    rt: &R,
+    alloc: Global,
+    names: &DownloadNames<'_>,
+    texts: &ProjectTexts,
+    dial: &mut D,
+) -> End
+    ensures { DialsOr (judged_download (download_words_of names.now) texts.now) (D.now dial.old) (D.now dial.new) result }
+{
+    match judge(alloc, names, texts) {
+        Ok(ready) => dial_and_run(rt, alloc, names.at, ready, names.options.log, dial),
+        Err(why) => End::Stops(why),
+    }
+}
+
+/// A call of `download`.
+pub fn call<R: Wait, F: Files, D: Dialer>(
+    rt: &R,
+    alloc: Global,
+    names: &DownloadNames<'_>,
+    files: &mut F,
+    dial: &mut D,
+) -> End
+    ensures told { RunsDialled (download_words_of names.now) (F.now files.old) (F.now files.new) (D.now dial.old) (D.now dial.new) (report_in result) (Is result) }
+    ensures stays { (other : Seq ℕ) → (F.now files.new).file other ≡ (F.now files.old).file other }
+    ensures reads { (F.now files.new).reads ≤ (F.now files.old).reads + length (files_of_download (download_words_of names.now)) }
+{
+    let texts = read_project_texts(alloc, files, names.project());
+    download(rt, alloc, names, &texts, dial)
+}

@@ -1,0 +1,66 @@
+//! The commands: each with its words, what it reads, its tests in their order, what it does, and its end; and which of them the words ask for.
+
+ghost use Rattle.std.specs.Prelude.{◌≡◌, ◌↔◌, ℕ, List, Some, map, string_bytes};
+ghost use Rattle.std.specs.Option.{option_map};
+ghost use Rattle.knx_top.specs.Command.{Command as Commanded, SpellsCommand, asked, command_of};
+
+pub mod check;
+pub mod decode;
+pub mod download;
+pub mod gateway;
+pub mod sim;
+pub mod tables;
+
+use crate::commands::decode::decode_word;
+use crate::commands::download::{DownloadNames, download_names};
+use crate::commands::gateway::{GatewayNames, gateway_names};
+use crate::commands::sim::{SimNames, sim_names};
+use crate::project::{ProjectNames, project_names};
+use line_model::Gate;
+
+/// A command with its words.
+#[derive(Drop)]
+pub enum Command<'a> {
+    /// `check P [catalogue=F]`
+    Check(ProjectNames<'a>),
+    /// `tables P [catalogue=F]`
+    Tables(ProjectNames<'a>),
+    /// `sim NEW OLD SCRIPT [catalogue=F] [log]`, and jobs
+    Sim(SimNames<'a>),
+    /// `decode HEX`
+    Decode(&'a str),
+    /// `download ADDR NEW [catalogue=F] [log]`, and jobs
+    Download(DownloadNames<'a>),
+    /// `gateway ADDR OLD SCRIPT turns=N [catalogue=F]`
+    Gateway(GatewayNames<'a>),
+}
+
+/// The command of the words; none for words that are no command.
+pub fn asked(words: &[String]) -> Option<Command<'_>>
+    ensures { option_map command_of result ≡ asked (map string_bytes words.now) }
+{
+    let [command, others @ ..] = words else {
+        return None;
+    };
+    match command.as_str() {
+        "check" => Some(Command::Check(project_names(others)?)),
+        "tables" => Some(Command::Tables(project_names(others)?)),
+        "sim" => Some(Command::Sim(sim_names(others)?)),
+        "decode" => Some(Command::Decode(decode_word(others)?)),
+        "download" => Some(Command::Download(download_names(others)?)),
+        "gateway" => Some(Command::Gateway(gateway_names(others)?)),
+        _ => None,
+    }
+}
+
+/// What words ask for is just the command that they spell.
+pub fn commands_spelled()
+    ensures { (words : List (List ℕ)) (command : Commanded) → (asked words ≡ Some command) ↔ SpellsCommand words command }
+{}
+
+/// Lets each job start at once.
+pub struct Open;
+
+impl Gate for Open {
+    fn pass(&self, _job: u32) {}
+}

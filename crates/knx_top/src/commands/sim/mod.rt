@@ -1,0 +1,90 @@
+//! `sim NEW OLD SCRIPT [catalogue=F] [log]` and jobs: a run over the simulated line.
+
+ghost use Rattle.std.specs.Prelude.{◌≡◌, ◌≤◌, ◌+◌, ℕ, List, length, map, string_bytes};
+ghost use Rattle.std.specs.Option.{option_map};
+ghost use Rattle.knx_top.specs.Ending.{Is, report_in};
+ghost use Rattle.knx_top.specs.Input.{OnlyRose};
+ghost use Rattle.knx_top.specs.Ran.{FaultsOfLine};
+ghost use Rattle.knx_top.specs.commands.Sim.{RunsScript, SimIsRead, failed_of_sim, files_of_sim, sim_words, sim_words_of};
+
+mod judge;
+mod run;
+
+use crate::commands::sim::run::commission;
+use crate::ending::End;
+use crate::input::{Reading, read_after, read_named};
+use crate::options::{SimOptions, sim_options};
+use bus_sim::SimBus;
+use knx_model::Files;
+use std::alloc::Global;
+use std::sync::Wait;
+
+/// The names in `NEW OLD SCRIPT`, with options and jobs.
+#[derive(Drop)]
+pub struct SimNames<'a> {
+    pub new: &'a str,
+    pub old: &'a str,
+    pub script: &'a str,
+    pub options: SimOptions<'a>,
+}
+
+/// The texts of `sim`.
+#[derive(Drop)]
+pub struct SimTexts {
+    pub catalogue: Reading,
+    pub new: Reading,
+    pub old: Reading,
+    pub script: Reading,
+}
+
+/// The names of `sim`.
+pub fn sim_names(words: &[String]) -> Option<SimNames<'_>>
+    ensures { option_map sim_words_of result ≡ sim_words (map string_bytes words.now) }
+{
+    let [new, old, script, others @ ..] = words else {
+        return None;
+    };
+    let options = sim_options(others)?;
+    Some(SimNames {
+        new: new.as_str(),
+        old: old.as_str(),
+        script: script.as_str(),
+        options,
+    })
+}
+
+/// Reads the catalogue, then NEW, OLD and the script.
+fn read_sim_texts<F: Files>(alloc: Global, files: &mut F, names: &SimNames<'_>) -> SimTexts
+    ensures read { SimIsRead (F.now files.old).file (sim_words_of names.now) result }
+    ensures counts { OnlyRose (failed_of_sim (sim_words_of names.now) result) (F.now files.old).faults (F.now files.new).faults }
+    ensures stays { (other : List ℕ) → (F.now files.new).file other ≡ (F.now files.old).file other }
+    ensures reads { (F.now files.new).reads ≤ (F.now files.old).reads + length (files_of_sim (sim_words_of names.now)) }
+{
+    let catalogue = read_named(alloc, files, names.options.catalogue);
+    let new = read_after(alloc, files, &catalogue, names.new);
+    let old = read_after(alloc, files, &new, names.old);
+    let script = read_after(alloc, files, &old, names.script);
+    SimTexts {
+        catalogue,
+        new,
+        old,
+        script,
+    }
+}
+
+/// A call of `sim`.
+pub fn call<R: Wait, F: Files>(
+    rt: &R,
+    alloc: Global,
+    names: &SimNames<'_>,
+    files: &mut F,
+    sim: &mut SimBus,
+) -> End
+    ensures told { RunsScript (sim_words_of names.now) (F.now files.old) (F.now files.new) sim.old (record { line = sim.new; report = report_in result }) (Is result) }
+    ensures link { FaultsOfLine (report_in result) sim.new }
+    ensures stays { (other : List ℕ) → (F.now files.new).file other ≡ (F.now files.old).file other }
+    ensures reads { (F.now files.new).reads ≤ (F.now files.old).reads + length (files_of_sim (sim_words_of names.now)) }
+{
+    let texts = read_sim_texts(alloc, files, names);
+    commission(rt, alloc, names, &texts, sim)
+}
