@@ -94,7 +94,7 @@ fn numbers_of(alloc: Global, devices: &[IndAddr]) -> Result<Vec<u16>, AllocError
 }
 
 /// The images of the devices of a text that breaks no rule, one after another.
-fn compile_devices(
+pub fn compile_devices(
     alloc: Global,
     catalogue: &Catalogue,
     statements: &[Statement<'_>],
