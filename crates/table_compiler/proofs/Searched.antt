@@ -1,8 +1,8 @@
 -- What a binary search among ascending devices says, and the image that stands beside a device.
-use Rattle.std.proofs.Common.{◌≡◌, ℕ, zero, suc, ◌<◌, ◌≤◌, Bool, false, true, cond, eqb, ◌&&◌, filter, List, [], ◌∷◌, length, get_or, map, Option, Some, None, Result, Ok, Err, All, refl, sym, ap, ◌∙◌, subst, arith, inl, inr}
+use Rattle.std.proofs.Common.{◌≡◌, ℕ, zero, suc, ◌<◌, ◌≤◌, Bool, false, true, cond, eqb, ◌&&◌, filter, List, [], ◌∷◌, ◌++◌, length, get_or, map, Option, Some, None, Result, Ok, Err, refl, sym, ap, ◌∙◌, subst, arith, inl, inr}
 use Rattle.std.specs.Prelude.{IfNone, IsPermutation, slice_get}
 use Rattle.std.specs.Result.{result_ok}
-use Rattle.std.specs.List.{AllZip, list_any}
+use Rattle.std.specs.List.{AllZip, AllByRecursion, list_any}
 use Rattle.std.specs.List.Sorted.{IsBinarySearchResult, IsStrictlyIncreasing}
 use Rattle.std.specs.Ordering.{nat_cmp}
 use Rattle.std.proofs.lemmas.Bool.{cases_lt, eq-eqb, eqb-true, ne_eqb}
@@ -31,7 +31,7 @@ get_raw [] i d = refl
 get_raw (a ∷ ds) zero d = refl
 get_raw (a ∷ ds) (suc i) d = get_raw ds i d
 
-never_falls : (ns : List ℕ) → IsStrictlyIncreasing ns → (i j : ℕ) → i ≤ j → j < length ns → get_or ns i 0 ≤ get_or ns j 0
+pub never_falls : (ns : List ℕ) → IsStrictlyIncreasing ns → (i j : ℕ) → i ≤ j → j < length ns → get_or ns i 0 ≤ get_or ns j 0
 never_falls ns up i j le lt = elim (cases_lt i j) [
   | inl below ↦ omega (arith, AllPairs-from_increasing ns up i j 0 below lt)
   | inr above ↦ (let same : i ≡ j = omega arith in omega (arith, ap (λ (k : ℕ). get_or ns k 0) same))
@@ -70,15 +70,23 @@ zip_at R (x ∷ xs) [] k d e all lt = absurd all
 zip_at R (x ∷ xs) (y ∷ ys) zero d e all lt = all.0
 zip_at R (x ∷ xs) (y ∷ ys) (suc k) d e all lt = zip_at R xs ys k d e all.1 (omega arith)
 
-pub each_image : (project : Installation) (devices : List IndAddr) (images : List Image) → AllZip (λ image device. StandsFor image (meaning project device)) images devices → All Fits images → All (λ device. IsInRange (meaning project device)) devices
-    → AllZip (IsImage project) devices images
-each_image project [] [] stand fit range = tt
-each_image project [] (i ∷ is) stand fit range = absurd stand
-each_image project (d ∷ ds) [] stand fit range = absurd stand
-each_image project (d ∷ ds) (i ∷ is) stand fit range = (
-  record { stands = stand.0; fits = fit 0 i (omega arith); in_range = range 0 d (omega arith) },
-  each_image project ds is stand.1 (λ k e lt. fit (suc k) e (omega arith)) (λ k e lt. range (suc k) e (omega arith)),
-)
+pub all_stand : (project : Installation) (devices : List IndAddr) (images : List Image) → AllZip (IsImage project) devices images → AllZip (λ image device. StandsFor image (meaning project device)) images devices
+all_stand project [] [] all = tt
+all_stand project [] (i ∷ is) all = absurd all
+all_stand project (d ∷ ds) [] all = absurd all
+all_stand project (d ∷ ds) (i ∷ is) all = (all.0.stands, all_stand project ds is all.1)
+
+pub all_fit : (project : Installation) (devices : List IndAddr) (images : List Image) → AllZip (IsImage project) devices images → AllByRecursion Fits images
+all_fit project [] [] all = tt
+all_fit project [] (i ∷ is) all = absurd all
+all_fit project (d ∷ ds) [] all = absurd all
+all_fit project (d ∷ ds) (i ∷ is) all = (all.0.fits, all_fit project ds is all.1)
+
+pub all_in_range : (project : Installation) (devices : List IndAddr) (images : List Image) → AllZip (IsImage project) devices images → AllByRecursion (λ device. IsInRange (meaning project device)) devices
+all_in_range project [] [] all = tt
+all_in_range project [] (i ∷ is) all = absurd all
+all_in_range project (d ∷ ds) [] all = absurd all
+all_in_range project (d ∷ ds) (i ∷ is) all = (all.0.in_range, all_in_range project ds is all.1)
 
 -- ---- of those that are wanted
 
@@ -114,3 +122,9 @@ pub image_at : (project : Installation) (devices : List IndAddr) (images : List 
 image_at project devices images k device image are within here there =
     let at : get_or devices k device ≡ device = get_or_from_slice_get devices k device device here in
     subst (λ (i : Image). IsImage project device i) there (subst (λ (d : IndAddr). IsImage project d (get_or images k image)) at (zip_at (IsImage project) devices images k device image are within))
+
+pub AllZip-push : {X Y : Type 0} (R : X → Y → Type 0) (xs : List X) (ys : List Y) (x : X) (y : Y) → AllZip R xs ys → R x y → AllZip R (xs ++ x ∷ []) (ys ++ y ∷ [])
+AllZip-push R [] [] x y all r = (r, tt)
+AllZip-push R [] (b ∷ ys) x y all r = absurd all
+AllZip-push R (a ∷ xs) [] x y all r = absurd all
+AllZip-push R (a ∷ xs) (b ∷ ys) x y all r = (all.0, AllZip-push R xs ys x y all.1 r)

@@ -1,7 +1,7 @@
-use Rattle.std.proofs.Common.{◌≡◌, ◌∙◌, ap, sym, subst, List, Some, true, get_or, length, ◌<◌, arith}
+use Rattle.std.proofs.Common.{◌≡◌, ◌∙◌, ap, sym, subst, List, Some, get_or, length, ◌<◌, arith}
 use Rattle.std.specs.Prelude.{slice_get}
 use Rattle.knx_model.specs.declared.address.IndAddr.{IndAddr}
-use Rattle.table_compiler.specs.Images.{AreImagesOf, is_among}
+use Rattle.table_compiler.specs.Images.{AreImagesOf}
 use Rattle.table_compiler.proofs.Searched.{among_at, image_at, if_none}
 use Rattle.table_compiler.proofs.images.Images.image.Goals as goal
 
