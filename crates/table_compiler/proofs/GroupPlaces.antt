@@ -1,21 +1,38 @@
 -- The place of a group among ascending groups.
-use Rattle.std.proofs.Common.{◌≡◌, ℕ, zero, suc, ◌<◌, List, [], ◌∷◌, length, get_or, map, eqb, false, Some, refl, sym, ◌∙◌, arith, add-one, inl, inr, All}
+use Rattle.std.proofs.Common.{◌≡◌, ℕ, zero, suc, ◌<◌, ◌≤◌, List, [], ◌∷◌, length, get_or, map, eqb, ltb, true, false, Some, refl, sym, ◌∙◌, arith, add-one, inl, inr, All}
 use Rattle.std.specs.Prelude.{Contains, IsPermutation}
 use Rattle.std.specs.List.{position_or_len, AllByRecursion}
-use Rattle.std.specs.List.Sorted.{IsStrictlyIncreasing}
-use Rattle.std.proofs.lemmas.Bool.{ne_eqb, eq-eqb, cases_lt, cases_eq}
+use Rattle.std.specs.List.Sorted.{IsStrictlyIncreasing, IsNonDecreasingBy, IsPartitionedBy, IsPartitionPoint}
+use Rattle.std.proofs.lemmas.Bool.{ne_eqb, eq-eqb, cases_lt, cases_eq, ltb-true, ltb-false}
 use Rattle.std.proofs.lemmas.List.{get_or_default}
 use Rattle.std.proofs.lemmas.List.Elements.{All-from_recursion}
 use Rattle.std.proofs.lemmas.List.Kept.{AllPairs-from_increasing}
-use Rattle.std.proofs.lemmas.List.Sorted.{All-permutation}
+use Rattle.std.proofs.lemmas.List.Sorted.{All-permutation, IsNonDecreasingBy-from_default, IsPartitionedBy-ltb}
 use Rattle.std.proofs.lemmas.List.Sums.{position_or_len_is}
 use Rattle.std.proofs.lemmas.Option.{slice_get-get_or, slice_get_within, get_or_from_slice_get, none-some}
 use Rattle.knx_model.specs.declared.config.LinkSpec.{LinkSpec}
 use Rattle.knx_model.specs.Tables.{raw_of, at_place}
 use Rattle.table_compiler.specs.Order.{place}
+use Rattle.table_compiler.proofs.Searched.{never_falls}
 
 pub place_is : (xs : List ℕ) (x i : ℕ) → IsStrictlyIncreasing xs → i < length xs → get_or xs i 0 ≡ x → position_or_len (λ y. eqb y x) xs ≡ i
 place_is xs x i up lt e = position_or_len_is (λ y. eqb y x) xs i 0 (omega arith) (λ k below. ne_eqb (get_or xs k 0) x (λ q. let h = AllPairs-from_increasing xs up k i 0 below lt in omega arith)) (λ _. eq-eqb _ _ e)
+
+rises : (xs : List ℕ) → IsStrictlyIncreasing xs → IsNonDecreasingBy (λ x. x) xs
+rises xs up = IsNonDecreasingBy-from_default (λ x. x) xs 0 (never_falls xs up)
+
+pub parted : (xs : List ℕ) (x : ℕ) → IsStrictlyIncreasing xs → IsPartitionedBy (λ y. ltb y x) xs
+parted xs x up = IsPartitionedBy-ltb (λ y. y) xs x (rises xs up)
+
+-- just the lower ones stand before a number that is listed
+pub before_is : (xs : List ℕ) (x i k : ℕ) → IsStrictlyIncreasing xs → IsPartitionPoint (λ y. ltb y x ≡ true) (λ y. ltb y x ≡ false) xs i → i ≤ length xs → k < length xs → get_or xs k 0 ≡ x → i ≡ k
+before_is xs x i k up point le lt here = elim (cases_lt i k) [
+  | inl below ↦ absurd (let h = AllPairs-from_increasing xs up i k 0 below lt in let q = ltb-false (get_or xs i 0) x (point.1 i 0 (omega arith) (omega arith)) in omega arith)
+  | inr above ↦ elim (cases_lt k i) [
+    | inl below ↦ absurd (let q = ltb-true (get_or xs k 0) x (point.0 k 0 (omega arith) below) in omega arith)
+    | inr other ↦ omega arith
+  ]
+]
 
 -- a group stands where its place says
 pub at_its_place : (groups : List ℕ) (g : ℕ) → IsStrictlyIncreasing groups → Contains groups g → at_place groups (place groups g) ≡ Some g

@@ -1,13 +1,12 @@
 -- The images of a project's devices.
-use Rattle.std.specs.Prelude.{◌≡◌, List, length, map, IsPermutation}
-use Rattle.std.specs.List.{AllZip}
+use Rattle.std.specs.Prelude.{◌≡◌, Bool, ◌==◌, List, length, map}
+use Rattle.std.specs.List.{AllZip, list_any}
 use Rattle.std.specs.List.Sorted.{IsStrictlyIncreasing}
 use Rattle.knx_model.specs.declared.address.IndAddr.{IndAddr}
 use Rattle.knx_model.specs.declared.config.Image.{Image}
 use Rattle.knx_model.specs.Acts.{IsInRange}
 use Rattle.knx_model.specs.Device.{Fits}
 use Rattle.knx_model.specs.Meaning.{Installation, meaning}
-use Rattle.knx_model.specs.Rules.{devices_of}
 use Rattle.knx_model.specs.Tables.{StandsFor}
 use Rattle.project_check.specs.Devices.{raw_of}
 
@@ -17,12 +16,15 @@ pub record IsImage (project : Installation) (device : IndAddr) (image : Image) :
   pub fits : Fits image
   pub in_range : IsInRange (meaning project device)
 
+-- the device is one of these
+abbrev pub is_among : List IndAddr → IndAddr → Bool
+is_among devices device = list_any (λ d. d.raw == device.raw) devices
+
 -- ascending devices, and as many images
 pub record ArePaired (devices : List IndAddr) (images : List Image) : Type 0 where
   pub ascending : IsStrictlyIncreasing (map raw_of devices)
   pub long : length images ≡ length devices
 
--- the devices of a project, and the image of each
-pub record AreImagesOf (project : Installation) (images : List IndAddr × List Image) : Type 0 where
-  pub all : IsPermutation (devices_of project.statements) images.0
-  pub each : AllZip (IsImage project) images.0 images.1
+-- devices, and the image of each by what the project says of it
+abbrev pub AreImagesOf : Installation → List IndAddr × List Image → Type 0
+AreImagesOf project images = AllZip (IsImage project) images.0 images.1

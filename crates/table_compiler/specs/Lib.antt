@@ -1,5 +1,4 @@
+pub mod Drafts
 pub mod Images
-pub mod Lines
 pub mod Order
-pub mod Places
 pub mod Settings

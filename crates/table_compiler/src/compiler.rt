@@ -8,21 +8,22 @@ ghost use Rattle.knx_model.specs.Acts.{IsInRange};
 ghost use Rattle.knx_model.specs.Device.{Fits};
 ghost use Rattle.knx_model.specs.Meaning.{meaning};
 ghost use Rattle.knx_model.specs.Rules.{first_broken, devices_of};
+ghost use Rattle.knx_model.specs.declared.project.Statement.{Statement as Stated};
 ghost use Rattle.knx_model.specs.Tables.{StandsFor};
 ghost use Rattle.project_check.specs.Devices.{raw_of};
-ghost use Rattle.table_compiler.specs.Lines.{AreLinesOf};
+ghost use Rattle.table_compiler.specs.Drafts.{IsDraft, IsSoundDraft};
+ghost use Rattle.table_compiler.specs.Images.{IsImage};
 
-use crate::lines::{lines_by_device, lines_of};
-use crate::links::{link_lines, links_of};
+use crate::drafts::{Draft, draft_of, drafts_of};
+use crate::links::links_of;
 use crate::models::{inline, model_of};
 use crate::objects::objects_of;
 use crate::parameters::settings;
-use crate::places::Places;
 use crate::tables::image_of;
 use knx_model::{Catalogue, Image, IndAddr, List, NoMemory, Statement};
 use parameter_memory::lay;
 use project_check::Checked;
-use std::alloc::{AllocError, Global};
+use std::alloc::Global;
 
 /// The tables and the parameter memory of a device of the project; one that the project doesn't have has no objects.
 pub fn compile(alloc: Global, checked: &Checked<'_, '_>, device: IndAddr) -> Result<Image, NoMemory>
@@ -30,7 +31,8 @@ pub fn compile(alloc: Global, checked: &Checked<'_, '_>, device: IndAddr) -> Res
     ensures fits { IfOk result (λ image. Fits image) }
     ensures in_range { IfOk result (λ _. IsInRange (meaning checked.now device)) }
 {
-    compile_statements(alloc, checked.catalogue(), checked.statements(), device)
+    let draft = draft_of(alloc, device, checked.statements())?;
+    compile_draft(alloc, checked.catalogue(), &draft)
 }
 
 /// The tables and the parameter memories of the devices of the project, in their ascending order.
@@ -47,54 +49,22 @@ pub fn compile_all(alloc: Global, checked: &Checked<'_, '_>) -> Result<List<Imag
     )
 }
 
-/// The image of a device, from its own lines.
-fn compile_lines(
-    alloc: Global,
-    places: &mut Places,
-    catalogue: &Catalogue,
-    lines: &[Statement<'_>],
-    device: IndAddr,
-) -> Result<Image, NoMemory>
-    requires { AreLinesOf catalogue.now device lines.now }
-    ensures stands { IfOk result (λ image. StandsFor image (meaning (record { statements = lines.now; catalogue = catalogue.now }) device)) }
-    ensures fits { IfOk result (λ image. Fits image) }
-    ensures in_range { IfOk result (λ _. IsInRange (meaning (record { statements = lines.now; catalogue = catalogue.now }) device)) }
+/// The image of a device, from what its lines say.
+fn compile_draft(alloc: Global, catalogue: &Catalogue, draft: &Draft<'_>) -> Result<Image, NoMemory>
+    requires { IsSoundDraft catalogue.now draft.now }
+    ensures { IfOk result (λ image. (device : Device) (ss : Seq Stated) → IsDraft device draft.now ss → first_broken catalogue.now ss ≡ None → IsImage (record { statements = ss; catalogue = catalogue.now }) device image) }
 {
     let inline = inline(alloc);
-    let model = model_of(catalogue, &inline, lines, device);
-    let link_lines = link_lines(alloc, lines, device)?;
-    let links = links_of(alloc, link_lines.as_slice())?;
-    let objects = objects_of(alloc, model, lines, device)?;
-    let settings = settings(alloc, model, lines, device)?;
+    let model = model_of(catalogue, &inline, draft.model);
+    let links = links_of(alloc, draft.links.as_slice())?;
+    let objects = objects_of(alloc, model, draft)?;
+    let settings = settings(alloc, model, &draft.values)?;
     let params = lay(alloc, model, settings.as_slice())?;
-    image_of(alloc, places, links.as_slice(), objects.as_slice(), params)
+    image_of(alloc, links.as_slice(), objects.as_slice(), params)
 }
 
-/// The image of a device of a text that breaks no rule.
-fn compile_statements(
-    alloc: Global,
-    catalogue: &Catalogue,
-    statements: &[Statement<'_>],
-    device: IndAddr,
-) -> Result<Image, NoMemory>
-    requires { first_broken catalogue.now statements.now ≡ None }
-    ensures stands { IfOk result (λ image. StandsFor image (meaning (record { statements = statements.now; catalogue = catalogue.now }) device)) }
-    ensures fits { IfOk result (λ image. Fits image) }
-    ensures in_range { IfOk result (λ _. IsInRange (meaning (record { statements = statements.now; catalogue = catalogue.now }) device)) }
-{
-    let mut places = Places::new(alloc)?;
-    let lines = lines_of(alloc, statements, device)?;
-    compile_lines(alloc, &mut places, catalogue, lines.as_slice(), device)
-}
-
-fn numbers_of(alloc: Global, devices: &[IndAddr]) -> Result<Vec<u16>, AllocError>
-    ensures { IfOk result (λ numbers. numbers.items ≡ map raw_of devices.now) }
-{
-    devices.iter().map(|device| device.raw).collect(alloc)
-}
-
-/// The images of the devices of a text that breaks no rule, one after another.
-fn compile_devices(
+/// The images of these devices of a text that breaks no rule, in one pass over its lines.
+pub fn compile_devices(
     alloc: Global,
     catalogue: &Catalogue,
     statements: &[Statement<'_>],
@@ -102,23 +72,12 @@ fn compile_devices(
 ) -> Result<List<Image>, NoMemory>
     requires sound { first_broken catalogue.now statements.now ≡ None }
     requires ascending { IsStrictlyIncreasing (map raw_of devices.now) }
-    ensures stands { IfOk result (λ images. AllZip (λ image device. StandsFor image (meaning (record { statements = statements.now; catalogue = catalogue.now }) device)) images devices.now) }
-    ensures fits { IfOk result (λ images. All Fits images) }
-    ensures in_range { IfOk result (λ _. All (λ device. IsInRange (meaning (record { statements = statements.now; catalogue = catalogue.now }) device)) devices.now) }
+    ensures { IfOk result (λ images. AllZip (IsImage (record { statements = statements.now; catalogue = catalogue.now })) devices.now images) }
 {
-    let numbers = numbers_of(alloc, devices)?;
-    let groups = lines_by_device(alloc, numbers.as_slice(), statements)?;
-    let mut places = Places::new(alloc)?;
+    let drafts = drafts_of(alloc, devices, statements)?;
     let mut images = List::new(alloc);
-    for place in 0..devices.len() {
-        let image = compile_lines(
-            alloc,
-            &mut places,
-            catalogue,
-            &groups[place],
-            devices[place],
-        )?;
-        images.push(image)?;
+    for draft in &drafts {
+        images.push(compile_draft(alloc, catalogue, draft)?)?;
     }
     Ok(images)
 }

@@ -14,14 +14,13 @@
 
 mod compiler;
 mod devices;
+mod drafts;
 mod images;
 mod laws;
-mod lines;
 mod links;
 mod models;
 mod objects;
 mod parameters;
-mod places;
 mod tables;
 
 pub use compiler::{compile, compile_all};

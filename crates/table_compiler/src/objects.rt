@@ -1,12 +1,13 @@
 //! The objects of a device, by number: those of its model and of its `object` lines, with the flags of their last `flags` lines.
 
-ghost use Rattle.std.specs.Prelude.{◌≡◌, ◌<◌, ◌≤◌, ℕ, List, length, map, None, slice_index_or, IfOk};
-ghost use Rattle.std.specs.Option.{option_or};
+ghost use Rattle.std.specs.Prelude.{◌≡◌, ◌<◌, ◌≤◌, ◌++◌, ℕ, List, length, map, slice_index_or, IfOk};
+ghost use Rattle.knx_model.specs.declared.address.IndAddr.{IndAddr};
 ghost use Rattle.knx_model.specs.declared.project.Statement.{Statement as Stated};
-ghost use Rattle.knx_model.specs.Meaning.{model_object, object_line, declared_objects, flags_line, flagged, flagged_objects, object_of, objects_of, greatest};
-ghost use Rattle.table_compiler.specs.Lines.{HoldsFlags};
+ghost use Rattle.knx_model.specs.Meaning.{model_object, flagged, flagged_objects, object_of, objects_of, greatest};
+ghost use Rattle.table_compiler.specs.Drafts.{HoldsFlags, IsDraft};
 
-use knx_model::{IndAddr, Model, ModelObject, ObjSpec, Statement, What};
+use crate::drafts::Draft;
+use knx_model::{Model, ModelObject, ObjSpec};
 use std::alloc::{AllocError, Global};
 
 /// What a number without object has.
@@ -23,76 +24,21 @@ fn model_object(object: ModelObject) -> (u8, ObjSpec)
     (object.n, spec)
 }
 
-/// The number, flags and size of an `object` line of the device.
-fn object_line(device: IndAddr, what: &What<'_>) -> Option<(u8, ObjSpec)>
-    ensures { result ≡ object_line device what.now }
-{
-    match what {
-        What::Object {
-            device: of,
-            n,
-            size,
-            flags,
-        } if of.raw == device.raw => {
-            let spec = ObjSpec {
-                flags: *flags,
-                size: *size,
-            };
-            Some((*n, spec))
-        }
-        _ => None,
-    }
-}
-
-/// The objects of the model and of the `object` lines of the device.
+/// The objects of the model, and those of the device's `object` lines.
 fn declared_objects(
     alloc: Global,
     model: &Model,
-    lines: &[Statement<'_>],
-    device: IndAddr,
+    lines: &[(u8, ObjSpec)],
 ) -> Result<Vec<(u8, ObjSpec)>, AllocError>
-    ensures { IfOk result (λ objects. objects.items ≡ declared_objects model.now device lines.now) }
+    ensures { IfOk result (λ objects. objects.items ≡ map model_object model.now.objects ++ lines.now) }
 {
     model
         .objects
         .as_slice()
         .iter()
         .map(|object| model_object(*object))
-        .chain(
-            lines
-                .iter()
-                .filter_map(|statement| object_line(device, &statement.what)),
-        )
+        .chain(lines.iter().copied())
         .collect(alloc)
-}
-
-/// Keeps the flags of a `flags` line of the device.
-fn keep_flags(last: &mut [Option<u8>; 256], device: IndAddr, what: &What<'_>)
-    ensures whole { length last.new ≡ 256 }
-    ensures each { (n : ℕ) → n < 256 → slice_index_or last.new n None ≡ option_or (flags_line device n what.now) (slice_index_or last.old n None) }
-{
-    if let What::Flags {
-        device: of,
-        object,
-        flags,
-    } = what
-    {
-        if of.raw == device.raw {
-            last[usize::from(*object)] = Some(*flags);
-        }
-    }
-}
-
-/// The flags of the last `flags` line of each object of the device.
-fn last_flags(lines: &[Statement<'_>], device: IndAddr) -> [Option<u8>; 256]
-    ensures whole { length result ≡ 256 }
-    ensures each { HoldsFlags result device lines.now }
-{
-    let mut last = [None; 256];
-    for statement in lines {
-        keep_flags(&mut last, device, &statement.what);
-    }
-    last
 }
 
 /// An object with the flags that are kept for it, where there are some.
@@ -112,15 +58,14 @@ fn flagged(last: &[Option<u8>; 256], object: (u8, ObjSpec)) -> (u8, ObjSpec)
 fn flagged_objects(
     alloc: Global,
     model: &Model,
-    lines: &[Statement<'_>],
-    device: IndAddr,
+    draft: &Draft<'_>,
 ) -> Result<Vec<(u8, ObjSpec)>, AllocError>
-    ensures { IfOk result (λ objects. objects.items ≡ flagged_objects model.now device lines.now) }
+    ensures { IfOk result (λ objects. (device : IndAddr) (ss : List Stated) → IsDraft device draft.now ss → objects.items ≡ flagged_objects model.now device ss) }
 {
-    let last = last_flags(lines, device);
-    declared_objects(alloc, model, lines, device)?
+    let last = &draft.flags;
+    declared_objects(alloc, model, draft.objects.as_slice())?
         .iter()
-        .map(|object| flagged(&last, *object))
+        .map(|object| flagged(last, *object))
         .collect(alloc)
 }
 
@@ -148,13 +93,12 @@ fn table_of(objects: &[(u8, ObjSpec)]) -> [ObjSpec; 256]
 pub fn objects_of(
     alloc: Global,
     model: &Model,
-    lines: &[Statement<'_>],
-    device: IndAddr,
+    draft: &Draft<'_>,
 ) -> Result<Vec<ObjSpec>, AllocError>
-    ensures objects { IfOk result (λ objects. objects.items ≡ objects_of (flagged_objects model.now device lines.now)) }
+    ensures objects { IfOk result (λ objects. (device : IndAddr) (ss : List Stated) → IsDraft device draft.now ss → objects.items ≡ objects_of (flagged_objects model.now device ss)) }
     ensures few { IfOk result (λ objects. length objects.items ≤ 255) }
 {
-    let objects = flagged_objects(alloc, model, lines, device)?;
+    let objects = flagged_objects(alloc, model, draft)?;
     let table = table_of(&objects);
     let most = usize::from(greatest(&objects));
     Vec::from_slice(alloc, &table[1..most + 1])

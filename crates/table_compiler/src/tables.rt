@@ -8,17 +8,9 @@ ghost use Rattle.knx_model.specs.Device.{Fits};
 ghost use Rattle.knx_model.specs.Parameters.{HoldsParameters};
 ghost use Rattle.knx_model.specs.Tables.{raw_of, two, address_list, association_list, object_list, StandsFor};
 ghost use Rattle.table_compiler.specs.Order.{IsLink, AreApart, StandsBefore, place, pair_of};
-ghost use Rattle.table_compiler.specs.Places.{ArePlaces};
 
-use crate::places::Places;
 use knx_model::{GroupAddr, Image, LinkSpec, NoMemory, ObjSpec, Octets};
 use std::alloc::{AllocError, Global};
-
-fn raw_groups(alloc: Global, links: &[LinkSpec]) -> Result<Vec<u16>, AllocError>
-    ensures { IfOk result (λ groups. groups.items ≡ map raw_of links.now) }
-{
-    links.iter().map(|link| link.group.raw).collect(alloc)
-}
 
 /// The groups of the links, each once, ascending.
 fn groups_of(alloc: Global, links: &[LinkSpec]) -> Result<Vec<u16>, AllocError>
@@ -26,7 +18,7 @@ fn groups_of(alloc: Global, links: &[LinkSpec]) -> Result<Vec<u16>, AllocError>
     ensures exactly { IfOk result (λ groups. (g : ℕ) → Contains groups.items g ↔ Contains (map raw_of links.now) g) }
     ensures few { IfOk result (λ groups. length groups.items ≤ length links.now) }
 {
-    let mut groups = raw_groups(alloc, links)?;
+    let mut groups: Vec<u16> = links.iter().map(|link| link.group.raw).collect(alloc)?;
     groups.sort_unstable();
     groups.dedup();
     Ok(groups)
@@ -65,14 +57,14 @@ fn in_order(alloc: Global, links: &[LinkSpec]) -> Result<Vec<LinkSpec>, AllocErr
 }
 
 /// The place of a group, from 1.
-fn place_of(places: &Places, groups: &[u16], raw: u16) -> u16
-    requires places { ArePlaces places.now groups.now }
+fn place_of(groups: &[u16], raw: u16) -> u16
     requires ascending { IsStrictlyIncreasing groups.now }
     requires listed { Contains groups.now raw }
     requires few { length groups.now < 65536 }
     ensures { result ≡ place groups.now raw }
 {
-    places.place(raw) + 1
+    let before = groups.partition_point(|group| *group < raw);
+    before as u16 + 1
 }
 
 /// A count, and the groups.
@@ -97,13 +89,7 @@ fn pair(place: u16, object: u8) -> [u8; 4]
 }
 
 /// A count, and a pair for each link.
-fn association_table(
-    alloc: Global,
-    places: &Places,
-    groups: &[u16],
-    order: &[LinkSpec],
-) -> Result<Octets, NoMemory>
-    requires places { ArePlaces places.now groups.now }
+fn association_table(alloc: Global, groups: &[u16], order: &[LinkSpec]) -> Result<Octets, NoMemory>
     requires ascending { IsStrictlyIncreasing groups.now }
     requires listed { All (λ l. Contains groups.now (raw_of l)) order.now }
     requires few { length groups.now < 65536 }
@@ -113,7 +99,7 @@ fn association_table(
     let mut out = Vec::with_capacity(alloc, 2 + 4 * order.len())?;
     out.extend_from_slice(&(order.len() as u16).to_be_bytes())?;
     for link in order {
-        let place = place_of(places, groups, link.group.raw);
+        let place = place_of(groups, link.group.raw);
         out.extend_from_slice(&pair(place, link.object))?;
     }
     Ok(Octets::from_vec(out))
@@ -135,7 +121,6 @@ fn group_objects(alloc: Global, objects: &[ObjSpec]) -> Result<Octets, NoMemory>
 /// The tables of links and objects, beside a parameter memory.
 pub fn image_of(
     alloc: Global,
-    places: &mut Places,
     links: &[LinkSpec],
     objects: &[ObjSpec],
     params: Octets,
@@ -152,9 +137,8 @@ pub fn image_of(
     let groups = groups_of(alloc, links)?;
     let order = in_order(alloc, links)?;
     let groups = groups.as_slice();
-    places.list(groups);
     let addr = address_table(alloc, groups)?;
-    let assoc = association_table(alloc, places, groups, order.as_slice())?;
+    let assoc = association_table(alloc, groups, order.as_slice())?;
     let objs = group_objects(alloc, objects)?;
     Ok(Image {
         addr,
