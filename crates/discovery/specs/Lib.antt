@@ -1,0 +1,4 @@
+pub mod Services
+pub mod Discovery
+pub mod Sorts
+pub mod Walks
