@@ -1,11 +1,11 @@
 -- `decode`, and what is written of it.
 use Rattle.knx_top.specs.declared.ending.End.{End}
-use Rattle.knx_top.specs.Ending.{Is, wanting, TellsOf}
+use Rattle.knx_top.specs.Ending.{Is, wanting, TellsOf, report_in}
 use Rattle.frame_text.specs.FrameText.{IsFrameText, hex_word}
 use Rattle.call_words.specs.declared.stop.Stop.{Stop}
-use Rattle.std.proofs.Common.{inl, inr, sym, ◌⊎◌, Err, List, Ok, Result, ℕ, subst}
+use Rattle.std.proofs.Common.{◌≡◌, inl, inr, sym, ◌⊎◌, Err, List, None, Ok, Result, ℕ, subst}
 use Rattle.knx_top.proofs.Ends.{stop_wants}
-use Rattle.knx_top.proofs.commands.Projects.{text_wants}
+use Rattle.knx_top.proofs.commands.Projects.{text_wants, text_no_run, stop_no_run}
 use Rattle.knx_top.specs.commands.Decode.{TellsOfFrame, octets_or_usage}
 
 word_wants : (found : Result (List ℕ) Stop) (end : End) → TellsOf IsFrameText found end → TellsOf IsFrameText found (wanting end)
@@ -19,3 +19,11 @@ frame_written word end Replied t (inr replied) = record {
   tells = word_wants (octets_or_usage (hex_word word)) t.end t.tells;
   replied = subst (λ (told : End). Replied (wanting told)) (sym t.replied) replied;
 }
+
+word_no_run : (found : Result (List ℕ) Stop) (end : End) → TellsOf IsFrameText found end → report_in end ≡ None
+word_no_run (Err why) end h = stop_no_run why end h
+word_no_run (Ok octets) end h = text_no_run (IsFrameText octets) end h
+
+-- it is of no run
+pub frame_no_run : (word : List ℕ) (end : End) → TellsOfFrame word (Is end) → report_in end ≡ None
+frame_no_run word end t = subst (λ (told : End). report_in told ≡ None) t.replied (word_no_run (octets_or_usage (hex_word word)) t.end t.tells)

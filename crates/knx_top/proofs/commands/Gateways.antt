@@ -8,7 +8,7 @@ use Rattle.knx_model.specs.Outside.{FileContent, FilesNow}
 use Rattle.knx_top.specs.Input.{OnlyRose, fault_in, first_some, goes_on, octets_of, failed}
 use Rattle.knx_top.specs.declared.commands.gateway.GatewayTexts.{GatewayTexts}
 use Rattle.knx_model.specs.Meaning.{Installation}
-use Rattle.knx_top.specs.Ending.{Is, report_in, wanting, untold}
+use Rattle.knx_top.specs.Ending.{Is, StopsFor, report_in, wanting, untold}
 use Rattle.knx_model.specs.declared.catalogue.model.NamedModel.{NamedModel}
 use Rattle.line_model.specs.PortStory.{PortStory}
 use Rattle.knx_model.specs.declared.script.ScriptLine.{ScriptLine}
@@ -116,7 +116,7 @@ runs_gateway words files files' before after line line' texts end is counts come
       is_read = is;
       counts = counts;
       end = end;
-      stops = stops_by ((after ≡ before) × (line' ≡ line)) (λ (s : Service). Serves s before after line line') (gateway_tests words texts) (gateway_told words texts) (judged_gateway words texts) end (judged_gateway_is words texts) comes;
+      stops = λ why first. (let h : StopsFor why end × ((after ≡ before) × (line' ≡ line)) = stops_by ((after ≡ before) × (line' ≡ line)) (λ (s : Service). Serves s before after line line') (gateway_tests words texts) (gateway_told words texts) (judged_gateway words texts) end (judged_gateway_is words texts) comes why first in (h.0, h.1.0, h.1.1));
       serves = does_by ((after ≡ before) × (line' ≡ line)) (λ (s : Service). Serves s before after line line') (gateway_tests words texts) (gateway_told words texts) (judged_gateway words texts) end (judged_gateway_is words texts) comes;
       replied = refl;
     }

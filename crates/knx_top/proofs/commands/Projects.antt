@@ -3,7 +3,7 @@ use Rattle.std.proofs.Common.{refl, List, None, Ok, Option, Result, Some, ℕ, �
 use Rattle.knx_top.specs.declared.ending.End.{End}
 use Rattle.knx_model.specs.Outside.{FileContent, FilesNow}
 use Rattle.knx_model.specs.Meaning.{Installation}
-use Rattle.knx_top.specs.Ending.{Is, TellsOf, TellsText, wanting}
+use Rattle.knx_top.specs.Ending.{Is, StopsFor, TellsOf, TellsText, report_in, wanting}
 use Rattle.knx_model.specs.declared.catalogue.model.NamedModel.{NamedModel}
 use Rattle.knx_top.specs.Input.{OnlyRose, fault_in, first_some, goes_on, octets_of, failed}
 use Rattle.knx_top.specs.declared.project.ProjectTexts.{ProjectTexts}
@@ -92,3 +92,27 @@ project_written IsText words files files' end Replied t (inr replied) = record {
   tells = λ e. text_wants (IsText (project_told t.texts)) t.end (t.tells e);
   replied = subst (λ (told : End). Replied (wanting told)) (sym t.replied) replied;
 }
+
+-- ---- it is of no run
+
+pub stop_no_run : (why : Stop) (end : End) → StopsFor why end → report_in end ≡ None
+stop_no_run why (ends.Stops told) h = refl
+stop_no_run why (ends.Tells text) h = absurd h
+stop_no_run why ends.NotOpened h = absurd h
+stop_no_run why (ends.BreaksOff report want) h = absurd h
+stop_no_run why (ends.Reports told) h = absurd h
+stop_no_run why (ends.Serves served) h = absurd h
+
+pub text_no_run : (IsText : List ℕ → Type 0) (end : End) → TellsText IsText end → report_in end ≡ None
+text_no_run IsText (ends.Stops told) h = refl
+text_no_run IsText (ends.Tells text) h = refl
+text_no_run IsText ends.NotOpened h = absurd h
+text_no_run IsText (ends.BreaksOff report want) h = absurd h
+text_no_run IsText (ends.Reports told) h = absurd h
+text_no_run IsText (ends.Serves served) h = absurd h
+
+pub project_no_run : (IsText : Installation → List ℕ → Type 0) (words : ProjectWords) (files files' : FilesNow) (end : End) → TellsOfProject IsText words files files' (Is end) → report_in end ≡ None
+project_no_run IsText words files files' end t = subst (λ (told : End). report_in told ≡ None) t.replied (by_tests (first_some (project_tests words t.texts)) refl) where
+  by_tests : (o : Option Stop) → first_some (project_tests words t.texts) ≡ o → report_in t.end ≡ None
+  by_tests None e = text_no_run (IsText (project_told t.texts)) t.end (t.tells e)
+  by_tests (Some why) e = stop_no_run why t.end (t.stops why e)

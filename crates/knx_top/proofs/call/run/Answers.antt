@@ -1,17 +1,21 @@
 use Rattle.std.proofs.Common.{◌≡◌, true, false, refl}
+use Rattle.knx_top.specs.commands.Check.{IsCountsText}
+use Rattle.knx_top.specs.commands.Tables.{IsTablesText}
+use Rattle.knx_top.proofs.commands.Decodes.{frame_no_run}
+use Rattle.knx_top.proofs.commands.Projects.{project_no_run}
 use Rattle.knx_top.proofs.call.run.Goals as goal
 
 pub returns-in-Check-clause-does : goal.returns-in-Check-clause-does
-returns-in-Check-clause-does g c = rw c.in-Check.is (c.call.ensures.told, record { line = refl; report = refl })
+returns-in-Check-clause-does g c = rw c.in-Check.is (c.call.ensures.told, record { line = refl; report = project_no_run IsCountsText _ _ _ c.call.result c.call.ensures.told })
 
 pub returns-in-Tables-clause-does : goal.returns-in-Tables-clause-does
-returns-in-Tables-clause-does g c = rw c.in-Tables.is (c.call-in-Tables.ensures.told, record { line = refl; report = refl })
+returns-in-Tables-clause-does g c = rw c.in-Tables.is (c.call-in-Tables.ensures.told, record { line = refl; report = project_no_run IsTablesText _ _ _ c.call-in-Tables.result c.call-in-Tables.ensures.told })
 
 pub returns-in-Sim-clause-does : goal.returns-in-Sim-clause-does
 returns-in-Sim-clause-does g c = rw c.in-Sim.is (c.call-in-Sim.ensures.told, c.call-in-Sim.ensures.link)
 
 pub returns-in-Decode-clause-does : goal.returns-in-Decode-clause-does
-returns-in-Decode-clause-does g c = rw c.in-Decode.is (c.call-in-Decode.ensures, (λ _. refl), record { line = refl; report = refl })
+returns-in-Decode-clause-does g c = rw c.in-Decode.is (c.call-in-Decode.ensures, (λ _. refl), record { line = refl; report = frame_no_run _ c.call-in-Decode.result c.call-in-Decode.ensures })
 
 pub returns-in-Download-clause-does : goal.returns-in-Download-clause-does
 returns-in-Download-clause-does g c = rw c.in-Download.is (c.call-in-Download.ensures.told, refl)
