@@ -1,6 +1,6 @@
 //! The log as it is written.
 
-ghost use Rattle.std.specs.Prelude.{◌≡◌, ◌+◌, ◌≤◌, [], ◌∷◌, length, reverse, IfOk};
+ghost use Rattle.std.specs.Prelude.{◌≡◌, ◌+◌, ◌<◌, ◌≤◌, [], ◌∷◌, length, reverse, IfOk};
 
 use knx_model::{List, NoMemory};
 use line_model::{LogEntry, LogWhat};
@@ -43,7 +43,8 @@ impl Journal {
 
     /// How many entries there are.
     pub fn len(&self) -> usize
-        ensures { result ≡ length self.now.entries }
+        ensures count { result ≡ length self.now.entries }
+        ensures small { result < 18446744073709551615 }
     {
         self.entries.len()
     }

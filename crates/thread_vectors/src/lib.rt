@@ -1,8 +1,10 @@
-//! The turn cell and the telegram router between threads, as tests: what their contracts can't say is that the calls get on. They stand in one crate, so that
-//! neither library is proved twice.
+//! The turn cell, the telegram router and the hub between threads, as tests: what their contracts can't say is that the calls get on. They stand in one crate, so that
+//! no library is proved twice.
 #![tactic(auto)]
 
 #[cfg(test)]
 mod cells;
 #[cfg(test)]
 mod routers;
+#[cfg(test)]
+mod runs;

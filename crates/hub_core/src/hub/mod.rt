@@ -23,7 +23,7 @@ use device_reservation::one_downloader_per_device;
 use hub_work::{HubJob, Work};
 use knx_model::{List, NoMemory};
 use line_law::every_safe_interleaving;
-use line_model::{GroupTurn, Link};
+use line_model::{GroupTurn, HubFault, Link};
 use std::alloc::Global;
 use std::marker::Model;
 use tunnel_link::Tunnel;
@@ -98,6 +98,13 @@ impl<L: Link> Hub<L> {
         }
     }
 
+    /// Why nothing more is done.
+    pub fn fault(&self) -> Option<HubFault>
+        ensures { result ≡ self.now.fault }
+    {
+        self.tunnel.fault()
+    }
+
     /// One indication more was missed.
     pub fn missed(&mut self)
         ensures link { self.new.link ≡ self.old.link }
@@ -115,7 +122,9 @@ impl<L: Link> Hub<L> {
 
     /// How many entries the log has.
     pub fn entries(&self) -> u64
-        ensures { result ≡ length self.now.log }
+        ensures count { result ≡ length self.now.log }
+        // so that one more can be counted
+        ensures small { result < 18446744073709551615 }
     {
         self.work.entries()
     }

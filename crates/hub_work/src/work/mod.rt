@@ -112,7 +112,8 @@ impl Work {
 
     /// How many entries the log has.
     pub fn entries(&self) -> u64
-        ensures { result ≡ length self.now.journal.entries }
+        ensures count { result ≡ length self.now.journal.entries }
+        ensures small { result < 18446744073709551615 }
     {
         self.journal.len() as u64
     }

@@ -1,0 +1,87 @@
+-- A site's list by its log and its fault.
+use Rattle.std.proofs.Common.{◌≡◌, true, false, List, [], ◌∷◌, ◌++◌, map, reverse, Option, Some, None, refl, sym, ap, subst, ◌∙◌}
+use Rattle.std.specs.Prelude.{is_some}
+use Rattle.std.proofs.lemmas.List.{append-nil, reverse-reverse, reverse-append}
+use mathlib.Core.List.{IsPrefix}
+use Rattle.line_model.specs.declared.fault.HubFault.{HubFault}
+use Rattle.line_model.specs.declared.log.LogEntry.{LogEntry}
+use Rattle.hub_core.specs.Seen.{Seen}
+use Rattle.shared_hub.specs.declared.item.Item.{Item}
+use Rattle.shared_hub.specs.declared.item.Item.TheVariants.{Origin, Told, Ended}
+use Rattle.shared_hub.specs.Items.{opening_in, entries_in, log_in, has_ended}
+use Rattle.shared_hub.specs.Sites.{SiteSeen, fault_of, ended, items_of}
+
+no_entries : (L : Type 0) (f : Option HubFault) → entries_in {L = L} (ended f) ≡ []
+no_entries L None = refl
+no_entries L (Some why) = refl
+
+ends_by : (L : Type 0) (f : Option HubFault) → has_ended {L = L} (ended f) ≡ is_some f
+ends_by L None = refl
+ends_by L (Some why) = refl
+
+module _ {L : Type 0} where
+  pub entries-append : (xs ys : List (Item L)) → entries_in (xs ++ ys) ≡ entries_in xs ++ entries_in ys
+  entries-append [] ys = refl
+  entries-append (Origin hub ∷ xs) ys = entries-append xs ys
+  entries-append (Told e ∷ xs) ys = ap (λ (l : List LogEntry). e ∷ l) (entries-append xs ys)
+  entries-append (Ended why ∷ xs) ys = entries-append xs ys
+
+  told_entries : (es : List LogEntry) (rest : List (Item L)) → entries_in (map Told es ++ rest) ≡ es ++ entries_in rest
+  told_entries [] rest = refl
+  told_entries (e ∷ es) rest = ap (λ (l : List LogEntry). e ∷ l) (told_entries es rest)
+
+  pub log_is : (s : SiteSeen L) → log_in (items_of s) ≡ s.hub.log
+  log_is s =
+      let all : entries_in (map Told (reverse s.hub.log) ++ ended {L = L} (fault_of s)) ≡ reverse s.hub.log = told_entries (reverse s.hub.log) (ended (fault_of s)) ∙ (ap (λ (l : List LogEntry). reverse s.hub.log ++ l) (no_entries L (fault_of s)) ∙ append-nil (reverse s.hub.log)) in
+      ap reverse all ∙ reverse-reverse s.hub.log
+
+  told_ends : (es : List LogEntry) (rest : List (Item L)) → has_ended (map Told es ++ rest) ≡ has_ended rest
+  told_ends [] rest = refl
+  told_ends (e ∷ es) rest = told_ends es rest
+
+  pub ended_is : (s : SiteSeen L) → has_ended (items_of s) ≡ is_some (fault_of s)
+  ended_is s = told_ends (reverse s.hub.log) (ended (fault_of s)) ∙ ends_by L (fault_of s)
+
+  -- ---- one item more, or none
+
+  module _ (old new : SiteSeen L) (opening : new.opening ≡ old.opening) where
+    pub items_same : new.hub.log ≡ old.hub.log → fault_of new ≡ fault_of old → items_of new ≡ items_of old
+    items_same log fault = rw (opening, log, fault) refl
+
+    map_more : (es : List LogEntry) (e : LogEntry) → map {B = Item L} Told (es ++ e ∷ []) ≡ map Told es ++ Told e ∷ []
+    map_more [] e = refl
+    map_more (x ∷ es) e = ap (λ (l : List (Item L)). Told x ∷ l) (map_more es e)
+
+    pub items_told : (e : LogEntry) → new.hub.log ≡ e ∷ old.hub.log → fault_of old ≡ None → fault_of new ≡ None → items_of new ≡ items_of old ++ Told e ∷ []
+    items_told e log was is =
+        let told : map {B = Item L} Told (reverse new.hub.log) ≡ map Told (reverse old.hub.log) ++ Told e ∷ [] = ap (λ (l : List LogEntry). map Told (reverse l)) log ∙ (ap (map Told) (reverse-append (e ∷ []) old.hub.log) ∙ map_more (reverse old.hub.log) e) in
+        let rest : map {B = Item L} Told (reverse new.hub.log) ++ ended (fault_of new) ≡ (map Told (reverse old.hub.log) ++ ended (fault_of old)) ++ Told e ∷ [] = rw (is, was) (append-nil (map Told (reverse new.hub.log)) ∙ (told ∙ ap (λ (l : List (Item L)). l ++ Told e ∷ []) (sym (append-nil (map Told (reverse old.hub.log)))))) in
+        rw opening (ap (λ (l : List (Item L)). Origin old.opening ∷ l) rest)
+
+    pub items_ended : (why : HubFault) → new.hub.log ≡ old.hub.log → fault_of old ≡ None → fault_of new ≡ Some why → items_of new ≡ items_of old ++ Ended why ∷ []
+    items_ended why log was is =
+        let rest : map {B = Item L} Told (reverse new.hub.log) ++ ended (fault_of new) ≡ (map Told (reverse old.hub.log) ++ ended (fault_of old)) ++ Ended why ∷ [] = rw (is, was, log) (ap (λ (l : List (Item L)). l ++ Ended why ∷ []) (sym (append-nil (map Told (reverse old.hub.log))))) in
+        rw opening (ap (λ (l : List (Item L)). Origin old.opening ∷ l) rest)
+
+  -- ---- what is so of a list is so of one that begins with it
+
+  ended_more : (xs ys : List (Item L)) → has_ended xs ≡ true → has_ended (xs ++ ys) ≡ true
+  ended_more [] ys h = absurd (let z : false ≡ true = h in cc)
+  ended_more (Origin hub ∷ xs) ys h = ended_more xs ys h
+  ended_more (Told e ∷ xs) ys h = ended_more xs ys h
+  ended_more (Ended why ∷ xs) ys h = refl
+
+  pub ended_after : (xs ys : List (Item L)) → IsPrefix xs ys → has_ended xs ≡ true → has_ended ys ≡ true
+  ended_after xs ys p h = subst (λ (l : List (Item L)). has_ended l ≡ true) p.1 (ended_more xs p.0 h)
+
+  opens_more : (xs ys : List (Item L)) (hub : Seen L) → opening_in xs ≡ Some hub → opening_in (xs ++ ys) ≡ Some hub
+  opens_more [] ys hub e = absurd (let z : None ≡ Some hub = e in cc)
+  opens_more (Origin h ∷ xs) ys hub e = e
+  opens_more (Told t ∷ xs) ys hub e = absurd (let z : None ≡ Some hub = e in cc)
+  opens_more (Ended why ∷ xs) ys hub e = absurd (let z : None ≡ Some hub = e in cc)
+
+  pub opens_after : (xs ys : List (Item L)) (hub : Seen L) → IsPrefix xs ys → opening_in xs ≡ Some hub → opening_in ys ≡ Some hub
+  opens_after xs ys hub p e = subst (λ (l : List (Item L)). opening_in l ≡ Some hub) p.1 (opens_more xs p.0 hub e)
+
+  pub log_after : (xs ys : List (Item L)) → IsPrefix xs ys → (more : List LogEntry) × (log_in ys ≡ more ++ log_in xs)
+  log_after xs ys p = (reverse (entries_in p.0), ap log_in (sym p.1) ∙ (ap reverse (entries-append xs p.0) ∙ reverse-append (entries_in xs) (entries_in p.0)))

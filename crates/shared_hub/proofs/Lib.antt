@@ -1,0 +1,14 @@
+pub mod Causes
+pub mod Closed
+pub mod Hearing
+pub mod Leaving
+pub mod New
+pub mod Seats
+pub mod Telling
+pub mod Told
+pub mod Items
+pub mod Through
+pub mod Works
+pub mod Sites
+pub mod Running
+pub mod Sends

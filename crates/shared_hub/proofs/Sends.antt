@@ -1,0 +1,70 @@
+-- A site may go to another thread, and so may a seat at its cell, a `&` to the cell, and a closure that has these.
+use mathlib.Core.List.{List, [], ◌∷◌}
+use Prim.Native.Nat.{ℕ}
+use mir.Syntax.{Lifetime, Sym, Ty, w8}
+use base.Fml.{Lft}
+use denote.Exit.{Kept, no}
+use denote.Plain.{UInt}
+use denote.Ref.{ShrRef}
+use denote.RattleType.{RattleType}
+use denote.Param.{param, arg}
+use denote.Param.Send.{AllSend, IsSend, IsSync, sendable, arg_send, param_send, recorded_send, shr_send, struct_send}
+use denote.Param.SendFields.{FieldsHave, as_row_send, declared_send}
+use denote.Struct.Field.{row_field}
+use denote.Struct.Tuple.{TupleAt, parts, type_at}
+use denote.Struct.Declared.{shape}
+use Rattle.std.proofs.Crossing.{crosses}
+use Rattle.line_model.specs.declared.outside.link.Link.{Ghosts}
+use Rattle.line_model.proofs.group.Indication.TheSendSync as indication
+use Rattle.knx_model.proofs.lists.List.TheSendSync as list
+use Rattle.knx_model.proofs.no_memory.NoMemory.TheSendSync as no_memory
+use Rattle.hub_core.proofs.hub.Hub.TheSendSync as hub
+use Rattle.turn_cell.proofs.seat.Seat.TheSendSync as seat
+use Rattle.turn_cell.proofs.turn.Turn.TheSendSync as turn
+use Rattle.turn_cell.specs.contracts.seat.Seat as Seat
+use Rattle.turn_cell.specs.contracts.turn.Turn as Turn
+use Rattle.shared_hub.specs.contracts.item.Item as Item
+use Rattle.shared_hub.specs.contracts.site.Site.{the_row}
+use Rattle.shared_hub.specs.contracts.site.SiteLogged.TheImpl as logged
+use Rattle.shared_hub.specs.contracts.site.Site.TheInside as inside
+
+pub fields_send : (T : RattleType) (g : Ghosts T.Denot) → IsSend T → IsSend (inside.the_row T g)
+fields_send T g s = recorded_send (inside.the_field T g).row _ _ (inside.the_type T g).to_one (struct_send (shape (inside.the_type T g)) (hub.the_send T g s, (search (sendable, crosses), (search (sendable, crosses, list.the_send, indication.the_send), (search (sendable, crosses, no_memory.the_send), tt)))))
+
+pub site_send : (T : RattleType) (g : Ghosts T.Denot) → IsSend T → IsSend (the_row T g)
+site_send T g s = search (sendable, fields_send T g s)
+
+-- its cell, and a seat at the cell
+abbrev pub cell_row : (T : RattleType) → Ghosts T.Denot → RattleType
+cell_row T g = Turn.the_row (the_row T g) (Item.the_row T g) (logged.ghosts T g logged.no_dict logged.no_dict)
+
+abbrev pub seat_row : (T : RattleType) → Ghosts T.Denot → RattleType
+seat_row T g = Seat.the_row (the_row T g) (Item.the_row T g) (logged.ghosts T g logged.no_dict logged.no_dict)
+
+pub cell_sync : (T : RattleType) (g : Ghosts T.Denot) → IsSend T → IsSync (cell_row T g)
+cell_sync T g s = turn.the_sync (the_row T g) (Item.the_row T g) (logged.ghosts T g logged.no_dict logged.no_dict) (site_send T g s)
+
+pub seat_send : (T : RattleType) (g : Ghosts T.Denot) → IsSend T → IsSend (seat_row T g)
+seat_send T g s = seat.the_send (the_row T g) (Item.the_row T g) (logged.ghosts T g logged.no_dict logged.no_dict) (site_send T g s)
+
+each_send : (Ts : List RattleType) → AllSend Ts → FieldsHave IsSend (parts Ts)
+each_send [] s = tt
+each_send (T ∷ Ts) s = (as_row_send (row_field T) s.0, each_send Ts s.1)
+
+-- a closure goes where all that it captures goes
+closure_send : (i : ℕ) (layout : Ty) (kept : Kept) (name : Sym) (Ts : List RattleType) → AllSend Ts → IsSend (param i (arg layout kept (TupleAt name Ts)))
+closure_send i layout kept name Ts s = param_send i _ (arg_send layout kept _ (declared_send (type_at name Ts) (each_send Ts s)))
+
+octet_send : IsSend (UInt w8)
+octet_send = search sendable
+
+-- so the workers' goes, which has the runtime, the cell, a seat, a count and the gate
+pub workers_send : (R T G : RattleType) (g : Ghosts T.Denot) → IsSync R → IsSend T → IsSync G → (layout : Ty) (name : Sym) (ℓ ℓ' ℓ'' : Lifetime) (κ κ' κ'' : Lft)
+    → IsSend (param 1 (arg layout no (TupleAt name (ShrRef ℓ κ R ∷ ShrRef ℓ' κ' (cell_row T g) ∷ seat_row T g ∷ UInt w8 ∷ ShrRef ℓ'' κ'' G ∷ []))))
+workers_send R T G g r t e layout name ℓ ℓ' ℓ'' κ κ' κ'' =
+    closure_send 1 layout no name (ShrRef ℓ κ R ∷ ShrRef ℓ' κ' (cell_row T g) ∷ seat_row T g ∷ UInt w8 ∷ ShrRef ℓ'' κ'' G ∷ [])
+    (shr_send ℓ κ R r, (shr_send ℓ' κ' (cell_row T g) (cell_sync T g t), (seat_send T g t, (octet_send, (shr_send ℓ'' κ'' G e, tt)))))
+
+-- and the seat that it comes to
+pub back_send : (T : RattleType) (g : Ghosts T.Denot) → IsSend T → (layout : Ty) → IsSend (param 3 (arg layout no (seat_row T g)))
+back_send T g s layout = param_send 3 _ (arg_send layout no _ (seat_send T g s))

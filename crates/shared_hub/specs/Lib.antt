@@ -1,0 +1,7 @@
+pub mod Items
+pub mod Sites
+pub mod Steps
+pub mod Works
+pub mod Ends
+pub mod Leaving
+pub mod Runs

@@ -1,0 +1,15 @@
+//! Up to eight downloaders and the group thread at one hub, each in a thread of its own. The hub travels among them in a turn cell: who has the turn makes
+//! one call of it and gives it back.
+#![tactic(auto)]
+
+mod crew;
+mod ending;
+mod item;
+mod run;
+mod seated;
+mod site;
+
+pub use item::Item;
+pub use run::commission;
+pub use seated::{send_groups, work};
+pub use site::{Call, Site, Step};

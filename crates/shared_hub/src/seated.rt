@@ -1,0 +1,102 @@
+//! A downloader, and the group thread: each takes turns at the cell, and makes one call of the hub a turn.
+
+ghost use Rattle.std.specs.Prelude.{◌≡◌, ◌≤◌, false};
+ghost use Rattle.shared_hub.specs.Items.{HasFinished, HasTold};
+ghost use Rattle.shared_hub.specs.Works.{ComesTo, Got, IsDone, Leads, Stays};
+
+use crate::site::{Call, Site, Step};
+use line_model::{Gate, Link};
+use std::sync::Wait;
+use turn_cell::{Seat, Turn};
+
+/// One turn of a worker.
+fn turn<R: Wait, L: Link>(
+    rt: &R,
+    cell: &Turn<Site<L>>,
+    seat: &mut Seat<Site<L>>,
+    worker: u8,
+    call: Call,
+) -> Step
+    requires of { seat.old.cell ≡ cell.now.id }
+    requires free { seat.old.turn ≡ false }
+    requires from_1 { 1 ≤ worker }
+    requires leads { Leads worker seat.old.seen }
+    ensures seat { Stays seat.old seat.new }
+    ensures got { Got worker seat.old seat.new }
+    ensures comes { ComesTo (HasFinished worker) result seat.new.seen }
+{
+    let mut site = cell.take(rt, seat);
+    let came = site.step(worker, call);
+    cell.give(seat, site);
+    came
+}
+
+/// Goes through jobs as the worker of this number, from 1, turn by turn, until each job is taken and none is his any longer, or the run has ended. The gate is
+/// passed between taking a job and starting it. A worker who has to wait polls in his next turn.
+pub fn work<R: Wait, L: Link, G: Gate>(
+    rt: &R,
+    cell: &Turn<Site<L>>,
+    seat: &mut Seat<Site<L>>,
+    worker: u8,
+    gate: &G,
+)
+    requires of { seat.old.cell ≡ cell.now.id }
+    requires free { seat.old.turn ≡ false }
+    requires from_1 { 1 ≤ worker }
+    requires leads { Leads worker seat.old.seen }
+    ensures seat { Stays seat.old seat.new }
+    ensures mine { Got worker seat.old seat.new }
+    ensures done { IsDone (HasFinished worker) seat.new.seen }
+{
+    let mut call = Call::Step;
+    for _ in rt.forever() {
+        call = match turn(rt, cell, seat, worker, call) {
+            Step::Took(job) => {
+                gate.pass(job);
+                Call::Step
+            }
+            Step::Goes => Call::Step,
+            Step::Waits => Call::Poll,
+            Step::Ready | Step::Failed => return,
+        };
+    }
+    unreachable!()
+}
+
+/// One turn of the group thread.
+fn group_turn<R: Wait, L: Link>(
+    rt: &R,
+    cell: &Turn<Site<L>>,
+    seat: &mut Seat<Site<L>>,
+    call: Call,
+) -> Step
+    requires of { seat.old.cell ≡ cell.now.id }
+    requires free { seat.old.turn ≡ false }
+    ensures seat { Stays seat.old seat.new }
+    ensures got { Got 0 seat.old seat.new }
+    ensures comes { ComesTo HasTold result seat.new.seen }
+{
+    let mut site = cell.take(rt, seat);
+    let came = site.tell(call);
+    cell.give(seat, site);
+    came
+}
+
+/// Sends the group telegrams in the order of their numbers, turn by turn, until each is told, or the run has ended.
+pub fn send_groups<R: Wait, L: Link>(rt: &R, cell: &Turn<Site<L>>, seat: &mut Seat<Site<L>>)
+    requires of { seat.old.cell ≡ cell.now.id }
+    requires free { seat.old.turn ≡ false }
+    ensures seat { Stays seat.old seat.new }
+    ensures mine { Got 0 seat.old seat.new }
+    ensures done { IsDone HasTold seat.new.seen }
+{
+    let mut call = Call::Step;
+    for _ in rt.forever() {
+        call = match group_turn(rt, cell, seat, call) {
+            Step::Took(_) | Step::Goes => Call::Step,
+            Step::Waits => Call::Poll,
+            Step::Ready | Step::Failed => return,
+        };
+    }
+    unreachable!()
+}

@@ -1,0 +1,52 @@
+//! A turn of the group thread.
+
+ghost use Rattle.std.specs.Prelude.{◌≡◌, None};
+ghost use Rattle.line_model.specs.Log.{IsNextTurn};
+ghost use Rattle.shared_hub.specs.Items.{HasTold};
+ghost use Rattle.shared_hub.specs.Sites.{fault_of, items_of};
+ghost use Rattle.shared_hub.specs.Steps.{Steps, step_of_group};
+
+use super::{Call, Site, Step};
+use hub_core::GroupDid;
+use line_model::Link;
+
+impl<L: Link> Site<L> {
+    /// A turn of the group thread: one call of the hub, which is the next telegram's next step or a poll; none where all telegrams are told.
+    pub fn tell(&mut self, call: Call) -> Step
+        ensures { Steps HasTold 0 (items_of self.old) (items_of self.new) result }
+    {
+        if self.fault().is_some() {
+            return Step::Failed;
+        }
+        let Some(k) = self.hub.next_group() else {
+            return Step::Ready;
+        };
+        match call {
+            Call::Step => self.send(k),
+            Call::Poll => self.poll(),
+        }
+    }
+
+    /// The next step of the telegram `k`, which is the least that isn't told.
+    fn send(&mut self, k: u32) -> Step
+        requires stands { fault_of self.old ≡ None }
+        requires next { IsNextTurn self.old.hub.turns self.old.hub.log k }
+        ensures { Steps HasTold 0 (items_of self.old) (items_of self.new) result }
+    {
+        self.hub.keeps();
+        let Ok(did) = self.hub.send_group(k) else {
+            return Step::Failed;
+        };
+        step_of(did)
+    }
+}
+
+/// What a hub's answer is to the group thread.
+fn step_of(did: GroupDid) -> Step
+    ensures { result ≡ step_of_group did }
+{
+    match did {
+        GroupDid::Wait => Step::Waits,
+        GroupDid::Put | GroupDid::Sent | GroupDid::Lost => Step::Goes,
+    }
+}
