@@ -133,6 +133,12 @@ def script(r, devices):
     return says
 
 
+def telegrams(r, groups):
+    """Lines of group telegrams, most of them after all jobs."""
+    return [f"{r.choice(('then ', 'then ', ''))}group {r.choice(groups)} {r.choice(('read', 'read', 's00', 's01', 's3F', 's15', '0A', '0102', '000102030405060708090a0B0C0D'))}"
+            for _ in range(r.choice((1, 2, 3, 8)))]
+
+
 STRAY_LINES = ("group 1/2/3 read", "then group 1/2/3 s3f", "group 1/2/3 s40", "group 0/0/1 0A0B", "lose", "lose over 1", "lose from 1", "lose up 0",
                "lose to 1.1.77 1",
                "repeat from 1.1.5 1", "cut 1.1.5 0 1", "cut 1.1.5 1", "worn 1.1.5 4294967295", "worn 1.1.5 4294967296", "close 9.9.9 1", "refuse 1 00",
@@ -151,7 +157,7 @@ def job_words(r, devices):
     return [f"{r.choice(('load', 'load', 'check'))}:{r.choice(devices)}" for _ in range(r.choice((1, 1, 2, 3, 6)))]
 
 
-ODD_WORDS = ("log", "log=1", "catalogue=", "catalogue=cat", "load:", "load:1.1.256", "check:1.1", "workers=2", "Load:1.1.5", "sim", "",
+ODD_WORDS = ("log", "log=1", "catalogue=", "catalogue=cat", "load:", "load:1.1.256", "check:1.1", "workers=2", "workers=9", "workers=0", "Load:1.1.5", "sim", "",
              "check:01.1.005", "\udcff")
 
 
@@ -163,10 +169,13 @@ def sim(r):
     old = r.choice(([], new, project(r, models, line), project(r, models, line), project(r, {}, line), plainer))
     devices = sorted({say.split()[1] for say in new + old if say.startswith("device") and say.split()[1].startswith(line + ".")})
     words = job_words(r, sorted({say.split()[1] for say in new if say.startswith("device")}))
+    words += [f"workers={r.choice((1, 1, 4, 8))}"] * (r.random() < 0.6)
     words += ["log"] * (r.random() < 0.4) + ["catalogue=cat"] * (bool(models) or r.random() < 0.1)
     words += [r.choice(ODD_WORDS)] * (r.random() < 0.04)
     r.shuffle(words)
-    files = {"new": text_of(r, new), "old": text_of(r, old), "script": text_of(r, script(r, devices), STRAY_LINES), "cat": wrong_document(r, document)}
+    groups = [say.split()[1] for say in new if say.startswith("ga ")]
+    says = script(r, devices) + (telegrams(r, groups) if groups and r.random() < 0.25 else [])
+    files = {"new": text_of(r, new), "old": text_of(r, old), "script": text_of(r, says, STRAY_LINES), "cat": wrong_document(r, document)}
     return ["sim", "new", "old", "script", *words], files
 
 

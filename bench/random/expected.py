@@ -1,8 +1,9 @@
 """What a call of `knx` has to answer, by docs/formats.md: the status and the text where that page settles them; and of a run of `sim` all that can be
 said without running it, of its report. run.py asks it of many calls."""
+import collections
 import re
 
-from formats import CatalogueRefused, Project, Refused, individual, individual_text, models_of, number, script_of
+from formats import CatalogueRefused, Project, Refused, group_text, individual, individual_text, models_of, number, script_of
 from frames import datagram
 from plan import check_end, load_end
 
@@ -10,7 +11,10 @@ USAGE = "usage: knx check, tables, sim, download, gateway, decode or big, with t
 SIGN = "(?: (?:nocon|closed|silent|tunnel))"
 OCTETS = "(?:-|(?:[0-9A-F]{2})+)"
 JOB = re.compile(rf"job (\d+) (load|check) (\S+) (done|open|failed{SIGN}{{3}}|refused \d+ got {OCTETS} expected {OCTETS})")
-LOG = re.compile(r"log (\d+) 1 (took|done|failed|refused) (\d+)")
+GROUP = re.compile(r"group (\d+) (sent|lost|open)")
+HEARD = re.compile(r"heard (\S+) (\S+) response (?:s[0-3][0-9A-F]|(?:[0-9A-F]{2}){1,14})")
+DEVICE = re.compile(r"device (\S+) (new|old|stopped)((?: \d+=\S+)*)")
+LOG = re.compile(r"log (\d+) ([1-8]) (took|done|failed|refused) (\d+)|log (\d+) 0 (sent|lost) (\d+)")
 ALL_NOCON = "failed nocon nocon nocon"
 # a download that stops before it dials, and a gateway that stops before it binds, is told so; one that goes on is answered so where nothing can be dialled or bound
 DIALS = (9, "link fault\n")
@@ -43,22 +47,27 @@ def read(files, name):
     return files[name]
 
 
+Options = collections.namedtuple("Options", "catalogue log workers jobs", defaults=(None, False, 4, []))
+
+
 def options_of(words, for_sim):
-    """The catalogue's name or None, whether the log is asked for, and the jobs."""
-    names, logs, jobs = [], 0, []
+    """The catalogue's name or None, whether the log is asked for, how many downloaders work at once, and the jobs."""
+    names, logs, counts, jobs = [], 0, [], []
     for word in words:
         job = re.fullmatch("(load|check):(.*)", word, re.S)
         if word.startswith("catalogue="):
             names.append(word[10:])
         elif for_sim and word == "log":
             logs += 1
+        elif for_sim and word.startswith("workers=") and 1 <= (number(word[8:]) or 0) <= 8:
+            counts.append(number(word[8:]))
         elif for_sim and job and individual(job[2]):
             jobs.append((job[1], individual(job[2])))
         else:
             raise Stop(2, USAGE)
-    if len(names) > 1 or logs > 1 or len(jobs) > 1024:
+    if len(names) > 1 or logs > 1 or len(counts) > 1 or len(jobs) > 1024:
         raise Stop(2, USAGE)
-    return (names or [None])[0], logs == 1, jobs
+    return Options((names or [None])[0], logs == 1, (counts or [4])[0], jobs)
 
 
 def judged(place, read_it, octets, *others):
@@ -79,13 +88,12 @@ def served(words, files):
     """What `gateway` tells before it binds its port."""
     if len(words) < 4 or not is_gateway(words[0]) or not are_turns(words[3]):
         raise Stop(2, USAGE)
-    catalogue, _, _ = options_of(words[4:], False)
+    catalogue = options_of(words[4:], False).catalogue
     models = [read(files, catalogue)] if catalogue is not None else []
     texts = [read(files, name) for name in words[1:3]]
     models = models_in(models[0]) if models else {}
     old = judged("old", Project, texts[0], models)
-    # lines with `group` have no effect
-    Run(old, old, [it for it in judged("script", script_of, texts[1]) if not it[1].endswith("group")], False, [])
+    Run(old, old, judged("script", script_of, texts[1]), Options())
     raise Stop(*DIALS)
 
 
@@ -101,16 +109,16 @@ def asked(words, files):
     count = {"check": 1, "tables": 1, "download": 1, "sim": 3}.get(command, len(rest) + 1)
     if len(rest) < count:
         raise Stop(2, USAGE)
-    catalogue, log, jobs = options_of(rest[count:], command in ("sim", "download"))
-    first = [read(files, catalogue)] if catalogue is not None else []
+    options = options_of(rest[count:], command in ("sim", "download"))
+    first = [read(files, options.catalogue)] if options.catalogue is not None else []
     texts = [read(files, name) for name in rest[:count]]
     models = models_in(first[0]) if first else {}
     new = judged("new", Project, texts[0], models)
     if command == "download":
-        raise Stop(*DIALS) if all(device in new.model for _, device in jobs) else NO_DEVICE
+        raise Stop(*DIALS) if all(device in new.model for _, device in options.jobs) else NO_DEVICE
     if command != "sim":
         return new.counts() if command == "check" else new.tables()
-    return Run(new, judged("old", Project, texts[1], models), judged("script", script_of, texts[2]), log, jobs)
+    return Run(new, judged("old", Project, texts[1], models), judged("script", script_of, texts[2]), options)
 
 
 # ---- a run
@@ -122,27 +130,31 @@ def device_in(word, values):
 class Run:
     """What is known of a run of `sim` before it: its jobs, its devices and what may happen to each."""
 
-    def __init__(self, new, old, script, log, jobs):
-        self.log = log
+    def __init__(self, new, old, script, options):
+        self.log = options.log
+        self.workers = options.workers
         first = next((values[0] for _, word, values in new.statements if word == "device"), 0x1100)
         self.tunnel = first | 255
         self.devices = sorted(d for d in {*new.model, *old.model} if d | 255 == self.tunnel)
         for line, word, values in script:
             if device_in(word, values) not in (None, *self.devices):
                 raise Stop(5, f"script line {line}: 20 NoDevice\n")
-        if any(device not in new.model for _, device in jobs):
+        if any(device not in new.model for _, device in options.jobs):
             raise NO_DEVICE
-        if any(word.endswith("group") for _, word, _ in script):
-            raise Stop(5, "script line 0: 21 NotBuilt\n")
-        self.jobs = jobs or [("load", device) for device in sorted(new.model)]
+        self.groups = [values for _, word, values in script if word.endswith("group")]
+        self.jobs = options.jobs or [("load", device) for device in sorted(new.model)]
         self.strangers = [device for _, device in self.jobs if device | 255 != self.tunnel]
-        self.harms = {(word, *values) for _, word, values in script if word != "standard"}
+        self.harms = {(word, *values) for _, word, values in script if word != "standard" and not word.endswith("group")}
         self.size = {values[0]: 12 for _, word, values in script if word == "standard"}
         self.image = {d: new.image(d) for d in new.model}
         # what each device holds, as long as it is known: a blank one None; and what it may show by now
         self.held = {d: old.image(d) if d in old.model else None for d in self.devices}
         self.cases = {d: {"stopped"} if d not in old.model else {"new"} if self.held[d] == self.image.get(d) else {"old"} for d in self.devices}
         self.loaded = set()
+
+    def is_determined(self):
+        """Whether each of two runs has to end alike: one thread does all."""
+        return not self.groups and (self.workers == 1 or len(self.jobs) < 2)
 
     def harms_to(self, device):
         return [word for word, *values in self.harms if device_in(word, values) in (None, device)]
@@ -159,7 +171,9 @@ class Run:
             return ["a run ends with another status"]
         found = self.end_surprises(lines.pop() if status == 10 else None)
         jobs, lines = lines[:len(self.jobs)], lines[len(self.jobs):]
-        devices, lines = lines[:len(self.devices)], lines[len(self.devices):]
+        groups, lines = lines[:len(self.groups)], lines[len(self.groups):]
+        heard = [line for line in lines if line.startswith("heard ")]
+        devices, lines = lines[len(heard):][:len(self.devices)], lines[len(heard):][len(self.devices):]
         ends = self.ends_of(jobs)
         if None in ends:
             return found + ["the jobs' lines aren't those of the jobs"]
@@ -168,13 +182,31 @@ class Run:
             found.append("the status isn't that of the jobs' ends")
         if status != 10 and self.strangers:
             found.append("a job of another line was done")
-        if "open" in words and set(words[words.index("open"):]) != {"open"}:
+        if self.workers == 1 and "open" in words and set(words[words.index("open"):]) != {"open"}:
             found.append("a job after one without its end has one")
         for (kind, device), end in zip(self.jobs, ends):
             exact = self.exact_end(kind, device)
             found += [f"{end}, and it can only be {exact}"] if exact not in (None, end) else []
             found += self.job_surprises(kind, device, end)
-        return found + self.device_surprises(devices) + self.tail_surprises(lines, words)
+        sent = [GROUP.fullmatch(line) for line in groups]
+        if None in sent or [int(it[1]) for it in sent] != [*range(1, len(self.groups) + 1)]:
+            return found + ["the telegrams' lines aren't those of the telegrams"]
+        told = [it[2] for it in sent]
+        return (found + self.group_surprises(status, told, heard) + self.device_surprises(devices)
+                + self.tail_surprises(lines, words, told))
+
+    def group_surprises(self, status, told, heard):
+        """A telegram is sent, or its channel was lost; what is heard is an answer to a read."""
+        found = []
+        if status != 10 and "open" in told:
+            found.append("a telegram without its end")
+        if "lost" in told and not any(device_in(word, values) is None for word, *values in self.harms):
+            found.append("a telegram is lost, and no line touches the channel")
+        said = [HEARD.fullmatch(line) for line in heard]
+        asked = {group_text(group) for group, value in self.groups if value == "read"}
+        if any(it is None or it[1] not in asked or individual(it[2]) not in self.devices for it in said):
+            found.append("heard, and nobody was asked for it")
+        return found
 
     def ends_of(self, lines):
         """How each job ended; None where a line isn't the job's."""
@@ -230,13 +262,13 @@ class Run:
         return found
 
     def device_surprises(self, lines):
-        wanted = [f"device {individual_text(d)} " for d in self.devices]
-        if [line[:line.rfind(" ") + 1] for line in lines] != wanted:
+        said = [DEVICE.fullmatch(line) for line in lines]
+        if [it and it[1] for it in said] != [individual_text(d) for d in self.devices]:
             return ["the devices' lines aren't those of the devices"]
-        return [f"{line}, and it can only be {' or '.join(sorted(self.cases[d]))}" for d, line in zip(self.devices, lines)
-                if line.split()[-1] not in self.cases[d]]
+        found = [f"{it[0]}, and nothing was written" for it in said if it[3] and (it[2] == "stopped" or not self.groups)]
+        return found + [f"{it[0]}, and it can only be {' or '.join(sorted(self.cases[d]))}" for d, it in zip(self.devices, said) if it[2] not in self.cases[d]]
 
-    def tail_surprises(self, lines, words):
+    def tail_surprises(self, lines, words, told):
         """What follows the devices: what was missed, and the log with a count of dropped datagrams."""
         if lines[:1] != ["missed 0"]:
             return ["no line missed 0"]
@@ -246,10 +278,20 @@ class Run:
         said = [LOG.fullmatch(line) for line in lines[1:-1]]
         if not dropped or None in said:
             return ["the log's lines aren't of its form"]
-        times = [int(it[1]) for it in said]
-        entries = [(it[2], int(it[3])) for it in said]
-        wanted = [entry for k, word in enumerate(words, 1) for entry in (("took", k), (word, k)) if word != "open"]
-        # the job that was taken and has no end
-        begun = [("took", len(wanted) // 2 + 1)] if "open" in words else []
-        found = [] if entries in (wanted, wanted + begun) and times == sorted(times) else ["the log isn't that of the jobs' ends"]
+        times = [int(it[1] or it[5]) for it in said]
+        found = [] if times == sorted(times) else ["the log's places fall"]
+        if [(it[6], int(it[7])) for it in said if it[7]] != [(word, k) for k, word in enumerate(told, 1) if word != "open"]:
+            found.append("the log isn't that of the telegrams' ends")
+        of_jobs = {k: [(it[2], it[3]) for it in said if it[4] == str(k)] for k in range(1, len(words) + 1)}
+        for k, word in enumerate(words, 1):
+            if [what for _, what in of_jobs[k]] not in ([["took", word]] if word != "open" else [[], ["took"]]) or len({worker for worker, _ in of_jobs[k]}) > 1:
+                found.append("the log isn't that of the jobs' ends")
+        if any(int(it[2]) > self.workers for it in said if it[2]):
+            found.append("the log is of more workers than there are")
+        for worker in {it[2] for it in said if it[2]}:
+            own = [it[3] == "took" for it in said if it[2] == worker]
+            if own != [place % 2 == 0 for place in range(len(own))]:
+                found.append("a worker takes a job while it holds one")
+        if self.workers == 1 and [int(it[4]) for it in said if it[3] == "took"] != [*range(1, sum(it[3] == "took" for it in said if it[3]) + 1)]:
+            found.append("the jobs aren't taken in their order")
         return found + (["dropped, and nothing was disturbed"] if int(dropped[1]) and not self.harms else [])

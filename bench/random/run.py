@@ -6,8 +6,8 @@ Each call is made of seed and number alone: random projects, catalogues, scripts
 some have something wrong. Of `download` and `gateway` there are only calls that stop before anything is dialled or bound. Where the page settles the answer (expected.py),
 status and text have to be just that: every refusal, and all that `check`, `tables` and `decode` tell. Of a run of `sim` the report has to be of its form, its status, jobs, devices and log have to agree, and each device has to
 be what it may be after what its jobs told: new after done, unchanged where nothing was loaded, and old, stopped or new else. A job has to end done where
-fewer than three lines of the script can disturb it. Each fourth run is made twice, with another choice of `log` and a line of the script that nothing
-meets, and has to end alike.
+fewer than three lines of the script can disturb it. Each fourth run in which one thread does all is made twice, with another choice of `log` and a line of
+the script that nothing meets, and has to end alike.
 
 A surprise is printed with its call, and its files are put into the folder of --keep; the status is 1 where there is one. --try asks the program
 unproved, a few minutes for 300 calls: it writes them as one transcript, which the crate `transcript` answers under `rt try`, and takes out of the texts
@@ -117,7 +117,7 @@ def random_calls(args):
     if not args.unproved:
         # the program would dial a gateway, or bind a port
         made = {k: it for k, it in made.items() if wants[k] != DIALS}
-    twins = {k: twin_of(*made[k]) for k in made if k % 4 == 0 and isinstance(wants[k], Run)}
+    twins = {k: twin_of(*made[k]) for k in made if k % 4 == 0 and isinstance(wants[k], Run) and wants[k].is_determined()}
     calls = [it for k in made for it in (made[k], twins.get(k)) if it]
     answers = iter(transcripts.ask(calls, FILES) if args.unproved else ask_program(str(pathlib.Path(args.prog).resolve()), calls))
     met, strange = collections.Counter(), 0

@@ -54,7 +54,7 @@ class Manual(ToolTest):
             (["d"], ["download", "decode"]),
             (["sim", ""], ["FILE"]),
             (["sim", floor, "b", "c"], ["FILE"]),
-            (["sim", floor, "b", "c", ""], ["catalogue=", "log", "load:", "check:"]),
+            (["sim", floor, "b", "c", ""], ["catalogue=", "log", "workers=", "load:", "check:"]),
             (["sim", floor, "b", "c", "log", "catalogue=x"], ["FILE"]),
             (["sim", floor, "b", "c", "load:1"], ["load:1.1.5", "load:1.1.6", "load:1.1.7"]),
             (["download", "1"], []),

@@ -11,9 +11,7 @@ ghost use Rattle.bus_sim.specs.Begun.{CanLoad, addresses, begins, device_begun};
 ghost use Rattle.bus_sim.specs.declared.clients.Clients.TheVariants.{One};
 
 use crate::clients::Clients;
-use knx_model::{
-    GroupService, Image, IndAddr, List, NoMemory, Octets, Refused, ScriptLine, ScriptWhat,
-};
+use knx_model::{Image, IndAddr, List, NoMemory, Octets, Refused, ScriptLine, ScriptWhat};
 use line_sim::{Device, Devices};
 use script_index::ScriptIndex;
 use script_text::first_stranger;
@@ -204,17 +202,7 @@ fn what_of(what: &ScriptWhat) -> ScriptWhat
         } => ScriptWhat::Group {
             after: *after,
             group: *group,
-            service: service_of(service),
+            service: service.copied(),
         },
-    }
-}
-
-fn service_of(service: &GroupService) -> GroupService
-    ensures { result ≡ service.now }
-{
-    match service {
-        GroupService::Read => GroupService::Read,
-        GroupService::Write(value) => GroupService::Write(value.copied()),
-        GroupService::Response(value) => GroupService::Response(value.copied()),
     }
 }

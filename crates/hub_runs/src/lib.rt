@@ -1,4 +1,4 @@
-//! Runs of a line by one caller, over a gateway with its device and over fixed datagrams.
+//! Runs of a line by one worker, over a gateway with its device and over fixed datagrams.
 #![tactic(auto)]
 
 #[cfg(test)]

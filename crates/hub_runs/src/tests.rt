@@ -7,7 +7,6 @@ ghost use Rattle.hub_work.specs.Requests.{IsTurnInRange};
 
 use hub_core::{CheckPlan, GroupTurn, HubJob, JobPlan, LoadPlan};
 use knx_model::{GroupAddr, GroupService, Image, IndAddr, List, NoMemory, Octets, Value};
-use line_model::Gate;
 use std::alloc::Global;
 
 mod begin;
@@ -36,13 +35,6 @@ fn image_linked(alloc: Global, group: [u8; 2]) -> Result<Image, NoMemory>
         objs: Octets::from_slice(alloc, &[0x00, 0x01, 0x5F, 0x00])?,
         params: Octets::from_slice(alloc, &[])?,
     })
-}
-
-/// A gate that returns at once.
-struct OpenGate;
-
-impl Gate for OpenGate {
-    fn pass(&self, _job: u32) {}
 }
 
 /// A group telegram of a run.

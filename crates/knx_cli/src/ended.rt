@@ -22,9 +22,10 @@ ghost use Rattle.knx_cli.specs.Exit.{status_of};
 use call_words::Status;
 use knx_model::{Files, NoMemory, Sink};
 use knx_top::{NO_MEMORY, Report, SimBus, knx};
-use line_model::Dialer;
+use line_model::{Dialer, Gate};
 use std::alloc::Global;
 use std::sync::Wait;
+use std::thread::Threads;
 
 /// The exit status where memory is wanting for the words.
 fn without_words<K: Sink>(want: NoMemory, out: &mut K) -> u8
@@ -39,7 +40,7 @@ fn without_words<K: Sink>(want: NoMemory, out: &mut K) -> u8
 }
 
 /// The exit status of the program: that of the call with its words, or where memory is wanting for them, that.
-pub fn status_of<R: Wait, F: Files, K: Sink, D: Dialer>(
+pub fn status_of<R: Threads + Wait + Sync, F: Files, K: Sink, D: Dialer, G: Gate + Sync>(
     rt: &R,
     alloc: Global,
     words: &Result<Vec<String>, NoMemory>,
@@ -47,6 +48,7 @@ pub fn status_of<R: Wait, F: Files, K: Sink, D: Dialer>(
     out: &mut K,
     sim: &mut SimBus,
     dial: &mut D,
+    gate: &G,
     last: &mut Option<Report>,
 ) -> u8
     ensures numbered { result ≡ status_number (status_of result) }
@@ -82,7 +84,18 @@ pub fn status_of<R: Wait, F: Files, K: Sink, D: Dialer>(
     ensures written { (K.now out.new).writes ≡ one_more (K.now out.old).writes }
 {
     match words {
-        Ok(words) => knx(rt, alloc, words.as_slice(), files, out, sim, dial, last).number(),
+        Ok(words) => knx(
+            rt,
+            alloc,
+            words.as_slice(),
+            files,
+            out,
+            sim,
+            dial,
+            gate,
+            last,
+        )
+        .number(),
         Err(want) => without_words(*want, out),
     }
 }

@@ -20,6 +20,7 @@ use crate::ended::status_of;
 use crate::output::Output;
 use crate::words::words_of;
 use knx_top::SimBus;
+use line_model::Open;
 use std::process::ExitCode;
 use std::{env, io};
 
@@ -32,6 +33,6 @@ fn main(rt: HostRuntime) -> ExitCode {
     let mut last = None;
     let words = words_of(alloc, env::args(&rt));
     ExitCode::from(status_of(
-        &rt, alloc, &words, &mut files, &mut out, &mut sim, &mut dial, &mut last,
+        &rt, alloc, &words, &mut files, &mut out, &mut sim, &mut dial, &Open, &mut last,
     ))
 }

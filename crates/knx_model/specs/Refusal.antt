@@ -28,7 +28,6 @@ why_number why.OutOfRange = Some 17
 why_number why.SizeDiffers = Some 18
 why_number (why.TooMany limit) = Some 19
 why_number why.NoDevice = Some 20
-why_number why.NotBuilt = Some 21
 
 -- its word, as it is printed
 abbrev pub why_word : Why → List ℕ
@@ -53,7 +52,6 @@ why_word why.OutOfRange = codes "OutOfRange"
 why_word why.SizeDiffers = codes "SizeDiffers"
 why_word (why.TooMany limit) = codes "TooMany"
 why_word why.NoDevice = codes "NoDevice"
-why_word why.NotBuilt = codes "NotBuilt"
 
 -- the same of a catalogue's refusal
 abbrev pub catalogue_number : CatRefused → Option ℕ

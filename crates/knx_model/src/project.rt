@@ -1,7 +1,5 @@
 //! The statements of a project text. Their names are borrowed from the text.
 
-ghost use Rattle.std.specs.Prelude.{◌≡◌};
-
 use crate::address::{GroupAddr, IndAddr};
 use crate::words::Name;
 
@@ -47,78 +45,9 @@ pub enum What<'a> {
     },
 }
 
-impl<'a> What<'a> {
-    /// The same, with names borrowed from the same text.
-    fn copied(&self) -> What<'a>
-        ensures { result ≡ self.now }
-    {
-        match self {
-            What::Title(name) => What::Title(name.copied()),
-            What::Group { group, name } => What::Group {
-                group: *group,
-                name: name.copied(),
-            },
-            What::Device { device, model } => What::Device {
-                device: *device,
-                model: model.copied(),
-            },
-            What::Object {
-                device,
-                n,
-                size,
-                flags,
-            } => What::Object {
-                device: *device,
-                n: *n,
-                size: *size,
-                flags: *flags,
-            },
-            What::Link {
-                device,
-                object,
-                group,
-            } => What::Link {
-                device: *device,
-                object: *object,
-                group: *group,
-            },
-            What::Flags {
-                device,
-                object,
-                flags,
-            } => What::Flags {
-                device: *device,
-                object: *object,
-                flags: *flags,
-            },
-            What::Param {
-                device,
-                name,
-                value,
-            } => What::Param {
-                device: *device,
-                name: name.copied(),
-                value: *value,
-            },
-        }
-    }
-}
-
 /// A statement, and the number of its line, from 1.
 #[derive(Drop)]
 pub struct Statement<'a> {
     pub line: u32,
     pub what: What<'a>,
-}
-
-impl<'a> Statement<'a> {
-    /// The same statement, with names borrowed from the same text.
-    pub fn copied(&self) -> Statement<'a>
-        ensures { result ≡ self.now }
-    {
-        Statement {
-            line: self.line,
-            what: self.what.copied(),
-        }
-    }
 }

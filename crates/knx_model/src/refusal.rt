@@ -50,8 +50,6 @@ pub enum Why {
     TooMany { limit: u32 },
     /// A line's device stands in no `device` line.
     NoDevice,
-    /// The text is of a form that isn't built yet.
-    NotBuilt,
 }
 
 impl Why {
@@ -81,7 +79,6 @@ impl Why {
             Why::SizeDiffers => Some(18),
             Why::TooMany { .. } => Some(19),
             Why::NoDevice => Some(20),
-            Why::NotBuilt => Some(21),
         }
     }
 
@@ -111,7 +108,6 @@ impl Why {
             Why::SizeDiffers => "SizeDiffers",
             Why::TooMany { .. } => "TooMany",
             Why::NoDevice => "NoDevice",
-            Why::NotBuilt => "NotBuilt",
         }
     }
 }

@@ -1,5 +1,7 @@
 //! The lines of a script.
 
+ghost use Rattle.std.specs.Prelude.{◌≡◌};
+
 use crate::address::{GroupAddr, IndAddr};
 use crate::frames::Value;
 
@@ -9,6 +11,19 @@ pub enum GroupService {
     Read,
     Write(Value),
     Response(Value),
+}
+
+impl GroupService {
+    /// The same service.
+    pub fn copied(&self) -> GroupService
+        ensures { result ≡ self.now }
+    {
+        match self {
+            GroupService::Read => GroupService::Read,
+            GroupService::Write(value) => GroupService::Write(value.copied()),
+            GroupService::Response(value) => GroupService::Response(value.copied()),
+        }
+    }
 }
 
 /// What a line of a script says. The counts N are at least 1.

@@ -1,5 +1,5 @@
 -- A run over a dialled link, once it was handed back.
-use Rattle.std.proofs.Common.{◌≡◌, ◌≤◌, Bool, List, [], map, Option, refl, sym, subst, ℕ}
+use Rattle.std.proofs.Common.{◌≡◌, ◌≤◌, List, [], map, Option, refl, sym, ap, subst, ℕ}
 use Rattle.std.specs.Prelude.{IfSome}
 use Rattle.std.specs.List.{AllByRecursion}
 use Rattle.hub_work.specs.declared.job.HubJob.{HubJob}
@@ -21,6 +21,7 @@ use Rattle.tunnel_link.specs.Goes.{GoesOn}
 use Rattle.tunnel_link.specs.Rights.{FailsWhere}
 use Rattle.knx_top.specs.Dialled.{HasItsCause, IsToldOver, MeansOver}
 use Rattle.knx_top.specs.Jobs.{ArePlanned, seen_job}
+use Rattle.knx_top.specs.Options.{SimOptions, workers_of}
 use Rattle.knx_top.specs.Ran.{log_in}
 use Rattle.knx_top.specs.declared.commands.download.Ready.{Ready}
 use Rattle.knx_top.proofs.Driven.{devices_seen, jobs_seen}
@@ -46,9 +47,9 @@ means_over project jobs words (Full start events) log planned right = (devices_m
 
 -- ---- the run
 
-pub told_over : (plans : List HubJob) (groups : List GroupTurn) (began after : Story) (place : ℕ) (report : Report) → groups ≡ [] → IsNewLink began → GoesOn began after → AllByRecursion IsGoodJob (map seen_job plans)
-    → TellsRun 1 (tasks_seen plans) (map (λ (job : HubJob). job.device) plans) groups after place report → report.missed ≡ 0 → IsToldOver 1 [] (map seen_job plans) after report
-told_over plans groups began after place report none new goes good tells missed =
+pub told_over : (workers : ℕ) (plans : List HubJob) (groups : List GroupTurn) (began after : Story) (place : ℕ) (report : Report) → groups ≡ [] → IsNewLink began → GoesOn began after → AllByRecursion IsGoodJob (map seen_job plans)
+    → TellsRun workers (tasks_seen plans) (map (λ (job : HubJob). job.device) plans) groups after place report → report.missed ≡ 0 → IsToldOver workers [] (map seen_job plans) after report
+told_over workers plans groups began after place report none new goes good tells missed =
     let jobs : List Job = map seen_job plans in
     let are : AreJobs plans jobs = jobs_seen plans in
     let of : AreJobsOf (map (λ (job : HubJob). job.device) plans) jobs = devices_seen plans in
@@ -76,7 +77,7 @@ told_over plans groups began after place report none new goes good tells missed 
 pub to_address : (one other : Address) (given : Option Address) → one ≡ other → Tells other.host other.port given → Tells one.host one.port given
 to_address one other given same tells = subst (λ (at : Address). Tells at.host at.port given) (sym same) tells
 
-dialled : (d : Download) (ready : Ready) (before after : DialerNow) (report : Report) → IsReadyFor d ready → Tells d.at.host d.at.port after.given → after.dials ≡ one_more before.dials → IsToldOver 1 [] (map seen_job ready.plans) after.link_back report
+dialled : (d : Download) (ready : Ready) (before after : DialerNow) (report : Report) → IsReadyFor d ready → Tells d.at.host d.at.port after.given → after.dials ≡ one_more before.dials → IsToldOver (workers_of d.options) [] (map seen_job ready.plans) after.link_back report
     → (since : ℕ) → before.faults ≤ since → HasItsCause report since after.faults → DialledRun d before after report ready.jobs
 dialled d ready before after report is given once told since count cause = record {
   given = given;
@@ -92,12 +93,12 @@ dialled d ready before after report is given once told since count cause = recor
 }
 
 -- the gateway was reached: a dial gave a link, and the run over it told this
-pub reached : (d : Download) (ready : Ready) (at : Address) (faults : ℕ) (given : Option Address) (before after : DialerNow) (report : Report) (log : Bool) → IsReadyFor d ready → d.at ≡ at → log ≡ d.options.log
-    → before.faults ≤ faults → Tells at.host at.port given → after.given ≡ given → after.dials ≡ one_more before.dials → IsToldOver 1 [] (map seen_job ready.plans) after.link_back report → HasItsCause report faults after.faults
-    → Dials d before after (ends.Reports (record { report = report; jobs = ready.jobs; turns = 0; devices = []; log = log }))
-reached d ready at faults given before after report log is same logs count tells stays once told cause = (
-  dialled d ready before after report is (subst (λ (told : Option Address). Tells d.at.host d.at.port told) (sym stays) (to_address d.at at given same tells)) once told faults count cause,
+pub reached : (d : Download) (ready : Ready) (at : Address) (options : SimOptions) (faults : ℕ) (given : Option Address) (before after : DialerNow) (report : Report) → IsReadyFor d ready → d.at ≡ at → d.options ≡ options
+    → before.faults ≤ faults → Tells at.host at.port given → after.given ≡ given → after.dials ≡ one_more before.dials → IsToldOver (workers_of options) [] (map seen_job ready.plans) after.link_back report → HasItsCause report faults after.faults
+    → Dials d before after (ends.Reports (record { report = report; jobs = ready.jobs; turns = 0; devices = []; log = options.log }))
+reached d ready at options faults given before after report is same these count tells stays once told cause = (
+  dialled d ready before after report is (subst (λ (told : Option Address). Tells d.at.host d.at.port told) (sym stays) (to_address d.at at given same tells)) once (subst (λ (o : SimOptions). IsToldOver (workers_of o) [] (map seen_job ready.plans) after.link_back report) (sym these) told) faults count cause,
   rw is.turns refl,
   refl,
-  logs,
+  ap (λ (o : SimOptions). o.log) (sym these),
 )

@@ -1,5 +1,5 @@
--- A run that one caller of the hub drives over the simulated line: what is promised of it, in the words of its commission.
-use Rattle.std.proofs.Common.{◌≡◌, ℕ, inl, inr, List, [], ◌∷◌, ◌++◌, map, Option, Some, None, refl, sym, ap, ◌∙◌, subst, arith}
+-- A run that the workers of its words drive over the simulated line: what is promised of it, in the words of its commission.
+use Rattle.std.proofs.Common.{◌≡◌, ℕ, inl, inr, List, [], ◌∷◌, ◌++◌, length, map, Option, Some, None, refl, sym, ap, ◌∙◌, subst, arith}
 use Rattle.std.specs.Prelude.{IfSome}
 use Rattle.std.specs.List.{AllByRecursion}
 use Rattle.bus_sim.specs.Loaded.{BusNow}
@@ -14,6 +14,7 @@ use Rattle.hub_core.specs.Seen.{AreJobs, tasks_seen}
 use Rattle.hub_core.specs.Thorough.{IsThoroughOver}
 use Rattle.hub_core.specs.Closed.{HasClosed}
 use Rattle.hub_core.specs.Heard.{HeardAll}
+use Rattle.hub_core.specs.Seats.{IsOfWorkers}
 use Rattle.hub_work.specs.declared.job.HubJob.{HubJob}
 use Rattle.hub_work.specs.Books.{AreJobsOf}
 use Rattle.hub_work.specs.Downloaders.{Task, task_of_hub_job}
@@ -25,8 +26,10 @@ use Rattle.line_model.specs.declared.log.LogEntry.{LogEntry}
 use Rattle.line_model.specs.declared.log.Report.{Report}
 use Rattle.line_model.specs.Follows.{Follows}
 use Rattle.line_model.specs.Fresh.{IsFresh}
-use Rattle.line_model.specs.Headline.{IsGoodJob, IsRight, Keeps}
+use Rattle.line_model.specs.Headline.{IsDisciplined, IsGoodJob, IsRight, Keeps}
+use Rattle.line_model.specs.Leaves.{LeavesRightly}
 use Rattle.line_model.specs.Legal.{IsLegal}
+use Rattle.line_model.specs.declared.group.GroupTurn.{GroupTurn}
 use Rattle.line_model.specs.Lines.{Script, script_of}
 use Rattle.line_model.specs.LinkStory.{Full, record_in}
 use Rattle.line_model.specs.Log.{Job}
@@ -124,19 +127,19 @@ keeps_promises c order r log is run right =
 
 -- ---- all of it
 
-pub driven : (c : Commission) (order : Order) (line : BusNow) (place : ℕ) (report : Report) → IsOrder c order → order.line.run.begun.clients ≡ One → GoesOn (story order.line.run) (story line.run) → script line.run ≡ script order.line.run
+pub driven : (c : Commission) (order : Order) (workers : ℕ) (turns : List GroupTurn) (line : BusNow) (place : ℕ) (report : Report) → IsOrder c order → workers ≡ c.workers → turns ≡ c.turns → order.line.run.begun.clients ≡ One → GoesOn (story order.line.run) (story line.run) → script line.run ≡ script order.line.run
     → IsFresh (start line.run) → IsLegal (mode line.run) (start line.run) line.run.events → Follows (script line.run) (mode line.run) (start line.run) line.run.events
-    → AllByRecursion IsGoodJob (map seen_job order.plans) → TellsRun 1 (tasks_seen order.plans) (map (λ (job : HubJob). job.device) order.plans) [] (story line.run) place report → report.missed ≡ 0
+    → AllByRecursion IsGoodJob (map seen_job order.plans) → TellsRun workers (tasks_seen order.plans) (map (λ (job : HubJob). job.device) order.plans) turns (story line.run) place report → report.missed ≡ 0
     → Ran c line.run report order.jobs
-driven c order line place report is one goes says fresh legal follows good tells missed =
+driven c order workers turns line place report is by sends one goes says fresh legal follows good tells missed =
     let jobs : List Job = map seen_job order.plans in
     let are : AreJobs order.plans jobs = jobs_seen order.plans in
     let of : AreJobsOf (map (λ (job : HubJob). job.device) order.plans) jobs = devices_seen order.plans in
     let whole : story line.run ≡ Full (start line.run) line.run.events = told_whole order.line.run line.run one goes in
     let in_run : mode line.run ≡ Commissions = ap mode_of (still_one order.line.run line.run one goes) in
     let now_right : IsRight jobs (start line.run) line.run.events (log_in report) = subst (λ s. IsRightOver jobs s (log_in report)) whole (tells.right jobs are good) in
-    let kept : Keeps jobs [] (Full (start line.run) line.run.events) (log_in report) = subst (λ s. Keeps jobs [] s (log_in report)) whole (tells.headline jobs are) in
-    let left : LeavesOver jobs [] (Full (start line.run) line.run.events) (log_in report) = subst (λ s. LeavesOver jobs [] s (log_in report)) whole (tells.leaves jobs of) in
+    let kept : Keeps jobs turns (Full (start line.run) line.run.events) (log_in report) = subst (λ s. Keeps jobs turns s (log_in report)) whole (tells.headline jobs are) in
+    let left : LeavesOver jobs turns (Full (start line.run) line.run.events) (log_in report) = subst (λ s. LeavesOver jobs turns s (log_in report)) whole (tells.leaves jobs of) in
     let run : IsRunOf c line.run = is_run c order line.run is (same_start order.line.run line.run one goes) says fresh
     (subst (λ m. IsLegal m (start line.run) line.run.events) in_run legal) (subst (λ m. Follows (script line.run) m (start line.run) line.run.events) in_run follows) in
     record {
@@ -146,15 +149,15 @@ driven c order line place report is one goes says fresh legal follows good tells
       planned = is.prepared.plans;
       promises = keeps_promises c order line.run (log_in report) is run now_right;
       told = record {
-        disciplined = rw is.turns kept.disciplined;
+        disciplined = subst (λ (ts : List GroupTurn). IsDisciplined jobs ts (length line.run.events) (placed (start line.run) line.run.events) (log_in report)) sends kept.disciplined;
         thorough = subst (λ s. IsThoroughOver jobs s (log_in report)) whole (tells.thorough jobs are);
-        leaves = rw is.turns left;
+        leaves = subst (λ (ts : List GroupTurn). LeavesRightly jobs ts (log_in report) (placed (start line.run) line.run.events)) sends left;
         fault = subst (λ s. FaultRightIn jobs (log_in report) report.fault (record_in s)) whole (tells.fault jobs are);
         ended = λ none. tells.over none jobs of;
         in_order = tells.in_order jobs of;
         closed = λ none. subst (λ s. WhereTold (HasClosed (log_in report)) s) whole (tells.closed none) (placed (start line.run) line.run.events) refl;
         heard = λ none. subst (λ s. HeardAll report.heard (record_in s)) whole (tells.heard none);
-        seats = rw is.workers tells.seats;
+        seats = subst (λ (n : ℕ). IsOfWorkers n (log_in report)) by tells.seats;
         missed = missed;
         dropped = subst (λ s. DropsIn report.dropped (record_in s)) whole tells.dropped;
       };

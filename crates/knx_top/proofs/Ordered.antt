@@ -1,8 +1,7 @@
 -- The last tests of `sim`, and what a run is begun with.
 use Rattle.std.proofs.Common.{◌≡◌, ◌≢◌, true, false, List, Err, refl, ap, ◌∙◌, subst, sym}
-use Rattle.std.specs.List.{list_all, list_any}
+use Rattle.std.specs.List.{list_all}
 use Rattle.bus_sim.specs.Loaded.{BusNow}
-use Rattle.call_words.specs.declared.input_file.InputFile.TheVariants as file
 use Rattle.call_words.specs.declared.stop.Stop.{Stop}
 use Rattle.call_words.specs.declared.stop.Stop.TheVariants as stop
 use Rattle.call_words.specs.declared.job_word.JobWord.{JobWord}
@@ -13,7 +12,7 @@ use Rattle.knx_top.specs.Judged.{unless_strange}
 use Rattle.knx_top.specs.Stops.{is_known, unknown_job}
 use Rattle.knx_top.specs.declared.commands.sim.judge.Order.{Order}
 use Rattle.knx_top.specs.Options.{SimOptions}
-use Rattle.knx_top.specs.commands.Sim.{with_lines, is_group_line, not_built}
+use Rattle.knx_top.specs.commands.Sim.{with_lines}
 
 pub strange_ends : (o : SimOptions) (new old : Installation) (lines : List ScriptLine) (why : Stop) → (why ≢ stop.NoMemory tt → unless_strange new old lines ≡ Err why) → why ≢ stop.NoMemory tt → with_lines o new old lines ≡ Err why
 strange_ends o new old lines why h w = rw (h w) refl
@@ -23,20 +22,14 @@ unknown_ends o new old lines named line begins are all =
     let these : list_all (is_known new) o.jobs ≡ false = subst (λ (jobs : List JobWord). list_all (is_known new) jobs ≡ false) are all in
     rw (begins.known, these) refl
 
-pub grouped_ends : (o : SimOptions) (new old : Installation) (lines : List ScriptLine) (named : List JobWord) (line : BusNow) → BeginsLine new old lines line.run → named ≡ o.jobs → list_all (is_known new) named ≡ true → list_any is_group_line lines ≡ true
-    → with_lines o new old lines ≡ Err (not_built file.Script)
-grouped_ends o new old lines named line begins are all groups =
+pub ordered : (o : SimOptions) (new old : Installation) (lines : List ScriptLine) (named : List JobWord) (line : BusNow) (order : Order) → BeginsLine new old lines line.run → named ≡ o.jobs → list_all (is_known new) named ≡ true
+    → line.faults ≡ 0 → order.line ≡ line → IsPrepared new old lines named order → OrderFor (with_lines o new old lines) order
+ordered o new old lines named line order begins are all sound is prepared =
     let these : list_all (is_known new) o.jobs ≡ true = subst (λ (jobs : List JobWord). list_all (is_known new) jobs ≡ true) are all in
-    rw (begins.known, these, groups) refl
-
-pub ordered : (o : SimOptions) (new old : Installation) (lines : List ScriptLine) (named : List JobWord) (line : BusNow) (order : Order) → BeginsLine new old lines line.run → named ≡ o.jobs → list_all (is_known new) named ≡ true → list_any is_group_line lines ≡ false
-    → line.faults ≡ 0 → order.line ≡ line → IsPrepared new old named order → OrderFor (with_lines o new old lines) order
-ordered o new old lines named line order begins are all groups sound is prepared =
-    let these : list_all (is_known new) o.jobs ≡ true = subst (λ (jobs : List JobWord). list_all (is_known new) jobs ≡ true) are all in
-    rw (begins.known, these, groups) (record {
+    rw (begins.known, these) (record {
       line = subst (λ (l : BusNow). BeginsLine new old lines l.run) (sym is) begins;
       sound = ap (λ (l : BusNow). l.faults) is ∙ sound;
-      prepared = subst (λ (jobs : List JobWord). IsPrepared new old jobs order) are prepared;
+      prepared = subst (λ (jobs : List JobWord). IsPrepared new old lines jobs order) are prepared;
       workers = refl;
       turns = refl;
     })

@@ -10,11 +10,14 @@ use Rattle.knx_model.specs.Acts.{IsInRange}
 use Rattle.knx_model.specs.Meaning.{Installation, meaning}
 use Rattle.knx_model.specs.Rules.{has_device}
 use Rattle.knx_model.specs.ScriptText.{first_stranger}
+use Rattle.hub_work.specs.Requests.{IsTurnInRange}
 use Rattle.line_model.specs.Lines.{script_of}
 use Rattle.line_model.specs.Headline.{IsGoodJob}
 use Rattle.line_model.specs.StartOf.{BusOf, is_on_bus}
 use Rattle.knx_top.specs.Jobs.{AreJobs, ArePlanned, seen_job}
 use Rattle.knx_top.specs.OnLine.{AreCompiled, on_bus}
+use Rattle.knx_top.specs.Options.{workers_of}
+use Rattle.knx_top.specs.Turns.{turns_of}
 use Rattle.knx_top.specs.Ran.{Commission}
 use Rattle.knx_top.specs.declared.commands.sim.judge.Order.{Order}
 
@@ -31,22 +34,25 @@ pub record BeginsLine (new old : Installation) (lines : List ScriptLine) (r : Ru
   pub known : first_stranger (on_bus new old) lines ≡ None
   pub in_range : IsOldInRange new old
 
--- the jobs and the devices of a run, by the jobs that words name
-pub record IsPrepared (new old : Installation) (named : List JobWord) (order : Order) : Type 0 where
+-- the jobs, the group telegrams and the devices of a run, by the jobs that words name and the lines of the script
+pub record IsPrepared (new old : Installation) (lines : List ScriptLine) (named : List JobWord) (order : Order) : Type 0 where
   pub jobs : AreJobs named new order.jobs
   pub few : length order.plans < 2 ^ 32
   pub plans : ArePlanned new (map seen_job order.plans) order.jobs
   pub good : AllByRecursion IsGoodJob (map seen_job order.plans)
+  pub turns : order.turns ≡ turns_of lines
+  pub few_turns : length order.turns < 2 ^ 32
+  pub sendable : AllByRecursion IsTurnInRange order.turns
   pub devices : AreCompiled new order.devices (on_bus new old)
 
 pub record IsOrder (c : Commission) (order : Order) : Type 0 where
   pub line : BeginsLine c.project c.before c.script order.line.run
   -- no call of the line has failed
   pub sound : order.line.faults ≡ 0
-  pub prepared : IsPrepared c.project c.before c.options.jobs order
-  -- one caller drives it, and no group telegrams are sent
-  pub workers : c.workers ≡ 1
-  pub turns : c.turns ≡ []
+  pub prepared : IsPrepared c.project c.before c.script c.options.jobs order
+  -- the workers of its words drive it, and the group telegrams of its script are sent
+  pub workers : c.workers ≡ workers_of c.options
+  pub turns : c.turns ≡ turns_of c.script
 
 -- what was judged was compiled, and a line with its devices has begun
 abbrev pub OrderFor : Result Commission Stop → Order → Type 0

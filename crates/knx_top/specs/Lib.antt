@@ -5,6 +5,7 @@ pub mod Options
 pub mod Input
 pub mod OnLine
 pub mod Jobs
+pub mod Turns
 pub mod Stops
 pub mod Names
 pub mod Judged

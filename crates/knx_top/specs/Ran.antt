@@ -2,11 +2,12 @@
 -- at every moment, whatever is lost, repeated or cut, each device has its starting content, or is stopped, or runs what the new project says; each
 -- group telegram acts on exactly the objects that the running configuration links; `done` is told only where the new project's runs; no device has
 -- two downloaders at once, and no tunnelling request acts twice.
-use Rattle.std.specs.Prelude.{ℕ, IfSome, List, None, Option, Some, ◌≡◌, length, min, reverse, [], ◌^◌, ◌-◌}
+use Rattle.std.specs.Prelude.{ℕ, IfSome, List, None, Option, Some, ◌≡◌, length, min, reverse, ◌^◌, ◌-◌}
 use Rattle.line_model.specs.ActedOnce.{ActedOnce}
 use Rattle.line_model.specs.Telegrams.{ActsByProject, TelegramsActRight}
 use Rattle.line_model.specs.Log.{AllOver, Job, TakenInOrder}
 use Rattle.knx_top.specs.Jobs.{AreJobs, ArePlanned}
+use Rattle.knx_top.specs.Turns.{turns_of}
 use Rattle.bus_sim.specs.Loaded.{BusNow}
 use Rattle.line_model.specs.StartOf.{BusOf}
 use Rattle.line_model.specs.Tunnel.{Commissions}
@@ -31,7 +32,7 @@ use Rattle.line_model.specs.declared.log.Report.{Report}
 use Rattle.knx_model.specs.Outside.{Rose}
 use Rattle.bus_sim.specs.RunNow.{RunNow, start}
 use Rattle.knx_model.specs.declared.script.ScriptLine.{ScriptLine}
-use Rattle.knx_top.specs.Options.{SimOptions}
+use Rattle.knx_top.specs.Options.{SimOptions, workers_of}
 use Rattle.line_model.specs.Record.{record_of, placed}
 use Rattle.line_model.specs.Lines.{script_of}
 use Rattle.line_model.specs.ClientView.{indications}
@@ -49,9 +50,9 @@ pub record Commission : Type 0 where
   pub workers : ℕ
   pub turns : List GroupTurn
 
--- one worker drives the hub, and no group telegrams are sent
+-- as many workers drive the hub as the words say, and the group telegrams of the script are sent
 abbrev pub commission_of : Installation → Installation → List ScriptLine → SimOptions → Commission
-commission_of project before script options = record { project = project; before = before; script = script; options = options; workers = 1; turns = [] }
+commission_of project before script options = record { project = project; before = before; script = script; options = options; workers = workers_of options; turns = turns_of script }
 
 -- ---- the premises: the line began as it is stated, and what happened is what may happen and what the script says
 

@@ -22,19 +22,21 @@ use crate::ending::{End, tell, tell_end};
 use bus_sim::SimBus;
 use call_words::Status;
 use knx_model::{Files, Sink};
-use line_model::{Dialer, Report};
+use line_model::{Dialer, Gate, Report};
 use report_text::USAGE;
 use std::alloc::Global;
 use std::sync::Wait;
+use std::thread::Threads;
 
 /// A command of words.
-fn run<R: Wait, F: Files, D: Dialer>(
+fn run<R: Threads + Wait + Sync, F: Files, D: Dialer, G: Gate + Sync>(
     rt: &R,
     alloc: Global,
     command: Command<'_>,
     files: &mut F,
     sim: &mut SimBus,
     dial: &mut D,
+    gate: &G,
 ) -> End
     ensures does { Does (Some (command_of command.entry)) (record { files = F.now files.old; line = sim.old; dialer = D.now dial.old; report = None }) (record { files = F.now files.new; line = sim.new; dialer = D.now dial.new; report = report_in result }) (Is result) }
     ensures undialled { (touches (Some (command_of command.entry))).network ≡ false → dial.new ≡ dial.old }
@@ -44,15 +46,15 @@ fn run<R: Wait, F: Files, D: Dialer>(
     match command {
         Command::Check(names) => check::call(alloc, names, files),
         Command::Tables(names) => tables::call(alloc, names, files),
-        Command::Sim(names) => sim::call(rt, alloc, &names, files, sim),
+        Command::Sim(names) => sim::call(rt, alloc, &names, files, sim, gate),
         Command::Decode(word) => decode::call(alloc, word),
-        Command::Download(names) => download::call(rt, alloc, &names, files, dial),
+        Command::Download(names) => download::call(rt, alloc, &names, files, dial, gate),
         Command::Gateway(names) => gateway::call(alloc, names, files, sim, dial),
     }
 }
 
 /// What the words ask for is done, and its end is written, where no run was begun yet.
-fn answer<R: Wait, F: Files, K: Sink, D: Dialer>(
+fn answer<R: Threads + Wait + Sync, F: Files, K: Sink, D: Dialer, G: Gate + Sync>(
     rt: &R,
     alloc: Global,
     words: &[String],
@@ -60,6 +62,7 @@ fn answer<R: Wait, F: Files, K: Sink, D: Dialer>(
     out: &mut K,
     sim: &mut SimBus,
     dial: &mut D,
+    gate: &G,
     last: &mut Option<Report>,
 ) -> Status
     requires { last.old ≡ None }
@@ -71,7 +74,7 @@ fn answer<R: Wait, F: Files, K: Sink, D: Dialer>(
 {
     match asked(words) {
         Some(command) => {
-            let end = run(rt, alloc, command, files, sim, dial);
+            let end = run(rt, alloc, command, files, sim, dial, gate);
             let status = tell_end(alloc, out, &end);
             *last = end.report();
             status
@@ -81,8 +84,9 @@ fn answer<R: Wait, F: Files, K: Sink, D: Dialer>(
 }
 
 /// All that the program does: it reads the words, reads the files, begins and ends the run, and writes the text. The status is
-/// the program's exit status. `last` becomes the report of the run, and None where no run began. A link that it dialled or a port that it bound is handed back to the dialer.
-pub fn knx<R: Wait, F: Files, K: Sink, D: Dialer>(
+/// the program's exit status. `last` becomes the report of the run, and None where no run began. A link that it dialled or a port that it bound is handed back to the dialer. The downloaders are threads of `rt`, and each
+/// passes `gate` between taking a job and starting it.
+pub fn knx<R: Threads + Wait + Sync, F: Files, K: Sink, D: Dialer, G: Gate + Sync>(
     rt: &R,
     alloc: Global,
     words: &[String],
@@ -90,6 +94,7 @@ pub fn knx<R: Wait, F: Files, K: Sink, D: Dialer>(
     out: &mut K,
     sim: &mut SimBus,
     dial: &mut D,
+    gate: &G,
     last: &mut Option<Report>,
 ) -> Status
     // other words than a command's are told so
@@ -122,7 +127,7 @@ pub fn knx<R: Wait, F: Files, K: Sink, D: Dialer>(
     ensures fault { HasRunOf HasFaultRight (map string_bytes words.now) (F.now files.old) sim.old (record { line = sim.new; report = last.new }) }
     ensures over { HasRunOf EndsEveryJob (map string_bytes words.now) (F.now files.old) sim.old (record { line = sim.new; report = last.new }) }
     ensures closed { HasRunOf ClosesToItsEnd (map string_bytes words.now) (F.now files.old) sim.old (record { line = sim.new; report = last.new }) }
-    // what the log tells was done by one of the run's workers, which is worker 1, or by the group thread
+    // what the log tells was done by one of the run's workers, as many as the words say, or by the group thread
     ensures seats { HasRunOf IsOfItsWorkers (map string_bytes words.now) (F.now files.old) sim.old (record { line = sim.new; report = last.new }) }
     // that the link failed is told of `sim` only at the last time of 64 bits, where a call of the simulated line failed
     ensures link { (names : SimWords) → asked (map string_bytes words.now) ≡ Some (AskedSim names) → FaultsOfLine last.new sim.new }
@@ -137,5 +142,5 @@ pub fn knx<R: Wait, F: Files, K: Sink, D: Dialer>(
     ensures written { (K.now out.new).writes ≡ one_more (K.now out.old).writes }
 {
     *last = None;
-    answer(rt, alloc, words, files, out, sim, dial, last)
+    answer(rt, alloc, words, files, out, sim, dial, gate, last)
 }

@@ -12,6 +12,7 @@ mod line;
 mod options;
 mod project;
 mod shown;
+mod turns;
 
 pub use bus_sim::SimBus;
 pub use call::knx;

@@ -1,25 +1,78 @@
 //! Options and jobs: what stands behind the names of a command's files, in any order.
 
-ghost use Rattle.std.specs.Prelude.{◌≡◌, None, Some, drop, length, map, nat_eq, string_bytes, if◌then◌else◌};
+ghost use Rattle.std.specs.Prelude.{◌≡◌, ◌≤◌, None, Some, drop, length, map, nat_eq, string_bytes, if◌then◌else◌};
 ghost use Rattle.std.specs.List.{starts_with};
 ghost use Rattle.std.specs.Option.{option_map};
 ghost use Rattle.knx_top.specs.Fronts.{read_by};
 ghost use Rattle.knx_top.specs.Names.{options_of, the_word};
-ghost use Rattle.knx_top.specs.Options.{no_options, project_options, project_rows, run_rows, sim_options, with_catalogue, with_job, with_log};
+ghost use Rattle.knx_top.specs.Options.{from_1_to, most_workers, no_options, project_options, project_rows, run_rows, sim_options, usual_workers, with_catalogue, with_job, with_log, with_workers, workers_of};
 
 use arrayvec::ArrayVec;
 use call_words::{JobKind, JobWord};
-use knx_model::ind_of;
+use knx_model::{ind_of, number_of};
+use std::marker::Model;
 
 /// The most jobs that words name.
 const MOST_JOBS: usize = 1024;
 
-/// `[catalogue=F] [log]` and jobs. It takes no memory.
+/// The most downloaders that work at once.
+const MOST_WORKERS: u32 = 8;
+
+/// How many downloaders work at once: 1 to 8.
+#[derive(Drop)]
+pub struct Workers {
+    count: u8,
+}
+
+impl Model for Workers {
+    ghost use Rattle.std.specs.Prelude.{ℕ, ◌≤◌};
+    ghost use Rattle.knx_top.specs.Options.{most_workers};
+
+    ghost Value = { ℕ };
+
+    ghost view = { λ w. w.count };
+
+    ghost invariant = { λ w. (1 ≤ w.count) × (w.count ≤ most_workers) };
+}
+
+impl Workers {
+    /// Those of a run whose words name no number.
+    fn usual() -> Workers
+        ensures { result ≡ usual_workers }
+    {
+        Workers { count: 4 }
+    }
+
+    /// The number that a word is; none for another word.
+    fn of(word: &str) -> Option<Workers>
+        ensures { result ≡ from_1_to most_workers word.now }
+    {
+        match number_of(word) {
+            Some(count) if 1 <= count && count <= MOST_WORKERS => Some(Workers {
+                count: count as u8,
+            }),
+            _ => None,
+        }
+    }
+
+    /// How many they are.
+    pub fn count(self) -> u8
+        ensures value { result ≡ self }
+        ensures some { 1 ≤ result }
+        ensures few { result ≤ most_workers }
+    {
+        self.count
+    }
+}
+
+/// `[catalogue=F] [log] [workers=N]` and jobs. It takes no memory.
 #[derive(Drop)]
 pub struct SimOptions<'a> {
     pub catalogue: Option<&'a str>,
     /// Whether the log is printed.
     pub log: bool,
+    /// As many as the words name.
+    workers: Option<Workers>,
     /// In the order of their words.
     pub jobs: ArrayVec<JobWord, MOST_JOBS>,
 }
@@ -32,6 +85,18 @@ pub fn behind<'a>(front: &str, word: &'a str) -> Option<&'a str>
 }
 
 impl<'a> SimOptions<'a> {
+    /// How many downloaders work at once.
+    pub fn workers(&self) -> Workers
+        ensures { result ≡ workers_of (options_of self.now) }
+    {
+        match &self.workers {
+            Some(workers) => Workers {
+                count: workers.count,
+            },
+            None => Workers::usual(),
+        }
+    }
+
     /// Before any word.
     fn none() -> Self
         ensures { options_of result ≡ no_options }
@@ -39,6 +104,7 @@ impl<'a> SimOptions<'a> {
         SimOptions {
             catalogue: None,
             log: false,
+            workers: None,
             jobs: ArrayVec::new(),
         }
     }
@@ -62,6 +128,18 @@ impl<'a> SimOptions<'a> {
             return None;
         }
         self.log = true;
+        Some(())
+    }
+
+    /// Takes the number of `workers=N`, where none stands before it.
+    fn take_workers(&mut self, number: &str) -> Option<()>
+        ensures { option_map (λ _. options_of self.new) result ≡ with_workers (options_of self.old) number.now }
+    {
+        if self.workers.is_some() {
+            return None;
+        }
+        let workers = Workers::of(number)?;
+        self.workers = Some(workers);
         Some(())
     }
 
@@ -96,6 +174,8 @@ impl<'a> SimOptions<'a> {
             self.take_catalogue(name)
         } else if let Some(rest) = behind("log", word) {
             self.take_log(rest)
+        } else if let Some(number) = behind("workers=", word) {
+            self.take_workers(number)
         } else if let Some(address) = behind("load:", word) {
             self.take_job(JobKind::Load, address)
         } else if let Some(address) = behind("check:", word) {

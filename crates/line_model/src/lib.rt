@@ -23,7 +23,9 @@ pub use laws::{
     power_comes_back, the_tunnel_runs_in_the_line, what_comes_to_no_device_changes_none,
 };
 pub use log::{LogEntry, LogWhat, Report};
-pub use outside::{DialFailed, Dialer, Gate, Link, LinkFault, Polled, Port, PortFault, PortPolled};
+pub use outside::{
+    DialFailed, Dialer, Gate, Link, LinkFault, Open, Polled, Port, PortFault, PortPolled,
+};
 pub use poll_wait::{LONGEST_POLL_MS, until};
 pub use put_refused::PutRefused;
 pub use runs::{

@@ -9,7 +9,7 @@ use Rattle.knx_model.specs.declared.project.Statement.{Statement}
 use Rattle.knx_model.specs.declared.project.What.{What}
 use Rattle.knx_model.specs.declared.refusal.Refused.{Refused}
 use Rattle.knx_model.specs.declared.refusal.Why.{Why}
-use Rattle.knx_model.specs.declared.refusal.Why.TheVariants.{NoMemory, NotText, LongLine, UnknownWord, BadAddress, BadNumber, BadName, MissingWord, ExtraWord, DuplicateDevice, DuplicateGroup, UnknownGroup, UnknownModel, DuplicateObject, UnknownObject, DuplicateLink, UnknownParameter, OutOfRange, SizeDiffers, TooMany, NoDevice, NotBuilt}
+use Rattle.knx_model.specs.declared.refusal.Why.TheVariants.{NoMemory, NotText, LongLine, UnknownWord, BadAddress, BadNumber, BadName, MissingWord, ExtraWord, DuplicateDevice, DuplicateGroup, UnknownGroup, UnknownModel, DuplicateObject, UnknownObject, DuplicateLink, UnknownParameter, OutOfRange, SizeDiffers, TooMany, NoDevice}
 use Rattle.knx_model.specs.LeastLine.{first_refused}
 use Rattle.knx_model.specs.Refusal.{why_number}
 use Rattle.knx_model.specs.Rules.{rule_of, broken_at, broken_from, first_broken, duplicate_device, duplicate_group, unknown_group, unknown_model, duplicate_object, unknown_object, duplicate_link, unknown_parameter, out_of_range, size_differs, too_many_devices, too_many_links, no_device}
@@ -133,7 +133,6 @@ breaks_told catalogue before all what BadNumber h = absurd h
 breaks_told catalogue before all what BadName h = absurd h
 breaks_told catalogue before all what MissingWord h = absurd h
 breaks_told catalogue before all what ExtraWord h = absurd h
-breaks_told catalogue before all what NotBuilt h = absurd h
 
 breaks_none : (catalogue : List NamedModel) (before all : List Statement) (what : What) (why : Why) → rule_of catalogue before all what ≡ None → ¬ Breaks catalogue before all what why
 breaks_none catalogue before all what why e = λ h. none_told (rules catalogue before all what) why (first_is_rule catalogue before all what ∙ e) (breaks_told catalogue before all what why h)

@@ -1,4 +1,4 @@
--- Why a hub with one caller ended without its end.
+-- Why a hub in its closing ended without its end.
 use Rattle.std.specs.Prelude.{◌≡◌, ◌⊎◌, Option, Some, None}
 use Rattle.line_model.specs.declared.fault.HubFault.{HubFault}
 use Rattle.line_model.specs.declared.fault.HubFault.TheVariants.{NoMemory}

@@ -1,4 +1,4 @@
--- How a hub with one caller leaves its channel: until all jobs are over and all group telegrams told the open one isn't asked to end, and then it
+-- How a hub leaves its channel: until all jobs are over and all group telegrams told the open one isn't asked to end, and then it
 -- closes rightly, from the last entry of the log on.
 use Rattle.std.specs.Prelude.{◌≡◌, ◌≤◌, List, [], ◌++◌, Option, Some, None}
 use Rattle.line_model.specs.declared.log.LogEntry.{LogEntry}

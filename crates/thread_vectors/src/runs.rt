@@ -8,7 +8,7 @@ ghost use Rattle.line_model.specs.LinkStory.{IsNewLink};
 use bus_sim::{Refused, Script, SimBus};
 use hub_core::{CheckPlan, HubJob, JobPlan, LoadPlan, LogWhat};
 use knx_model::{Image, IndAddr, List, NoMemory, Octets};
-use line_model::{Gate, Report};
+use line_model::{Gate, Open, Report};
 use shared_hub::commission;
 use std::alloc::Global;
 use std::process::Abort;
@@ -79,13 +79,6 @@ fn jobs_of_all(alloc: Global) -> Result<List<HubJob>, NoMemory> {
     Ok(jobs)
 }
 
-/// A gate that returns at once.
-struct OpenGate;
-
-impl Gate for OpenGate {
-    fn pass(&self, _job: u32) {}
-}
-
 /// It holds job 1 until job 3 passes, or gives up.
 #[derive(Drop)]
 struct HoldsTheFirst {
@@ -144,7 +137,7 @@ fn done_in(report: &Report) -> usize {
 #[test]
 fn any_number_of_workers_does_all(rt: HostRuntime) -> Result<(), Fail> {
     for workers in [1, 2, 4, 8] {
-        let report = run(&rt, rt.alloc(), workers, &OpenGate)?;
+        let report = run(&rt, rt.alloc(), workers, &Open)?;
         assert!(rt; report.fault.is_none(), "with {workers}");
         assert_eq!(rt; done_in(&report), 5, "with {workers}");
         assert_eq!(rt; report.log.len(), 10, "with {workers}");

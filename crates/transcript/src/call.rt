@@ -6,8 +6,10 @@ use crate::text::TextFile;
 use knx_model::{MemoryFile, MemoryFiles, MemorySink, NoMemory};
 use knx_top::{SimBus, knx};
 use line_fixed::FixedDialer;
+use line_model::Open;
 use std::alloc::Global;
 use std::sync::Wait;
+use std::thread::Threads;
 
 /// The longest output that is copied, in octets.
 const LONGEST_COPIED: usize = 2_000;
@@ -47,7 +49,7 @@ fn put_output(alloc: Global, out: &mut String, written: &[u8]) -> Result<(), Fau
 }
 
 /// The exit status of a call with these words.
-fn status_of<R: Wait>(
+fn status_of<R: Threads + Wait + Sync>(
     rt: &R,
     alloc: Global,
     words: &[String],
@@ -57,11 +59,14 @@ fn status_of<R: Wait>(
 ) -> u8 {
     let mut sim = SimBus::empty(alloc);
     let mut last = None;
-    knx(rt, alloc, words, files, sink, &mut sim, dial, &mut last).number()
+    knx(
+        rt, alloc, words, files, sink, &mut sim, dial, &Open, &mut last,
+    )
+    .number()
 }
 
 /// Adds what a call with these words hands back, where it dials or binds, what it writes, and its status.
-pub fn put_call<R: Wait>(
+pub fn put_call<R: Threads + Wait + Sync>(
     rt: &R,
     alloc: Global,
     out: &mut String,

@@ -25,6 +25,7 @@ use crate::outside::Outside;
 use crate::text::{TextFile, unescaped};
 use std::alloc::Global;
 use std::sync::Wait;
+use std::thread::Threads;
 use std::{io, mem};
 
 /// The file that a `>` line states.
@@ -78,7 +79,12 @@ impl Transcript {
     }
 
     /// A call with these words.
-    fn call<R: Wait>(&mut self, rt: &R, alloc: Global, words: &str) -> Result<(), Fault> {
+    fn call<R: Threads + Wait + Sync>(
+        &mut self,
+        rt: &R,
+        alloc: Global,
+        words: &str,
+    ) -> Result<(), Fault> {
         let outside = mem::replace(&mut self.outside, Outside::new(alloc));
         put_call(
             rt,
@@ -91,7 +97,12 @@ impl Transcript {
     }
 
     /// A line outside of all files.
-    fn follow<R: Wait>(&mut self, rt: &R, alloc: Global, line: &str) -> Result<(), Fault> {
+    fn follow<R: Threads + Wait + Sync>(
+        &mut self,
+        rt: &R,
+        alloc: Global,
+        line: &str,
+    ) -> Result<(), Fault> {
         if let Some(name) = line.strip_prefix("file ") {
             self.open = Some(TextFile::new(alloc, name)?);
             return Ok(());
@@ -113,7 +124,12 @@ impl Transcript {
         Ok(())
     }
 
-    fn read<R: Wait>(&mut self, rt: &R, alloc: Global, line: &str) -> Result<(), Fault> {
+    fn read<R: Threads + Wait + Sync>(
+        &mut self,
+        rt: &R,
+        alloc: Global,
+        line: &str,
+    ) -> Result<(), Fault> {
         match self.open.take() {
             Some(file) => self.add_to(alloc, file, line),
             None => self.follow(rt, alloc, line),

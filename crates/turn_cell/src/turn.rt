@@ -27,6 +27,7 @@ use crate::rule::{Look, Part, Publish, Release, Rule, Take};
 use crate::seat::Seat;
 use crate::view::View;
 use atomic_table::{Refused, Table};
+use crossbeam_utils::Backoff;
 use knx_model::NoMemory;
 use std::alloc::{AllocError, Global};
 use std::marker::Model;
@@ -94,13 +95,15 @@ impl<S: Logged> Turn<S> {
         }
     }
 
-    /// Waits for the turn and takes the state out. Its list begins with what the seat has seen.
+    /// Waits for the turn and takes the state out. Its list begins with what the seat has seen. It looks again a few times before it sleeps: most
+    /// turns are short.
     pub fn take<R: Wait>(&self, rt: &R, seat: &mut Seat<S>) -> S
         requires of { seat.old.cell ≡ self.now.id }
         requires free { seat.old.turn ≡ false }
         ensures begins { IsPrefix seat.old.seen (S.list result) }
         ensures seat { seat.new ≡ with_turn (S.list result) seat.old }
     {
+        let backoff = Backoff::new();
         for _ in rt.forever() {
             let inner = &mut seat.inner;
             if self
@@ -114,7 +117,11 @@ impl<S: Logged> Turn<S> {
                 };
                 return state;
             }
-            self.table.shared.park(rt, TURN, HELD as u32);
+            if backoff.is_completed() {
+                self.table.shared.park(rt, TURN, HELD as u32);
+            } else {
+                backoff.snooze();
+            }
         }
         unreachable!()
     }

@@ -1,13 +1,15 @@
 //! Over fixed datagrams: what is dropped of those that come, and what is sent next.
 
-use super::{JobKind, OpenGate, group_turns, jobs_of};
-use hub_driver::commission;
+use super::{JobKind, group_turns, jobs_of};
 use knx_model::{List, NoMemory, Octets};
 use line_fixed::{FixedLink, Item};
+use line_model::Open;
+use shared_hub::commission;
 use std::alloc::Global;
 use std::process::Abort;
 use std::sync::Wait;
 use std::test::Fail;
+use std::thread::Threads;
 
 /// The channel 1 is open, and its tunnel is 1.1.255.
 const CONNECTED: [u8; 20] = [
@@ -56,7 +58,11 @@ fn sent_after<'a>(link: &'a FixedLink, datagram: &[u8]) -> Option<(&'a [u8], u64
     None
 }
 
-fn drive<R: Abort + Wait>(rt: &R, alloc: Global, row: &Row) -> Result<(), NoMemory> {
+fn drive<R: Abort + Threads + Wait + Sync>(
+    rt: &R,
+    alloc: Global,
+    row: &Row,
+) -> Result<(), NoMemory> {
     let jobs = jobs_of(alloc, &[JobKind::Load])?;
     assert!(rt; jobs.len() < 100);
     let groups = group_turns(alloc, &[])?;
@@ -64,7 +70,7 @@ fn drive<R: Abort + Wait>(rt: &R, alloc: Global, row: &Row) -> Result<(), NoMemo
     gives.push(Octets::from_slice(alloc, &CONNECTED)?)?;
     gives.push(Octets::from_slice(alloc, row.got)?)?;
     let link = FixedLink::new(alloc, gives, None, List::new(alloc));
-    let (link, report) = commission(rt, alloc, jobs, groups, link, &OpenGate);
+    let (link, report) = commission(rt, alloc, jobs, groups, link, 1, &Open);
     assert_eq!(rt; report.dropped, row.dropped, "{}", row.name);
     let sent = sent_after(&link, row.got);
     assert!(rt; sent == Some((row.sent, row.at)), "{}", row.name);

@@ -5,18 +5,19 @@ ghost use Rattle.bus_sim.specs.RunNow.{story};
 ghost use Rattle.knx_model.specs.Device.{Fits};
 ghost use Rattle.line_model.specs.LinkStory.{IsNewLink};
 
-use super::{DEVICE, JobKind, OpenGate, group_turns, image_linked, jobs_of};
+use super::{DEVICE, JobKind, group_turns, image_linked, jobs_of};
 use crate::gateway::TUNNEL;
 use bus_sim::{Refused, Script, SimBus};
 use hub_core::{HubFault, LogWhat};
-use hub_driver::commission;
 use knx_model::{Image, List, NoMemory};
 use line_fixed::FailingLink;
-use line_model::Report;
+use line_model::{Open, Report};
+use shared_hub::commission;
 use std::alloc::Global;
 use std::process::Abort;
 use std::sync::Wait;
 use std::test::Fail;
+use std::thread::Threads;
 
 /// More calls than a load of the device makes.
 const MANY: u64 = 4_000;
@@ -40,7 +41,7 @@ fn line_of(alloc: Global, image: Image) -> Result<SimBus, Refused>
 }
 
 /// A load, whose link's n-th call fails.
-fn run<R: Abort + Wait>(
+fn run<R: Abort + Threads + Wait + Sync>(
     rt: &R,
     alloc: Global,
     n: u64,
@@ -50,7 +51,7 @@ fn run<R: Abort + Wait>(
     let jobs = jobs_of(alloc, &[JobKind::Load])?;
     assert!(rt; jobs.len() < 100);
     let groups = group_turns(alloc, &[])?;
-    Ok(commission(rt, alloc, jobs, groups, link, &OpenGate))
+    Ok(commission(rt, alloc, jobs, groups, link, 1, &Open))
 }
 
 /// What the device runs: the last octet of its only group address, and 0 where it is stopped.

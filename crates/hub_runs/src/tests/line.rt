@@ -1,15 +1,17 @@
 //! Over a gateway with its device.
 
-use super::{DEVICE, JobKind, OpenGate, Telegram, group_turns, jobs_of};
+use super::{DEVICE, JobKind, Telegram, group_turns, jobs_of};
 use crate::gateway::{Gateway, Mood};
 use device_sim::Device;
 use hub_core::LogWhat;
-use hub_driver::commission;
 use knx_model::NoMemory;
+use line_model::Open;
+use shared_hub::commission;
 use std::alloc::Global;
 use std::process::Abort;
 use std::sync::Wait;
 use std::test::Fail;
+use std::thread::Threads;
 
 /// What an entry of the log tells. Of a refusal the operation, what was got and what was expected.
 #[derive(Clone, Copy, Drop)]
@@ -55,13 +57,17 @@ struct Row {
     fails: bool,
 }
 
-fn drive<R: Abort + Wait>(rt: &R, alloc: Global, row: &Row) -> Result<(), NoMemory> {
+fn drive<R: Abort + Threads + Wait + Sync>(
+    rt: &R,
+    alloc: Global,
+    row: &Row,
+) -> Result<(), NoMemory> {
     let jobs = jobs_of(alloc, row.jobs)?;
     assert!(rt; jobs.len() < 100);
     assert!(rt; row.groups.len() < 100);
     let groups = group_turns(alloc, row.groups)?;
     let link = Gateway::new(alloc, Device::blank(alloc, DEVICE)?, row.mood);
-    let (link, report) = commission(rt, alloc, jobs, groups, link, &OpenGate);
+    let (link, report) = commission(rt, alloc, jobs, groups, link, 1, &Open);
     assert_eq!(rt; link.side.connects, row.connects, "{}", row.name);
     assert_eq!(rt; link.side.disconnects, row.disconnects, "{}", row.name);
     assert_eq!(rt; report.fault.is_some(), row.fails, "{}", row.name);

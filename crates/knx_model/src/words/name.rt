@@ -60,15 +60,6 @@ impl<'a> Name<'a> {
         }
     }
 
-    /// The same name, borrowed from the same text.
-    pub fn copied(&self) -> Name<'a>
-        ensures { result ≡ self.now }
-    {
-        Name {
-            octets: self.octets,
-        }
-    }
-
     /// Its octets.
     pub fn as_slice(&self) -> &'a [u8]
         ensures { result.now ≡ self.now }

@@ -21,7 +21,6 @@ use Rattle.call_words.specs.declared.stop.Stop.TheVariants as stop
 use Rattle.knx_top.specs.declared.ending.End.TheVariants as ends
 use Rattle.knx_top.specs.commands.Download.{Dials, DialsOr, RunsDialled, download_tests, download_told, judged_download, project_named, DownloadWords, IsReady, IsReadyFor, ReadyFor, Download, download_of, with_project}
 use Rattle.knx_top.specs.commands.Project.{ProjectWords, ProjectIsRead, failed_of_project, project_tests, project_told, judged_project}
-use Rattle.knx_top.specs.Options.{SimOptions}
 
 -- ---- the tests
 
@@ -61,9 +60,9 @@ of_ready P (Err why) ready r h = absurd r
 of_ready P (Ok d) ready r h = h d r
 
 decided : (j : Result Download Stop) (words : DownloadWords) (ready : Ready) (before after : DialerNow) (end : End) → ((d : Download) → j ≡ Ok d → (d.at ≡ words.at) × (d.options ≡ words.options)) → ReadyFor j ready
-    → ((d : Download) → IsReadyFor d ready → d.at ≡ words.at → words.options.log ≡ d.options.log → Dials d before after end) → DialsOr j before after end
+    → ((d : Download) → IsReadyFor d ready → d.at ≡ words.at → d.options ≡ words.options → Dials d before after end) → DialsOr j before after end
 decided (Err why) words ready before after end has r dials = absurd r
-decided (Ok d) words ready before after end has r dials = let h = has d refl in dials d r h.0 (sym (ap (λ (these : SimOptions). these.log) h.1))
+decided (Ok d) words ready before after end has r dials = let h = has d refl in dials d r h.0 h.1
 
 its_words : (words : DownloadWords) (texts : ProjectTexts) (d : Download) → judged_download words texts ≡ Ok d → (d.at ≡ words.at) × (d.options ≡ words.options)
 its_words words texts d e =
@@ -71,7 +70,7 @@ its_words words texts d e =
     (ap (λ (told : Download). told.at) same, ap (λ (told : Download). told.options) same)
 
 pub dialled_run : (words : DownloadWords) (texts : ProjectTexts) (ready : Ready) (before after : DialerNow) (end : End) → ReadyFor (judged_download words texts) ready
-    → ((d : Download) → IsReadyFor d ready → d.at ≡ words.at → words.options.log ≡ d.options.log → Dials d before after end) → DialsOr (judged_download words texts) before after end
+    → ((d : Download) → IsReadyFor d ready → d.at ≡ words.at → d.options ≡ words.options → Dials d before after end) → DialsOr (judged_download words texts) before after end
 dialled_run words texts ready before after end r dials = decided (judged_download words texts) words ready before after end (its_words words texts) r dials
 
 -- ---- the whole of it

@@ -12,38 +12,36 @@ use Rattle.knx_top.specs.Input.{OnlyRose, fault_in, first_some, goes_on, octets_
 use Rattle.knx_top.specs.declared.commands.sim.judge.Order.{Order}
 use Rattle.knx_model.specs.declared.script.ScriptLine.{ScriptLine}
 use Rattle.knx_top.specs.declared.commands.sim.SimTexts.{SimTexts}
+use Rattle.call_words.specs.declared.job_word.JobWord.{JobWord}
 use Rattle.call_words.specs.declared.stop.Stop.{Stop}
 use Rattle.knx_top.specs.Judged.{known_jobs, models_of, read_of, unless_refused, unless_strange, sound}
 use Rattle.knx_top.proofs.Stops.{broken_step, does_by, failed_step, models_step, read_step, stops_by, text_step, unless_stopped, passed, step, stopped}
 use Rattle.knx_model.specs.Rules.{first_broken}
 use Rattle.knx_model.specs.ScriptText.{first_stranger, script_reading}
-use Rattle.std.specs.List.{list_all, list_any}
+use Rattle.std.specs.List.{list_all}
 use Rattle.knx_top.specs.OnLine.{on_bus}
 use Rattle.knx_top.proofs.Ends.{report_wants, stop_wants}
 use Rattle.knx_top.proofs.Counts.{rose_then, tail_of, alone}
 use Rattle.call_words.specs.declared.input_file.InputFile.TheVariants as file
 use Rattle.call_words.specs.declared.stop.Stop.TheVariants as stop
 use Rattle.knx_top.specs.declared.ending.End.TheVariants as ends
-use Rattle.knx_top.specs.commands.Sim.{Comes, Runs, commission_told, is_group_line, sim_tests, unless_built, RunsScript, SimIsRead, failed_of_sim, SimWords, after_new, unless_grouped, with_jobs, with_known, with_new, with_script, after_catalogue, after_old, after_script, with_before, with_lines, with_models, with_old, with_project, judged}
+use Rattle.knx_top.specs.commands.Sim.{Comes, Runs, commission_told, sim_tests, RunsScript, SimIsRead, failed_of_sim, SimWords, after_new, with_known, with_new, after_catalogue, after_old, after_script, with_before, with_lines, with_models, with_old, with_project, judged}
 use Rattle.knx_top.specs.Ran.{Commission, commission_of, Left}
 use Rattle.knx_top.specs.Options.{SimOptions}
 use Rattle.knx_model.specs.Statements.{reading}
-use Rattle.std.specs.Prelude.{not}
 
 -- ---- the tests
 
 -- the tests of a script and of the devices that it and the jobs name
 pub script_is : (options : SimOptions) (project before : Installation) (ls : List ScriptLine)
-    → with_lines options project before ls ≡ unless_stopped (stranger_named (first_stranger (on_bus project before) ls) ∷ unless_known (list_all (is_known project) options.jobs) ∷ unless_built file.Script (not (list_any is_group_line ls)) ∷ [])
+    → with_lines options project before ls ≡ unless_stopped (stranger_named (first_stranger (on_bus project before) ls) ∷ unless_known (list_all (is_known project) options.jobs) ∷ [])
     (commission_of project before ls options)
 script_is options project before ls =
     let c : Commission = commission_of project before ls options in
     let t1 : Option Stop = stranger_named (first_stranger (on_bus project before) ls) in
     let t2 : Option Stop = unless_known (list_all (is_known project) options.jobs) in
-    let t3 : Option Stop = unless_built file.Script (not (list_any is_group_line ls)) in
-    step (t1 ∷ []) (t2 ∷ t3 ∷ []) (unless_strange project before ls) ls (with_known options project before) c (failed_step t1 ls)
-    (step (t2 ∷ []) (t3 ∷ []) (known_jobs project options.jobs) options.jobs (with_jobs options project before ls) c (failed_step t2 options.jobs)
-    (step (t3 ∷ []) [] (unless_grouped ls) ls (with_script options project before) c (failed_step t3 ls) refl))
+    step (t1 ∷ []) (t2 ∷ []) (unless_strange project before ls) ls (with_known options project before) c (failed_step t1 ls)
+    (step (t2 ∷ []) [] (known_jobs project options.jobs) options.jobs (λ (jobs : List JobWord). Ok c) c (failed_step t2 options.jobs) refl)
 
 pub judged_is : (words : SimWords) (texts : SimTexts) → judged words texts ≡ unless_stopped (sim_tests words texts) (commission_told words texts)
 judged_is words texts =
@@ -63,7 +61,7 @@ judged_is words texts =
     let t8 : Option Stop = text_refused file.Old (reading old) in
     let t9 : Option Stop = rule_broken file.Old c.before in
     let t10 : Option Stop = text_refused file.Script (script_reading script) in
-    let rest : List (Option Stop) = stranger_named (first_stranger (on_bus c.project c.before) c.script) ∷ unless_known (list_all (is_known c.project) c.options.jobs) ∷ unless_built file.Script (not (list_any is_group_line c.script)) ∷ [] in
+    let rest : List (Option Stop) = stranger_named (first_stranger (on_bus c.project c.before) c.script) ∷ unless_known (list_all (is_known c.project) c.options.jobs) ∷ [] in
     step (t1 ∷ []) (t2 ∷ t3 ∷ t4 ∷ t5 ∷ t6 ∷ t7 ∷ t8 ∷ t9 ∷ t10 ∷ rest) (read_of words.options.catalogue texts.catalogue) (octets_of texts.catalogue) (after_catalogue words texts) c (read_step words.options.catalogue texts.catalogue)
     (step (t2 ∷ []) (t3 ∷ t4 ∷ t5 ∷ t6 ∷ t7 ∷ t8 ∷ t9 ∷ t10 ∷ rest) (read_of (Some words.new) texts.new) new (after_new words texts) c (read_step (Some words.new) texts.new)
     (step (t3 ∷ []) (t4 ∷ t5 ∷ t6 ∷ t7 ∷ t8 ∷ t9 ∷ t10 ∷ rest) (read_of (Some words.old) texts.old) old (after_old words texts new) c (read_step (Some words.old) texts.old)
@@ -110,12 +108,12 @@ its_options : (words : SimWords) (texts : SimTexts) (c : Commission) → judged 
 its_options words texts c e = ap (λ (told : Commission). told.options) (passed (sim_tests words texts) (commission_told words texts) c (sym (judged_is words texts) ∙ e))
 
 decided : (j : Result Commission Stop) (options : SimOptions) (order : Order) (before after : BusNow) (end : End) → ((c : Commission) → j ≡ Ok c → c.options ≡ options) → OrderFor j order
-    → ((c : Commission) → IsOrder c order → options.log ≡ c.options.log → Runs c before after end) → Comes j before after end
+    → ((c : Commission) → IsOrder c order → c.options ≡ options → Runs c before after end) → Comes j before after end
 decided (Err why) options order before after end has o runs = absurd o
-decided (Ok c) options order before after end has o runs = runs c o (sym (ap (λ (these : SimOptions). these.log) (has c refl)))
+decided (Ok c) options order before after end has o runs = runs c o (has c refl)
 
 pub decided_run : (words : SimWords) (texts : SimTexts) (order : Order) (before after : BusNow) (end : End) → OrderFor (judged words texts) order
-    → ((c : Commission) → IsOrder c order → words.options.log ≡ c.options.log → Runs c before after end) → Comes (judged words texts) before after end
+    → ((c : Commission) → IsOrder c order → c.options ≡ words.options → Runs c before after end) → Comes (judged words texts) before after end
 decided_run words texts order before after end o runs = decided (judged words texts) words.options order before after end (its_options words texts) o runs
 
 -- ---- the whole of it

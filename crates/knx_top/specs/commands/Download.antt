@@ -20,7 +20,7 @@ use Rattle.knx_top.specs.commands.Project.{ProjectIsRead, ProjectWords, failed_o
 use Rattle.knx_top.specs.declared.project.ProjectTexts.{ProjectTexts}
 use Rattle.knx_top.specs.declared.commands.download.Ready.{Ready}
 use Rattle.line_model.specs.declared.log.Report.{Report}
-use Rattle.knx_top.specs.Options.{SimOptions, sim_options}
+use Rattle.knx_top.specs.Options.{SimOptions, sim_options, workers_of}
 use Rattle.call_words.specs.declared.stop.Stop.{Stop}
 use Rattle.knx_top.specs.Ending.{StopsFor, report_in}
 use Rattle.knx_top.specs.Names.{address_of, options_of}
@@ -62,9 +62,9 @@ pub record Download : Type 0 where
   pub workers : ℕ
   pub turns : List GroupTurn
 
--- one worker drives the hub, and no group telegrams are sent
+-- as many workers drive the hub as the words say, and no group telegrams are sent
 abbrev pub download_of : DownloadWords → Installation → Download
-download_of words project = record { at = words.at; project = project; options = words.options; workers = 1; turns = [] }
+download_of words project = record { at = words.at; project = project; options = words.options; workers = workers_of words.options; turns = [] }
 
 abbrev pub download_told : DownloadWords → ProjectTexts → Download
 download_told words texts = download_of words (project_told texts)
@@ -140,10 +140,10 @@ pub record IsReady (project : Installation) (named : List JobWord) (ready : Read
   pub plans : ArePlanned project (map seen_job ready.plans) ready.jobs
   pub good : AllByRecursion IsGoodJob (map seen_job ready.plans)
 
--- a download with its jobs, which one caller drives, and which sends no group telegrams
+-- a download with its jobs, which the workers of its words drive, and which sends no group telegrams
 pub record IsReadyFor (d : Download) (ready : Ready) : Type 0 where
   pub prepared : IsReady d.project d.options.jobs ready
-  pub workers : d.workers ≡ 1
+  pub workers : d.workers ≡ workers_of d.options
   pub turns : d.turns ≡ []
 
 -- what was judged has its jobs

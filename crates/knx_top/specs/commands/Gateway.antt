@@ -27,15 +27,14 @@ use Rattle.bus_sim.specs.RunNow.{RunNow, start}
 use Rattle.knx_model.specs.declared.script.ScriptLine.{ScriptLine}
 use Rattle.bus_sim.specs.declared.serve.Served.{Served}
 use Rattle.knx_top.specs.declared.ending.ServiceEnd.{ServiceEnd}
-use Rattle.knx_top.specs.Options.{SimOptions, project_options}
+use Rattle.knx_top.specs.Options.{SimOptions, from_1_to, project_options}
 use Rattle.knx_model.specs.declared.project.Statement.{Statement}
 use Rattle.call_words.specs.declared.stop.Stop.{Stop}
 use Rattle.knx_top.specs.Ending.{StopsFor}
 use Rattle.knx_top.specs.Names.{address_of, named}
-use Rattle.knx_top.specs.Host.{address_value, unless_zero}
+use Rattle.knx_top.specs.Host.{address_value}
 use Rattle.knx_top.specs.Stops.{catalogue_refused, lines_in, project_in, rule_broken, stranger_named, text_refused}
 use Rattle.knx_model.specs.ScriptText.{first_stranger, script_reading}
-use Rattle.knx_model.specs.Numbers.{number_value, up_to}
 use Rattle.knx_top.specs.OnLine.{on_bus}
 use Rattle.line_model.specs.Lines.{script_of}
 use Rattle.call_words.specs.declared.stop.Stop.TheVariants as stop
@@ -63,7 +62,7 @@ most_turns = 1000000000
 
 -- `turns=N`
 abbrev pub turns_rows : List (Row ℕ)
-turns_rows = record { front = codes "turns="; reads = λ number. option_and_then unless_zero (up_to most_turns (number_value number)) } ∷ []
+turns_rows = record { front = codes "turns="; reads = from_1_to most_turns } ∷ []
 
 abbrev pub turns_value : List ℕ → Option ℕ
 turns_value word = read_by turns_rows word

@@ -1,25 +1,21 @@
 -- `sim NEW OLD SCRIPT` with options and jobs: its words, what it reads, its tests in their order, and what a call of it comes to.
-use Rattle.std.specs.Prelude.{ℕ, Bool, List, None, Ok, Option, Result, Some, option_to_list, ◌≡◌, ◌++◌, ◌∷◌, length, not, true, false, []}
+use Rattle.std.specs.Prelude.{ℕ, Bool, List, None, Ok, Option, Result, Some, option_to_list, ◌≡◌, ◌++◌, ◌∷◌, length, true, []}
 use Rattle.knx_top.specs.Shown.{AreShown, AreShownOf}
 use Rattle.bus_sim.specs.Loaded.{BusNow}
-use Rattle.knx_top.specs.Judged.{ComesTo, known_jobs, models_of, read_of, unless_failed, unless_refused, unless_strange, sound, installed}
+use Rattle.knx_top.specs.Judged.{ComesTo, known_jobs, models_of, read_of, unless_refused, unless_strange, sound, installed}
 use Rattle.knx_top.specs.Ran.{Commission, Left, Ran, commission_of}
 use Rattle.knx_top.specs.declared.ending.End.{End}
 use Rattle.knx_model.specs.Outside.{FileContent, FilesNow}
-use Rattle.knx_model.specs.declared.script.ScriptWhat.TheVariants.{Group}
 use Rattle.knx_model.specs.declared.config.Image.{Image}
 use Rattle.knx_model.specs.declared.address.IndAddr.{IndAddr}
-use Rattle.call_words.specs.declared.input_file.InputFile.{InputFile}
 use Rattle.knx_model.specs.Meaning.{Installation}
 use Rattle.knx_top.specs.Input.{IsRead, OnlyRose, fault_in, first_some, goes_on, octets_of, failed}
 use Rattle.call_words.specs.declared.job_word.JobWord.{JobWord}
 use Rattle.knx_model.specs.declared.catalogue.model.NamedModel.{NamedModel}
-use Rattle.knx_model.specs.declared.refusal.Why.TheVariants.{NotBuilt}
 use Rattle.line_model.specs.declared.log.Report.{Report}
 use Rattle.knx_top.specs.declared.ending.Reported.{Reported}
 use Rattle.bus_sim.specs.RunNow.{RunNow, world}
 use Rattle.knx_model.specs.declared.script.ScriptLine.{ScriptLine}
-use Rattle.knx_model.specs.declared.script.ScriptWhat.{ScriptWhat}
 use Rattle.knx_top.specs.declared.commands.sim.SimNames.{SimNames}
 use Rattle.knx_top.specs.Options.{SimOptions, sim_options}
 use Rattle.knx_top.specs.declared.commands.sim.SimTexts.{SimTexts}
@@ -28,7 +24,7 @@ use Rattle.call_words.specs.declared.stop.Stop.{Stop}
 use Rattle.knx_top.specs.Ending.{StopsFor, report_in}
 use Rattle.knx_top.specs.Stops.{catalogue_refused, is_known, lines_in, project_in, rule_broken, stranger_named, text_refused, unless_known}
 use Rattle.knx_model.specs.ScriptText.{first_stranger, script_reading}
-use Rattle.std.specs.List.{list_all, list_any}
+use Rattle.std.specs.List.{list_all}
 use Rattle.knx_top.specs.OnLine.{on_bus}
 use Rattle.knx_top.specs.Names.{options_of}
 use Rattle.call_words.specs.declared.stop.Stop.TheVariants as stop
@@ -70,22 +66,6 @@ failed_of_sim words texts =
 abbrev pub commission_told : SimWords → SimTexts → Commission
 commission_told words texts = commission_of (project_in texts.catalogue texts.new) (project_in texts.catalogue texts.old) (lines_in texts.script) words.options
 
--- a line with a group telegram
-abbrev pub is_group : ScriptWhat → Bool
-is_group (Group after group service) = true
-is_group _ = false
-
-abbrev pub is_group_line : ScriptLine → Bool
-is_group_line l = is_group l.what
-
--- a text of a form that isn't built yet is refused at line 0
-abbrev pub not_built : InputFile → Stop
-not_built place = stop.Refused place (record { line = 0; why = NotBuilt })
-
-abbrev pub unless_built : InputFile → Bool → Option Stop
-unless_built place true = None
-unless_built place false = Some (not_built place)
-
 abbrev pub sim_tests : SimWords → SimTexts → List (Option Stop)
 sim_tests words texts =
     let c : Commission = commission_told words texts in
@@ -101,7 +81,6 @@ sim_tests words texts =
     ∷ text_refused file.Script (script_reading (octets_of texts.script))
     ∷ stranger_named (first_stranger (on_bus c.project c.before) c.script)
     ∷ unless_known (list_all (is_known c.project) c.options.jobs)
-    ∷ unless_built file.Script (not (list_any is_group_line c.script))
     ∷ []
 
 -- ---- what comes of it
@@ -138,18 +117,8 @@ pub record RunsScript (words : SimWords) (files files' : FilesNow) (before : Bus
 
 -- ---- the same tests one after another, each with what it gives to the next: what the code does
 
--- a script that reads, names no device but those on the bus and has no group telegrams
-abbrev pub unless_grouped : List ScriptLine → Result (List ScriptLine) Stop
-unless_grouped ls = unless_failed (unless_built file.Script (not (list_any is_group_line ls))) ls
-
-abbrev pub with_script : SimOptions → Installation → Installation → List ScriptLine → Result Commission Stop
-with_script options project before script = Ok (commission_of project before script options)
-
-abbrev pub with_jobs : SimOptions → Installation → Installation → List ScriptLine → List JobWord → Result Commission Stop
-with_jobs options project before ls jobs = unless_grouped ls >>= with_script options project before
-
 abbrev pub with_known : SimOptions → Installation → Installation → List ScriptLine → Result Commission Stop
-with_known options project before ls = known_jobs project options.jobs >>= with_jobs options project before ls
+with_known options project before ls = known_jobs project options.jobs >>= λ jobs. Ok (commission_of project before ls options)
 
 abbrev pub with_lines : SimOptions → Installation → Installation → List ScriptLine → Result Commission Stop
 with_lines options project before ls = unless_strange project before ls >>= with_known options project before

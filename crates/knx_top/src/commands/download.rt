@@ -1,4 +1,4 @@
-//! `download ADDR NEW [catalogue=F] [log]` and jobs: the jobs of a project over a dialled link, which is handed back to the dialer before the call answers.
+//! `download ADDR NEW [catalogue=F] [log] [workers=N]` and jobs: the jobs of a project over a dialled link, which is handed back to the dialer before the call answers.
 
 ghost use Rattle.std.specs.Prelude.{◌≡◌, ◌≢◌, ◌≤◌, ◌<◌, ◌+◌, ℕ, [], Err, IfErr, IfOk, List as Seq, length, map, string_bytes};
 ghost use Rattle.std.specs.List.{AllByRecursion};
@@ -9,27 +9,27 @@ ghost use Rattle.line_model.specs.LinkStory.{IsNewLink};
 ghost use Rattle.knx_top.specs.Dialled.{HasItsCause, IsToldOver};
 ghost use Rattle.knx_top.specs.Ending.{Is, report_in};
 ghost use Rattle.knx_top.specs.Jobs.{seen_job};
-ghost use Rattle.knx_top.specs.Names.{address_of};
+ghost use Rattle.knx_top.specs.Names.{address_of, options_of};
 ghost use Rattle.knx_top.specs.Options.{most_jobs};
 ghost use Rattle.knx_top.specs.commands.Download.{Dials, DialsOr, Download, IsReady, IsReadyFor, ReadyFor, RunsDialled, download_words, download_words_of, files_of_download, judged_download, project_named, with_project};
 ghost use Rattle.knx_top.specs.commands.Project.{project_words_of};
 
-use crate::commands::Open;
 use crate::ending::{End, Reported};
 use crate::host::{GatewayAddress, address_in};
 use crate::jobs::{all_planned, are_known, jobs_of};
-use crate::options::{SimOptions, sim_options};
+use crate::options::{SimOptions, Workers, sim_options};
 use crate::project::{
     ProjectNames, ProjectTexts, read_in, read_project_texts, sound_in, unknown_job,
 };
 use call_words::{InputFile, JobWord, Stop};
-use hub_driver::commission;
 use hub_work::HubJob;
 use knx_model::{Files, List, NoMemory};
-use line_model::{Dialer, Report};
+use line_model::{Dialer, Gate, Report};
 use project_check::Checked;
+use shared_hub::commission;
 use std::alloc::Global;
 use std::sync::Wait;
+use std::thread::Threads;
 
 /// The gateway and the name in `ADDR NEW`, with options and jobs.
 #[derive(Drop)]
@@ -115,49 +115,67 @@ fn judge(alloc: Global, names: &DownloadNames<'_>, texts: &ProjectTexts) -> Resu
 }
 
 /// Goes through the jobs over a link that was dialled, and hands it back.
-fn run<R: Wait, D: Dialer>(
+fn run<R: Threads + Wait + Sync, D: Dialer, G: Gate + Sync>(
     rt: &R,
     alloc: Global,
     plans: List<HubJob>,
+    workers: Workers,
     dial: &mut D,
     line: D::L,
+    gate: &G,
 ) -> Report
     requires new { IsNewLink (D.L.story line) }
     requires sound { D.L.faults line ≡ 0 }
     requires few { length plans < 4294967296 }
     requires good { AllByRecursion IsGoodJob (map seen_job plans) }
-    ensures told { IsToldOver 1 [] (map seen_job plans) (D.now dial.new).link_back result }
+    ensures told { IsToldOver workers [] (map seen_job plans) (D.now dial.new).link_back result }
     ensures given { (D.now dial.new).given ≡ (D.now dial.old).given }
     ensures dials { (D.now dial.new).dials ≡ (D.now dial.old).dials }
     ensures cause { HasItsCause result (D.now dial.old).faults (D.now dial.new).faults }
 {
-    let (line, report) = commission(rt, alloc, plans, List::new(alloc), line, &Open);
+    let (line, report) = commission(
+        rt,
+        alloc,
+        plans,
+        List::new(alloc),
+        line,
+        workers.count(),
+        gate,
+    );
     dial.hang(line);
     report
 }
 
 /// Dials the gateway, and goes through the jobs over the link. No group telegrams are sent.
-fn dial_and_run<R: Wait, D: Dialer>(
+fn dial_and_run<R: Threads + Wait + Sync, D: Dialer, G: Gate + Sync>(
     rt: &R,
     alloc: Global,
-    at: GatewayAddress,
+    names: &DownloadNames<'_>,
     ready: Ready,
-    log: bool,
     dial: &mut D,
+    gate: &G,
 ) -> End
     requires few { length ready.plans < 4294967296 }
     requires good { AllByRecursion IsGoodJob (map seen_job ready.plans) }
-    ensures { (d : Download) → IsReadyFor d ready → d.at ≡ address_of at → log ≡ d.options.log → Dials d (D.now dial.old) (D.now dial.new) result }
+    ensures { (d : Download) → IsReadyFor d ready → d.at ≡ address_of names.now.at → d.options ≡ options_of names.now.options → Dials d (D.now dial.old) (D.now dial.new) result }
 {
-    match dial.dial(at.host, at.port) {
+    match dial.dial(names.at.host, names.at.port) {
         Ok(line) => {
-            let report = run(rt, alloc, ready.plans, dial, line);
+            let report = run(
+                rt,
+                alloc,
+                ready.plans,
+                names.options.workers(),
+                dial,
+                line,
+                gate,
+            );
             End::Reports(Reported {
                 report,
                 jobs: ready.jobs,
                 turns: 0,
                 devices: List::new(alloc),
-                log,
+                log: names.options.log,
             })
         }
         Err(_) => End::NotOpened,
@@ -165,33 +183,35 @@ fn dial_and_run<R: Wait, D: Dialer>(
 }
 
 /// Judges what was read, and dials what it asks for.
-fn download<R: Wait, D: Dialer>(
+fn download<R: Threads + Wait + Sync, D: Dialer, G: Gate + Sync>(
     rt: &R,
     alloc: Global,
     names: &DownloadNames<'_>,
     texts: &ProjectTexts,
     dial: &mut D,
+    gate: &G,
 ) -> End
     ensures { DialsOr (judged_download (download_words_of names.now) texts.now) (D.now dial.old) (D.now dial.new) result }
 {
     match judge(alloc, names, texts) {
-        Ok(ready) => dial_and_run(rt, alloc, names.at, ready, names.options.log, dial),
+        Ok(ready) => dial_and_run(rt, alloc, names, ready, dial, gate),
         Err(why) => End::Stops(why),
     }
 }
 
 /// A call of `download`.
-pub fn call<R: Wait, F: Files, D: Dialer>(
+pub fn call<R: Threads + Wait + Sync, F: Files, D: Dialer, G: Gate + Sync>(
     rt: &R,
     alloc: Global,
     names: &DownloadNames<'_>,
     files: &mut F,
     dial: &mut D,
+    gate: &G,
 ) -> End
     ensures told { RunsDialled (download_words_of names.now) (F.now files.old) (F.now files.new) (D.now dial.old) (D.now dial.new) (report_in result) (Is result) }
     ensures stays { (other : Seq ℕ) → (F.now files.new).file other ≡ (F.now files.old).file other }
     ensures reads { (F.now files.new).reads ≤ (F.now files.old).reads + length (files_of_download (download_words_of names.now)) }
 {
     let texts = read_project_texts(alloc, files, names.project());
-    download(rt, alloc, names, &texts, dial)
+    download(rt, alloc, names, &texts, dial, gate)
 }

@@ -16,7 +16,6 @@ use crate::commands::download::{DownloadNames, download_names};
 use crate::commands::gateway::{GatewayNames, gateway_names};
 use crate::commands::sim::{SimNames, sim_names};
 use crate::project::{ProjectNames, project_names};
-use line_model::Gate;
 
 /// A command with its words.
 #[derive(Drop)]
@@ -25,11 +24,11 @@ pub enum Command<'a> {
     Check(ProjectNames<'a>),
     /// `tables P [catalogue=F]`
     Tables(ProjectNames<'a>),
-    /// `sim NEW OLD SCRIPT [catalogue=F] [log]`, and jobs
+    /// `sim NEW OLD SCRIPT [catalogue=F] [log] [workers=N]`, and jobs
     Sim(SimNames<'a>),
     /// `decode HEX`
     Decode(&'a str),
-    /// `download ADDR NEW [catalogue=F] [log]`, and jobs
+    /// `download ADDR NEW [catalogue=F] [log] [workers=N]`, and jobs
     Download(DownloadNames<'a>),
     /// `gateway ADDR OLD SCRIPT turns=N [catalogue=F]`
     Gateway(GatewayNames<'a>),
@@ -57,10 +56,3 @@ pub fn asked(words: &[String]) -> Option<Command<'_>>
 pub fn commands_spelled()
     ensures { (words : List (List ℕ)) (command : Commanded) → (asked words ≡ Some command) ↔ SpellsCommand words command }
 {}
-
-/// Lets each job start at once.
-pub struct Open;
-
-impl Gate for Open {
-    fn pass(&self, _job: u32) {}
-}

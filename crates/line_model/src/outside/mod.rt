@@ -6,6 +6,6 @@ mod link;
 mod port;
 
 pub use dialer::{DialFailed, Dialer};
-pub use gate::Gate;
+pub use gate::{Gate, Open};
 pub use link::{Link, LinkFault, Polled};
 pub use port::{Port, PortFault, PortPolled};

@@ -1,22 +1,23 @@
 //! What was read is judged in order: the catalogue, NEW, OLD, the script and its devices, then the devices of the jobs.
 
 ghost use Rattle.std.specs.Prelude.{◌≡◌, ◌≢◌, ◌≤◌, Err, IfErr, IfOk, length};
-ghost use Rattle.std.specs.List.{list_any};
 ghost use Rattle.call_words.specs.declared.stop.Stop.TheVariants.{NoMemory as OutOfMemory};
 ghost use Rattle.knx_top.specs.Begun.{BeginsLine, IsPrepared, OrderFor};
 ghost use Rattle.knx_top.specs.Names.{options_of};
 ghost use Rattle.knx_top.specs.Options.{most_jobs};
-ghost use Rattle.knx_top.specs.commands.Sim.{is_group_line, judged, not_built, sim_words_of, with_lines};
+ghost use Rattle.knx_top.specs.commands.Sim.{judged, sim_words_of, with_lines};
 
 use crate::commands::sim::{SimNames, SimTexts};
 use crate::jobs::{all_planned, are_known, jobs_of};
 use crate::line::{compiled, line_begun, on_bus};
 use crate::options::SimOptions;
 use crate::project::{models_in, project_in, read_of, script_in, sound_in, unknown_job};
+use crate::turns::turns_of;
 use bus_sim::SimBus;
 use call_words::{InputFile, JobWord, Stop};
 use hub_work::HubJob;
-use knx_model::{Image, IndAddr, List, NoMemory, Refused, ScriptLine, ScriptWhat, Why};
+use knx_model::{Image, IndAddr, List, NoMemory};
+use line_model::GroupTurn;
 use project_check::Checked;
 use script_text::Script;
 use std::alloc::Global;
@@ -30,29 +31,10 @@ pub struct Order {
     pub jobs: List<JobWord>,
     /// The same jobs with their plans.
     pub plans: List<HubJob>,
+    /// The group telegrams, in the order in which they are sent.
+    pub turns: List<GroupTurn>,
     /// The devices on the line, ascending, each with NEW's image where NEW has it.
     pub devices: List<(IndAddr, Option<Image>)>,
-}
-
-/// A text that isn't of the form that is built.
-fn not_built(place: InputFile) -> Stop
-    ensures { result ≡ not_built place }
-{
-    let why = Why::NotBuilt;
-    Stop::Refused(place, Refused { line: 0, why })
-}
-
-fn is_group_line(line: &ScriptLine) -> bool
-    ensures { result ≡ is_group_line line.now }
-{
-    matches!(line.what, ScriptWhat::Group { .. })
-}
-
-/// Whether a line of a script has a group telegram.
-fn has_groups(lines: &[ScriptLine]) -> bool
-    ensures { result ≡ list_any is_group_line lines.now }
-{
-    lines.iter().any(|line| is_group_line(line))
 }
 
 /// What a run is begun with, over a line that has begun.
@@ -61,46 +43,46 @@ fn order_of(
     named: &[JobWord],
     new: &Checked<'_, '_>,
     old: &Checked<'_, '_>,
+    script: &Script,
     line: SimBus,
 ) -> Result<Order, NoMemory>
     requires { length named.now ≤ most_jobs }
     ensures line { IfOk result (λ order. order.line ≡ line) }
-    ensures prepared { IfOk result (λ order. IsPrepared new.now old.now named.now order) }
+    ensures prepared { IfOk result (λ order. IsPrepared new.now old.now script.now.lines named.now order) }
 {
     let jobs = jobs_of(alloc, named, new)?;
     let plans = all_planned(alloc, new, jobs.as_slice())?;
+    let turns = turns_of(alloc, script)?;
     let bus = on_bus(alloc, new, old)?;
     let devices = compiled(alloc, new, bus.as_slice())?;
     Ok(Order {
         line,
         jobs,
         plans,
+        turns,
         devices,
     })
 }
 
-/// The last tests, of the devices that the jobs name and of the form of a script, over a line that has begun.
+/// The last test, of the devices that the jobs name, over a line that has begun.
 fn judge_jobs(
     alloc: Global,
     options: &SimOptions<'_>,
     new: &Checked<'_, '_>,
     old: &Checked<'_, '_>,
-    lines: &[ScriptLine],
+    script: &Script,
     line: SimBus,
 ) -> Result<Order, Stop>
-    requires begins { BeginsLine new.now old.now lines.now line.run }
+    requires begins { BeginsLine new.now old.now script.now.lines line.run }
     requires sound { line.faults ≡ 0 }
-    ensures ok { IfOk result (λ order. OrderFor (with_lines (options_of options.now) new.now old.now lines.now) order) }
-    ensures err { IfErr result (λ why. why ≢ OutOfMemory tt → with_lines (options_of options.now) new.now old.now lines.now ≡ Err why) }
+    ensures ok { IfOk result (λ order. OrderFor (with_lines (options_of options.now) new.now old.now script.now.lines) order) }
+    ensures err { IfErr result (λ why. why ≢ OutOfMemory tt → with_lines (options_of options.now) new.now old.now script.now.lines ≡ Err why) }
 {
     let named = options.jobs.as_slice();
     if !are_known(new, named) {
         return Err(unknown_job());
     }
-    if has_groups(lines) {
-        return Err(not_built(InputFile::Script));
-    }
-    let order = order_of(alloc, named, new, old, line)?;
+    let order = order_of(alloc, named, new, old, script, line)?;
     Ok(order)
 }
 
@@ -116,7 +98,7 @@ fn judge_script(
     ensures err { IfErr result (λ why. why ≢ OutOfMemory tt → with_lines (options_of options.now) new.now old.now script.now.lines ≡ Err why) }
 {
     match line_begun(alloc, new, old, script) {
-        Ok(line) => judge_jobs(alloc, options, new, old, script.lines.as_slice(), line),
+        Ok(line) => judge_jobs(alloc, options, new, old, script, line),
         Err(why) => Err(why),
     }
 }

@@ -1,4 +1,4 @@
-//! `sim NEW OLD SCRIPT [catalogue=F] [log]` and jobs: a run over the simulated line.
+//! `sim NEW OLD SCRIPT [catalogue=F] [log] [workers=N]` and jobs: a run over the simulated line.
 
 ghost use Rattle.std.specs.Prelude.{◌≡◌, ◌≤◌, ◌+◌, ℕ, List, length, map, string_bytes};
 ghost use Rattle.std.specs.Option.{option_map};
@@ -16,8 +16,10 @@ use crate::input::{Reading, read_after, read_named};
 use crate::options::{SimOptions, sim_options};
 use bus_sim::SimBus;
 use knx_model::Files;
+use line_model::Gate;
 use std::alloc::Global;
 use std::sync::Wait;
+use std::thread::Threads;
 
 /// The names in `NEW OLD SCRIPT`, with options and jobs.
 #[derive(Drop)]
@@ -73,12 +75,13 @@ fn read_sim_texts<F: Files>(alloc: Global, files: &mut F, names: &SimNames<'_>) 
 }
 
 /// A call of `sim`.
-pub fn call<R: Wait, F: Files>(
+pub fn call<R: Threads + Wait + Sync, F: Files, G: Gate + Sync>(
     rt: &R,
     alloc: Global,
     names: &SimNames<'_>,
     files: &mut F,
     sim: &mut SimBus,
+    gate: &G,
 ) -> End
     ensures told { RunsScript (sim_words_of names.now) (F.now files.old) (F.now files.new) sim.old (record { line = sim.new; report = report_in result }) (Is result) }
     ensures link { FaultsOfLine (report_in result) sim.new }
@@ -86,5 +89,5 @@ pub fn call<R: Wait, F: Files>(
     ensures reads { (F.now files.new).reads ≤ (F.now files.old).reads + length (files_of_sim (sim_words_of names.now)) }
 {
     let texts = read_sim_texts(alloc, files, names);
-    commission(rt, alloc, names, &texts, sim)
+    commission(rt, alloc, names, &texts, sim, gate)
 }

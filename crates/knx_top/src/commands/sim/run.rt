@@ -6,43 +6,47 @@ ghost use Rattle.bus_sim.specs.declared.clients.Clients.TheVariants.{One};
 ghost use Rattle.bus_sim.specs.RunNow.{world};
 ghost use Rattle.knx_model.specs.declared.address.IndAddr.{IndAddr as Address};
 ghost use Rattle.knx_model.specs.declared.config.Image.{Image as Compiled};
+ghost use Rattle.hub_work.specs.Requests.{IsTurnInRange};
 ghost use Rattle.line_model.specs.Headline.{IsGoodJob};
 ghost use Rattle.knx_top.specs.Begun.{IsOrder};
 ghost use Rattle.knx_top.specs.Ending.{report_in};
 ghost use Rattle.knx_top.specs.Jobs.{seen_job};
+ghost use Rattle.knx_top.specs.Names.{options_of};
 ghost use Rattle.knx_top.specs.Ran.{Commission, FaultsOfLine};
 ghost use Rattle.knx_top.specs.commands.Sim.{Comes, Runs, ShowsRun, judged, sim_words_of};
 
-use crate::commands::Open;
 use crate::commands::sim::judge::{Order, judge};
 use crate::commands::sim::{SimNames, SimTexts};
 use crate::ending::{End, Reported};
+use crate::options::SimOptions;
 use crate::shown::all_shown;
 use bus_sim::SimBus;
 use call_words::JobWord;
-use hub_driver::commission as commission_line;
 use knx_model::{Image, IndAddr, List};
-use line_model::Report;
+use line_model::{Gate, Report};
+use shared_hub::commission as commission_line;
 use std::alloc::Global;
 use std::sync::Wait;
+use std::thread::Threads;
 
-/// What is shown of a run that is over, in which no group telegrams are sent.
+/// What is shown of a run that is over, in which so many group telegrams were to be sent.
 fn end_of_run(
     alloc: Global,
     line: &SimBus,
     report: Report,
     jobs: List<JobWord>,
+    turns: u32,
     devices: &[(IndAddr, Option<Image>)],
     log: bool,
 ) -> End
     requires { All (λ (d : Address × Option Compiled). IsSome ((world line.now.run).devices d.0.raw)) devices.now }
-    ensures { ShowsRun line.now.run report jobs 0 devices.now log result }
+    ensures { ShowsRun line.now.run report jobs turns devices.now log result }
 {
     match all_shown(alloc, line, devices) {
         Ok(devices) => End::Reports(Reported {
             report,
             jobs,
-            turns: 0,
+            turns,
             devices,
             log,
         }),
@@ -51,42 +55,63 @@ fn end_of_run(
 }
 
 /// Goes through the jobs over the line, which is then the one that was run, whether the run ended or memory was wanting on the way.
-fn run<R: Wait>(rt: &R, alloc: Global, order: Order, log: bool, sim: &mut SimBus) -> End
+fn run<R: Threads + Wait + Sync, G: Gate + Sync>(
+    rt: &R,
+    alloc: Global,
+    order: Order,
+    options: &SimOptions<'_>,
+    sim: &mut SimBus,
+    gate: &G,
+) -> End
     requires one { order.line.run.begun.clients ≡ One }
     requires new { order.line.run.events ≡ [] }
     requires sound { order.line.faults ≡ 0 }
     requires few { length order.plans < 4294967296 }
     requires good { AllByRecursion IsGoodJob (map seen_job order.plans) }
+    requires few_turns { length order.turns < 4294967296 }
+    requires sendable { AllByRecursion IsTurnInRange order.turns }
     requires devices { All (λ (d : Address × Option Compiled). IsSome ((world order.line.run).devices d.0.raw)) order.devices }
-    ensures runs { (c : Commission) → IsOrder c order → log ≡ c.options.log → Runs c sim.old sim.new result }
+    ensures runs { (c : Commission) → IsOrder c order → c.options ≡ options_of options.now → Runs c sim.old sim.new result }
     ensures link { FaultsOfLine (report_in result) sim.new }
 {
     let Order {
         line,
         jobs,
         plans,
+        turns,
         devices,
     } = order;
     line.keeps();
-    let (line, report) = commission_line(rt, alloc, plans, List::new(alloc), line, &Open);
+    let turn_count = turns.len() as u32;
+    let workers = options.workers().count();
+    let (line, report) = commission_line(rt, alloc, plans, turns, line, workers, gate);
     line.keeps();
     *sim = line;
-    end_of_run(alloc, sim, report, jobs, devices.as_slice(), log)
+    end_of_run(
+        alloc,
+        sim,
+        report,
+        jobs,
+        turn_count,
+        devices.as_slice(),
+        options.log,
+    )
 }
 
 /// Judges what was read and runs what it asks for.
-pub fn commission<R: Wait>(
+pub fn commission<R: Threads + Wait + Sync, G: Gate + Sync>(
     rt: &R,
     alloc: Global,
     names: &SimNames<'_>,
     texts: &SimTexts,
     sim: &mut SimBus,
+    gate: &G,
 ) -> End
     ensures comes { Comes (judged (sim_words_of names.now) texts.now) sim.old sim.new result }
     ensures link { FaultsOfLine (report_in result) sim.new }
 {
     match judge(alloc, names, texts) {
-        Ok(order) => run(rt, alloc, order, names.options.log, sim),
+        Ok(order) => run(rt, alloc, order, &names.options, sim, gate),
         Err(why) => End::Stops(why),
     }
 }

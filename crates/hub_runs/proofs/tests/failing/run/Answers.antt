@@ -5,4 +5,4 @@ use Rattle.line_model.specs.LinkStory.{IsNewLink}
 use Rattle.hub_runs.proofs.tests.failing.run.Goals as goal
 
 pub commission-requires-clause-new : goal.commission-requires-clause-new
-commission-requires-clause-new g c = subst (λ (line : BusNow). IsNewLink (story line.run)) (sym c.new-link.ensures.given.0) c.in_ok-line.ensures
+commission-requires-clause-new g c = λ κs within. subst (λ (line : BusNow). IsNewLink (story line.run)) (sym c.new-link.ensures.given.0) c.in_ok-line.ensures

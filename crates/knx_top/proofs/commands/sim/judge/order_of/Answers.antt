@@ -10,5 +10,8 @@ returns-clause-prepared c =
       few = plans_few c.args.new.now c.in_ok-plans.plans c.in_ok-jobs.jobs planned (c.in_ok-jobs.ensures.few c.requires);
       plans = planned;
       good = all_good c.args.new.now _ c.in_ok-jobs.jobs planned;
+      turns = c.in_ok-turns.ensures.are;
+      few_turns = c.in_ok-turns.ensures.few;
+      sendable = c.in_ok-turns.ensures.sendable;
       devices = rw (c.as_slice-2.ensures, c.in_ok-bus.ensures) at c.in_ok-devices.ensures;
     }

@@ -1,4 +1,4 @@
-use Rattle.std.proofs.Common.{ℕ, List, [], All, Option, Some, length, map, refl, sym, subst}
+use Rattle.std.proofs.Common.{ℕ, Bool, List, [], All, Option, Some, length, map, refl, sym, ap, ◌∙◌, subst}
 use Rattle.std.specs.Prelude.{IfSome, IsSome}
 use Rattle.bus_sim.specs.RunNow.{story, world}
 use Rattle.knx_model.specs.declared.address.IndAddr.{IndAddr}
@@ -10,6 +10,7 @@ use Rattle.hub_core.specs.Seen.{tasks_seen}
 use Rattle.hub_work.specs.declared.job.HubJob.{HubJob}
 use Rattle.line_model.specs.Log.{Job}
 use Rattle.knx_top.specs.Jobs.{seen_job}
+use Rattle.knx_top.specs.Options as asked
 use Rattle.knx_top.specs.Ran.{FaultsOfLine, log_in}
 use Rattle.bus_sim.proofs.New.{new_line}
 use Rattle.knx_top.proofs.Driven.{driven, faults_last, jobs_seen, still_one}
@@ -18,7 +19,7 @@ use Rattle.knx_top.specs.commands.Sim.{ShowsRun}
 use Rattle.knx_top.proofs.commands.sim.run.run.Goals as goal
 
 pub commission-line-requires-clause-new : goal.commission-line-requires-clause-new
-commission-line-requires-clause-new g c = new_line c.args.order.line c.requires.new c.keeps.ensures.fresh
+commission-line-requires-clause-new g c = λ κs within. new_line c.args.order.line c.requires.new c.keeps.ensures.fresh
 
 pub end_of_run-requires : goal.end_of_run-requires
 end_of_run-requires g c =
@@ -28,15 +29,15 @@ end_of_run-requires g c =
     (c.commission-line.ensures.tells.right jobs (jobs_seen c.args.order.plans) c.requires.good) c.requires.devices)
 
 pub returns-clause-runs : goal.returns-clause-runs
-returns-clause-runs g c = λ commission is logs.
+returns-clause-runs g c = λ commission is options.
     let line = c.commission-line.result.0 in
     let report = c.commission-line.result.1 in
-    let tells : TellsRun 1 (tasks_seen c.args.order.plans) (map (λ (job : HubJob). job.device) c.args.order.plans) [] (story line.run) (length line.run.events) report =
-    subst (λ (groups : List GroupTurn). TellsRun 1 (tasks_seen c.args.order.plans) (map (λ (job : HubJob). job.device) c.args.order.plans) groups (story line.run) (length line.run.events) report) c.new.ensures c.commission-line.ensures.tells in
-    runs_so commission c.args.sim.now line report c.args.order.jobs 0 c.args.order.devices c.args.log c.end_of_run.result
-    (driven commission c.args.order line (length line.run.events) report is c.requires.one c.commission-line.ensures.grows c.commission-line.ensures.script c.keeps-2.ensures.fresh c.keeps-2.ensures.legal c.keeps-2.ensures.follows c.requires.good tells c.commission-line.ensures.missed)
-    is.prepared.devices (rw is.turns refl) logs
-    (subst (λ (devices : List (IndAddr × Option Image)). ShowsRun line.run report c.args.order.jobs 0 devices c.args.log c.end_of_run.result) c.as_slice.ensures c.end_of_run.ensures)
+    let workers : ℕ = c.count-workers.result in
+    let log : Bool = c.args.options.now.log in
+    runs_so commission c.args.sim.now line report c.args.order.jobs c.len-turn_count.result c.args.order.devices log c.end_of_run.result
+    (driven commission c.args.order workers c.args.order.turns line (length line.run.events) report is (c.count-workers.ensures.value ∙ c.workers.ensures ∙ ap (λ (o : asked.SimOptions). asked.workers_of o) (sym options) ∙ sym is.workers) (is.prepared.turns ∙ sym is.turns) c.requires.one c.commission-line.ensures.grows c.commission-line.ensures.script c.keeps-2.ensures.fresh c.keeps-2.ensures.legal c.keeps-2.ensures.follows c.requires.good c.commission-line.ensures.tells c.commission-line.ensures.missed)
+    is.prepared.devices (c.len-turn_count.ensures ∙ ap (λ (ts : List GroupTurn). length ts) (is.prepared.turns ∙ sym is.turns)) (ap (λ (o : asked.SimOptions). o.log) (sym options))
+    (subst (λ (devices : List (IndAddr × Option Image)). ShowsRun line.run report c.args.order.jobs c.len-turn_count.result devices log c.end_of_run.result) c.as_slice.ensures c.end_of_run.ensures)
 
 pub returns-clause-link : goal.returns-clause-link
 returns-clause-link g c =
@@ -44,4 +45,4 @@ returns-clause-link g c =
     let report = c.commission-line.result.1 in
     let cause : FaultsOfLine (Some report) line = faults_last report.fault line (still_one c.args.order.line.run line.run c.requires.one c.commission-line.ensures.grows) c.keeps-2.ensures.faults
     (subst (λ (before : ℕ). IfSome report.fault (λ fault. FailsWhere fault before line.faults)) c.requires.sound c.commission-line.ensures.cause) in
-    fault_so line.run report c.args.order.jobs 0 c.as_slice.result.now c.args.log c.end_of_run.result line c.end_of_run.ensures cause
+    fault_so line.run report c.args.order.jobs c.len-turn_count.result c.as_slice.result.now c.args.options.now.log c.end_of_run.result line c.end_of_run.ensures cause
