@@ -219,6 +219,17 @@ def gateway(r):
     return ["gateway", at, "old", "script", turns, *options], {**files, "new": b""}
 
 
+COUNTS = ("1", "2", "3", "0x4", "007", "0", "255", "0x", "-1", "")
+
+STARTS = ("0", "7", "18446744073709551615", "00000000000000000007", "18446744073709551616", "000000000000000000007", "0x7", "+7", "")
+
+
+def big(r):
+    count = r.choice(COUNTS if r.random() < 0.3 else COUNTS[:5])
+    start = r.choice(STARTS) if r.random() < 0.5 else str(r.getrandbits(64))
+    return ["big", count, start, *["log"] * (r.random() < 0.05)], {}
+
+
 # ---- datagrams
 
 def some(r, least, most):
@@ -263,7 +274,7 @@ def decode(r):
 
 
 def call(r):
-    words, files = r.choice((sim, sim, sim, sim, sim, sim, told, told, gateway, decode, decode))(r)
+    words, files = r.choice((sim, sim, sim, sim, sim, sim, told, told, gateway, decode, decode, big))(r)
     if files and r.random() < 0.01:
         del files[r.choice(sorted(files))]
     if r.random() < 0.01:

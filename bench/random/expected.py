@@ -41,6 +41,12 @@ def are_turns(word):
     return word.startswith("turns=") and 1 <= (number(word[6:]) or 0) <= 10 ** 9
 
 
+def are_of_a_line(words):
+    """How many devices, and the number that makes their line."""
+    return (len(words) == 2 and 1 <= (number(words[0]) or 0) <= 254
+            and bool(re.fullmatch("[0-9]{1,20}", words[1])) and int(words[1]) < 2 ** 64)
+
+
 def read(files, name):
     if name not in files:
         raise Stop(6, f"read fault {name} NotThere\n")
@@ -104,6 +110,9 @@ def asked(words, files):
         return "".join(line + "\n" for line in datagram(bytes.fromhex(rest[0])))
     if command == "gateway":
         served(rest, files)
+    if command == "big" and are_of_a_line(rest):
+        count = number(rest[0])
+        return f"devices {count} objects {8 * count} links {32 * count} done {count} new {count}\n"
     if command == "download" and rest:
         rest = rest[1:] if is_gateway(rest[0]) else []
     count = {"check": 1, "tables": 1, "download": 1, "sim": 3}.get(command, len(rest) + 1)

@@ -2,7 +2,8 @@
 from formats import group_text, hexed, individual_text
 
 SERVICES = {0x205: "connect-request", 0x206: "connect-response", 0x207: "connectionstate-request", 0x208: "connectionstate-response",
-            0x209: "disconnect-request", 0x20A: "disconnect-response", 0x420: "tunnelling-request", 0x421: "tunnelling-ack"}
+            0x209: "disconnect-request", 0x20A: "disconnect-response", 0x420: "tunnelling-request", 0x421: "tunnelling-ack",
+            0x201: "search-request", 0x202: "search-response", 0x203: "description-request", 0x204: "description-response"}
 CODES = {0x11: "req", 0x2E: "con", 0x29: "ind"}
 # the ten bits of a service, its low six bits 0 where they carry something
 GROUP = {0x000: "group-read", 0x040: "group-response", 0x080: "group-write"}
@@ -20,8 +21,40 @@ def is_endpoint(octets):
     return octets[:2] == b"\x08\x01"
 
 
+def blocks(octets):
+    """The blocks that octets are, each its type and its content; None where they are none."""
+    found = []
+    while octets:
+        if len(octets) < 2 or octets[0] < 2 or octets[0] > len(octets):
+            return None
+        found.append((octets[1], octets[2:octets[0]]))
+        octets = octets[octets[0]:]
+    return found
+
+
+def gateway(octets):
+    """What blocks tell of a gateway; None where they don't."""
+    found = blocks(octets)
+    if found is None:
+        return None
+    information = [content for kind, content in found if kind == 1 and len(content) == 52]
+    families = [content for kind, content in found if kind == 2]
+    if len(information) != 1 or len(families) != 1 or len(families[0]) % 2:
+        return None
+    pairs = [f"{family:02X}.{version}" for family, version in zip(families[0][::2], families[0][1::2])]
+    name = "".join(chr(o) if 0x20 <= o <= 0x7E else "?" for o in information[0][22:].split(b"\0")[0])
+    return (f"{individual_text(number_at(information[0], 2))} serial {information[0][6:12].hex().upper()} mac {information[0][16:22].hex().upper()}"
+            f" families {' '.join(pairs) or '-'} name {name or '-'}")
+
+
 def is_body(service, body):
     n = len(body)
+    if service in (0x201, 0x203):
+        return n == 8 and is_endpoint(body)
+    if service == 0x202:
+        return n >= 8 and is_endpoint(body) and gateway(body[8:]) is not None
+    if service == 0x204:
+        return gateway(body) is not None
     if service == 0x205:
         return n == 20 and is_endpoint(body) and is_endpoint(body[8:]) and body[16:19] == b"\x04\x04\x02"
     if service == 0x206:
@@ -45,8 +78,10 @@ def datagram(octets):
     if not is_body(service, body):
         return ["ip refused 4 Body"]
     said = f"ip {SERVICES[service]}"
-    if service == 0x205:
+    if service in (0x201, 0x203, 0x205):
         return [said]
+    if service in (0x202, 0x204):
+        return [f"{said} {gateway(body[8:] if service == 0x202 else body)}"]
     if service == 0x420:
         return [f"{said} channel {body[1]} number {body[2]}"] + cemi(body[4:])
     if service == 0x421:

@@ -2,5 +2,6 @@
 pub mod Statuses
 pub mod ReportText
 pub mod Printed
+pub mod Sums
 -- A report with entries of all kinds, and its text
 pub mod Example

@@ -49,9 +49,13 @@ case_word case.Stopped = codes "stopped"
 
 -- ---- a checked project
 
+-- devices N objects N links N
+abbrev pub counts_words : Counts → List (List ℕ)
+counts_words counts = codes "devices" ∷ decimal counts.devices ∷ codes "objects" ∷ decimal counts.objects ∷ codes "links" ∷ decimal counts.links ∷ []
+
 -- ok devices N objects N links N
 abbrev pub counts_line : Counts → List ℕ
-counts_line counts = line (codes "ok" ∷ codes "devices" ∷ decimal counts.devices ∷ codes "objects" ∷ decimal counts.objects ∷ codes "links" ∷ decimal counts.links ∷ [])
+counts_line counts = line (codes "ok" ∷ counts_words counts)
 
 -- a word and octets
 unfoldable pub list_line : List ℕ → List ℕ → List ℕ

@@ -4,3 +4,6 @@ pub mod Pairs
 pub mod Telling
 pub mod Once
 pub mod Written
+pub mod Same
+pub mod Finding
+pub mod Adding

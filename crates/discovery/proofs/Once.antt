@@ -1,7 +1,6 @@
 -- Octets are read as one frame, and what is read breaks no rule.
-use Rattle.std.proofs.Common.{◌≡◌, ◌≢◌, ℕ, List, refl, ap, sym, ◌∙◌, arith}
-use Rattle.std.specs.Prelude.{IfOk, IfErr, Result, Ok, Err, drop, length}
-use Rattle.std.proofs.lemmas.Grind.{common_steps}
+use Rattle.std.proofs.Common.{◌≡◌, ℕ, List, refl, ap, sym, ◌∙◌, arith}
+use Rattle.std.specs.Prelude.{IfOk, IfErr, Result, Ok, Err, drop}
 use Rattle.knx_model.specs.declared.address.IndAddr.{IndAddr}
 use Rattle.knx_model.specs.declared.frames.ip.IpRefused.{IpRefused}
 use Rattle.knx_model.specs.declared.frames.ip.IpRefused.TheVariants.{Header, Service, Length, Body}
@@ -9,7 +8,7 @@ use Rattle.knx_model.specs.Octets.{word_at}
 use Rattle.discovery.specs.declared.about.About.{About}
 use Rattle.discovery.specs.declared.find_frame.FindFrame.{FindFrame}
 use Rattle.discovery.specs.declared.find_frame.FindFrame.TheVariants.{SearchRequest, SearchResponse, DescriptionRequest, DescriptionResponse}
-use Rattle.discovery.specs.Discovery.{Reads, ReadsBody, IsBody, IsService, IsInformation, HasAbout, Breaks, IsLeastBroken, BeginsWithEndpoint, is_information, is_families, pair_octets}
+use Rattle.discovery.specs.Discovery.{Reads, ReadsBody, IsBody, IsService, IsInformation, HasAbout, Breaks, IsLeastBroken, is_information, is_families, pair_octets}
 use Rattle.discovery.proofs.Parting.{only_once}
 use Rattle.discovery.proofs.Pairs.{pairs_once}
 

@@ -1,14 +1,11 @@
 -- What blocks tell of a gateway.
-use Rattle.std.proofs.Common.{◌≡◌, ◌≢◌, ℕ, ◌+◌, Bool, true, false, List, [], ◌∷◌, ◌++◌, length, map, refl, sym, ap, subst, ◌∙◌, arith, cond, IsTrue}
+use Rattle.std.proofs.Common.{◌≡◌, ◌≢◌, ℕ, Bool, true, false, List, [], ◌∷◌, ◌++◌, length, map, refl, sym, ap, subst, ◌∙◌, arith, cond}
 use Rattle.std.proofs.lemmas.List.{append-nil, append_assoc}
-use Rattle.std.specs.Prelude.{drop, filter, slice_index, ◌==◌, ◌&&◌}
+use Rattle.std.specs.Prelude.{drop, filter}
 use Rattle.std.proofs.lemmas.Grind.{common_steps}
-use Rattle.knx_model.specs.declared.address.IndAddr.{IndAddr}
-use Rattle.knx_model.specs.Octets.{word_at}
 use Rattle.discovery.specs.declared.about.About.{About}
 use Rattle.discovery.specs.Discovery.{Block, is_information, is_families, contents, HasOnly, HasAbout, IsBody, IsInformation, block_octets, octets_of, information_of, families_of, blocks_of, pair_octets}
 use Rattle.discovery.proofs.Parting.{only_once}
-use Rattle.discovery.proofs.Pairs.{pairs_once}
 
 first_is : (a b : List ℕ) (x y : List (List ℕ)) → a ∷ x ≡ b ∷ y → a ≡ b
 first_is a b x y e = cc

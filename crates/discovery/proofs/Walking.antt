@@ -4,10 +4,10 @@ use Rattle.std.specs.Prelude.{take, drop, Option, Some, None, IfNone}
 use Rattle.std.proofs.lemmas.List.{append-nil, length-append, take-append-drop, length-take-le}
 use Rattle.std.proofs.lemmas.List.Concat.{flat_map-append}
 use Rattle.discovery.specs.declared.blocks.walk.Found.{Found}
-use Rattle.discovery.specs.declared.blocks.walk.Found.TheVariants.{Nothing, One, Several}
+use Rattle.discovery.specs.declared.blocks.walk.Found.TheVariants.{Nothing, Several}
 use Rattle.discovery.specs.Discovery.{Block, block_octets, octets_of, contents, HasOnly}
 use Rattle.discovery.specs.Walks.{IsFound}
-use Rattle.discovery.proofs.Parting.{GoOn, goes_on, same_blocks, same_two, contents-append}
+use Rattle.discovery.proofs.Parting.{goes_on, same_blocks, same_two, contents-append}
 
 -- ---- the first block
 

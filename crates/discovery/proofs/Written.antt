@@ -1,15 +1,12 @@
 -- What is written is read as the frame that was written.
-use Rattle.std.proofs.Common.{◌≡◌, ℕ, ◌+◌, ◌*◌, ◌≤◌, Bool, true, List, [], ◌∷◌, ◌++◌, length, take, drop, refl, sym, ap, ◌∙◌, arith, cond}
-use Rattle.std.specs.Prelude.{◌==◌, ◌&&◌, map, filter, slice_index}
+use Rattle.std.proofs.Common.{◌≡◌, ℕ, true, List, [], ◌∷◌, ◌++◌, length, take, drop, refl, sym, ap, ◌∙◌, arith}
 use Rattle.std.proofs.lemmas.Grind.{common_steps}
-use Rattle.std.proofs.lemmas.List.{append-nil, length-append, take_at, drop_at, take_all}
+use Rattle.std.proofs.lemmas.List.{append-nil, length-append, take_at, drop_at}
 use Rattle.knx_model.specs.Apdu.{word}
-use Rattle.knx_model.specs.Octets.{word_at}
 use Rattle.discovery.specs.declared.about.About.{About}
 use Rattle.discovery.specs.declared.find_frame.FindFrame.{FindFrame}
 use Rattle.discovery.specs.declared.find_frame.FindFrame.TheVariants.{SearchRequest, SearchResponse, DescriptionRequest, DescriptionResponse}
-use Rattle.discovery.specs.Discovery.{Block, is_information, is_families, contents, octets_of, octets_at, HasOnly, HasAbout, IsInformation, HasFields, information_octets, information_of, families_of, blocks_of, pair_octets, Reads, Written, IsFrame, FitsADatagram}
-use Rattle.discovery.proofs.Pairs.{pair_octets_length}
+use Rattle.discovery.specs.Discovery.{is_information, octets_of, octets_at, HasAbout, IsInformation, HasFields, information_octets, information_of, blocks_of, Reads, Written, IsFrame, FitsADatagram}
 
 -- so many octets behind others
 at_part : (front part behind octets : List ℕ) (place count : ℕ) → octets ≡ front ++ (part ++ behind) → length front ≡ place → length part ≡ count → part ≡ octets_at octets place count

@@ -6,7 +6,7 @@ use arrayvec::ArrayVec;
 use std::marker::Model;
 
 /// Service families, each with its version: as many as a block has room for, in the order in which they are told. Contracts see a list.
-#[derive(Drop, PartialEq, Eq)]
+#[derive(Drop)]
 pub struct Families {
     pairs: ArrayVec<(u8, u8), { Families::CAPACITY }>,
 }
@@ -17,8 +17,6 @@ impl Model for Families {
     ghost Value = { List (ℕ × ℕ) };
 
     ghost view = { λ f. f.pairs.items };
-
-    ghost inverse = { λ xs. record { pairs = record { items = xs } } };
 }
 
 impl Families {

@@ -1,10 +1,13 @@
 //! Frames of discovery (ISO 22510, Core): the header, and the body of its service.
 
-ghost use Rattle.std.specs.Prelude.{◌≡◌, IfOk, IfErr, Ok};
+ghost use Rattle.std.specs.Prelude.{◌≡◌, ◌≤◌, IfOk, IfErr, Ok, length};
 ghost use Rattle.discovery.specs.declared.find_frame.FindFrame.{FindFrame as Frame};
 ghost use Rattle.discovery.specs.Discovery.{Reads, Written, FitsADatagram, IsLeastBroken};
+ghost use Rattle.discovery.specs.Finding.{response_of};
 
+use crate::about::About;
 use crate::find_frame::FindFrame;
+use crate::inquiry::Inquiry;
 use crate::service::Service;
 use crate::{header, services};
 use knx_model::{Datagram, IpRefused};
@@ -43,4 +46,15 @@ pub fn encode(frame: &FindFrame) -> Datagram
     ensures reads { Reads result frame.now }
 {
     services::write(frame)
+}
+
+/// The octets of the response to what was asked (ISO 22510), for at most 64 service families. It takes no memory.
+pub fn encode_response(inquiry: Inquiry, about: &About) -> Datagram
+    requires { length about.now.families ≤ 64 }
+    ensures { result ≡ Written (response_of inquiry about.now) }
+{
+    match inquiry {
+        Inquiry::Search => services::write_search(about),
+        Inquiry::Description => services::write_description(about),
+    }
 }

@@ -1,3 +1,4 @@
 pub mod Lines
 pub mod HexWord
 pub mod Texts
+pub mod GatewayLines

@@ -10,7 +10,10 @@ use Rattle.knx_model.specs.declared.frames.ip.IpFrame.TheVariants.{ConnectReques
 use Rattle.knx_model.specs.Apdu as tpdu
 use Rattle.knx_model.specs.Cemi as cemi
 use Rattle.knx_model.specs.KnxNetIp as ip
-use Rattle.frame_text.specs.FrameText.{GrowsBy, tpdu_line, tpdu_refusal_line, cemi_line, cemi_refusal_line, ip_line, ip_refusal_line, IsTpduText, IsTextOfLdata, IsCemiText, IsTextOfIpFrame, IsFrameText}
+use Rattle.frame_text.specs.FrameText.{GrowsBy, tpdu_line, tpdu_refusal_line, cemi_line, cemi_refusal_line, ip_line, ip_refusal_line, IsTpduText, IsTextOfLdata, IsCemiText, IsTextOfIpFrame, IsTunnelText, IsRefusedText, IsFrameText}
+use Rattle.frame_text.specs.GatewayText.{find_line}
+use Rattle.discovery.specs.declared.find_frame.FindFrame.{FindFrame}
+use Rattle.discovery.specs.Discovery as find
 
 pub tpdu_read : {T E : Type 0} (r : Result T E) (octets old new : List ℕ) (frame : Tpdu) → tpdu.Reads octets frame → OnOk r (new ≡ old ++ tpdu_line frame) → OnOk r (GrowsBy (IsTpduText octets) old new)
 unfolding IsTpduText
@@ -61,16 +64,31 @@ other_put (DisconnectResponse channel status) old new n e = (ip_line (Disconnect
 other_put (TunnellingRequest channel number octets) old new n e = absurd n
 other_put (TunnellingAck channel number status) old new n e = (ip_line (TunnellingAck channel number status), refl, e)
 
-pub ip_read : {T E : Type 0} (r : Result T E) (octets old new : List ℕ) (frame : IpFrame) → ip.Reads octets frame → OnOk r (GrowsBy (IsTextOfIpFrame frame) old new) → OnOk r (GrowsBy (IsFrameText octets) old new)
-unfolding IsFrameText
+pub ip_read : {T E : Type 0} (r : Result T E) (octets old new : List ℕ) (frame : IpFrame) → ip.Reads octets frame → OnOk r (GrowsBy (IsTextOfIpFrame frame) old new) → OnOk r (GrowsBy (IsTunnelText octets) old new)
+unfolding IsTunnelText
 ip_read (Ok done) octets old new frame read g = (g.0, inr (frame, read, g.1), g.2)
 ip_read (Err why) octets old new frame read g = g
 
-pub ip_refused : {T E : Type 0} (r : Result T E) (octets old new : List ℕ) (why : IpRefused) → ip.IsLeastBroken why octets → OnOk r (new ≡ old ++ ip_refusal_line why) → OnOk r (GrowsBy (IsFrameText octets) old new)
-unfolding IsFrameText
+pub ip_refused : {T E : Type 0} (r : Result T E) (octets old new : List ℕ) (why : IpRefused) → ip.IsLeastBroken why octets → OnOk r (new ≡ old ++ ip_refusal_line why) → OnOk r (GrowsBy (IsTunnelText octets) old new)
+unfolding IsTunnelText
 ip_refused (Ok done) octets old new why least e = (ip_refusal_line why, inl (why, least, refl), e)
 ip_refused (Err error) octets old new why least e = e
+
+pub find_read : {T E : Type 0} (r : Result T E) (octets old new : List ℕ) (frame : FindFrame) → find.Reads octets frame → OnOk r (new ≡ old ++ find_line frame) → OnOk r (GrowsBy (IsFrameText octets) old new)
+unfolding IsFrameText
+find_read (Ok done) octets old new frame read e = (find_line frame, inr (frame, read, refl), e)
+find_read (Err error) octets old new frame read e = e
+
+pub find_refused : {T E : Type 0} (r : Result T E) (octets old new : List ℕ) (why : IpRefused) → find.IsLeastBroken why octets → OnOk r (GrowsBy (IsRefusedText why octets) old new) → OnOk r (GrowsBy (IsFrameText octets) old new)
+unfolding IsFrameText
+find_refused (Ok done) octets old new why least g = (g.0, inl (why, least, g.1), g.2)
+find_refused (Err error) octets old new why least g = g
 
 -- a text that stands alone
 pub whole : (octets old new : List ℕ) → old ≡ [] → GrowsBy (IsFrameText octets) old new → IsFrameText octets new
 whole octets old new none g = subst (λ (l : List ℕ). IsFrameText octets l) (sym (g.2 ∙ ap (λ (l : List ℕ). l ++ g.0) none)) g.1
+
+-- one line alone
+pub alone : {T E : Type 0} (r : Result T E) (old new text : List ℕ) → OnOk r (new ≡ old ++ text) → OnOk r (GrowsBy (λ (l : List ℕ). l ≡ text) old new)
+alone (Ok done) old new text e = (text, refl, e)
+alone (Err why) old new text e = e

@@ -1,4 +1,4 @@
--- The text of a datagram of KNXnet/IP, in up to three lines: the frame of KNXnet/IP, the frame of the link layer in a tunnelling
+-- The text of a datagram of KNXnet/IP, in up to three lines: the frame of KNXnet/IP, one of discovery among them, the frame of the link layer in a tunnelling
 -- request, and the TPDU in that one. Where octets are no frame, the last line has the number and the word of the least rule that
 -- they break. Numbers are decimal, but a memory address is four hexadecimal digits; octets are two each, with capital letters.
 use Rattle.std.specs.Prelude.{◌≡◌, ℕ, Bool, ◌&&◌, ◌⊎◌, nat_le, codes, List, [], ◌∷◌, ◌++◌, length, Option, Some, None, if◌then◌else◌}
@@ -16,6 +16,10 @@ use Rattle.knx_model.specs.declared.frames.cemi.CemiRefused.{CemiRefused}
 use Rattle.knx_model.specs.declared.frames.ip.IpFrame.{IpFrame}
 use Rattle.knx_model.specs.declared.frames.ip.IpFrame.TheVariants.{ConnectRequest, ConnectResponse, StateRequest, StateResponse, DisconnectRequest, DisconnectResponse, TunnellingRequest, TunnellingAck}
 use Rattle.knx_model.specs.declared.frames.ip.IpRefused.{IpRefused}
+use Rattle.knx_model.specs.declared.frames.ip.IpRefused.TheVariants as refused
+use Rattle.discovery.specs.declared.find_frame.FindFrame.{FindFrame}
+use Rattle.discovery.specs.Discovery as find
+use Rattle.frame_text.specs.GatewayText.{find_line}
 use Rattle.knx_model.specs.Apdu as tpdu
 use Rattle.knx_model.specs.Cemi as cemi
 use Rattle.knx_model.specs.KnxNetIp as ip
@@ -210,11 +214,24 @@ IsTextOfIpFrame (TunnellingRequest channel number cemi) text =
     (inner : List ℕ) × IsCemiText cemi inner × (text ≡ ip_line (TunnellingRequest channel number cemi) ++ inner)
 IsTextOfIpFrame frame text = text ≡ ip_line frame
 
+-- the octets of a datagram of another service than those of discovery
+unfoldable pub IsTunnelText : List ℕ → List ℕ → Type 0
+IsTunnelText octets text =
+    ((why : IpRefused) × ip.IsLeastBroken why octets × (text ≡ ip_refusal_line why))
+    ⊎ ((frame : IpFrame) × ip.Reads octets frame × IsTextOfIpFrame frame text)
+
+-- octets that discovery refuses so: as another service's, or as a frame of its own that breaks a rule
+abbrev pub IsRefusedText : IpRefused → List ℕ → List ℕ → Type 0
+IsRefusedText refused.Header octets text = IsTunnelText octets text
+IsRefusedText refused.Service octets text = IsTunnelText octets text
+IsRefusedText refused.Length octets text = text ≡ ip_refusal_line refused.Length
+IsRefusedText refused.Body octets text = text ≡ ip_refusal_line refused.Body
+
 -- the octets of a datagram
 unfoldable pub IsFrameText : List ℕ → List ℕ → Type 0
 IsFrameText octets text =
-    ((why : IpRefused) × ip.IsLeastBroken why octets × (text ≡ ip_refusal_line why))
-    ⊎ ((frame : IpFrame) × ip.Reads octets frame × IsTextOfIpFrame frame text)
+    ((why : IpRefused) × find.IsLeastBroken why octets × IsRefusedText why octets text)
+    ⊎ ((frame : FindFrame) × find.Reads octets frame × (text ≡ find_line frame))
 
 -- ---- octets as a word
 

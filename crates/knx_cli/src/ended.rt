@@ -1,15 +1,16 @@
 //! How the program ends.
 
-ghost use Rattle.std.specs.Prelude.{◌≡◌, ◌≤◌, ◌+◌, ℕ, IfErr, IfOk, List, None, Some, false, length, map, string_bytes};
+ghost use Rattle.std.specs.Prelude.{◌≡◌, ◌≤◌, ◌+◌, ℕ, IfErr, IfOk, List, None, Some, false, length, map, string_bytes, true};
 ghost use Rattle.call_words.specs.declared.stop.Stop.TheVariants.{Usage, NoMemory as Wanting};
 ghost use Rattle.knx_model.specs.Outside.{one_more};
 ghost use Rattle.call_words.specs.Statuses.{status_number};
 ghost use Rattle.knx_top.specs.declared.ending.End.TheVariants.{Stops};
 ghost use Rattle.knx_top.specs.Call.{AtMostOneRose, HasRunOf, files_of, touches};
-ghost use Rattle.knx_top.specs.Command.{asked, Check as AskedCheck, Decode as AskedDecode, Download as AskedDownload, Gateway as AskedGateway, Sim as AskedSim, Tables as AskedTables};
+ghost use Rattle.knx_top.specs.Command.{asked, Big as AskedBig, Check as AskedCheck, Decode as AskedDecode, Download as AskedDownload, Gateway as AskedGateway, Sim as AskedSim, Tables as AskedTables};
 ghost use Rattle.knx_top.specs.Ending.{Replies};
 ghost use Rattle.knx_top.specs.Headline.{ActsOnce, BeganRightly, ClosesToItsEnd, EndsEveryJob, EndsThoroughly, HasFaultRight, HasOldStoppedOrNew, HasTelegramsRight, IsOfItsWorkers, IsToldRightly, LeavesItsChannel, RunsWhereDone};
 ghost use Rattle.knx_top.specs.Ran.{FaultsOfLine};
+ghost use Rattle.knx_top.specs.commands.Big.{BigWords, RunsMade};
 ghost use Rattle.knx_top.specs.commands.Check.{IsCountsText};
 ghost use Rattle.knx_top.specs.commands.Decode.{TellsOfFrame};
 ghost use Rattle.knx_top.specs.commands.Download.{DownloadWords, RunsDialled};
@@ -59,6 +60,7 @@ pub fn status_of<R: Threads + Wait + Sync, F: Files, K: Sink, D: Dialer, G: Gate
     ensures sim { IfOk words.now (λ words. (names : SimWords) → asked (map string_bytes words.items) ≡ Some (AskedSim names) → RunsScript names (F.now files.old) (F.now files.new) sim.old (record { line = sim.new; report = last.new }) (Replies (K.now out.old) (K.now out.new) (status_of result))) }
     ensures download { IfOk words.now (λ words. (names : DownloadWords) → asked (map string_bytes words.items) ≡ Some (AskedDownload names) → RunsDialled names (F.now files.old) (F.now files.new) (D.now dial.old) (D.now dial.new) last.new (Replies (K.now out.old) (K.now out.new) (status_of result))) }
     ensures gateway { IfOk words.now (λ words. (names : GatewayWords) → asked (map string_bytes words.items) ≡ Some (AskedGateway names) → RunsGateway names (F.now files.old) (F.now files.new) (D.now dial.old) (D.now dial.new) sim.old sim.new (Replies (K.now out.old) (K.now out.new) (status_of result))) }
+    ensures big { IfOk words.now (λ words. (names : BigWords) → asked (map string_bytes words.items) ≡ Some (AskedBig names) → RunsMade names sim.old (record { line = sim.new; report = last.new }) (Replies (K.now out.old) (K.now out.new) (status_of result))) }
     ensures begins { IfOk words.now (λ words. HasRunOf BeganRightly (map string_bytes words.items) (F.now files.old) sim.old (record { line = sim.new; report = last.new })) }
     ensures old_stopped_or_new { IfOk words.now (λ words. HasRunOf HasOldStoppedOrNew (map string_bytes words.items) (F.now files.old) sim.old (record { line = sim.new; report = last.new })) }
     ensures telegrams { IfOk words.now (λ words. HasRunOf HasTelegramsRight (map string_bytes words.items) (F.now files.old) sim.old (record { line = sim.new; report = last.new })) }
@@ -71,7 +73,7 @@ pub fn status_of<R: Threads + Wait + Sync, F: Files, K: Sink, D: Dialer, G: Gate
     ensures over { IfOk words.now (λ words. HasRunOf EndsEveryJob (map string_bytes words.items) (F.now files.old) sim.old (record { line = sim.new; report = last.new })) }
     ensures closed { IfOk words.now (λ words. HasRunOf ClosesToItsEnd (map string_bytes words.items) (F.now files.old) sim.old (record { line = sim.new; report = last.new })) }
     ensures seats { IfOk words.now (λ words. HasRunOf IsOfItsWorkers (map string_bytes words.items) (F.now files.old) sim.old (record { line = sim.new; report = last.new })) }
-    ensures link { IfOk words.now (λ words. (names : SimWords) → asked (map string_bytes words.items) ≡ Some (AskedSim names) → FaultsOfLine last.new sim.new) }
+    ensures link { IfOk words.now (λ words. (touches (asked (map string_bytes words.items))).line ≡ true → FaultsOfLine last.new sim.new) }
     ensures line { IfOk words.now (λ words. (touches (asked (map string_bytes words.items))).line ≡ false → sim.new ≡ sim.old) }
     ensures undialled { IfOk words.now (λ words. (touches (asked (map string_bytes words.items))).network ≡ false → dial.new ≡ dial.old) }
     ensures no_run { IfOk words.now (λ words. (touches (asked (map string_bytes words.items))).run ≡ false → last.new ≡ None) }

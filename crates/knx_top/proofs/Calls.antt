@@ -1,8 +1,8 @@
 -- A whole call: what its command does and what is written of its end come to each clause of `knx`.
-use Rattle.std.proofs.Common.{◌≡◌, true, false, List, Option, Some, None, ◌⊎◌, refl, ◌∙◌, subst, ℕ}
-use Rattle.knx_top.specs.Call.{AtMostOneRose, AtPort, Does, Elsewhere, HasRun, HasRunOf, NoRun, Outside, left_in, touches}
+use Rattle.std.proofs.Common.{◌≡◌, true, false, List, Option, Some, None, ◌⊎◌, refl, sym, ◌∙◌, subst, ℕ}
+use Rattle.knx_top.specs.Call.{AtMostOneRose, AtPort, Does, Elsewhere, HasRun, HasRunMade, HasRunOf, NoRun, Outside, left_in, touches}
 use Rattle.bus_sim.specs.Loaded.{BusNow}
-use Rattle.knx_top.specs.Command.{Check, Command, Decode, Gateway, Sim, Tables, asked, Download}
+use Rattle.knx_top.specs.Command.{Big, Check, Command, Decode, Gateway, Sim, Tables, asked, Download}
 use Rattle.knx_top.specs.declared.ending.End.{End}
 use Rattle.knx_top.specs.Ran.{FaultsOfLine, Ran, Left, Commission}
 use Rattle.knx_model.specs.Outside.{FilesNow}
@@ -13,6 +13,7 @@ use Rattle.bus_sim.specs.RunNow.{RunNow}
 use Rattle.knx_top.specs.Input.{first_some}
 use Rattle.knx_top.specs.declared.commands.sim.SimTexts.{SimTexts}
 use Rattle.call_words.specs.declared.stop.Stop.{Stop}
+use Rattle.knx_top.proofs.commands.Bigs.{made_written}
 use Rattle.knx_top.proofs.commands.Downloads.{dialled_written}
 use Rattle.knx_top.proofs.commands.Decodes.{frame_written}
 use Rattle.knx_top.proofs.commands.Gateways.{gateway_written}
@@ -21,6 +22,7 @@ use Rattle.knx_top.proofs.commands.Sims.{script_written}
 use Rattle.knx_top.proofs.Ends.{stopped_report}
 use Rattle.call_words.specs.declared.stop.Stop.TheVariants as stop
 use Rattle.knx_top.specs.declared.ending.End.TheVariants as ends
+use Rattle.knx_top.specs.commands.Big.{BigWords, RunsMade, commission_made}
 use Rattle.knx_top.specs.commands.Check.{IsCountsText}
 use Rattle.knx_top.specs.commands.Tables.{IsTablesText}
 use Rattle.knx_top.specs.commands.Sim.{RunsScript, SimWords, commission_told, sim_tests, Runs, SimIsRead, failed_of_sim}
@@ -38,6 +40,7 @@ written (Sim words) before after end Replied does replied = (script_written word
 written (Decode word) before after end Replied does replied = (frame_written word end Replied does.0 replied, does.1, does.2)
 written (Download words) before after end Replied does replied = (dialled_written words before.files after.files before.dialer after.dialer after.report end Replied does.0 replied, does.1)
 written (Gateway words) before after end Replied does replied = (gateway_written words before.files after.files before.dialer after.dialer before.line after.line end Replied does.0 replied, does.1)
+written (Big words) before after end Replied does replied = (made_written words before.line (left_in after) end Replied does.0 replied, does.1, does.2)
 
 -- ---- each clause of the whole call
 
@@ -56,8 +59,16 @@ decode_of command before after Replied word does e = (subst (λ (o : Option Comm
 pub sim_of : (command : Option Command) (before after : Outside) (Replied : End → Type 0) (words : SimWords) → Does command before after Replied → command ≡ Some (Sim words) → RunsScript words before.files after.files before.line (left_in after) Replied
 sim_of command before after Replied words does e = (subst (λ (o : Option Command). Does o before after Replied) e does).0
 
-pub link_of : (command : Option Command) (before after : Outside) (Replied : End → Type 0) (words : SimWords) → Does command before after Replied → command ≡ Some (Sim words) → FaultsOfLine after.report after.line
-link_of command before after Replied words does e = (subst (λ (o : Option Command). Does o before after Replied) e does).1
+-- a run over the simulated line
+pub link_of : (command : Option Command) (before after : Outside) (Replied : End → Type 0) → Does command before after Replied → (touches command).line ≡ true → FaultsOfLine after.report after.line
+link_of None before after Replied does touched = absurd (let e : false ≡ true = touched in cc)
+link_of (Some (Check words)) before after Replied does touched = absurd (let e : false ≡ true = touched in cc)
+link_of (Some (Tables words)) before after Replied does touched = absurd (let e : false ≡ true = touched in cc)
+link_of (Some (Sim words)) before after Replied does touched = does.1
+link_of (Some (Decode word)) before after Replied does touched = absurd (let e : false ≡ true = touched in cc)
+link_of (Some (Download words)) before after Replied does touched = absurd (let e : false ≡ true = touched in cc)
+link_of (Some (Gateway words)) before after Replied does touched = subst (λ (report : Option Report). FaultsOfLine report after.line) (sym does.1) tt
+link_of (Some (Big words)) before after Replied does touched = does.2
 
 pub download_of : (command : Option Command) (before after : Outside) (Replied : End → Type 0) (words : DownloadWords) → Does command before after Replied → command ≡ Some (Download words)
     → RunsDialled words before.files after.files before.dialer after.dialer after.report Replied
@@ -66,6 +77,9 @@ download_of command before after Replied words does e = (subst (λ (o : Option C
 pub gateway_of : (command : Option Command) (before after : Outside) (Replied : End → Type 0) (words : GatewayWords) → Does command before after Replied → command ≡ Some (Gateway words)
     → RunsGateway words before.files after.files before.dialer after.dialer before.line after.line Replied
 gateway_of command before after Replied words does e = (subst (λ (o : Option Command). Does o before after Replied) e does).0
+
+pub big_of : (command : Option Command) (before after : Outside) (Replied : End → Type 0) (words : BigWords) → Does command before after Replied → command ≡ Some (Big words) → RunsMade words before.line (left_in after) Replied
+big_of command before after Replied words does e = (subst (λ (o : Option Command). Does o before after Replied) e does).0
 
 -- what a command doesn't touch
 pub line_of : (command : Option Command) (before after : Outside) (Replied : End → Type 0) → Does command before after Replied → (touches command).line ≡ false → after.line ≡ before.line
@@ -76,6 +90,7 @@ line_of (Some (Sim words)) before after Replied does untouched = absurd (let e :
 line_of (Some (Decode word)) before after Replied does untouched = does.2.line
 line_of (Some (Download words)) before after Replied does untouched = does.1
 line_of (Some (Gateway words)) before after Replied does untouched = absurd (let e : true ≡ false = untouched in cc)
+line_of (Some (Big words)) before after Replied does untouched = absurd (let e : true ≡ false = untouched in cc)
 
 pub no_run_of : (command : Option Command) (before after : Outside) (Replied : End → Type 0) → Does command before after Replied → (touches command).run ≡ false → after.report ≡ None
 no_run_of None before after Replied does untouched = does.2.report
@@ -85,6 +100,7 @@ no_run_of (Some (Sim words)) before after Replied does untouched = absurd (let e
 no_run_of (Some (Decode word)) before after Replied does untouched = does.2.report
 no_run_of (Some (Download words)) before after Replied does untouched = absurd (let e : true ≡ false = untouched in cc)
 no_run_of (Some (Gateway words)) before after Replied does untouched = does.1
+no_run_of (Some (Big words)) before after Replied does untouched = absurd (let e : true ≡ false = untouched in cc)
 
 pub faults_in : (command : Option Command) (before after : Outside) (Replied : End → Type 0) → Does command before after Replied → AtMostOneRose before.files.faults after.files.faults
 faults_in None before after Replied does = (None, does.1)
@@ -94,6 +110,7 @@ faults_in (Some (Sim words)) before after Replied does = (failed_of_sim words do
 faults_in (Some (Decode word)) before after Replied does = (None, does.1)
 faults_in (Some (Download words)) before after Replied does = (failed_of_project (project_named words) does.0.texts, does.0.counts)
 faults_in (Some (Gateway words)) before after Replied does = (failed_of_gateway words does.0.texts, does.0.counts)
+faults_in (Some (Big words)) before after Replied does = (None, does.1)
 
 -- ---- what is so of each run
 
@@ -105,6 +122,7 @@ begun_of P get words names files before after texts (ends.Tells text) report e i
 begun_of P get words names files before after texts ends.NotOpened report e is passes runs = absurd runs
 begun_of P get words names files before after texts (ends.BreaksOff told want) report e is passes runs = HasRun names texts told e is passes report (get (commission_told names texts) after.line.run told runs.0 runs.1)
 begun_of P get words names files before after texts (ends.Reports told) report e is passes runs = HasRun names texts told.report e is passes report (get (commission_told names texts) after.line.run told.report told.jobs runs.ran)
+begun_of P get words names files before after texts (ends.Sums told counts) report e is passes runs = absurd runs
 begun_of P get words names files before after texts (ends.Serves served) report e is passes runs = absurd runs
 
 tested : (P : Commission → RunNow → Report → Type 0) → ((c : Commission) (r : RunNow) (report : Report) (jobs : List JobWord) → Ran c r report jobs → P c r report)
@@ -112,6 +130,16 @@ tested : (P : Commission → RunNow → Report → Type 0) → ((c : Commission)
     → first_some (sim_tests names run.texts) ≡ tests → asked words ≡ Some (Sim names) → HasRunOf P words files before after
 tested P get (Some why) words names files files' before after Replied run t e = NoRun (record { line = (run.stops why t).1; report = run.report ∙ stopped_report why run.end (run.stops why t).0 })
 tested P get None words names files files' before after Replied run t e = begun_of P get words names files before after run.texts run.end run.report e run.is_read t (run.runs t)
+
+made_of : (P : Commission → RunNow → Report → Type 0) → ((c : Commission) (r : RunNow) (report : Report) (jobs : List JobWord) → Ran c r report jobs → P c r report)
+    → (words : List (List ℕ)) (names : BigWords) (files : FilesNow) (before : BusNow) (after : Left) (end : End) → after.report ≡ report_in end → asked words ≡ Some (Big names) → Runs (commission_made names) before after.line end → HasRunOf P words files before after
+made_of P get words names files before after (ends.Stops told) report e runs = NoRun (record { line = runs.1; report = report })
+made_of P get words names files before after (ends.Tells text) report e runs = absurd runs
+made_of P get words names files before after ends.NotOpened report e runs = absurd runs
+made_of P get words names files before after (ends.BreaksOff told want) report e runs = HasRunMade names told e report (get (commission_made names) after.line.run told runs.0 runs.1)
+made_of P get words names files before after (ends.Reports told) report e runs = HasRunMade names told.report e report (get (commission_made names) after.line.run told.report told.jobs runs.ran)
+made_of P get words names files before after (ends.Sums told counts) report e runs = absurd runs
+made_of P get words names files before after (ends.Serves served) report e runs = absurd runs
 
 ran_in : (P : Commission → RunNow → Report → Type 0) → ((c : Commission) (r : RunNow) (report : Report) (jobs : List JobWord) → Ran c r report jobs → P c r report)
     → (command : Option Command) (words : List (List ℕ)) (before after : Outside) (Replied : End → Type 0) → asked words ≡ command → Does command before after Replied → HasRunOf P words before.files before.line (left_in after)
@@ -122,6 +150,7 @@ ran_in P get (Some (Sim names)) words before after Replied e does = tested P get
 ran_in P get (Some (Decode word)) words before after Replied e does = NoRun does.2
 ran_in P get (Some (Download names)) words before after Replied e does = Elsewhere names e does.1
 ran_in P get (Some (Gateway names)) words before after Replied e does = AtPort names e does.1
+ran_in P get (Some (Big names)) words before after Replied e does = made_of P get words names before.files before.line (left_in after) does.0.end does.0.report e does.0.runs
 
 -- what is so of each run that a commission describes is so of the call's
 pub ran_of : (P : Commission → RunNow → Report → Type 0) → ((c : Commission) (r : RunNow) (report : Report) (jobs : List JobWord) → Ran c r report jobs → P c r report)

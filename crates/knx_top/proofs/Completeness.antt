@@ -93,6 +93,7 @@ memory_told (ends.Tells text) h = absurd h
 memory_told ends.NotOpened h = absurd h
 memory_told (ends.BreaksOff report want) h = absurd h
 memory_told (ends.Reports told) h = absurd h
+memory_told (ends.Sums told counts) h = absurd h
 memory_told (ends.Serves served) h = absurd h
 
 ended : (end : End) (out out' : SinkNow) (ending : Status) → ¬ Rose out.faults out'.faults → Replies out out' ending end → ending ≡ end_status end
@@ -106,6 +107,7 @@ told_whole IsText (ends.Tells text) out out' ending still h (inr refused) = absu
 told_whole IsText ends.NotOpened out out' ending still h replied = absurd h
 told_whole IsText (ends.BreaksOff report want) out out' ending still h replied = absurd h
 told_whole IsText (ends.Reports told) out out' ending still h replied = absurd h
+told_whole IsText (ends.Sums told counts) out out' ending still h replied = absurd h
 told_whole IsText (ends.Serves served) out out' ending still h replied = absurd h
 
 -- by what came of both files

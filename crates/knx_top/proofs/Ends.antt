@@ -19,6 +19,7 @@ stop_wants why (ends.Tells text) h = absurd h
 stop_wants why ends.NotOpened h = absurd h
 stop_wants why (ends.BreaksOff report want) h = absurd h
 stop_wants why (ends.Reports told) h = absurd h
+stop_wants why (ends.Sums told counts) h = absurd h
 stop_wants why (ends.Serves served) h = absurd h
 
 -- the same run
@@ -28,6 +29,7 @@ report_wants (ends.Tells text) = refl
 report_wants ends.NotOpened = refl
 report_wants (ends.BreaksOff report want) = refl
 report_wants (ends.Reports told) = refl
+report_wants (ends.Sums told counts) = refl
 report_wants (ends.Serves served) = refl
 
 -- a call that stopped has none
@@ -37,6 +39,7 @@ stopped_report why (ends.Tells text) h = absurd h
 stopped_report why ends.NotOpened h = absurd h
 stopped_report why (ends.BreaksOff report want) h = absurd h
 stopped_report why (ends.Reports told) h = absurd h
+stopped_report why (ends.Sums told counts) h = absurd h
 stopped_report why (ends.Serves served) h = absurd h
 
 -- a text is written, or that there was no memory for it

@@ -8,7 +8,7 @@ use Rattle.std.proofs.lemmas.Int.Digits.{digits_value-lt}
 use Rattle.knx_model.specs.Numbers.{is_digit, numeral, number_value}
 use Rattle.knx_model.proofs.Spelled.{no_hex}
 
-all_digits : (digits : List ℕ) → list_all (is_digit 10) digits ≡ true → AllDigits 10 digits
+pub all_digits : (digits : List ℕ) → list_all (is_digit 10) digits ≡ true → AllDigits 10 digits
 all_digits [] e = tt
 all_digits (d ∷ digits) e = let h = and_parts (is_digit 10 d) (list_all (is_digit 10) digits) e in (ltb-true _ _ h.0, all_digits digits h.1)
 

@@ -86,6 +86,7 @@ runs_so c before after report jobs turns devices log (ends.Reports told) ran com
   shown = are_shown c.project (world after.run) told.devices devices (on_bus c.project c.before) shows.3 compiled;
   with_log = shows.4 ∙ logs;
 }
+runs_so c before after report jobs turns devices log (ends.Sums told counts) ran compiled many logs shows = absurd shows
 runs_so c before after report jobs turns devices log (ends.Serves served) ran compiled many logs shows = absurd shows
 
 -- it is told with the same fault
@@ -96,4 +97,5 @@ fault_so r report jobs turns devices log (ends.Tells text) after shows cause = a
 fault_so r report jobs turns devices log ends.NotOpened after shows cause = absurd shows
 fault_so r report jobs turns devices log (ends.BreaksOff told want) after shows cause = subst (λ (told : Report). FaultsOfLine (Some told) after) (sym shows) cause
 fault_so r report jobs turns devices log (ends.Reports told) after shows cause = subst (λ (told : Report). FaultsOfLine (Some told) after) (sym shows.0) cause
+fault_so r report jobs turns devices log (ends.Sums told counts) after shows cause = absurd shows
 fault_so r report jobs turns devices log (ends.Serves served) after shows cause = absurd shows

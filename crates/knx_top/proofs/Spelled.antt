@@ -3,15 +3,16 @@ use Rattle.std.proofs.Common.{ℕ, ◌≡◌, ◌↔◌, Bool, true, false, code
 use Rattle.std.specs.Prelude.{bytes_eq, if◌then◌else◌, option_and_then}
 use Rattle.std.specs.Option.{option_map}
 use Rattle.std.proofs.lemmas.Slice.Eq.{bytes_eq-Decides}
-use Rattle.knx_top.specs.Command.{Command, Check, Tables, Sim, Decode, SpellsCommand, SpellsCheck, SpellsTables, SpellsSim, SpellsDecode, SpellsDownload, SpellsGateway, Download, Gateway, asked}
+use Rattle.knx_top.specs.Command.{Command, Check, Tables, Sim, Decode, SpellsCommand, SpellsCheck, SpellsTables, SpellsSim, SpellsDecode, SpellsDownload, SpellsGateway, SpellsBig, Big, Download, Gateway, asked}
 use Rattle.knx_model.specs.Addresses.{◌>>=◌}
 use Rattle.line_model.specs.Dialled.{Address}
 use Rattle.knx_top.specs.Fronts.{Spells, SpellsAll}
 use Rattle.knx_top.specs.Host.{address_value}
 use Rattle.knx_top.proofs.ReadBy.{AreApart, all_from, all_to, fronts, none_begins_another, reads_spelled, spells_read}
 use Rattle.knx_top.specs.commands.Project.{ProjectWords, project_words}
-use Rattle.knx_top.specs.Options.{SimOptions, no_options, project_options, project_rows, run_rows, sim_options}
+use Rattle.knx_top.specs.Options.{SimOptions, from_1_to, no_options, project_options, project_rows, run_rows, sim_options}
 use Rattle.knx_top.specs.commands.Sim.{SimWords, sim_words}
+use Rattle.knx_top.specs.commands.Big.{BigWords, big_words, most_devices, start_value}
 use Rattle.knx_top.specs.commands.Download.{DownloadWords, download_words}
 use Rattle.knx_top.specs.commands.Gateway.{GatewayWords, gateway_words, turns_rows, turns_value}
 use Rattle.knx_top.specs.commands.Decode.{decode_word}
@@ -45,6 +46,7 @@ asked_from words command (SpellsSim new old script others options o) = rw (run_f
 asked_from words command (SpellsDecode word) = refl
 asked_from words command (SpellsDownload address new others at options is o) = rw (is, run_from others options o) refl
 asked_from words command (SpellsGateway address old script number others at turns options is number_is o) = rw (is, turns_from number turns number_is, project_from others options o) refl
+asked_from words command (SpellsBig number start devices from is start_is) = rw (is, start_is) refl
 
 -- ---- from the command that is asked
 
@@ -123,24 +125,41 @@ gateway_of_words (address ∷ old ∷ []) command e = absurd cc
 gateway_of_words (address ∷ old ∷ script ∷ []) command e = absurd cc
 gateway_of_words (address ∷ old ∷ script ∷ word ∷ others) command e = gateway_to (address_value address) (turns_value word) (project_options others) address old script word others command refl refl refl e
 
+abbrev big_with : ℕ → Option ℕ → Option BigWords
+big_with devices from = option_map (λ (x : ℕ). let w : BigWords = record { devices = devices; start = x } in w) from
+
+big_to : (devices from : Option ℕ) (number start : List ℕ) (command : Command) → from_1_to most_devices number ≡ devices → start_value start ≡ from
+    → option_map Big (option_and_then (λ (n : ℕ). big_with n from) devices) ≡ Some command → SpellsCommand (codes "big" ∷ number ∷ start ∷ []) command
+big_to None from number start command is start_is e = absurd cc
+big_to (Some devices) None number start command is start_is e = absurd cc
+big_to (Some devices) (Some from) number start command is start_is e =
+    subst (λ (c : Command). SpellsCommand (codes "big" ∷ number ∷ start ∷ []) c) (some_command (Big (record { devices = devices; start = from })) command e) (SpellsBig number start devices from is start_is)
+
+big_of_words : (words : List (List ℕ)) (command : Command) → option_map Big (big_words words) ≡ Some command → SpellsCommand (codes "big" ∷ words) command
+big_of_words [] command e = absurd cc
+big_of_words (number ∷ []) command e = absurd cc
+big_of_words (number ∷ start ∷ []) command e = big_to (from_1_to most_devices number) (start_value start) number start command refl refl e
+big_of_words (number ∷ start ∷ more ∷ others) command e = absurd cc
+
 headed : (first text : List ℕ) (words : List (List ℕ)) (command : Command) → bytes_eq first text ≡ true → SpellsCommand (text ∷ words) command → SpellsCommand (first ∷ words) command
 headed first text words command is s = subst (λ (w : List ℕ). SpellsCommand (w ∷ words) command) (sym ((bytes_eq-Decides first text).0 is)) s
 
-asked_to : (a b c d f g : Bool) (first : List ℕ) (words : List (List ℕ)) (command : Command) → bytes_eq first (codes "check") ≡ a → bytes_eq first (codes "tables") ≡ b → bytes_eq first (codes "sim") ≡ c → bytes_eq first (codes "decode") ≡ d → bytes_eq first (codes "download") ≡ f → bytes_eq first (codes "gateway") ≡ g
-    → (if a then option_map Check (project_words words) else (if b then option_map Tables (project_words words) else (if c then option_map Sim (sim_words words) else (if d then option_map Decode (decode_word words) else (if f then option_map Download (download_words words) else (if g then option_map Gateway (gateway_words words) else None)))))) ≡ Some command
+asked_to : (a b c d f g h : Bool) (first : List ℕ) (words : List (List ℕ)) (command : Command) → bytes_eq first (codes "check") ≡ a → bytes_eq first (codes "tables") ≡ b → bytes_eq first (codes "sim") ≡ c → bytes_eq first (codes "decode") ≡ d → bytes_eq first (codes "download") ≡ f → bytes_eq first (codes "gateway") ≡ g → bytes_eq first (codes "big") ≡ h
+    → (if a then option_map Check (project_words words) else (if b then option_map Tables (project_words words) else (if c then option_map Sim (sim_words words) else (if d then option_map Decode (decode_word words) else (if f then option_map Download (download_words words) else (if g then option_map Gateway (gateway_words words) else (if h then option_map Big (big_words words) else None))))))) ≡ Some command
     → SpellsCommand (first ∷ words) command
-asked_to true b c d f g first words command is _ _ _ _ _ e = headed first (codes "check") words command is (check_words words command e)
-asked_to false true c d f g first words command _ is _ _ _ _ e = headed first (codes "tables") words command is (tables_words words command e)
-asked_to false false true d f g first words command _ _ is _ _ _ e = headed first (codes "sim") words command is (sim_of_words words command e)
-asked_to false false false true f g first words command _ _ _ is _ _ e = headed first (codes "decode") words command is (decode_words words command e)
-asked_to false false false false true g first words command _ _ _ _ is _ e = headed first (codes "download") words command is (download_of_words words command e)
-asked_to false false false false false true first words command _ _ _ _ _ is e = headed first (codes "gateway") words command is (gateway_of_words words command e)
-asked_to false false false false false false first words command _ _ _ _ _ _ e = absurd cc
+asked_to true b c d f g h first words command is _ _ _ _ _ _ e = headed first (codes "check") words command is (check_words words command e)
+asked_to false true c d f g h first words command _ is _ _ _ _ _ e = headed first (codes "tables") words command is (tables_words words command e)
+asked_to false false true d f g h first words command _ _ is _ _ _ _ e = headed first (codes "sim") words command is (sim_of_words words command e)
+asked_to false false false true f g h first words command _ _ _ is _ _ _ e = headed first (codes "decode") words command is (decode_words words command e)
+asked_to false false false false true g h first words command _ _ _ _ is _ _ e = headed first (codes "download") words command is (download_of_words words command e)
+asked_to false false false false false true h first words command _ _ _ _ _ is _ e = headed first (codes "gateway") words command is (gateway_of_words words command e)
+asked_to false false false false false false true first words command _ _ _ _ _ _ is e = headed first (codes "big") words command is (big_of_words words command e)
+asked_to false false false false false false false first words command _ _ _ _ _ _ _ e = absurd cc
 
 spelled_to : (words : List (List ℕ)) (command : Command) → asked words ≡ Some command → SpellsCommand words command
 spelled_to [] command e = absurd cc
 spelled_to (first ∷ words) command e =
-    asked_to (bytes_eq first (codes "check")) (bytes_eq first (codes "tables")) (bytes_eq first (codes "sim")) (bytes_eq first (codes "decode")) (bytes_eq first (codes "download")) (bytes_eq first (codes "gateway")) first words command refl refl refl refl refl refl e
+    asked_to (bytes_eq first (codes "check")) (bytes_eq first (codes "tables")) (bytes_eq first (codes "sim")) (bytes_eq first (codes "decode")) (bytes_eq first (codes "download")) (bytes_eq first (codes "gateway")) (bytes_eq first (codes "big")) first words command refl refl refl refl refl refl refl e
 
 pub commands : (words : List (List ℕ)) (command : Command) → (asked words ≡ Some command) ↔ SpellsCommand words command
 commands words command = (spelled_to words command, asked_from words command)

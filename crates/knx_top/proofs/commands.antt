@@ -1,4 +1,5 @@
 -- Each command, from what was read to how the call ends.
+pub mod Bigs
 pub mod Decodes
 pub mod Downloads
 pub mod Gateways

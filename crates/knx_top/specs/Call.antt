@@ -1,9 +1,10 @@
 -- What a call of the program touches, reads and does, by what its words ask for.
 use Rattle.std.specs.Prelude.{ℕ, Bool, true, false, List, [], None, Option, Some, ◌≡◌}
 use Rattle.bus_sim.specs.Loaded.{BusNow}
-use Rattle.knx_top.specs.Command.{Check, Command, Decode, Download, Gateway, Sim, Tables, asked}
+use Rattle.knx_top.specs.Command.{Big, Check, Command, Decode, Download, Gateway, Sim, Tables, asked}
 use Rattle.knx_top.specs.Ran.{Commission, FaultsOfLine, Left}
 use Rattle.line_model.specs.Dialled.{DialerNow}
+use Rattle.knx_top.specs.commands.Big.{BigWords, RunsMade, commission_made}
 use Rattle.knx_top.specs.commands.Download.{DownloadWords, RunsDialled, files_of_download}
 use Rattle.knx_top.specs.declared.ending.End.{End}
 use Rattle.knx_model.specs.Outside.{FilesNow}
@@ -36,6 +37,7 @@ touches (Some (Sim words)) = record { line = true; network = false; run = true }
 touches (Some (Decode word)) = record { line = false; network = false; run = false }
 touches (Some (Download words)) = record { line = false; network = true; run = true }
 touches (Some (Gateway words)) = record { line = true; network = true; run = false }
+touches (Some (Big words)) = record { line = true; network = false; run = true }
 
 -- the files that the words name, in the order in which they are read
 abbrev pub files_of : Option Command → List (List ℕ)
@@ -46,6 +48,7 @@ files_of (Some (Sim words)) = files_of_sim words
 files_of (Some (Decode word)) = []
 files_of (Some (Download words)) = files_of_download words
 files_of (Some (Gateway words)) = files_of_gateway words
+files_of (Some (Big words)) = []
 
 -- ---- what it does
 
@@ -68,7 +71,7 @@ pub record Outside : Type 0 where
 abbrev pub left_in : Outside → Left
 left_in o = record { line = o.line; report = o.report }
 
--- of `sim` it is said too that the link failed only where a call of the simulated line did
+-- of `sim` and `big` it is said too that the link failed only where a call of the simulated line did
 abbrev pub Does : Option Command → Outside → Outside → (End → Type 0) → Type 0
 Does None before after Replied = Replied (ends.Stops stop.Usage) × OnlyRose None before.files.faults after.files.faults × HasNoRun before.line (left_in after)
 Does (Some (Check words)) before after Replied = TellsOfProject IsCountsText words before.files after.files Replied × HasNoRun before.line (left_in after)
@@ -77,14 +80,16 @@ Does (Some (Sim words)) before after Replied = RunsScript words before.files aft
 Does (Some (Decode word)) before after Replied = TellsOfFrame word Replied × OnlyRose None before.files.faults after.files.faults × HasNoRun before.line (left_in after)
 Does (Some (Download words)) before after Replied = RunsDialled words before.files after.files before.dialer after.dialer after.report Replied × (after.line ≡ before.line)
 Does (Some (Gateway words)) before after Replied = RunsGateway words before.files after.files before.dialer after.dialer before.line after.line Replied × (after.report ≡ None)
+Does (Some (Big words)) before after Replied = RunsMade words before.line (left_in after) Replied × OnlyRose None before.files.faults after.files.faults × FaultsOfLine after.report after.line
 
 -- ---- the run of a call
 
 -- no run was begun, or only one over a dialled link, or the simulated line was for a port; or it has a run of what the words ask for and the files gave, in which
--- no test fails, of which P holds, and its report is left
+-- no test fails, or of the line that the words make, of which P holds, and its report is left
 pub data HasRunOf (P : Commission → RunNow → Report → Type 0) (words : List (List ℕ)) (files : FilesNow) (before : BusNow) (after : Left) : Type 0 where
   NoRun : HasNoRun before after → HasRunOf P words files before after
   Elsewhere : (names : DownloadWords) → asked words ≡ Some (Download names) → after.line ≡ before → HasRunOf P words files before after
   AtPort : (names : GatewayWords) → asked words ≡ Some (Gateway names) → after.report ≡ None → HasRunOf P words files before after
   HasRun : (names : SimWords) (texts : SimTexts) (report : Report) → asked words ≡ Some (Sim names) → SimIsRead files.file names texts → first_some (sim_tests names texts) ≡ None → after.report ≡ Some report
       → P (commission_told names texts) after.line.run report → HasRunOf P words files before after
+  HasRunMade : (names : BigWords) (report : Report) → asked words ≡ Some (Big names) → after.report ≡ Some report → P (commission_made names) after.line.run report → HasRunOf P words files before after

@@ -1,10 +1,11 @@
 -- What the words of a call ask for: a command with the names of its files, its options and its jobs, or nothing.
 use Rattle.std.specs.Prelude.{ℕ, List, None, Option, Some, bytes_eq, ◌≡◌, ◌∷◌, codes, [], if◌then◌else◌}
 use Rattle.line_model.specs.Dialled.{Address}
+use Rattle.knx_top.specs.commands.Big.{BigWords, big_words, most_devices, start_value}
 use Rattle.knx_top.specs.commands.Download.{DownloadWords, download_words, download_words_of}
 use Rattle.knx_top.specs.commands.Gateway.{GatewayWords, gateway_words, gateway_words_of, turns_rows}
 use Rattle.knx_top.specs.commands.Project.{ProjectWords, project_words, project_words_of}
-use Rattle.knx_top.specs.Options.{SimOptions, no_options, project_rows, run_rows}
+use Rattle.knx_top.specs.Options.{SimOptions, from_1_to, no_options, project_rows, run_rows}
 use Rattle.knx_top.specs.commands.Sim.{SimWords, sim_words, sim_words_of}
 use Rattle.knx_top.specs.Fronts.{Spells, SpellsAll}
 use Rattle.knx_top.specs.Host.{address_value}
@@ -20,11 +21,12 @@ pub data Command : Type 0 where
   Decode : List ℕ → Command
   Download : DownloadWords → Command
   Gateway : GatewayWords → Command
+  Big : BigWords → Command
 
 -- ---- the words that spell a command
 
 -- `check P`, `tables P`, each with its option behind, `sim NEW OLD SCRIPT` with options and jobs, `decode HEX`, `download ADDR NEW` with options and jobs,
--- and `gateway ADDR OLD SCRIPT turns=N` with its option behind
+-- `gateway ADDR OLD SCRIPT turns=N` with its option behind, and `big N START`
 pub data SpellsCommand : List (List ℕ) → Command → Type 0 where
   SpellsCheck : (project : List ℕ) (others : List (List ℕ)) (options : SimOptions) → SpellsAll project_rows others no_options options
       → SpellsCommand (codes "check" ∷ project ∷ others) (Check (record { project = project; catalogue = options.catalogue }))
@@ -37,6 +39,8 @@ pub data SpellsCommand : List (List ℕ) → Command → Type 0 where
       → SpellsCommand (codes "download" ∷ address ∷ new ∷ others) (Download (record { at = at; new = new; options = options }))
   SpellsGateway : (address old script number : List ℕ) (others : List (List ℕ)) (at : Address) (turns : ℕ) (options : SimOptions) → address_value address ≡ Some at → Spells turns_rows number turns → SpellsAll project_rows others no_options options
       → SpellsCommand (codes "gateway" ∷ address ∷ old ∷ script ∷ number ∷ others) (Gateway (record { at = at; old = old; script = script; turns = turns; catalogue = options.catalogue }))
+  SpellsBig : (number start : List ℕ) (devices from : ℕ) → from_1_to most_devices number ≡ Some devices → start_value start ≡ Some from
+      → SpellsCommand (codes "big" ∷ number ∷ start ∷ []) (Big (record { devices = devices; start = from }))
 
 -- ---- the command that words spell, and none for other words
 
@@ -50,7 +54,8 @@ asked (command ∷ words) =
     else (if bytes_eq command (codes "decode") then option_map Decode (decode_word words)
     else (if bytes_eq command (codes "download") then option_map Download (download_words words)
     else (if bytes_eq command (codes "gateway") then option_map Gateway (gateway_words words)
-    else None)))))
+    else (if bytes_eq command (codes "big") then option_map Big (big_words words)
+    else None))))))
 
 -- ---- the command in the code
 
@@ -61,3 +66,4 @@ command_of (parsed.Sim names) = Sim (sim_words_of names)
 command_of (parsed.Decode word) = Decode word.now
 command_of (parsed.Download names) = Download (download_words_of names)
 command_of (parsed.Gateway names) = Gateway (gateway_words_of names)
+command_of (parsed.Big words) = Big words

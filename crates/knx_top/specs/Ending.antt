@@ -1,5 +1,5 @@
 -- How a call ends, the text that is written of that, and its status. It stops; it tells a text; a gateway isn't reached or a port not bound; a run is over,
--- and memory is wanting for what is shown of it, or it is reported; or a serving is over.
+-- and memory is wanting for what is shown of it, or it is reported, or its sums are told; or a serving is over.
 use Rattle.std.specs.Prelude.{◌≡◌, ◌⊎◌, codes, List, [], ◌∷◌, Option, Some, None, Result, Ok, Err, ℕ}
 use Rattle.std.specs.Fmt.{decimal}
 use Rattle.call_words.specs.declared.status.Status.{Status}
@@ -8,6 +8,7 @@ use Rattle.call_words.specs.declared.stop.Stop.{Stop}
 use Rattle.call_words.specs.declared.stop.Stop.TheVariants as stop
 use Rattle.call_words.specs.Printed.{fault_line, line_report_text}
 use Rattle.call_words.specs.ReportText.{stop_text, stop_status}
+use Rattle.call_words.specs.Sums.{sums_text}
 use Rattle.knx_model.specs.Outside.{Rose, SinkNow, Wrote, WroteFront}
 use Rattle.knx_model.specs.TextLines.{line}
 use Rattle.line_model.specs.declared.fault.HubFault.TheVariants.{LinkFailed}
@@ -31,6 +32,7 @@ end_told (Err why) = ends.Stops why
 abbrev pub report_in : End → Option Report
 report_in (ends.BreaksOff report want) = Some report
 report_in (ends.Reports told) = Some told.report
+report_in (ends.Sums told counts) = Some told.report
 report_in end = None
 
 -- a call stopped for a reason, or for want of memory
@@ -72,6 +74,7 @@ end_text (ends.Tells text) = text
 end_text ends.NotOpened = fault_line (Some LinkFailed)
 end_text (ends.BreaksOff report want) = stop_text (stop.NoMemory tt)
 end_text (ends.Reports told) = line_report_text told.report told.jobs told.turns told.devices told.log
+end_text (ends.Sums told counts) = sums_text told.report counts told.devices
 end_text (ends.Serves end) = service_text end
 
 abbrev pub end_status : End → Status
@@ -80,6 +83,7 @@ end_status (ends.Tells text) = status.Done
 end_status ends.NotOpened = status.Link
 end_status (ends.BreaksOff report want) = status.NoMemory tt
 end_status (ends.Reports told) = line_status told.report
+end_status (ends.Sums told counts) = line_status told.report
 end_status (ends.Serves end) = service_status end
 
 -- ---- what is written
@@ -112,6 +116,7 @@ wanting (ends.Tells text) = ends.Stops (stop.NoMemory tt)
 wanting ends.NotOpened = ends.NotOpened
 wanting (ends.BreaksOff report want) = ends.BreaksOff report want
 wanting (ends.Reports told) = ends.BreaksOff told.report tt
+wanting (ends.Sums told counts) = ends.BreaksOff told.report tt
 wanting (ends.Serves end) = ends.Serves (untold end)
 
 -- an end was written, or that there was no memory for its text

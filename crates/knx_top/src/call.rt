@@ -1,14 +1,15 @@
 //! The top call.
 
-ghost use Rattle.std.specs.Prelude.{◌≡◌, ◌≤◌, ◌+◌, ℕ, List, None, Some, false, length, map, string_bytes};
+ghost use Rattle.std.specs.Prelude.{◌≡◌, ◌≤◌, ◌+◌, ℕ, List, None, Some, false, length, map, string_bytes, true};
 ghost use Rattle.call_words.specs.declared.stop.Stop.TheVariants.{Usage};
 ghost use Rattle.knx_model.specs.Outside.{one_more};
 ghost use Rattle.knx_top.specs.declared.ending.End.TheVariants.{Stops};
 ghost use Rattle.knx_top.specs.Call.{AtMostOneRose, Does, HasRunOf, files_of, touches};
-ghost use Rattle.knx_top.specs.Command.{Check as AskedCheck, Decode as AskedDecode, Download as AskedDownload, Gateway as AskedGateway, Sim as AskedSim, Tables as AskedTables, asked, command_of};
+ghost use Rattle.knx_top.specs.Command.{Big as AskedBig, Check as AskedCheck, Decode as AskedDecode, Download as AskedDownload, Gateway as AskedGateway, Sim as AskedSim, Tables as AskedTables, asked, command_of};
 ghost use Rattle.knx_top.specs.Ending.{Is, Replies, report_in};
 ghost use Rattle.knx_top.specs.Headline.{ActsOnce, BeganRightly, ClosesToItsEnd, EndsEveryJob, EndsThoroughly, HasFaultRight, HasOldStoppedOrNew, HasTelegramsRight, IsOfItsWorkers, IsToldRightly, LeavesItsChannel, RunsWhereDone};
 ghost use Rattle.knx_top.specs.Ran.{FaultsOfLine};
+ghost use Rattle.knx_top.specs.commands.Big.{BigWords, RunsMade};
 ghost use Rattle.knx_top.specs.commands.Check.{IsCountsText};
 ghost use Rattle.knx_top.specs.commands.Decode.{TellsOfFrame};
 ghost use Rattle.knx_top.specs.commands.Download.{DownloadWords, RunsDialled};
@@ -17,7 +18,7 @@ ghost use Rattle.knx_top.specs.commands.Project.{ProjectWords, TellsOfProject};
 ghost use Rattle.knx_top.specs.commands.Sim.{RunsScript, SimWords};
 ghost use Rattle.knx_top.specs.commands.Tables.{IsTablesText};
 
-use crate::commands::{Command, asked, check, decode, download, gateway, sim, tables};
+use crate::commands::{Command, asked, big, check, decode, download, gateway, sim, tables};
 use crate::ending::{End, tell, tell_end};
 use bus_sim::SimBus;
 use call_words::Status;
@@ -50,6 +51,7 @@ fn run<R: Threads + Wait + Sync, F: Files, D: Dialer, G: Gate + Sync>(
         Command::Decode(word) => decode::call(alloc, word),
         Command::Download(names) => download::call(rt, alloc, &names, files, dial, gate),
         Command::Gateway(names) => gateway::call(alloc, names, files, sim, dial),
+        Command::Big(numbers) => big::call(rt, alloc, &numbers, sim, gate),
     }
 }
 
@@ -106,6 +108,8 @@ pub fn knx<R: Threads + Wait + Sync, F: Files, K: Sink, D: Dialer, G: Gate + Syn
     ensures sim { (names : SimWords) → asked (map string_bytes words.now) ≡ Some (AskedSim names) → RunsScript names (F.now files.old) (F.now files.new) sim.old (record { line = sim.new; report = last.new }) (Replies (K.now out.old) (K.now out.new) result) }
     ensures download { (names : DownloadWords) → asked (map string_bytes words.now) ≡ Some (AskedDownload names) → RunsDialled names (F.now files.old) (F.now files.new) (D.now dial.old) (D.now dial.new) last.new (Replies (K.now out.old) (K.now out.new) result) }
     ensures gateway { (names : GatewayWords) → asked (map string_bytes words.now) ≡ Some (AskedGateway names) → RunsGateway names (F.now files.old) (F.now files.new) (D.now dial.old) (D.now dial.new) sim.old sim.new (Replies (K.now out.old) (K.now out.new) result) }
+    // the line that the words of `big` make is run as by `sim`, and nothing is refused
+    ensures big { (names : BigWords) → asked (map string_bytes words.now) ≡ Some (AskedBig names) → RunsMade names sim.old (record { line = sim.new; report = last.new }) (Replies (K.now out.old) (K.now out.new) result) }
     // a run begins as it is stated, and what happens on the line is legal and follows the script
     ensures begins { HasRunOf BeganRightly (map string_bytes words.now) (F.now files.old) sim.old (record { line = sim.new; report = last.new }) }
     // whatever is lost, repeated or cut, at every moment of a run each device keeps its starting content, or is stopped, or runs what the project says
@@ -129,8 +133,8 @@ pub fn knx<R: Threads + Wait + Sync, F: Files, K: Sink, D: Dialer, G: Gate + Syn
     ensures closed { HasRunOf ClosesToItsEnd (map string_bytes words.now) (F.now files.old) sim.old (record { line = sim.new; report = last.new }) }
     // what the log tells was done by one of the run's workers, as many as the words say, or by the group thread
     ensures seats { HasRunOf IsOfItsWorkers (map string_bytes words.now) (F.now files.old) sim.old (record { line = sim.new; report = last.new }) }
-    // that the link failed is told of `sim` only at the last time of 64 bits, where a call of the simulated line failed
-    ensures link { (names : SimWords) → asked (map string_bytes words.now) ≡ Some (AskedSim names) → FaultsOfLine last.new sim.new }
+    // that the link failed is told of a run over the simulated line only at the last time of 64 bits, where a call of that line failed
+    ensures link { (touches (asked (map string_bytes words.now))).line ≡ true → FaultsOfLine last.new sim.new }
     // what its command doesn't touch stays: the simulated line, the network, and that there is no run
     ensures line { (touches (asked (map string_bytes words.now))).line ≡ false → sim.new ≡ sim.old }
     ensures undialled { (touches (asked (map string_bytes words.now))).network ≡ false → dial.new ≡ dial.old }

@@ -7,9 +7,11 @@ ghost use Rattle.knx_model.specs.Outside.{one_more};
 ghost use Rattle.knx_top.specs.Ending.{IsTextOf, RepliesOf, Writes, end_told, open_line, report_in};
 
 use call_words::{JobWord, Status, Stop};
-use knx_model::{List, NoMemory, Octets, Sink, put_number_word, put_word};
+use knx_model::{Counts, List, NoMemory, Octets, Sink, put_number_word, put_word};
 use line_model::Report;
-use report_text::{DeviceShown, NO_MEMORY, line_report_of, line_status, stop_status, stop_text};
+use report_text::{
+    DeviceShown, NO_MEMORY, line_report_of, line_status, stop_status, stop_text, sums_text,
+};
 use std::alloc::Global;
 
 /// What is told where a gateway wasn't reached, a port not bound, or a serving failed.
@@ -57,6 +59,8 @@ pub enum End {
     BreaksOff(Report, NoMemory),
     /// A run is over.
     Reports(Reported),
+    /// A run is over, and its sums are told, with the counts of its project.
+    Sums(Reported, Counts),
     /// A serving is over.
     Serves(ServiceEnd),
 }
@@ -78,7 +82,7 @@ impl End {
     {
         match self {
             End::BreaksOff(report, _) => Some(report),
-            End::Reports(reported) => Some(reported.report),
+            End::Reports(reported) | End::Sums(reported, _) => Some(reported.report),
             End::Stops(_) | End::Tells(_) | End::NotOpened | End::Serves(_) => None,
         }
     }
@@ -116,6 +120,16 @@ fn text_of_report(alloc: Global, reported: &Reported) -> Result<Text, NoMemory>
         status: line_status(&reported.report),
         octets,
     })
+}
+
+/// What is printed of the sums of a run.
+fn text_of_sums(alloc: Global, reported: &Reported, counts: Counts) -> Result<Text, NoMemory>
+    ensures { IfOk result (λ p. IsTextOf (End.Sums reported.now counts) p.octets p.status) }
+{
+    let report = &reported.report;
+    let octets = sums_text(alloc, report, counts, reported.devices.as_slice())?;
+    let status = line_status(report);
+    Ok(Text { status, octets })
 }
 
 /// The line `open after N turns`.
@@ -186,6 +200,7 @@ pub fn tell_end<K: Sink>(alloc: Global, out: &mut K, end: &End) -> Status
         End::NotOpened => tell(out, LINK_FAULT, Status::Link),
         End::BreaksOff(_, want) => tell(out, NO_MEMORY, Status::NoMemory(*want)),
         End::Reports(reported) => tell_or_want(out, text_of_report(alloc, reported)),
+        End::Sums(reported, counts) => tell_or_want(out, text_of_sums(alloc, reported, *counts)),
         End::Serves(end) => tell_service(alloc, out, end),
     }
 }

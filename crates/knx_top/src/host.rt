@@ -42,7 +42,7 @@ fn is_digit(octet: u8) -> bool
     octet.is_ascii_digit()
 }
 
-fn are_digits(word: &[u8]) -> bool
+pub fn are_digits(word: &[u8]) -> bool
     ensures { result ≡ list_all (is_digit 10) word.now }
 {
     word.iter().all(|octet| is_digit(*octet))

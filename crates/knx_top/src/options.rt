@@ -1,6 +1,6 @@
 //! Options and jobs: what stands behind the names of a command's files, in any order.
 
-ghost use Rattle.std.specs.Prelude.{◌≡◌, ◌≤◌, None, Some, drop, length, map, nat_eq, string_bytes, if◌then◌else◌};
+ghost use Rattle.std.specs.Prelude.{◌≡◌, ◌≤◌, IfSome, None, Some, drop, length, map, nat_eq, string_bytes, if◌then◌else◌};
 ghost use Rattle.std.specs.List.{starts_with};
 ghost use Rattle.std.specs.Option.{option_map};
 ghost use Rattle.knx_top.specs.Fronts.{read_by};
@@ -35,6 +35,18 @@ impl Model for Workers {
     ghost invariant = { λ w. (1 ≤ w.count) × (w.count ≤ most_workers) };
 }
 
+/// The number that a word is, from 1 up to this one; none for another word.
+pub fn from_1_to(most: u32, word: &str) -> Option<u32>
+    ensures value { result ≡ from_1_to most word.now }
+    ensures some { IfSome result (λ n. 1 ≤ n) }
+    ensures few { IfSome result (λ n. n ≤ most) }
+{
+    match number_of(word) {
+        Some(number) if 1 <= number && number <= most => Some(number),
+        _ => None,
+    }
+}
+
 impl Workers {
     /// Those of a run whose words name no number.
     fn usual() -> Workers
@@ -47,12 +59,8 @@ impl Workers {
     fn of(word: &str) -> Option<Workers>
         ensures { result ≡ from_1_to most_workers word.now }
     {
-        match number_of(word) {
-            Some(count) if 1 <= count && count <= MOST_WORKERS => Some(Workers {
-                count: count as u8,
-            }),
-            _ => None,
-        }
+        let count = from_1_to(MOST_WORKERS, word)?;
+        Some(Workers { count: count as u8 })
     }
 
     /// How many they are.
@@ -98,7 +106,7 @@ impl<'a> SimOptions<'a> {
     }
 
     /// Before any word.
-    fn none() -> Self
+    pub fn none() -> Self
         ensures { options_of result ≡ no_options }
     {
         SimOptions {

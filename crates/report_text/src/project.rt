@@ -2,26 +2,34 @@
 
 ghost use Rattle.std.specs.Prelude.{◌≡◌, ◌++◌, ◌∷◌, [], OnOk, IfOk, codes};
 ghost use Rattle.std.specs.Fmt.{decimal};
-ghost use Rattle.std.specs.List.{flat_map, zip};
+ghost use Rattle.std.specs.List.{flat_map, join_with_byte, zip};
 ghost use Rattle.knx_model.specs.Addresses.{device_text};
-ghost use Rattle.call_words.specs.ReportText.{counts_line, image_lines, list_line, tables_lines};
+ghost use Rattle.call_words.specs.ReportText.{counts_line, counts_words, image_lines, list_line, tables_lines};
 ghost use Rattle.knx_model.specs.TextLines.{line};
 
 use crate::pieces::put_hex;
 use knx_model::{Counts, Image, IndAddr, NoMemory, Octets, put_device_word, put_number_word};
 use std::alloc::Global;
 
+/// Appends how many devices, objects and links a project has.
+pub fn put_counts(alloc: Global, out: &mut Octets, counts: Counts) -> Result<(), NoMemory>
+    ensures { OnOk result (out.new ≡ out.old ++ join_with_byte 32 (counts_words counts)) }
+{
+    out.append(b"devices")?;
+    put_number_word(alloc, out, u64::from(counts.devices))?;
+    out.append(b" objects")?;
+    put_number_word(alloc, out, u64::from(counts.objects))?;
+    out.append(b" links")?;
+    put_number_word(alloc, out, u64::from(counts.links))
+}
+
 /// How many devices, objects and links a project has, as the line `ok devices N objects N links N`.
 pub fn counts_text(alloc: Global, counts: Counts) -> Result<Octets, NoMemory>
     ensures { IfOk result (λ text. text ≡ counts_line counts) }
 {
     let mut out = Octets::new(alloc);
-    out.append(b"ok devices")?;
-    put_number_word(alloc, &mut out, u64::from(counts.devices))?;
-    out.append(b" objects")?;
-    put_number_word(alloc, &mut out, u64::from(counts.objects))?;
-    out.append(b" links")?;
-    put_number_word(alloc, &mut out, u64::from(counts.links))?;
+    out.append(b"ok ")?;
+    put_counts(alloc, &mut out, counts)?;
     out.push(b'\n')?;
     Ok(out)
 }

@@ -16,6 +16,8 @@
 
 mod call;
 mod fault;
+#[cfg(test)]
+mod many;
 mod outside;
 mod text;
 

@@ -2,10 +2,10 @@
 
 use call_words::{Case, JobKind, JobWord, Status};
 use knx_model::{
-    ApduOctets, GroupAddr, GroupService, IndAddr, List, LongValue, NoMemory, Sign, Value,
+    ApduOctets, Counts, GroupAddr, GroupService, IndAddr, List, LongValue, NoMemory, Sign, Value,
 };
 use line_model::{HubFault, Indication, LogEntry, LogWhat, Report, Try};
-use report_text::{DeviceShown, line_report_of, line_status};
+use report_text::{DeviceShown, line_report_of, line_status, sums_text};
 use std::alloc::Global;
 use std::process::Abort;
 use std::test::Fail;
@@ -126,6 +126,35 @@ fn each_kind_of_line_is_printed(rt: HostRuntime) -> Result<(), Fail> {
     let text = line_report_of(alloc, &report, &jobs, 3, devices.as_slice(), true)?;
     assert_eq!(rt; text.as_slice(), WHOLE);
     assert_eq!(rt; line_status(&report), Status::GatewayRefused);
+    Ok(())
+}
+
+#[test]
+fn sums_are_told_with_the_fault_or_the_fault_alone(rt: HostRuntime) -> Result<(), Fail> {
+    let alloc = rt.alloc();
+    let counts = Counts {
+        devices: 2,
+        objects: 16,
+        links: 64,
+    };
+    let devices = devices(alloc)?;
+    let mut report = Report {
+        log: log(alloc)?,
+        heard: List::new(alloc),
+        missed: 0,
+        dropped: 0,
+        fault: Some(HubFault::Flooded),
+    };
+    let flooded = sums_text(alloc, &report, counts, devices.as_slice())?;
+    let sums = b"devices 2 objects 16 links 64 done 1 new 1\nflooded\n";
+    assert_eq!(rt; flooded.as_slice(), sums);
+    report.fault = Some(HubFault::WrongLine {
+        device: OTHER,
+        tunnel: TUNNEL,
+    });
+    let elsewhere = sums_text(alloc, &report, counts, devices.as_slice())?;
+    let alone = b"wrong line 1.2.9 tunnel 1.1.255\n";
+    assert_eq!(rt; elsewhere.as_slice(), alone);
     Ok(())
 }
 

@@ -128,6 +128,7 @@ serving_is_no_run s before after line line' (ends.Tells text) h = absurd h
 serving_is_no_run s before after line line' ends.NotOpened h = refl
 serving_is_no_run s before after line line' (ends.BreaksOff report want) h = absurd h
 serving_is_no_run s before after line line' (ends.Reports told) h = absurd h
+serving_is_no_run s before after line line' (ends.Sums told counts) h = absurd h
 serving_is_no_run s before after line line' (ends.Serves served) h = refl
 
 pub begins_no_run : (j : Result Service Stop) (before after : DialerNow) (line line' : BusNow) (end : End) → ServesOr j before after line line' end → report_in end ≡ None
@@ -158,6 +159,7 @@ serves_wants s before after line line' (ends.Tells text) h = absurd h
 serves_wants s before after line line' ends.NotOpened h = h
 serves_wants s before after line line' (ends.BreaksOff report want) h = absurd h
 serves_wants s before after line line' (ends.Reports told) h = absurd h
+serves_wants s before after line line' (ends.Sums told counts) h = absurd h
 serves_wants s before after line line' (ends.Serves served) h = record { given = h.given; once = h.once; since = h.since; count = h.count; serving = untold_so s line' after.port_back h.since after.faults served h.serving }
 
 pub gateway_written : (words : GatewayWords) (files files' : FilesNow) (before after : DialerNow) (line line' : BusNow) (end : End) (Replied : End → Type 0) → RunsGateway words files files' before after line line' (Is end)

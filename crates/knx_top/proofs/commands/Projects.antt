@@ -70,6 +70,7 @@ text_wants IsText (ends.Tells text) h = refl
 text_wants IsText ends.NotOpened h = absurd h
 text_wants IsText (ends.BreaksOff report want) h = absurd h
 text_wants IsText (ends.Reports told) h = absurd h
+text_wants IsText (ends.Sums told counts) h = absurd h
 text_wants IsText (ends.Serves served) h = absurd h
 
 pub project_written : (IsText : Installation → List ℕ → Type 0) (words : ProjectWords) (files files' : FilesNow) (end : End) (Replied : End → Type 0) → TellsOfProject IsText words files files' (Is end) → Replied end ⊎ Replied (wanting end)
@@ -101,6 +102,7 @@ stop_no_run why (ends.Tells text) h = absurd h
 stop_no_run why ends.NotOpened h = absurd h
 stop_no_run why (ends.BreaksOff report want) h = absurd h
 stop_no_run why (ends.Reports told) h = absurd h
+stop_no_run why (ends.Sums told counts) h = absurd h
 stop_no_run why (ends.Serves served) h = absurd h
 
 pub text_no_run : (IsText : List ℕ → Type 0) (end : End) → TellsText IsText end → report_in end ≡ None
@@ -109,6 +111,7 @@ text_no_run IsText (ends.Tells text) h = refl
 text_no_run IsText ends.NotOpened h = absurd h
 text_no_run IsText (ends.BreaksOff report want) h = absurd h
 text_no_run IsText (ends.Reports told) h = absurd h
+text_no_run IsText (ends.Sums told counts) h = absurd h
 text_no_run IsText (ends.Serves served) h = absurd h
 
 pub project_no_run : (IsText : Installation → List ℕ → Type 0) (words : ProjectWords) (files files' : FilesNow) (end : End) → TellsOfProject IsText words files files' (Is end) → report_in end ≡ None

@@ -133,12 +133,13 @@ runs_script words files files' before after texts end is counts comes report = r
 
 -- ---- what is written of it
 
-run_wants : (c : Commission) (before after : BusNow) (end : End) → Runs c before after end → Runs c before after (wanting end)
+pub run_wants : (c : Commission) (before after : BusNow) (end : End) → Runs c before after end → Runs c before after (wanting end)
 run_wants c before after (ends.Stops told) h = (refl, h.1)
 run_wants c before after (ends.Tells text) h = absurd h
 run_wants c before after ends.NotOpened h = absurd h
 run_wants c before after (ends.BreaksOff report want) h = h
 run_wants c before after (ends.Reports told) h = (told.jobs, h.ran)
+run_wants c before after (ends.Sums told counts) h = absurd h
 run_wants c before after (ends.Serves served) h = absurd h
 
 pub script_written : (words : SimWords) (files files' : FilesNow) (before : BusNow) (after : Left) (end : End) (Replied : End → Type 0) → RunsScript words files files' before after (Is end) → Replied end ⊎ Replied (wanting end)

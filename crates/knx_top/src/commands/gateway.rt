@@ -14,11 +14,11 @@ use crate::ending::{End, ServiceEnd};
 use crate::host::{GatewayAddress, address_in};
 use crate::input::{Reading, read_after, read_named};
 use crate::line::line_begun;
-use crate::options::{behind, project_options};
+use crate::options::{behind, from_1_to, project_options};
 use crate::project::{models_in, project_in, read_of, script_in, sound_in};
 use bus_sim::{Served, SimBus};
 use call_words::{InputFile, Stop};
-use knx_model::{Files, number_of};
+use knx_model::Files;
 use line_model::{Dialer, PortFault};
 use project_check::Checked;
 use script_text::Script;
@@ -49,10 +49,7 @@ pub struct GatewayTexts {
 fn turns_in(word: &str) -> Option<u32>
     ensures { result ≡ turns_value word.now }
 {
-    match number_of(behind("turns=", word)?) {
-        Some(turns) if 1 <= turns && turns <= MOST_TURNS => Some(turns),
-        _ => None,
-    }
+    from_1_to(MOST_TURNS, behind("turns=", word)?)
 }
 
 /// The names of `gateway`.

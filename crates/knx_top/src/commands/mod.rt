@@ -4,6 +4,7 @@ ghost use Rattle.std.specs.Prelude.{◌≡◌, ◌↔◌, ℕ, List, Some, map, 
 ghost use Rattle.std.specs.Option.{option_map};
 ghost use Rattle.knx_top.specs.Command.{Command as Commanded, SpellsCommand, asked, command_of};
 
+pub mod big;
 pub mod check;
 pub mod decode;
 pub mod download;
@@ -11,6 +12,7 @@ pub mod gateway;
 pub mod sim;
 pub mod tables;
 
+use crate::commands::big::{BigNumbers, big_numbers};
 use crate::commands::decode::decode_word;
 use crate::commands::download::{DownloadNames, download_names};
 use crate::commands::gateway::{GatewayNames, gateway_names};
@@ -32,6 +34,8 @@ pub enum Command<'a> {
     Download(DownloadNames<'a>),
     /// `gateway ADDR OLD SCRIPT turns=N [catalogue=F]`
     Gateway(GatewayNames<'a>),
+    /// `big N START`
+    Big(BigNumbers),
 }
 
 /// The command of the words; none for words that are no command.
@@ -48,6 +52,7 @@ pub fn asked(words: &[String]) -> Option<Command<'_>>
         "decode" => Some(Command::Decode(decode_word(others)?)),
         "download" => Some(Command::Download(download_names(others)?)),
         "gateway" => Some(Command::Gateway(gateway_names(others)?)),
+        "big" => Some(Command::Big(big_numbers(others)?)),
         _ => None,
     }
 }

@@ -4,6 +4,7 @@ mod device;
 mod fault;
 mod job;
 mod log;
+mod sums;
 mod telegram;
 
 ghost use Rattle.std.specs.Prelude.{◌≡◌, ◌++◌, OnOk, IfOk, if◌then◌else◌, []};
@@ -21,6 +22,7 @@ pub use fault::line_status;
 use knx_model::{NoMemory, Octets};
 use line_model::Report;
 use std::alloc::Global;
+pub use sums::sums_text;
 
 /// Appends all lines but that of the fault, where the fault isn't told alone.
 fn put_run(

@@ -73,5 +73,8 @@ returns-in-Ok-clause-decode g c = rw (c.in-Ok.is, ← c.as_slice.ensures.value, 
 pub returns-in-Ok-clause-sim : goal.returns-in-Ok-clause-sim
 returns-in-Ok-clause-sim g c = rw (c.in-Ok.is, ← c.as_slice.ensures.value, told c.knx.result c.number.result c.number.ensures) c.knx.ensures.sim
 
+pub returns-in-Ok-clause-big : goal.returns-in-Ok-clause-big
+returns-in-Ok-clause-big g c = rw (c.in-Ok.is, ← c.as_slice.ensures.value, told c.knx.result c.number.result c.number.ensures) c.knx.ensures.big
+
 pub returns-in-Ok-clause-numbered : goal.returns-in-Ok-clause-numbered
 returns-in-Ok-clause-numbered g c = numbered c.knx.result c.number.result c.number.ensures

@@ -1,5 +1,5 @@
 use Rattle.knx_top.specs.Headline.{BeganRightly, HasOldStoppedOrNew, HasTelegramsRight, RunsWhereDone, ActsOnce, IsToldRightly, EndsThoroughly, LeavesItsChannel, HasFaultRight, EndsEveryJob, ClosesToItsEnd, IsOfItsWorkers}
-use Rattle.knx_top.proofs.Calls.{usage_of, check_of, tables_of, decode_of, sim_of, link_of, download_of, gateway_of, line_of, no_run_of, faults_in, ran_of}
+use Rattle.knx_top.proofs.Calls.{usage_of, check_of, tables_of, decode_of, sim_of, big_of, link_of, download_of, gateway_of, line_of, no_run_of, faults_in, ran_of}
 use Rattle.knx_top.proofs.Promised as promised
 use Rattle.knx_top.proofs.call.knx.Goals as goal
 
@@ -19,13 +19,16 @@ pub returns-clause-sim : goal.returns-clause-sim
 returns-clause-sim g c = λ names. sim_of _ _ _ _ names c.answer.ensures.does
 
 pub returns-clause-link : goal.returns-clause-link
-returns-clause-link g c = λ names. link_of _ _ _ _ names c.answer.ensures.does
+returns-clause-link g c = link_of _ _ _ _ c.answer.ensures.does
 
 pub returns-clause-download : goal.returns-clause-download
 returns-clause-download g c = λ names. download_of _ _ _ _ names c.answer.ensures.does
 
 pub returns-clause-gateway : goal.returns-clause-gateway
 returns-clause-gateway g c = λ names. gateway_of _ _ _ _ names c.answer.ensures.does
+
+pub returns-clause-big : goal.returns-clause-big
+returns-clause-big g c = λ names. big_of _ _ _ _ names c.answer.ensures.does
 
 pub returns-clause-line : goal.returns-clause-line
 returns-clause-line g c = line_of _ _ _ _ c.answer.ensures.does

@@ -14,6 +14,9 @@ returns-in-Tables-clause-does g c = rw c.in-Tables.is (c.call-in-Tables.ensures.
 pub returns-in-Sim-clause-does : goal.returns-in-Sim-clause-does
 returns-in-Sim-clause-does g c = rw c.in-Sim.is (c.call-in-Sim.ensures.told, c.call-in-Sim.ensures.link)
 
+pub returns-in-Big-clause-does : goal.returns-in-Big-clause-does
+returns-in-Big-clause-does g c = rw c.in-Big.is (c.call-in-Big.ensures.told, (λ _. refl), c.call-in-Big.ensures.link)
+
 pub returns-in-Decode-clause-does : goal.returns-in-Decode-clause-does
 returns-in-Decode-clause-does g c = rw c.in-Decode.is (c.call-in-Decode.ensures, (λ _. refl), record { line = refl; report = frame_no_run _ c.call-in-Decode.result c.call-in-Decode.ensures })
 

@@ -5,7 +5,7 @@ ghost use Rattle.call_words.specs.declared.stop.Stop.TheVariants.{NoMemory as Ou
 ghost use Rattle.knx_top.specs.Begun.{BeginsLine, IsPrepared, OrderFor};
 ghost use Rattle.knx_top.specs.Names.{options_of};
 ghost use Rattle.knx_top.specs.Options.{most_jobs};
-ghost use Rattle.knx_top.specs.commands.Sim.{judged, sim_words_of, with_lines};
+ghost use Rattle.knx_top.specs.commands.Sim.{judged, sim_words_of, with_lines, with_project};
 
 use crate::commands::sim::{SimNames, SimTexts};
 use crate::jobs::{all_planned, are_known, jobs_of};
@@ -16,7 +16,7 @@ use crate::turns::turns_of;
 use bus_sim::SimBus;
 use call_words::{InputFile, JobWord, Stop};
 use hub_work::HubJob;
-use knx_model::{Image, IndAddr, List, NoMemory};
+use knx_model::{Catalogue, Image, IndAddr, List, NoMemory};
 use line_model::GroupTurn;
 use project_check::Checked;
 use script_text::Script;
@@ -103,6 +103,25 @@ fn judge_script(
     }
 }
 
+/// What is behind NEW is judged: OLD, then the script and its devices, and the devices of the jobs.
+pub fn judge_behind(
+    alloc: Global,
+    options: &SimOptions<'_>,
+    models: &Catalogue,
+    new: &Checked<'_, '_>,
+    old: &[u8],
+    script: &[u8],
+) -> Result<Order, Stop>
+    ensures ok { IfOk result (λ order. OrderFor (with_project (options_of options.now) models.now old.now script.now new.now) order) }
+    ensures err { IfErr result (λ why. why ≢ OutOfMemory tt → with_project (options_of options.now) models.now old.now script.now new.now ≡ Err why) }
+{
+    let old = project_in(alloc, InputFile::Old, old)?;
+    let old = sound_in(alloc, InputFile::Old, &old, models)?;
+    let script = script_in(alloc, script)?;
+    let order = judge_script(alloc, options, new, &old, &script)?;
+    Ok(order)
+}
+
 /// What a run is begun with, or why the call stops before one.
 pub fn judge(alloc: Global, names: &SimNames<'_>, texts: &SimTexts) -> Result<Order, Stop>
     ensures ok { IfOk result (λ order. OrderFor (judged (sim_words_of names.now) texts.now) order) }
@@ -115,9 +134,6 @@ pub fn judge(alloc: Global, names: &SimNames<'_>, texts: &SimTexts) -> Result<Or
     let models = models_in(alloc, &texts.catalogue)?;
     let new = project_in(alloc, InputFile::New, new)?;
     let new = sound_in(alloc, InputFile::New, &new, &models)?;
-    let old = project_in(alloc, InputFile::Old, old)?;
-    let old = sound_in(alloc, InputFile::Old, &old, &models)?;
-    let script = script_in(alloc, script)?;
-    let order = judge_script(alloc, &names.options, &new, &old, &script)?;
+    let order = judge_behind(alloc, &names.options, &models, &new, old, script)?;
     Ok(order)
 }

@@ -7,8 +7,8 @@ ghost use Rattle.knx_top.specs.Input.{OnlyRose};
 ghost use Rattle.knx_top.specs.Ran.{FaultsOfLine};
 ghost use Rattle.knx_top.specs.commands.Sim.{RunsScript, SimIsRead, failed_of_sim, files_of_sim, sim_words, sim_words_of};
 
-mod judge;
-mod run;
+pub mod judge;
+pub mod run;
 
 use crate::commands::sim::run::commission;
 use crate::ending::End;

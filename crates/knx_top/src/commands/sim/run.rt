@@ -55,7 +55,7 @@ fn end_of_run(
 }
 
 /// Goes through the jobs over the line, which is then the one that was run, whether the run ended or memory was wanting on the way.
-fn run<R: Threads + Wait + Sync, G: Gate + Sync>(
+pub fn run<R: Threads + Wait + Sync, G: Gate + Sync>(
     rt: &R,
     alloc: Global,
     order: Order,

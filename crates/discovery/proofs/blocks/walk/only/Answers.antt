@@ -1,4 +1,4 @@
-use Rattle.std.proofs.Common.{◌≡◌, ◌≢◌, [], List, ℕ, arith}
+use Rattle.std.proofs.Common.{◌≡◌, ◌≢◌, [], arith}
 use Rattle.std.proofs.lemmas.Grind.{common_steps}
 use Rattle.discovery.specs.Sorts.{sort_of}
 use Rattle.discovery.proofs.Walking.{breaks_off, further, ends_neither, if_none}

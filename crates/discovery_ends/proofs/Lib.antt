@@ -1,0 +1,6 @@
+pub mod Requests
+pub mod Shown
+pub mod Polling
+pub mod AfterPolls
+pub mod Rounds
+pub mod Refused

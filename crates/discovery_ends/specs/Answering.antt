@@ -1,0 +1,124 @@
+-- A gateway's port at which requests of discovery are answered (ISO 22510, Core, search and self description). By the record of the port below it,
+-- each answered request stands as a datagram without octets, and its answer is left out. Once an answer has failed nothing more is done at
+-- the port below; the last request, and its answer where that went out nevertheless, are left out then.
+use Rattle.std.specs.Prelude.{◌≡◌, ℕ, ◌+◌, ◌<◌, ◌≤◌, Bool, false, ◌&&◌, ◌==◌, min, List, [], ◌∷◌, length, drop, Option, Some, None, is_some, if◌then◌else◌}
+use Rattle.std.specs.Str.{bytes_eq}
+use Rattle.knx_model.specs.Octets.{word_at}
+use Rattle.knx_model.specs.Outside.{greatest_count, one_more}
+use Rattle.line_model.specs.declared.outside.port.PortFault.{PortFault}
+use Rattle.line_model.specs.declared.outside.port.PortFault.TheVariants as fault
+use Rattle.line_model.specs.PortStory.{PortItem, Took, Gave, PortStory, Untold, Recorded, Adds, GivesOrNot}
+use Rattle.line_model.specs.Reading.{has_header, has_endpoint}
+use Rattle.discovery.specs.declared.about.About.{About}
+use Rattle.discovery.specs.declared.inquiry.Inquiry.{Inquiry}
+use Rattle.discovery.specs.declared.inquiry.Inquiry.TheVariants.{Search, Description}
+use Rattle.discovery.specs.Discovery.{Written}
+use Rattle.discovery.specs.Finding.{response_of}
+
+-- ---- requests and their answers
+
+-- a request of this service is an endpoint
+abbrev pub is_request : ℕ → List ℕ → Bool
+is_request service octets = has_header octets && (word_at octets 2 == service) && (length (drop 6 octets) == 8) && has_endpoint (drop 6 octets) 0
+
+-- which request a datagram is. A law of this crate says that this function is the relation `Reads`
+abbrev pub request_in : List ℕ → Option Inquiry
+request_in octets =
+    if is_request 0x0201 octets then Some Search
+    else (if is_request 0x0203 octets then Some Description
+    else None)
+
+-- its answer tells of the gateway
+abbrev pub answer_of : About → Inquiry → List ℕ
+answer_of about inquiry = Written (response_of inquiry about)
+
+abbrev pub is_answer_to : About → Option Inquiry → List ℕ → Bool
+is_answer_to about None octets = false
+is_answer_to about (Some inquiry) octets = bytes_eq octets (answer_of about inquiry)
+
+-- ---- the record of the port below, the newest first, as it is shown
+
+-- an item that answers the request before it: it is given to the client that asked
+abbrev pub is_answer : About → PortItem → List PortItem → Bool
+is_answer about (Gave to octets) (Took from request ∷ older) = (to == from) && is_answer_to about (request_in request) octets
+is_answer about item older = false
+
+-- the newest was a request, which stands without octets
+abbrev pub emptied : List PortItem → List PortItem
+emptied (Took from request ∷ older) = Took from [] ∷ older
+emptied items = items
+
+abbrev pub shown : About → List PortItem → List PortItem
+shown about [] = []
+shown about (item ∷ older) = if is_answer about item older then emptied (shown about older) else item ∷ shown about older
+
+-- without the request that was taken last, and its answer where that went out
+abbrev pub without_last : List PortItem → List PortItem
+without_last (Gave to octets ∷ older) = drop 1 older
+without_last items = drop 1 items
+
+-- where no answer failed; or where one did
+abbrev pub shown_where : About → Option PortFault → List PortItem → List PortItem
+shown_where about None items = shown about items
+shown_where about (Some kept) items = shown about (without_last items)
+
+abbrev pub shown_story : About → Option PortFault → PortStory → PortStory
+shown_story about failed Untold = Untold
+shown_story about failed (Recorded items) = Recorded (shown_where about failed items)
+
+-- ---- no request is open: the newest item of the record is none
+
+abbrev pub is_open : List PortItem → Bool
+is_open (Took from octets ∷ older) = is_some (request_in octets)
+is_open items = false
+
+abbrev pub NoneOpen : PortStory → Type 0
+NoneOpen Untold = Unit {0}
+NoneOpen (Recorded items) = is_open items ≡ false
+
+-- each request was answered at once, unless an answer failed
+abbrev pub AllAnswered : Option PortFault → PortStory → Type 0
+AllAnswered None story = NoneOpen story
+AllAnswered (Some kept) story = Unit {0}
+
+-- ---- how a taking fails
+
+-- a request was taken, and its answer failed
+pub record AnswerFails (about : About) (before after : PortStory) : Type 0 where
+  pub from : ℕ
+  pub request : List ℕ
+  pub inquiry : Inquiry
+  pub is : request_in request ≡ Some inquiry
+  pub between : PortStory
+  pub took : Adds (Took from request) before between
+  pub given : GivesOrNot from (answer_of about inquiry) between after
+
+-- nothing was taken; or an answer failed so
+abbrev pub FailsFor : PortFault → About → Option PortFault → PortStory → PortStory → Type 0
+FailsFor why about None before after = after ≡ before
+FailsFor why about (Some kept) before after = (kept ≡ why) × AnswerFails about before after
+
+-- ---- what contracts see
+
+pub record Answering (P : Type 0) : Type 0 where
+  pub port : P
+  pub about : About
+  pub failed : Option PortFault  -- how an answer failed
+  pub refused : ℕ  -- how many calls were refused since
+
+-- how many calls failed, those of the port below among them
+abbrev pub faults_with : ℕ → ℕ → ℕ
+faults_with below refused = min (below + refused) greatest_count
+
+-- a call that is refused since an answer found the port failed counts as one that failed; for want of memory none does
+abbrev pub refused_for : PortFault → ℕ → ℕ
+refused_for (fault.NoMemory want) refused = refused
+refused_for fault.Failed refused = one_more refused
+
+-- what is kept of the gateway, and of the port below and its count of failed calls
+pub record Keeps (about : About) (failed : Option PortFault) (refused below : ℕ) (story : PortStory) : Type 0 where
+  pub few : length about.families ≤ 64
+  pub answered : AllAnswered failed story
+  -- a call of the port below failed where an answer found that, and where a call was refused for it
+  pub broke : failed ≡ Some fault.Failed → 0 < below
+  pub refuses : 0 < refused → 0 < below

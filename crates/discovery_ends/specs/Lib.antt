@@ -1,0 +1,4 @@
+pub mod Answering
+pub mod Searching
+pub mod Going
+pub mod Looking

@@ -1,0 +1,43 @@
+-- Looking for gateways at a host: a link is dialled, searched over and handed back, and what is told is told of what that link told last. The dialer's
+-- count of faults takes in those of the link.
+use Rattle.std.specs.Prelude.{◌≡◌, ℕ, ◌≤◌, List, Result, Ok, Err}
+use Rattle.knx_model.specs.declared.no_memory.NoMemory.{NoMemory}
+use Rattle.knx_model.specs.Outside.{Rose, one_more}
+use Rattle.line_model.specs.declared.outside.link.LinkFault.{LinkFault}
+use Rattle.line_model.specs.Dialled.{Address, DialerNow, TakesBack, Tells}
+use Rattle.line_model.specs.LinkStory.{Story, IsNewLink}
+use Rattle.line_model.specs.Polled.{FailsWhere}
+use Rattle.discovery.specs.declared.about.About.{About}
+use Rattle.discovery.specs.declared.inquiry.Inquiry.{Inquiry}
+use Rattle.discovery_ends.specs.declared.looking.Looked.{Looked}
+use Rattle.discovery_ends.specs.declared.looking.Looked.TheVariants as looked
+use Rattle.discovery_ends.specs.Searching.{Searches}
+
+-- one call of `dial`, with just this host and port number, failed: nothing was opened, and so nothing was handed back
+pub record NotReached (at : Address) (before after : DialerNow) : Type 0 where
+  pub given : Tells at.host at.port after.given
+  pub once : after.dials ≡ one_more before.dials
+  pub rose : Rose before.faults after.faults
+  pub link_back : after.link_back ≡ before.link_back
+  pub port_back : after.port_back ≡ before.port_back
+
+-- a link was dialled by one call of `dial`, searched over and handed back
+pub record LookedOver (at : Address) (inquiry : Inquiry) (before after : DialerNow) (found : List About) (ended : Result (Unit {0}) LinkFault) : Type 0 where
+  pub given : Tells at.host at.port after.given
+  pub once : after.dials ≡ one_more before.dials
+  -- the link was new, and then searched over
+  pub began : Story
+  pub new : IsNewLink began
+  pub searches : Searches inquiry began after.link_back found ended
+  -- the dialer's count once it had dialled, and the link's, of which a fault is told only where it rose
+  pub since : ℕ
+  pub count : before.faults ≤ since
+  pub faults : ℕ
+  pub taken : TakesBack faults since after.faults
+  pub cause : FailsWhere ended 0 faults
+
+-- for want of memory nothing is dialled
+abbrev pub Looks : Result Looked NoMemory → Address → Inquiry → DialerNow → DialerNow → Type 0
+Looks (Ok looked.NotReached) at inquiry before after = NotReached at before after
+Looks (Ok (looked.Over findings)) at inquiry before after = (findings.finder.inquiry ≡ inquiry) × LookedOver at inquiry before after findings.finder.found findings.ended
+Looks (Err want) at inquiry before after = after ≡ before

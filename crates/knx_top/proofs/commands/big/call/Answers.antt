@@ -1,0 +1,24 @@
+use Rattle.std.proofs.Common.{[], refl, sym}
+use Rattle.knx_model.specs.Counts.{counts_of}
+use Rattle.knx_top.proofs.Present.{devices_there}
+use Rattle.knx_top.proofs.commands.Bigs.{order_made, runs_made, stops_wanting}
+use Rattle.knx_top.specs.commands.Big.{commission_made, made}
+use Rattle.knx_top.specs.declared.ending.End.TheVariants.{Stops}
+use Rattle.knx_top.proofs.commands.big.call.Goals as goal
+
+pub run-end-requires-clause-devices : goal.run-end-requires-clause-devices
+run-end-requires-clause-devices g c κs within =
+    let words = c.args.numbers.now in
+    devices_there (commission_made words) c.in-Ok.order (order_made words c.in-Ok.order (c.each_project_is_checked.ensures.checked words.devices words.start [] c.judge.ensures.few).sound c.in-Ok.ensures.ok)
+
+pub returns-in-Ok-clause-told : goal.returns-in-Ok-clause-told
+returns-in-Ok-clause-told g c =
+    let words = c.args.numbers.now in
+    let is = order_made words c.in-Ok.order (c.each_project_is_checked.ensures.checked words.devices words.start [] c.judge.ensures.few).sound c.in-Ok.ensures.ok in
+    runs_made words c.args.sim.now _ c.in-Ok.counts c.run-end.result c.summed.result c.in-Ok.ensures.counts c.summed.ensures (c.run-end.ensures.runs (commission_made words) is (sym c.none.ensures)) refl
+
+pub returns-in-Err-clause-told : goal.returns-in-Err-clause-told
+returns-in-Err-clause-told g c =
+    let words = c.args.numbers.now in
+    runs_made words c.args.sim.now _ (counts_of (made words)) (Stops c.in-Err.why) (Stops c.in-Err.why) refl refl
+    (stops_wanting words c.in-Err.why c.args.sim.now (c.each_project_is_checked.ensures.checked words.devices words.start [] c.judge.ensures.few).sound c.in-Err.ensures.err) refl
