@@ -1,3 +1,4 @@
 pub mod Counts
+pub mod Senders
 pub mod Writes
 pub mod Exit

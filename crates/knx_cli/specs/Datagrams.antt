@@ -1,7 +1,8 @@
 -- Datagrams at a socket: those that it was given and those that come to it, where it tells them; and the faults that its errors are.
-use Rattle.std.specs.Prelude.{◌≡◌, ℕ, Bool, true, false, List, [], ◌∷◌, take, slice_get, IfSome, Option, Some, None}
+use Rattle.std.specs.Prelude.{◌≡◌, ◌≢◌, ◌++◌, ℕ, Bool, true, false, List, [], ◌∷◌, take, slice_get, IfSome, Option, Some, None}
 use Rattle.std.specs.declared.io.ErrorKind.{ErrorKind}
 use Rattle.std.specs.declared.io.ErrorKind.TheVariants.{OutOfMemory, WouldBlock, TimedOut, Interrupted}
+use Rattle.std.specs.List.{AllByRecursion}
 use Rattle.std.specs.declared.net.ipv4_addr.Ipv4Addr.{Ipv4Addr}
 use Rattle.std.specs.declared.net.ip_addr.IpAddr.TheVariants.{V4}
 use Rattle.std.specs.declared.net.socket_addr.SocketAddr.{SocketAddr}
@@ -17,6 +18,8 @@ use Rattle.line_model.specs.declared.outside.port.PortFault.{PortFault}
 use Rattle.line_model.specs.declared.outside.port.PortFault.TheVariants as port_fault
 use Rattle.line_model.specs.declared.outside.port.PortPolled.{PortPolled}
 use Rattle.line_model.specs.declared.outside.port.PortPolled.TheVariants as port_answer
+use Rattle.knx_cli.specs.declared.socket.Senders.{Senders}
+use Rattle.knx_cli.specs.declared.socket.Senders.TheVariants.{Host, Answerable}
 
 -- a datagram, and the address that it goes to or comes from
 pub record Datagram : Type 0 where
@@ -51,14 +54,29 @@ Brings None into (Some coming) after = after ≡ Some coming
 Brings (Some got) into (Some []) after = ⊥
 Brings (Some got) into (Some (first ∷ coming)) after = (take got.0 into ≡ take longest_got first.octets) × (got.1 ≡ first.peer) × (after ≡ Some coming)
 
--- the same of a link's answer and of a port's, which names the sender by its number among the clients
-abbrev pub LinkBrings : Polled → List ℕ → Option (List Datagram) → Option (List Datagram) → Type 0
-LinkBrings (link_answer.Got n) into before after = (from : SocketAddr) × Brings (Some (n, from)) into before after
-LinkBrings link_answer.Quiet into before after = Brings None into before after
+-- ---- whose datagrams are taken: those of one host, or of everybody who can be answered
+
+abbrev pub IsOf : Senders → SocketAddr → Type 0
+IsOf (Host host) from = socket_ip from ≡ host
+IsOf Answerable from = socket_port from ≢ 0
+
+-- the first ones that come, be it none, are of others, and are passed over
+abbrev pub PassesOver : Senders → Option (List Datagram) → Option (List Datagram) → Type 0
+PassesOver senders None after = after ≡ None
+PassesOver senders (Some coming) after = (others rest : List Datagram) × (coming ≡ others ++ rest) × AllByRecursion (λ other. IsOf senders other.peer → ⊥) others × (after ≡ Some rest)
+
+-- the first that is theirs is brought, or none came yet
+abbrev pub BringsOf : Senders → Option (ℕ × SocketAddr) → List ℕ → Option (List Datagram) → Option (List Datagram) → Type 0
+BringsOf senders got into before after = (there : Option (List Datagram)) × PassesOver senders before there × Brings got into there after × IfSome got (λ came. IsOf senders came.1)
+
+-- the same of a link's answer, of the gateway's host alone, and of a port's, which names the sender by its number among the clients
+abbrev pub LinkBrings : SocketAddr → Polled → List ℕ → Option (List Datagram) → Option (List Datagram) → Type 0
+LinkBrings gateway (link_answer.Got n) into before after = (from : SocketAddr) × BringsOf (Host (socket_ip gateway)) (Some (n, from)) into before after
+LinkBrings gateway link_answer.Quiet into before after = BringsOf (Host (socket_ip gateway)) None into before after
 
 abbrev pub PortBrings : PortPolled → List ℕ → List SocketAddr → Option (List Datagram) → Option (List Datagram) → Type 0
-PortBrings (port_answer.Got n number) into clients before after = (from : SocketAddr) × (slice_get clients number ≡ Some from) × Brings (Some (n, from)) into before after
-PortBrings port_answer.Quiet into clients before after = Brings None into before after
+PortBrings (port_answer.Got n number) into clients before after = (from : SocketAddr) × (slice_get clients number ≡ Some from) × BringsOf Answerable (Some (n, from)) into before after
+PortBrings port_answer.Quiet into clients before after = BringsOf Answerable None into before after
 
 -- each number that named a client names it still
 abbrev pub NamesOn : List SocketAddr → List SocketAddr → Type 0

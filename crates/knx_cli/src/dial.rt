@@ -71,7 +71,7 @@ impl<'a, R: Net + Clock> UdpDialer<'a, R> {
 impl<'a, R: Net + Clock + Sync> Dialer for UdpDialer<'a, R> {
     type L = UdpLink<'a, R, UdpSocket>;
 
-    type P = UdpPort<UdpSocket>;
+    type P = UdpPort<'a, R, UdpSocket>;
 
     ghost now = { λ d. record { faults = d.faults; dials = d.dials; given = None; link_back = link_story.Untold; port_back = port_story.Untold } };
 
@@ -90,7 +90,7 @@ impl<'a, R: Net + Clock + Sync> Dialer for UdpDialer<'a, R> {
         self.answer(opened)
     }
 
-    fn bind(&mut self, host: [u8; 4], port: u16) -> Result<UdpPort<UdpSocket>, DialFailed>
+    fn bind(&mut self, host: [u8; 4], port: u16) -> Result<UdpPort<'a, R, UdpSocket>, DialFailed>
         ensures fresh { OnOk result (IsNewPort port_story.Untold) }
         ensures tells { Tells host port None }
         ensures sound { IfOk result (λ p. p.faults ≡ 0) }
@@ -108,7 +108,7 @@ impl<'a, R: Net + Clock + Sync> Dialer for UdpDialer<'a, R> {
         self.take_back(line.faults());
     }
 
-    fn shut(&mut self, door: UdpPort<UdpSocket>) {
+    fn shut(&mut self, door: UdpPort<'a, R, UdpSocket>) {
         self.take_back(door.faults());
     }
 }

@@ -1,4 +1,4 @@
-//! The link to a gateway over UDP. It tells nothing of what it sends and gets.
+//! The link to a gateway over UDP. It tells nothing of what it sends and gets. What comes from another host than the gateway's is passed over.
 
 ghost use Rattle.std.specs.IoError.{error_kind};
 ghost use Rattle.std.specs.Prelude.{◌≡◌, ◌≤◌, Err, IfErr, IfOk, Ok, OnErr, OnOk};
@@ -8,7 +8,7 @@ ghost use Rattle.line_model.specs.Polled.{FailsWhere, PollsSo};
 ghost use Rattle.knx_cli.specs.Datagrams.{Gives, IsUnused, LinkBrings, counted, link_fault_of};
 
 use crate::disk::memory_of;
-use crate::socket::{Datagrams, LONGEST, address_of, send_whole};
+use crate::socket::{Datagrams, LONGEST, Senders, address_of, receive_of, send_whole};
 use line_model::{Link, LinkFault, Polled};
 use std::io;
 use std::net::{Net, SocketAddr};
@@ -74,14 +74,15 @@ impl<'a, R: Net + Clock, S: Datagrams> UdpLink<'a, R, S> {
         send_whole(&mut self.socket, octets, self.gateway)
     }
 
-    /// Waits for a datagram, and reads the clock.
+    /// Waits for a datagram of the gateway's host, and reads the clock.
     fn receive(&mut self, into: &mut [u8; LONGEST], wait_ms: u32) -> io::Result<Polled>
-        ensures brings { IfOk result (λ polled. LinkBrings polled into.new (S.coming self.old.socket) (S.coming self.new.socket)) }
+        ensures brings { IfOk result (λ polled. LinkBrings self.old.gateway polled into.new (S.coming self.old.socket) (S.coming self.new.socket)) }
         ensures polled { IfOk result (λ polled. PollsSo (Ok polled) into.new wait_ms self.new.time Untold Untold) }
         ensures time { self.old.time ≤ self.new.time }
         ensures others { self.new ≡ record self.old { time = self.new.time; socket = self.new.socket } }
     {
-        let came = self.socket.receive(into, wait_ms)?;
+        let senders = Senders::at(self.gateway);
+        let came = receive_of(self.rt, &mut self.socket, senders, into, wait_ms)?;
         self.read_clock()?;
         match came {
             Some((count, _)) => Ok(Polled::Got(count)),
@@ -169,7 +170,7 @@ impl<R: Net + Clock, S: Datagrams> Link for UdpLink<'_, R, S> {
 
     fn poll(&mut self, into: &mut [u8; LONGEST], wait_ms: u32) -> Result<Polled, LinkFault>
         ensures polled { PollsSo result into.new wait_ms self.new.time Untold Untold }
-        ensures brings { IfOk result (λ polled. LinkBrings polled into.new (S.coming self.old.socket) (S.coming self.new.socket)) }
+        ensures brings { IfOk result (λ polled. LinkBrings self.old.gateway polled into.new (S.coming self.old.socket) (S.coming self.new.socket)) }
         ensures still { OnOk result (self.new.faults ≡ self.old.faults) }
         ensures gateway { self.new.gateway ≡ self.old.gateway }
         ensures cause { FailsWhere result self.old.faults self.new.faults }
@@ -218,6 +219,26 @@ mod tests {
         let waited = link.now().saturating_sub(before);
         assert!(rt; 30 <= waited && waited < 10_000);
         assert_eq!(rt; link.at(), 2);
+        Ok(())
+    }
+
+    #[test]
+    fn only_the_gateways_host_is_heard(rt: HostRuntime) -> Result<(), Fail> {
+        let mut link: UdpLink<HostRuntime, UdpSocket> = UdpLink::open(
+            &rt,
+            address_of(GATEWAY, 3671),
+        )?;
+        let at = address_of(GATEWAY, link.socket.local_addr()?.port());
+        let stranger = UdpSocket::bind(&rt, address_of([127, 0, 0, 2], 0))?;
+        let other_port = UdpSocket::bind(&rt, address_of(GATEWAY, 0))?;
+        for _ in 0..3 {
+            let _ = stranger.send_to(b"forged", at)?;
+        }
+        assert!(rt; is_quiet(&mut link, 30));
+        let _ = stranger.send_to(b"forged", at)?;
+        let _ = other_port.send_to(b"told", at)?;
+        assert!(rt; matches!(link.poll(&mut [0; LONGEST], 1000), Ok(Polled::Got(4))));
+        assert!(rt; is_quiet(&mut link, 0));
         Ok(())
     }
 

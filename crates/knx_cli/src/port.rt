@@ -8,27 +8,30 @@ ghost use Rattle.knx_cli.specs.Datagrams.{GivesTo, NamesOn, PortBrings, counted,
 
 use crate::clients::Clients;
 use crate::disk::memory_of;
-use crate::socket::{Datagrams, LONGEST, send_whole};
+use crate::socket::{Datagrams, LONGEST, Senders, receive_of, send_whole};
 use line_model::{Port, PortFault, PortPolled};
 use std::alloc::Global;
 use std::io::{self, ErrorKind};
 use std::net::{Net, SocketAddr};
+use std::time::Clock;
 
 /// A port: a socket, and the clients from which datagrams came.
 #[derive(Drop)]
-pub struct UdpPort<S> {
+pub struct UdpPort<'a, R, S> {
+    rt: &'a R,
     socket: S,
     clients: Clients,
     faults: u64,
 }
 
-impl<S: Datagrams> UdpPort<S> {
+impl<'a, R: Net + Clock, S: Datagrams> UdpPort<'a, R, S> {
     /// A port at an address, at which nothing was taken yet.
-    pub fn open<R: Net>(rt: &R, alloc: Global, at: SocketAddr) -> io::Result<Self>
+    pub fn open(rt: &'a R, alloc: Global, at: SocketAddr) -> io::Result<Self>
         ensures clients { IfOk result (λ p. p.clients ≡ []) }
         ensures faults { IfOk result (λ p. p.faults ≡ 0) }
     {
         Ok(UdpPort {
+            rt,
             socket: S::bound(rt, at)?,
             clients: Clients::none(alloc),
             faults: 0,
@@ -42,14 +45,20 @@ impl<S: Datagrams> UdpPort<S> {
         self.faults
     }
 
-    /// Waits for a datagram.
+    /// Waits for a datagram that can be answered.
     fn receive(&mut self, into: &mut [u8; LONGEST], wait_ms: u32) -> io::Result<PortPolled>
         ensures brings { IfOk result (λ polled. PortBrings polled into.new self.new.clients (S.coming self.old.socket) (S.coming self.new.socket)) }
         ensures taken { IfOk result (λ polled. TakesSo (Ok polled) into.new wait_ms Untold Untold) }
         ensures clients { NamesOn self.old.clients self.new.clients }
         ensures others { self.new.faults ≡ self.old.faults }
     {
-        match self.socket.receive(into, wait_ms)? {
+        match receive_of(
+            self.rt,
+            &mut self.socket,
+            Senders::Answerable,
+            into,
+            wait_ms,
+        )? {
             Some((len, from)) => {
                 let from = self.clients.number(from)?;
                 Ok(PortPolled::Got { len, from })
@@ -88,7 +97,7 @@ impl<S: Datagrams> UdpPort<S> {
     }
 }
 
-impl<S: Datagrams> Port for UdpPort<S> {
+impl<R: Net + Clock, S: Datagrams> Port for UdpPort<'_, R, S> {
     ghost use Rattle.line_model.specs.PortStory.{Untold};
 
     ghost story = { λ p. Untold };
@@ -128,14 +137,13 @@ mod tests {
     use line_model::{Dialer, Link, Polled};
     use std::net::{IpAddr, Ipv4Addr, UdpSocket};
     use std::test::Fail;
-    use std::time::Clock;
 
     const HOST: [u8; 4] = [127, 0, 0, 1];
 
     /// A port, and its address.
-    fn bind<R: Net + Clock + Sync>(
-        dialer: &mut UdpDialer<'_, R>,
-    ) -> io::Result<(UdpPort<UdpSocket>, SocketAddr)> {
+    fn bind<'a, R: Net + Clock + Sync>(
+        dialer: &mut UdpDialer<'a, R>,
+    ) -> io::Result<(UdpPort<'a, R, UdpSocket>, SocketAddr)> {
         let Ok(door) = dialer.bind(HOST, 0) else {
             return Err(io::Error::from(ErrorKind::AddrInUse));
         };
@@ -144,7 +152,7 @@ mod tests {
     }
 
     /// What comes to a port: how many octets, from whom, and the first of them.
-    fn came<S: Datagrams>(door: &mut UdpPort<S>, wait_ms: u32) -> Option<(usize, u32, u8)> {
+    fn came<P: Port>(door: &mut P, wait_ms: u32) -> Option<(usize, u32, u8)> {
         let mut into = [0; LONGEST];
         match door.take(&mut into, wait_ms) {
             Ok(PortPolled::Got { len, from }) => Some((len, from, into[0])),

@@ -1,15 +1,45 @@
 //! Sockets for datagrams (UDP). They aren't connected: each datagram has its own address.
 
 ghost use Rattle.std.specs.IoError.{error_kind};
-ghost use Rattle.std.specs.Prelude.{◌≡◌, ◌≤◌, IfOk, IfSome, None, OnErr, OnOk, false, length, take, true};
-ghost use Rattle.knx_cli.specs.Datagrams.{Brings, Gives, IsAt, IsUnused, is_wait_over};
+ghost use Rattle.std.specs.Prelude.{◌≡◌, ◌≤◌, ◌↔◌, IfOk, IfSome, IsTrue, None, OnErr, OnOk, false, length, take, true};
+ghost use Rattle.std.specs.Net.Socket.{socket_ip};
+ghost use Rattle.knx_cli.specs.declared.socket.Senders.TheVariants.{Host};
+ghost use Rattle.knx_cli.specs.Datagrams.{Brings, BringsOf, Gives, IsAt, IsOf, IsUnused, is_wait_over};
 
 use std::io::{self, ErrorKind};
 use std::net::{IpAddr, Ipv4Addr, Net, SocketAddr, UdpSocket};
-use std::time::Duration;
+use std::time::{Clock, Duration, Instant};
 
 /// The greatest number of octets of a datagram that is received; longer ones are cut off there.
 pub const LONGEST: usize = 512;
+
+/// Whose datagrams are taken.
+#[derive(Clone, Copy, Drop)]
+pub enum Senders {
+    /// Of this host alone, from whichever of its ports.
+    Host(IpAddr),
+    /// Of everybody who can be answered, which nobody at port 0 can.
+    Answerable,
+}
+
+impl Senders {
+    /// Whether a datagram from there is taken.
+    fn has(self, from: SocketAddr) -> bool
+        ensures { IsTrue result ↔ IsOf self from }
+    {
+        match self {
+            Senders::Host(host) => from.ip() == host,
+            Senders::Answerable => from.port() != 0,
+        }
+    }
+
+    /// Those at the host of an address.
+    pub fn at(address: SocketAddr) -> Senders
+        ensures { result ≡ Host (socket_ip address) }
+    {
+        Senders::Host(address.ip())
+    }
+}
 
 /// A socket for datagrams.
 pub trait Datagrams: Drop {
@@ -82,6 +112,44 @@ impl Datagrams for UdpSocket {
             Err(error) => unless_over(error),
         }
     }
+}
+
+/// What is left of a wait after so long; none where it is over.
+fn left_of(wait_ms: u32, passed: Duration) -> Option<u32>
+    ensures { IfSome result (λ left. left ≤ wait_ms) }
+{
+    match u32::try_from(passed.as_millis()) {
+        Ok(passed) => wait_ms.checked_sub(passed),
+        Err(_) => None,
+    }
+}
+
+/// Waits for a datagram of these senders; those of others are passed over, within the same wait.
+pub fn receive_of<R: Clock, S: Datagrams>(
+    rt: &R,
+    socket: &mut S,
+    senders: Senders,
+    into: &mut [u8; LONGEST],
+    wait_ms: u32,
+) -> io::Result<Option<(usize, SocketAddr)>>
+    ensures within { IfOk result (λ got. IfSome got (λ came. came.0 ≤ 512)) }
+    ensures brings { IfOk result (λ got. BringsOf senders got into.new (S.coming socket.old) (S.coming socket.new)) }
+{
+    let begun = Instant::now(rt)?;
+    let mut left = wait_ms;
+    // no wait is so long; that a `loop` ends would have to be proved of the clock
+    for _ in 0..u64::MAX {
+        match socket.receive(into, left)? {
+            Some((count, from)) if senders.has(from) => return Ok(Some((count, from))),
+            Some(_) => {}
+            None => return Ok(None),
+        }
+        match left_of(wait_ms, begun.elapsed(rt)?) {
+            Some(rest) => left = rest,
+            None => return Ok(None),
+        }
+    }
+    Ok(None)
 }
 
 /// Sends a datagram whole.

@@ -5,11 +5,12 @@
 //!   line's number from 1 on, `{ga}` the group address of that raw value, `{ia}` the individual address of that device part on line 1.1.
 //! - `$ WORDS` is a call with these words. An output of more than 2,000 octets is told by its length and its checksum (FNV-1a, 64 bits).
 //! - `> TEXT` is the call that `with WORDS` named last, where the file `s` has just this text, with `\n`, `\r`, `\t`, `\\` and `\xHH`.
-//! - `port WORDS` is the port that the next call of either kind can bind: a word in hexadecimal is a datagram that comes from client 0, in
-//!   order, before quiet waits; `fail:N` lets its N-th call fail. What it was given is told before what the call writes, as `gave CLIENT HEX`.
-//!   Without the line no port can be bound.
-//! - `link WORDS` is the link that the next call can dial: a word in hexadecimal is the datagram that it gives for ever; `fail:N` lets its N-th
-//!   call fail. Where it is handed back, `link back` is told. Without the line no gateway can be dialled.
+//! - `port WORDS` is the port that the next call of either kind can bind: a word in hexadecimal is a datagram that comes from client 0, one with
+//!   `N:` before it from client N, in order, before quiet waits; `fail:N` lets its N-th call fail. What it was given is told before what the
+//!   call writes, as `gave CLIENT HEX`. Without the line no port can be bound.
+//! - `link WORDS` is the link that the next call can dial: `first:` and hexadecimal is a datagram that it gives, in order, and a word in
+//!   hexadecimal one that it gives for ever then, before quiet waits where there is none; `fail:N` lets its N-th call fail. Where it is handed
+//!   back, `link back` is told. Without the line no gateway can be dialled.
 //! - `failing reads N ..` and `failing writes N ..` let the next call's reads of files and its writes with these numbers fail.
 //! - Every other line is copied.
 #![tactic(auto)]

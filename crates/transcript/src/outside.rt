@@ -5,7 +5,7 @@ ghost use Rattle.line_fixed.specs.Dialling.{IsUnusedLink, IsUnusedPort};
 
 use crate::fault::Fault;
 use crate::text::hex_octets;
-use knx_model::{MemoryFiles, MemorySink};
+use knx_model::{MemoryFiles, MemorySink, Octets};
 use line_fixed::{FixedDialer, FixedLink, FixedPort, List, PortItem};
 use std::alloc::Global;
 
@@ -72,6 +72,11 @@ fn number_of(word: &str) -> Result<u64, Fault> {
     word.parse::<u64>().ok().ok_or(Fault::Words)
 }
 
+/// The number of a client.
+fn client_of(word: &str) -> Result<u32, Fault> {
+    word.parse::<u32>().ok().ok_or(Fault::Words)
+}
+
 /// Adds the numbers that stand between spaces.
 fn put_numbers(words: &str, numbers: &mut Vec<u64>) -> Result<(), Fault> {
     for word in words.split_whitespace() {
@@ -80,22 +85,45 @@ fn put_numbers(words: &str, numbers: &mut Vec<u64>) -> Result<(), Fault> {
     Ok(())
 }
 
-/// A link by the words of a `link` line: it gives the datagram that is stated for ever, and fails in the calls that are stated.
+/// A datagram that comes once, before the others, or the one that comes for ever.
+fn take_datagram(
+    alloc: Global,
+    word: &str,
+    gives: &mut List<Octets>,
+    last: &mut Option<Octets>,
+) -> Result<(), Fault> {
+    match word.strip_prefix("first:") {
+        Some(first) => gives.push(hex_octets(alloc, first)?)?,
+        None => *last = Some(hex_octets(alloc, word)?),
+    }
+    Ok(())
+}
+
+/// A link by the words of a `link` line: it gives the datagrams that come first, then the one that is stated for ever, and fails in the calls that are stated.
 fn link_of(alloc: Global, words: &str) -> Result<FixedLink, Fault>
     ensures { IfOk result IsUnusedLink }
 {
+    let mut gives = List::new(alloc);
     let mut last = None;
     let mut fails = List::new(alloc);
     for word in words.split_whitespace() {
         match word.strip_prefix("fail:") {
             Some(number) => fails.push(number_of(number)?)?,
-            None => last = Some(hex_octets(alloc, word)?),
+            None => take_datagram(alloc, word, &mut gives, &mut last)?,
         }
     }
-    Ok(FixedLink::new(alloc, List::new(alloc), last, fails))
+    Ok(FixedLink::new(alloc, gives, last, fails))
 }
 
-/// A port by the words of a `port` line: it gives the datagrams that are stated, all from client 0, and fails in the calls that are stated.
+/// The client that a word names before its datagram, 0 where it names none; and the datagram.
+fn sent_by(alloc: Global, word: &str) -> Result<(u32, Octets), Fault> {
+    match word.split_once(':') {
+        Some((number, datagram)) => Ok((client_of(number)?, hex_octets(alloc, datagram)?)),
+        None => Ok((0, hex_octets(alloc, word)?)),
+    }
+}
+
+/// A port by the words of a `port` line: it gives the datagrams that are stated, and fails in the calls that are stated.
 fn port_of(alloc: Global, words: &str) -> Result<FixedPort, Fault>
     ensures { IfOk result IsUnusedPort }
 {
@@ -104,7 +132,7 @@ fn port_of(alloc: Global, words: &str) -> Result<FixedPort, Fault>
     for word in words.split_whitespace() {
         match word.strip_prefix("fail:") {
             Some(number) => fails.push(number_of(number)?)?,
-            None => gives.push((0, hex_octets(alloc, word)?))?,
+            None => gives.push(sent_by(alloc, word)?)?,
         }
     }
     Ok(FixedPort::new(alloc, gives, fails))
