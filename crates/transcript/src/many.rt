@@ -56,6 +56,14 @@ fn places(alloc: Global, report: &Report) -> Result<Vec<Option<usize>>, NoMemory
     Ok(places)
 }
 
+/// The place of a job's end; none where there is none.
+fn place_of(places: &[Option<usize>], job: usize) -> Option<usize> {
+    match places.get(job) {
+        Some(place) => *place,
+        None => None,
+    }
+}
+
 /// The status of a call with these words, and the report of its run.
 fn run_of<R: Threads + Wait + Sync>(
     rt: &R,
@@ -84,8 +92,9 @@ fn jobs_end_in_the_order_of_each_device(rt: HostRuntime) -> Result<(), Fail> {
     let places = places(alloc, &report)?;
     for job in 1..=JOBS {
         let before = job.saturating_sub(DEVICES);
-        assert!(rt; places[job].is_some());
-        assert!(rt; before == 0 || places[before] < places[job]);
+        let done = place_of(places.as_slice(), job);
+        assert!(rt; done.is_some());
+        assert!(rt; before == 0 || place_of(places.as_slice(), before) < done);
     }
     Ok(())
 }

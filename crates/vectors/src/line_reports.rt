@@ -147,14 +147,14 @@ fn sums_are_told_with_the_fault_or_the_fault_alone(rt: HostRuntime) -> Result<()
     };
     let flooded = sums_text(alloc, &report, counts, devices.as_slice())?;
     let sums = b"devices 2 objects 16 links 64 done 1 new 1\nflooded\n";
-    assert_eq!(rt; flooded.as_slice(), sums);
+    assert_eq!(rt; flooded.as_slice(), sums.as_slice());
     report.fault = Some(HubFault::WrongLine {
         device: OTHER,
         tunnel: TUNNEL,
     });
     let elsewhere = sums_text(alloc, &report, counts, devices.as_slice())?;
     let alone = b"wrong line 1.2.9 tunnel 1.1.255\n";
-    assert_eq!(rt; elsewhere.as_slice(), alone);
+    assert_eq!(rt; elsewhere.as_slice(), alone.as_slice());
     Ok(())
 }
 

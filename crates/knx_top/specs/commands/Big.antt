@@ -1,6 +1,6 @@
 -- `big N START`: the line of N devices that the number START makes is commissioned: a run of `sim`, with nothing before it and a script in which nothing happens.
 -- It is told in one line, and nothing is refused.
-use Rattle.std.specs.Prelude.{ℕ, List, None, Option, Some, ◌≡◌, ◌∷◌, ◌^◌, ◌-◌, [], option_and_then, Result}
+use Rattle.std.specs.Prelude.{ℕ, List, None, Option, ◌≡◌, ◌∷◌, ◌^◌, ◌-◌, [], option_and_then, Result}
 use Rattle.bus_sim.specs.Loaded.{BusNow}
 use Rattle.call_words.specs.declared.stop.Stop.{Stop}
 use Rattle.knx_gen.specs.Generated.{generated}
