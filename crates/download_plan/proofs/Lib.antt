@@ -9,5 +9,7 @@ pub mod Writable
 pub mod Opened
 pub mod Checked
 pub mod Plans
+pub mod Short
+pub mod Serving
 pub mod Places
 pub mod Lefts

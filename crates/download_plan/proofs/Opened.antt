@@ -24,13 +24,13 @@ use Rattle.download_plan.proofs.Octets.{IsWritable, AllWritable, effect_again, a
 abbrev descriptor : Operation
 descriptor = expecting (DescriptorRead 0) (DescriptorResponse 0 (Some 0x07B0))
 
-descriptor_writable : IsWritable descriptor
+pub descriptor_writable : IsWritable descriptor
 descriptor_writable = record { service = omega arith; expected = omega arith; awaits = refl }
 
 abbrev reads_length : Apdu
 reads_length = PropertyRead 0 56 1 1
 
-length_in_range : IsApduInRange reads_length
+pub length_in_range : IsApduInRange reads_length
 length_in_range = (omega arith, omega arith)
 
 abbrev tells_length : FrameSupport → Apdu
@@ -76,7 +76,7 @@ told_size Extended = refl
 length_answer : (frames : FrameSupport) (nv : NonVolatile) → answer_in frames nv (apdu_octets reads_length) ≡ Some (apdu_octets (tells_length frames))
 length_answer frames nv = answer_again frames nv reads_length length_in_range
 
-size_is : (frames : FrameSupport) (nv : NonVolatile) → size_by (answer_in frames nv (apdu_octets reads_length)) ≡ size_of frames
+pub size_is : (frames : FrameSupport) (nv : NonVolatile) → size_by (answer_in frames nv (apdu_octets reads_length)) ≡ size_of frames
 size_is frames nv = ap size_by (length_answer frames nv) ∙ (ap size_in (service_again (tells_length frames) (told_in_range frames)) ∙ told_size frames)
 
 length_fits : (frames : FrameSupport) → is_fitting (apdu_octets reads_length) (apdu_octets (tells_length frames)) ≡ true

@@ -8,6 +8,7 @@ ghost use Rattle.knx_model.specs.Device.{NonVolatile, Fits, HasCapacities, answe
 ghost use Rattle.knx_model.specs.GoodPlan.{GoodPlan, Beginning, AnswersAll, kept_by_all, IsSendable};
 ghost use Rattle.knx_model.specs.LoadPlan.{load_plan, check_plan, load_operations};
 ghost use Rattle.knx_model.specs.Operations.{listed};
+ghost use Rattle.knx_model.specs.Served.{IsServed};
 
 /// The load plan of each image that fits is good, and so is what follows its first two operations, whatever was noted.
 #[tactic(auto, using(crate::proofs::Plans::plan_good, crate::proofs::Plans::rest_good))]
@@ -36,4 +37,12 @@ pub fn each_check_is_true()
 pub fn each_operation_can_be_sent()
     ensures load { (image : Image) → IsSendable (load_plan image) }
     ensures check { (image : Image) → IsSendable (check_plan image) }
+{}
+
+/// Each service of either plan fits into a frame that the device takes, and is answered exactly where its service has an answer, whatever the image is
+/// and whatever the device keeps.
+#[tactic(auto, using(crate::proofs::Serving::load_served, crate::proofs::Serving::check_served))]
+pub fn each_plan_is_served()
+    ensures load { (image : Image) (frames : FrameSupport) (nv : NonVolatile) → IsServed frames (load_plan image) nv }
+    ensures check { (image : Image) (frames : FrameSupport) (nv : NonVolatile) → IsServed frames (check_plan image) nv }
 {}

@@ -45,6 +45,7 @@ pub mod Operations
 pub mod Plans
 pub mod LoadPlan
 pub mod GoodPlan
+pub mod Served
 -- 8. The script
 pub mod ScriptText
 -- 9. What a run promises

@@ -1,7 +1,7 @@
-mod Queue
-mod Coupled
-mod Owned
-mod ReadBack
+pub mod Queue
+pub mod Coupled
+pub mod Owned
+pub mod ReadBack
 mod OnBus
 mod Bus
 mod Changes

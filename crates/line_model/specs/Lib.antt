@@ -35,6 +35,7 @@ pub mod Closing
 pub mod Waiting
 pub mod Ends
 pub mod Leaves
+pub mod Haste
 -- 6. The outside: what a link, a port and a dialer tell
 pub mod LinkStory
 pub mod Polled
@@ -54,6 +55,7 @@ pub mod Deliveries
 pub mod Owed
 pub mod Follows
 pub mod StartOf
+pub mod Calm
 pub mod Undisturbed
 -- 9. Runs that show what all this allows
 pub mod Runs

@@ -18,7 +18,8 @@ use Rattle.session_law.specs.World.{World}
 use Rattle.session_law.specs.Events.{Event, Takes, Bus, Replies, DevSend, replay, IsLegal}
 use Rattle.session_law.specs.Device.{Comes}
 use Rattle.session_law.proofs.Frames.{numbered_read, ack_read}
-use Rattle.load_law.specs.Undisturbed.{acknowledged, FitsInto}
+use Rattle.knx_model.specs.Served.{FitsInto}
+use Rattle.load_law.specs.Undisturbed.{acknowledged}
 use Rattle.load_law.proofs.Answers.{Texts}
 
 -- a connection that is up, with nothing on its way

@@ -21,7 +21,8 @@ use Rattle.session_law.specs.Events.{Event, Takes, Bus, Connects, Joins, IsInd, 
 use Rattle.session_law.proofs.Apdus.{answer_is_apdu}
 use Rattle.session_law.proofs.Frames.{connect_read}
 use Rattle.load_law.specs.Download.{Went, NotBegun, Acknowledged, Answered, MayAsk, Follows, IsDone}
-use Rattle.load_law.specs.Undisturbed.{acknowledged, operation, operations, undisturbed, FitsInto, AllFit}
+use Rattle.knx_model.specs.Served.{FitsInto}
+use Rattle.load_law.specs.Undisturbed.{acknowledged, operation, operations, undisturbed, AllFit}
 use Rattle.load_law.proofs.Answers.{Texts}
 use Rattle.load_law.proofs.Calm.{calm, same, Ends, short_control, goes_without, legal_without, answering, waits, answered, legal_answering}
 

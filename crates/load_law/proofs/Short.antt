@@ -18,66 +18,15 @@ use Rattle.knx_model.specs.Device.{NonVolatile, answer_in, whole, effect_in}
 use Rattle.knx_model.specs.GoodPlan.{Answering, services_given}
 use Rattle.knx_model.specs.LoadPlan.{list_of, each_object, size_by, noting, load_operations, load_plan}
 use Rattle.knx_model.specs.Operations.{Operation, listed, event_then, piece_count, piece, writes_piece, reads_piece, each_piece, filling, loading}
-use Rattle.download_plan.proofs.Steps.{length_load}
-use Rattle.download_plan.proofs.Pieces.{piece_few}
-use Rattle.load_law.specs.Undisturbed.{FitsInto, AllFit}
+use Rattle.download_plan.proofs.Short.{AllShort, operations_short}
+use Rattle.knx_model.specs.Served.{FitsInto}
+use Rattle.load_law.specs.Undisturbed.{AllFit}
 
 -- ---- a device that takes extended frames takes each
 
 all_in : (l : List (List ℕ)) → AllByRecursion (λ apdu. FitsInto Extended apdu) l
 all_in [] = tt
 all_in (x ∷ l) = (tt, all_in l)
-
--- ---- and the others the operations with pieces of twelve octets
-
-abbrev IsShort : Operation → Type 0
-IsShort x = length (apdu_octets x.service) ≤ 16
-
-abbrev AllShort : List Operation → Type 0
-AllShort [] = Unit {0}
-AllShort (x ∷ xs) = IsShort x × AllShort xs
-
-short_append : (xs ys : List Operation) → AllShort xs → AllShort ys → AllShort (xs ++ ys)
-short_append [] ys h k = k
-short_append (x ∷ xs) ys h k = (h.0, short_append xs ys h.1 k)
-
-event_short : (o : LoadableObject) (e : LoadEvent) (s : LoadState) → IsShort (event_then o e s)
-event_short o e s = omega (arith, length_load e)
-
-writes_short : (o : LoadableObject) (list : List ℕ) (k n : ℕ) → AllShort (map (writes_piece Twelve o list) (range_with_len k n))
-writes_short o list k zero = tt
-writes_short o list k (suc n) = (let h : length (piece Twelve list k) ≤ 12 = piece_few Twelve list k in omega arith, writes_short o list (k + 1) n)
-
-reads_short : (o : LoadableObject) (list : List ℕ) (k n : ℕ) → AllShort (map (reads_piece Twelve o list) (range_with_len k n))
-reads_short o list k zero = tt
-reads_short o list k (suc n) = (omega arith, reads_short o list (k + 1) n)
-
-loading_short : (o : LoadableObject) (list : List ℕ) → AllShort (loading Twelve o list)
-unfolding loading filling
-loading_short o list =
-    short_append (filling Twelve o list) (event_then o LoadCompleted Loaded ∷ []) (
-      event_short o Unload Unloaded,
-      (
-        event_short o StartLoading Loading,
-        (
-          event_short o (Allocate (length list) 0) Loading,
-          (
-            omega arith,
-            short_append (each_piece (writes_piece Twelve o list) (piece_count Twelve list)) (each_piece (reads_piece Twelve o list) (piece_count Twelve list)) (writes_short o list 0 (piece_count Twelve list)) (reads_short o list 0 (piece_count Twelve list)),
-          ),
-        ),
-      ),
-    )
-    (event_short o LoadCompleted Loaded, tt)
-
-objects_short : (operations : LoadableObject → List Operation) → ((o : LoadableObject) → AllShort (operations o)) → AllShort (each_object operations)
-objects_short operations w =
-    short_append (operations AddressTable) _ (w AddressTable)
-    (short_append (operations AssociationTable) _ (w AssociationTable) (short_append (operations GroupObjects) (operations Application) (w GroupObjects) (w Application)))
-
-operations_short : (image : Image) → AllShort (load_operations image Twelve)
-unfolding load_operations
-operations_short image = (event_short Application Unload Unloaded, objects_short (λ o. loading Twelve o (list_of image o)) (λ o. loading_short o (list_of image o)))
 
 -- ---- the whole plan
 

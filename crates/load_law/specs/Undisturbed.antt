@@ -1,13 +1,12 @@
 -- A download that nothing disturbs: each frame goes over the bus once and is taken whole, and each end answers at once.
-use Rattle.std.specs.Prelude.{ℕ, ◌≤◌, List, [], ◌∷◌, ◌++◌, length, Option, Some, None}
+use Rattle.std.specs.Prelude.{ℕ, List, [], ◌∷◌, ◌++◌, Option, Some, None}
 use Rattle.std.specs.List.{AllByRecursion}
 use Rattle.knx_model.specs.declared.device.FrameSupport.{FrameSupport}
-use Rattle.knx_model.specs.declared.device.FrameSupport.TheVariants.{Standard, Extended}
-use Rattle.knx_model.specs.Apdu.{most_standard_octets}
 use Rattle.knx_model.specs.Device.{NonVolatile, whole, effect_in}
 use Rattle.knx_model.specs.DeviceFrames.{Whole}
 use Rattle.knx_model.specs.GoodPlan.{Answering, services_given}
 use Rattle.knx_model.specs.Plans.{Plan, Over, Asks as Operation}
+use Rattle.knx_model.specs.Served.{FitsInto}
 use Rattle.session_law.specs.Device.{Comes}
 use Rattle.session_law.specs.Events.{Event, Connects, Asks, Takes, Replies, Joins, Bus, DevSend}
 
@@ -33,9 +32,5 @@ abbrev pub undisturbed : Answering → Plan → NonVolatile → List Event
 undisturbed answers plan nv = operations answers plan nv ++ opening
 
 -- each service that is given fits into a frame that the device takes
-abbrev pub FitsInto : FrameSupport → List ℕ → Type 0
-FitsInto Standard apdu = length apdu ≤ most_standard_octets
-FitsInto Extended apdu = Unit {0}
-
 abbrev pub AllFit : FrameSupport → Answering → Plan → NonVolatile → Type 0
 AllFit frames answers plan nv = AllByRecursion (λ apdu. FitsInto frames apdu) (services_given answers plan nv)

@@ -1,0 +1,4 @@
+pub mod CalmTunnel
+pub mod CalmLine
+pub mod CalmRun
+pub mod CalmSessions
