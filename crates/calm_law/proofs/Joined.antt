@@ -1,20 +1,8 @@
 -- Each event of a calm line keeps tunnel and sessions together.
-use Rattle.std.proofs.Common.{◌≡◌, ◌≢◌, ◌⊎◌, ℕ, zero, suc, ◌+◌, ◌≤◌, ◌<◌, List, [], ◌∷◌, ◌++◌, length, Bool, true, false, cond, not, ◌&&◌, Option, Some, None, refl, sym, ◌∙◌, ap, subst, arith, inl, inr, drop}
-use Rattle.std.specs.Prelude.{◌==◌, slice_get, nat_lt}
-use Rattle.std.proofs.lemmas.Bool.{lt-ltb}
+use Rattle.std.proofs.Common.{◌≡◌, ◌≢◌, ◌⊎◌, ℕ, ◌≤◌, List, [], ◌∷◌, length, Bool, true, false, cond, ◌&&◌, Option, Some, None, refl, sym, ◌∙◌, ap, subst, inl, inr}
+use Rattle.std.specs.Prelude.{◌==◌, slice_get}
 use Rattle.knx_model.specs.declared.address.IndAddr.{IndAddr}
-use Rattle.knx_model.specs.declared.device.Sending.{Sending}
-use Rattle.knx_model.specs.declared.device.Sending.TheVariants as sending
-use Rattle.knx_model.specs.declared.connection.DeviceExpired.{DeviceExpired}
-use Rattle.knx_model.specs.declared.connection.DeviceExpired.TheVariants as expired
 use Rattle.knx_model.specs.declared.frames.cemi.Ldata.{Ldata}
-use Rattle.knx_model.specs.declared.frames.cemi.LdataCode.TheVariants.{Con}
-use Rattle.knx_model.specs.ApduReading.{option_map}
-use Rattle.knx_model.specs.Cemi.{Written as cemi_octets}
-use Rattle.knx_model.specs.DeviceConnection.{device_expired}
-use Rattle.knx_model.specs.DeviceState.{DeviceState}
-use Rattle.knx_model.specs.DeviceFrames.{Whole as Intact, took_of, is_taken, takes}
-use Rattle.knx_model.specs.DeviceSending.{first_frame, pops, sending_of, next_sending, due_sending}
 use Rattle.knx_model.specs.Plans.{Plan}
 use Rattle.line_model.specs.Reading.{ldata_in, datagram_in}
 use Rattle.line_law.proofs.ReadBack.{read_range}
@@ -27,10 +15,10 @@ use Rattle.knx_model.specs.declared.frames.ip.IpFrame.{IpFrame}
 use Rattle.knx_model.specs.declared.frames.ip.IpFrame.TheVariants.{ConnectRequest, ConnectResponse, StateRequest, StateResponse, DisconnectRequest, DisconnectResponse, TunnellingRequest, TunnellingAck}
 use Rattle.line_model.specs.ChannelLost.{is_lost}
 use Rattle.line_model.specs.Gateway.{next_put}
-use Rattle.line_model.specs.Record.{Entry, Item, Put, Renewed, Got, Quiet, entry, noted, is_renewal, is_poll, got_in}
+use Rattle.line_model.specs.Record.{Entry, is_renewal, is_poll, got_in}
 use Rattle.line_model.specs.ClientView.{ClientChannel, Fresh, Sought, RefusedBy, Unanswered, Open, Lost, Deed, Puts, Takes, Loses, Nothing, sought_got, goes_on, after_entry, channel, deed}
-use Rattle.line_model.specs.Attempts.{Attempts, Resting}
-use Rattle.line_model.specs.World.{World, all_take, changed, others_take, on_bus, is_among}
+use Rattle.line_model.specs.Attempts.{Resting}
+use Rattle.line_model.specs.World.{World}
 use Rattle.calm_law.specs.CalmSessions.{AreServed, attempts_by, IsOfSession, AsksOne, AsksSo}
 use Rattle.calm_law.proofs.State.{Steps}
 use Rattle.calm_law.proofs.Rows.{Devices, Riders}

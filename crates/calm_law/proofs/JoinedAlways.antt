@@ -1,5 +1,5 @@
 -- Each event of a calm line keeps tunnel and sessions together: at the beginning, and after each event.
-use Rattle.std.proofs.Common.{◌≡◌, ◌≢◌, ◌⊎◌, ℕ, zero, suc, ◌+◌, ◌<◌, List, [], ◌∷◌, Option, Some, None, refl, sym, ◌∙◌, ap, subst, arith, inl, inr}
+use Rattle.std.proofs.Common.{◌≡◌, ◌≢◌, ℕ, List, [], Option, Some, None, refl, sym, ap, subst, arith, inl}
 use Rattle.knx_model.specs.declared.address.IndAddr.{IndAddr}
 use Rattle.knx_model.specs.declared.frames.cemi.Ldata.{Ldata}
 use Rattle.knx_model.specs.DeviceState.{DeviceState}
@@ -9,7 +9,6 @@ use Rattle.line_model.specs.Fresh.{IsFresh}
 use Rattle.line_model.specs.Tunnel as tunnel
 use Rattle.line_model.specs.Tunnel.{Tunnel, TunnelEvent, Commissions, fresh}
 use Rattle.line_model.specs.Record.{Entry, Item, noted, item_of}
-use Rattle.line_model.specs.Attempts.{Resting}
 use Rattle.line_model.specs.Legal.{MayHappen}
 use Rattle.line_model.specs.World.{World, Event, me, step, tunnel_event, devices_after}
 use Rattle.line_law.proofs.Coupled.{Owned}
@@ -19,7 +18,7 @@ use Rattle.calm_law.proofs.Law.{Inv, May, step_kept, begins}
 use Rattle.calm_law.proofs.OnLine.{event_calm}
 use Rattle.calm_law.proofs.Moves.{step_same}
 use Rattle.calm_law.proofs.Phases.{Rests, items_of}
-use Rattle.calm_law.proofs.Rows.{Devices, Row}
+use Rattle.calm_law.proofs.Rows.{Row}
 use Rattle.calm_law.proofs.Joined.{Whole, step_now}
 use Rattle.calm_law.proofs.JoinedSteps.{Asked, TimesSo, rides}
 

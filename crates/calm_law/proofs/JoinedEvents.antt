@@ -1,5 +1,5 @@
 -- Each event of a calm line keeps tunnel and sessions together: what rides goes on.
-use Rattle.std.proofs.Common.{◌≡◌, ◌≢◌, ◌⊎◌, ℕ, zero, suc, ◌+◌, ◌≤◌, List, [], ◌∷◌, ◌++◌, length, Bool, true, false, not, ◌&&◌, ◌||◌, Option, Some, None, refl, sym, ◌∙◌, ap, subst, inl, inr, take}
+use Rattle.std.proofs.Common.{◌≡◌, ◌≢◌, ℕ, List, [], ◌∷◌, ◌++◌, Bool, true, false, not, ◌&&◌, ◌||◌, Option, Some, None, refl, sym, ◌∙◌, ap, subst, inl, inr, take}
 use Rattle.std.specs.Prelude.{slice_get}
 use Rattle.knx_model.specs.declared.address.IndAddr.{IndAddr}
 use Rattle.knx_model.specs.declared.device.Took.TheVariants.{Taken}
@@ -15,15 +15,15 @@ use Rattle.line_model.specs.Reading.{ldata_in}
 use Rattle.line_model.specs.Tunnel as tunnel
 use Rattle.line_model.specs.Tunnel.{Tunnel, TunnelEvent}
 use Rattle.line_model.specs.Network.{Sent}
-use Rattle.line_model.specs.Record.{Entry, Item, Put, Renewed, Got, Quiet, entry, noted, item_of, got, is_renewal, longest_got}
-use Rattle.line_model.specs.ClientView.{Fresh, channel, deed}
+use Rattle.line_model.specs.Record.{Entry, Item, Put, Renewed, Got, entry, noted, item_of, got, is_renewal, longest_got}
+use Rattle.line_model.specs.ClientView.{channel, deed}
 use Rattle.line_model.specs.World.{World, all_take, changed, others_take, on_bus, is_among, is_confirmed, takes_it, confirmation, carried}
 use Rattle.line_law.proofs.Coupled.{IsFrameOf}
 use Rattle.line_law.proofs.ReadBack.{written_in}
 use Rattle.calm_law.specs.CalmSessions.{AreServed, AsksSo, attempts_by}
 use Rattle.calm_law.proofs.State.{Steps}
 use Rattle.calm_law.proofs.Law.{RidesOn}
-use Rattle.calm_law.proofs.Rows.{Devices, Riders}
+use Rattle.calm_law.proofs.Rows.{Devices}
 use Rattle.calm_law.proofs.RowsOnBus.{riders_bus, riders_send, one_took}
 use Rattle.calm_law.proofs.Joined.{Whole, Lands, entry_whole, entry_on, up_now, repeat_now, close_now}
 

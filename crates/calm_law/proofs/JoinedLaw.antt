@@ -1,10 +1,7 @@
 -- On a calm line no attempt runs where time passes while a channel is open.
-use Rattle.std.proofs.Common.{◌≡◌, ◌≢◌, ◌⊎◌, ℕ, zero, suc, ◌+◌, ◌<◌, List, [], ◌∷◌, Bool, true, false, Option, Some, None, refl, sym, ◌∙◌, ap, subst, arith, inl, inr}
-use Rattle.std.specs.Prelude.{nat_lt}
+use Rattle.std.proofs.Common.{◌≡◌, ◌≢◌, ◌⊎◌, ℕ, zero, suc, ◌+◌, ◌<◌, List, [], ◌∷◌, Option, Some, None, refl, sym, ap, subst, arith, inl, inr}
 use Rattle.std.proofs.lemmas.Bool.{lt-ltb}
-use Rattle.knx_model.specs.declared.frames.cemi.Ldata.{Ldata}
 use Rattle.knx_model.specs.DeviceState.{DeviceState}
-use Rattle.knx_model.specs.DeviceSending.{next_sending}
 use Rattle.knx_model.specs.Plans.{Plan}
 use Rattle.line_model.specs.Calm as line
 use Rattle.line_model.specs.Fresh.{IsFresh}
@@ -13,21 +10,20 @@ use Rattle.line_model.specs.LinkStory.{newest_time}
 use Rattle.line_model.specs.Tunnel as tunnel
 use Rattle.line_model.specs.Tunnel.{Tunnel, TunnelEvent, Commissions}
 use Rattle.line_model.specs.Record.{Entry, Item, Quiet, entry, noted, item_of, record_of}
-use Rattle.line_model.specs.ClientView.{ClientChannel, Fresh, Sought, RefusedBy, Unanswered, Open, Lost, channel, deed}
+use Rattle.line_model.specs.ClientView.{ClientChannel, Fresh, Sought, RefusedBy, Unanswered, Open, Lost, channel}
 use Rattle.line_model.specs.Asks.{HasPlace}
 use Rattle.line_model.specs.Waiting.{IsResting, NextIsSending}
-use Rattle.line_model.specs.World.{World, Event, Send, From, Renew, Up, UpRefused, Down, LoseUp, LoseDown, Bus, BusTorn, BusWorn, BusAgain, DevSend, DevRepeat, DevClose, GwAgain, GwRepeat, GwClose, Cut, On, Pass, me, step, tunnel_event, replay}
+use Rattle.line_model.specs.World.{World, Event, Send, From, Renew, Up, UpRefused, Down, LoseUp, LoseDown, Bus, BusTorn, BusWorn, BusAgain, DevSend, DevRepeat, DevClose, GwAgain, GwRepeat, GwClose, Cut, On, Pass, me, tunnel_event, replay}
 use Rattle.line_law.proofs.Coupled.{Owned}
-use Rattle.calm_law.specs.CalmTunnel as calm
 use Rattle.calm_law.specs.CalmLine.{AreShort}
-use Rattle.calm_law.specs.CalmSessions.{AreServed, HavePower, attempts_by, AsksSo, AsksPromptly, AskPromptly, HasSentAll, RestsSo, PassesAtRest}
+use Rattle.calm_law.specs.CalmSessions.{AreServed, HavePower, attempts_by, AsksPromptly, AskPromptly, RestsSo, PassesAtRest}
 use Rattle.calm_law.proofs.Sends.{MayDo}
-use Rattle.calm_law.proofs.Law.{Inv, May, Keeps, keeps_before, may_of, idle_of, lives_rides}
+use Rattle.calm_law.proofs.Law.{May, Keeps, keeps_before, may_of, idle_of, lives_rides}
 use Rattle.calm_law.proofs.Ends.{parted_pass}
 use Rattle.calm_law.proofs.OnLine.{owned, event_calm}
 use Rattle.calm_law.proofs.Joined.{Whole, step_now, fresh_before}
 use Rattle.calm_law.proofs.JoinedTime.{row_rests}
-use Rattle.calm_law.proofs.JoinedSteps.{Asked, Times, TimesSo}
+use Rattle.calm_law.proofs.JoinedSteps.{Times, TimesSo}
 use Rattle.calm_law.proofs.JoinedAlways.{Goes, goes_first, goes_on}
 use Rattle.calm_law.proofs.JoinedRests.{quiet_nothing, newest_after, devices_there}
 

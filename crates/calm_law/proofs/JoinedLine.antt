@@ -1,8 +1,7 @@
 -- Each event of a calm line keeps tunnel and sessions together: all events of the line.
-use Rattle.std.proofs.Common.{◌≡◌, ◌≢◌, ◌⊎◌, ℕ, zero, suc, ◌+◌, ◌≤◌, List, [], ◌∷◌, ◌++◌, Bool, true, false, cond, Option, Some, None, refl, sym, ◌∙◌, ap, subst, inl, inr}
-use Rattle.std.specs.Prelude.{slice_get, ◌==◌}
+use Rattle.std.proofs.Common.{◌≡◌, ◌≢◌, ℕ, List, [], ◌∷◌, Bool, true, false, cond, Option, Some, None, refl, sym, ◌∙◌, ap, inl, inr}
+use Rattle.std.specs.Prelude.{◌==◌}
 use Rattle.knx_model.specs.declared.address.IndAddr.{IndAddr}
-use Rattle.knx_model.specs.declared.connection.DeviceExpired.{DeviceExpired}
 use Rattle.knx_model.specs.declared.connection.DeviceExpired.TheVariants as expired
 use Rattle.knx_model.specs.declared.device.Sending.{Sending}
 use Rattle.knx_model.specs.declared.device.Sending.TheVariants as sending
@@ -13,15 +12,12 @@ use Rattle.knx_model.specs.DeviceState.{DeviceState}
 use Rattle.knx_model.specs.DeviceFrames.{Whole as Intact, takes}
 use Rattle.knx_model.specs.DeviceSending.{next_sending, sending_of}
 use Rattle.knx_model.specs.Plans.{Plan}
-use Rattle.line_model.specs.Calm as line
-use Rattle.line_model.specs.Tunnel as tunnel
-use Rattle.line_model.specs.Tunnel.{Tunnel, TunnelEvent}
 use Rattle.line_model.specs.Record.{Entry}
 use Rattle.line_model.specs.Legal.{OfDevice}
-use Rattle.line_model.specs.World.{World, Event, changed, others_take, all_take, is_among}
-use Rattle.calm_law.specs.CalmSessions.{AreServed, attempts_by}
+use Rattle.line_model.specs.World.{World, changed, others_take, all_take, is_among}
+use Rattle.calm_law.specs.CalmSessions.{AreServed}
 use Rattle.calm_law.proofs.SessionRests.{nothing_due}
-use Rattle.calm_law.proofs.Rows.{Devices, Row}
+use Rattle.calm_law.proofs.Rows.{Devices}
 use Rattle.calm_law.proofs.Joined.{Whole, Lands}
 
 -- ---- a device has nothing to repeat and none to close

@@ -1,18 +1,17 @@
 -- Where time passes on a calm line: the channel sees nothing, the record ends at this time, the devices are still there.
-use Rattle.std.proofs.Common.{◌≡◌, ◌≢◌, ◌⊎◌, ℕ, zero, suc, ◌+◌, List, [], ◌∷◌, Bool, true, false, not, cond, ◌&&◌, ◌||◌, Option, Some, None, refl, sym, ◌∙◌, ap, subst, inl, inr}
+use Rattle.std.proofs.Common.{◌≡◌, ◌≢◌, ℕ, List, ◌∷◌, Bool, true, false, ◌&&◌, ◌||◌, Option, Some, None, refl, sym, ◌∙◌, ap}
 use Rattle.std.specs.Prelude.{slice_get}
-use Rattle.knx_model.specs.DeviceState.{DeviceState}
 use Rattle.knx_model.specs.DeviceSending.{pops}
 use Rattle.line_model.specs.Calm as line
-use Rattle.line_model.specs.ChannelLost.{own, confirmed, acknowledged, beats, has_left, has_lapsed, is_given_up, is_unconfirmed, is_dead, is_lost}
-use Rattle.line_model.specs.ClientView.{ClientChannel, Fresh, Sought, RefusedBy, Unanswered, Open, Lost, Deed, Nothing, deed}
+use Rattle.line_model.specs.ChannelLost.{confirmed, acknowledged, beats, has_left, has_lapsed, is_given_up, is_unconfirmed, is_dead, is_lost}
+use Rattle.line_model.specs.ClientView.{ClientChannel, Fresh, Sought, RefusedBy, Unanswered, Open, Lost, Nothing, deed}
 use Rattle.line_model.specs.LinkStory.{newest_time}
 use Rattle.line_model.specs.Network.{Sent}
-use Rattle.line_model.specs.Record.{Entry, Item, Quiet, entry, noted, got, item_of}
+use Rattle.line_model.specs.Record.{Entry, Quiet, entry, noted, got, item_of}
 use Rattle.line_model.specs.Tunnel as tunnel
 use Rattle.line_model.specs.Tunnel.{Tunnel, TunnelEvent}
 use Rattle.line_model.specs.Undisturbed.{AwaitsNothing, LacksNoAnswer}
-use Rattle.line_model.specs.World.{World, Event, Send, From, Renew, Up, UpRefused, Down, LoseUp, LoseDown, Bus, BusTorn, BusWorn, BusAgain, DevSend, DevRepeat, DevClose, GwAgain, GwRepeat, GwClose, Cut, On, Pass, next_frame, waiting_at, devices_after, changed, others_take}
+use Rattle.line_model.specs.World.{World, Event, Send, From, Renew, Up, UpRefused, Down, LoseUp, LoseDown, Bus, BusTorn, BusWorn, BusAgain, DevSend, DevRepeat, DevClose, GwAgain, GwRepeat, GwClose, Cut, On, Pass, next_frame, waiting_at, devices_after, others_take}
 use Rattle.calm_law.specs.CalmTunnel as calm
 use Rattle.calm_law.proofs.Joined.{up_now, repeat_now, close_now}
 use Rattle.calm_law.proofs.JoinedLine.{changed_there, all_there, others_there}

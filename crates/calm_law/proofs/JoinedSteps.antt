@@ -1,6 +1,5 @@
 -- Each event of a calm line keeps tunnel and sessions together: the events of the line, each by its name.
-use Rattle.std.proofs.Common.{◌≡◌, ◌≢◌, ◌⊎◌, ℕ, zero, suc, ◌+◌, List, [], ◌∷◌, Option, Some, None, refl, sym, ◌∙◌, ap, subst, inl, inr}
-use Rattle.std.specs.Prelude.{slice_get}
+use Rattle.std.proofs.Common.{◌≡◌, ◌≢◌, ◌⊎◌, ℕ, ◌+◌, List, [], ◌∷◌, Option, Some, None, refl, sym, ◌∙◌, ap, subst}
 use Rattle.knx_model.specs.declared.device.Sending.TheVariants as sending
 use Rattle.knx_model.specs.declared.frames.cemi.Ldata.{Ldata}
 use Rattle.knx_model.specs.ApduReading.{option_map}
@@ -8,21 +7,20 @@ use Rattle.knx_model.specs.DeviceState.{DeviceState}
 use Rattle.knx_model.specs.DeviceSending.{first_frame, pops, repeats, shut, next_sending}
 use Rattle.knx_model.specs.Plans.{Plan}
 use Rattle.line_model.specs.Calm as line
-use Rattle.line_model.specs.Fresh.{SettledFor}
 use Rattle.line_model.specs.Tunnel as tunnel
 use Rattle.line_model.specs.Tunnel.{Tunnel, TunnelEvent}
-use Rattle.line_model.specs.Record.{Entry, Item, Quiet, Renewed, Put, entry, noted, item_of}
-use Rattle.line_model.specs.ClientView.{Fresh, Deed, Nothing, channel, deed}
+use Rattle.line_model.specs.Record.{Entry, Item, Quiet, Renewed, Put, entry, item_of}
+use Rattle.line_model.specs.ClientView.{Fresh, Nothing, channel, deed}
 use Rattle.line_model.specs.Asks.{HasPlace}
 use Rattle.line_model.specs.Waiting.{IsResting, NextIsSending}
 use Rattle.line_model.specs.Legal.{OfDevice, DevicesAllow}
 use Rattle.line_model.specs.World.{World, Event, AtGateway, Comes, Send, From, Renew, Up, UpRefused, Down, LoseUp, LoseDown, Bus, BusTorn, BusWorn, BusAgain, DevSend, DevRepeat, DevClose, GwAgain, GwRepeat, GwClose, Cut, On, Pass, me, on_bus, all_take, changed, others_take, carried, heard, waiting_at, repeat_at, frame_by, next_frame, tunnel_event, devices_after}
-use Rattle.line_law.proofs.Coupled.{IsFrameOf, Owned}
+use Rattle.line_law.proofs.Coupled.{Owned}
 use Rattle.line_law.proofs.Owned.{waiting_owned}
 use Rattle.calm_law.specs.CalmSessions.{AreServed, attempts_by, AsksSo}
 use Rattle.calm_law.proofs.Law.{RidesOn}
 use Rattle.calm_law.proofs.Rows.{Devices}
-use Rattle.calm_law.proofs.Joined.{Whole, Lands}
+use Rattle.calm_law.proofs.Joined.{Whole}
 use Rattle.calm_law.proofs.JoinedEvents.{After, send_rides, renew_rides, down_rides, up_rides, repeat_rides, close_rides, dev_rides, bus_rides}
 use Rattle.calm_law.proofs.JoinedTime.{pass_rides}
 use Rattle.calm_law.proofs.JoinedLine.{none_due, changed_there, others_there, lands_there}

@@ -1,8 +1,7 @@
 -- Time passes on a calm line: no attempt runs where the channel has place, so that what rides goes on.
-use Rattle.std.proofs.Common.{◌≡◌, ◌≢◌, ◌⊎◌, ℕ, zero, suc, ◌+◌, ◌≤◌, ◌<◌, List, [], ◌∷◌, ◌++◌, Bool, true, false, Option, Some, None, refl, sym, ◌∙◌, ap, subst, arith, inl, inr}
+use Rattle.std.proofs.Common.{◌≡◌, ◌⊎◌, ℕ, ◌+◌, List, [], ◌∷◌, ◌++◌, Some, None, refl, sym, ◌∙◌, ap, subst, arith, inl, inr}
 use Rattle.knx_model.specs.declared.address.IndAddr.{IndAddr}
 use Rattle.knx_model.specs.declared.connection.DeviceExpired.{DeviceExpired}
-use Rattle.knx_model.specs.declared.device.Sending.{Sending}
 use Rattle.knx_model.specs.declared.frames.cemi.Ldata.{Ldata}
 use Rattle.knx_model.specs.DeviceConnection.{device_expired}
 use Rattle.knx_model.specs.DeviceState.{DeviceState}
@@ -11,16 +10,16 @@ use Rattle.knx_model.specs.Plans.{Plan}
 use Rattle.line_model.specs.Tunnel as tunnel
 use Rattle.line_model.specs.Tunnel.{Tunnel}
 use Rattle.line_model.specs.Record.{Entry, Quiet, entry}
-use Rattle.line_model.specs.ClientView.{Fresh, Deed, Nothing, channel, deed}
-use Rattle.line_model.specs.Attempts.{Attempts, Resting, Running}
+use Rattle.line_model.specs.ClientView.{Fresh, Nothing, channel, deed}
+use Rattle.line_model.specs.Attempts.{Attempts}
 use Rattle.line_model.specs.Asks.{HasPlace}
 use Rattle.line_model.specs.Waiting.{IsResting, NextIsSending}
 use Rattle.line_model.specs.World.{World}
 use Rattle.calm_law.specs.CalmSessions.{AreServed, attempts_by}
 use Rattle.calm_law.proofs.Law.{RidesOn}
-use Rattle.calm_law.proofs.Phases.{Item, items_of, Phase, Rests, Opens, Ready, Sends, Served, Awaits, Owes, Acks, Leaves, fly_at, stream_at, attempts_at, connection_at, IsGood, Line}
+use Rattle.calm_law.proofs.Phases.{items_of, Phase, Rests, Opens, Ready, Sends, Served, Awaits, Owes, Acks, Leaves, fly_at, stream_at, attempts_at, Line}
 use Rattle.calm_law.proofs.SessionRests.{rests}
-use Rattle.calm_law.proofs.Rows.{Devices, Row, Riders, items_in}
+use Rattle.calm_law.proofs.Rows.{Devices, Row, items_in}
 use Rattle.calm_law.proofs.Sessions.{nothing_more}
 use Rattle.calm_law.proofs.Joined.{Whole}
 use Rattle.calm_law.proofs.JoinedEvents.{After}

@@ -1,8 +1,7 @@
 -- All devices of a calm line: what an entry of the client's record is to the attempts, and that the tunnel keeps its address.
-use Rattle.std.proofs.Common.{◌≡◌, ℕ, ◌⊎◌, List, [], ◌∷◌, Bool, true, false, cond, not, ◌&&◌, Option, Some, None, refl, sym, ◌∙◌, ap, subst, inl, inr}
+use Rattle.std.proofs.Common.{◌≡◌, ℕ, ◌⊎◌, List, Bool, true, false, cond, Option, Some, None, refl, sym, ◌∙◌, ap, inl, inr}
 use Rattle.std.specs.Prelude.{◌==◌, slice_get, length}
 use Rattle.knx_model.specs.declared.address.IndAddr.{IndAddr}
-use Rattle.knx_model.specs.declared.connection.TransportFrame.{TransportFrame}
 use Rattle.knx_model.specs.declared.frames.cemi.Ldata.{Ldata}
 use Rattle.knx_model.specs.declared.frames.cemi.LdataCode.{LdataCode}
 use Rattle.knx_model.specs.declared.frames.cemi.LdataCode.TheVariants.{Req, Con, Ind}
@@ -19,8 +18,8 @@ use Rattle.line_model.specs.Reading.{ldata_in, is_req, is_con, is_ind, datagram_
 use Rattle.line_model.specs.Network.{Sent, changed_at, once_more}
 use Rattle.line_model.specs.Gateway.{Gateway, Channel, Request, GatewayTook, hears, took, gateway_took, connects, makes, closed, closed_if_open, request_took, acts_on, names, answers, drops, acknowledged, next_number, next_put, number_of}
 use Rattle.line_model.specs.Tunnel.{Tunnel, TunnelEvent, Send, From, Renew, Up as Arrives, UpRefused, Down, LoseUp, LoseDown, Carried, Heard, Repeat, Close, Pass, Elsewhere, with_gateway, with_up, takes_frame, takes_sent, sends_down_if, refuses, puts, repeats, repeats_request, closes, after, step}
-use Rattle.line_model.specs.ClientView.{Deed, Puts, Takes, Loses, Nothing}
-use Rattle.line_model.specs.Moments.{Moment, transport_of, error_of, is_to, is_from, where_is, put_frame, taken_frame, confirmation_frame, put_to, heard_from, confirmation_in}
+use Rattle.line_model.specs.ClientView.{Deed, Puts, Takes, Nothing}
+use Rattle.line_model.specs.Moments.{Moment, transport_of, error_of, is_to, is_from, where_is, put_frame, put_to}
 use Rattle.line_model.specs.Attempts.{Attempts, Resting, Running, put_so, confirmed_so, heard_so, heard_attempt, attempts_after}
 use Rattle.calm_law.proofs.Rows.{IsTold, after_take, put_to_one}
 

@@ -1,7 +1,5 @@
 -- All devices of a calm line: what rides on the tunnel is, for each device, what its session awaits.
-use Rattle.std.proofs.Common.{◌≡◌, ℕ, suc, ◌+◌, ◌≤◌, ◌⊎◌, List, [], ◌∷◌, ◌++◌, Bool, true, false, cond, not, ◌&&◌, Option, Some, None, refl, sym, ◌∙◌, ap, subst, arith, inl, inr, append_assoc, append-nil}
-use Rattle.std.specs.Prelude.{◌==◌}
-use Rattle.std.proofs.lemmas.Bool.{eq-eqb, eqb-true}
+use Rattle.std.proofs.Common.{◌≡◌, ℕ, ◌+◌, ◌≤◌, ◌⊎◌, List, [], ◌∷◌, ◌++◌, Bool, true, false, cond, Option, Some, None, refl, sym, ◌∙◌, ap, subst, arith}
 use Rattle.knx_model.specs.declared.address.IndAddr.{IndAddr}
 use Rattle.knx_model.specs.declared.connection.TransportFrame.{TransportFrame}
 use Rattle.knx_model.specs.declared.frames.cemi.Ldata.{Ldata}
@@ -15,7 +13,7 @@ use Rattle.line_model.specs.Reading.{is_con, ldata_in}
 use Rattle.line_model.specs.Moments.{is_to, is_from}
 use Rattle.line_model.specs.Attempts.{Attempts, Resting, Running, put_so, confirmed_attempt, confirmed_so, heard_so, MayPut}
 use Rattle.calm_law.proofs.State.{is_con_frame, one_if, cons_in}
-use Rattle.calm_law.proofs.Phases.{Item, Told, Heard, items_if, items_of, Phase, Rests, fly_at, stream_at, attempts_at, connection_at, Goes, IsGood, Line}
+use Rattle.calm_law.proofs.Phases.{Item, Told, Heard, items_if, items_of, Phase, fly_at, stream_at, Goes, Line}
 use Rattle.calm_law.proofs.SessionPuts.{NothingFlies, Put, put_kept}
 use Rattle.calm_law.proofs.SessionTakes.{taken_item, Got, got_kept}
 use Rattle.calm_law.proofs.SessionRests.{flies_or_told}

@@ -1,5 +1,5 @@
 -- All devices of a calm line: frames go over the bus.
-use Rattle.std.proofs.Common.{◌≡◌, ℕ, suc, ◌+◌, ◌≤◌, ◌⊎◌, List, [], ◌∷◌, ◌++◌, Bool, true, false, cond, not, ◌&&◌, Option, Some, None, refl, sym, ◌∙◌, ap, subst, arith, inl, inr, append_assoc, append-nil, drop}
+use Rattle.std.proofs.Common.{◌≡◌, ℕ, ◌+◌, ◌≤◌, ◌⊎◌, List, [], ◌∷◌, ◌++◌, Bool, true, false, cond, not, ◌&&◌, Option, Some, None, refl, sym, ◌∙◌, ap, subst, arith, inl, inr, append_assoc, append-nil, drop}
 use Rattle.std.specs.Prelude.{◌==◌}
 use Rattle.std.proofs.lemmas.Bool.{eq-eqb, eqb-true}
 use Rattle.knx_model.specs.declared.address.IndAddr.{IndAddr}
@@ -25,10 +25,10 @@ use Rattle.line_model.specs.World.{on_bus, all_take, changed, others_take, is_am
 use Rattle.line_law.proofs.Coupled.{IsFrameOf}
 use Rattle.calm_law.proofs.State.{is_con_frame, one_if, cons_in}
 use Rattle.calm_law.proofs.Events.{cons_append, ind_is}
-use Rattle.calm_law.proofs.Phases.{Item, Told, Heard, items_if, items_of, Phase, Rests, Opens, Ready, Sends, Served, Awaits, Owes, Acks, Leaves, fly_at, stream_at, attempts_at, connection_at, IsGood, Line}
+use Rattle.calm_law.proofs.Phases.{Item, Told, items_if, items_of, Phase, Rests, Opens, Ready, Sends, Served, Awaits, Owes, Acks, Leaves, fly_at, stream_at, connection_at, IsGood, Line}
 use Rattle.calm_law.proofs.SessionBus.{TakesIt, taken}
 use Rattle.calm_law.proofs.SessionRests.{SameSession, group_taken, other_taken}
-use Rattle.calm_law.proofs.Rows.{told_if, heard_if, item_in, items_in, to_it, fly_to, IsTold, AreTold, flying, Row, Devices, Riders}
+use Rattle.calm_law.proofs.Rows.{told_if, heard_if, item_in, items_in, to_it, fly_to, IsTold, AreTold, Row, Devices, Riders}
 
 -- ---- the queue grows
 

@@ -1,6 +1,6 @@
 -- The sessions ride on the tunnel: each event of a calm line keeps what they await.
-use Rattle.std.proofs.Common.{◌≡◌, ◌≢◌, ◌⊎◌, ℕ, zero, suc, ◌+◌, ◌≤◌, ◌<◌, List, [], ◌∷◌, ◌++◌, length, Bool, true, false, cond, not, ◌&&◌, Option, Some, None, refl, sym, ◌∙◌, ap, subst, arith, inl, inr, drop}
-use Rattle.std.specs.Prelude.{◌==◌, slice_get}
+use Rattle.std.proofs.Common.{◌≡◌, ◌⊎◌, ℕ, List, ◌∷◌, length, true, false, not, ◌&&◌, Option, Some, None, refl, sym, ◌∙◌, ap, subst, inl, inr}
+use Rattle.std.specs.Prelude.{◌==◌}
 use Rattle.std.proofs.lemmas.Bool.{eqb-true}
 use Rattle.knx_model.specs.declared.address.IndAddr.{IndAddr}
 use Rattle.knx_model.specs.declared.frames.cemi.Ldata.{Ldata}
@@ -9,16 +9,16 @@ use Rattle.knx_model.specs.Cemi.{Written as cemi_octets}
 use Rattle.knx_model.specs.DeviceState.{DeviceState}
 use Rattle.knx_model.specs.Plans.{Plan}
 use Rattle.line_model.specs.Reading.{ldata_in, is_req}
-use Rattle.line_model.specs.Record.{Entry, Item, entry, noted, counted, entries}
+use Rattle.line_model.specs.Record.{Entry}
 use Rattle.line_model.specs.ClientView.{Deed, Puts, Takes, Loses, Nothing, channel, deed}
-use Rattle.line_model.specs.Moments.{moments, is_to}
-use Rattle.line_model.specs.Attempts.{Attempts, attempts_after, MayPut}
+use Rattle.line_model.specs.Moments.{is_to}
+use Rattle.line_model.specs.Attempts.{attempts_after, MayPut}
 use Rattle.line_model.specs.World.{World}
 use Rattle.line_model.proofs.Entries.{entries_counted}
 use Rattle.calm_law.specs.CalmSessions.{AreServed, attempts_by, IsOfSession, AsksOne, AsksSo}
 use Rattle.calm_law.proofs.State.{cons_in, Steps}
 use Rattle.calm_law.proofs.Phases.{Goes}
-use Rattle.calm_law.proofs.Rows.{Devices, Riders, AreTold, after_take, put_to_one, riders_take, riders_put, riders_same}
+use Rattle.calm_law.proofs.Rows.{Devices, Riders, after_take, put_to_one, riders_take, riders_put, riders_same}
 use Rattle.calm_law.proofs.Moves.{moment, after_nothing, after_put_here, after_put_there, after_item}
 
 -- ---- an entry of the record

@@ -10,7 +10,7 @@ use Rattle.knx_model.specs.GoodPlan.{IsSendable}
 use Rattle.knx_model.specs.Plans.{Plan}
 use Rattle.knx_model.specs.Served.{IsServed}
 use Rattle.line_model.specs.Reading.{ldata_in, is_req}
-use Rattle.line_model.specs.World.{World, Event, Pass, replay}
+use Rattle.line_model.specs.World.{World, Event, Pass}
 use Rattle.line_model.specs.Record.{Entry, counted, record_of}
 use Rattle.line_model.specs.ClientView.{ClientChannel, Open, Deed, Puts, channel, deed}
 use Rattle.line_model.specs.Moments.{moments}

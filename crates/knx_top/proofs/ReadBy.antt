@@ -1,13 +1,13 @@
 -- A table of fronts reads a word just as it spells it.
 use Rattle.std.proofs.Common.{ℕ, ◌≡◌, ◌⊎◌, inl, inr, Bool, true, false, List, [], ◌∷◌, ◌++◌, length, map, take, drop, Option, Some, None, refl, sym, ap, ◌∙◌, subst}
-use Rattle.std.specs.Prelude.{not, ◌&&◌, bytes_eq, nat_eq, if◌then◌else◌}
+use Rattle.std.specs.Prelude.{not, ◌&&◌, nat_eq, if◌then◌else◌}
 use Rattle.std.specs.List.{list_all, starts_with}
 use Rattle.std.proofs.lemmas.Bool.{and_parts}
 use Rattle.std.proofs.lemmas.List.{take-append-drop}
 use Rattle.std.proofs.lemmas.Option.{same_Some}
 use Rattle.std.proofs.lemmas.Slice.Eq.{bytes_eq-Decides}
 use Rattle.knx_model.specs.Addresses.{◌>>=◌}
-use Rattle.knx_top.specs.Fronts.{Row, SpellsRow, Spells, SpellsAll, read_all, read_by}
+use Rattle.knx_top.specs.Fronts.{Row, Spells, SpellsAll, read_all, read_by}
 
 -- ---- a table in which no front begins another, so that a word is of one row at most
 

@@ -8,7 +8,6 @@ use Rattle.bus_sim.specs.Begun.{mode_in}
 use Rattle.bus_sim.specs.Loaded.{BusNow}
 use Rattle.bus_sim.specs.RunNow.{RunNow, mode, script, start}
 use Rattle.bus_sim.specs.Serving.{BreaksOff, FailsAt, ServedSo, served_beginning}
-use Rattle.knx_model.specs.declared.no_memory.NoMemory.{NoMemory}
 use Rattle.knx_model.specs.Outside.{one_more}
 use Rattle.line_model.specs.declared.outside.port.PortFault.{PortFault}
 use Rattle.line_model.specs.declared.outside.port.PortFault.TheVariants as fault

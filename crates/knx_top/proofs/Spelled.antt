@@ -1,10 +1,9 @@
 -- What words ask for is just the command that they spell.
-use Rattle.std.proofs.Common.{ℕ, ◌≡◌, ◌↔◌, Bool, true, false, codes, List, [], ◌∷◌, Option, Some, None, refl, sym, ap, subst}
+use Rattle.std.proofs.Common.{ℕ, ◌≡◌, ◌↔◌, Bool, true, false, codes, List, [], ◌∷◌, Option, Some, None, refl, sym, subst}
 use Rattle.std.specs.Prelude.{bytes_eq, if◌then◌else◌, option_and_then}
 use Rattle.std.specs.Option.{option_map}
 use Rattle.std.proofs.lemmas.Slice.Eq.{bytes_eq-Decides}
 use Rattle.knx_top.specs.Command.{Command, Check, Tables, Sim, Decode, SpellsCommand, SpellsCheck, SpellsTables, SpellsSim, SpellsDecode, SpellsDownload, SpellsGateway, SpellsBig, Big, Download, Gateway, asked}
-use Rattle.knx_model.specs.Addresses.{◌>>=◌}
 use Rattle.line_model.specs.Dialled.{Address}
 use Rattle.knx_top.specs.Fronts.{Spells, SpellsAll}
 use Rattle.knx_top.specs.Host.{address_value}

@@ -1,13 +1,10 @@
-use Rattle.std.proofs.Common.{ℕ, Bool, List, [], All, Option, Some, length, map, refl, sym, ap, ◌∙◌, subst}
+use Rattle.std.proofs.Common.{ℕ, Bool, List, All, Option, Some, length, map, sym, ap, ◌∙◌, subst}
 use Rattle.std.specs.Prelude.{IfSome, IsSome}
-use Rattle.bus_sim.specs.RunNow.{story, world}
+use Rattle.bus_sim.specs.RunNow.{world}
 use Rattle.knx_model.specs.declared.address.IndAddr.{IndAddr}
 use Rattle.knx_model.specs.declared.config.Image.{Image}
 use Rattle.line_model.specs.declared.group.GroupTurn.{GroupTurn}
 use Rattle.tunnel_link.specs.Rights.{FailsWhere}
-use Rattle.hub_core.specs.Commissioned.{TellsRun}
-use Rattle.hub_core.specs.Seen.{tasks_seen}
-use Rattle.hub_work.specs.declared.job.HubJob.{HubJob}
 use Rattle.line_model.specs.Log.{Job}
 use Rattle.knx_top.specs.Jobs.{seen_job}
 use Rattle.knx_top.specs.Options as asked
