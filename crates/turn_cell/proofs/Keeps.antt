@@ -10,7 +10,7 @@ use Rattle.atomic_table.specs.Table.{State, Me, step, Act, keeps, takes, gives, 
 use Rattle.atomic_table.proofs.Lists.{at_set, at_snoc}
 use Rattle.turn_cell.specs.declared.view.View.{View}
 use Rattle.turn_cell.specs.Seats.{new_places, StandOnce}
-use Rattle.turn_cell.specs.Kept.{once, spent, left, right, both, with_list, turn_of, parts_of, times_at, AllBegin, Fits, Home, Kept, taken, published, released, looked}
+use Rattle.turn_cell.specs.Kept.{once, spent, left, right, both, with_list, turn_of, parts_of, times_at, AllBegin, Fits, Home, Kept, taken, published, released, untold, looked}
 use Rattle.turn_cell.proofs.Sums.{prefix_self, prefix_trans, prefix_length, sum_set, sum_snoc, one_le_sum, two_le_sum, sum_alone, times, times-append, times_range, once_more, once_within, once_before, once_behind}
 
 module _ {E : Type 0} where
@@ -56,14 +56,15 @@ module _ {T E : Type 0} (list : T → List E) (opening : List E) where
   M = Me (Option T) V
 
   -- a step after which the log is the same
-  same_log : (s : St) (k : Rule s) (id : ℕ) (v w : V) (words : List ℕ) (homes : List (maybe.Option (Option T))) (held : ℕ)
-      → words ≡ k.count ∷ held ∷ [] → Home list k.log held homes → get_elem? s.views id ≡ maybe.some v → turn_of w + k.held ≡ turn_of v + held → held ≤ 1
+  same_log : (s : St) (k : Rule s) (id : ℕ) (v w : V) (words : List ℕ) (homes : List (maybe.Option (Option T))) (held sleepers : ℕ)
+      → words ≡ k.count ∷ held ∷ sleepers ∷ [] → Home list k.log held homes → get_elem? s.views id ≡ maybe.some v → turn_of w + k.held ≡ turn_of v + held → held ≤ 1
       → w.parts ≡ v.parts → Fits k.log w → ((p : ℕ) → times_at p w ≡ times_at p v)
       → Rule record { words = words; homes = homes; views = set s.views id w }
-  same_log s k id v w words homes held is home at turns one parts fits spots = record {
+  same_log s k id v w words homes held sleepers is home at turns one parts fits spots = record {
     log = k.log;
     count = k.count;
     held = held;
+    sleepers = sleepers;
     words = is;
     counted = k.counted;
     home = home;
@@ -84,7 +85,7 @@ module _ {T E : Type 0} (list : T → List E) (opening : List E) where
         w,
         takes 0 (Some h.0),
         ap (λ (l : List (maybe.Option (Option T))). get_elem? l 0) h.1,
-        same_log s k id v w (set s.words 1 1) (set s.homes 0 maybe.none) 1 (ap (λ (l : List ℕ). set l 1 1) k.words) (ap (λ (l : List (maybe.Option (Option T))). set l 0 maybe.none) h.1) at (omega arith) (omega arith) refl
+        same_log s k id v w (set s.words 1 1) (set s.homes 0 maybe.none) 1 k.sleepers (ap (λ (l : List ℕ). set l 1 1) k.words) (ap (λ (l : List (maybe.Option (Option T))). set l 0 maybe.none) h.1) at (omega arith) (omega arith) refl
             record { seen = subst (λ (l : List E). IsPrefix l k.log) (sym h.2) (prefix_self k.log); told = fits.told; held = λ _. h.2; spent = λ none. absurd (omega arith) } (λ p. refl),
         ((λ _. (h.0, refl, subst (λ (l : List E). IsPrefix v.seen l) (sym h.2) fits.seen)), λ no. absurd (no refl)),
       )
@@ -92,13 +93,23 @@ module _ {T E : Type 0} (list : T → List E) (opening : List E) where
     v,
     keeps,
     tt,
-    subst (λ (b : Bool). Rule (stepped s 1 (either b 1 (suc n)) id me.1 v keeps)) (sym no) (same_log s k id v v (set s.words 1 (suc n)) s.homes (suc n) (ap (λ (l : List ℕ). set l 1 (suc n)) k.words) (subst (λ (m : ℕ). Home list k.log m s.homes) e k.home) at
+    subst (λ (b : Bool). Rule (stepped s 1 (either b 1 (suc n)) id me.1 v keeps)) (sym no) (same_log s k id v v (set s.words 1 (suc n)) s.homes (suc n) k.sleepers (ap (λ (l : List ℕ). set l 1 (suc n)) k.words) (subst (λ (m : ℕ). Home list k.log m s.homes) e k.home) at
         (omega arith) (omega arith) refl (k.each id v at) (λ p. refl)),
     ((λ z. absurd (omega arith)), λ _. refl),
   )
 
   pub may_take : (slots id : ℕ) (me : M) → me.0.turn ≡ false → 0 < me.0.parts → Allows Rule slots id me 1 (λ n. either (n == 0) 1 n) (taken list (step slots 1 0 1 maybe.none) me)
   may_take slots id me free some_part s k _ at _ = subst (Wins slots id me s) (sym (ap (λ (l : List ℕ). get_or l 1 0) k.words)) (takes_at slots id me free some_part s k at k.held refl)
+
+  -- the count of those who sleep changes
+  pub may_sleep : (slots id : ℕ) (me : M) (f : ℕ → ℕ) → Allows Rule slots id me 2 f (untold (step slots 2 1 0 maybe.none) me)
+  may_sleep slots id me f s k _ at _ = let v : V = me.0 in let n : ℕ = f (get_or s.words 2 0) in (
+    v,
+    keeps,
+    tt,
+    same_log s k id v v (set s.words 2 n) s.homes k.held n (ap (λ (l : List ℕ). set l 2 n) k.words) k.home at (omega arith) k.one refl (k.each id v at) (λ p. refl),
+    refl,
+  )
 
   abbrev Looks : ℕ → ℕ → M → St → ℕ → Type 0
   Looks slots id me s n = (w : V) × (a : Act (Option T)) × Valid s.homes me.1 a × Rule (stepped s 0 n id me.1 w a) × looked (step slots 0 0 0 maybe.none) me n (w, carried_after me.1 a)
@@ -108,7 +119,7 @@ module _ {T E : Type 0} (list : T → List E) (opening : List E) where
     w,
     keeps,
     tt,
-    same_log s k id v w (set s.words 0 k.count) s.homes k.held (ap (λ (l : List ℕ). set l 0 k.count) k.words) k.home at (omega arith) k.one refl
+    same_log s k id v w (set s.words 0 k.count) s.homes k.held k.sleepers (ap (λ (l : List ℕ). set l 0 k.count) k.words) k.home at (omega arith) k.one refl
         record { seen = prefix_self k.log; told = tt; held = λ _. refl; spent = fits.spent } (λ p. refl),
     record { log = k.log; after = refl; counted = k.counted; begins = fits.seen; told = fits.told; held = λ turn. sym (fits.held turn) },
   )
@@ -130,7 +141,7 @@ module _ {T E : Type 0} (list : T → List E) (opening : List E) where
         w,
         gives,
         tt,
-        same_log s k id v w (set s.words 1 0) (put_back s.homes me.1) 0 (ap (λ (l : List ℕ). set l 1 0) k.words)
+        same_log s k id v w (set s.words 1 0) (put_back s.homes me.1) 0 k.sleepers (ap (λ (l : List ℕ). set l 1 0) k.words)
             (x, ap (put_back s.homes) slot ∙ ap (λ (l : List (maybe.Option (Option T))). set l 0 (maybe.some (Some x))) out, is ∙ fits.held turn) at (omega arith) (omega arith) refl
             record { seen = fits.seen; told = fits.told; held = λ no. absurd (true≢false (sym no)); spent = λ none. absurd (omega arith) } (λ p. refl),
         refl,
@@ -148,6 +159,7 @@ module _ {T E : Type 0} (list : T → List E) (opening : List E) where
           log = list x;
           count = count;
           held = k.held;
+          sleepers = k.sleepers;
           words = ap (λ (l : List ℕ). set l 0 count) k.words;
           counted = counted;
           home = subst (λ (n : ℕ). Home list (list x) n s.homes) (sym e) (subst (λ (n : ℕ). Home list k.log n s.homes) e k.home);
@@ -174,6 +186,7 @@ module _ {T E : Type 0} (list : T → List E) (opening : List E) where
     log = k.log;
     count = k.count;
     held = k.held;
+    sleepers = k.sleepers;
     words = k.words;
     counted = k.counted;
     home = k.home;
@@ -192,6 +205,7 @@ module _ {T E : Type 0} (list : T → List E) (opening : List E) where
         log = k.log;
         count = k.count;
         held = k.held;
+        sleepers = k.sleepers;
         words = k.words;
         counted = k.counted;
         home = k.home;

@@ -1,5 +1,5 @@
--- The rule of a cell's table, and what each step tells. Word 0 counts the published entries, word 1 is 1 while a seat has the turn, and slot 0 holds the state while
--- it is at home. The view of a seat that joined another is spent: it has no part.
+-- The rule of a cell's table, and what each step tells. Word 0 counts the published entries, word 1 is 1 while a seat has the turn, word 2 counts the seats that sleep,
+-- of which nothing is said, and slot 0 holds the state while it is at home. The view of a seat that joined another is spent: it has no part.
 use Rattle.std.specs.Prelude.{◌≡◌, ◌≢◌, ℕ, zero, suc, ◌+◌, ◌-◌, ◌<◌, ◌≤◌, ltb, ◌==◌, Bool, true, false, cond, All, List, [], ◌∷◌, ◌++◌, length, slice_index, sum_by, count_by, Option, Some, None}
 use Rattle.std.specs.List.{concat}
 use Rattle.std.specs.List.Sorted.{IsStrictlyIncreasing}
@@ -74,6 +74,10 @@ module _ {T E : Type 0} where
   abbrev pub released : Step (Option T) → Mine T E → ℕ → Mine T E → Type 0
   released st m r m' = m' ≡ (record m.0 { turn = false }, rest m.1)
 
+  -- nothing is told
+  abbrev pub untold : Step (Option T) → Mine T E → ℕ → Mine T E → Type 0
+  untold st m r m' = m' ≡ m
+
   -- all that is published is seen, which is no news to a seat that has the turn
   pub record Looked (m : Mine T E) (r : ℕ) (m' : Mine T E) : Type 0 where
     pub log : List E
@@ -106,7 +110,8 @@ module _ {T E : Type 0} (list : T → List E) where
     pub log : List E
     pub count : ℕ
     pub held : ℕ
-    pub words : s.words ≡ count ∷ held ∷ []
+    pub sleepers : ℕ
+    pub words : s.words ≡ count ∷ held ∷ sleepers ∷ []
     pub counted : count + 1 ≡ length log
     pub home : Home log held s.homes
     pub turns : sum_by turn_of s.views ≡ held

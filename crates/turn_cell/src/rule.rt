@@ -1,6 +1,6 @@
 //! The rule of a cell, and what each step on it tells. These types stand for terms of the proofs: no value of them is made.
 
-ghost use Rattle.turn_cell.specs.Kept.{Kept, first_view, taken, published, released, looked, left, right, both, spent};
+ghost use Rattle.turn_cell.specs.Kept.{Kept, first_view, taken, published, released, untold, looked, left, right, both, spent};
 
 use crate::logged::Logged;
 use crate::view::View;
@@ -32,6 +32,12 @@ pub struct Release;
 
 impl<S: Logged> Play<Option<S>, View<S::Entry>> for Release {
     ghost then = { released };
+}
+
+pub struct Sleep;
+
+impl<S: Logged> Play<Option<S>, View<S::Entry>> for Sleep {
+    ghost then = { untold };
 }
 
 pub struct Look;

@@ -16,6 +16,7 @@
 //! ```
 //!
 //! A state is home before its list is published, and published before the turn is free: so who takes the turn finds the state whose list is published.
+//! Word 2 counts the seats that sleep until the turn is free; where there is none, nobody has to be woken.
 
 ghost use Rattle.std.specs.Prelude.{◌≡◌, ◌+◌, ◌≤◌, ℕ, true, false, All, ◌∷◌, [], length, IfOk, IfErr, Some};
 ghost use Rattle.std.specs.List.Sorted.{IsStrictlyIncreasing};
@@ -23,11 +24,10 @@ ghost use mathlib.Core.List.{IsPrefix};
 ghost use Rattle.turn_cell.specs.Seats.{first_seat, with_turn, given_back, with_seen, without_part, new_seat, joined_by, StandOnce};
 
 use crate::logged::Logged;
-use crate::rule::{Look, Part, Publish, Release, Rule, Take};
+use crate::rule::{Look, Part, Publish, Release, Rule, Sleep, Take};
 use crate::seat::Seat;
 use crate::view::View;
 use atomic_table::{Refused, Table};
-use crossbeam_utils::Backoff;
 use knx_model::NoMemory;
 use std::alloc::{AllocError, Global};
 use std::marker::Model;
@@ -38,12 +38,17 @@ use std::sync::Wait;
 const PUBLISHED: usize = 0;
 /// The word that is `HELD` while a seat has the turn.
 const TURN: usize = 1;
+/// The word that counts the seats that sleep.
+const SLEEPERS: usize = 2;
 
 const FREE: u64 = 0;
 
 const HELD: u64 = 1;
 /// The slot of the state.
 const STATE: usize = 0;
+
+/// How often a seat looks whether the turn is free before it sleeps: for some ten microseconds, which most turns don't take.
+const LOOKS: u32 = 10_000;
 
 /// A cell: a state that one seat at a time has out.
 #[derive(Drop)]
@@ -59,7 +64,7 @@ impl<S: Logged> Model for Turn<S> {
 
     ghost view = { λ turn. record { id = turn.table.shared.table_id; opening = S.list turn.table.shared.key.value } };
 
-    ghost invariant = { λ turn. (turn.table.shared.table_id.words ≡ 2) × (turn.table.shared.table_id.slots ≡ 1) };
+    ghost invariant = { λ turn. (turn.table.shared.table_id.words ≡ 3) × (turn.table.shared.table_id.slots ≡ 1) };
 }
 
 /// The state that a table had no memory for.
@@ -89,21 +94,19 @@ impl<S: Logged> Turn<S> {
             Err(refused) => return Err((state, NoMemory::from(refused))),
         };
         slots.push_reserved(Some(state));
-        match Table::new(alloc, &[count, FREE], slots, &opening) {
+        match Table::new(alloc, &[count, FREE, 0], slots, &opening) {
             Ok((table, inner)) => Ok((Turn { table }, Seat { inner })),
             Err(refused) => Err(handed_back(refused)),
         }
     }
 
-    /// Waits for the turn and takes the state out. Its list begins with what the seat has seen. It looks again a few times before it sleeps: most
-    /// turns are short.
+    /// Waits for the turn and takes the state out. Its list begins with what the seat has seen.
     pub fn take<R: Wait>(&self, rt: &R, seat: &mut Seat<S>) -> S
         requires of { seat.old.cell ≡ self.now.id }
         requires free { seat.old.turn ≡ false }
         ensures begins { IsPrefix seat.old.seen (S.list result) }
         ensures seat { seat.new ≡ with_turn (S.list result) seat.old }
     {
-        let backoff = Backoff::new();
         for _ in rt.forever() {
             let inner = &mut seat.inner;
             if self
@@ -117,13 +120,18 @@ impl<S: Logged> Turn<S> {
                 };
                 return state;
             }
-            if backoff.is_completed() {
+            if !self.is_free_soon() {
+                self.table.shared.fetch_add::<Sleep>(inner, SLEEPERS, 1);
                 self.table.shared.park(rt, TURN, HELD as u32);
-            } else {
-                backoff.snooze();
+                self.table.shared.fetch_sub::<Sleep>(inner, SLEEPERS, 1);
             }
         }
         unreachable!()
+    }
+
+    /// Whether the turn is free soon.
+    fn is_free_soon(&self) -> bool {
+        (0..LOOKS).any(|_| self.table.shared.peek(TURN) == FREE)
     }
 
     /// Gives a state back, and with it the turn. Its list begins with the list that was taken.
@@ -138,7 +146,9 @@ impl<S: Logged> Turn<S> {
         let before = self.table.shared.exchange(inner, STATE, Some(state));
         self.table.shared.store::<Publish>(inner, PUBLISHED, count);
         self.table.shared.store::<Release>(inner, TURN, FREE);
-        self.table.shared.wake_one(TURN);
+        if self.table.shared.peek(SLEEPERS) > 0 {
+            self.table.shared.wake_one(TURN);
+        }
         let None = before else { unreachable!() };
     }
 

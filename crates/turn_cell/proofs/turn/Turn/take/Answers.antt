@@ -1,7 +1,7 @@
-use Rattle.std.proofs.Common.{rules, ◌≡◌, ℕ, sym, ap, ◌∙◌, Some, List, ◌∷◌}
+use Rattle.std.proofs.Common.{rules, ◌≡◌, ◌+◌, ◌-◌, ◌%◌, ◌^◌, ℕ, sym, ap, ◌∙◌, Some, List, ◌∷◌}
 use Rattle.atomic_table.specs.Table.{Me, rest}
 use Rattle.turn_cell.specs.Seats.{Seated}
-use Rattle.turn_cell.proofs.Keeps.{may_take}
+use Rattle.turn_cell.proofs.Keeps.{may_take, may_sleep}
 use Rattle.turn_cell.proofs.AtRest.{take_rests}
 use Rattle.turn_cell.proofs.turn.Turn.take.Goals as goal
 
@@ -18,3 +18,9 @@ exchange-requires g c = let t = c.compare_exchange.ensures.2.0 c.if-compare_exch
 pub invariant_of-seat : goal.invariant_of-seat
 invariant_of-seat g c = let t = c.compare_exchange.ensures.2.0 c.if-compare_exchange-eq-FREE.true in
     take_rests c.seat.inside.inner.me c.loop.seat-inside.inner.me c.compare_exchange.new.seat.me c.exchange.new.seat.me _ (Some t.0) c.seat.invariant (ap (λ (s : Seated g.row.S-Entry.Denot). s.turn) c.seat.view_is ∙ c.requires.free) c.loop.invariant.3 t.1 t.2 c.exchange.ensures.3
+
+pub fetch_add-requires : goal.fetch_add-requires
+fetch_add-requires g c = (search rules, search rules, may_sleep _ _ _ _ _ (λ (n : ℕ). (n + 1) % 2 ^ 64))
+
+pub fetch_sub-requires : goal.fetch_sub-requires
+fetch_sub-requires g c = (search rules, search rules, may_sleep _ _ _ _ _ (λ (n : ℕ). (n + (2 ^ 64 - 1)) % 2 ^ 64))
