@@ -2,10 +2,10 @@
 
     python3 bench/sizes.py [--prog ./crates/knx_cli/out/knx_cli] [--sizes 65536,262144,1048576,4194304] [--runs 5]
 
-It makes the same texts at each call, runs the program on each of them, and prints the best wall clock in milliseconds, its ratio to a
-plain pass over the octets of the same files (`wc -l`), and the greatest resident set in MiB. The empty project's row, which is the
-start and end of the process, stands on top. After each family comes the growth: the exponent g of time ~ size**g between the two
-greatest sizes, the time of the empty project taken off.
+It makes the same texts at each call, runs the program on each of them, and prints the best wall clock in milliseconds on all processors
+and on one, their ratio, the ratio of the first to a plain pass over the octets of the same files (`wc -l`), and the greatest resident set
+in MiB. The empty project's row, which is the start and end of the process, stands on top. After each family comes the growth: the
+exponent g of time ~ size**g between the two greatest sizes, the time of the empty project taken off.
 
 Families:
     one         one device: 255 objects, up to 2,047 links, then `flags` and `param` lines to the end
@@ -154,16 +154,24 @@ def memory_of(words, folder):
     return usage.ru_maxrss / 1024
 
 
-def best(words, folder, runs):
-    tried = [seconds_of(words, folder) for _ in range(runs)]
+def best(words, folder, runs, processors=None):
+    """The best of some runs, on these processors or on all, and the status of the first; a process runs where its parent may."""
+    every = os.sched_getaffinity(0)
+    os.sched_setaffinity(0, processors or every)
+    try:
+        tried = [seconds_of(words, folder) for _ in range(runs)]
+    finally:
+        os.sched_setaffinity(0, every)
     return min(seconds for seconds, _ in tried), tried[0][1]
 
 
 def row(family, size, command, words, files, folder, runs):
     seconds, status = best(words, folder, runs)
+    alone, _ = best(words, folder, runs, {min(os.sched_getaffinity(0))})
     plain, _ = best(["wc", "-l"] + files, folder, runs)
     note = "" if status == 0 else f"  status {status}"
-    print(f"{family:10} {size:8} {command:7} {1000 * seconds:8.1f} {seconds / plain:8.1f} {memory_of(words, folder):8.1f}{note}", flush=True)
+    times = f"{1000 * seconds:8.1f} {1000 * alone:8.1f} {seconds / alone:8.2f} {seconds / plain:8.1f}"
+    print(f"{family:10} {size:8} {command:7} {times} {memory_of(words, folder):8.1f}{note}", flush=True)
     return seconds
 
 
@@ -183,7 +191,7 @@ def main():
     arguments.add_argument("--runs", type=int, default=5)
     asked = arguments.parse_args()
     program = os.path.abspath(asked.prog)
-    print(f"{'family':10} {'octets':>8} {'command':7} {'ms':>8} {'of wc':>8} {'MiB':>8}")
+    print(f"{'family':10} {'octets':>8} {'command':7} {'ms':>8} {'on one':>8} {'ratio':>8} {'of wc':>8} {'MiB':>8}")
     with tempfile.TemporaryDirectory(prefix="knx-sizes") as folder:
         def put(name, octets):
             with open(os.path.join(folder, name), "wb") as file:

@@ -46,7 +46,7 @@ fn run<R: Threads + Wait + Sync, F: Files, D: Dialer, G: Gate + Sync>(
 {
     match command {
         Command::Check(names) => check::call(alloc, names, files),
-        Command::Tables(names) => tables::call(alloc, names, files),
+        Command::Tables(names) => tables::call(rt, alloc, names, files),
         Command::Sim(names) => sim::call(rt, alloc, &names, files, sim, gate),
         Command::Decode(word) => decode::call(alloc, word),
         Command::Download(names) => download::call(rt, alloc, &names, files, dial, gate),

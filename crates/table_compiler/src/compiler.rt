@@ -8,11 +8,10 @@ ghost use Rattle.knx_model.specs.Acts.{IsInRange};
 ghost use Rattle.knx_model.specs.Device.{Fits};
 ghost use Rattle.knx_model.specs.Meaning.{meaning};
 ghost use Rattle.knx_model.specs.Rules.{first_broken, devices_of};
-ghost use Rattle.knx_model.specs.declared.project.Statement.{Statement as Stated};
 ghost use Rattle.knx_model.specs.Tables.{StandsFor};
 ghost use Rattle.project_check.specs.Devices.{raw_of};
-ghost use Rattle.table_compiler.specs.Drafts.{IsDraft, IsSoundDraft};
-ghost use Rattle.table_compiler.specs.Images.{IsImage};
+ghost use Rattle.table_compiler.specs.Drafts.{IsSoundDraft};
+ghost use Rattle.table_compiler.specs.Images.{IsImage, IsImageOfDraft};
 
 use crate::drafts::{Draft, draft_of, drafts_of};
 use crate::links::links_of;
@@ -23,7 +22,12 @@ use crate::tables::image_of;
 use knx_model::{Catalogue, Image, IndAddr, List, NoMemory, Statement};
 use parameter_memory::lay;
 use project_check::Checked;
+use rayon::prelude::*;
 use std::alloc::Global;
+use std::thread::Threads;
+
+/// How few devices are worth a thread of their own.
+const LEAST_PIECE: usize = 4;
 
 /// The tables and the parameter memory of a device of the project; one that the project doesn't have has no objects.
 pub fn compile(alloc: Global, checked: &Checked<'_, '_>, device: IndAddr) -> Result<Image, NoMemory>
@@ -35,13 +39,19 @@ pub fn compile(alloc: Global, checked: &Checked<'_, '_>, device: IndAddr) -> Res
     compile_draft(alloc, checked.catalogue(), &draft)
 }
 
-/// The tables and the parameter memories of the devices of the project, in their ascending order.
-pub fn compile_all(alloc: Global, checked: &Checked<'_, '_>) -> Result<List<Image>, NoMemory>
+/// The tables and the parameter memories of the devices of the project, in their ascending order. They are compiled in as many threads
+/// as there are processors.
+pub fn compile_all<R: Threads + Sync>(
+    rt: &R,
+    alloc: Global,
+    checked: &Checked<'_, '_>,
+) -> Result<List<Image>, NoMemory>
     ensures stands { IfOk result (λ images. (devices : Seq Device) → IsPermutation (devices_of checked.now.statements) devices → IsStrictlyIncreasing (map raw_of devices) → AllZip (λ image device. StandsFor image (meaning checked.now device)) images devices) }
     ensures fits { IfOk result (λ images. All Fits images) }
     ensures in_range { IfOk result (λ _. All (λ device. IsInRange (meaning checked.now device)) (devices_of checked.now.statements)) }
 {
     compile_devices(
+        rt,
         alloc,
         checked.catalogue(),
         checked.statements(),
@@ -52,7 +62,7 @@ pub fn compile_all(alloc: Global, checked: &Checked<'_, '_>) -> Result<List<Imag
 /// The image of a device, from what its lines say.
 fn compile_draft(alloc: Global, catalogue: &Catalogue, draft: &Draft<'_>) -> Result<Image, NoMemory>
     requires { IsSoundDraft catalogue.now draft.now }
-    ensures { IfOk result (λ image. (device : Device) (ss : Seq Stated) → IsDraft device draft.now ss → first_broken catalogue.now ss ≡ None → IsImage (record { statements = ss; catalogue = catalogue.now }) device image) }
+    ensures { IfOk result (IsImageOfDraft catalogue.now draft.now) }
 {
     let inline = inline(alloc);
     let model = model_of(catalogue, &inline, draft.model);
@@ -63,8 +73,32 @@ fn compile_draft(alloc: Global, catalogue: &Catalogue, draft: &Draft<'_>) -> Res
     image_of(alloc, links.as_slice(), objects.as_slice(), params)
 }
 
-/// The images of these devices of a text that breaks no rule, in one pass over its lines.
-pub fn compile_devices(
+/// The image of each draft, in order. Pieces of the drafts are compiled in threads of their own.
+fn compile_drafts<R: Threads + Sync>(
+    rt: &R,
+    alloc: Global,
+    catalogue: &Catalogue,
+    drafts: &[Draft<'_>],
+) -> Result<List<Image>, NoMemory>
+    requires sound { All (IsSoundDraft catalogue.now) drafts.now }
+    ensures { IfOk result (λ images. AllZip (IsImageOfDraft catalogue.now) drafts.now images) }
+{
+    let images: Result<Vec<Image>, NoMemory> = drafts
+        .par_iter()
+        .with_min_len(LEAST_PIECE)
+        .map(
+            |draft: &Draft<'_>| -> Result<Image, NoMemory>
+                requires { IsSoundDraft catalogue.now draft.now }
+                ensures { IfOk result (IsImageOfDraft catalogue.entry.now draft.now) }
+            { compile_draft(alloc, catalogue, draft) },
+        )
+        .collect(rt, alloc)?;
+    Ok(List::from_vec(images?))
+}
+
+/// The images of these devices of a text that breaks no rule. What their lines say is gathered in one pass over the text.
+pub fn compile_devices<R: Threads + Sync>(
+    rt: &R,
     alloc: Global,
     catalogue: &Catalogue,
     statements: &[Statement<'_>],
@@ -75,9 +109,5 @@ pub fn compile_devices(
     ensures { IfOk result (λ images. AllZip (IsImage (record { statements = statements.now; catalogue = catalogue.now })) devices.now images) }
 {
     let drafts = drafts_of(alloc, devices, statements)?;
-    let mut images = List::new(alloc);
-    for draft in &drafts {
-        images.push(compile_draft(alloc, catalogue, draft)?)?;
-    }
-    Ok(images)
+    compile_drafts(rt, alloc, catalogue, drafts.as_slice())
 }

@@ -12,6 +12,7 @@ use knx_model::{Image, IndAddr, List, NoMemory, Octets};
 use project_check::Checked;
 use std::alloc::{AllocError, Global};
 use std::marker::Model;
+use std::thread::Threads;
 
 /// Devices of a project, ascending, and the image of each.
 #[derive(Drop)]
@@ -62,7 +63,8 @@ fn copy_of(alloc: Global, image: &Image) -> Result<Image, NoMemory>
 
 impl Images {
     /// The images of those of a project's devices that are wanted, each compiled once, however often it is wanted.
-    pub fn of(
+    pub fn of<R: Threads + Sync>(
+        rt: &R,
         alloc: Global,
         checked: &Checked<'_, '_>,
         wanted: &[IndAddr],
@@ -72,6 +74,7 @@ impl Images {
     {
         let devices = those_wanted(alloc, checked.devices(), wanted)?;
         let images = compile_devices(
+            rt,
             alloc,
             checked.catalogue(),
             checked.statements(),

@@ -11,33 +11,48 @@ use call_words::{InputFile, Stop};
 use knx_model::{Files, NoMemory, Octets};
 use project_check::Checked;
 use std::alloc::Global;
+use std::thread::Threads;
 use table_compiler::compile_all;
 
 /// The tables of the devices of a project, ascending.
-fn tables_text(alloc: Global, checked: &Checked<'_, '_>) -> Result<Octets, NoMemory>
+fn tables_text<R: Threads + Sync>(
+    rt: &R,
+    alloc: Global,
+    checked: &Checked<'_, '_>,
+) -> Result<Octets, NoMemory>
     ensures { IfOk result (λ text. IsTablesText checked.now text) }
 {
-    let images = compile_all(alloc, checked)?;
+    let images = compile_all(rt, alloc, checked)?;
     let text = report_text::tables_text(alloc, checked.devices(), images.as_slice())?;
     Ok(text)
 }
 
 /// The tables of what was read.
-fn told(alloc: Global, names: ProjectNames<'_>, texts: &ProjectTexts) -> Result<Octets, Stop>
+fn told<R: Threads + Sync>(
+    rt: &R,
+    alloc: Global,
+    names: ProjectNames<'_>,
+    texts: &ProjectTexts,
+) -> Result<Octets, Stop>
     ensures { TellsOf IsTablesText (judged_project (project_words_of names.entry) texts.now) (end_told result) }
 {
     let read = read_in(alloc, names, texts)?;
     let checked = sound_in(alloc, InputFile::New, &read.project, &read.models)?;
-    let text = tables_text(alloc, &checked)?;
+    let text = tables_text(rt, alloc, &checked)?;
     Ok(text)
 }
 
 /// A call of `tables`.
-pub fn call<F: Files>(alloc: Global, names: ProjectNames<'_>, files: &mut F) -> End
+pub fn call<R: Threads + Sync, F: Files>(
+    rt: &R,
+    alloc: Global,
+    names: ProjectNames<'_>,
+    files: &mut F,
+) -> End
     ensures told { TellsOfProject IsTablesText (project_words_of names.entry) (F.now files.old) (F.now files.new) (Is result) }
     ensures stays { (other : List ℕ) → (F.now files.new).file other ≡ (F.now files.old).file other }
     ensures reads { (F.now files.new).reads ≤ (F.now files.old).reads + length (files_of_project (project_words_of names.entry)) }
 {
     let texts = read_project_texts(alloc, files, names);
-    End::told(told(alloc, names, &texts))
+    End::told(told(rt, alloc, names, &texts))
 }

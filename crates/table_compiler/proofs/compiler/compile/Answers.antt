@@ -18,7 +18,7 @@ is c =
     let same : record { statements = c.statements.result.now; catalogue = c.catalogue.result.now } ≡ c.args.checked.now = λ i. record { statements = c.statements.ensures.value i; catalogue = c.catalogue.ensures.value i } in
     let sound : first_broken c.catalogue.result.now c.statements.result.now ≡ None = rw (c.catalogue.ensures.value, c.statements.ensures.value) c.statements.ensures.sound in
     let here : Installation = record { statements = c.statements.result.now; catalogue = c.catalogue.result.now } in
-    let compiled : IfOk c.compile_draft.result (λ image. IsImage here c.args.device image) = if_ok c.compile_draft.result (λ image h. h c.args.device c.statements.result.now c.in_ok-draft.ensures sound) c.compile_draft.ensures in
+    let compiled : IfOk c.compile_draft.result (λ image. IsImage here c.args.device image) = if_ok c.compile_draft.result (λ image h. h.is_image c.args.device c.statements.result.now c.in_ok-draft.ensures sound) c.compile_draft.ensures in
     subst (λ (i : Installation). IfOk c.compile_draft.result (λ image. IsImage i c.args.device image)) same compiled
 
 pub returns-clause-stands : goal.returns-clause-stands

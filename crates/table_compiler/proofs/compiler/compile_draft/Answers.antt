@@ -34,24 +34,26 @@ image_of-requires-clause-once c =
 
 pub returns : goal.returns
 returns c = if_both {P = λ image. (config : Config) → config.links ≡ c.as_slice-3.result.now → config.objects ≡ c.as_slice-4.result.now → HoldsParameters c.in_ok-params.params config.param_len config.params → StandsFor image config} {Q = Fits} c.image_of.result
-    (λ image stands fits device ss is sound.
-    let catalogue = c.args.catalogue.now in
-    let config = meaning (record { statements = ss; catalogue = catalogue }) device in
-    let model : c.model_of-model.result.now ≡ or_inline (model_of catalogue ss device.raw) = c.model_of-model.ensures.model ∙ ap (λ o. or_inline (named_model catalogue o)) is.model in
-    let links : c.as_slice-3.result.now ≡ links_of (link_lines device ss) = c.as_slice-3.ensures.value ∙ c.in_ok-links.ensures.links ∙ ap links_of (c.as_slice.ensures.value ∙ is.links) in
-    let small : All IsLink c.as_slice-3.result.now = rw c.as_slice-3.ensures.value c.in_ok-links.ensures.small in
-    let each : All IsLink (links_of (link_lines device ss)) = subst (λ (ls : List LinkSpec). All IsLink ls) links small in
-    let objects : objects_of (flagged_objects (or_inline (model_of catalogue ss device.raw)) device ss) ≡ c.as_slice-4.result.now =
-    sym (c.as_slice-4.ensures.value ∙ c.in_ok-objects.ensures.objects device ss is ∙ ap (λ m. objects_of (flagged_objects m device ss)) model) in
-    let holds = memory_holds catalogue device ss _ _ _ model c.model_of-model.ensures.sound (c.as_slice-2.ensures.value ∙ c.in_ok-settings.ensures device ss is.values) c.in_ok-params.ensures in
-    record {
-      stands = stands config (sym links) objects holds;
-      fits = fits;
-      in_range = record {
-        few_links = few_range catalogue device ss sound;
-        few_objects = omega (arith, ap length objects, ap length c.as_slice-4.ensures.value, c.in_ok-objects.ensures.few);
-        each_group = λ k d lt. (each k d lt).1;
-        each_object = λ k d lt. omega (arith, (each k d lt).0);
-      };
+    (λ image stands fits. record {
+      is_image = λ device ss is sound.
+          let catalogue = c.args.catalogue.now in
+          let config = meaning (record { statements = ss; catalogue = catalogue }) device in
+          let model : c.model_of-model.result.now ≡ or_inline (model_of catalogue ss device.raw) = c.model_of-model.ensures.model ∙ ap (λ o. or_inline (named_model catalogue o)) is.model in
+          let links : c.as_slice-3.result.now ≡ links_of (link_lines device ss) = c.as_slice-3.ensures.value ∙ c.in_ok-links.ensures.links ∙ ap links_of (c.as_slice.ensures.value ∙ is.links) in
+          let small : All IsLink c.as_slice-3.result.now = rw c.as_slice-3.ensures.value c.in_ok-links.ensures.small in
+          let each : All IsLink (links_of (link_lines device ss)) = subst (λ (ls : List LinkSpec). All IsLink ls) links small in
+          let objects : objects_of (flagged_objects (or_inline (model_of catalogue ss device.raw)) device ss) ≡ c.as_slice-4.result.now =
+          sym (c.as_slice-4.ensures.value ∙ c.in_ok-objects.ensures.objects device ss is ∙ ap (λ m. objects_of (flagged_objects m device ss)) model) in
+          let holds = memory_holds catalogue device ss _ _ _ model c.model_of-model.ensures.sound (c.as_slice-2.ensures.value ∙ c.in_ok-settings.ensures device ss is.values) c.in_ok-params.ensures in
+          record {
+            stands = stands config (sym links) objects holds;
+            fits = fits;
+            in_range = record {
+              few_links = few_range catalogue device ss sound;
+              few_objects = omega (arith, ap length objects, ap length c.as_slice-4.ensures.value, c.in_ok-objects.ensures.few);
+              each_group = λ k d lt. (each k d lt).1;
+              each_object = λ k d lt. omega (arith, (each k d lt).0);
+            };
+          };
     })
     c.image_of.ensures.stands c.image_of.ensures.fits

@@ -5,7 +5,7 @@ use Rattle.call_words.specs.ReportText.{tables_lines}
 use Rattle.knx_top.proofs.commands.tables.tables_text.Goals as goal
 
 pub returns : goal.returns
-returns c = record {
+returns g c = record {
   devices = c.devices.result.now;
   all = c.devices.ensures.all;
   ascending = c.devices.ensures.ascending;
