@@ -1,4 +1,4 @@
-pub mod Kept
+mod Walks
 pub mod New
 pub mod Modes
 pub mod Numbered

@@ -1,4 +1,6 @@
 pub mod Kept
+pub mod EventCode
+pub mod Noted
 pub mod Begun
 pub mod Numbers
 pub mod Counted

@@ -5,7 +5,6 @@ ghost use Rattle.knx_model.specs.declared.device.WriteKind.TheVariants.{Memory};
 ghost use Rattle.knx_model.specs.Device.{written_front};
 ghost use Rattle.knx_model.specs.DeviceFrames.{worn_octets};
 ghost use Rattle.line_model.specs.World.{Bus, BusTorn, BusWorn, is_among, next_frame};
-ghost use Rattle.bus_sim.specs.Kept.{event_of, octets_of};
 ghost use Rattle.line_model.specs.Deliveries.{worn_if};
 ghost use Rattle.line_sim.specs.Line.{LineNow, effect_due, write_due};
 ghost use Rattle.bus_sim.specs.RunNow.{NothingCalled, seen};
@@ -98,7 +97,7 @@ impl Run {
         ensures right { OnOk result (IsRight self.old (Bus (option_to_list lost))) }
         ensures err { OnErr result (Stays self.old self.new) }
     {
-        make_room(&mut self.events, &mut self.owed, 0)?;
+        make_room(&mut self.events, &mut self.owed)?;
         self.line.names();
         let device = frame.destination;
         let comes = comes_to(frame, lost);
@@ -123,7 +122,7 @@ impl Run {
             ..NOTHING
         };
         self.owed.meet(caused, &self.line, self.begun.clients);
-        self.events.push(Happened::Bus(lost), &[]);
+        self.events.push(&Happened::Bus(lost));
         Ok(())
     }
 
@@ -138,7 +137,7 @@ impl Run {
         ensures err { OnErr result (Stays self.old self.new) }
     {
         let octets = self.line.torn_octets(self.alloc, k)?;
-        make_room(&mut self.events, &mut self.owed, octets.len())?;
+        make_room(&mut self.events, &mut self.owed)?;
         self.line.names();
         let device = frame.destination;
         let counts = self.counts.of(device);
@@ -156,7 +155,7 @@ impl Run {
         };
         self.owed.meet(caused, &self.line, self.begun.clients);
         self.events
-            .push(torn(k, octets.len() as u64), octets.as_slice());
+            .push(&Happened::BusTorn(k > 0, octets.as_slice()));
         Ok(())
     }
 
@@ -171,7 +170,7 @@ impl Run {
         ensures err { OnErr result (Stays self.old self.new) }
     {
         let octets = self.line.worn_octets();
-        make_room(&mut self.events, &mut self.owed, octets.len())?;
+        make_room(&mut self.events, &mut self.owed)?;
         self.line.names();
         let device = frame.destination;
         let counts = self.counts.of(device);
@@ -187,8 +186,7 @@ impl Run {
             ..NOTHING
         };
         self.owed.meet(caused, &self.line, self.begun.clients);
-        self.events
-            .push(Happened::BusWorn(octets.len() as u64), octets.as_slice());
+        self.events.push(&Happened::BusWorn(octets.as_slice()));
         Ok(())
     }
 }
@@ -223,16 +221,4 @@ fn both(one: bool, other: bool) -> bool
     ensures { result ≡ (one && other) }
 {
     one && other
-}
-
-/// A torn write of so many new octets: load state and segment length are new but where none was to be.
-fn torn(k: u32, octets: u64) -> Happened
-    ensures event { (own : List ℕ) → event_of result own ≡ BusTorn (nat_lt 0 k) own }
-    ensures octets { octets_of result ≡ octets }
-{
-    if k > 0 {
-        Happened::BusTornNew(octets)
-    } else {
-        Happened::BusTornOld(octets)
-    }
 }

@@ -32,11 +32,10 @@ impl Run {
         ensures went { OnOk result (Went self.old (From endpoint octets.now) self.new) }
         ensures err { OnErr result (Stays self.old self.new) }
     {
-        make_room(&mut self.events, &mut self.owed, octets.len())?;
+        make_room(&mut self.events, &mut self.owed)?;
         self.line.send_from(u64::from(endpoint), octets);
         self.owed.wait(&self.line, self.begun.clients);
-        self.events
-            .push(Happened::From(endpoint, octets.len() as u64), octets);
+        self.events.push(&Happened::From(endpoint, octets));
         Ok(())
     }
 
@@ -48,11 +47,10 @@ impl Run {
         ensures cause { IfErr result (λ why. StopsFor why (seen self.new)) }
     {
         self.drives()?;
-        make_room(&mut self.events, &mut self.owed, octets.len())?;
+        make_room(&mut self.events, &mut self.owed)?;
         self.line.send(octets);
         self.owed.wait(&self.line, self.begun.clients);
-        self.events
-            .push(Happened::Send(octets.len() as u64), octets);
+        self.events.push(&Happened::Send(octets));
         Ok(())
     }
 
@@ -64,10 +62,10 @@ impl Run {
         ensures cause { IfErr result (λ why. StopsFor why (seen self.new)) }
     {
         self.drives()?;
-        make_room(&mut self.events, &mut self.owed, 0)?;
+        make_room(&mut self.events, &mut self.owed)?;
         self.line.renew();
         self.owed.wait(&self.line, self.begun.clients);
-        self.events.push(Happened::Renew, &[]);
+        self.events.push(&Happened::Renew);
         Ok(())
     }
 }

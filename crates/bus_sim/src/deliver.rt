@@ -35,13 +35,13 @@ impl Run {
         ensures number { IfOk result (λ letter. IsNumber self.old.begun.clients letter.to) }
         ensures err { OnErr result (Stays self.old self.new) }
     {
-        make_room(&mut self.events, &mut self.owed, 0)?;
+        make_room(&mut self.events, &mut self.owed)?;
         let first = reaches_again(&self.index, self.line.number_down(age));
         let to = self.line.endpoint_down(age);
         let octets = self.line.down(age);
         let caused = Caused { first, ..NOTHING };
         self.owed.meet(caused, &self.line, self.begun.clients);
-        self.events.push(Happened::Down(age as u64), &[]);
+        self.events.push(&Happened::Down(age as u64));
         Ok(Letter { to, octets })
     }
 
@@ -51,10 +51,10 @@ impl Run {
         ensures went { OnOk result (Went self.old (LoseDown age) self.new) }
         ensures err { OnErr result (Stays self.old self.new) }
     {
-        make_room(&mut self.events, &mut self.owed, 0)?;
+        make_room(&mut self.events, &mut self.owed)?;
         self.line.lose_down(age);
         self.owed.meet(NOTHING, &self.line, self.begun.clients);
-        self.events.push(Happened::LoseDown(age as u64), &[]);
+        self.events.push(&Happened::LoseDown(age as u64));
         Ok(())
     }
 
@@ -93,7 +93,7 @@ impl Run {
         ensures went { OnOk result (Went self.old (Up age) self.new) }
         ensures err { OnErr result (Stays self.old self.new) }
     {
-        make_room(&mut self.events, &mut self.owed, 0)?;
+        make_room(&mut self.events, &mut self.owed)?;
         let first = comes_again(&self.index, self.line.number_up(age));
         let connects = self.line.is_connect(age);
         let before = self.line.acted();
@@ -106,7 +106,7 @@ impl Run {
             ..NOTHING
         };
         self.owed.meet(caused, &self.line, self.begun.clients);
-        self.events.push(Happened::Up(age as u64), &[]);
+        self.events.push(&Happened::Up(age as u64));
         Ok(())
     }
 
@@ -117,13 +117,13 @@ impl Run {
         ensures went { OnOk result (Went self.old (UpRefused age status) self.new) }
         ensures err { OnErr result (Stays self.old self.new) }
     {
-        make_room(&mut self.events, &mut self.owed, 1)?;
+        make_room(&mut self.events, &mut self.owed)?;
         let first = comes_again(&self.index, self.line.number_up(age));
         self.line.up_refused(age, status);
         self.counts.connect_if(true);
         let caused = Caused { first, ..NOTHING };
         self.owed.meet(caused, &self.line, self.begun.clients);
-        self.events.push(Happened::UpRefused(age as u64), &[status]);
+        self.events.push(&Happened::UpRefused(age as u64, status));
         Ok(())
     }
 
@@ -133,10 +133,10 @@ impl Run {
         ensures went { OnOk result (Went self.old (LoseUp age) self.new) }
         ensures err { OnErr result (Stays self.old self.new) }
     {
-        make_room(&mut self.events, &mut self.owed, 0)?;
+        make_room(&mut self.events, &mut self.owed)?;
         self.line.lose_up(age);
         self.owed.meet(NOTHING, &self.line, self.begun.clients);
-        self.events.push(Happened::LoseUp(age as u64), &[]);
+        self.events.push(&Happened::LoseUp(age as u64));
         Ok(())
     }
 }

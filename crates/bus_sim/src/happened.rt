@@ -1,20 +1,20 @@
-//! What happened on the line, as it is kept.
+//! What happened on the line, for proofs.
 
 use line_sim::AtGateway;
 
-/// An event of the line, in 16 octets. The octets that it has are kept apart: here is only how many they are.
+/// An event of the line, as it is told to the events of a run. Octets are borrowed from where they are.
 #[derive(Clone, Copy, Drop)]
-pub enum Happened {
-    /// The client sent a datagram of so many octets.
-    Send(u64),
-    /// The client at this endpoint sent a datagram of so many octets.
-    From(u32, u64),
+pub enum Happened<'a> {
+    /// The client sent a datagram.
+    Send(&'a [u8]),
+    /// The client at this endpoint sent a datagram.
+    From(u32, &'a [u8]),
     /// The client took the next endpoint.
     Renew,
     /// The gateway took the client's datagram of this age: how many younger ones there were.
     Up(u64),
-    /// It answered the connect request of this age with a status, which is its one octet.
-    UpRefused(u64),
+    /// It answered the connect request of this age with a status.
+    UpRefused(u64, u8),
     /// The client got the gateway's datagram of this age.
     Down(u64),
     /// The client's datagram of this age was lost.
@@ -23,12 +23,10 @@ pub enum Happened {
     LoseDown(u64),
     /// The client's frame went over the bus, lost for one device or for none.
     Bus(Option<u16>),
-    /// The device that it is for took it torn, with the old load state and length, and so many new octets.
-    BusTornOld(u64),
-    /// It took it torn, with the new load state and length, and so many new octets.
-    BusTornNew(u64),
-    /// It took it over worn memory, which kept so many octets.
-    BusWorn(u64),
+    /// The device that it is for took it torn: with the new load state and length or not, and these new octets.
+    BusTorn(bool, &'a [u8]),
+    /// It took it over worn memory, which kept these octets.
+    BusWorn(&'a [u8]),
     /// A device took again the frame that it got last.
     BusAgain(u16),
     /// A device's oldest unsent frame went over the bus.

@@ -30,6 +30,7 @@ mod going;
 mod happened;
 mod link;
 mod nexts;
+mod noted;
 mod owed;
 mod poll;
 mod reaching;

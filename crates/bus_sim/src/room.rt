@@ -1,4 +1,4 @@
-//! Memory for what comes next, taken before anything changes.
+//! Room for what comes next, taken before anything changes.
 
 ghost use Rattle.std.specs.Prelude.{◌≡◌, ◌≤◌, ◌^◌, ◌<◌, ◌+◌, length, OnOk};
 
@@ -6,16 +6,15 @@ use crate::events::Events;
 use crate::owed::Owing;
 use knx_model::NoMemory;
 
-/// Takes memory for one more event, so many octets of its own, and what it may call for. No memory has room for 2^63 events.
-pub fn make_room(events: &mut Events, owed: &mut Owing, octets: usize) -> Result<(), NoMemory>
+/// Takes room for one more event, and memory for what it may call for. No vector has room for 2^63 events.
+pub fn make_room(events: &mut Events, owed: &mut Owing) -> Result<(), NoMemory>
     ensures events { events.new.list ≡ events.old.list }
     ensures owed { owed.new.list ≡ owed.old.list }
     ensures room { OnOk result (1 ≤ events.new.room) }
-    ensures octets_room { OnOk result (octets ≤ events.new.octets_room) }
     ensures owed_room { OnOk result (3 ≤ owed.new.room) }
     ensures few { OnOk result (length events.old.list + 1 < 2 ^ 63) }
 {
-    events.reserve(octets)?;
+    events.reserve()?;
     owed.reserve()?;
     Ok(())
 }

@@ -48,11 +48,11 @@ impl Run {
         ensures err { OnErr result (Stays self.old self.new) }
     {
         let at = self.at_gateway(device);
-        make_room(&mut self.events, &mut self.owed, 0)?;
+        make_room(&mut self.events, &mut self.owed)?;
         self.line.dev_send(self.alloc, device, at)?;
         self.counts.add(device, SENT);
         self.owed.meet(NOTHING, &self.line, self.begun.clients);
-        self.events.push(Happened::DevSend(device, at), &[]);
+        self.events.push(&Happened::DevSend(device, at));
         Ok(())
     }
 
@@ -64,11 +64,11 @@ impl Run {
         ensures err { OnErr result (Stays self.old self.new) }
     {
         let at = self.at_gateway(device);
-        make_room(&mut self.events, &mut self.owed, 0)?;
+        make_room(&mut self.events, &mut self.owed)?;
         self.line.dev_repeat(device, at)?;
         self.counts.add(device, SENT);
         self.owed.meet(NOTHING, &self.line, self.begun.clients);
-        self.events.push(Happened::DevRepeat(device, at), &[]);
+        self.events.push(&Happened::DevRepeat(device, at));
         Ok(())
     }
 
@@ -78,10 +78,10 @@ impl Run {
         ensures went { OnOk result (Went self.old (DevClose device) self.new) }
         ensures err { OnErr result (Stays self.old self.new) }
     {
-        make_room(&mut self.events, &mut self.owed, 0)?;
+        make_room(&mut self.events, &mut self.owed)?;
         self.line.dev_close(self.alloc, device)?;
         self.owed.meet(NOTHING, &self.line, self.begun.clients);
-        self.events.push(Happened::DevClose(device), &[]);
+        self.events.push(&Happened::DevClose(device));
         Ok(())
     }
 
@@ -91,10 +91,10 @@ impl Run {
         ensures went { OnOk result (Went self.old (On device) self.new) }
         ensures err { OnErr result (Stays self.old self.new) }
     {
-        make_room(&mut self.events, &mut self.owed, 0)?;
+        make_room(&mut self.events, &mut self.owed)?;
         self.line.on(device);
         self.owed.meet(NOTHING, &self.line, self.begun.clients);
-        self.events.push(Happened::On(device), &[]);
+        self.events.push(&Happened::On(device));
         Ok(())
     }
 
@@ -104,7 +104,7 @@ impl Run {
         ensures went { OnOk result (Went self.old (BusAgain device) self.new) }
         ensures err { OnErr result (Stays self.old self.new) }
     {
-        make_room(&mut self.events, &mut self.owed, 0)?;
+        make_room(&mut self.events, &mut self.owed)?;
         let taken = self.line.would_be_taken_again(device);
         let wrote = self.line.would_write_again(device).is_some();
         let n = self.counts.of(device).taken.saturating_add(1);
@@ -119,7 +119,7 @@ impl Run {
         self.counts.add(device, met);
         let caused = Caused { first, ..NOTHING };
         self.owed.meet(caused, &self.line, self.begun.clients);
-        self.events.push(Happened::BusAgain(device), &[]);
+        self.events.push(&Happened::BusAgain(device));
         Ok(())
     }
 
@@ -130,10 +130,10 @@ impl Run {
         ensures went { OnOk result (Went self.old GwRepeat self.new) }
         ensures err { OnErr result (Stays self.old self.new) }
     {
-        make_room(&mut self.events, &mut self.owed, 0)?;
+        make_room(&mut self.events, &mut self.owed)?;
         let _ = self.line.gateway_expire();
         self.owed.meet(NOTHING, &self.line, self.begun.clients);
-        self.events.push(Happened::GwRepeat, &[]);
+        self.events.push(&Happened::GwRepeat);
         Ok(())
     }
 
@@ -143,10 +143,10 @@ impl Run {
         ensures went { OnOk result (Went self.old GwClose self.new) }
         ensures err { OnErr result (Stays self.old self.new) }
     {
-        make_room(&mut self.events, &mut self.owed, 0)?;
+        make_room(&mut self.events, &mut self.owed)?;
         self.line.gateway_close();
         self.owed.meet(NOTHING, &self.line, self.begun.clients);
-        self.events.push(Happened::GwClose, &[]);
+        self.events.push(&Happened::GwClose);
         Ok(())
     }
 
@@ -157,10 +157,10 @@ impl Run {
         ensures went { OnOk result (Went self.old (Pass ms) self.new) }
         ensures err { OnErr result (Stays self.old self.new) }
     {
-        make_room(&mut self.events, &mut self.owed, 0)?;
+        make_room(&mut self.events, &mut self.owed)?;
         let _ = self.line.pass(u64::from(ms));
         self.owed.meet(NOTHING, &self.line, self.begun.clients);
-        self.events.push(Happened::Pass(ms), &[]);
+        self.events.push(&Happened::Pass(ms));
         Ok(())
     }
 }

@@ -1,4 +1,5 @@
 pub mod Counts
+pub mod Next
 pub mod Senders
 pub mod Writes
 pub mod Exit

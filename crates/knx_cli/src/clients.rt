@@ -4,15 +4,18 @@ ghost use Rattle.std.specs.Prelude.{◌≡◌, ◌<◌, ◌≤◌, ◌⊎◌, �
 ghost use Rattle.std.specs.List.{HoldsAt};
 ghost use Rattle.knx_cli.specs.Datagrams.{NamesOn};
 
+use indexmap::IndexSet;
 use std::alloc::Global;
+use std::hash::RandomState;
 use std::io::{self, ErrorKind};
 use std::marker::Model;
 use std::net::SocketAddr;
+use std::random::RandomSource;
 
-/// The addresses of the clients that a port knows, by their numbers.
+/// The addresses of the clients that a port knows, in the order of their numbers. A sender chooses its address: so they are hashed with a key of chance.
 #[derive(Drop)]
 pub struct Clients {
-    addresses: Vec<SocketAddr>,
+    addresses: IndexSet<SocketAddr, RandomState>,
 }
 
 impl Model for Clients {
@@ -21,16 +24,7 @@ impl Model for Clients {
 
     ghost Value = { List Address };
 
-    ghost view = { λ c. c.addresses.items };
-}
-
-/// The first place of an address.
-fn position_of(addresses: &[SocketAddr], address: SocketAddr) -> Option<usize>
-    ensures within { IfSome result (λ at. at < length addresses.now) }
-    ensures found { IfSome result (λ at. HoldsAt (λ known. known ≡ address) addresses.now at) }
-    ensures absent { IfNone result (¬ Contains addresses.now address) }
-{
-    addresses.iter().position(|known| *known == address)
+    ghost view = { λ c. c.addresses.keys };
 }
 
 /// The number of a place; clients have no further ones.
@@ -46,19 +40,19 @@ fn number_of(at: usize) -> io::Result<u32>
 
 impl Clients {
     /// No clients. It takes no memory.
-    pub fn none(alloc: Global) -> Clients
-        ensures { result ≡ [] }
+    pub fn none<R: RandomSource>(rt: &R, alloc: Global) -> io::Result<Clients>
+        ensures { IfOk result (λ clients. clients ≡ []) }
     {
-        Clients {
-            addresses: Vec::new(alloc),
-        }
+        Ok(Clients {
+            addresses: IndexSet::with_hasher(alloc, RandomState::new(rt)?),
+        })
     }
 
     /// The address of a client.
     pub fn address(&self, number: u32) -> Option<SocketAddr>
         ensures { result ≡ slice_get self.now number }
     {
-        self.addresses.get(number as usize).copied()
+        self.addresses.get_index(number as usize).copied()
     }
 
     /// The number of the client at an address, the next one where it has none yet. It fails where there is no memory or no further number.
@@ -68,11 +62,7 @@ impl Clients {
         ensures known { Contains self.old address → self.new ≡ self.old }
         ensures next { IfOk result (λ number. (self.new ≡ self.old) ⊎ ((number ≡ length self.old) × (self.new ≡ self.old ++ address ∷ []))) }
     {
-        if let Some(at) = position_of(&self.addresses, address) {
-            return number_of(at);
-        }
-        let number = number_of(self.addresses.len())?;
-        self.addresses.push(address)?;
-        Ok(number)
+        let (at, _) = self.addresses.insert_full(address)?;
+        number_of(at)
     }
 }

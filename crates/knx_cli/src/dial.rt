@@ -16,6 +16,7 @@ use line_model::{DialFailed, Dialer};
 use std::alloc::Global;
 use std::io;
 use std::net::{Net, UdpSocket};
+use std::random::RandomSource;
 use std::time::Clock;
 
 /// Dials and binds, each time with a socket of its own.
@@ -27,7 +28,7 @@ pub struct UdpDialer<'a, R> {
     faults: u64,
 }
 
-impl<'a, R: Net + Clock> UdpDialer<'a, R> {
+impl<'a, R: Net + Clock + RandomSource> UdpDialer<'a, R> {
     /// A dialer of which no call was made yet.
     pub fn new(rt: &'a R, alloc: Global) -> Self
         ensures { (result.dials ≡ 0) × (result.faults ≡ 0) }
@@ -68,7 +69,7 @@ impl<'a, R: Net + Clock> UdpDialer<'a, R> {
     }
 }
 
-impl<'a, R: Net + Clock + Sync> Dialer for UdpDialer<'a, R> {
+impl<'a, R: Net + Clock + RandomSource + Sync> Dialer for UdpDialer<'a, R> {
     type L = UdpLink<'a, R, UdpSocket>;
 
     type P = UdpPort<'a, R, UdpSocket>;

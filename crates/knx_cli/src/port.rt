@@ -1,30 +1,34 @@
 //! The port where the gateway serves its clients over UDP. It tells nothing of what it takes and gives.
 
 ghost use Rattle.std.specs.IoError.{error_kind};
-ghost use Rattle.std.specs.Prelude.{◌≡◌, ◌≤◌, [], Err, IfErr, IfOk, Ok, OnErr, OnOk, slice_get};
+ghost use Rattle.std.specs.Prelude.{◌≡◌, ◌≤◌, [], Err, IfErr, IfOk, IfSome, Ok, OnErr, OnOk, slice_get};
 ghost use Rattle.knx_model.specs.Outside.{one_more};
 ghost use Rattle.line_model.specs.PortStory.{Adds, FailsWhere, Gave, GivesOrNot, TakesSo, Untold};
-ghost use Rattle.knx_cli.specs.Datagrams.{GivesTo, NamesOn, PortBrings, counted, port_fault_of};
+ghost use Rattle.knx_cli.specs.declared.socket.Senders.TheVariants.{Answerable};
+ghost use Rattle.knx_cli.specs.Datagrams.{BringsOf, GivesTo, NamesOn, PortBrings, counted, port_fault_of};
 
 use crate::clients::Clients;
 use crate::disk::memory_of;
-use crate::socket::{Datagrams, LONGEST, Senders, receive_of, send_whole};
+use crate::socket::{Datagrams, LONGEST, Senders, left_of, receive_of, send_whole};
 use line_model::{Port, PortFault, PortPolled};
 use std::alloc::Global;
 use std::io::{self, ErrorKind};
 use std::net::{Net, SocketAddr};
-use std::time::Clock;
+use std::random::RandomSource;
+use std::time::{Clock, Instant};
 
-/// A port: a socket, and the clients from which datagrams came.
+/// A port: a socket, and the clients from which datagrams came. A datagram doesn't begin a wait anew: one that goes on since then ends when its
+/// time is over, be there datagrams or not, so that quiet ends come however many datagrams do.
 #[derive(Drop)]
 pub struct UdpPort<'a, R, S> {
     rt: &'a R,
     socket: S,
     clients: Clients,
+    waits_since: Option<Instant>,
     faults: u64,
 }
 
-impl<'a, R: Net + Clock, S: Datagrams> UdpPort<'a, R, S> {
+impl<'a, R: Net + Clock + RandomSource, S: Datagrams> UdpPort<'a, R, S> {
     /// A port at an address, at which nothing was taken yet.
     pub fn open(rt: &'a R, alloc: Global, at: SocketAddr) -> io::Result<Self>
         ensures clients { IfOk result (λ p. p.clients ≡ []) }
@@ -33,7 +37,8 @@ impl<'a, R: Net + Clock, S: Datagrams> UdpPort<'a, R, S> {
         Ok(UdpPort {
             rt,
             socket: S::bound(rt, at)?,
-            clients: Clients::none(alloc),
+            clients: Clients::none(rt, alloc)?,
+            waits_since: None,
             faults: 0,
         })
     }
@@ -45,6 +50,35 @@ impl<'a, R: Net + Clock, S: Datagrams> UdpPort<'a, R, S> {
         self.faults
     }
 
+    /// What is left of the wait that goes on, or of the one that begins; none where it is over.
+    fn left(&mut self, wait_ms: u32) -> io::Result<Option<u32>>
+        ensures { self.new ≡ record self.old { waits_since = self.new.waits_since } }
+    {
+        match self.waits_since {
+            Some(since) => Ok(left_of(wait_ms, since.elapsed(self.rt)?)),
+            None => {
+                self.waits_since = Some(Instant::now(self.rt)?);
+                Ok(Some(wait_ms))
+            }
+        }
+    }
+
+    /// The first datagram that can be answered and comes before the wait that goes on is over.
+    fn first(
+        &mut self,
+        into: &mut [u8; LONGEST],
+        wait_ms: u32,
+    ) -> io::Result<Option<(usize, SocketAddr)>>
+        ensures within { IfOk result (λ got. IfSome got (λ came. came.0 ≤ 512)) }
+        ensures brings { IfOk result (λ got. BringsOf Answerable got into.new (S.coming self.old.socket) (S.coming self.new.socket)) }
+        ensures others { (self.new.clients ≡ self.old.clients) × (self.new.faults ≡ self.old.faults) }
+    {
+        match self.left(wait_ms)? {
+            Some(left) => receive_of(self.rt, &mut self.socket, Senders::Answerable, into, left),
+            None => Ok(None),
+        }
+    }
+
     /// Waits for a datagram that can be answered.
     fn receive(&mut self, into: &mut [u8; LONGEST], wait_ms: u32) -> io::Result<PortPolled>
         ensures brings { IfOk result (λ polled. PortBrings polled into.new self.new.clients (S.coming self.old.socket) (S.coming self.new.socket)) }
@@ -52,18 +86,15 @@ impl<'a, R: Net + Clock, S: Datagrams> UdpPort<'a, R, S> {
         ensures clients { NamesOn self.old.clients self.new.clients }
         ensures others { self.new.faults ≡ self.old.faults }
     {
-        match receive_of(
-            self.rt,
-            &mut self.socket,
-            Senders::Answerable,
-            into,
-            wait_ms,
-        )? {
+        match self.first(into, wait_ms)? {
             Some((len, from)) => {
                 let from = self.clients.number(from)?;
                 Ok(PortPolled::Got { len, from })
             }
-            None => Ok(PortPolled::Quiet),
+            None => {
+                self.waits_since = None;
+                Ok(PortPolled::Quiet)
+            }
         }
     }
 
@@ -97,7 +128,7 @@ impl<'a, R: Net + Clock, S: Datagrams> UdpPort<'a, R, S> {
     }
 }
 
-impl<R: Net + Clock, S: Datagrams> Port for UdpPort<'_, R, S> {
+impl<R: Net + Clock + RandomSource, S: Datagrams> Port for UdpPort<'_, R, S> {
     ghost use Rattle.line_model.specs.PortStory.{Untold};
 
     ghost story = { λ p. Untold };
@@ -140,8 +171,11 @@ mod tests {
 
     const HOST: [u8; 4] = [127, 0, 0, 1];
 
+    /// Longer than a test takes, in milliseconds.
+    const LONG: u32 = 10_000;
+
     /// A port, and its address.
-    fn bind<'a, R: Net + Clock + Sync>(
+    fn bind<'a, R: Net + Clock + RandomSource + Sync>(
         dialer: &mut UdpDialer<'a, R>,
     ) -> io::Result<(UdpPort<'a, R, UdpSocket>, SocketAddr)> {
         let Ok(door) = dialer.bind(HOST, 0) else {
@@ -178,10 +212,10 @@ mod tests {
         assert!(rt; came(&mut door, 0).is_none());
         for (len, got) in [(1, 1), (512, 512), (513, 512), (1400, 512)] {
             assert!(rt; line.send(&[7; 1400][..len]).is_ok());
-            assert_eq!(rt; came(&mut door, 1000), Some((got, 0, 7)));
+            assert_eq!(rt; came(&mut door, LONG), Some((got, 0, 7)));
         }
         assert!(rt; line.send(&[]).is_ok());
-        assert_eq!(rt; came(&mut door, 1000), Some((0, 0, 0)));
+        assert_eq!(rt; came(&mut door, LONG), Some((0, 0, 0)));
         assert!(rt; door.give(0, b"back").is_ok());
         assert_eq!(rt; came_back(&mut line, 1000), Some((4, b'b')));
         Ok(())
@@ -195,7 +229,7 @@ mod tests {
         for client in 0..3 {
             for _ in 0..2 {
                 assert!(rt; line.send(b"asks").is_ok());
-                assert_eq!(rt; came(&mut door, 1000), Some((4, client, b'a')));
+                assert_eq!(rt; came(&mut door, LONG), Some((4, client, b'a')));
             }
             assert!(rt; door.give(client, b"told").is_ok());
             assert_eq!(rt; came_back(&mut line, 1000), Some((4, b't')));
@@ -203,6 +237,25 @@ mod tests {
         }
         assert!(rt; door.give(3, b"nobody").is_err());
         assert_eq!(rt; door.faults(), 1);
+        Ok(())
+    }
+
+    #[test]
+    fn a_wait_ends_while_datagrams_come(rt: HostRuntime) -> Result<(), Fail> {
+        let mut dialer = UdpDialer::new(&rt, rt.alloc());
+        let (mut door, at) = bind(&mut dialer)?;
+        let (mut other, _) = bind(&mut dialer)?;
+        let mut line = dialer.dial(HOST, at.port()).ok().ok_or("no link")?;
+        for _ in 0..3 {
+            assert!(rt; line.send(b"asks").is_ok());
+        }
+        assert_eq!(rt; came(&mut door, 50), Some((4, 0, b'a')));
+        // nothing comes to the other one: so long it waits
+        assert!(rt; came(&mut other, 60).is_none());
+        assert!(rt; came(&mut door, 50).is_none());
+        for _ in 0..2 {
+            assert_eq!(rt; came(&mut door, LONG), Some((4, 0, b'a')));
+        }
         Ok(())
     }
 }

@@ -115,7 +115,7 @@ impl Datagrams for UdpSocket {
 }
 
 /// What is left of a wait after so long; none where it is over.
-fn left_of(wait_ms: u32, passed: Duration) -> Option<u32>
+pub fn left_of(wait_ms: u32, passed: Duration) -> Option<u32>
     ensures { IfSome result (λ left. left ≤ wait_ms) }
 {
     match u32::try_from(passed.as_millis()) {

@@ -32,7 +32,7 @@ invariant_of-self-2 c =
     = ap is_some (sym (write_alike c.self.inside.line w c.args.frame.now c.self.invariant.pictured due)) ∙ ap (λ (v : RunState). is_some (write_due v.line)) c.self.view_is ∙ c.requires.write in
     let is : IsWritten w c.args.frame.now = is_written w c.args.frame.now some in
     after_own c.self.inside.begun c.self.inside.events.list c.make_room.new.events.list c.push.new.self.list c.self.inside.index c.self.inside.line c.bus_torn.new.self c.self.inside.counts c.add.new.self c.self.inside.owed.list c.make_room.new.owed.list c.meet.new.self.list _ (BusTorn (nat_lt 0 c.args.k) (written_front (effect_due c.self.inside.line) c.args.k)) refl c.self.invariant c.in_ok-bus_torn.ensures.next
-    (carried_right (run b es) c.args.frame.now (BusTorn (nat_lt 0 c.args.k) (written_front (effect_due c.self.inside.line) c.args.k)) (subst (λ (v : RunState). NothingCalled (seen v)) (sym c.self.view_is) c.requires.free) due (subst (λ (v : RunState). BusTorn (nat_lt 0 c.args.k) (written_front (effect_due v.line) c.args.k) ≡ carried v c.args.frame.now) (sym c.self.view_is) c.requires.so) (allowed (mode_in c.self.inside.begun) c.self.inside.line w (BusTorn (nat_lt 0 c.args.k) (written_front (effect_due c.self.inside.line) c.args.k)) c.self.invariant.pictured (subst (λ l. Allows (mode_in c.self.inside.begun) c.self.inside.line (BusTorn (nat_lt 0 c.args.k) l)) c.in_ok-octets.ensures.value (c.in_ok-octets.ensures.allowed (mode_in c.self.inside.begun) (subst (λ (v : RunState). is_some (write_due v.line) ≡ true) (sym c.self.view_is) c.requires.write))))) c.make_room.ensures.events (c.push.ensures ∙ ap (λ x. x ∷ c.make_room.new.events.list) (c.torn.ensures.event c.as_slice.result.now ∙ ap (BusTorn (nat_lt 0 c.args.k)) (c.as_slice.ensures ∙ c.in_ok-octets.ensures.value))) c.in_ok-make_room.ensures.few c.make_room.ensures.owed c.meet.ensures
+    (carried_right (run b es) c.args.frame.now (BusTorn (nat_lt 0 c.args.k) (written_front (effect_due c.self.inside.line) c.args.k)) (subst (λ (v : RunState). NothingCalled (seen v)) (sym c.self.view_is) c.requires.free) due (subst (λ (v : RunState). BusTorn (nat_lt 0 c.args.k) (written_front (effect_due v.line) c.args.k) ≡ carried v c.args.frame.now) (sym c.self.view_is) c.requires.so) (allowed (mode_in c.self.inside.begun) c.self.inside.line w (BusTorn (nat_lt 0 c.args.k) (written_front (effect_due c.self.inside.line) c.args.k)) c.self.invariant.pictured (subst (λ l. Allows (mode_in c.self.inside.begun) c.self.inside.line (BusTorn (nat_lt 0 c.args.k) l)) c.in_ok-octets.ensures.value (c.in_ok-octets.ensures.allowed (mode_in c.self.inside.begun) (subst (λ (v : RunState). is_some (write_due v.line) ≡ true) (sym c.self.view_is) c.requires.write))))) c.make_room.ensures.events (c.push.ensures ∙ ap (λ x. BusTorn (nat_lt 0 c.args.k) x ∷ c.make_room.new.events.list) (c.as_slice.ensures ∙ c.in_ok-octets.ensures.value)) c.in_ok-make_room.ensures.few c.make_room.ensures.owed c.meet.ensures
     (three_called (PowerReturns c.args.frame.now.destination ∷ []) _ _ _ _ (c.frame_again-second.ensures (said b) c.self.invariant.indexed) (c.connection_closes-third.ensures (said b) c.self.invariant.indexed)
     ∙ write_calls c.self.inside.begun c.self.inside.events.list c.self.inside.index c.self.inside.line c.self.inside.counts c.self.inside.owed.list c.self.invariant c.args.frame.now due (BusTorn (nat_lt 0 c.args.k) (written_front (effect_due c.self.inside.line) c.args.k)) (PowerReturns c.args.frame.now.destination ∷ []) c.saturating_add-n.result c.saturating_add-m.result c.of-counts.result (sym due) refl refl is c.saturating_add-n.ensures c.saturating_add-m.ensures c.of-counts.ensures)
     (subst (λ (x : CountsNow). AreCounts x (start_of b) (BusTorn (nat_lt 0 c.args.k) (written_front (effect_due c.self.inside.line) c.args.k) ∷ es)) (sym c.add.ensures.value)
