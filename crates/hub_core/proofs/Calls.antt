@@ -101,4 +101,4 @@ module _ (p q : ℕ) (s t : Story) (met : Bool) (f g : Option HubFault) (none : 
 
   pub polls_failed : (w : Work) (fault : HubFault) → Growing (PollAdds (Err fault)) s t → g ≡ Some fault → IsOfTunnel fault → Prompts s t w → Keeps p s w met f → Keeps q t w met g
   polls_failed w fault adds is tunnel prompts k =
-      moves p q s t w w met met f g none le (same_refl w) goes (failed s t w w met (PollAdds (Err fault)) goes (same_refl w) adds (λ old added h. h) met g fault is tunnel) prompts k
+      moves p q s t w w met met f g none le (same_refl w) goes (failed s t w w met (PollAdds (Err fault)) goes (same_refl w) adds (λ old added h. h.puts_none) met g fault is tunnel) prompts k

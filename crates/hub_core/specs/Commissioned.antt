@@ -16,7 +16,7 @@ use Rattle.hub_work.specs.declared.job.HubJob.{HubJob}
 use Rattle.hub_work.specs.Books.{AreJobsOf}
 use Rattle.hub_work.specs.Downloaders.{Task, AreJobsWith}
 use Rattle.hub_core.specs.Closed.{HasClosed}
-use Rattle.hub_core.specs.Heard.{HeardAll}
+use Rattle.hub_core.specs.Heard.{HeardIn}
 use Rattle.hub_core.specs.Promises.{DropsIn, FaultRightIn, IsRightOver, IsSafeOver, LeavesOver}
 use Rattle.hub_core.specs.Seats.{IsOfWorkers}
 use Rattle.hub_core.specs.Seen.{tasks_seen}
@@ -44,11 +44,12 @@ pub record TellsRun (workers : ℕ) (tasks : List Task) (devices : List IndAddr)
   pub in_order : (jobs : List Job) → AreJobsOf devices jobs → TakenInOrder jobs (log_of report)
   pub leaves : (jobs : List Job) → AreJobsOf devices jobs → LeavesOver jobs turns story (log_of report)
   pub seats : IsOfWorkers workers (log_of report)
-  -- without a fault every job has its end, every group telegram is told, the closing is over, and all that was heard is told
+  -- what was heard is told, in order, but for what was missed
+  pub heard : HeardIn report.fault report.missed report.heard (record_in story)
+  -- without a fault every job has its end, every group telegram is told, and the closing is over
   pub over : report.fault ≡ None → (jobs : List Job) → AreJobsOf devices jobs → AllOver jobs (log_of report)
   pub told : report.fault ≡ None → ¬ TurnUnfinished turns (log_of report)
   pub closed : report.fault ≡ None → WhereTold (HasClosed (log_of report)) story
-  pub heard : report.fault ≡ None → HeardAll report.heard (record_in story)
 
 -- ---- a commission of these jobs and group telegrams by so many workers, over a link of which this is seen, before it and when it is handed back
 
@@ -58,5 +59,3 @@ pub record Commissioned {L : Type 0} (story_of : L → Story) (place_of : L → 
   -- that the link failed is told only where its count of faults rose
   pub cause : IfSome report.fault (λ fault. FailsWhere fault (faults_of before) (faults_of after))
   pub tells : TellsRun workers (tasks_seen hub_jobs) (map (λ (job : HubJob). job.device) hub_jobs) turns (story_of after) (place_of after) report
-  -- nothing that was heard is counted as missed
-  pub missed : report.missed ≡ 0

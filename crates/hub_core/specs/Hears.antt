@@ -14,6 +14,10 @@ use Rattle.hub_core.specs.declared.answers.Finished.TheVariants as end
 abbrev pub HearsSo : Option Indication → Story → Story → Type 0
 HearsSo heard s t = (old new : List Placed) → places_in s ≡ Some old → places_in t ≡ Some new → indications (entries new) ≡ cons_option heard (indications (entries old))
 
+-- it took one at most
+abbrev pub HearsFew : Story → Story → Type 0
+HearsFew s t = (heard : Option Indication) × HearsSo heard s t
+
 abbrev pub heard_of : Pumped → Option Indication
 heard_of pump.Nothing = None
 heard_of pump.Moved = None

@@ -14,6 +14,7 @@ mod datagrams;
 mod examples;
 mod failing;
 mod line;
+mod listening;
 mod polls;
 
 const DEVICE: IndAddr = IndAddr { raw: 0x1105 };

@@ -48,8 +48,8 @@ means_over project jobs words (Full start events) log planned right = (devices_m
 -- ---- the run
 
 pub told_over : (workers : ℕ) (plans : List HubJob) (groups : List GroupTurn) (began after : Story) (place : ℕ) (report : Report) → groups ≡ [] → IsNewLink began → GoesOn began after → AllByRecursion IsGoodJob (map seen_job plans)
-    → TellsRun workers (tasks_seen plans) (map (λ (job : HubJob). job.device) plans) groups after place report → report.missed ≡ 0 → IsToldOver workers [] (map seen_job plans) after report
-told_over workers plans groups began after place report none new goes good tells missed =
+    → TellsRun workers (tasks_seen plans) (map (λ (job : HubJob). job.device) plans) groups after place report → IsToldOver workers [] (map seen_job plans) after report
+told_over workers plans groups began after place report none new goes good tells =
     let jobs : List Job = map seen_job plans in
     let are : AreJobs plans jobs = jobs_seen plans in
     let of : AreJobsOf (map (λ (job : HubJob). job.device) plans) jobs = devices_seen plans in
@@ -70,7 +70,6 @@ told_over workers plans groups began after place report none new goes good tells
       in_order = tells.in_order jobs of;
       seats = tells.seats;
       heard = tells.heard;
-      missed = missed;
       dropped = tells.dropped;
     }
 

@@ -13,7 +13,7 @@ use Rattle.hub_core.specs.Promises.{IsRightOver, FaultRightIn, DropsIn, LeavesOv
 use Rattle.hub_core.specs.Seen.{AreJobs, tasks_seen}
 use Rattle.hub_core.specs.Thorough.{IsThoroughOver}
 use Rattle.hub_core.specs.Closed.{HasClosed}
-use Rattle.hub_core.specs.Heard.{HeardAll}
+use Rattle.hub_core.specs.Heard.{HeardIn}
 use Rattle.hub_core.specs.Seats.{IsOfWorkers}
 use Rattle.hub_work.specs.declared.job.HubJob.{HubJob}
 use Rattle.hub_work.specs.Books.{AreJobsOf}
@@ -129,9 +129,9 @@ keeps_promises c order r log is run right =
 
 pub driven : (c : Commission) (order : Order) (workers : ℕ) (turns : List GroupTurn) (line : BusNow) (place : ℕ) (report : Report) → IsOrder c order → workers ≡ c.workers → turns ≡ c.turns → order.line.run.begun.clients ≡ One → GoesOn (story order.line.run) (story line.run) → script line.run ≡ script order.line.run
     → IsFresh (start line.run) → IsLegal (mode line.run) (start line.run) line.run.events → Follows (script line.run) (mode line.run) (start line.run) line.run.events
-    → AllByRecursion IsGoodJob (map seen_job order.plans) → TellsRun workers (tasks_seen order.plans) (map (λ (job : HubJob). job.device) order.plans) turns (story line.run) place report → report.missed ≡ 0
+    → AllByRecursion IsGoodJob (map seen_job order.plans) → TellsRun workers (tasks_seen order.plans) (map (λ (job : HubJob). job.device) order.plans) turns (story line.run) place report
     → Ran c line.run report order.jobs
-driven c order workers turns line place report is by sends one goes says fresh legal follows good tells missed =
+driven c order workers turns line place report is by sends one goes says fresh legal follows good tells =
     let jobs : List Job = map seen_job order.plans in
     let are : AreJobs order.plans jobs = jobs_seen order.plans in
     let of : AreJobsOf (map (λ (job : HubJob). job.device) order.plans) jobs = devices_seen order.plans in
@@ -156,9 +156,8 @@ driven c order workers turns line place report is by sends one goes says fresh l
         ended = λ none. tells.over none jobs of;
         in_order = tells.in_order jobs of;
         closed = λ none. subst (λ s. WhereTold (HasClosed (log_in report)) s) whole (tells.closed none) (placed (start line.run) line.run.events) refl;
-        heard = λ none. subst (λ s. HeardAll report.heard (record_in s)) whole (tells.heard none);
+        heard = subst (λ s. HeardIn report.fault report.missed report.heard (record_in s)) whole tells.heard;
         seats = subst (λ (n : ℕ). IsOfWorkers n (log_in report)) by tells.seats;
-        missed = missed;
         dropped = subst (λ s. DropsIn report.dropped (record_in s)) whole tells.dropped;
       };
     }

@@ -8,7 +8,7 @@ use Rattle.line_model.specs.LinkStory.{Full, IsNewLink, Recorded, Story, record_
 use Rattle.tunnel_link.specs.Goes.{GoesOn}
 use Rattle.line_model.specs.declared.group.GroupTurn.{GroupTurn}
 use Rattle.hub_core.specs.Closed.{HasClosed}
-use Rattle.hub_core.specs.Heard.{HeardAll}
+use Rattle.hub_core.specs.Heard.{HeardIn}
 use Rattle.knx_model.specs.Meaning.{Installation}
 use Rattle.hub_core.specs.Seats.{IsOfWorkers}
 use Rattle.hub_core.specs.Thorough.{IsThoroughOver}
@@ -49,9 +49,8 @@ pub record IsToldOver (workers : ℕ) (turns : List GroupTurn) (jobs : List Job)
   pub in_order : TakenInOrder jobs (log_in report)
   -- what was done was done by one of the workers, or by the group thread
   pub seats : IsOfWorkers workers (log_in report)
-  -- what was heard, and what was dropped
-  pub heard : report.fault ≡ None → HeardAll report.heard (record_in story)
-  pub missed : report.missed ≡ 0
+  -- what was heard, but for what was missed, and what was dropped
+  pub heard : HeardIn report.fault report.missed report.heard (record_in story)
   pub dropped : DropsIn report.dropped (record_in story)
 
 -- That the link failed is told only where the dialled link's count of failed calls rose, which is 0 where it is dialled. The dialer's count was `since` then,

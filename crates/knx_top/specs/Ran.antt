@@ -21,6 +21,7 @@ use Rattle.bus_sim.specs.Ended.{IsAtEnd}
 use Rattle.line_model.specs.Headline.{IsDisciplined}
 use Rattle.line_model.specs.Fresh.{IsFresh}
 use Rattle.line_model.specs.Legal.{IsLegal}
+use Rattle.hub_core.specs.Heard.{HeardOf}
 use Rattle.hub_core.specs.Seats.{IsOfWorkers}
 use Rattle.hub_core.specs.Thorough.{IsThorough}
 use Rattle.call_words.specs.declared.job_word.JobWord.{JobWord}
@@ -85,10 +86,10 @@ pub record IsTold (c : Commission) (jobs : List Job) (r : RunNow) (report : Repo
   -- each job that was taken was the first that was free
   pub in_order : TakenInOrder jobs (log_in report)
   pub closed : report.fault ≡ None → HasClosed (log_in report) (placed (start r) r.events)
-  pub heard : report.fault ≡ None → report.heard ≡ reverse (indications (record_of (start r) r.events))
+  -- what was heard is told, in order, but for what was missed
+  pub heard : HeardOf report.fault report.missed report.heard (reverse (indications (record_of (start r) r.events)))
   -- what was done was done by one of the workers, or by the group thread
   pub seats : IsOfWorkers c.workers (log_in report)
-  pub missed : report.missed ≡ 0
   -- a number of 64 bits, which stands still at its greatest
   pub dropped : report.dropped ≡ min (dropped (record_of (start r) r.events)) (2 ^ 64 - 1)
 

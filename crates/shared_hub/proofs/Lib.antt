@@ -1,6 +1,8 @@
 pub mod Causes
 pub mod Closed
+pub mod Missing
 pub mod Hearing
+pub mod Still
 pub mod Leaving
 pub mod New
 pub mod Seats

@@ -4,6 +4,7 @@ use Rattle.std.specs.List.{AllByRecursion}
 use Rattle.knx_model.specs.declared.address.IndAddr.{IndAddr}
 use Rattle.line_model.specs.declared.fault.HubFault.{HubFault}
 use Rattle.line_model.specs.declared.group.GroupTurn.{GroupTurn}
+use Rattle.line_model.specs.declared.group.Indication.{Indication}
 use Rattle.line_model.specs.declared.log.LogEntry.{LogEntry}
 use Rattle.line_model.specs.declared.log.Report.{Report}
 use Rattle.line_model.specs.Headline.{IsDisciplined, KeepsFull, Keeps, IsGoodJob}
@@ -19,9 +20,10 @@ use Rattle.hub_core.specs.Thorough.{IsThorough, IsThoroughOver}
 use Rattle.hub_core.specs.Seats.{IsOfWorkers}
 use Rattle.hub_core.specs.Seen.{Seen}
 use Rattle.hub_core.proofs.Counting.{some_is}
-use Rattle.hub_core.specs.Heard.{HeardAll}
+use Rattle.hub_core.specs.Heard.{HeardIn}
 use Rattle.shared_hub.specs.Ends.{IsNoMemory}
 use Rattle.shared_hub.specs.Leaving.{GoesThrough}
+use Rattle.shared_hub.proofs.Hearing.{new_hears_none}
 use Rattle.shared_hub.proofs.Told.{no_memory}
 
 abbrev disciplined : (jobs : List Job) (turns : List GroupTurn) → IsDisciplined jobs turns 0 [] []
@@ -80,15 +82,10 @@ new_drops_none Untold new = tt
 new_drops_none (Recorded r) new = subst (λ r. DropsIn 0 (Some r)) (sym new) refl
 new_drops_none (Full start events) new = subst (λ es. DropsIn 0 (record_in (Full start es))) (sym new.0) refl
 
-pub new_hears_none : (s : Story) → IsNewLink s → HeardAll [] (record_in s)
-new_hears_none Untold new = tt
-new_hears_none (Recorded r) new = subst (λ r. HeardAll [] (Some r)) (sym new) refl
-new_hears_none (Full start events) new = subst (λ es. HeardAll [] (record_in (Full start es))) (sym new.0) refl
-
 -- want of memory for the hub
 module _ (law : EverySafeInterleaving) (workers : ℕ) (tasks : List Task) (devices : List IndAddr) (turns : List GroupTurn) (s : Story) (place : ℕ) (report : Report) (why : HubFault) where
-  pub new_tells : IsNewLink s → report.log ≡ [] → report.dropped ≡ 0 → report.fault ≡ Some why → IsNoMemory why → TellsRun workers tasks devices turns s place report
-  new_tells new none none_dropped fault wants =
+  pub new_tells : IsNewLink s → report.log ≡ [] → report.heard ≡ [] → report.missed ≡ 0 → report.dropped ≡ 0 → report.fault ≡ Some why → IsNoMemory why → TellsRun workers tasks devices turns s place report
+  new_tells new none none_heard none_missed none_dropped fault wants =
       let empty : [] ≡ log_of report = sym (ap reverse none) in
       let faulty : report.fault ≡ None → ⊥ = λ fine. let z : Some why ≡ None = sym fault ∙ fine in cc in
       record {
@@ -106,5 +103,5 @@ module _ (law : EverySafeInterleaving) (workers : ℕ) (tasks : List Task) (devi
         over = λ fine. absurd (faulty fine);
         told = λ fine. absurd (faulty fine);
         closed = λ fine. absurd (faulty fine);
-        heard = λ fine. absurd (faulty fine);
+        heard = subst (λ (l : List Indication). HeardIn report.fault report.missed l (record_in s)) (sym none_heard) (subst (λ (n : ℕ). HeardIn report.fault n [] (record_in s)) (sym none_missed) (new_hears_none report.fault s new));
       }

@@ -15,21 +15,21 @@ use denote.Struct.Tuple.{TupleAt, parts, type_at}
 use denote.Struct.Declared.{shape}
 use Rattle.std.proofs.Crossing.{crosses}
 use Rattle.line_model.specs.declared.outside.link.Link.{Ghosts}
-use Rattle.line_model.proofs.group.Indication.TheSendSync as indication
-use Rattle.knx_model.proofs.lists.List.TheSendSync as list
-use Rattle.knx_model.proofs.no_memory.NoMemory.TheSendSync as no_memory
 use Rattle.hub_core.proofs.hub.Hub.TheSendSync as hub
+use Rattle.telegram_router.proofs.ends.Feed.TheSendSync as feed
 use Rattle.turn_cell.proofs.seat.Seat.TheSendSync as seat
 use Rattle.turn_cell.proofs.turn.Turn.TheSendSync as turn
 use Rattle.turn_cell.specs.contracts.seat.Seat as Seat
 use Rattle.turn_cell.specs.contracts.turn.Turn as Turn
+use Rattle.shared_hub.proofs.relay.Relay.TheSendSync as relay
 use Rattle.shared_hub.specs.contracts.item.Item as Item
+use Rattle.shared_hub.specs.contracts.relay.Relay as Relay
 use Rattle.shared_hub.specs.contracts.site.Site.{the_row}
 use Rattle.shared_hub.specs.contracts.site.SiteLogged.TheImpl as logged
 use Rattle.shared_hub.specs.contracts.site.Site.TheInside as inside
 
 pub fields_send : (T : RattleType) (g : Ghosts T.Denot) → IsSend T → IsSend (inside.the_row T g)
-fields_send T g s = recorded_send (inside.the_field T g).row _ _ (inside.the_type T g).to_one (struct_send (shape (inside.the_type T g)) (hub.the_send T g s, (search (sendable, crosses), (search (sendable, crosses, list.the_send, indication.the_send), (search (sendable, crosses, no_memory.the_send), tt)))))
+fields_send T g s = recorded_send (inside.the_field T g).row _ _ (inside.the_type T g).to_one (struct_send (shape (inside.the_type T g)) (hub.the_send T g s, (search (sendable, crosses, feed.the_send), (search (sendable, crosses), (search (sendable, crosses), tt)))))
 
 pub site_send : (T : RattleType) (g : Ghosts T.Denot) → IsSend T → IsSend (the_row T g)
 site_send T g s = search (sendable, fields_send T g s)
@@ -58,12 +58,12 @@ closure_send i layout kept name Ts s = param_send i _ (arg_send layout kept _ (d
 octet_send : IsSend (UInt w8)
 octet_send = search sendable
 
--- so the workers' goes, which has the runtime, the cell, a seat, a count and the gate
-pub workers_send : (R T G : RattleType) (g : Ghosts T.Denot) → IsSync R → IsSend T → IsSync G → (layout : Ty) (name : Sym) (ℓ ℓ' ℓ'' : Lifetime) (κ κ' κ'' : Lft)
-    → IsSend (param 1 (arg layout no (TupleAt name (ShrRef ℓ κ R ∷ ShrRef ℓ' κ' (cell_row T g) ∷ seat_row T g ∷ UInt w8 ∷ ShrRef ℓ'' κ'' G ∷ []))))
-workers_send R T G g r t e layout name ℓ ℓ' ℓ'' κ κ' κ'' =
-    closure_send 1 layout no name (ShrRef ℓ κ R ∷ ShrRef ℓ' κ' (cell_row T g) ∷ seat_row T g ∷ UInt w8 ∷ ShrRef ℓ'' κ'' G ∷ [])
-    (shr_send ℓ κ R r, (shr_send ℓ' κ' (cell_row T g) (cell_sync T g t), (seat_send T g t, (octet_send, (shr_send ℓ'' κ'' G e, tt)))))
+-- so the workers' goes, which has the runtime, the cell, the relay, a seat, a count and the gate
+pub workers_send : (R T G : RattleType) (g : Ghosts T.Denot) → IsSync R → IsSend T → IsSync G → (layout : Ty) (name : Sym) (ℓ ℓ' ℓ'' ℓ''' : Lifetime) (κ κ' κ'' κ''' : Lft)
+    → IsSend (param 1 (arg layout no (TupleAt name (ShrRef ℓ κ R ∷ ShrRef ℓ' κ' (cell_row T g) ∷ ShrRef ℓ''' κ''' Relay.the_row ∷ seat_row T g ∷ UInt w8 ∷ ShrRef ℓ'' κ'' G ∷ []))))
+workers_send R T G g r t e layout name ℓ ℓ' ℓ'' ℓ''' κ κ' κ'' κ''' =
+    closure_send 1 layout no name (ShrRef ℓ κ R ∷ ShrRef ℓ' κ' (cell_row T g) ∷ ShrRef ℓ''' κ''' Relay.the_row ∷ seat_row T g ∷ UInt w8 ∷ ShrRef ℓ'' κ'' G ∷ [])
+    (shr_send ℓ κ R r, (shr_send ℓ' κ' (cell_row T g) (cell_sync T g t), (shr_send ℓ''' κ''' Relay.the_row relay.the_sync, (seat_send T g t, (octet_send, (shr_send ℓ'' κ'' G e, tt))))))
 
 -- and the seat that it comes to
 pub back_send : (T : RattleType) (g : Ghosts T.Denot) → IsSend T → (layout : Ty) → IsSend (param 3 (arg layout no (seat_row T g)))

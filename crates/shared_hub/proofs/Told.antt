@@ -4,6 +4,7 @@ use Rattle.knx_model.specs.declared.address.IndAddr.{IndAddr}
 use Rattle.line_model.specs.declared.fault.HubFault.{HubFault}
 use Rattle.line_model.specs.declared.fault.HubFault.TheVariants.{NoMemory, LinkFailed, GatewayRefused, Flooded, WrongLine}
 use Rattle.line_model.specs.declared.group.GroupTurn.{GroupTurn}
+use Rattle.line_model.specs.declared.group.Indication.{Indication}
 use Rattle.line_model.specs.declared.log.LogEntry.{LogEntry}
 use Rattle.line_model.specs.declared.log.Report.{Report}
 use Rattle.line_model.specs.LinkStory.{Story}
@@ -11,8 +12,10 @@ use Rattle.line_model.specs.Log.{Job}
 use Rattle.line_model.specs.Record.{Entry}
 use Rattle.hub_work.specs.Downloaders.{Task}
 use Rattle.hub_core.specs.Commissioned.{TellsRun}
+use Rattle.hub_core.specs.Heard.{HeardIn}
 use Rattle.hub_core.specs.Promises.{FaultRightIn}
 use Rattle.shared_hub.specs.Ends.{IsNoMemory, TellsFault}
+use Rattle.shared_hub.proofs.Hearing.{broken_heard}
 
 -- want of memory has its cause always
 pub no_memory : (jobs : List Job) (log : List LogEntry) (fault : HubFault) (r : Option (List Entry)) → IsNoMemory fault → FaultRightIn jobs log (Some fault) r
@@ -33,3 +36,9 @@ pub told_for : (workers : ℕ) (tasks others : List Task) (devices same : List I
 told_for workers tasks others devices same turns groups story place report tasks_are devices_are turns_are tells =
     subst (λ (ts : List Task). TellsRun workers ts same groups story place report) tasks_are
     (subst (λ (ds : List IndAddr). TellsRun workers tasks ds groups story place report) devices_are (subst (λ (gs : List GroupTurn). TellsRun workers tasks devices gs story place report) turns_are tells))
+
+-- what was heard, where the run was broken off too
+pub told_heard : (ended told : Option HubFault) (missed : ℕ) (heard : List Indication) (r : Option (List Entry)) → TellsFault ended told → HeardIn ended missed heard r → HeardIn told missed heard r
+told_heard (Some fault) told missed heard r tells h = subst (λ f. HeardIn f missed heard r) (sym tells) h
+told_heard None None missed heard r tells h = h
+told_heard None (Some fault) missed heard r tells h = broken_heard fault missed heard r h

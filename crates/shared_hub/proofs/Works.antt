@@ -8,6 +8,7 @@ use mathlib.Core.Logic.{dite}
 use native.Mathlib.Decide.{ℕ_discrete}
 use lib.ListN.{get_elem?}
 use Rattle.atomic_table.proofs.Lists.{at_longer}
+use Rattle.atomic_table.specs.Seated.{TableId}
 use Rattle.turn_cell.specs.Seats.{Seated, with_turn, given_back, new_places}
 use Rattle.turn_cell.proofs.Sums.{prefix_self, prefix_trans}
 use Rattle.line_model.specs.declared.log.LogWhat.TheVariants as log
@@ -20,7 +21,7 @@ use Rattle.shared_hub.specs.Items.{HasFinished, IsOf}
 use Rattle.shared_hub.specs.Sites.{SiteSeen, items_of}
 use Rattle.shared_hub.specs.Steps.{HasFailed, Steps, Polls}
 use Rattle.shared_hub.specs.Works.{Leads, Stays, Sees, AllAt, Got, ComesTo, IsDone, WasDone, AllDone}
-use Rattle.shared_hub.proofs.Items.{opens_after}
+use Rattle.shared_hub.proofs.Items.{opens_after, relays_after}
 
 module _ {L : Type 0} where
   -- what was added is the caller's, or the end
@@ -134,15 +135,19 @@ module _ {L : Type 0} where
   pub stays_sees : (v w : Seated (Item L)) → Stays v w → Sees v w
   stays_sees v w s = record { cell = s.cell; free = s.free; parts = s.parts; sees = s.sees }
 
-  pub leads_after : (workers : ℕ) (xs ys : List (Item L)) → IsPrefix xs ys → Leads workers xs → Leads workers ys
-  leads_after workers xs ys p l = record { hub = l.hub; opens = opens_after xs ys l.hub p l.opens; enough = l.enough }
+  pub leads_after : (workers : ℕ) (relay : TableId) (xs ys : List (Item L)) → IsPrefix xs ys → Leads workers relay xs → Leads workers relay ys
+  leads_after workers relay xs ys p l = record { hub = l.hub; opens = opens_after xs ys l.hub p l.opens; enough = l.enough; relays = relays_after xs ys relay p l.relays }
 
-  pub leads_fewer : (few many : ℕ) (xs : List (Item L)) → few ≤ many → Leads many xs → Leads few xs
-  leads_fewer few many xs le l = record { hub = l.hub; opens = l.opens; enough = (let f = l.enough in omega (arith, le, f)) }
+  pub leads_fewer : (few many : ℕ) (relay : TableId) (xs : List (Item L)) → few ≤ many → Leads many relay xs → Leads few relay xs
+  leads_fewer few many relay xs le l = record { hub = l.hub; opens = l.opens; enough = (let f = l.enough in omega (arith, le, f)); relays = l.relays }
 
-  -- a site whose list leads so began with enough workers
-  pub leads_site : (workers : ℕ) (s : SiteSeen L) → Leads workers (items_of s) → workers ≤ length s.opening.value.crew
-  leads_site workers s l =
+  -- a site whose list leads so has a feed of this relay
+  pub relays_site : (workers : ℕ) (relay : TableId) (s : SiteSeen L) → Leads workers relay (items_of s) → s.relay.value ≡ relay
+  relays_site workers relay s l = (let z : Some s.relay.value ≡ Some relay = l.relays in cc)
+
+  -- and began with enough workers
+  pub leads_site : (workers : ℕ) (relay : TableId) (s : SiteSeen L) → Leads workers relay (items_of s) → workers ≤ length s.opening.value.crew
+  leads_site workers relay s l =
       let same : s.opening.value ≡ l.hub = (let z : Some s.opening.value ≡ Some l.hub = l.opens in cc) in
       subst (λ (h : Seen L). workers ≤ length h.crew) (sym same) l.enough
 
@@ -152,8 +157,8 @@ module _ {L : Type 0} where
 
   -- ---- all of them
 
-  pub was_now : (is_through : List (Item L) → Type 0) (workers : ℕ) (xs ys : List (Item L)) → Leads workers xs → IsPrefix xs ys → IsDone is_through ys → WasDone is_through ys
-  was_now is_through workers xs ys l p d = record { before = ys; begins = prefix_self ys; hub = l.hub; opens = opens_after xs ys l.hub p l.opens; done = d }
+  pub was_now : (is_through : List (Item L) → Type 0) (workers : ℕ) (relay : TableId) (xs ys : List (Item L)) → Leads workers relay xs → IsPrefix xs ys → IsDone is_through ys → WasDone is_through ys
+  was_now is_through workers relay xs ys l p d = record { before = ys; begins = prefix_self ys; hub = l.hub; opens = opens_after xs ys l.hub p l.opens; done = d }
 
   pub was_later : (is_through : List (Item L) → Type 0) (xs ys : List (Item L)) → IsPrefix xs ys → WasDone is_through xs → WasDone is_through ys
   was_later is_through xs ys p w = record { before = w.before; begins = prefix_trans w.before xs ys w.begins p; hub = w.hub; opens = w.opens; done = w.done }

@@ -7,7 +7,7 @@ abbrev pub IsNoMemory : HubFault → Type 0
 IsNoMemory (NoMemory want) = Unit {0}
 IsNoMemory _ = ⊥
 
--- the hub has ended so, or there was no memory for what was heard
+-- the hub has ended so, or there was no memory for its cell
 abbrev pub HasEndedSo : Option HubFault → HubFault → Type 0
 HasEndedSo ended fault = (ended ≡ Some fault) ⊎ IsNoMemory fault
 

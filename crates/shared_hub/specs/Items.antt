@@ -1,6 +1,7 @@
 -- What a site's list tells, by its items: the hub as it began, the log, whether nothing more is done, and whether a caller has done all that is his: a worker has where
 -- each job is taken and he holds none, the group thread has where each telegram is told.
 use Rattle.std.specs.Prelude.{◌≡◌, ℕ, Bool, true, false, ◌||◌, List, [], ◌∷◌, reverse, Option, Some, None}
+use Rattle.atomic_table.specs.Seated.{TableId}
 use Rattle.line_model.specs.declared.log.LogEntry.{LogEntry}
 use Rattle.line_model.specs.Log.{Job, TurnUnfinished}
 use Rattle.hub_work.specs.Books.{AreJobsOf}
@@ -12,8 +13,13 @@ use Rattle.shared_hub.specs.declared.item.Item.TheVariants.{Origin, Told, Ended}
 module _ {L : Type 0} where
   -- the hub as it began
   abbrev pub opening_in : List (Item L) → Option (Seen L)
-  opening_in (Origin hub ∷ items) = Some hub.value
+  opening_in (Origin hub relay ∷ items) = Some hub.value
   opening_in _ = None
+
+  -- the relay of its feed
+  abbrev pub relay_in : List (Item L) → Option TableId
+  relay_in (Origin hub relay ∷ items) = Some relay.value
+  relay_in _ = None
 
   -- the entries of the log, the oldest first
   abbrev pub entries_in : List (Item L) → List LogEntry
@@ -44,6 +50,6 @@ module _ {L : Type 0} where
 
   -- the item is made by this worker, 0 the group thread, or is the end
   abbrev pub IsOf : ℕ → Item L → Type 0
-  IsOf worker (Origin hub) = ⊥
+  IsOf worker (Origin hub relay) = ⊥
   IsOf worker (Told e) = e.worker ≡ worker
   IsOf worker (Ended fault) = Unit {0}

@@ -1,3 +1,4 @@
+pub mod Relays
 pub mod Items
 pub mod Sites
 pub mod Steps

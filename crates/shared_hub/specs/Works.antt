@@ -3,19 +3,21 @@ use Rattle.std.specs.Prelude.{◌≡◌, ◌⊎◌, ℕ, ◌≤◌, ◌++◌, tr
 use mathlib.Core.Option.{some}
 use mathlib.Core.List.{IsPrefix}
 use lib.ListN.{get_elem?}
+use Rattle.atomic_table.specs.Seated.{TableId}
 use Rattle.turn_cell.specs.Seats.{Seated}
 use Rattle.hub_core.specs.Seen.{Seen}
 use Rattle.shared_hub.specs.declared.item.Item.{Item}
 use Rattle.shared_hub.specs.declared.site.Step.{Step}
 use Rattle.shared_hub.specs.declared.site.Step.TheVariants.{Ready, Failed}
-use Rattle.shared_hub.specs.Items.{opening_in, has_ended, HasFinished, IsOf}
+use Rattle.shared_hub.specs.Items.{opening_in, relay_in, has_ended, HasFinished, IsOf}
 
 module _ {L : Type 0} where
-  -- the list begins with a hub that has at least so many workers
-  pub record Leads (workers : ℕ) (items : List (Item L)) : Type 0 where
+  -- the list begins with a hub that has at least so many workers, and with this relay
+  pub record Leads (workers : ℕ) (relay : TableId) (items : List (Item L)) : Type 0 where
     pub hub : Seen L
     pub opens : opening_in items ≡ Some hub
     pub enough : workers ≤ length hub.crew
+    pub relays : relay_in items ≡ Some relay
 
   -- the seat has no turn, as many parts, and sees what it saw
   pub record Stays (old new : Seated (Item L)) : Type 0 where

@@ -4,12 +4,18 @@
 
 mod crew;
 mod ending;
+mod heard;
 mod item;
+mod listener;
+mod relay;
 mod run;
 mod seated;
 mod site;
 
+pub use heard::Heard;
 pub use item::Item;
+pub use listener::Listener;
+pub use relay::Relay;
 pub use run::commission;
-pub use seated::{send_groups, work};
+pub use seated::{listen, send_groups, work};
 pub use site::{Call, Site, Step};

@@ -1,16 +1,22 @@
 //! The run of a line.
 
-ghost use Rattle.std.specs.Prelude.{◌≡◌, ◌<◌, ◌≤◌, [], None, Some, length, replicate};
+ghost use Rattle.std.specs.Prelude.{◌≡◌, ◌<◌, ◌≤◌, [], IfErr, IfOk, IfSome, None, Some, length, map, replicate};
 ghost use Rattle.std.specs.List.{AllByRecursion};
 ghost use Rattle.hub_core.specs.Commissioned.{Commissioned};
 ghost use Rattle.hub_core.specs.Left.{AllDone};
+ghost use Rattle.hub_core.specs.Seen.{tasks_seen};
+ghost use Rattle.hub_work.specs.declared.job.HubJob.{HubJob as JobOfHub};
 ghost use Rattle.hub_work.specs.Requests.{IsTurnInRange};
 ghost use Rattle.line_model.specs.LinkStory.{IsNewLink};
-ghost use Rattle.shared_hub.specs.Sites.{IsOpening, fault_of};
+ghost use Rattle.shared_hub.specs.Sites.{IsOpening};
+ghost use Rattle.shared_hub.specs.Ends.{HasEndedSo};
 ghost use Rattle.shared_hub.specs.Runs.{RunsOf};
+ghost use Rattle.telegram_router.specs.Ends.{first_ear, first_feed};
 
 use crate::crew::all_done;
 use crate::ending::Ending;
+use crate::listener::Listener;
+use crate::relay::Relay;
 use crate::site::{Parts, Site};
 use hub_core::{GroupTurn, Hub, HubFault, HubJob};
 use knx_model::{List, NoMemory};
@@ -19,7 +25,32 @@ use line_model::{Gate, Link, Report};
 use std::alloc::Global;
 use std::sync::Wait;
 use std::thread::Threads;
+use telegram_router::Feed;
 use turn_cell::Turn;
+
+/// A relay with both its ends.
+#[derive(Drop)]
+struct Listening {
+    relay: Relay,
+    feed: Feed,
+    listener: Listener,
+}
+
+impl Listening {
+    /// It takes all memory that listening needs to the first 4,096 group telegrams.
+    fn new(alloc: Global) -> Result<Listening, NoMemory>
+        ensures feed { IfOk result (λ made. made.feed ≡ first_feed made.relay) }
+        ensures listener { IfOk result (λ made. made.listener ≡ first_ear made.relay) }
+    {
+        let (relay, feed, ear) = Relay::new(alloc)?;
+        let listener = Listener::new(alloc, ear)?;
+        Ok(Listening {
+            relay,
+            feed,
+            listener,
+        })
+    }
+}
 
 /// What is told where nothing was done, since there was no memory for a hub.
 fn nothing_done(alloc: Global, no_memory: NoMemory) -> Report
@@ -38,16 +69,37 @@ fn nothing_done(alloc: Global, no_memory: NoMemory) -> Report
     }
 }
 
+/// Why a run ends before its closing: its hub has ended so, or it was refused a cell.
+fn broken_off(ended: Option<HubFault>, refused: Option<NoMemory>) -> Option<HubFault>
+    ensures cause { IfSome result (HasEndedSo ended) }
+    ensures stands { result ≡ None → ended ≡ None }
+    ensures given { result ≡ None → refused ≡ None }
+{
+    if let Some(fault) = ended {
+        return Some(fault);
+    }
+    match refused {
+        Some(no_memory) => Some(HubFault::NoMemory(no_memory)),
+        None => None,
+    }
+}
+
 /// Closes the run that is left so, or was refused a cell, and hands the link back with what is told.
-fn ended<R: Wait, L: Link>(rt: &R, site: Site<L>, refused: Option<NoMemory>) -> (L, Report)
-    requires done { fault_of site ≡ None → refused ≡ None → AllDone site.hub }
+fn ended<R: Wait, L: Link>(
+    rt: &R,
+    site: Site<L>,
+    relay: &Relay,
+    listener: Listener,
+    refused: Option<NoMemory>,
+) -> (L, Report)
+    requires done { site.hub.fault ≡ None → refused ≡ None → AllDone site.hub }
+    requires feed { site.relay.value ≡ relay.now }
+    requires listens { listener.router ≡ relay.now }
     ensures { RunsOf L.story L.place L.script L.faults site.opening.value result.0 result.1 }
 {
-    let Parts { hub, heard, fault } = site.apart();
-    let ended = match fault {
-        Some(fault) => Some(fault),
-        None => refused.map(HubFault::NoMemory),
-    };
+    let Parts { mut hub, feed } = site.apart();
+    let heard = listener.close(rt, relay, feed, &mut hub);
+    let ended = broken_off(hub.fault(), refused);
     Ending { hub, heard }.end(rt, ended)
 }
 
@@ -56,27 +108,73 @@ fn run<R: Threads + Wait + Sync, L: Link + Send, G: Gate + Sync>(
     rt: &R,
     alloc: Global,
     hub: Hub<L>,
+    listening: Listening,
     workers: u8,
     gate: &G,
 ) -> (L, Report)
     requires opening { IsOpening L.story hub }
     requires crew { hub.crew ≡ replicate workers None }
+    requires feed { listening.feed ≡ first_feed listening.relay }
+    requires listener { listening.listener ≡ first_ear listening.relay }
     requires some_worker { 1 ≤ workers }
     requires few_workers { workers ≤ 8 }
     ensures { RunsOf L.story L.place L.script L.faults hub result.0 result.1 }
 {
-    match Turn::new(alloc, Site::new(alloc, hub)) {
+    let Listening {
+        relay,
+        feed,
+        listener,
+    } = listening;
+    match Turn::new(alloc, Site::new(hub, &relay, feed)) {
         Ok((cell, seat)) => {
-            let site = all_done(rt, cell, seat, workers, gate);
+            let (site, listener) = all_done(rt, cell, seat, &relay, listener, workers, gate);
             site.keeps();
-            ended(rt, site, None)
+            ended(rt, site, &relay, listener, None)
         }
-        Err((site, no_memory)) => ended(rt, site, Some(no_memory)),
+        Err((site, no_memory)) => ended(rt, site, &relay, listener, Some(no_memory)),
+    }
+}
+
+/// A hub, and what listening needs. All memory of the run but that of its cell is taken here; for want of it the link is handed back.
+fn begun<L: Link>(
+    alloc: Global,
+    jobs: List<HubJob>,
+    groups: List<GroupTurn>,
+    workers: u8,
+    link: L,
+) -> Result<(Hub<L>, Listening), (L, NoMemory)>
+    requires some_worker { 1 ≤ workers }
+    requires few_workers { workers ≤ 8 }
+    requires few_jobs { length jobs < 4294967296 }
+    requires few_groups { length groups < 4294967296 }
+    requires sendable { AllByRecursion IsTurnInRange groups }
+    requires new { IsNewLink (L.story link) }
+    ensures link { IfOk result (λ made. made.0.link ≡ link) }
+    ensures jobs { IfOk result (λ made. tasks_seen made.0.jobs ≡ tasks_seen jobs) }
+    ensures devices { IfOk result (λ made. made.0.devices ≡ map (λ (j : JobOfHub). j.device) jobs) }
+    ensures turns { IfOk result (λ made. made.0.turns ≡ groups) }
+    ensures crew { IfOk result (λ made. made.0.crew ≡ replicate workers None) }
+    ensures log { IfOk result (λ made. made.0.log ≡ []) }
+    ensures fault { IfOk result (λ made. made.0.fault ≡ None) }
+    ensures missed { IfOk result (λ made. made.0.missed ≡ 0) }
+    ensures unbegun { IfOk result (λ made. made.0.closing ≡ None) }
+    ensures feed { IfOk result (λ made. made.1.feed ≡ first_feed made.1.relay) }
+    ensures listener { IfOk result (λ made. made.1.listener ≡ first_ear made.1.relay) }
+    ensures handed_back { IfErr result (λ e. e.0 ≡ link) }
+{
+    let listening = match Listening::new(alloc) {
+        Ok(listening) => listening,
+        Err(no_memory) => return Err((link, no_memory)),
+    };
+    match Hub::begin(alloc, jobs, groups, workers, link) {
+        Ok(hub) => Ok((hub, listening)),
+        Err(refused) => Err(refused),
     }
 }
 
 /// Commissions a line by 1 to 8 workers: goes through all jobs, sends all group telegrams, and closes, over a link on which nothing was done. The gate is passed
-/// between taking a job and starting it. It gives the link back, and what is told of the run; want of memory is the report's fault.
+/// between taking a job and starting it. It gives the link back, and what is told of the run. Want of memory before the first turn is the report's fault; later a
+/// group telegram that is heard and can't be kept is counted as missed.
 pub fn commission<R: Threads + Wait + Sync, L: Link + Send, G: Gate + Sync>(
     rt: &R,
     alloc: Global,
@@ -94,8 +192,8 @@ pub fn commission<R: Threads + Wait + Sync, L: Link + Send, G: Gate + Sync>(
     requires new { IsNewLink (L.story link) }
     ensures { Commissioned L.story L.place L.script L.faults workers jobs groups link result.0 result.1 }
 {
-    match Hub::begin(alloc, jobs, groups, workers, link) {
-        Ok(hub) => run(rt, alloc, hub, workers, gate),
+    match begun(alloc, jobs, groups, workers, link) {
+        Ok((hub, listening)) => run(rt, alloc, hub, listening, workers, gate),
         Err((link, no_memory)) => {
             every_safe_interleaving();
             (link, nothing_done(alloc, no_memory))

@@ -4,6 +4,8 @@ ghost use Rattle.std.specs.Prelude.{◌≡◌, ◌≤◌, false};
 ghost use Rattle.shared_hub.specs.Items.{HasFinished, HasTold};
 ghost use Rattle.shared_hub.specs.Works.{ComesTo, Got, IsDone, Leads, Stays};
 
+use crate::listener::Listener;
+use crate::relay::Relay;
 use crate::site::{Call, Site, Step};
 use line_model::{Gate, Link};
 use std::sync::Wait;
@@ -13,6 +15,7 @@ use turn_cell::{Seat, Turn};
 fn turn<R: Wait, L: Link>(
     rt: &R,
     cell: &Turn<Site<L>>,
+    relay: &Relay,
     seat: &mut Seat<Site<L>>,
     worker: u8,
     call: Call,
@@ -20,13 +23,13 @@ fn turn<R: Wait, L: Link>(
     requires of { seat.old.cell ≡ cell.now.id }
     requires free { seat.old.turn ≡ false }
     requires from_1 { 1 ≤ worker }
-    requires leads { Leads worker seat.old.seen }
+    requires leads { Leads worker relay.now seat.old.seen }
     ensures seat { Stays seat.old seat.new }
     ensures got { Got worker seat.old seat.new }
     ensures comes { ComesTo (HasFinished worker) result seat.new.seen }
 {
     let mut site = cell.take(rt, seat);
-    let came = site.step(worker, call);
+    let came = site.step(rt, relay, worker, call);
     cell.give(seat, site);
     came
 }
@@ -36,6 +39,7 @@ fn turn<R: Wait, L: Link>(
 pub fn work<R: Wait, L: Link, G: Gate>(
     rt: &R,
     cell: &Turn<Site<L>>,
+    relay: &Relay,
     seat: &mut Seat<Site<L>>,
     worker: u8,
     gate: &G,
@@ -43,14 +47,14 @@ pub fn work<R: Wait, L: Link, G: Gate>(
     requires of { seat.old.cell ≡ cell.now.id }
     requires free { seat.old.turn ≡ false }
     requires from_1 { 1 ≤ worker }
-    requires leads { Leads worker seat.old.seen }
+    requires leads { Leads worker relay.now seat.old.seen }
     ensures seat { Stays seat.old seat.new }
     ensures mine { Got worker seat.old seat.new }
     ensures done { IsDone (HasFinished worker) seat.new.seen }
 {
     let mut call = Call::Step;
     for _ in rt.forever() {
-        call = match turn(rt, cell, seat, worker, call) {
+        call = match turn(rt, cell, relay, seat, worker, call) {
             Step::Took(job) => {
                 gate.pass(job);
                 Call::Step
@@ -67,36 +71,63 @@ pub fn work<R: Wait, L: Link, G: Gate>(
 fn group_turn<R: Wait, L: Link>(
     rt: &R,
     cell: &Turn<Site<L>>,
+    relay: &Relay,
     seat: &mut Seat<Site<L>>,
     call: Call,
 ) -> Step
     requires of { seat.old.cell ≡ cell.now.id }
     requires free { seat.old.turn ≡ false }
+    requires leads { Leads 0 relay.now seat.old.seen }
     ensures seat { Stays seat.old seat.new }
     ensures got { Got 0 seat.old seat.new }
     ensures comes { ComesTo HasTold result seat.new.seen }
 {
     let mut site = cell.take(rt, seat);
-    let came = site.tell(call);
+    let came = site.tell(rt, relay, call);
     cell.give(seat, site);
     came
 }
 
-/// Sends the group telegrams in the order of their numbers, turn by turn, until each is told, or the run has ended.
-pub fn send_groups<R: Wait, L: Link>(rt: &R, cell: &Turn<Site<L>>, seat: &mut Seat<Site<L>>)
+/// Sends the group telegrams in the order of their numbers, turn by turn, until each is told, or the run has ended; and listens between its turns.
+pub fn send_groups<R: Wait, L: Link>(
+    rt: &R,
+    cell: &Turn<Site<L>>,
+    relay: &Relay,
+    seat: &mut Seat<Site<L>>,
+    listener: &mut Listener,
+)
     requires of { seat.old.cell ≡ cell.now.id }
     requires free { seat.old.turn ≡ false }
+    requires leads { Leads 0 relay.now seat.old.seen }
+    requires listens { listener.old.router ≡ relay.now }
     ensures seat { Stays seat.old seat.new }
     ensures mine { Got 0 seat.old seat.new }
     ensures done { IsDone HasTold seat.new.seen }
+    ensures listens { listener.new.router ≡ listener.old.router }
 {
     let mut call = Call::Step;
     for _ in rt.forever() {
-        call = match group_turn(rt, cell, seat, call) {
+        listener.collect(rt, relay);
+        call = match group_turn(rt, cell, relay, seat, call) {
             Step::Took(_) | Step::Goes => Call::Step,
             Step::Waits => Call::Poll,
             Step::Ready | Step::Failed => return,
         };
+    }
+    unreachable!()
+}
+
+/// Listens until no worker is left. It takes no turn: it sleeps until something was heard.
+pub fn listen<R: Wait>(rt: &R, relay: &Relay, listener: &mut Listener)
+    requires of { listener.old.router ≡ relay.now }
+    ensures of { listener.new.router ≡ listener.old.router }
+{
+    for _ in rt.forever() {
+        listener.collect(rt, relay);
+        if relay.has_rung_last() {
+            return;
+        }
+        relay.sleep(rt);
     }
     unreachable!()
 }

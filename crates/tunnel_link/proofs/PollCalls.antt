@@ -16,7 +16,7 @@ use Rattle.tunnel_link.specs.declared.came.What.TheVariants as came
 use Rattle.tunnel_link.specs.declared.known.Known.{Known}
 use Rattle.tunnel_link.specs.Goes.{Keeps}
 use Rattle.tunnel_link.specs.Rights.{IsRight, IsKept}
-use Rattle.tunnel_link.specs.Adds.{place_of, Grows, IsNothing, PutsNone, One, DoesSo, OrLoses, PollAdds, moments_on, is_told}
+use Rattle.tunnel_link.specs.Adds.{place_of, Grows, IsNothing, PutsNone, One, AtMostOne, Fails, DoesSo, OrLoses, PollAdds, moments_on, is_told}
 use Rattle.tunnel_link.specs.Alone.{Each, LeavesAlone}
 use Rattle.tunnel_link.specs.Calls.{AnswersSo, is_there}
 use Rattle.tunnel_link.proofs.Alone.{is_alone, waits_alone, answer_alone}
@@ -54,10 +54,42 @@ does_puts came.Tunnel loss now l d = loses_puts loss l d
 does_puts (came.Up tunnel) loss now l d = loses_puts loss l d.0
 does_puts (came.Frame frame) loss now l d = one_puts _ l (λ m h octets p. absurd (let e : (Takes h.octets ≡ Puts octets) = sym h.takes ∙ p in cc)) d.0
 
-pub waited_puts : (k : Known) (old ws : List Placed) → Waited k old ws → Every PutsNone (moments_on old ws)
-waited_puts k old ws (InTime f a) = nothing_puts (moments_on old ws) a
-waited_puts k old ws (Lapsed h one) = one_puts IsLoss (moments_on old ws) (λ m h octets p. absurd (let e : (Loses ≡ Puts octets) = sym h ∙ p in cc)) one
-waited_puts k old ws (Unheard h a) = nothing_puts (moments_on old ws) a
+-- ---- and one thing at most is taken or lost
+
+that_one : (P : Moment → Type 0) (l : List Moment) → ((m : Moment) → P m → PutsNone m) → One P l → One PutsNone l
+that_one P l h o = record { newer = o.newer; m = o.m; older = o.older; all = o.all; is = h o.m o.is; newer_nothing = o.newer_nothing; older_nothing = o.older_nothing }
+
+loss_puts : (m : Moment) → m.what ≡ Loses → PutsNone m
+loss_puts m h octets p = absurd (let e : (Loses ≡ Puts octets) = sym h ∙ p in cc)
+
+take_puts : (m : Moment) (taken : List ℕ) → m.what ≡ Takes taken → PutsNone m
+take_puts m taken h octets p = absurd (let e : (Takes taken ≡ Puts octets) = sym h ∙ p in cc)
+
+one_loss : (loss : Loss) (l : List Moment) → OrLoses loss l → AtMostOne l
+one_loss loss.Stays l o = inl o
+one_loss loss.Ended l o = inr (that_one _ l loss_puts o)
+one_loss loss.Told l o = inr (that_one _ l loss_puts o)
+
+at_most_one : (what : What) (loss : Loss) (now : ℕ) (l : List Moment) → DoesSo what loss now l → AtMostOne l
+at_most_one came.Quiet loss now l d = one_loss loss l d
+at_most_one came.Dropped loss now l (inl d) = one_loss loss l d
+at_most_one came.Dropped loss now l (inr d) = inr (that_one _ l (λ m h. take_puts m h.octets h.takes) d.0)
+at_most_one came.Tunnel loss now l d = one_loss loss l d
+at_most_one (came.Up tunnel) loss now l d = one_loss loss l d.0
+at_most_one (came.Frame frame) loss now l d = inr (that_one _ l (λ m h. take_puts m h.octets h.takes) d.0)
+
+fails_so : (what : What) (loss : Loss) (now : ℕ) (old added : List Placed) → DoesSo what loss now (moments_on old added) → Fails old added
+fails_so what loss now old added d = record { puts_none = does_puts what loss now (moments_on old added) d; at_most_one = at_most_one what loss now (moments_on old added) d }
+
+-- nothing more at a moment at which nothing is done
+one_still : (m : Moment) (l : List Moment) → IsNothing m → AtMostOne l → AtMostOne (m ∷ l)
+one_still m l n (inl a) = inl (n, a)
+one_still m l n (inr o) = inr (record { newer = m ∷ o.newer; m = o.m; older = o.older; all = ap (λ (x : List Moment). m ∷ x) o.all; is = o.is; newer_nothing = (n, o.newer_nothing); older_nothing = o.older_nothing })
+
+pub waited_fails : (k : Known) (old ws : List Placed) → Waited k old ws → Fails old ws
+waited_fails k old ws (InTime f a) = record { puts_none = nothing_puts (moments_on old ws) a; at_most_one = inl a }
+waited_fails k old ws (Lapsed h one) = record { puts_none = one_puts IsLoss (moments_on old ws) loss_puts one; at_most_one = inr (that_one IsLoss (moments_on old ws) loss_puts one) }
+waited_fails k old ws (Unheard h a) = record { puts_none = nothing_puts (moments_on old ws) a; at_most_one = inl a }
 
 -- ---- a sending after it is nothing
 
@@ -99,7 +131,7 @@ module _ (result : Result Came HubFault) (next : Known) (a : Answer) (old ws : L
     answered = refl;
     does = c.answers.does;
   })
-  adds_none (Err fault) g tells = does_puts a.what a.loss _ (moments_on old (p ∷ ws)) c.answers.does
+  adds_none (Err fault) g tells = fails_so a.what a.loss _ old (p ∷ ws) c.answers.does
 
   adds_one : (r : Result Came HubFault) (octets : List ℕ) (at : ℕ) → IfOk r (λ (x : Came). x ≡ record { what = a.what; loss = a.loss; sent = true }) → asks_to_leave (Some octets) ≡ is_told a.loss → deed (channel (entries ((p ∷ ws) ++ old))) (entry (Put octets) p.what.now) ≡ Nothing
       → PollAdds r old (record { at = at; what = entry (Put octets) p.what.now } ∷ p ∷ ws)
@@ -117,7 +149,10 @@ module _ (result : Result Came HubFault) (next : Known) (a : Answer) (old ws : L
     answered = refl;
     does = does_more a.what a.loss _ _ (moments_on old (p ∷ ws)) n c.answers.does;
   })
-  adds_one (Err fault) octets at g tells n = ((λ o h. absurd (let e : (Nothing ≡ Puts o) = sym n ∙ h in cc)), does_puts a.what a.loss _ (moments_on old (p ∷ ws)) c.answers.does)
+  adds_one (Err fault) octets at g tells n = record {
+    puts_none = ((λ o h. absurd (let e : (Nothing ≡ Puts o) = sym n ∙ h in cc)), does_puts a.what a.loss _ (moments_on old (p ∷ ws)) c.answers.does);
+    at_most_one = one_still _ (moments_on old (p ∷ ws)) n (at_most_one a.what a.loss _ (moments_on old (p ∷ ws)) c.answers.does);
+  }
 
 -- ---- after it
 
@@ -192,6 +227,6 @@ module _ (result : Result Came HubFault) (wait : ℕ) (new : Known) (before betw
           told = ap places_in e ∙ told;
           added = p ∷ ws;
           grown = rw e (added_of (place_of before) (place_of between) old (p ∷ ws) above upto);
-          is = subst (λ (x : Result Came HubFault). PollAdds x old (p ∷ ws)) (sym f.answer) (does_puts a.what a.loss _ (moments_on old (p ∷ ws)) c.answers.does);
+          is = subst (λ (x : Result Came HubFault). PollAdds x old (p ∷ ws)) (sym f.answer) (fails_so a.what a.loss _ old (p ∷ ws) c.answers.does);
         };
       }

@@ -20,7 +20,7 @@ use Rattle.tunnel_link.proofs.Places.{added_of, where_after}
 use Rattle.tunnel_link.proofs.Stories.{goes_then, stays, sends_goes, sends_or_goes, polls_goes, nothing_goes}
 use Rattle.tunnel_link.proofs.Polls.{newest_last, waits_all, waits_right}
 use Rattle.tunnel_link.proofs.PollEnds.{Comes, comes}
-use Rattle.tunnel_link.proofs.PollCalls.{PollOf, by_answer, waited_puts}
+use Rattle.tunnel_link.proofs.PollCalls.{PollOf, by_answer, waited_fails}
 use Rattle.tunnel_link.proofs.PollParts.{NoPoll}
 
 -- every datagram that is a connect response has a tunnel's address where it is one
@@ -70,7 +70,7 @@ module _ (result : Result Came HubFault) (wait : ℕ) (k new : Known) (before af
           told = told;
           added = g.waits.waits;
           grown = added_of (place_of before) (place_of after) old g.waits.waits g.waits.above g.waits.upto;
-          is = subst (λ (x : Result Came HubFault). PollAdds x old g.waits.waits) (sym u.answer) (waited_puts k old g.waits.waits (waits_all k old g.waits.waits (kept.fits calm) g.waits.times));
+          is = subst (λ (x : Result Came HubFault). PollAdds x old g.waits.waits) (sym u.answer) (waited_fails k old g.waits.waits (waits_all k old g.waits.waits (kept.fits calm) g.waits.times));
         };
       }
 

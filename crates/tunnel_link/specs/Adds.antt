@@ -207,9 +207,17 @@ pub record Brings (came : Came) (old added : List Placed) : Type 0 where
   pub answered : came.sent ≡ is_any sent
   pub does : DoesSo came.what came.loss (newest_time (entries (added ++ old))) (moments_on old added)
 
+-- where it failed: nothing is put, and one thing at most is taken or lost
+abbrev pub AtMostOne : List Moment → Type 0
+AtMostOne l = Every IsNothing l ⊎ One PutsNone l
+
+pub record Fails (old added : List Placed) : Type 0 where
+  pub puts_none : Every PutsNone (moments_on old added)
+  pub at_most_one : AtMostOne (moments_on old added)
+
 abbrev pub PollAdds : Result Came HubFault → List Placed → List Placed → Type 0
 PollAdds (Ok came) old added = Brings came old added
-PollAdds (Err fault) old added = Every PutsNone (moments_on old added)
+PollAdds (Err fault) old added = Fails old added
 
 -- ---- promptness: each poll that was added was prompt
 

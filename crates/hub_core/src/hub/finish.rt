@@ -1,6 +1,6 @@
 //! The closing.
 
-ghost use Rattle.std.specs.Prelude.{◌≡◌, ◌≢◌, ◌≤◌, List, IfErr, IfOk, OnOk, Some, None};
+ghost use Rattle.std.specs.Prelude.{◌≡◌, ◌≢◌, ◌≤◌, List, IfErr, IfOk, OnOk, Some, None, OnErr};
 ghost use Rattle.line_model.specs.Log.{Job, AllOver, TurnUnfinished};
 ghost use Rattle.tunnel_link.specs.Adds.{AllNothing, Growing, HasActed};
 ghost use Rattle.tunnel_link.specs.Rights.{WhereTold};
@@ -11,7 +11,7 @@ ghost use Rattle.line_model.specs.Record.{entries};
 ghost use Rattle.hub_core.specs.Came.{Comes};
 ghost use Rattle.hub_core.specs.Closes.{AsksNow, Closes, EndsAs, FinishesSo, GoesSo, MayAwaitNow, OverExactly, Resumes, WaitsNow};
 ghost use Rattle.hub_core.specs.Leaving.{ClosesOn, WaitsOn};
-ghost use Rattle.hub_core.specs.Hears.{HearsSo, heard_at_end};
+ghost use Rattle.hub_core.specs.Hears.{HearsFew, HearsSo, heard_at_end};
 ghost use Rattle.hub_core.specs.Keeps.{IsAllDone};
 ghost use Rattle.hub_core.specs.Polls.{Polls, PollsInClosing, SendsOnly};
 ghost use Rattle.hub_core.specs.Pumps.{AddsSo};
@@ -31,6 +31,7 @@ impl<L: Link> Hub<L> {
         ensures since { Since L.story L.script L.faults self.old self.new }
         ensures stands { OnOk result (self.new.fault ≡ None) }
         ensures heard { IfOk result (λ done. HearsSo (heard_at_end done) (L.story self.old.link) (L.story self.new.link)) }
+        ensures few { OnErr result (HearsFew (L.story self.old.link) (L.story self.new.link)) }
         ensures closes { OnOk result (AddsSo (Closes self.old.closing self.new.closing) (L.story self.old.link) (L.story self.new.link)) }
         ensures ends { IfOk result (λ done. EndsAs done self.new.closing (L.story self.new.link)) }
         ensures goes { IfOk result (λ done. GoesSo done (L.story self.old.link) (L.story self.new.link)) }
@@ -60,6 +61,7 @@ impl<L: Link> Hub<L> {
         requires awaits { MayAwaitNow self.old.closing (L.story self.old.link) }
         ensures since { Since L.story L.script L.faults self.old self.new }
         ensures heard { IfOk result (λ done. HearsSo (heard_at_end done) (L.story self.old.link) (L.story self.new.link)) }
+        ensures few { OnErr result (HearsFew (L.story self.old.link) (L.story self.new.link)) }
         ensures closes { OnOk result (AddsSo (Closes self.old.closing self.new.closing) (L.story self.old.link) (L.story self.new.link)) }
         ensures ends { IfOk result (λ done. EndsAs done self.new.closing (L.story self.new.link)) }
         ensures goes { IfOk result (λ done. GoesSo done (L.story self.old.link) (L.story self.new.link)) }
@@ -87,6 +89,7 @@ impl<L: Link> Hub<L> {
         requires over { IsAllDone self.old.devices self.old.turns self.old.log }
         ensures since { Since L.story L.script L.faults self.old self.new }
         ensures heard { IfOk result (λ done. HearsSo (heard_at_end done) (L.story self.old.link) (L.story self.new.link)) }
+        ensures few { OnErr result (HearsFew (L.story self.old.link) (L.story self.new.link)) }
         ensures resumes { OnOk result (AddsSo (Resumes self.old.closing self.new.closing) (L.story self.old.link) (L.story self.new.link)) }
         ensures ends { IfOk result (λ done. EndsAs done self.new.closing (L.story self.new.link)) }
         ensures goes { IfOk result (λ done. GoesSo done (L.story self.old.link) (L.story self.new.link)) }
@@ -119,6 +122,7 @@ impl<L: Link> Hub<L> {
         requires waits { WaitsNow self.old.closing (L.story self.old.link) }
         ensures since { Since L.story L.script L.faults self.old self.new }
         ensures heard { IfOk result (λ done. HearsSo (heard_at_end done) (L.story self.old.link) (L.story self.new.link)) }
+        ensures few { OnErr result (HearsFew (L.story self.old.link) (L.story self.new.link)) }
         ensures resumes { OnOk result (AddsSo (Resumes self.old.closing self.new.closing) (L.story self.old.link) (L.story self.new.link)) }
         ensures ends { IfOk result (λ done. EndsAs done self.new.closing (L.story self.new.link)) }
         ensures goes { IfOk result (λ done. GoesSo done (L.story self.old.link) (L.story self.new.link)) }

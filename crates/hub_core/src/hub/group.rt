@@ -6,7 +6,7 @@ ghost use Rattle.tunnel_link.specs.Alone.{Each, LeavesAlone};
 ghost use Rattle.line_model.specs.Log.{IsNextTurn, TurnUnfinished};
 ghost use Rattle.hub_core.specs.Telegrams.{GroupTells};
 ghost use Rattle.hub_core.specs.declared.answers.GroupDid.TheVariants as step;
-ghost use Rattle.hub_core.specs.Hears.{HearsSo};
+ghost use Rattle.hub_core.specs.Hears.{HearsFew, HearsSo};
 ghost use Rattle.hub_core.specs.Left.{AllDone, IsLeft};
 ghost use Rattle.hub_core.specs.Puts.{PutsRequest};
 ghost use Rattle.hub_core.specs.Waits.{WaitsExactly};
@@ -41,6 +41,7 @@ impl<L: Link> Hub<L> {
         ensures since { Since L.story L.script L.faults self.old self.new }
         ensures stands { OnOk result (self.new.fault ≡ None) }
         ensures heard { OnOk result (HearsSo None (L.story self.old.link) (L.story self.new.link)) }
+        ensures few { OnErr result (HearsFew (L.story self.old.link) (L.story self.new.link)) }
         ensures waits { IfOk result (λ did. WaitsExactly self.old.jobs self.old.turns self.old.log (L.place self.old.link) k did (L.story self.old.link)) }
         ensures told { IfOk result (λ did. GroupTells (L.place self.old.link) k did self.old.log self.new.log) }
         ensures untold { OnErr result (self.new.log ≡ self.old.log) }

@@ -1,13 +1,13 @@
 //! One poll of the link, with what is due before it.
 
-ghost use Rattle.std.specs.Prelude.{◌≡◌, ◌≤◌, ◌||◌, is_some, IfErr, IfOk, OnOk, Some, None};
+ghost use Rattle.std.specs.Prelude.{◌≡◌, ◌≤◌, ◌||◌, is_some, IfErr, IfOk, OnOk, Some, None, OnErr};
 ghost use Rattle.tunnel_link.specs.Adds.{AllNothing, Growing, HasActed, Ready};
 ghost use Rattle.tunnel_link.specs.Alone.{Each, EndsNone, LeavesAlone};
 ghost use Rattle.tunnel_link.specs.Rights.{WhereTold};
 ghost use Rattle.hub_core.specs.Came.{Comes};
 ghost use Rattle.hub_core.specs.Closes.{HasDone, MayAwaitNow, Resumes, WaitsNow};
 ghost use Rattle.hub_core.specs.Leaving.{WaitsOn};
-ghost use Rattle.hub_core.specs.Hears.{HearsSo, heard_of};
+ghost use Rattle.hub_core.specs.Hears.{HearsFew, HearsSo, heard_of};
 ghost use Rattle.hub_core.specs.Polls.{Polls, SendsOnly};
 ghost use Rattle.hub_core.specs.Pumps.{AddsSo, AnswersSo, PumpsSo, Does, is_late_now, is_left_now, Moves};
 ghost use Rattle.hub_core.specs.Seen.{StaysEnded};
@@ -25,6 +25,7 @@ impl<L: Link> Hub<L> {
         ensures since { Since L.story L.script L.faults self.old self.new }
         ensures stands { OnOk result (self.new.fault ≡ None) }
         ensures heard { IfOk result (λ pumped. HearsSo (heard_of pumped) (L.story self.old.link) (L.story self.new.link)) }
+        ensures few { OnErr result (HearsFew (L.story self.old.link) (L.story self.new.link)) }
         ensures says { IfOk result (λ pumped. PumpsSo (is_some self.old.closing) pumped (L.story self.old.link) (L.story self.new.link)) }
         ensures ends_none { Growing (Each EndsNone) (L.story self.old.link) (L.story self.new.link) }
         ensures polls { OnOk result (Polls self.old.jobs self.old.turns self.old.log self.old.crew self.old.closing (L.story self.old.link) (L.story self.new.link)) }
@@ -49,6 +50,7 @@ impl<L: Link> Hub<L> {
         ensures acted { OnOk result (HasActed self.new.known (L.story self.new.link)) }
         ensures since { Since L.story L.script L.faults self.old self.new }
         ensures heard { OnOk result (HearsSo None (L.story self.old.link) (L.story self.new.link)) }
+        ensures few { OnErr result (HearsFew (L.story self.old.link) (L.story self.new.link)) }
         ensures does { IfOk result (λ did. AddsSo (Does is_late_now did) (L.story self.old.link) (L.story self.new.link)) }
         ensures sends { OnOk result (Growing SendsOnly (L.story self.old.link) (L.story self.new.link)) }
         ensures nothing { OnOk result (Growing AllNothing (L.story self.old.link) (L.story self.new.link)) }
@@ -76,6 +78,7 @@ impl<L: Link> Hub<L> {
         ensures ready { OnOk result (self.new.closing ≡ None → Ready self.new.known (L.story self.new.link)) }
         ensures since { Since L.story L.script L.faults self.old self.new }
         ensures heard { OnOk result (HearsSo None (L.story self.old.link) (L.story self.new.link)) }
+        ensures few { OnErr result (HearsFew (L.story self.old.link) (L.story self.new.link)) }
         ensures does { IfOk result (λ did. AddsSo (Does (is_left_now (is_some self.old.closing)) did) (L.story self.old.link) (L.story self.new.link)) }
         ensures acted { OnOk result (HasActed self.new.known (L.story self.new.link)) }
         ensures sends { OnOk result (Growing SendsOnly (L.story self.old.link) (L.story self.new.link)) }
@@ -104,6 +107,7 @@ impl<L: Link> Hub<L> {
         requires ready { self.old.closing ≡ None → Ready self.old.known (L.story self.old.link) }
         ensures since { Since L.story L.script L.faults self.old self.new }
         ensures heard { IfOk result (λ polled. HearsSo polled.heard (L.story self.old.link) (L.story self.new.link)) }
+        ensures few { OnErr result (HearsFew (L.story self.old.link) (L.story self.new.link)) }
         ensures moves { IfOk result (λ polled. AddsSo (Moves polled.moved) (L.story self.old.link) (L.story self.new.link)) }
         ensures polls { OnOk result (Polls self.old.jobs self.old.turns self.old.log self.old.crew self.old.closing (L.story self.old.link) (L.story self.new.link)) }
         ensures came { OnOk result (Comes self.old.jobs self.old.log self.old.crew self.new.crew (L.story self.old.link) (L.story self.new.link)) }

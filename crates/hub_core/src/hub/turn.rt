@@ -8,7 +8,7 @@ ghost use Rattle.hub_work.specs.Turns.{HasFinished, Suits, TurnTells, WhyFreeByL
 ghost use Rattle.tunnel_link.specs.Adds.{Growing};
 ghost use Rattle.tunnel_link.specs.Alone.{Each, LeavesAlone};
 ghost use Rattle.hub_work.specs.declared.answers.Turned.TheVariants as answer;
-ghost use Rattle.hub_core.specs.Hears.{HearsSo};
+ghost use Rattle.hub_core.specs.Hears.{HearsFew, HearsSo};
 ghost use Rattle.hub_core.specs.Puts.{PutsRequest};
 ghost use Rattle.hub_core.specs.Waits.{TurnWaitsExactly};
 ghost use Rattle.hub_core.specs.Seen.{StaysEnded};
@@ -27,6 +27,7 @@ impl<L: Link> Hub<L> {
         ensures since { Since L.story L.script L.faults self.old self.new }
         ensures stands { OnOk result (self.new.fault ≡ None) }
         ensures heard { OnOk result (HearsSo None (L.story self.old.link) (L.story self.new.link)) }
+        ensures few { OnErr result (HearsFew (L.story self.old.link) (L.story self.new.link)) }
         ensures told { IfOk result (λ turned. TurnTells (L.place self.old.link) worker turned self.old.log self.new.log) }
         ensures waits { IfOk result (λ turned. TurnWaitsExactly self.old.jobs self.old.turns self.old.log self.old.crew (L.place self.old.link) worker turned (L.story self.old.link)) }
         ensures suits { IfOk result (Suits (held_at self.old.crew (worker - 1))) }

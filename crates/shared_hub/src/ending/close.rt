@@ -8,7 +8,7 @@ ghost use Rattle.hub_core.specs.Seen.{tasks_seen};
 ghost use Rattle.hub_core.specs.Closed.{HasClosed};
 ghost use Rattle.hub_core.specs.Since.{CausedSince};
 ghost use Rattle.shared_hub.specs.Ends.{HasEndedSo, TellsFault};
-ghost use Rattle.hub_core.specs.Heard.{HeardAll};
+ghost use Rattle.hub_core.specs.Heard.{HeardIn};
 ghost use Rattle.hub_core.specs.Seats.{IsOfWorkers};
 ghost use Rattle.hub_work.specs.Books.{AreJobsOf};
 ghost use Rattle.line_model.specs.LinkStory.{record_in};
@@ -36,14 +36,11 @@ impl<L: Link> Ending<L> {
     pub(super) fn close(self, broken_off: Option<HubFault>) -> (L, Report)
         requires done { broken_off ≡ None → AllDone self.hub }
         requires closed { broken_off ≡ None → WhereTold (HasClosed self.hub.log) (L.story self.hub.link) }
-        requires heard { broken_off ≡ None → HeardAll self.heard (record_in (L.story self.hub.link)) }
+        requires heard { HeardIn self.hub.fault self.hub.missed self.heard (record_in (L.story self.hub.link)) }
         requires cause { IfSome broken_off (HasEndedSo self.hub.fault) }
         requires leaves { (all : List Job) → AreJobsOf self.hub.devices all → LeavesOver all self.hub.turns (L.story self.hub.link) self.hub.log }
         ensures link { result.0 ≡ self.hub.link }
         ensures tells { (workers : ℕ) → IsOfWorkers workers self.hub.log → TellsRun workers (tasks_seen self.hub.jobs) self.hub.devices self.hub.turns (L.story result.0) (L.place result.0) result.1 }
-        // of a run that was broken off too
-        ensures kept { result.1.heard ≡ self.heard }
-        ensures missed { result.1.missed ≡ self.hub.missed }
         ensures caused { (before : ℕ) → CausedSince before self.hub.fault (L.faults self.hub.link) → CausedSince before result.1.fault (L.faults result.0) }
     {
         let Ending { hub, heard } = self;
@@ -57,7 +54,7 @@ impl<L: Link> Ending<L> {
         } = hub.close();
         let report = Report {
             log,
-            heard,
+            heard: heard.into_list(),
             missed,
             dropped,
             fault: told_fault(fault, broken_off),

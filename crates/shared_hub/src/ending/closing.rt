@@ -1,14 +1,14 @@
 //! The closing.
 
-ghost use Rattle.std.specs.Prelude.{◌≡◌, false, true, List, IfErr, IfOk, OnOk};
+ghost use Rattle.std.specs.Prelude.{◌≡◌, ◌⊎◌, None, false, true, List, IfErr, IfOk, OnOk};
 ghost use Rattle.hub_core.specs.Closes.{IsOver};
 ghost use Rattle.hub_core.specs.Left.{AllDone};
 ghost use Rattle.hub_core.specs.Promises.{LeavesOver};
 ghost use Rattle.hub_core.specs.Closed.{HasClosed};
-ghost use Rattle.hub_core.specs.Since.{Since};
 ghost use Rattle.shared_hub.specs.Ends.{HasEndedSo};
-ghost use Rattle.hub_core.specs.Heard.{HeardAll};
+ghost use Rattle.hub_core.specs.Heard.{HeardIn};
 ghost use Rattle.shared_hub.specs.Leaving.{ClosesSo, GoesThrough, KnowsHowFar};
+ghost use Rattle.shared_hub.specs.Relays.{GoesOnFrom, HearsOne};
 ghost use Rattle.hub_work.specs.Books.{AreJobsOf};
 ghost use Rattle.line_model.specs.LinkStory.{record_in};
 ghost use Rattle.line_model.specs.Log.{Job};
@@ -25,13 +25,15 @@ impl<L: Link> Ending<L> {
     pub(super) fn closes<R: Wait>(&mut self, rt: &R) -> Result<(), HubFault>
         requires done { AllDone self.old.hub }
         requires through { GoesThrough self.old.hub (L.story self.old.hub.link) }
-        requires heard { HeardAll self.old.heard (record_in (L.story self.old.hub.link)) }
-        ensures since { Since L.story L.script L.faults self.old.hub self.new.hub }
+        requires stands { self.old.hub.fault ≡ None }
+        requires heard { HeardIn self.old.hub.fault self.old.hub.missed self.old.heard (record_in (L.story self.old.hub.link)) }
+        ensures since { GoesOnFrom L.story L.script L.faults self.old.hub self.new.hub }
         ensures leaves { (all : List Job) → AreJobsOf self.new.hub.devices all → LeavesOver all self.new.hub.turns (L.story self.new.hub.link) self.new.hub.log }
         ensures log { self.new.hub.log ≡ self.old.hub.log }
         ensures done { OnOk result (AllDone self.new.hub) }
         ensures closed { OnOk result (WhereTold (HasClosed self.new.hub.log) (L.story self.new.hub.link)) }
-        ensures heard { OnOk result (HeardAll self.new.heard (record_in (L.story self.new.hub.link))) }
+        ensures stands { OnOk result (self.new.hub.fault ≡ None) }
+        ensures heard { HeardIn self.new.hub.fault self.new.hub.missed self.new.heard (record_in (L.story self.new.hub.link)) }
         ensures cause { IfErr result (HasEndedSo self.new.hub.fault) }
     {
         for _ in rt.forever() {
@@ -47,21 +49,23 @@ impl<L: Link> Ending<L> {
         requires done { AllDone self.old.hub }
         requires closes { ClosesSo self.old.hub (L.story self.old.hub.link) }
         requires far { KnowsHowFar self.old.hub (L.story self.old.hub.link) }
-        requires heard { HeardAll self.old.heard (record_in (L.story self.old.hub.link)) }
-        ensures since { Since L.story L.script L.faults self.old.hub self.new.hub }
+        requires stands { self.old.hub.fault ≡ None }
+        requires heard { HeardIn self.old.hub.fault self.old.hub.missed self.old.heard (record_in (L.story self.old.hub.link)) }
+        ensures since { GoesOnFrom L.story L.script L.faults self.old.hub self.new.hub }
         ensures closes { ClosesSo self.new.hub (L.story self.new.hub.link) }
         ensures far { OnOk result (KnowsHowFar self.new.hub (L.story self.new.hub.link)) }
         ensures log { self.new.hub.log ≡ self.old.hub.log }
         ensures done { OnOk result (AllDone self.new.hub) }
         ensures closed { IfOk result (λ over. over ≡ true → WhereTold (HasClosed self.new.hub.log) (L.story self.new.hub.link)) }
         // it isn't told over just where it isn't, or where something was heard, which counts first
-        ensures goes_on { IfOk result (λ over. over ≡ false → self.new.heard ≡ self.old.heard → WhereTold (λ places. ¬ IsOver self.new.hub.closing (entries places)) (L.story self.new.hub.link)) }
-        ensures heard { OnOk result (HeardAll self.new.heard (record_in (L.story self.new.hub.link))) }
+        ensures goes_on { IfOk result (λ over. over ≡ false → HearsOne (L.story self.old.hub.link) (L.story self.new.hub.link) ⊎ WhereTold (λ places. ¬ IsOver self.new.hub.closing (entries places)) (L.story self.new.hub.link)) }
+        ensures stands { OnOk result (self.new.hub.fault ≡ None) }
+        ensures heard { HeardIn self.new.hub.fault self.new.hub.missed self.new.heard (record_in (L.story self.new.hub.link)) }
         ensures cause { IfErr result (HasEndedSo self.new.hub.fault) }
     {
         match self.hub.finish()? {
             Finished::Heard(indication) => {
-                self.heard.push(indication)?;
+                self.heard.keep(&mut self.hub, indication);
                 Ok(false)
             }
             Finished::Going => Ok(false),

@@ -5,7 +5,7 @@ mod closing;
 
 ghost use Rattle.std.specs.Prelude.{◌≡◌, ℕ, IfSome, None};
 ghost use Rattle.hub_core.specs.Commissioned.{TellsRun};
-ghost use Rattle.hub_core.specs.Heard.{HeardAll};
+ghost use Rattle.hub_core.specs.Heard.{HeardIn};
 ghost use Rattle.hub_core.specs.Left.{AllDone};
 ghost use Rattle.hub_core.specs.Seats.{IsOfWorkers};
 ghost use Rattle.hub_core.specs.Seen.{tasks_seen};
@@ -15,29 +15,29 @@ ghost use Rattle.shared_hub.specs.Ends.{HasEndedSo};
 ghost use Rattle.shared_hub.specs.Leaving.{GoesThrough};
 ghost use Rattle.tunnel_link.specs.Goes.{GoesOn};
 
-use hub_core::{Hub, HubFault, Indication};
-use knx_model::List;
+use crate::heard::Heard;
+use hub_core::{Hub, HubFault};
 use line_model::{Link, Report};
 use std::sync::Wait;
 
-/// A hub in its closing, whose only caller this is, and the group telegrams that were heard, the oldest first.
+/// A hub in its closing, whose only caller this is, and the group telegrams that were heard.
 #[derive(Drop)]
 pub struct Ending<L: Link> {
     pub hub: Hub<L>,
-    pub heard: List<Indication>,
+    pub heard: Heard,
 }
 
 impl<L: Link> Ending<L> {
     /// Goes through the closing, unless the run has ended so, and hands the link back with what is told of the run.
     pub fn end<R: Wait>(self, rt: &R, ended: Option<HubFault>) -> (L, Report)
         requires done { ended ≡ None → AllDone self.hub }
+        requires stands { ended ≡ None → self.hub.fault ≡ None }
         requires through { GoesThrough self.hub (L.story self.hub.link) }
-        requires heard { ended ≡ None → HeardAll self.heard (record_in (L.story self.hub.link)) }
+        requires heard { HeardIn self.hub.fault self.hub.missed self.heard (record_in (L.story self.hub.link)) }
         requires cause { IfSome ended (HasEndedSo self.hub.fault) }
         ensures grows { GoesOn (L.story self.hub.link) (L.story result.0) }
         ensures script { L.script result.0 ≡ L.script self.hub.link }
         ensures tells { (workers : ℕ) → IsOfWorkers workers self.hub.log → TellsRun workers (tasks_seen self.hub.jobs) self.hub.devices self.hub.turns (L.story result.0) (L.place result.0) result.1 }
-        ensures missed { result.1.missed ≡ self.hub.missed }
         ensures caused { (before : ℕ) → CausedSince before self.hub.fault (L.faults self.hub.link) → CausedSince before result.1.fault (L.faults result.0) }
     {
         let mut ending = self;

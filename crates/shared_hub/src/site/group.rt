@@ -3,19 +3,22 @@
 ghost use Rattle.std.specs.Prelude.{◌≡◌, None};
 ghost use Rattle.line_model.specs.Log.{IsNextTurn};
 ghost use Rattle.shared_hub.specs.Items.{HasTold};
-ghost use Rattle.shared_hub.specs.Sites.{fault_of, items_of};
+ghost use Rattle.shared_hub.specs.Sites.{items_of};
 ghost use Rattle.shared_hub.specs.Steps.{Steps, step_of_group};
 
 use super::{Call, Site, Step};
+use crate::relay::Relay;
 use hub_core::GroupDid;
 use line_model::Link;
+use std::sync::Wait;
 
 impl<L: Link> Site<L> {
     /// A turn of the group thread: one call of the hub, which is the next telegram's next step or a poll; none where all telegrams are told.
-    pub fn tell(&mut self, call: Call) -> Step
+    pub fn tell<R: Wait>(&mut self, rt: &R, relay: &Relay, call: Call) -> Step
+        requires of { self.old.relay.value ≡ relay.now }
         ensures { Steps HasTold 0 (items_of self.old) (items_of self.new) result }
     {
-        if self.fault().is_some() {
+        if self.hub.fault().is_some() {
             return Step::Failed;
         }
         let Some(k) = self.hub.next_group() else {
@@ -23,13 +26,13 @@ impl<L: Link> Site<L> {
         };
         match call {
             Call::Step => self.send(k),
-            Call::Poll => self.poll(),
+            Call::Poll => self.poll(rt, relay),
         }
     }
 
     /// The next step of the telegram `k`, which is the least that isn't told.
     fn send(&mut self, k: u32) -> Step
-        requires stands { fault_of self.old ≡ None }
+        requires stands { self.old.hub.fault ≡ None }
         requires next { IsNextTurn self.old.hub.turns self.old.hub.log k }
         ensures { Steps HasTold 0 (items_of self.old) (items_of self.new) result }
     {

@@ -4,18 +4,19 @@ mod group;
 mod poll;
 mod worker;
 
-ghost use Rattle.std.specs.Prelude.{◌≡◌, [], List, None};
+ghost use Rattle.std.specs.Prelude.{◌≡◌, List};
 ghost use Rattle.hub_work.specs.Books.{AreJobsOf};
 ghost use Rattle.line_model.specs.Log.{IsLog, Job};
-ghost use Rattle.shared_hub.specs.Sites.{IsOpening, SiteKeeps, fault_of};
+ghost use Rattle.shared_hub.specs.Sites.{IsOpening, SiteKeeps};
+ghost use Rattle.telegram_router.specs.Ends.{first_feed};
 
 use crate::item::Item;
-use hub_core::{Hub, HubFault, Indication};
-use knx_model::{List, NoMemory};
+use crate::relay::Relay;
+use hub_core::Hub;
 use line_model::Link;
-use std::alloc::Global;
 use std::marker::Model;
 use std::snapshot::Snapshot;
+use telegram_router::Feed;
 use turn_cell::Logged;
 
 /// What the holder of a seat does in his turn.
@@ -46,21 +47,18 @@ pub enum Step {
 #[derive(Drop)]
 pub struct Parts<L: Link> {
     pub hub: Hub<L>,
-    pub heard: List<Indication>,
-    /// Why nothing more is done.
-    pub fault: Option<HubFault>,
+    pub feed: Feed,
 }
 
-/// A hub as it travels among its callers, with the group telegrams that were heard.
+/// A hub as it travels among its callers, with the feed of the relay into which all goes that is heard.
 #[derive(Drop)]
 pub struct Site<L: Link> {
     hub: Hub<L>,
+    feed: Feed,
     /// The hub as it began.
     opening: Snapshot<Hub<L>>,
-    /// The oldest first.
-    heard: List<Indication>,
-    /// There was no memory for what was heard. Then nothing more is done.
-    want: Option<NoMemory>,
+    /// The relay of the feed.
+    relay: Snapshot<Relay>,
 }
 
 impl<L: Link> Model for Site<L> {
@@ -68,9 +66,9 @@ impl<L: Link> Model for Site<L> {
 
     ghost Value = { SiteSeen L };
 
-    ghost view = { λ s. record { hub = s.hub; opening = s.opening; heard = s.heard; want = s.want } };
+    ghost view = { λ s. record { hub = s.hub; feed = s.feed; opening = s.opening; relay = s.relay } };
 
-    ghost invariant = { λ s. SiteKeeps L.story L.script L.faults s.hub s.opening.value s.heard s.want };
+    ghost invariant = { λ s. SiteKeeps L.story L.script L.faults s.hub s.opening.value s.feed s.relay.value };
 }
 
 impl<L: Link> Logged for Site<L> {
@@ -83,7 +81,7 @@ impl<L: Link> Logged for Site<L> {
 
     fn entries(&self) -> u64 {
         let told = self.hub.entries();
-        if self.fault().is_some() {
+        if self.hub.fault().is_some() {
             told + 1
         } else {
             told
@@ -92,52 +90,44 @@ impl<L: Link> Logged for Site<L> {
 }
 
 impl<L: Link> Site<L> {
-    /// A hub that begins, over whose link nothing was heard.
-    pub fn new(alloc: Global, hub: Hub<L>) -> Site<L>
+    /// A hub that begins, over whose link nothing was heard, and the new feed of this relay.
+    pub fn new(hub: Hub<L>, relay: &Relay, feed: Feed) -> Site<L>
         requires opening { IsOpening L.story hub }
+        requires feed { feed ≡ first_feed relay.now }
         ensures hub { result.hub ≡ hub }
         ensures opening { result.opening.value ≡ hub }
-        ensures heard { result.heard ≡ [] }
-        ensures want { result.want ≡ None }
+        ensures relay { result.relay.value ≡ relay.now }
     {
         let opening = Snapshot::of(&hub);
+        let relay = Snapshot::of(relay);
         Site {
             hub,
+            feed,
             opening,
-            heard: List::new(alloc),
-            want: None,
+            relay,
         }
-    }
-
-    /// Why nothing more is done: the hub's fault, or want of memory.
-    fn fault(&self) -> Option<HubFault>
-        ensures { result ≡ fault_of self.now }
-    {
-        self.hub.fault().or(self.want.map(HubFault::NoMemory))
     }
 
     /// What its type keeps, and that the hub's log is one of its jobs and telegrams.
     pub(crate) fn keeps(&self)
         ensures form { (jobs : List Job) → AreJobsOf self.now.hub.devices jobs → IsLog jobs self.now.hub.turns (L.place self.now.hub.link) self.now.hub.log }
-        ensures keeps { SiteKeeps L.story L.script L.faults self.now.hub self.now.opening.value self.now.heard self.now.want }
+        ensures keeps { SiteKeeps L.story L.script L.faults self.now.hub self.now.opening.value self.now.feed self.now.relay.value }
     {
         self.hub.keeps();
     }
 
-    /// The hub, what was heard, and why nothing more is done.
+    /// The hub and the feed.
     pub fn apart(self) -> Parts<L>
         ensures hub { result.hub ≡ self.hub }
-        ensures heard { result.heard ≡ self.heard }
-        ensures fault { result.fault ≡ fault_of self }
-        ensures keeps { SiteKeeps L.story L.script L.faults self.hub self.opening.value self.heard self.want }
+        ensures feed { result.feed ≡ self.feed }
+        ensures keeps { SiteKeeps L.story L.script L.faults self.hub self.opening.value self.feed self.relay.value }
     {
-        let fault = self.fault();
         let Site {
             hub,
+            feed,
             opening: _,
-            heard,
-            want: _,
+            relay: _,
         } = self;
-        Parts { hub, heard, fault }
+        Parts { hub, feed }
     }
 }

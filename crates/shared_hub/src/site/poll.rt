@@ -2,18 +2,21 @@
 
 ghost use Rattle.std.specs.Prelude.{◌≡◌, None};
 ghost use Rattle.hub_core.specs.Left.{IsLeft};
-ghost use Rattle.shared_hub.specs.Sites.{fault_of, items_of};
+ghost use Rattle.shared_hub.specs.Sites.{items_of};
 ghost use Rattle.shared_hub.specs.Steps.{Polls};
 
 use super::{Site, Step};
+use crate::relay::Relay;
 use hub_core::Pumped;
 use line_model::Link;
+use std::sync::Wait;
 
 impl<L: Link> Site<L> {
-    /// One poll, while something is left.
-    pub(super) fn poll(&mut self) -> Step
-        requires stands { fault_of self.old ≡ None }
+    /// One poll, while something is left. What was heard goes into the relay.
+    pub(super) fn poll<R: Wait>(&mut self, rt: &R, relay: &Relay) -> Step
+        requires stands { self.old.hub.fault ≡ None }
         requires left { IsLeft self.old.hub }
+        requires of { self.old.relay.value ≡ relay.now }
         ensures { Polls (items_of self.old) (items_of self.new) result }
     {
         let Ok(pumped) = self.hub.pump() else {
@@ -22,12 +25,7 @@ impl<L: Link> Site<L> {
         let Pumped::Heard(indication) = pumped else {
             return Step::Goes;
         };
-        match self.heard.push(indication) {
-            Ok(()) => Step::Goes,
-            Err(no_memory) => {
-                self.want = Some(no_memory);
-                Step::Failed
-            }
-        }
+        relay.hear(rt, &mut self.feed, &mut self.hub, indication);
+        Step::Goes
     }
 }

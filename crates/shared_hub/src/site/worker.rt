@@ -3,21 +3,24 @@
 ghost use Rattle.std.specs.Prelude.{◌≡◌, ◌≤◌, None, length};
 ghost use Rattle.hub_core.specs.Left.{IsLeft};
 ghost use Rattle.shared_hub.specs.Items.{HasFinished};
-ghost use Rattle.shared_hub.specs.Sites.{fault_of, items_of};
+ghost use Rattle.shared_hub.specs.Sites.{items_of};
 ghost use Rattle.shared_hub.specs.Steps.{Steps, step_of};
 
 use super::{Call, Site, Step};
+use crate::relay::Relay;
 use hub_core::Turned;
 use line_model::Link;
+use std::sync::Wait;
 
 impl<L: Link> Site<L> {
     /// A worker's turn, from 1: one call of the hub, which is his next step or a poll; none where all is over.
-    pub fn step(&mut self, worker: u8, call: Call) -> Step
+    pub fn step<R: Wait>(&mut self, rt: &R, relay: &Relay, worker: u8, call: Call) -> Step
         requires from_1 { 1 ≤ worker }
         requires within { worker ≤ length self.old.opening.value.crew }
+        requires of { self.old.relay.value ≡ relay.now }
         ensures { Steps (HasFinished worker) worker (items_of self.old) (items_of self.new) result }
     {
-        if self.fault().is_some() {
+        if self.hub.fault().is_some() {
             return Step::Failed;
         }
         self.hub.keeps();
@@ -26,7 +29,7 @@ impl<L: Link> Site<L> {
         }
         match call {
             Call::Step => self.work(worker),
-            Call::Poll => self.poll(),
+            Call::Poll => self.poll(rt, relay),
         }
     }
 
@@ -34,7 +37,7 @@ impl<L: Link> Site<L> {
     fn work(&mut self, worker: u8) -> Step
         requires from_1 { 1 ≤ worker }
         requires within { worker ≤ length self.old.opening.value.crew }
-        requires stands { fault_of self.old ≡ None }
+        requires stands { self.old.hub.fault ≡ None }
         requires left { IsLeft self.old.hub }
         ensures { Steps (HasFinished worker) worker (items_of self.old) (items_of self.new) result }
     {

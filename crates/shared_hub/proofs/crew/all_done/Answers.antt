@@ -9,7 +9,7 @@ use Rattle.shared_hub.proofs.Works.{all_later, leads_fewer, was_later}
 use Rattle.shared_hub.proofs.crew.all_done.Goals as goal
 
 pub join-all-requires-send-F : goal.join-all-requires-send-F
-join-all-requires-send-F g c κs within = workers_send (param 0 g.row.R) (param 1 g.row.L) (param 2 g.row.G) g.L.Link c.type_bounds.sync-R c.type_bounds.send-L c.type_bounds.sync-G _ _ _ _ _ _ _ _
+join-all-requires-send-F g c κs within = workers_send (param 0 g.row.R) (param 1 g.row.L) (param 2 g.row.G) g.L.Link c.type_bounds.sync-R c.type_bounds.send-L c.type_bounds.sync-G _ _ _ _ _ _ _ _ _ _
 
 pub join-all-requires-send-A : goal.join-all-requires-send-A
 join-all-requires-send-A g c κs within = back_send (param 1 g.row.L) g.L.Link c.type_bounds.send-L _
@@ -29,11 +29,11 @@ join-all-requires-after_bounds g c κs within =
           ap (λ s. s.turn) same ∙ c.requires.free,
           c.requires.some,
           omega (arith, few, whole, parts),
-          subst (λ s. Leads c.args.workers s.seen) (sym same) c.requires.leads,
+          subst (λ s. Leads c.args.workers c.args.relay.now s.seen) (sym same) c.requires.leads,
         ),
         (param_send _ _ (arg_send _ no _ c.type_bounds.send-L), sync-R, sync-G),
       ),
-      (ap (λ s. s.cell) group ∙ c.requires.of, ap (λ s. s.turn) group, subst (λ s. Leads 0 s.seen) (sym group) (leads_fewer 0 c.args.workers _ (omega arith) c.requires.leads)),
+      (ap (λ s. s.cell) group ∙ c.requires.of, ap (λ s. s.turn) group, subst (λ s. Leads 0 c.args.relay.now s.seen) (sym group) (leads_fewer 0 c.args.workers c.args.relay.now _ (omega arith) c.requires.leads), c.requires.listens),
     )
 
 pub returns-clause-done : goal.returns-clause-done

@@ -12,7 +12,7 @@ use Rattle.shared_hub.proofs.Told.{told_for}
 use Rattle.shared_hub.proofs.run.commission.Goals as goal
 
 pub run-requires-clause-opening : goal.run-requires-clause-opening
-run-requires-clause-opening g c κs within = opens_so g.L.Link.story c.in-Ok.hub (subst (λ l. IsNewLink (g.L.Link.story l)) (sym c.in-Ok.ensures.link) c.requires.new) c.in-Ok.ensures.log c.in-Ok.ensures.fault c.in-Ok.ensures.unbegun
+run-requires-clause-opening g c κs within = opens_so g.L.Link.story c.in-Ok.hub (subst (λ l. IsNewLink (g.L.Link.story l)) (sym c.in-Ok.ensures.link) c.requires.new) c.in-Ok.ensures.log c.in-Ok.ensures.fault c.in-Ok.ensures.unbegun c.in-Ok.ensures.missed
 
 pub returns-in-Ok : goal.returns-in-Ok
 returns-in-Ok g c =
@@ -23,7 +23,6 @@ returns-in-Ok g c =
       script = c.run.ensures.script ∙ ap g.L.Link.script link_is;
       cause = subst (λ l. IfSome c.run.result.1.fault (λ why. FailsWhere why (g.L.Link.faults l) (g.L.Link.faults c.run.result.0))) link_is c.run.ensures.caused.1;
       tells = told_by _ _ many _ _ _ _ _ (told_for (length c.in-Ok.hub.crew) _ _ _ _ _ _ _ _ _ c.in-Ok.ensures.jobs c.in-Ok.ensures.devices c.in-Ok.ensures.turns c.run.ensures.tells);
-      missed = c.run.ensures.missed ∙ c.in-Ok.ensures.missed;
     }
 
 pub returns-in-Err : goal.returns-in-Err
@@ -33,6 +32,5 @@ returns-in-Err g c =
       grows = subst (λ l. GoesOn (g.L.Link.story c.args.link) (g.L.Link.story l)) (sym link_is) (stays (g.L.Link.story c.args.link) (g.L.Link.story c.args.link) refl).on;
       script = ap g.L.Link.script link_is;
       cause = subst (λ (f : Option HubFault). IfSome f (λ why. FailsWhere why (g.L.Link.faults c.args.link) (g.L.Link.faults c.in-Err.link))) (sym c.nothing_done.ensures.fault) tt;
-      tells = new_tells c.every_safe_interleaving.ensures c.args.workers _ _ _ (g.L.Link.story c.in-Err.link) _ c.nothing_done.result _ (subst (λ l. IsNewLink (g.L.Link.story l)) (sym link_is) c.requires.new) c.nothing_done.ensures.log c.nothing_done.ensures.dropped c.nothing_done.ensures.fault tt;
-      missed = c.nothing_done.ensures.missed;
+      tells = new_tells c.every_safe_interleaving.ensures c.args.workers _ _ _ (g.L.Link.story c.in-Err.link) _ c.nothing_done.result _ (subst (λ l. IsNewLink (g.L.Link.story l)) (sym link_is) c.requires.new) c.nothing_done.ensures.log c.nothing_done.ensures.heard c.nothing_done.ensures.missed c.nothing_done.ensures.dropped c.nothing_done.ensures.fault tt;
     }

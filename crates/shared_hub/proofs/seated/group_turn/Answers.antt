@@ -1,6 +1,6 @@
 use Rattle.shared_hub.specs.Items.{HasTold}
 use Rattle.shared_hub.specs.Sites.{items_of}
-use Rattle.shared_hub.proofs.Works.{turn_grows, turn_stays, turn_gets, turn_comes}
+use Rattle.shared_hub.proofs.Works.{leads_after, relays_site, turn_grows, turn_stays, turn_gets, turn_comes}
 use Rattle.shared_hub.proofs.seated.group_turn.Goals as goal
 
 pub give-requires-clause-grown : goal.give-requires-clause-grown
@@ -14,3 +14,6 @@ returns-clause-got g c = turn_gets HasTold 0 c.args.seat.now c.take-site.new.sea
 
 pub returns-clause-comes : goal.returns-clause-comes
 returns-clause-comes g c = turn_comes HasTold 0 c.args.seat.now c.take-site.new.seat c.give.new.seat (items_of c.take-site.result) (items_of c.tell-came.new.self) c.tell-came.result c.take-site.ensures.begins c.take-site.ensures.seat c.tell-came.ensures c.give.ensures
+
+pub tell-came-requires : goal.tell-came-requires
+tell-came-requires g c = record { of = relays_site 0 c.args.relay.now c.take-site.result (leads_after 0 c.args.relay.now c.args.seat.now.seen (items_of c.take-site.result) c.take-site.ensures.begins c.requires.leads) }

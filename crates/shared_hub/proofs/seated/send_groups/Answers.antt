@@ -1,10 +1,16 @@
-use Rattle.std.proofs.Common.{◌∙◌}
+use Rattle.std.proofs.Common.{refl, ◌∙◌}
 use Rattle.shared_hub.specs.Items.{HasTold}
-use Rattle.shared_hub.proofs.Works.{stays_itself, got_none, stays_again, got_again, comes_done}
+use Rattle.shared_hub.proofs.Works.{leads_after, stays_itself, got_none, stays_again, got_again, comes_done}
 use Rattle.shared_hub.proofs.seated.send_groups.Goals as goal
 
 pub loop-init : goal.loop-init
-loop-init g c = record { next = tt; finite = tt; stays = stays_itself c.args.seat.now c.requires.free; got = got_none 0 c.args.seat.now }
+loop-init g c = record { next = tt; finite = tt; stays = stays_itself c.args.seat.now c.requires.free; got = got_none 0 c.args.seat.now; listens = refl }
+
+pub collect-requires : goal.collect-requires
+collect-requires g c = record { of = c.loop.invariant.listens ∙ c.requires.listens }
+
+pub group_turn-requires-clause-leads : goal.group_turn-requires-clause-leads
+group_turn-requires-clause-leads g c = leads_after 0 c.args.relay.now _ _ c.loop.invariant.stays.sees c.requires.leads
 
 pub group_turn-requires-clause-of : goal.group_turn-requires-clause-of
 group_turn-requires-clause-of g c = c.loop.invariant.stays.cell ∙ c.requires.of
@@ -18,6 +24,7 @@ loop-preserved g c = record {
   finite = tt;
   stays = stays_again _ _ _ c.loop.invariant.stays c.group_turn.ensures.seat;
   got = got_again 0 _ _ _ c.loop.invariant.got c.group_turn.ensures.got c.group_turn.ensures.seat.sees;
+  listens = c.collect.ensures.of ∙ c.loop.invariant.listens;
 }
 
 pub returns-in-Ready-clause-seat : goal.returns-in-Ready-clause-seat
@@ -35,4 +42,5 @@ loop-preserved-in-Took g c = record {
   finite = tt;
   stays = stays_again _ _ _ c.loop.invariant.stays c.group_turn.ensures.seat;
   got = got_again 0 _ _ _ c.loop.invariant.got c.group_turn.ensures.got c.group_turn.ensures.seat.sees;
+  listens = c.collect.ensures.of ∙ c.loop.invariant.listens;
 }

@@ -1,6 +1,6 @@
 use Rattle.shared_hub.specs.Items.{HasFinished}
 use Rattle.shared_hub.specs.Sites.{items_of}
-use Rattle.shared_hub.proofs.Works.{leads_after, leads_site, turn_grows, turn_stays, turn_gets, turn_comes}
+use Rattle.shared_hub.proofs.Works.{leads_after, leads_site, relays_site, turn_grows, turn_stays, turn_gets, turn_comes}
 use Rattle.shared_hub.proofs.seated.turn.Goals as goal
 
 pub give-requires-clause-grown : goal.give-requires-clause-grown
@@ -16,4 +16,7 @@ pub returns-clause-comes : goal.returns-clause-comes
 returns-clause-comes g c = turn_comes (HasFinished c.args.worker) c.args.worker c.args.seat.now c.take-site.new.seat c.give.new.seat (items_of c.take-site.result) (items_of c.step-came.new.self) c.step-came.result c.take-site.ensures.begins c.take-site.ensures.seat c.step-came.ensures c.give.ensures
 
 pub step-came-requires-clause-within : goal.step-came-requires-clause-within
-step-came-requires-clause-within g c = leads_site c.args.worker c.take-site.result (leads_after c.args.worker c.args.seat.now.seen (items_of c.take-site.result) c.take-site.ensures.begins c.requires.leads)
+step-came-requires-clause-within g c = leads_site c.args.worker c.args.relay.now c.take-site.result (leads_after c.args.worker c.args.relay.now c.args.seat.now.seen (items_of c.take-site.result) c.take-site.ensures.begins c.requires.leads)
+
+pub step-came-requires-clause-of : goal.step-came-requires-clause-of
+step-came-requires-clause-of g c = relays_site c.args.worker c.args.relay.now c.take-site.result (leads_after c.args.worker c.args.relay.now c.args.seat.now.seen (items_of c.take-site.result) c.take-site.ensures.begins c.requires.leads)

@@ -13,7 +13,7 @@ pub turn-requires-clause-free : goal.turn-requires-clause-free
 turn-requires-clause-free g c = c.loop.invariant.stays.free
 
 pub turn-requires-clause-leads : goal.turn-requires-clause-leads
-turn-requires-clause-leads g c = leads_after c.args.worker _ _ c.loop.invariant.stays.sees c.requires.leads
+turn-requires-clause-leads g c = leads_after c.args.worker c.args.relay.now _ _ c.loop.invariant.stays.sees c.requires.leads
 
 pub loop-preserved : goal.loop-preserved
 loop-preserved g c = record {

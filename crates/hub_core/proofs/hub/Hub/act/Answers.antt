@@ -3,7 +3,7 @@ use Rattle.hub_core.proofs.Calls.{acts_failed, acts_done}
 use Rattle.hub_core.proofs.Keeps.{none_inside}
 use Rattle.hub_core.proofs.Prompting.{prompts_told}
 use Rattle.hub_core.proofs.View.{same_run}
-use Rattle.hub_core.proofs.Hears.{hears_none}
+use Rattle.hub_core.proofs.Hears.{hears_none, acts_few, failed_few}
 use Rattle.hub_core.proofs.Pumping.{acts_so}
 use Rattle.hub_core.proofs.Endings.{acts_resume}
 use Rattle.hub_core.proofs.Polls.{acts_send, acts_stay}
@@ -65,3 +65,6 @@ returns-clause-nothing g c = rw (← c.self.view_is) (acts_nothing _ _ c.in_ok-a
 pub returns-clause-awaits : goal.returns-clause-awaits
 returns-clause-awaits g c =
     rw (← c.self.view_is) (awaits_on _ _ _ _ c.act.ensures.grows c.keeps.ensures.legal (acts_send _ _ c.in_ok-acted.acted c.in_ok-acted.ensures.adds) (λ old e. c.lose.ensures.closing (acts_stay _ _ c.in_ok-acted.acted c.in_ok-acted.ensures.adds old e) refl))
+
+pub returns-in_err-acted-clause-few : goal.returns-in_err-acted-clause-few
+returns-in_err-acted-clause-few g c = rw (← c.self.view_is) (failed_few _ _ _ (acts_few _ _ c.in_err-acted.ensures.adds))

@@ -1,4 +1,4 @@
-use Rattle.hub_core.proofs.Hears.{hears_after}
+use Rattle.hub_core.proofs.Hears.{hears_after, few_after, few_still, failed_few}
 use Rattle.std.proofs.Common.{◌≡◌, None, sym, subst}
 use Rattle.hub_work.specs.Closes.{Begins}
 use Rattle.hub_core.specs.Closes.{Closes, Resumes}
@@ -103,3 +103,12 @@ returns-clause-waits g c =
     (on_with line.WaitsSo SendsOnly sends_right c.args.self.now.closing c.is_over.new.self.closing c.act.new.self.closing (g.L.Link.story c.is_over.new.self.link) (g.L.Link.story c.act.new.self.link) (g.L.Link.story c.goes_on.new.self.link) c.act.ensures.since.grows c.goes_on.ensures.since.grows
     (subst (λ l. WhereTold (λ places. Begins (newest_time (entries places)) c.args.self.now.closing c.is_over.new.self.closing) (g.L.Link.story l)) (sym c.is_over.ensures.link) c.is_over.ensures.begins)
     c.in_ok-act.ensures.sends c.in_ok-act.ensures.resumes h)) c.goes_on.ensures.waits
+
+pub returns-in_err-act-clause-few : goal.returns-in_err-act-clause-few
+returns-in_err-act-clause-few g c = rw (← c.is_over.ensures.link) (failed_few _ _ _ c.in_err-act.ensures.few)
+
+pub returns-clause-few : goal.returns-clause-few
+returns-clause-few g c = rw (← c.is_over.ensures.link) (few_after _ (g.L.Link.story c.act.new.self.link) _ c.goes_on.result c.goes_on.ensures.since.grows c.in_ok-act.ensures.heard c.goes_on.ensures.few)
+
+pub returns-in-Some-clause-few : goal.returns-in-Some-clause-few
+returns-in-Some-clause-few g c = few_still _

@@ -6,7 +6,7 @@ use Rattle.hub_core.proofs.Closings.{kept_as, closing_run, asked_since}
 use Rattle.hub_core.proofs.Keeps.{none_inside}
 use Rattle.hub_core.proofs.Prompting.{prompts_told}
 use Rattle.hub_core.proofs.Quiet.{asides_fit}
-use Rattle.hub_core.proofs.Hears.{hears_none}
+use Rattle.hub_core.proofs.Hears.{hears_none, leaves_few, failed_few}
 use Rattle.hub_core.specs.Closes.{Resumes, AsksNow, HasDone}
 use Rattle.hub_core.specs.Hears.{HearsSo}
 use Rattle.hub_core.specs.Pumps.{AddsSo}
@@ -115,3 +115,6 @@ returns-then-not-asked-clause-nothing g c = rw (← c.self.view_is) (leaves_noth
 pub returns-clause-nothing : goal.returns-clause-nothing
 returns-clause-nothing g c =
     rw (← c.self.view_is) (subst (λ l. Growing AllNothing (g.L.Link.story c.self.inside.tunnel.link) (g.L.Link.story l)) (sym c.is_over-is_over.ensures.link) (leaves_nothing _ _ c.in_ok-asked.asked c.in_ok-asked.ensures.adds))
+
+pub returns-in_err-asked-clause-few : goal.returns-in_err-asked-clause-few
+returns-in_err-asked-clause-few g c = rw (← c.self.view_is) (failed_few _ _ _ (leaves_few _ _ _ c.in_err-asked.ensures.adds))

@@ -9,6 +9,7 @@ use Rattle.hub_core.proofs.Leaving.{closes_alone}
 use Rattle.hub_core.specs.Polls.{Polls}
 use Rattle.hub_core.specs.Came.{Comes}
 use Rattle.hub_core.proofs.Since.{since_again, still_since}
+use Rattle.hub_core.proofs.Hears.{failed_few}
 use Rattle.hub_core.proofs.hub.Hub.listen.Goals as goal
 
 pub returns-in_err-polled-clause-since : goal.returns-in_err-polled-clause-since
@@ -46,3 +47,6 @@ returns-clause-came g c =
 pub returns-clause-waits : goal.returns-clause-waits
 returns-clause-waits g c =
     subst (λ l. Growing (WaitsOn c.args.self.now.closing) (g.L.Link.story c.args.self.now.link) (g.L.Link.story l)) (sym c.is_over-is_over.ensures.link) (c.in_ok-polled.ensures.waits c.requires.waits)
+
+pub returns-in_err-polled-clause-few : goal.returns-in_err-polled-clause-few
+returns-in_err-polled-clause-few g c = failed_few _ _ _ (c.in_err-polled.ensures.few)

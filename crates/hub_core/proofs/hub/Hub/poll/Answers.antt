@@ -8,7 +8,7 @@ use Rattle.hub_core.proofs.Keeps.{none_inside}
 use Rattle.hub_core.proofs.Polling.{polls_kept}
 use Rattle.hub_core.proofs.Prompting.{prompts_polled}
 use Rattle.hub_core.proofs.View.{same_run}
-use Rattle.hub_core.proofs.Hears.{hears_poll}
+use Rattle.hub_core.proofs.Hears.{hears_poll, polls_few, failed_few}
 use Rattle.hub_core.proofs.Pumping.{polls_so}
 use Rattle.hub_core.proofs.Endings.{polls_resume, polls_done}
 use Rattle.tunnel_link.specs.Adds.{HasActed}
@@ -83,3 +83,9 @@ returns-in-None-clause-waits g c =
     let none : c.self.inside.tunnel.known.fault ≡ None = none_inside _ _ c.self.view_is c.requires.stands in
     rw (← c.self.view_is) (polls_wait _ _ _ c.self.inside.work _ _ none c.self.invariant c.poll.ensures.grows c.moments_go_on.ensures.later c.now-now.result c.now-now.ensures.newest c.has_place-has_place.result (c.has_place-has_place.ensures.told none)
     c.wait_ms-longest_ms.result c.wait_ms-longest_ms.ensures.rightly (c.in_ok-came.ensures.lasts (subst (λ v. HasActed v.known (g.L.Link.story v.link)) (sym c.self.view_is) c.requires.acted)))
+
+pub returns-in_err-came-clause-few : goal.returns-in_err-came-clause-few
+returns-in_err-came-clause-few g c = rw (← c.self.view_is) (failed_few _ _ _ (polls_few _ _ c.in_err-came.ensures.adds))
+
+pub returns-in-Some-clause-few : goal.returns-in-Some-clause-few
+returns-in-Some-clause-few g c = rw (← c.self.view_is) (rw c.fail.ensures.link (_, hears_poll _ _ c.in_ok-came.came _ c.in_ok-came.ensures.adds c.take_in-polled.ensures.heard))

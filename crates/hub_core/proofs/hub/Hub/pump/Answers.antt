@@ -1,6 +1,6 @@
 use Rattle.std.proofs.Common.{Bool, subst, ◌∙◌}
 use Rattle.tunnel_link.proofs.Stories.{goes_again}
-use Rattle.hub_core.proofs.Hears.{hears_all}
+use Rattle.hub_core.proofs.Hears.{hears_all, few_still, few_then, failed_few}
 use Rattle.hub_core.specs.Pumps.{AddsSo, Does, is_left_now}
 use Rattle.hub_core.proofs.Pumping.{pumps_so}
 use Rattle.tunnel_link.specs.Alone.{EndsNone}
@@ -64,3 +64,15 @@ returns-clause-came g c =
     (g.L.Link.story c.args.self.now.link) (g.L.Link.story c.seek.new.self.link) (g.L.Link.story c.poll.new.self.link) (goes_again _ _ _ c.act.ensures.since.grows c.seek.ensures.since.grows) c.poll.ensures.since.grows
     (nothing_both _ (g.L.Link.story c.act.new.self.link) _ c.act.ensures.since.grows c.seek.ensures.since.grows c.in_ok-acted.ensures.nothing c.in_ok-sought.ensures.nothing)
     (λ old e. c.seek.ensures.crew ∙ (c.in_ok-acted.ensures.still old e).0) c.in_ok-polled.ensures.came
+
+pub returns-in_err-acted-clause-few : goal.returns-in_err-acted-clause-few
+returns-in_err-acted-clause-few g c = failed_few _ _ _ (c.in_err-acted.ensures.few)
+
+pub returns-in_err-sought-clause-few : goal.returns-in_err-sought-clause-few
+returns-in_err-sought-clause-few g c = failed_few _ _ _ (few_then _ (g.L.Link.story c.act.new.self.link) _ c.seek.ensures.since.grows c.in_ok-acted.ensures.heard c.in_err-sought.ensures.few)
+
+pub returns-in_err-polled-clause-few : goal.returns-in_err-polled-clause-few
+returns-in_err-polled-clause-few g c = failed_few _ _ _ (few_then _ (g.L.Link.story c.act.new.self.link) _ (goes_again _ _ _ c.seek.ensures.since.grows c.poll.ensures.since.grows) c.in_ok-acted.ensures.heard (few_then _ (g.L.Link.story c.seek.new.self.link) _ c.poll.ensures.since.grows c.in_ok-sought.ensures.heard c.in_err-polled.ensures.few))
+
+pub returns-in-Some-clause-few : goal.returns-in-Some-clause-few
+returns-in-Some-clause-few g c = few_still _

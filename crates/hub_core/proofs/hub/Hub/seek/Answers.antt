@@ -3,7 +3,7 @@ use Rattle.hub_core.specs.Pumps.{AddsSo, Does, is_left_now}
 use Rattle.hub_core.proofs.Calls.{seeks_kept}
 use Rattle.hub_core.proofs.Keeps.{none_inside}
 use Rattle.hub_core.proofs.Prompting.{prompts_told}
-use Rattle.hub_core.proofs.Hears.{seeks_heard}
+use Rattle.hub_core.proofs.Hears.{seeks_heard, seeks_few}
 use Rattle.hub_core.proofs.Pumping.{seeks_answer, seeks_none}
 use Rattle.hub_core.proofs.Polls.{seeks_send, seeks_acted, none_sent}
 use Rattle.hub_core.proofs.Came.{seeks_nothing, none_added}
@@ -55,3 +55,6 @@ returns-clause-nothing g c = rw (← c.self.view_is) (seeks_nothing _ _ c.seek-s
 
 pub returns-then-is_closing-clause-nothing : goal.returns-then-is_closing-clause-nothing
 returns-then-is_closing-clause-nothing g c = rw (← c.self.view_is) (none_added _ _ refl)
+
+pub returns-clause-few : goal.returns-clause-few
+returns-clause-few g c = rw (← c.self.view_is) (seeks_few _ _ c.seek-sought.result c.seek-sought.ensures.adds)

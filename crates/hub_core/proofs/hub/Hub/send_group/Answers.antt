@@ -11,7 +11,7 @@ use Rattle.hub_core.proofs.Putting.{telegram_so, put_done, put_failed}
 use Rattle.hub_core.proofs.Since.{call_since, since_itself, still_since}
 use Rattle.hub_core.proofs.View.{same_run, work_run}
 use Rattle.hub_core.proofs.Written.{written, told_writes}
-use Rattle.hub_core.proofs.Hears.{hears_put, puts_request}
+use Rattle.hub_core.proofs.Hears.{hears_put, puts_request, failed_few, few_still, puts_few}
 use Rattle.hub_core.proofs.Waits.{waits_under_way, waits_unplaced, waits_held, sent_waits_not, lost_waits_not, put_waits_not}
 use Rattle.std.specs.Prelude.{is_none}
 use Rattle.line_model.specs.LinkStory.{IsPlace}
@@ -142,3 +142,11 @@ pub returns-in_ok-put-in-Unput-clause-puts : goal.returns-in_ok-put-in-Unput-cla
 returns-in_ok-put-in-Unput-clause-puts g c =
     let none : c.self.inside.tunnel.known.fault ≡ None = sym c.fault.ensures ∙ c.in_default.is in
     rw (← c.self.view_is) (λ put. puts_request _ _ _ _ _ c.in_ok-put-in-Unput.ensures.adds (λ old es. (c.has_place.ensures.told none old es).0 c.if-not-has_place.false))
+
+pub returns-in_err-put-in-Unput-clause-few : goal.returns-in_err-put-in-Unput-clause-few
+returns-in_err-put-in-Unput-clause-few g c =
+    let none : c.self.inside.tunnel.known.fault ≡ None = sym c.fault.ensures ∙ c.in_default.is in
+    rw (← c.self.view_is) (failed_few _ _ _ (puts_few _ _ _ _ c.in_err-put-in-Unput.ensures.adds (λ old es. (c.has_place.ensures.told none old es).0 c.if-not-has_place.false)))
+
+pub returns-in-Some-clause-few : goal.returns-in-Some-clause-few
+returns-in-Some-clause-few g c = few_still _

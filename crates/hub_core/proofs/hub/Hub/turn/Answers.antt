@@ -8,7 +8,7 @@ use Rattle.hub_core.proofs.Putting.{turn_so, turn_did, put_done, put_failed}
 use Rattle.hub_core.proofs.Since.{call_since, since_itself, still_since}
 use Rattle.hub_core.proofs.View.{work_run}
 use Rattle.hub_core.proofs.Written.{written, turn_writes}
-use Rattle.hub_core.proofs.Hears.{hears_put, puts_request}
+use Rattle.hub_core.proofs.Hears.{hears_put, puts_request, failed_few, few_still, puts_few}
 use Rattle.line_model.specs.LinkStory.{IsPlace}
 use Rattle.hub_work.specs.declared.answers.Turned.TheVariants as answer
 use Rattle.hub_work.specs.declared.work.turn.Turn.TheVariants as turn
@@ -114,3 +114,11 @@ pub returns-in_ok-put-in-Puts-clause-puts : goal.returns-in_ok-put-in-Puts-claus
 returns-in_ok-put-in-Puts-clause-puts g c =
     let none : c.self.inside.tunnel.known.fault ≡ None = sym c.fault.ensures ∙ c.in_default.is in
     rw (← c.self.view_is) (λ moved nothing. puts_request _ _ _ _ _ c.in_ok-put-in-Puts.ensures.adds (λ old es. (c.has_place-has_place.ensures.told none old es).0 c.in-Puts.ensures.placed))
+
+pub returns-in_err-put-in-Puts-clause-few : goal.returns-in_err-put-in-Puts-clause-few
+returns-in_err-put-in-Puts-clause-few g c =
+    let none : c.self.inside.tunnel.known.fault ≡ None = sym c.fault.ensures ∙ c.in_default.is in
+    rw (← c.self.view_is) (failed_few _ _ _ (puts_few _ _ _ _ c.in_err-put-in-Puts.ensures.adds (λ old es. (c.has_place-has_place.ensures.told none old es).0 c.in-Puts.ensures.placed)))
+
+pub returns-in-Some-clause-few : goal.returns-in-Some-clause-few
+returns-in-Some-clause-few g c = few_still _

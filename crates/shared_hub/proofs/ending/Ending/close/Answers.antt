@@ -2,7 +2,7 @@ use Rattle.std.proofs.Common.{◌≡◌, reverse, sym, ap, subst, ◌∙◌}
 use Rattle.std.proofs.lemmas.List.{reverse-reverse}
 use Rattle.line_model.specs.LinkStory.{record_in}
 use Rattle.line_model.specs.Log.{TurnUnfinished}
-use Rattle.shared_hub.proofs.Told.{told_right}
+use Rattle.shared_hub.proofs.Told.{told_heard, told_right}
 use Rattle.shared_hub.proofs.Causes.{told_caused}
 use Rattle.shared_hub.proofs.ending.Ending.close.Goals as goal
 
@@ -24,10 +24,11 @@ returns-clause-tells g c = λ workers seats.
       in_order = λ jobs are. rw log_is (c.keeps.ensures.in_order jobs are);
       leaves = λ jobs are. rw (log_is, link_is) (c.requires.leaves jobs are);
       seats = rw log_is seats;
+      heard = told_heard c.close-link.result.fault c.told_fault.result c.close-link.result.missed c.into_list.result (record_in (g.L.Link.story c.close-link.result.link)) c.told_fault.ensures.fault
+          (rw (c.close-link.ensures.fault, c.close-link.ensures.missed, c.into_list.ensures, link_is) c.requires.heard);
       over = λ fine jobs are. rw log_is ((c.requires.done (c.told_fault.ensures.none fine)).jobs jobs are);
       told = λ fine. subst (λ l. TurnUnfinished c.args.self.hub.turns l → ⊥) (sym log_is) (c.requires.done (c.told_fault.ensures.none fine)).telegrams;
       closed = λ fine. rw (log_is, link_is) (c.requires.closed (c.told_fault.ensures.none fine));
-      heard = λ fine. rw link_is (c.requires.heard (c.told_fault.ensures.none fine));
     }
 
 pub returns-clause-caused : goal.returns-clause-caused

@@ -6,7 +6,7 @@ use Rattle.shared_hub.proofs.Sites.{failed_so, told_so}
 use Rattle.shared_hub.proofs.site.Site.tell.Goals as goal
 
 pub returns-then-is_some : goal.returns-then-is_some
-returns-then-is_some g c = failed_so c.args.self.now (ap is_some (sym c.fault.ensures) ∙ (sym c.is_some.ensures ∙ c.if-is_some.true))
+returns-then-is_some g c = failed_so c.args.self.now (ap is_some (ap (λ s. s.hub.fault) (sym c.self.view_is) ∙ sym c.fault.ensures) ∙ (sym c.is_some.ensures ∙ c.if-is_some.true))
 
 pub returns-in_default : goal.returns-in_default
-returns-in_default g c = (refl, subst (λ s. HasTold (items_of s)) c.self.view_is (told_so (record { hub = c.self.inside.hub; opening = c.self.inside.opening; heard = c.self.inside.heard; want = c.self.inside.want }) c.self.invariant.since.run.turns (c.next_group.ensures.all c.in_default.is)))
+returns-in_default g c = (refl, subst (λ s. HasTold (items_of s)) c.self.view_is (told_so (record { hub = c.self.inside.hub; feed = c.self.inside.feed; opening = c.self.inside.opening; relay = c.self.inside.relay }) c.self.invariant.since.run.turns (c.next_group.ensures.all c.in_default.is)))

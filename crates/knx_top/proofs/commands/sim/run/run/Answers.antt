@@ -32,7 +32,7 @@ returns-clause-runs g c = λ commission is options.
     let workers : ℕ = c.count-workers.result in
     let log : Bool = c.args.options.now.log in
     runs_so commission c.args.sim.now line report c.args.order.jobs c.len-turn_count.result c.args.order.devices log c.end_of_run.result
-    (driven commission c.args.order workers c.args.order.turns line (length line.run.events) report is (c.count-workers.ensures.value ∙ c.workers.ensures ∙ ap (λ (o : asked.SimOptions). asked.workers_of o) (sym options) ∙ sym is.workers) (is.prepared.turns ∙ sym is.turns) c.requires.one c.commission-line.ensures.grows c.commission-line.ensures.script c.keeps-2.ensures.fresh c.keeps-2.ensures.legal c.keeps-2.ensures.follows c.requires.good c.commission-line.ensures.tells c.commission-line.ensures.missed)
+    (driven commission c.args.order workers c.args.order.turns line (length line.run.events) report is (c.count-workers.ensures.value ∙ c.workers.ensures ∙ ap (λ (o : asked.SimOptions). asked.workers_of o) (sym options) ∙ sym is.workers) (is.prepared.turns ∙ sym is.turns) c.requires.one c.commission-line.ensures.grows c.commission-line.ensures.script c.keeps-2.ensures.fresh c.keeps-2.ensures.legal c.keeps-2.ensures.follows c.requires.good c.commission-line.ensures.tells)
     is.prepared.devices (c.len-turn_count.ensures ∙ ap (λ (ts : List GroupTurn). length ts) (is.prepared.turns ∙ sym is.turns)) (ap (λ (o : asked.SimOptions). o.log) (sym options))
     (subst (λ (devices : List (IndAddr × Option Image)). ShowsRun line.run report c.args.order.jobs c.len-turn_count.result devices log c.end_of_run.result) c.as_slice.ensures c.end_of_run.ensures)
 
