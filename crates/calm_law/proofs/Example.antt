@@ -16,12 +16,12 @@ use Rattle.calm_law.specs.CalmTunnel.{AreCalm, PutsRightly}
 use Rattle.calm_law.specs.CalmRun.{gateway, frame, calm_run}
 use Rattle.calm_law.proofs.Ways.{AllCame}
 
-all_over : (l : List Sent) → AllCame l → (age : ℕ) (s : Sent) → slice_get l age ≡ Some s → 1 ≤ s.delivered
+pub all_over : (l : List Sent) → AllCame l → (age : ℕ) (s : Sent) → slice_get l age ≡ Some s → 1 ≤ s.delivered
 all_over [] h age s e = absurd (cc)
 all_over (x ∷ l) h zero s e = (let same : x ≡ s = cc in subst (λ (z : Sent). 1 ≤ z.delivered) same h.0)
 all_over (x ∷ l) h (suc age) s e = all_over l h.1 age s e
 
-apart : false ≡ true → ⊥
+pub apart : false ≡ true → ⊥
 apart e = cc
 
 abbrev start : Tunnel
@@ -65,7 +65,7 @@ calm = (
 
 -- ---- the client
 
-renews_not : (r : List Entry) (x : Entry) → is_connect_request (put_in x.what) ≡ false → is_renewal x.what ≡ false → RenewsSo r x
+pub renews_not : (r : List Entry) (x : Entry) → is_connect_request (put_in x.what) ≡ false → is_renewal x.what ≡ false → RenewsSo r x
 renews_not r x a b = record { connects = λ e. absurd (apart (sym a ∙ e)); leaves = λ e f. absurd (apart (sym b ∙ e)); tries_left = λ e. absurd (apart (sym b ∙ e)) }
 
 pub renews : RenewsRightly (tunnel_record start calm_run)
@@ -98,7 +98,7 @@ pub acknowledges : AcknowledgesRightly (tunnel_record start calm_run)
 unfolding datagram_in ldata_in after_entry gateway_took
 acknowledges = (tt, (refl, (tt, (tt, (tt, (tt, (tt, (tt, tt))))))))
 
-paces_not : (r : List Entry) (x : Entry) → x.now ≤ newest_time r + 100 → is_beat_overdue (channel r) (to_poll_before r) ≡ false → asks_to_end x ≡ false → is_renewal x.what ≡ false → KeepsPace r x
+pub paces_not : (r : List Entry) (x : Entry) → x.now ≤ newest_time r + 100 → is_beat_overdue (channel r) (to_poll_before r) ≡ false → asks_to_end x ≡ false → is_renewal x.what ≡ false → KeepsPace r x
 paces_not r x short beats a b = record { short = short; beats = λ e. beats; ends_once = λ e f. absurd (apart (sym a ∙ e)); seeks = λ e. absurd (apart (sym b ∙ e)) }
 
 pub paces : KeepsPaces (tunnel_record start calm_run)

@@ -1,11 +1,8 @@
--- Each event of a calm line keeps tunnel and sessions together.
-use Rattle.std.proofs.Common.{◌≡◌, ◌≢◌, ◌⊎◌, ℕ, ◌≤◌, List, [], ◌∷◌, length, Bool, true, false, cond, ◌&&◌, Option, Some, None, refl, sym, ◌∙◌, ap, subst, inl, inr}
-use Rattle.std.specs.Prelude.{◌==◌, slice_get}
-use Rattle.knx_model.specs.declared.address.IndAddr.{IndAddr}
+-- Each event of a calm line keeps tunnel and sessions together: time passes in a wait alone, and no channel becomes fresh but by a new endpoint.
 use Rattle.knx_model.specs.declared.frames.cemi.Ldata.{Ldata}
-use Rattle.knx_model.specs.Plans.{Plan}
-use Rattle.line_model.specs.Reading.{ldata_in, datagram_in}
-use Rattle.line_law.proofs.ReadBack.{read_range}
+use Rattle.std.proofs.Common.{◌≡◌, ℕ, [], ◌∷◌, Bool, true, false, cond, ◌&&◌, Option, Some, None, refl, ◌∙◌, ap}
+use Rattle.std.specs.Prelude.{◌==◌, slice_get}
+use Rattle.line_model.specs.Reading.{datagram_in}
 use Rattle.line_model.specs.Network.{Sent, changed_at, once_more}
 use Rattle.line_model.specs.Gateway.{Channel, Request, gateway_took}
 use Rattle.line_model.specs.Tunnel as tunnel
@@ -16,13 +13,7 @@ use Rattle.knx_model.specs.declared.frames.ip.IpFrame.TheVariants.{ConnectReques
 use Rattle.line_model.specs.ChannelLost.{is_lost}
 use Rattle.line_model.specs.Gateway.{next_put}
 use Rattle.line_model.specs.Record.{Entry, is_renewal, is_poll, got_in}
-use Rattle.line_model.specs.ClientView.{ClientChannel, Fresh, Sought, RefusedBy, Unanswered, Open, Lost, Deed, Puts, Takes, Loses, Nothing, sought_got, goes_on, after_entry, channel, deed}
-use Rattle.line_model.specs.Attempts.{Resting}
-use Rattle.line_model.specs.World.{World}
-use Rattle.calm_law.specs.CalmSessions.{AreServed, attempts_by, IsOfSession, AsksOne, AsksSo}
-use Rattle.calm_law.proofs.State.{Steps}
-use Rattle.calm_law.proofs.Rows.{Devices, Riders}
-use Rattle.calm_law.proofs.Sessions.{Rides, entry_steps, nothing_more}
+use Rattle.line_model.specs.ClientView.{ClientChannel, Fresh, Sought, RefusedBy, Unanswered, Open, Lost, sought_got, goes_on, after_entry, channel}
 
 -- ---- time passes in a wait alone
 
@@ -122,45 +113,3 @@ fresh_before c x n h = by_fresh (is_fresh c) refl where
   by_fresh : (b : Bool) → is_fresh c ≡ b → c ≡ Fresh
   by_fresh true e = is_it c e
   by_fresh false e = absurd (let a : is_fresh (after_entry c x) ≡ false = ap is_fresh (after_plain c x n) ∙ goes_not c x e in let b : is_fresh (after_entry c x) ≡ true = ap is_fresh h in cc)
-
-fresh_deed : (x : Entry) → deed Fresh x ≡ Nothing
-unfolding deed
-fresh_deed x = refl
-
--- ---- all that rides
-
-abbrev pub Lands : Devices → Option Ldata → Type 0
-Lands devices None = Unit {0}
-Lands devices (Some f) = ((1 ≤ length f.tpdu) × (length f.tpdu ≤ 64)) × ((f.group ≡ true) ⊎ (devices f.destination ≢ None))
-
-module _ (plans : ℕ → Plan) (start : World) (served : AreServed plans) where
-  pub record Whole (me : IndAddr) (devices : Devices) (r : List Entry) (now : ℕ) (fly : Option Ldata) (q : List Ldata) : Type 0 where
-    pub riders : Riders me plans (attempts_by plans r) devices now fly q
-    pub lands : Lands devices fly
-    pub fresh : channel r ≡ Fresh → (a : ℕ) → attempts_by plans r a ≡ Resting 0
-
-  pub entry_whole : (me : IndAddr) (devices : Devices) (r : List Entry) (x : Entry) (now : ℕ) → x.now ≡ now → AsksSo plans start r x.now (deed (channel r) x) → ((a : ℕ) → start.devices a ≢ None → devices a ≢ None) → (channel (x ∷ r) ≡ Fresh → channel r ≡ Fresh)
-      → Steps (Whole me devices r now) (Whole me devices (x ∷ r) now) (deed (channel r) x)
-  entry_whole me devices r x now at asks present back = by_deed (deed (channel r) x) refl asks (entry_steps plans start served me devices r x now at asks) where
-    fresh_on : (channel r ≡ Fresh → (a : ℕ) → attempts_by plans r a ≡ Resting 0) → channel (x ∷ r) ≡ Fresh → (a : ℕ) → attempts_by plans (x ∷ r) a ≡ Resting 0
-    fresh_on h e a = nothing_more plans start served me devices r x (ap (λ c. deed c x) (back e) ∙ fresh_deed x) a ∙ h (back e) a
-
-    lands_so : (octets : List ℕ) (f : Ldata) → ldata_in octets ≡ Some f → AsksOne plans start r x.now octets → Lands devices (Some f)
-    lands_so octets f reads o = (read_range octets f reads, by_why o.why) where
-      same : o.frame ≡ f
-      same = let e : Some o.frame ≡ Some f = sym o.reads ∙ reads in cc
-
-      by_why : (o.frame.group ≡ true) ⊎ IsOfSession plans start r x.now o.frame → (f.group ≡ true) ⊎ (devices f.destination ≢ None)
-      by_why (inl g) = inl (ap (λ (z : Ldata). z.group) (sym same) ∙ g)
-      by_why (inr s) = inr (subst (λ (z : Ldata). devices z.destination ≢ None) same (present o.frame.destination s.there))
-
-    by_deed : (what : Deed) → deed (channel r) x ≡ what → AsksSo plans start r x.now what → Steps (Rides plans start served me devices r now) (Rides plans start served me devices (x ∷ r) now) what → Steps (Whole me devices r now) (Whole me devices (x ∷ r) now) what
-    by_deed (Puts octets) is a s = λ f q reads cons h. record { riders = s f q reads cons h.riders; lands = lands_so octets f reads a; fresh = fresh_on h.fresh }
-    by_deed (Takes octets) is a s = λ fly y q content h. record { riders = s fly y q content h.riders; lands = h.lands; fresh = fresh_on h.fresh }
-    by_deed Loses is a s = tt
-    by_deed Nothing is a s = λ fly q h. record { riders = s fly q h.riders; lands = h.lands; fresh = fresh_on h.fresh }
-
-  -- an entry that takes no new endpoint
-  pub entry_on : (me : IndAddr) (devices : Devices) (r : List Entry) (x : Entry) (now : ℕ) → x.now ≡ now → is_renewal x.what ≡ false → AsksSo plans start r x.now (deed (channel r) x) → ((a : ℕ) → start.devices a ≢ None → devices a ≢ None)
-      → Steps (Whole me devices r now) (Whole me devices (x ∷ r) now) (deed (channel r) x)
-  entry_on me devices r x now at n asks present = entry_whole me devices r x now at asks present (fresh_before (channel r) x n)

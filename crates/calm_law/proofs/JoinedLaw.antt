@@ -1,179 +1,506 @@
--- On a calm line no attempt runs where time passes while a channel is open.
-use Rattle.std.proofs.Common.{◌≡◌, ◌≢◌, ◌⊎◌, ℕ, zero, suc, ◌+◌, ◌<◌, List, [], ◌∷◌, Option, Some, None, refl, sym, ap, subst, arith, inl, inr}
+-- On a calm line whose client is safe and loses no time, time passes only where nothing is awaited and no job has begun, and nothing fails.
+use Rattle.std.proofs.Common.{◌≡◌, ◌≢◌, ◌⊎◌, ℕ, zero, suc, ◌+◌, ◌-◌, ◌<◌, ◌≤◌, List, [], ◌∷◌, ◌++◌, length, Bool, true, false, cond, Option, Some, None, refl, sym, ◌∙◌, ap, subst, arith, inl, inr, drop, length-append}
+use Rattle.std.specs.Prelude.{◌==◌, slice_get}
+use Rattle.std.specs.List.{AllByRecursion}
 use Rattle.std.proofs.lemmas.Bool.{lt-ltb}
+use Rattle.knx_model.specs.declared.frames.cemi.Ldata.{Ldata}
+use Rattle.knx_model.specs.declared.log.Sign.{Sign}
+use Rattle.knx_model.specs.Device.{HasCapacities, answer_in}
+use Rattle.knx_model.specs.GoodPlan.{AnswersAll}
+use Rattle.line_model.specs.Waiting.{IsResting}
 use Rattle.knx_model.specs.DeviceState.{DeviceState}
-use Rattle.knx_model.specs.Plans.{Plan}
+use Rattle.line_model.specs.declared.group.GroupTurn.{GroupTurn}
+use Rattle.line_model.specs.declared.log.LogEntry.{LogEntry}
+use Rattle.line_model.specs.declared.log.LogWhat.{LogWhat}
+use Rattle.line_model.specs.declared.log.LogWhat.TheVariants.{Took, Done, Failed, Refused, Sent, Lost as LostTurn}
+use Rattle.line_model.specs.Asks.{IsRightDeed, moment_of}
 use Rattle.line_model.specs.Calm as line
+use Rattle.line_model.specs.ClientView.{Deed, Puts, Takes, Loses, Nothing, channel, deed}
+use Rattle.line_model.specs.Ends.{IsAtRest, EndsSo, EndsAtRest, BeginsUndecided}
 use Rattle.line_model.specs.Fresh.{IsFresh}
-use Rattle.line_model.specs.Legal.{IsLegal}
+use Rattle.line_model.specs.Haste.{KeepsPaces, LosesNoTimes, HasSent, has_just_waited}
+use Rattle.line_model.specs.Leaves.{StaysOpen}
+use Rattle.line_model.specs.Legal.{OfDevice, IsLegal}
 use Rattle.line_model.specs.LinkStory.{newest_time}
+use Rattle.line_model.specs.Log.{Job, JobState, Untaken, Held, Over, job_of, turn_of, turn_place, log_before, state_of, latest, IsLog, MayFollow, OneDownloaderPerDevice}
+use Rattle.line_model.specs.Moments.{moments, between, stretches, course, session}
+use Rattle.line_model.specs.Record.{Entry, Item, Quiet, Placed, entry, entries, placed_if, placed, noted, item_of}
+use Rattle.line_model.specs.Renews.{RenewsRightly, AcknowledgesRightly}
+use Rattle.line_model.specs.Sendings.{SendsRightly}
+use Rattle.line_model.specs.Signs.{SignsHold}
+use Rattle.line_model.specs.Told.{session_since, last_stretch, IsRefused, IsTrue, ToldTruly, OfJob, OfHeld as WhereHeld, OfTurn, PutOnce, IsLoss}
 use Rattle.line_model.specs.Tunnel as tunnel
 use Rattle.line_model.specs.Tunnel.{Tunnel, TunnelEvent, Commissions}
-use Rattle.line_model.specs.Record.{Entry, Item, Quiet, entry, noted, item_of, record_of}
-use Rattle.line_model.specs.ClientView.{ClientChannel, Fresh, Sought, RefusedBy, Unanswered, Open, Lost, channel}
-use Rattle.line_model.specs.Asks.{HasPlace}
-use Rattle.line_model.specs.Waiting.{IsResting, NextIsSending}
-use Rattle.line_model.specs.World.{World, Event, Send, From, Renew, Up, UpRefused, Down, LoseUp, LoseDown, Bus, BusTorn, BusWorn, BusAgain, DevSend, DevRepeat, DevClose, GwAgain, GwRepeat, GwClose, Cut, On, Pass, me, tunnel_event, replay}
+use Rattle.line_model.specs.Undisturbed.{HasDevices, IsServedJob, IsIdle, IsIdleAt, PassesIdly, FailsNot, NothingFailed, IsPrompt, world_at, RefusesSo, RefusesRightly}
+use Rattle.line_model.specs.World.{World, Event, Send, From, Renew, Up, UpRefused, Down, LoseUp, LoseDown, Bus, BusTorn, BusWorn, BusAgain, DevSend, DevRepeat, DevClose, GwAgain, GwRepeat, GwClose, Cut, On, Pass, me, tunnel_event, step, replay}
+use Rattle.line_law.specs.Safe.{EachAsked}
 use Rattle.line_law.proofs.Coupled.{Owned}
-use Rattle.calm_law.specs.CalmLine.{AreShort}
-use Rattle.calm_law.specs.CalmSessions.{AreServed, HavePower, attempts_by, AsksPromptly, AskPromptly, RestsSo, PassesAtRest}
+use Rattle.tunnel_law.proofs.Inside.{Every}
+use Rattle.calm_law.specs.CalmLine.{HaveShortValues}
+use Rattle.calm_law.proofs.Short.{AreShort}
+use Rattle.calm_law.proofs.ShortFrames.{are_short}
+use Rattle.calm_law.specs.CalmTunnel.{PutsSo, PutsRightly, IsKept, KeepsItsChannel}
+use Rattle.calm_law.specs.CalmJobs.{HavePower, IsPromptClient}
+use Rattle.calm_law.proofs.State.{lives_over, Ridden, ridden}
 use Rattle.calm_law.proofs.Sends.{MayDo}
-use Rattle.calm_law.proofs.Law.{May, Keeps, keeps_before, may_of, idle_of, lives_rides}
+use Rattle.calm_law.proofs.Law.{Inv, May, Keeps, may_of, idle_of, lives_rides, kept_of}
 use Rattle.calm_law.proofs.Ends.{parted_pass}
 use Rattle.calm_law.proofs.OnLine.{owned, event_calm}
-use Rattle.calm_law.proofs.Joined.{Whole, step_now, fresh_before}
-use Rattle.calm_law.proofs.JoinedTime.{row_rests}
+use Rattle.calm_law.proofs.Joined.{step_now, fresh_before}
+use Rattle.calm_law.proofs.Held.{HeldJob, before_in, held_before, after, AreUpto, moments_upto, upto_next, first_moments, all_before, next_moment}
+use Rattle.calm_law.proofs.Finished.{asked_or_not, WhereAsked, asked_more, finished_stays, none_held, none_next, signs_not, NotLost, lost_after, put_not_lost, lost_deed, none_between}
+use Rattle.calm_law.proofs.Capacities.{devices_have}
+use Rattle.calm_law.proofs.Sessions.{Whole}
+use Rattle.calm_law.proofs.JoinedTime.{few_began, none_began}
+use Rattle.calm_law.proofs.Logged.{ends_at_rest, entry_whole}
+use Rattle.calm_law.proofs.Refused.{refused_not}
+use Rattle.calm_law.proofs.Ended.{end_well}
+use Rattle.calm_law.specs.CalmEnds.{EndWell}
+use Rattle.calm_law.proofs.Rows.{Devices, Willing}
+use Rattle.calm_law.proofs.Books.{tried}
+use Rattle.calm_law.proofs.JoinedEvents.{MayPutSo}
 use Rattle.calm_law.proofs.JoinedSteps.{Times, TimesSo}
-use Rattle.calm_law.proofs.JoinedAlways.{Goes, goes_first, goes_on}
+use Rattle.calm_law.proofs.JoinedAlways.{entries_if, Goes, goes_first, goes_on}
 use Rattle.calm_law.proofs.JoinedRests.{quiet_nothing, newest_after, devices_there}
 
-module _ (plans : ℕ → Plan) (start : World) (served : AreServed plans) where
-  asks_before : (o : Option Item) (now : ℕ) (r : List Entry) → AskPromptly plans start (noted o now r) → AskPromptly plans start r
-  asks_before None now r h = h
-  asks_before (Some what) now r h = h.1
+-- ---- what the client keeps to, by record and log
 
-  asks_of : (o : Option Item) (now : ℕ) (r : List Entry) → AskPromptly plans start (noted o now r) → (item : Item) → o ≡ Some item → AsksPromptly plans start r (entry item now)
-  asks_of None now r h item e = absurd (cc)
-  asks_of (Some what) now r h item e = (let same : what ≡ item = cc in subst (λ z. AsksPromptly plans start r (entry z now)) same h.0)
+record IsSo (jobs : List Job) (turns : List GroupTurn) (log : List LogEntry) (places : List Placed) : Type 0 where
+  renews : RenewsRightly (entries places)
+  sends : SendsRightly (entries places)
+  acknowledges : AcknowledgesRightly (entries places)
+  hastens : LosesNoTimes jobs turns log places
+  asks : EachAsked jobs turns log places
+  begins : BeginsUndecided jobs log places
 
-  record Stands (w : World) (r : List Entry) : Type 0 where
-    goes : Goes plans start served w r
-    newest : newest_time r ≡ w.tunnel.now
-    there : (a : ℕ) → start.devices a ≢ None → w.devices a ≢ None
+module _ (jobs : List Job) (turns : List GroupTurn) (log : List LogEntry) where
+  so_before : (at now : ℕ) (o : Option Item) (places : List Placed) → IsSo jobs turns log (placed_if at now o places) → IsSo jobs turns log places
+  so_before at now None places h = h
+  so_before at now (Some what) places h = record { renews = h.renews.1; sends = h.sends.1; acknowledges = h.acknowledges.1; hastens = h.hastens.1; asks = h.asks.1; begins = h.begins.1 }
 
-  -- what is known at an event
-  module _ (w : World) (r : List Entry) (s : Stands w r) where
-    busy_of : (ms : ℕ) → AsksPromptly plans start r (entry Quiet (w.tunnel.now + ms)) → (ms ≡ 0) ⊎ ((a : ℕ) → NextIsSending (attempts_by plans r a) w.tunnel.now → IsResting (attempts_by plans r a) ⊎ (HasPlace (channel r) → ⊥))
-    busy_of zero ask = inl refl
-    busy_of (suc ms) ask =
-        let newest : newest_time r ≡ w.tunnel.now = s.newest in
-        let later : newest_time r < w.tunnel.now + suc ms = omega (arith, newest) in
-        inr (subst (λ z. (a : ℕ) → NextIsSending (attempts_by plans r a) z → IsResting (attempts_by plans r a) ⊎ (HasPlace (channel r) → ⊥)) newest (ask.busy (lt-ltb (newest_time r) (w.tunnel.now + suc ms) later)))
+  paces : (places : List Placed) → LosesNoTimes jobs turns log places → KeepsPaces (entries places)
+  paces [] h = tt
+  paces (p ∷ older) h = (h.0.pace, paces older h.1)
 
-    times_pass : (ms : ℕ) → line.IsCalm w (Pass ms) → MayDo r (entry Quiet (w.tunnel.now + ms)) → AsksPromptly plans start r (entry Quiet (w.tunnel.now + ms)) → Times plans start served w r ms
-    times_pass ms c may ask =
+  puts_so : (older : List Placed) (p : Placed) (what : Deed) → IsRightDeed jobs turns (log_before p.at log) older (moment_of older p) what → PutsSo (channel (entries older)) what
+  puts_so older p (Puts octets) h = record { frame = h.frame; reads = h.reads; request = h.request; place = h.place }
+  puts_so older p (Takes octets) h = tt
+  puts_so older p Loses h = tt
+  puts_so older p Nothing h = tt
+
+  puts : (places : List Placed) → EachAsked jobs turns log places → PutsRightly (entries places)
+  puts [] h = tt
+  puts (p ∷ older) h = (puts_so older p (deed (channel (entries older)) p.what) h.0, puts older h.1)
+
+  keeps : (places : List Placed) → IsSo jobs turns log places → Keeps (entries places)
+  keeps places h = record { renews = h.renews; sends = h.sends; acknowledges = h.acknowledges; paces = paces places h.hastens; puts = puts places h.asks }
+
+-- ---- an entry of the log, by what is older
+
+form_at : (jobs : List Job) (turns : List GroupTurn) (count : ℕ) (newer rest : List LogEntry) → IsLog jobs turns count (newer ++ rest) → IsLog jobs turns count rest
+form_at jobs turns count [] rest h = h
+form_at jobs turns count (x ∷ newer) rest h = form_at jobs turns count newer rest h.1
+
+alone_at : (jobs : List Job) (newer rest : List LogEntry) → OneDownloaderPerDevice jobs (newer ++ rest) → OneDownloaderPerDevice jobs rest
+alone_at jobs [] rest h = h
+alone_at jobs (x ∷ newer) rest h = alone_at jobs newer rest h.1
+
+rests_at : (jobs : List Job) (places : List Placed) (newer rest : List LogEntry) → EndsAtRest jobs places (newer ++ rest) → EndsAtRest jobs places rest
+rests_at jobs places [] rest h = h
+rests_at jobs places (x ∷ newer) rest h = rests_at jobs places newer rest h.1
+
+true_at : (jobs : List Job) (turns : List GroupTurn) (places : List Placed) (newer rest : List LogEntry) → ToldTruly jobs turns places (newer ++ rest) → ToldTruly jobs turns places rest
+true_at jobs turns places [] rest h = h
+true_at jobs turns places (x ∷ newer) rest h = true_at jobs turns places newer rest h.1
+
+none_before : (log : List LogEntry) → log_before 0 log ≡ []
+none_before [] = refl
+none_before (e ∷ log) = before_in 0 e log false (grind arith) ∙ none_before log
+
+so_far : (jobs : List Job) (turns : List GroupTurn) (count : ℕ) (log : List LogEntry) → IsLog jobs turns count log → latest log ≤ count
+so_far jobs turns count [] h = omega arith
+so_far jobs turns count (e ∷ log) h = h.0.so_far
+
+of_all : (P : Job → Type 0) (jobs : List Job) (k : ℕ) (job : Job) → AllByRecursion P jobs → slice_get jobs k ≡ Some job → P job
+of_all P [] k job h e = absurd (cc)
+of_all P (x ∷ jobs) zero job h e = (let same : x ≡ job = cc in subst P same h.0)
+of_all P (x ∷ jobs) (suc k) job h e = of_all P jobs k job h.1 e
+
+numbered : (P : Job → Type 0) (jobs : List Job) (k : ℕ) (b : Bool) (job : Job) → AllByRecursion P jobs → cond {A = Option Job} b None (slice_get jobs (k - 1)) ≡ Some job → P job
+numbered P jobs k true job h e = absurd (cc)
+numbered P jobs k false job h e = of_all P jobs (k - 1) job h e
+
+pub each_job : (P : Job → Type 0) (jobs : List Job) → AllByRecursion P jobs → (k : ℕ) (job : Job) → job_of jobs k ≡ Some job → P job
+each_job P jobs h k job e = numbered P jobs k (k == 0) job h e
+
+-- ---- the law
+
+module _ (jobs : List Job) (turns : List GroupTurn) (start : World) (served : (k : ℕ) (job : Job) → job_of jobs k ≡ Some job → IsServedJob job) (on_line : (k : ℕ) (job : Job) → job_of jobs k ≡ Some job → start.devices job.device.raw ≢ None) (f : IsFresh start) (power : HavePower start)
+    (log : List LogEntry) (events : List Event) (form : IsLog jobs turns (length events) log) (alone : OneDownloaderPerDevice jobs log) (truly : ToldTruly jobs turns (placed start events) log) (ends : EndsAtRest jobs (placed start events) log) where
+  abbrev full : List Placed
+  full = placed start events
+
+  -- the devices at each moment
+  abbrev then : ℕ → Devices
+  then n = (world_at start events n).devices
+
+  -- of a moment: tunnel and sessions, what is finished where the end of the channel was asked for, and that nothing failed yet
+  record So (w : World) (places : List Placed) (older : List LogEntry) : Type 0 where
+    goes : Goes jobs then w older places
+    finished : WhereAsked jobs turns older (entries places)
+    fails_not : NothingFailed older
+    refuses : RefusesRightly jobs start events older
+
+  abbrev AllThere : World → Type 0
+  AllThere w = (a : ℕ) → start.devices a ≢ None → w.devices a ≢ None
+
+  inv_over : (E F : Option Ldata → List Ldata → Type 0) (r : List Entry) (t : Tunnel) → ((fly : Option Ldata) (q : List Ldata) → E fly q → F fly q) → Inv E r t → Inv F r t
+  inv_over E F r t to (inl l) = inl (lives_over E F r t to l)
+  inv_over E F r t to (inr x) = inr x
+
+  -- ---- an entry of the log is made at a moment
+
+  module _ (w : World) (places : List Placed) (n : ℕ) (upto : AreUpto n (moments places)) (link : (since : ℕ) → between since n (moments full) ≡ after since (moments places)) (there : AllThere w) (kept : StaysOpen (entries places) → Every NotLost (moments places)) (is_now : (a : ℕ) → w.devices a ≡ then n a) where
+    one_attempt : (older : List LogEntry) → Goes jobs then w older places → WhereAsked jobs turns older (entries places) → (k worker since : ℕ) (job : Job) → job_of jobs k ≡ Some job → state_of k older ≡ Held worker since → (signs : List Sign) → SignsHold job.device.raw signs (between since n (moments full)) → ⊥
+    one_attempt older (inr (inl p)) finished k worker since job is held signs hold = none_held jobs turns older k worker since job (finished p.up.asks.1) is held
+    one_attempt older (inr (inr g)) finished k worker since job is held signs hold = none_held jobs turns older k worker since job (finished g.asked) is held
+    one_attempt older (inl l) finished k worker since job is held signs hold = by_device (w.devices job.device.raw) refl where
+      h : HeldJob jobs older job.device.raw
+      h = record { number = k; job = job; worker = worker; since = since; there = is; of_device = refl; held = held }
+
+      x : Ridden (Whole jobs then (me w) older places w.devices w.tunnel.now)
+      x = ridden (Whole jobs then (me w) older places w.devices w.tunnel.now) (entries places) w.tunnel l
+
+      by_device : (o : Option DeviceState) → w.devices job.device.raw ≡ o → ⊥
+      by_device None e = there job.device.raw (on_line k job is) e
+      by_device (Some d) e =
+          signs_not job.device.raw signs (x.so.since job.device.raw) (few_began (me w) job.device.raw (x.so.plans job.device.raw) (x.so.olds job.device.raw) (x.so.since job.device.raw) x.fly x.queue d w.tunnel.now (x.so.riders.rows job.device.raw d e))
+          (subst (SignsHold job.device.raw signs) (link since ∙ sym (x.so.held job.device.raw h).since_is) hold)
+
+    fails_not : (older : List LogEntry) (at : ℕ) → at ≡ n → (worker : ℕ) (what : LogWhat) → Goes jobs then w older places → WhereAsked jobs turns older (entries places) → MayFollow jobs turns worker older what → IsTrue jobs turns full older at what → FailsNot what
+    fails_not older at is worker (Took k) goes finished may true_ = tt
+    fails_not older at is worker (Done k) goes finished may true_ = tt
+    fails_not older at is worker (Refused k op got expected) goes finished may true_ = tt
+    fails_not older at is worker (Sent k) goes finished may true_ = tt
+    fails_not older at is worker (Failed k signs) goes finished may true_ = by_job (job_of jobs k) refl true_ where
+      by_state : (job : Job) → job_of jobs k ≡ Some job → (s : JobState) → state_of k older ≡ s → WhereHeld (λ since. SignsHold job.device.raw signs (between since at (moments full))) s → ⊥
+      by_state job there_is Untaken e t = t
+      by_state job there_is (Held by since) e t = one_attempt older goes finished k by since job there_is e signs (subst (λ z. SignsHold job.device.raw signs (between since z (moments full))) is t)
+      by_state job there_is Over e t = t
+
+      by_job : (o : Option Job) → job_of jobs k ≡ o → OfJob (λ job since. SignsHold job.device.raw signs (between since at (moments full))) o (state_of k older) → ⊥
+      by_job None e t = t
+      by_job (Some job) e t = by_state job e (state_of k older) refl t
+    fails_not older at is worker (LostTurn k) goes finished may true_ = by_asked (asked_or_not (entries places)) where
+      by_turn : (o : Option GroupTurn) → Every NotLost (between (turn_place (k - 1) older) at (moments full)) → OfTurn (λ turn. PutOnce turn IsLoss (between (turn_place (k - 1) older) at (moments full))) o → ⊥
+      by_turn None every t = t
+      by_turn (Some turn) every t = put_not_lost turn (between (turn_place (k - 1) older) at (moments full)) every t
+
+      by_asked : StaysOpen (entries places) ⊎ (StaysOpen (entries places) → ⊥) → ⊥
+      by_asked (inl stays) =
+          by_turn (turn_of turns k)
+          (subst (Every NotLost) (sym (ap (λ z. between (turn_place (k - 1) older) z (moments full)) is ∙ link (turn_place (k - 1) older))) (lost_after (turn_place (k - 1) older) (moments places) (kept stays))) true_
+      by_asked (inr asked) = none_next jobs turns older k (finished asked) may.0
+
+    -- a job whose device gives each wanted answer isn't refused
+    refuses_so : (older : List LogEntry) (e : LogEntry) → e.at ≡ n → (k op : ℕ) (got expected : List ℕ) → e.what ≡ Refused k op got expected → Goes jobs then w older places → WhereAsked jobs turns older (entries places) → IsAtRest jobs full older e.at k → IsTrue jobs turns full older e.at (Refused k op got expected)
+        → (job : Job) (worker since : ℕ) (d : DeviceState) → job_of jobs k ≡ Some job → state_of k older ≡ Held worker since → then since job.device.raw ≡ Some d → AnswersAll (answer_in d.frames) job.plan d.kept → ⊥
+    refuses_so older e at k op got expected what (inr (inl p)) finished rest told job worker since d there_is held was answers = none_held jobs turns older k worker since job (finished p.up.asks.1) there_is held
+    refuses_so older e at k op got expected what (inr (inr g)) finished rest told job worker since d there_is held was answers = none_held jobs turns older k worker since job (finished g.asked) there_is held
+    refuses_so older e at k op got expected what (inl l) finished rest told job worker since d there_is held was answers = by_device (w.devices job.device.raw) refl where
+      h : HeldJob jobs older job.device.raw
+      h = record { number = k; job = job; worker = worker; since = since; there = there_is; of_device = refl; held = held }
+
+      x : Ridden (Whole jobs then (me w) older places w.devices w.tunnel.now)
+      x = ridden (Whole jobs then (me w) older places w.devices w.tunnel.now) (entries places) w.tunnel l
+
+      willing : Willing (x.so.plans job.device.raw) (x.so.olds job.device.raw)
+      willing =
+          subst (λ z. Willing (x.so.plans job.device.raw) z) (sym ((x.so.held job.device.raw h).old_is ∙ was)) (subst (λ z. AnswersAll (answer_in d.frames) z d.kept) (sym (x.so.held job.device.raw h).plan_is) answers)
+
+      rests : IsResting (tried job.device.raw (x.so.plans job.device.raw) (x.so.since job.device.raw))
+      rests = ends_at_rest jobs then turns (me w) full places n upto link w.devices is_now w.tunnel.now x.fly x.queue older e at x.so k job.device.raw h refl rest
+
+      told_so : IsRefused job.device.raw job.plan op got expected (session_since job.device.raw since e.at full)
+      told_so =
+          subst (λ z. OfJob (λ j since. IsRefused j.device.raw j.plan op got expected (session_since j.device.raw since e.at full)) (Some job) z) held
+          (subst (λ z. OfJob (λ j since. IsRefused j.device.raw j.plan op got expected (session_since j.device.raw since e.at full)) z (state_of k older)) there_is told)
+
+      l_is : between since e.at (moments full) ≡ x.so.since job.device.raw
+      l_is = ap (λ z. between since z (moments full)) at ∙ link since ∙ sym (x.so.held job.device.raw h).since_is
+
+      its : IsRefused job.device.raw (x.so.plans job.device.raw) op got expected (session (course job.device.raw (last_stretch (stretches job.device.raw (x.so.since job.device.raw)))))
+      its =
+          subst (λ z. IsRefused job.device.raw z op got expected (session (course job.device.raw (last_stretch (stretches job.device.raw (x.so.since job.device.raw)))))) (sym (x.so.held job.device.raw h).plan_is)
+          (subst (λ z. IsRefused job.device.raw job.plan op got expected (session (course job.device.raw (last_stretch (stretches job.device.raw z))))) l_is told_so)
+
+      by_device : (o : Option DeviceState) → w.devices job.device.raw ≡ o → ⊥
+      by_device None e = there job.device.raw (on_line k job there_is) e
+      by_device (Some now_) e =
+          refused_not (me w) job.device.raw (x.so.plans job.device.raw) (x.so.olds job.device.raw) (x.so.since job.device.raw) x.fly x.queue now_ w.tunnel.now op got expected (x.so.riders.rows job.device.raw now_ e) rests willing its
+
+    refuses_all : (older : List LogEntry) (e : LogEntry) → e.at ≡ n → (what : LogWhat) → e.what ≡ what → Goes jobs then w older places → WhereAsked jobs turns older (entries places) → EndsSo jobs full older e.at what → IsTrue jobs turns full older e.at what → RefusesSo jobs start events older what
+    refuses_all older e at (Took k) is goes finished ends_ told = tt
+    refuses_all older e at (Done k) is goes finished ends_ told = tt
+    refuses_all older e at (Failed k signs) is goes finished ends_ told = tt
+    refuses_all older e at (Refused k op got expected) is goes finished ends_ told = λ job worker since d there_is held was answers. refuses_so older e at k op got expected is goes finished ends_ told job worker since d there_is held was answers
+    refuses_all older e at (Sent k) is goes finished ends_ told = tt
+    refuses_all older e at (LostTurn k) is goes finished ends_ told = tt
+
+    entry_so : (newer older : List LogEntry) (e : LogEntry) → log ≡ newer ++ e ∷ older → e.at ≡ n → So w places older → So w places (e ∷ older)
+    entry_so newer older e whole at s =
+        let form_e : IsLog jobs turns (length events) (e ∷ older) = form_at jobs turns (length events) newer (e ∷ older) (subst (IsLog jobs turns (length events)) whole form) in
+        let alone_e : OneDownloaderPerDevice jobs (e ∷ older) = alone_at jobs newer (e ∷ older) (subst (OneDownloaderPerDevice jobs) whole alone) in
+        let ends_e : EndsAtRest jobs full (e ∷ older) = rests_at jobs full newer (e ∷ older) (subst (EndsAtRest jobs full) whole ends) in
+        let true_e : ToldTruly jobs turns full (e ∷ older) = true_at jobs turns full newer (e ∷ older) (subst (ToldTruly jobs turns full) whole truly) in
+        let may : MayFollow jobs turns e.worker older e.what = form_e.0.follows in
         record {
-          nothing = quiet_nothing (channel r) (w.tunnel.now + ms) (idle_of (Whole plans start served (me w) w.devices r w.tunnel.now) r w.tunnel ms s.goes (record { up = c.settled.up; down = c.settled.down; bus = c.settled.bus }) may);
-          back = fresh_before (channel r) (entry Quiet (w.tunnel.now + ms)) refl;
-          busy = busy_of ms ask;
+          goes = inv_over (Whole jobs then (me w) older places w.devices w.tunnel.now) (Whole jobs then (me w) (e ∷ older) places w.devices w.tunnel.now) (entries places) w.tunnel
+              (λ fly q x. entry_whole jobs then turns (me w) full places n upto link w.devices is_now w.tunnel.now fly q older e at x may alone_e.0 ends_e.0) s.goes;
+          finished = λ asked. finished_stays jobs turns e older may (s.finished asked);
+          fails_not = (fails_not older e.at at e.worker e.what s.goes s.finished may true_e.0, s.fails_not);
+          refuses = (refuses_all older e at e.what refl s.goes s.finished ends_e.0 true_e.0, s.refuses);
         }
 
-    times : (e : Event) → line.IsCalm w e → May r (item_of w.tunnel (tunnel_event w e)) (tunnel.after w.tunnel (tunnel_event w e)).now → ((item : Item) → item_of w.tunnel (tunnel_event w e) ≡ Some item → AsksPromptly plans start r (entry item (tunnel.after w.tunnel (tunnel_event w e)).now))
-        → TimesSo plans start served w r e
-    times (Send octets) c may ask = tt
-    times (From endpoint octets) c may ask = tt
-    times Renew c may ask = tt
-    times (Up age) c may ask = tt
-    times (UpRefused age status) c may ask = tt
-    times (Down age) c may ask = tt
-    times (LoseUp age) c may ask = tt
-    times (LoseDown age) c may ask = tt
-    times (Bus left_out) c may ask = tt
-    times (BusTorn fresh octets) c may ask = tt
-    times (BusWorn octets) c may ask = tt
-    times (BusAgain device) c may ask = tt
-    times (DevSend device gateway left_out) c may ask = tt
-    times (DevRepeat device gateway) c may ask = tt
-    times (DevClose device) c may ask = tt
-    times GwAgain c may ask = tt
-    times GwRepeat c may ask = tt
-    times GwClose c may ask = tt
-    times (Cut device) c may ask = tt
-    times (On device) c may ask = tt
-    times (Pass ms) c may ask = times_pass ms c (may Quiet refl) (ask Quiet refl)
+  -- ---- an event
 
-    -- no attempt at a device of the line runs
-    rest_so : (ms : ℕ) (ch : ClientChannel) → ((a : ℕ) → start.devices a ≢ None → IsResting (attempts_by plans r a)) → RestsSo plans start r (Pass (suc ms)) ch
-    rest_so ms Fresh h = tt
-    rest_so ms (Sought since) h = tt
-    rest_so ms (RefusedBy status) h = tt
-    rest_so ms Unanswered h = tt
-    rest_so ms (Open c l) h = h
-    rest_so ms (Lost c) h = tt
+  -- as it stands after so many events and the entries that were made there
+  record Stands (past : List Event) : Type 0 where
+    so : So (replay start past) (placed start past) (log_before (suc (length past)) log)
+    newest : newest_time (entries (placed start past)) ≡ (replay start past).tunnel.now
+    there : AllThere (replay start past)
+    capable : (a : ℕ) (d : DeviceState) → (replay start past).devices a ≡ Some d → HasCapacities d.kept
+    kept : StaysOpen (entries (placed start past)) → Every NotLost (moments (placed start past))
+    idly : PassesIdly jobs start log past
 
-    sends_or : (a : ℕ) → HasPlace (channel r) → IsResting (attempts_by plans r a) ⊎ (HasPlace (channel r) → ⊥) → IsResting (attempts_by plans r a)
-    sends_or a place (inl rest) = rest
-    sends_or a place (inr full) = absurd (full place)
+  -- the log entries of a moment
+  module _ (newer past : List Event) (whole : events ≡ newer ++ past) where
+    abbrev n : ℕ
+    n = length past
 
-    busy_at : (ms : ℕ) → (suc ms ≡ 0) ⊎ ((a : ℕ) → NextIsSending (attempts_by plans r a) w.tunnel.now → IsResting (attempts_by plans r a) ⊎ (HasPlace (channel r) → ⊥)) → (a : ℕ) → NextIsSending (attempts_by plans r a) w.tunnel.now → IsResting (attempts_by plans r a) ⊎ (HasPlace (channel r) → ⊥)
-    busy_at ms (inl z) = absurd (cc)
-    busy_at ms (inr b) = b
+    link : (since : ℕ) → between since n (moments full) ≡ after since (moments (placed start past))
+    link since = ap (λ z. between since n (moments (placed start z))) whole ∙ first_moments since start newer past
 
-    device_rests : (ms : ℕ) → line.IsCalm w (Pass (suc ms)) → AsksPromptly plans start r (entry Quiet (w.tunnel.now + suc ms)) → Whole plans start served (me w) w.devices r w.tunnel.now None [] → HasPlace (channel r) → (a : ℕ) → w.devices a ≢ None → IsResting (attempts_by plans r a)
-    device_rests ms c ask h place a there = by_device (w.devices a) refl there where
-      by_device : (o : Option DeviceState) → w.devices a ≡ o → o ≢ None → IsResting (attempts_by plans r a)
-      by_device None is some = absurd (some refl)
-      by_device (Some d) is some = row_rests (me w) a (plans a) (attempts_by plans r a) d w.tunnel.now (h.riders.rows a d is) (c.settled.nothing_to_send.devices a d is) (λ n. sends_or a place (busy_at ms (busy_of (suc ms) ask) a n))
+    drop_newer : (l : List Event) → drop (length l) (l ++ past) ≡ past
+    drop_newer [] = refl
+    drop_newer (x ∷ l) = drop_newer l
 
-    rests_at : (ms : ℕ) → line.IsCalm w (Pass (suc ms)) → MayDo r (entry Quiet (w.tunnel.now + suc ms)) → AsksPromptly plans start r (entry Quiet (w.tunnel.now + suc ms)) → Goes plans start served w r → RestsSo plans start r (Pass (suc ms)) (channel r)
-    rests_at ms c may ask (inl l) =
-        elim (lives_rides (Whole plans start served (me w) w.devices r w.tunnel.now) r w.tunnel (suc ms) l (record { up = c.settled.up; down = c.settled.down; bus = c.settled.bus }) may) [
-          | inl fresh ↦ subst (λ z. RestsSo plans start r (Pass (suc ms)) z) (sym fresh) tt
-          | inr h ↦ rest_so ms (channel r) (λ a there. device_rests ms c ask h.0 h.1 a (s.there a there))
-        ]
-    rests_at ms c may ask (inr (inl p)) = absurd (parted_pass r w.tunnel p (record { up = c.settled.up; down = c.settled.down; bus = c.settled.bus }))
-    rests_at ms c may ask (inr (inr g)) = subst (λ z. RestsSo plans start r (Pass (suc ms)) z) (sym g.lost) tt
+    world_is : world_at start events n ≡ replay start past
+    world_is =
+        ap (λ z. world_at start z n) whole
+        ∙ ap (λ z. replay start (drop z (newer ++ past))) (let x = length-append newer past in let y : length (newer ++ past) - length past ≡ length newer = omega (arith, x) in y) ∙ ap (replay start) (drop_newer newer)
 
-    rests_after : (e : Event) → line.IsCalm w e → May r (item_of w.tunnel (tunnel_event w e)) (tunnel.after w.tunnel (tunnel_event w e)).now → ((item : Item) → item_of w.tunnel (tunnel_event w e) ≡ Some item → AsksPromptly plans start r (entry item (tunnel.after w.tunnel (tunnel_event w e)).now))
-        → RestsSo plans start r e (channel r)
-    rests_after (Pass zero) c may ask = tt
-    rests_after (Pass (suc ms)) c may ask = rests_at ms c (may Quiet refl) (ask Quiet refl) s.goes
-    rests_after (Send octets) c may ask = tt
-    rests_after (From endpoint octets) c may ask = tt
-    rests_after Renew c may ask = tt
-    rests_after (Up age) c may ask = tt
-    rests_after (UpRefused age status) c may ask = tt
-    rests_after (Down age) c may ask = tt
-    rests_after (LoseUp age) c may ask = tt
-    rests_after (LoseDown age) c may ask = tt
-    rests_after (Bus left_out) c may ask = tt
-    rests_after (BusTorn fresh octets) c may ask = tt
-    rests_after (BusWorn octets) c may ask = tt
-    rests_after (BusAgain device) c may ask = tt
-    rests_after (DevSend device gateway left_out) c may ask = tt
-    rests_after (DevRepeat device gateway) c may ask = tt
-    rests_after (DevClose device) c may ask = tt
-    rests_after GwAgain c may ask = tt
-    rests_after GwRepeat c may ask = tt
-    rests_after GwClose c may ask = tt
-    rests_after (Cut device) c may ask = tt
-    rests_after (On device) c may ask = tt
+    is_now : (a : ℕ) → (replay start past).devices a ≡ then n a
+    is_now a = ap (λ (z : World). z.devices a) (sym world_is)
 
-  module _ (f : IsFresh start) (power : HavePower start) where
-    stands_on : (past : List Event) (e : Event) → Stands (replay start past) (record_of start past) → IsLegal Commissions start (e ∷ past) → line.AreCalm start (e ∷ past) → AreShort start (e ∷ past) → Keeps (record_of start (e ∷ past)) → AskPromptly plans start (record_of start (e ∷ past))
-        → Stands (replay start (e ∷ past)) (record_of start (e ∷ past)) × RestsSo plans start (record_of start past) e (channel (record_of start past))
-    stands_on past e s l c short k ask =
-        let w : World = replay start past in
-        let r : List Entry = record_of start past in
+    logged : AllThere (replay start past) → (StaysOpen (entries (placed start past)) → Every NotLost (moments (placed start past))) → So (replay start past) (placed start past) (log_before n log) → So (replay start past) (placed start past) (log_before (suc n) log)
+    logged there kept s =
+        next_moment jobs turns (length events) n log (So (replay start past) (placed start past)) (λ before older e is at x. entry_so (replay start past) (placed start past) n (moments_upto start past) link there kept is_now before older e is at x) [] log refl form s
+
+  begins : (newer : List Event) → events ≡ newer ++ [] → Stands []
+  begins newer whole =
+      let first : So start [] [] = record { goes = goes_first jobs then start f power; finished = λ asked. absurd (asked tt); fails_not = tt; refuses = tt } in
+      record {
+        so = logged newer [] whole (λ a h. h) (λ s. tt) (subst (So start []) (sym (none_before log)) first);
+        newest = sym (ap (λ (z : Tunnel). z.now) f.tunnel);
+        there = λ a h. h;
+        capable = λ a d is. (f.devices a d is).capacities;
+        kept = λ s. tt;
+        idly = tt;
+      }
+
+  module _ (past : List Event) (s : Stands past) where
+    abbrev w : World
+    w = replay start past
+
+    abbrev places : List Placed
+    places = placed start past
+
+    abbrev m : ℕ
+    m = length past
+
+    abbrev now_log : List LogEntry
+    now_log = log_before (suc m) log
+
+    abbrev E : Option Ldata → List Ldata → Type 0
+    E = Whole jobs then (me w) now_log places w.devices w.tunnel.now
+
+    early : (a : ℕ) (h : HeldJob jobs now_log a) → h.since ≤ m
+    early a h = held_before h.number m h.worker h.since log h.held
+
+    -- ---- time passes
+
+    module _ (ms : ℕ) (c : line.IsCalm w (Pass (suc ms))) (may : MayDo (entries places) (entry Quiet (w.tunnel.now + suc ms))) (busy : has_just_waited (entries places) ≡ false → HasSent jobs now_log places (suc m)) where
+      none_yet : (a : ℕ) (h : HeldJob jobs now_log a) → stretches a (after h.since (moments places)) ≡ []
+      none_yet a h = by_inv s.so.goes where
+        by_inv : Inv E (entries places) w.tunnel → stretches a (after h.since (moments places)) ≡ []
+        by_inv (inl l) =
+            elim (lives_rides E (entries places) w.tunnel (suc ms) l (record { up = c.settled.up; down = c.settled.down; bus = c.settled.bus }) may) [
+              | inl fresh ↦ (let x = ridden E (entries places) w.tunnel l in subst (λ z. stretches a z ≡ []) (x.so.held a h).since_is (x.so.fresh fresh a))
+              | inr r ↦
+                  subst (λ z. stretches a z ≡ []) (r.0.held a h).since_is
+                  (none_began jobs then start on_line (me w) m now_log places (upto_next start past) early w.devices s.there w.tunnel s.newest (λ b d is. c.settled.nothing_to_send.devices b d is) busy [] (inr (refl, r.1)) r.0 a h)
+            ]
+        by_inv (inr (inl p)) = absurd (parted_pass (entries places) w.tunnel p (record { up = c.settled.up; down = c.settled.down; bus = c.settled.bus }))
+        by_inv (inr (inr g)) = absurd (none_held jobs turns now_log h.number h.worker h.since h.job (s.so.finished g.asked) h.there h.held)
+
+      idle : IsIdle jobs now_log places
+      idle =
+          record {
+            channel_is = idle_of E (entries places) w.tunnel (suc ms) s.so.goes (record { up = c.settled.up; down = c.settled.down; bus = c.settled.bus }) may;
+            jobs_are = λ k worker since upto job there held. none_between job.device.raw since upto (moments places) (none_yet job.device.raw (record { number = k; job = job; worker = worker; since = since; there = there; of_device = refl; held = held }));
+          }
+
+    -- ---- what the client does at an event
+
+    asks_on : (now : ℕ) (o : Option Item) → IsSo jobs turns log (placed_if (suc m) now o places) → (item : Item) → o ≡ Some item → MayPutSo jobs then turns start served on_line (me w) m now_log places (moments_upto start past) (upto_next start past) early item now
+    asks_on now None so item e = absurd (cc)
+    asks_on now (Some what) so item e =
+        (let same : what ≡ item = cc in
+        subst (λ z. MayPutSo jobs then turns start served on_line (me w) m now_log places (moments_upto start past) (upto_next start past) early z now) same (so.asks.0, so.begins.0))
+
+    finished_on : (now : ℕ) (o : Option Item) → IsSo jobs turns log (placed_if (suc m) now o places) → WhereAsked jobs turns now_log (entries places) → WhereAsked jobs turns now_log (entries (placed_if (suc m) now o places))
+    finished_on now None so h = h
+    finished_on now (Some what) so h = asked_more jobs turns now_log (entry what now) (entries places) so.hastens.0.ends h
+
+    kept_on : (now : ℕ) (o : Option Item) → (StaysOpen (entries places) → Every NotLost (moments places)) → KeepsItsChannel (entries (placed_if (suc m) now o places)) → StaysOpen (entries (placed_if (suc m) now o places)) → Every NotLost (moments (placed_if (suc m) now o places))
+    kept_on now None kept it stays = kept stays
+    kept_on now (Some what) kept it stays =
+        ((λ is. let lost = lost_deed (channel (entries places)) (entry what now) is in subst IsKept lost.1 (it stays)), kept stays.1)
+
+    quiet_busy : (ms now : ℕ) → now ≡ w.tunnel.now + suc ms → IsSo jobs turns log (placed_if (suc m) now (Some Quiet) places) → has_just_waited (entries places) ≡ false → HasSent jobs now_log places (suc m)
+    quiet_busy ms now is so just =
+        let newest = s.newest in
+        let later : newest_time (entries places) < now = omega (arith, newest, is) in
+        so.hastens.0.busy (lt-ltb (newest_time (entries places)) now later) just
+
+    -- by the event's name
+    times_pass : (ms : ℕ) → line.IsCalm w (Pass ms) → MayDo (entries places) (entry Quiet (w.tunnel.now + ms)) → IsSo jobs turns log (placed_if (suc m) (w.tunnel.now + ms) (Some Quiet) places) → Times jobs then turns start served on_line m now_log places (moments_upto start past) (upto_next start past) early w ms
+    times_pass ms c may so =
+        record {
+          nothing = quiet_nothing (channel (entries places)) (w.tunnel.now + ms) (idle_of E (entries places) w.tunnel ms s.so.goes (record { up = c.settled.up; down = c.settled.down; bus = c.settled.bus }) may);
+          back = fresh_before (channel (entries places)) (entry Quiet (w.tunnel.now + ms)) refl;
+          busy = by_ms ms so;
+        }
+      where
+        by_ms : (k : ℕ) → IsSo jobs turns log (placed_if (suc m) (w.tunnel.now + k) (Some Quiet) places) → (k ≡ 0) ⊎ (has_just_waited (entries places) ≡ false → HasSent jobs now_log places (suc m))
+        by_ms zero so = inl refl
+        by_ms (suc k) so = inr (quiet_busy k (w.tunnel.now + suc k) refl so)
+
+    times : (e : Event) → line.IsCalm w e → May (entries places) (item_of w.tunnel (tunnel_event w e)) (tunnel.after w.tunnel (tunnel_event w e)).now → IsSo jobs turns log (placed_if (suc m) (tunnel.after w.tunnel (tunnel_event w e)).now (item_of w.tunnel (tunnel_event w e)) places)
+        → TimesSo jobs then turns start served on_line m now_log places (moments_upto start past) (upto_next start past) early w e
+    times (Send octets) c may so = tt
+    times (From endpoint octets) c may so = tt
+    times Renew c may so = tt
+    times (Up age) c may so = tt
+    times (UpRefused age status) c may so = tt
+    times (Down age) c may so = tt
+    times (LoseUp age) c may so = tt
+    times (LoseDown age) c may so = tt
+    times (Bus left_out) c may so = tt
+    times (BusTorn fresh octets) c may so = tt
+    times (BusWorn octets) c may so = tt
+    times (BusAgain device) c may so = tt
+    times (DevSend device gateway left_out) c may so = tt
+    times (DevRepeat device gateway) c may so = tt
+    times (DevClose device) c may so = tt
+    times GwAgain c may so = tt
+    times GwRepeat c may so = tt
+    times GwClose c may so = tt
+    times (Cut device) c may so = tt
+    times (On device) c may so = tt
+    times (Pass ms) c may so = times_pass ms c (may Quiet refl) so
+
+    idle_at : (e : Event) → line.IsCalm w e → May (entries places) (item_of w.tunnel (tunnel_event w e)) (tunnel.after w.tunnel (tunnel_event w e)).now → IsSo jobs turns log (placed_if (suc m) (tunnel.after w.tunnel (tunnel_event w e)).now (item_of w.tunnel (tunnel_event w e)) places) → IsIdleAt jobs now_log places e
+    idle_at (Pass zero) c may so = tt
+    idle_at (Pass (suc ms)) c may so = idle ms c (may Quiet refl) (quiet_busy ms (w.tunnel.now + suc ms) refl so)
+    idle_at (Send octets) c may so = tt
+    idle_at (From endpoint octets) c may so = tt
+    idle_at Renew c may so = tt
+    idle_at (Up age) c may so = tt
+    idle_at (UpRefused age status) c may so = tt
+    idle_at (Down age) c may so = tt
+    idle_at (LoseUp age) c may so = tt
+    idle_at (LoseDown age) c may so = tt
+    idle_at (Bus left_out) c may so = tt
+    idle_at (BusTorn fresh octets) c may so = tt
+    idle_at (BusWorn octets) c may so = tt
+    idle_at (BusAgain device) c may so = tt
+    idle_at (DevSend device gateway left_out) c may so = tt
+    idle_at (DevRepeat device gateway) c may so = tt
+    idle_at (DevClose device) c may so = tt
+    idle_at GwAgain c may so = tt
+    idle_at GwRepeat c may so = tt
+    idle_at GwClose c may so = tt
+    idle_at (Cut device) c may so = tt
+    idle_at (On device) c may so = tt
+
+    -- ---- so it stands after the event
+
+    stands_on : (newer : List Event) (e : Event) → events ≡ newer ++ e ∷ past → IsLegal Commissions start (e ∷ past) → line.AreCalm start (e ∷ past) → AreShort start (e ∷ past) → IsSo jobs turns log (placed start (e ∷ past)) → Stands (e ∷ past)
+    stands_on newer e whole legal calm short so =
         let t : Tunnel = w.tunnel in
         let te : TunnelEvent = tunnel_event w e in
         let o : Option Item = item_of t te in
         let n : ℕ = (tunnel.step t te).now in
         let same : n ≡ (tunnel.after t te).now = step_now t te in
-        let may : May r o n = may_of o n r k in
-        let may_after : May r o (tunnel.after t te).now = subst (λ z. May r o z) same may in
-        let asks : (item : Item) → o ≡ Some item → AsksPromptly plans start r (entry item (tunnel.after t te).now) = λ item is. subst (λ z. AsksPromptly plans start r (entry item z)) same (asks_of o n r ask item is) in
+        let k : Keeps (noted o n (entries places)) = subst Keeps (entries_if (suc m) n o places) (keeps jobs turns log (placed_if (suc m) n o places) so) in
+        let may : May (entries places) o n = may_of o n (entries places) k in
+        let may_after : May (entries places) o (tunnel.after t te).now = subst (λ z. May (entries places) o z) same may in
+        let so_after : IsSo jobs turns log (placed_if (suc m) (tunnel.after t te).now o places) = subst (λ z. IsSo jobs turns log (placed_if (suc m) z o places)) same so in
         let own : Owned w = owned start past f in
-        let newest : newest_time (noted o (tunnel.after t te).now r) ≡ (tunnel.after t te).now = newest_after t te r (event_calm w e own c.0 short.0) s.newest in (
-          record {
-            goes = goes_on plans start served w r e s.goes own c.0 short.0 l.0 may (λ item is. (asks item is).asks) (times w r s e c.0 may_after asks) s.there;
-            newest = subst (λ z. newest_time (noted o z r) ≡ z) (sym same) newest;
-            there = λ a h. devices_there w e c.0 a (s.there a h);
-          },
-          rests_after w r s e c.0 may_after asks,
-        )
+        let newest : newest_time (noted o (tunnel.after t te).now (entries places)) ≡ (tunnel.after t te).now = newest_after t te (entries places) (event_calm w e own calm.0 short.0) s.newest in
+        let there : AllThere (step w e) = λ a h. devices_there w e calm.0 a (s.there a h) in
+        let goes : Goes jobs then (step w e) now_log (placed_if (suc m) n o places)
+        = goes_on jobs then turns start served on_line m now_log places (moments_upto start past) (upto_next start past) early w e s.so.goes s.capable s.newest own calm.0 short.0 legal.0 may (asks_on (tunnel.after t te).now o so_after) (times e calm.0 may_after so_after) s.there in
+        let kept : StaysOpen (entries (placed_if (suc m) n o places)) → Every NotLost (moments (placed_if (suc m) n o places))
+        = kept_on n o s.kept (kept_of (Whole jobs then (me (step w e)) now_log (placed_if (suc m) n o places) (step w e).devices (step w e).tunnel.now) (entries (placed_if (suc m) n o places)) (step w e).tunnel goes) in
+        let after_event : So (step w e) (placed_if (suc m) n o places) now_log = record { goes = goes; finished = finished_on n o so s.so.finished; fails_not = s.so.fails_not; refuses = s.so.refuses } in
+        record {
+          so = logged newer (e ∷ past) whole there kept after_event;
+          newest = ap newest_time (entries_if (suc m) n o places) ∙ subst (λ z. newest_time (noted o z (entries places)) ≡ z) (sym same) newest;
+          there = there;
+          capable = devices_have w e calm.0 s.capable;
+          kept = kept;
+          idly = (idle_at e calm.0 may_after so_after, s.idly);
+        }
 
-    always : (events : List Event) → IsLegal Commissions start events → line.AreCalm start events → AreShort start events → Keeps (record_of start events) → AskPromptly plans start (record_of start events)
-        → Stands (replay start events) (record_of start events) × PassesAtRest plans start events
-    always [] l c short k ask = (record { goes = goes_first plans start served f power; newest = sym (ap (λ (z : Tunnel). z.now) f.tunnel); there = λ a h. h }, tt)
-    always (e ∷ past) l c short k ask =
-        let w : World = replay start past in
-        let o : Option Item = item_of w.tunnel (tunnel_event w e) in
-        let n : ℕ = (tunnel.step w.tunnel (tunnel_event w e)).now in
-        let before = always past l.1 c.1 short.1 (keeps_before o n (record_of start past) k) (asks_before o n (record_of start past) ask) in
-        let on = stands_on past e before.0 l c short k ask in
-        (on.0, (on.1, before.1))
+  append_one : (l : List Event) (e : Event) (past : List Event) → l ++ e ∷ past ≡ (l ++ e ∷ []) ++ past
+  append_one [] e past = refl
+  append_one (x ∷ l) e past = ap (λ z. x ∷ z) (append_one l e past)
 
-pub passes_at_rest : (plans : ℕ → Plan) (start : World) (events : List Event) → AreServed plans → IsFresh start → HavePower start → IsLegal Commissions start events → line.AreCalm start events → AreShort start events → AskPromptly plans start (record_of start events) → Keeps (record_of start events)
-    → PassesAtRest plans start events
-passes_at_rest plans start events served f power l c short ask k = (always plans start served f power events l c short k ask).1
+  always : (newer past : List Event) → events ≡ newer ++ past → IsLegal Commissions start past → line.AreCalm start past → AreShort start past → IsSo jobs turns log (placed start past) → Stands past
+  always newer [] whole legal calm short so = begins newer whole
+  always newer (e ∷ past) whole legal calm short so =
+      let w : World = replay start past in
+      let before : IsSo jobs turns log (placed start past) = so_before jobs turns log (suc (length past)) (step w e).tunnel.now (item_of w.tunnel (tunnel_event w e)) (placed start past) so in
+      stands_on past (always (newer ++ e ∷ []) past (whole ∙ append_one newer e past) legal.1 calm.1 short.1 before) newer e whole legal calm short so
+
+  right : IsLegal Commissions start events → line.AreCalm start events → AreShort start events → IsSo jobs turns log (placed start events) → IsPrompt jobs start log events × RefusesRightly jobs start events log
+  right legal calm short so =
+      let s : Stands events = always [] events refl legal calm short so in
+      let all : log_before (suc (length events)) log ≡ log = all_before jobs turns (length events) (suc (length events)) (length events) log form (so_far jobs turns (length events) log form) (omega arith) in
+      (record { idle = s.idly; nothing_failed = subst NothingFailed all s.so.fails_not }, subst (RefusesRightly jobs start events) all s.so.refuses)
+
+on_line_of : (jobs : List Job) (start : World) → HasDevices jobs start → (k : ℕ) (job : Job) → job_of jobs k ≡ Some job → start.devices job.device.raw ≢ None
+on_line_of jobs start devices k job is = none_not (start.devices job.device.raw) (each_job (λ (j : Job). OfDevice (λ d. d.power ≡ true) (start.devices j.device.raw)) jobs devices k job is) where
+  none_not : (o : Option DeviceState) → OfDevice (λ d. d.power ≡ true) o → o ≢ None
+  none_not None h e = h
+  none_not (Some d) h e = cc
+
+module _ (jobs : List Job) (turns : List GroupTurn) (start : World) (events : List Event) (log : List LogEntry) (served : AllByRecursion IsServedJob jobs) (devices : HasDevices jobs start) (power : HavePower start) (client : IsPromptClient jobs turns start events log) (calm : line.AreCalm start events)
+    (values : HaveShortValues start) where
+  both : IsPrompt jobs start log events × RefusesRightly jobs start events log
+  both =
+      let safe = client.safe.safe in
+      right jobs turns start (each_job IsServedJob jobs served) (on_line_of jobs start devices) client.safe.fresh power log events safe.form safe.alone safe.truly client.ends client.safe.legal calm (are_short start events client.safe.fresh values calm)
+      (record { renews = safe.renews; sends = safe.sends; acknowledges = client.acknowledges; hastens = client.hastens; asks = safe.asks; begins = client.begins })
+
+  pub nothing_fails : IsPrompt jobs start log events
+  nothing_fails = both.0
+
+  pub refuses_rightly : RefusesRightly jobs start events log
+  refuses_rightly = both.1
+
+  pub ends_well : EndWell jobs log
+  ends_well = end_well jobs turns start events client.safe.fresh calm (on_line_of jobs start devices) (length events) log client.safe.safe.form both.0.nothing_failed both.1

@@ -11,14 +11,14 @@ use Rattle.knx_model.specs.DeviceConnection.{device_expired}
 use Rattle.knx_model.specs.DeviceState.{DeviceState}
 use Rattle.knx_model.specs.DeviceFrames.{Whole as Intact, takes}
 use Rattle.knx_model.specs.DeviceSending.{next_sending, sending_of}
-use Rattle.knx_model.specs.Plans.{Plan}
-use Rattle.line_model.specs.Record.{Entry}
+use Rattle.line_model.specs.declared.log.LogEntry.{LogEntry}
+use Rattle.line_model.specs.Log.{Job}
+use Rattle.line_model.specs.Record.{Placed}
 use Rattle.line_model.specs.Legal.{OfDevice}
-use Rattle.line_model.specs.World.{World, changed, others_take, all_take, is_among}
-use Rattle.calm_law.specs.CalmSessions.{AreServed}
+use Rattle.line_model.specs.World.{changed, others_take, all_take, is_among}
 use Rattle.calm_law.proofs.SessionRests.{nothing_due}
 use Rattle.calm_law.proofs.Rows.{Devices}
-use Rattle.calm_law.proofs.Joined.{Whole, Lands}
+use Rattle.calm_law.proofs.Sessions.{Whole, Lands}
 
 -- ---- a device has nothing to repeat and none to close
 
@@ -26,11 +26,11 @@ waits_alone : (l : List Ldata) → (which : Sending) → which ≢ sending.Waiti
 waits_alone [] which apart e = cc
 waits_alone (f ∷ l) which apart e = (let s : sending.Waiting ≡ which = cc in apart (sym s))
 
-module _ (plans : ℕ → Plan) (start : World) (served : AreServed plans) (me : IndAddr) (devices : Devices) (r : List Entry) (now : ℕ) (fly : Option Ldata) (q : List Ldata) (h : Whole plans start served me devices r now fly q) where
+module _ (jobs : List Job) (then : ℕ → Devices) (me : IndAddr) (log : List LogEntry) (places : List Placed) (devices : Devices) (now : ℕ) (fly : Option Ldata) (q : List Ldata) (h : Whole jobs then me log places devices now fly q) where
   sends_alone : (a : ℕ) (d : DeviceState) → devices a ≡ Some d → (which : Sending) → which ≢ sending.Waiting → next_sending d now ≢ Some which
   sends_alone a d is which apart e =
       let row = h.riders.rows a d is in
-      let due : device_expired d.connection now ≡ expired.Nothing = ap (λ z. device_expired z now) row.line.connection_is ∙ nothing_due me d.address (plans a) row.n row.e now row.phase in
+      let due : device_expired d.connection now ≡ expired.Nothing = ap (λ z. device_expired z now) row.line.connection_is ∙ nothing_due me d.address (h.plans a) row.n row.e now row.phase in
       waits_alone d.unsent which apart (ap (λ z. sending_of d.unsent z) (sym due) ∙ e)
 
   pub none_due : (a : ℕ) (which : Sending) → which ≢ sending.Waiting → OfDevice (λ d. next_sending d now ≡ Some which) (devices a) → ⊥

@@ -1,45 +1,54 @@
 -- Each event of a calm line keeps tunnel and sessions together: the events of the line, each by its name.
-use Rattle.std.proofs.Common.{◌≡◌, ◌≢◌, ◌⊎◌, ℕ, ◌+◌, List, [], ◌∷◌, Option, Some, None, refl, sym, ◌∙◌, ap, subst}
+use Rattle.std.proofs.Common.{◌≡◌, ◌≢◌, ◌⊎◌, ℕ, suc, ◌+◌, ◌≤◌, false, List, [], ◌∷◌, Option, Some, None, refl, sym, ◌∙◌, ap, subst}
 use Rattle.knx_model.specs.declared.device.Sending.TheVariants as sending
 use Rattle.knx_model.specs.declared.frames.cemi.Ldata.{Ldata}
 use Rattle.knx_model.specs.ApduReading.{option_map}
 use Rattle.knx_model.specs.DeviceState.{DeviceState}
 use Rattle.knx_model.specs.DeviceSending.{first_frame, pops, repeats, shut, next_sending}
-use Rattle.knx_model.specs.Plans.{Plan}
+use Rattle.knx_model.specs.Device.{HasCapacities}
 use Rattle.line_model.specs.Calm as line
 use Rattle.line_model.specs.Tunnel as tunnel
 use Rattle.line_model.specs.Tunnel.{Tunnel, TunnelEvent}
-use Rattle.line_model.specs.Record.{Entry, Item, Quiet, Renewed, Put, entry, item_of}
+use Rattle.line_model.specs.declared.group.GroupTurn.{GroupTurn}
+use Rattle.line_model.specs.declared.log.LogEntry.{LogEntry}
+use Rattle.line_model.specs.Haste.{has_just_waited, HasSent}
+use Rattle.line_model.specs.LinkStory.{newest_time}
+use Rattle.line_model.specs.Log.{Job, job_of}
+use Rattle.line_model.specs.Moments.{moments}
+use Rattle.line_model.specs.Undisturbed.{IsServedJob}
+use Rattle.line_model.specs.Record.{Entry, Item, Quiet, Renewed, Put, Placed, entry, entries, item_of}
 use Rattle.line_model.specs.ClientView.{Fresh, Nothing, channel, deed}
-use Rattle.line_model.specs.Asks.{HasPlace}
-use Rattle.line_model.specs.Waiting.{IsResting, NextIsSending}
 use Rattle.line_model.specs.Legal.{OfDevice, DevicesAllow}
 use Rattle.line_model.specs.World.{World, Event, AtGateway, Comes, Send, From, Renew, Up, UpRefused, Down, LoseUp, LoseDown, Bus, BusTorn, BusWorn, BusAgain, DevSend, DevRepeat, DevClose, GwAgain, GwRepeat, GwClose, Cut, On, Pass, me, on_bus, all_take, changed, others_take, carried, heard, waiting_at, repeat_at, frame_by, next_frame, tunnel_event, devices_after}
 use Rattle.line_law.proofs.Coupled.{Owned}
 use Rattle.line_law.proofs.Owned.{waiting_owned}
-use Rattle.calm_law.specs.CalmSessions.{AreServed, attempts_by, AsksSo}
 use Rattle.calm_law.proofs.Law.{RidesOn}
 use Rattle.calm_law.proofs.Rows.{Devices}
-use Rattle.calm_law.proofs.Joined.{Whole}
-use Rattle.calm_law.proofs.JoinedEvents.{After, send_rides, renew_rides, down_rides, up_rides, repeat_rides, close_rides, dev_rides, bus_rides}
+use Rattle.calm_law.proofs.Held.{HeldJob, AreUpto}
+use Rattle.calm_law.proofs.Sessions.{Whole}
+use Rattle.calm_law.proofs.JoinedEvents.{After, MayPutSo, send_rides, renew_rides, down_rides, up_rides, repeat_rides, close_rides, dev_rides, bus_rides}
 use Rattle.calm_law.proofs.JoinedTime.{pass_rides}
 use Rattle.calm_law.proofs.JoinedLine.{none_due, changed_there, others_there, lands_there}
 
-module _ (plans : ℕ → Plan) (start : World) (served : AreServed plans) (w : World) (r : List Entry) where
+module _ (jobs : List Job) (then : ℕ → Devices) (turns : List GroupTurn) (start : World) (served : (k : ℕ) (job : Job) → job_of jobs k ≡ Some job → IsServedJob job) (on_line : (k : ℕ) (job : Job) → job_of jobs k ≡ Some job → start.devices job.device.raw ≢ None) (n : ℕ) (log : List LogEntry) (places : List Placed)
+    (upto : AreUpto n (moments places)) (upto_next : AreUpto (suc n) (moments places)) (early : (a : ℕ) (h : HeldJob jobs log a) → h.since ≤ n) (w : World) where
+  abbrev r : List Entry
+  r = entries places
+
   abbrev Before : Option Ldata → List Ldata → Type 0
-  Before = Whole plans start served (me w) w.devices r w.tunnel.now
+  Before = Whole jobs then (me w) log places w.devices w.tunnel.now
 
   abbrev So : Devices → TunnelEvent → Type 0
-  So devices e = RidesOn Before (After plans start served (me w) devices r w.tunnel e) r w.tunnel e
+  So devices e = RidesOn Before (After jobs then turns start served on_line (me w) n log places upto upto_next early devices w.tunnel e) r w.tunnel e
 
-  -- what the client asks, if the event is one of the record
+  -- what the client may put, if the event is one of the record
   abbrev pub Asked : Event → Type 0
-  Asked e = (item : Item) → item_of w.tunnel (tunnel_event w e) ≡ Some item → AsksSo plans start r (tunnel.after w.tunnel (tunnel_event w e)).now (deed (channel r) (entry item (tunnel.after w.tunnel (tunnel_event w e)).now))
+  Asked e = (item : Item) → item_of w.tunnel (tunnel_event w e) ≡ Some item → MayPutSo jobs then turns start served on_line (me w) n log places upto upto_next early item (tunnel.after w.tunnel (tunnel_event w e)).now
 
   pub record Times (ms : ℕ) : Type 0 where
     pub nothing : deed (channel r) (entry Quiet (w.tunnel.now + ms)) ≡ Nothing
     pub back : channel (entry Quiet (w.tunnel.now + ms) ∷ r) ≡ Fresh → channel r ≡ Fresh
-    pub busy : (ms ≡ 0) ⊎ ((a : ℕ) → NextIsSending (attempts_by plans r a) w.tunnel.now → IsResting (attempts_by plans r a) ⊎ (HasPlace (channel r) → ⊥))
+    pub busy : (ms ≡ 0) ⊎ (has_just_waited r ≡ false → HasSent jobs log places (suc n))
 
   abbrev pub TimesSo : Event → Type 0
   TimesSo (Pass ms) = Times ms
@@ -58,47 +67,50 @@ module _ (plans : ℕ → Plan) (start : World) (served : AreServed plans) (w : 
         let frame : waiting_at w b ≡ Some f = ap (λ z. frame_by (λ (x : DeviceState). first_frame x.unsent) z) is ∙ ap first_frame e in
         let P : Option Ldata → Type 0 = λ o. So (changed b pops (others_take w.tunnel.now (b ∷ []) o w.devices)) (heard Comes o) in
         subst P (sym frame)
-        (dev_rides plans start served (me w) w.devices r w.tunnel b f rest d is e (waiting_owned w b f own frame)
+        (dev_rides jobs then turns start served on_line (me w) n log places upto upto_next early w.devices w.tunnel b f rest d is e (waiting_owned w b f own frame)
         (lands_there w.devices (changed b pops (others_take w.tunnel.now (b ∷ []) (Some f) w.devices)) (λ a h. changed_there b pops (others_take w.tunnel.now (b ∷ []) (Some f) w.devices) a (others_there w.tunnel.now (b ∷ []) (Some f) w.devices a h))))
 
   -- no device repeats or closes
   repeats_at : (b : ℕ) (devices : Devices) (o : Option Ldata) → OfDevice (λ d. next_sending d w.tunnel.now ≡ Some sending.Repeat) (w.devices b) → So devices (heard Comes o)
-  repeats_at b devices None due = λ fly q h. absurd (none_due plans start served (me w) w.devices r w.tunnel.now fly q h b sending.Repeat (λ c. cc) due)
-  repeats_at b devices (Some f) due = λ fly q h. absurd (none_due plans start served (me w) w.devices r w.tunnel.now fly q h b sending.Repeat (λ c. cc) due)
+  repeats_at b devices None due = λ fly q h. absurd (none_due jobs then (me w) log places w.devices w.tunnel.now fly q h b sending.Repeat (λ c. cc) due)
+  repeats_at b devices (Some f) due = λ fly q h. absurd (none_due jobs then (me w) log places w.devices w.tunnel.now fly q h b sending.Repeat (λ c. cc) due)
 
   closes_at : (b : ℕ) (devices : Devices) → OfDevice (λ d. next_sending d w.tunnel.now ≡ Some sending.Closing) (w.devices b) → So devices tunnel.Elsewhere
-  closes_at b devices due = λ fly q h. absurd (none_due plans start served (me w) w.devices r w.tunnel.now fly q h b sending.Closing (λ c. cc) due)
+  closes_at b devices due = λ fly q h. absurd (none_due jobs then (me w) log places w.devices w.tunnel.now fly q h b sending.Closing (λ c. cc) due)
 
   goes_over : (b : List Ldata) → option_map (on_bus (me w)) (first_frame b) ≢ None → b ≢ []
   goes_over b h e = h (ap (λ z. option_map (on_bus (me w)) (first_frame z)) e)
 
-  pub rides : (e : Event) → Owned w → line.IsCalm w e → DevicesAllow w e → Asked e → TimesSo e → Present → So (devices_after w e) (tunnel_event w e)
-  rides (Send octets) own calm can asks times present = send_rides plans start served (me w) w.devices r w.tunnel octets (asks (Put octets) refl) present
-  rides (From endpoint octets) own calm can asks times present = absurd calm
-  rides Renew own calm can asks times present = renew_rides plans start served (me w) w.devices r w.tunnel (asks Renewed refl) present
-  rides (Up age) own calm can asks times present = up_rides plans start served (me w) w.devices r w.tunnel age
-  rides (UpRefused age status) own calm can asks times present = absurd calm
-  rides (Down age) own calm can asks times present = down_rides plans start served (me w) w.devices r w.tunnel age asks present
-  rides (LoseUp age) own calm can asks times present = absurd calm
-  rides (LoseDown age) own calm can asks times present = absurd calm
-  rides (Bus left_out) own calm can asks times present =
+  abbrev pub Capable : Type 0
+  Capable = (a : ℕ) (d : DeviceState) → w.devices a ≡ Some d → HasCapacities d.kept
+
+  pub rides : Capable → newest_time r ≡ w.tunnel.now → (e : Event) → Owned w → line.IsCalm w e → DevicesAllow w e → Asked e → TimesSo e → Present → So (devices_after w e) (tunnel_event w e)
+  rides capable newest (Send octets) own calm can asks times present = send_rides jobs then turns start served on_line (me w) n log places upto upto_next early w.devices capable present w.tunnel octets (asks (Put octets) refl)
+  rides capable newest (From endpoint octets) own calm can asks times present = absurd calm
+  rides capable newest Renew own calm can asks times present = renew_rides jobs then turns start served on_line (me w) n log places upto upto_next early w.devices capable present w.tunnel (asks Renewed refl)
+  rides capable newest (Up age) own calm can asks times present = up_rides jobs then turns start served on_line (me w) n log places upto upto_next early w.devices w.tunnel age
+  rides capable newest (UpRefused age status) own calm can asks times present = absurd calm
+  rides capable newest (Down age) own calm can asks times present = down_rides jobs then turns start served on_line (me w) n log places upto upto_next early w.devices capable present w.tunnel age asks
+  rides capable newest (LoseUp age) own calm can asks times present = absurd calm
+  rides capable newest (LoseDown age) own calm can asks times present = absurd calm
+  rides capable newest (Bus left_out) own calm can asks times present =
       let P : List ℕ → Type 0 = λ l. So (all_take w.tunnel.now l (next_frame w) w.devices) (carried w l (next_frame w)) in
-      subst P (sym calm) (bus_rides plans start served (me w) w r w.tunnel.gateway.bus refl (goes_over w.tunnel.gateway.bus can))
-  rides (BusTorn fresh octets) own calm can asks times present = absurd calm
-  rides (BusWorn octets) own calm can asks times present = absurd calm
-  rides (BusAgain device) own calm can asks times present = absurd calm
-  rides (DevSend device gateway left_out) own calm can asks times present =
+      subst P (sym calm) (bus_rides jobs then turns start served on_line (me w) n log places upto upto_next early w w.tunnel.gateway.bus refl (goes_over w.tunnel.gateway.bus can))
+  rides capable newest (BusTorn fresh octets) own calm can asks times present = absurd calm
+  rides capable newest (BusWorn octets) own calm can asks times present = absurd calm
+  rides capable newest (BusAgain device) own calm can asks times present = absurd calm
+  rides capable newest (DevSend device gateway left_out) own calm can asks times present =
       let P : AtGateway → Type 0 = λ g. So (changed device pops (others_take w.tunnel.now (device ∷ []) (waiting_at w device) w.devices)) (heard g (waiting_at w device)) in
       let Q : List ℕ → Type 0 = λ l. So (changed device pops (others_take w.tunnel.now (device ∷ l) (waiting_at w device) w.devices)) (heard gateway (waiting_at w device)) in
       subst Q (sym calm.1) (subst P (sym calm.0) (sends_at device (w.devices device) refl own can))
-  rides (DevRepeat device gateway) own calm can asks times present =
+  rides capable newest (DevRepeat device gateway) own calm can asks times present =
       let P : AtGateway → Type 0 = λ g. So (changed device (λ d. repeats d w.tunnel.now) w.devices) (heard g (repeat_at w device)) in
       subst P (sym calm.0) (repeats_at device (changed device (λ d. repeats d w.tunnel.now) w.devices) (repeat_at w device) calm.1)
-  rides (DevClose device) own calm can asks times present = closes_at device (changed device shut w.devices) calm
-  rides GwAgain own calm can asks times present = absurd calm
-  rides GwRepeat own calm can asks times present = repeat_rides plans start served (me w) w.devices r w.tunnel
-  rides GwClose own calm can asks times present = close_rides plans start served (me w) w.devices r w.tunnel
-  rides (Cut device) own calm can asks times present = absurd calm
-  rides (On device) own calm can asks times present = absurd calm
-  rides (Pass ms) own calm can asks times present =
-      pass_rides plans start served (me w) w.devices r w.tunnel ms times.nothing times.back (λ a d is. calm.settled.nothing_to_send.devices a d is) times.busy
+  rides capable newest (DevClose device) own calm can asks times present = closes_at device (changed device shut w.devices) calm
+  rides capable newest GwAgain own calm can asks times present = absurd calm
+  rides capable newest GwRepeat own calm can asks times present = repeat_rides jobs then turns start served on_line (me w) n log places upto upto_next early w.devices w.tunnel
+  rides capable newest GwClose own calm can asks times present = close_rides jobs then turns start served on_line (me w) n log places upto upto_next early w.devices w.tunnel
+  rides capable newest (Cut device) own calm can asks times present = absurd calm
+  rides capable newest (On device) own calm can asks times present = absurd calm
+  rides capable newest (Pass ms) own calm can asks times present =
+      pass_rides jobs then start on_line (me w) n log places upto_next early w.devices present w.tunnel newest ms times.nothing times.back (λ a d is. calm.settled.nothing_to_send.devices a d is) times.busy

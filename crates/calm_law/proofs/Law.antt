@@ -204,7 +204,7 @@ kept_door r Knocked stage under pulse m present downs now d = subst IsKept (sym 
 kept_door r Replied stage under pulse m present downs now d = subst IsKept (sym d.0.is) tt
 kept_door r (Ajar leaves) stage under pulse m present downs now d = kept_open (channel r) (d.open_.first ∷ d.open_.rest) d.open_.is
 
-kept_of : (E : Option Ldata → List Ldata → Type 0) (r : List Entry) (t : Tunnel) → Inv E r t → KeepsItsChannel r
+pub kept_of : (E : Option Ldata → List Ldata → Type 0) (r : List Entry) (t : Tunnel) → Inv E r t → KeepsItsChannel r
 kept_of E r t (inl l) stays = let g : Going E r t = l.going in kept_door r g.door g.stage g.under g.pulse g.m g.present g.downs g.now g.goes.door_is
 kept_of E r t (inr (inl p)) stays = absurd (p.up.asks.1 stays)
 kept_of E r t (inr (inr g)) stays = absurd (g.asked stays)

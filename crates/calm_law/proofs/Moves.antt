@@ -1,104 +1,70 @@
--- All devices of a calm line: what an entry of the client's record is to the attempts, and that the tunnel keeps its address.
+-- All devices of a calm line: what an entry of the client's record is to a device, and that the tunnel keeps its address.
 use Rattle.std.proofs.Common.{◌≡◌, ℕ, ◌⊎◌, List, Bool, true, false, cond, Option, Some, None, refl, sym, ◌∙◌, ap, inl, inr}
 use Rattle.std.specs.Prelude.{◌==◌, slice_get, length}
-use Rattle.knx_model.specs.declared.address.IndAddr.{IndAddr}
+use Rattle.knx_model.specs.declared.connection.TransportFrame.{TransportFrame}
+use Rattle.knx_model.specs.declared.connection.TransportFrame.TheVariants.{Other}
 use Rattle.knx_model.specs.declared.frames.cemi.Ldata.{Ldata}
 use Rattle.knx_model.specs.declared.frames.cemi.LdataCode.{LdataCode}
 use Rattle.knx_model.specs.declared.frames.cemi.LdataCode.TheVariants.{Req, Con, Ind}
 use Rattle.knx_model.specs.declared.frames.ip.IpFrame.{IpFrame}
 use Rattle.knx_model.specs.declared.frames.ip.IpFrame.TheVariants.{ConnectRequest, ConnectResponse, StateRequest, StateResponse, DisconnectRequest, DisconnectResponse, TunnellingRequest, TunnellingAck}
-use Rattle.knx_model.specs.declared.connection.ClientTook.TheVariants as heard
-use Rattle.knx_model.specs.declared.connection.TransportFrame.TheVariants.{Other}
 use Rattle.knx_model.specs.Cemi.{Written as cemi_octets}
-use Rattle.knx_model.specs.ClientConnection.{ClientEnd, Asked, Up, Asking, Awaiting, Ended, client_took}
 use Rattle.line_model.specs.ChannelLost.{is_confirmation}
 use Rattle.knx_model.specs.Connection.{frame_in}
-use Rattle.knx_model.specs.Plans.{Plan}
 use Rattle.line_model.specs.Reading.{ldata_in, is_req, is_con, is_ind, datagram_in}
 use Rattle.line_model.specs.Network.{Sent, changed_at, once_more}
 use Rattle.line_model.specs.Gateway.{Gateway, Channel, Request, GatewayTook, hears, took, gateway_took, connects, makes, closed, closed_if_open, request_took, acts_on, names, answers, drops, acknowledged, next_number, next_put, number_of}
 use Rattle.line_model.specs.Tunnel.{Tunnel, TunnelEvent, Send, From, Renew, Up as Arrives, UpRefused, Down, LoseUp, LoseDown, Carried, Heard, Repeat, Close, Pass, Elsewhere, with_gateway, with_up, takes_frame, takes_sent, sends_down_if, refuses, puts, repeats, repeats_request, closes, after, step}
 use Rattle.line_model.specs.ClientView.{Deed, Puts, Takes, Nothing}
-use Rattle.line_model.specs.Moments.{Moment, transport_of, error_of, is_to, is_from, where_is, put_frame, put_to}
-use Rattle.line_model.specs.Attempts.{Attempts, Resting, Running, put_so, confirmed_so, heard_so, heard_attempt, attempts_after}
-use Rattle.calm_law.proofs.Rows.{IsTold, after_take, put_to_one}
+use Rattle.line_model.specs.Moments.{Moment, transport_of, error_of, is_to, is_from, where_is, put_frame, put_to, confirmation_in, heard_from, is_loss}
+use Rattle.calm_law.proofs.Books.{Says}
+use Rattle.calm_law.proofs.Rows.{to_it, con_in, frame_from, IsTold, IsTaken}
 
 -- ---- an entry
 
-abbrev pub moment : Deed → ℕ → ℕ → Moment
-moment what now at = record { what = what; now = now; at = at }
+says_of : (a : ℕ) (m : Moment) (what : Deed) (p : Option TransportFrame) (c : Option Bool) (h : Option TransportFrame) → m.what ≡ what → is_loss what ≡ false → put_to a what ≡ p → confirmation_in what ≡ c → heard_from a what ≡ h → Says a m p c h
+says_of a m what p c h is l put con heard = record { lasts = ap is_loss is ∙ l; put = ap (put_to a) is ∙ put; confirmed = ap confirmation_in is ∙ con; heard = ap (heard_from a) is ∙ heard }
 
-confirmed_no : (now : ℕ) (t : Attempts) → confirmed_so now t None ≡ t
-confirmed_no now (Resting k) = refl
-confirmed_no now (Running k a) = refl
+pub says_nothing : (a : ℕ) (m : Moment) → m.what ≡ Nothing → Says a m None None None
+says_nothing a m is = says_of a m Nothing None None None is refl refl refl refl
 
-heard_no : (now : ℕ) (t : Attempts) → heard_so now t None ≡ t
-heard_no now (Resting k) = refl
-heard_no now (Running k a) = refl
+found : (b : Bool) (f : Ldata) → transport_of (cond b (Some f) None) ≡ to_it b (frame_in f.tpdu)
+found true f = refl
+found false f = refl
 
-module _ (device : IndAddr) (plan : Plan) (now at : ℕ) where
-  pub after_nothing : (t : Attempts) → attempts_after device plan (moment Nothing now at) t ≡ t
-  after_nothing t = ap (λ z. heard_so now z None) (confirmed_no now t) ∙ heard_no now t
+-- a request of the client
+pub says_put : (a : ℕ) (m : Moment) (octets : List ℕ) (f : Ldata) → m.what ≡ Puts octets → ldata_in octets ≡ Some f → is_req f.code ≡ true → Says a m (to_it (is_to a f) (frame_in f.tpdu)) None None
+says_put a m octets f is reads request =
+    let frame : put_frame (Puts octets) ≡ Some f = ap (where_is (λ (z : Ldata). is_req z.code)) reads ∙ ap (λ b. cond b (Some f) None) request in
+    says_of a m (Puts octets) (to_it (is_to a f) (frame_in f.tpdu)) None None is refl (ap (λ z. transport_of (where_is (is_to a) z)) frame ∙ found (is_to a f) f) refl refl
 
-  -- a request of the client
-  by_code : (octets : List ℕ) (f : Ldata) → ldata_in octets ≡ Some f → is_req f.code ≡ true → put_frame (Puts octets) ≡ Some f
-  by_code octets f reads request = rw (reads, request) refl
+-- a frame that is taken
+con_found : (b : Bool) (f : Ldata) → error_of (cond b (Some f) None) ≡ cond b (Some f.error) None
+con_found true f = refl
+con_found false f = refl
 
-  pub after_put_here : (octets : List ℕ) (f : Ldata) (t : Attempts) → ldata_in octets ≡ Some f → is_req f.code ≡ true → is_to device.raw f ≡ true → attempts_after device plan (moment (Puts octets) now at) t ≡ put_to_one device plan now f t
-  after_put_here octets f t reads request to =
-      let p : put_to device.raw (Puts octets) ≡ Some (frame_in f.tpdu) = ap (λ z. transport_of (where_is (is_to device.raw) z)) (by_code octets f reads request) ∙ (let x : transport_of (where_is (is_to device.raw) (Some f)) ≡ Some (frame_in f.tpdu) = rw to refl in x) in
-      ap (λ z. heard_so now (confirmed_so now (put_so device plan now t z) None) None) p ∙ ap (λ z. heard_so now z None) (confirmed_no now (put_to_one device plan now f t)) ∙ heard_no now (put_to_one device plan now f t)
+heard_by : (a : ℕ) (y : Ldata) (code : LdataCode) → y.code ≡ code → (code ≡ Req → ⊥) → transport_of (where_is (is_from a) (cond (is_ind code) (Some y) None)) ≡ cond (is_con code) None (to_it (is_from a y) (frame_in y.tpdu))
+heard_by a y Req is not_req = absurd (not_req refl)
+heard_by a y Con is not_req = refl
+heard_by a y Ind is not_req = found (is_from a y) y
 
-  pub after_put_there : (octets : List ℕ) (f : Ldata) (t : Attempts) → ldata_in octets ≡ Some f → is_req f.code ≡ true → is_to device.raw f ≡ false → attempts_after device plan (moment (Puts octets) now at) t ≡ t
-  after_put_there octets f t reads request to =
-      let p : put_to device.raw (Puts octets) ≡ None = ap (λ z. transport_of (where_is (is_to device.raw) z)) (by_code octets f reads request) ∙ (let x : transport_of (where_is (is_to device.raw) (Some f)) ≡ None = rw to refl in x) in
-      ap (λ z. heard_so now (confirmed_so now (put_so device plan now t z) None) None) p ∙ ap (λ z. heard_so now z None) (confirmed_no now t) ∙ heard_no now t
+pub says_take : (a : ℕ) (m : Moment) (octets : List ℕ) (y : Ldata) → m.what ≡ Takes octets → cemi_octets y ≡ octets → IsTold y → IsTaken a m y
+says_take a m octets y is content told = by_read told.reads where
+  with_octets : ldata_in (cemi_octets y) ≡ ldata_in octets
+  with_octets = ap ldata_in content
 
-  -- a frame that is taken, a confirmation or an indication that was read
-  abbrev Parts : Option Ldata → Attempts → Attempts
-  Parts o t = heard_so now (confirmed_so now t (error_of (where_is (λ (f : Ldata). is_con f.code) o))) (transport_of (where_is (is_from device.raw) (where_is (λ (f : Ldata). is_ind f.code) o)))
-
-  taken_code : (y : Ldata) (t : Attempts) → (code : LdataCode) → y.code ≡ code → (code ≡ Req → ⊥) → Parts (Some y) t ≡ after_take device.raw now y t
-  taken_code y t Req c not_req = absurd (not_req refl)
-  taken_code y t Con c not_req =
-      rw c (heard_no now (confirmed_so now t (Some y.error)))
-  taken_code y t Ind c not_req = rw c (by_from (is_from device.raw y)) where
-    by_from : (b : Bool) → heard_so now (confirmed_so now t None) (transport_of (cond b (Some (record y { code = Ind })) None)) ≡ cond b (heard_so now t (Some (frame_in y.tpdu))) t
-    by_from true = ap (λ z. heard_so now z (Some (frame_in y.tpdu))) (confirmed_no now t)
-    by_from false = ap (λ z. heard_so now z None) (confirmed_no now t) ∙ heard_no now t
-
-  pub after_taken : (octets : List ℕ) (y : Ldata) (t : Attempts) → ldata_in octets ≡ Some y → (y.code ≡ Req → ⊥) → attempts_after device plan (moment (Takes octets) now at) t ≡ after_take device.raw now y t
-  after_taken octets y t reads not_req = ap (λ z. Parts z t) reads ∙ taken_code y t y.code refl not_req
-
--- one that is none of a connection
-
-took_not : (e : ClientEnd) → client_took e Other ≡ heard.Dropped
-unfolding client_took
-took_not (Asked d) = refl
-took_not (Up s) = refl
-took_not (Asking s q) = refl
-took_not (Awaiting s) = refl
-took_not Ended = refl
-
-heard_other : (now : ℕ) (t : Attempts) → heard_so now t (Some Other) ≡ t
-heard_other now (Resting k) = refl
-heard_other now (Running k x) = ap (λ z. heard_attempt k x now z) (took_not x.end)
-
-pub after_item : (device : IndAddr) (plan : Plan) (now at : ℕ) (octets : List ℕ) (y : Ldata) (t : Attempts) → cemi_octets y ≡ octets → IsTold y → attempts_after device plan (moment (Takes octets) now at) t ≡ after_take device.raw now y t
-after_item device plan now at octets y t is told = by_read told.reads where
-  unread : ldata_in (cemi_octets y) ≡ None → frame_in y.tpdu ≡ Other → attempts_after device plan (moment (Takes octets) now at) t ≡ after_take device.raw now y t
-  unread none other =
-      let plain : is_con y.code ≡ false = sym told.con_is ∙ ap is_confirmation none in
-      let here : attempts_after device plan (moment (Takes octets) now at) t ≡ t = ap (λ z. Parts device plan now at z t) (ap ldata_in (sym is) ∙ none) ∙ ap (λ z. heard_so now z None) (confirmed_no now t) ∙ heard_no now t in
-      here ∙ sym (ap (λ z. cond z (confirmed_so now t (Some y.error)) (cond (is_from device.raw y) (heard_so now t (Some (frame_in y.tpdu))) t)) plain ∙ ap (λ z. cond (is_from device.raw y) (heard_so now t (Some z)) t) other ∙ by_from (is_from device.raw y))
-    where
-      by_from : (b : Bool) → cond b (heard_so now t (Some Other)) t ≡ t
-      by_from true = heard_other now t
-      by_from false = refl
-
-  by_read : (ldata_in (cemi_octets y) ≡ Some y) ⊎ ((ldata_in (cemi_octets y) ≡ None) × (frame_in y.tpdu ≡ Other)) → attempts_after device plan (moment (Takes octets) now at) t ≡ after_take device.raw now y t
-  by_read (inl e) = after_taken device plan now at octets y t (ap ldata_in (sym is) ∙ e) told.not_req
-  by_read (inr u) = unread u.0 u.1
+  by_read : (ldata_in (cemi_octets y) ≡ Some y) ⊎ ((ldata_in (cemi_octets y) ≡ None) × (frame_in y.tpdu ≡ Other)) → IsTaken a m y
+  by_read (inl e) =
+      let reads : ldata_in octets ≡ Some y = sym with_octets ∙ e in
+      inl (says_of a m (Takes octets) None (con_in y) (frame_from a y) is refl refl (ap (λ z. error_of (where_is (λ (f : Ldata). is_con f.code) z)) reads ∙ con_found (is_con y.code) y)
+      (ap (λ z. transport_of (where_is (is_from a) (where_is (λ (f : Ldata). is_ind f.code) z))) reads ∙ heard_by a y y.code refl told.not_req))
+  by_read (inr u) =
+      let unread : ldata_in octets ≡ None = sym with_octets ∙ u.0 in
+      inr (
+        says_of a m (Takes octets) None None None is refl refl (ap (λ z. error_of (where_is (λ (f : Ldata). is_con f.code) z)) unread) (ap (λ z. transport_of (where_is (is_from a) (where_is (λ (f : Ldata). is_ind f.code) z))) unread),
+        sym told.con_is ∙ ap is_confirmation u.0,
+        u.1,
+      )
 
 -- ---- the tunnel's address
 

@@ -18,7 +18,8 @@ use Rattle.line_law.proofs.Coupled.{IsFrameOf, OwnIf, Owned}
 use Rattle.line_law.proofs.Owned.{waiting_owned, repeat_owned, owned_step}
 use Rattle.calm_law.specs.CalmTunnel as calm
 use Rattle.calm_law.specs.CalmTunnel.{Confirms, IsIndication, PutsRightly, PassesSo, PassesIdly, KeepsItsChannel}
-use Rattle.calm_law.specs.CalmLine.{IsShort, SendsShort, AreShort, ChannelIdles, PassesIdlyOnLine}
+use Rattle.calm_law.specs.CalmLine.{ChannelIdles, PassesIdlyOnLine}
+use Rattle.calm_law.proofs.Short.{IsShort, SendsShort, AreShort}
 use Rattle.calm_law.proofs.Law.{Keeps, idly, kept}
 
 -- ---- each event

@@ -10,9 +10,9 @@ use Rattle.knx_model.specs.declared.plan.Expect.{Expect}
 use Rattle.knx_model.specs.Apdu.{Written}
 use Rattle.knx_model.specs.ClientConnection.{ClientEnd, Up, Asking, Awaiting, Ended, Question, has_answer}
 use Rattle.knx_model.specs.Connection.{Session, frame_in, next_number, numbered_data}
-use Rattle.knx_model.specs.Device.{NonVolatile}
+use Rattle.knx_model.specs.Device.{NonVolatile, answer_in}
 use Rattle.knx_model.specs.DeviceConnection.{DeviceEnd, Closed, Idle, Answering, first_answer}
-use Rattle.knx_model.specs.GoodPlan.{IsSendable}
+use Rattle.knx_model.specs.GoodPlan.{IsSendable, AnswersAll}
 use Rattle.knx_model.specs.Plans.{Plan, Asks, Suits}
 use Rattle.knx_model.specs.Served.{IsServed}
 use Rattle.line_model.specs.Attempts.{Attempt, Attempts, Resting, Running, first, sent_of}
@@ -158,6 +158,20 @@ IsGood plan e (Awaits apdu expect next v) frames kept = Answers apdu expect next
 IsGood plan e (Owes left closing v m) frames kept = Goes left closing frames kept × Follows m e
 IsGood plan e (Acks fly left closing v m) frames kept = Goes left closing frames kept × Follows m e
 IsGood plan e (Leaves fly left) frames kept = Unit {0}
+
+-- ---- where the device gives each wanted answer, from the job's taking on, none is refused: W says so
+
+-- k attempts began
+abbrev pub Wants : Type 0 → Plan → ℕ → Phase → FrameSupport → NonVolatile → Type 0
+Wants W plan k Rests frames kept = k ≡ 0 → W → AnswersAll (answer_in frames) plan kept
+Wants W plan k (Opens fly) frames kept = W → AnswersAll (answer_in frames) plan kept
+Wants W plan k (Ready left closing) frames kept = W → (closing ≡ false) × AnswersAll (answer_in frames) left kept
+Wants W plan k (Sends apdu expect next) frames kept = W → AnswersAll (answer_in frames) (Asks apdu expect next) kept
+Wants W plan k (Served told apdu expect next o) frames kept = W → Suits apdu expect o × AnswersAll (answer_in frames) (next o) kept
+Wants W plan k (Awaits apdu expect next v) frames kept = W → Suits apdu expect (Some v) × AnswersAll (answer_in frames) (next (Some v)) kept
+Wants W plan k (Owes left closing v m) frames kept = W → (closing ≡ false) × AnswersAll (answer_in frames) left kept
+Wants W plan k (Acks fly left closing v m) frames kept = W → (closing ≡ false) × AnswersAll (answer_in frames) left kept
+Wants W plan k (Leaves fly left) frames kept = k ≡ 1
 
 -- one device: the attempts of its job, what is on its way, and the device
 pub record Line (me device : IndAddr) (plan : Plan) (k n e : ℕ) (phase : Phase) (t : Attempts) (stream : List Item) (connection : DeviceEnd) (frames : FrameSupport) (kept : NonVolatile) (now : ℕ) : Type 0 where

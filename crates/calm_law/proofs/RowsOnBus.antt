@@ -19,16 +19,16 @@ use Rattle.knx_model.specs.DeviceFrames.{Whole, own_frame, took_of, takes}
 use Rattle.knx_model.specs.DeviceSending.{pops}
 use Rattle.knx_model.specs.Plans.{Plan}
 use Rattle.line_model.specs.Reading.{is_con, ldata_in}
-use Rattle.line_model.specs.Moments.{is_to, is_from}
-use Rattle.line_model.specs.Attempts.{Attempts}
+use Rattle.line_model.specs.Moments.{Moment, is_to, is_from}
 use Rattle.line_model.specs.World.{on_bus, all_take, changed, others_take, is_among}
 use Rattle.line_law.proofs.Coupled.{IsFrameOf}
 use Rattle.calm_law.proofs.State.{is_con_frame, one_if, cons_in}
 use Rattle.calm_law.proofs.Events.{cons_append, ind_is}
-use Rattle.calm_law.proofs.Phases.{Item, Told, items_if, items_of, Phase, Rests, Opens, Ready, Sends, Served, Awaits, Owes, Acks, Leaves, fly_at, stream_at, connection_at, IsGood, Line}
+use Rattle.calm_law.proofs.Phases.{Item, Told, items_if, items_of, Phase, Rests, Opens, Ready, Sends, Served, Awaits, Owes, Acks, Leaves, fly_at, stream_at, connection_at, Wants, IsGood, Line}
+use Rattle.calm_law.proofs.Books.{tried}
 use Rattle.calm_law.proofs.SessionBus.{TakesIt, taken}
 use Rattle.calm_law.proofs.SessionRests.{SameSession, group_taken, other_taken}
-use Rattle.calm_law.proofs.Rows.{told_if, heard_if, item_in, items_in, to_it, fly_to, IsTold, AreTold, Row, Devices, Riders}
+use Rattle.calm_law.proofs.Rows.{told_if, heard_if, item_in, items_in, to_it, fly_to, IsTold, AreTold, Willing, Row, Devices, Riders}
 
 -- ---- the queue grows
 
@@ -45,9 +45,9 @@ told_append (x ∷ q) y h g = (h.0, told_append q y h.1 g)
 
 -- ---- one device
 
-module _ (me : IndAddr) (a : ℕ) (plan : Plan) (t : Attempts) (q : List Ldata) (now : ℕ) where
+module _ (me : IndAddr) (a : ℕ) (plan : Plan) (old : Option DeviceState) (since : List Moment) (q : List Ldata) (now : ℕ) where
   -- a frame that is not its own joins the queue
-  row_more : (fly : Option Ldata) (d : DeviceState) (y : Ldata) → item_in a y ≡ [] → Row me a plan t fly q d now → Row me a plan t fly (q ++ y ∷ []) d now
+  row_more : (fly : Option Ldata) (d : DeviceState) (y : Ldata) → item_in a y ≡ [] → Row me a plan old since fly q d now → Row me a plan old since fly (q ++ y ∷ []) d now
   row_more fly d y is row =
       let l = row.line in
       let same : items_in a (q ++ y ∷ []) ≡ items_in a q = in_one a q y ∙ ap (λ z. items_in a q ++ z) is ∙ append-nil (items_in a q) in
@@ -58,16 +58,18 @@ module _ (me : IndAddr) (a : ℕ) (plan : Plan) (t : Attempts) (q : List Ldata) 
         phase = row.phase;
         flies = row.flies;
         line = record { attempts_are = l.attempts_are; stream_is = ap (λ z. z ++ items_of d.unsent) same ∙ l.stream_is; connection_is = l.connection_is; good = l.good; numbers = l.numbers };
+        books = row.books;
+        wants = row.wants;
         address = row.address;
         power = row.power;
       }
 
   -- nothing of its session changes
-  row_same : (fly : Option Ldata) (d n : DeviceState) → SameSession d n → Row me a plan t fly q d now → Row me a plan t fly q n now
+  row_same : (fly : Option Ldata) (d n : DeviceState) → SameSession d n → Row me a plan old since fly q d now → Row me a plan old since fly q n now
   row_same fly d n s row =
       let l = row.line in
       let address : n.address ≡ d.address = s.address in
-      let L : Line me d.address plan row.k row.n row.e row.phase t (items_in a q ++ items_of n.unsent) n.connection n.frames n.kept now
+      let L : Line me d.address plan row.k row.n row.e row.phase (tried a plan since) (items_in a q ++ items_of n.unsent) n.connection n.frames n.kept now
       = record {
         attempts_are = l.attempts_are;
         stream_is = ap (λ z. items_in a q ++ z) s.items ∙ l.stream_is;
@@ -81,7 +83,9 @@ module _ (me : IndAddr) (a : ℕ) (plan : Plan) (t : Attempts) (q : List Ldata) 
         e = row.e;
         phase = row.phase;
         flies = row.flies;
-        line = subst (λ z. Line me z plan row.k row.n row.e row.phase t (items_in a q ++ items_of n.unsent) n.connection n.frames n.kept now) (sym address) L;
+        line = subst (λ z. Line me z plan row.k row.n row.e row.phase (tried a plan since) (items_in a q ++ items_of n.unsent) n.connection n.frames n.kept now) (sym address) L;
+        books = row.books;
+        wants = subst (λ z. Wants (Willing plan old) plan row.k row.phase z n.kept) (sym s.frames) (subst (λ z. Wants (Willing plan old) plan row.k row.phase d.frames z) (sym s.kept) row.wants);
         address = ap (λ (z : IndAddr). z.raw) address ∙ row.address;
         power = s.power ∙ row.power;
       }
@@ -97,7 +101,7 @@ module _ (me : IndAddr) (a : ℕ) (plan : Plan) (t : Attempts) (q : List Ldata) 
       by_group true = refl
       by_group false = refl
 
-  row_pops : (fly : Option Ldata) (d : DeviceState) (f : Ldata) (rest : List Ldata) → d.unsent ≡ f ∷ rest → IsFrameOf a f → Row me a plan t fly q d now → Row me a plan t fly (q ++ f ∷ []) (pops d) now
+  row_pops : (fly : Option Ldata) (d : DeviceState) (f : Ldata) (rest : List Ldata) → d.unsent ≡ f ∷ rest → IsFrameOf a f → Row me a plan old since fly q d now → Row me a plan old since fly (q ++ f ∷ []) (pops d) now
   row_pops fly d f rest is own row =
       let l = row.line in
       let left : (pops d).unsent ≡ rest = ap (λ z. drop 1 z) is in
@@ -111,6 +115,8 @@ module _ (me : IndAddr) (a : ℕ) (plan : Plan) (t : Attempts) (q : List Ldata) 
         phase = row.phase;
         flies = row.flies;
         line = record { attempts_are = l.attempts_are; stream_is = stream ∙ l.stream_is; connection_is = l.connection_is; good = l.good; numbers = l.numbers };
+        books = row.books;
+        wants = row.wants;
         address = row.address;
         power = row.power;
       }
@@ -134,10 +140,10 @@ module _ (me : IndAddr) (a : ℕ) (plan : Plan) (t : Attempts) (q : List Ldata) 
   con_item f error = refl
 
   -- and is none of this device
-  row_passes : (d : DeviceState) (f : Ldata) (error : Bool) → is_to a f ≡ false → Row me a plan t (Some f) q d now → Row me a plan t None (q ++ con_of f error ∷ []) d now
+  row_passes : (d : DeviceState) (f : Ldata) (error : Bool) → is_to a f ≡ false → Row me a plan old since (Some f) q d now → Row me a plan old since None (q ++ con_of f error ∷ []) d now
   row_passes d f error to row =
       let none : fly_to a (Some f) ≡ None = ap (λ b. to_it b (frame_in f.tpdu)) to in
-      let landed : Row me a plan t None q d now = record { k = row.k; n = row.n; e = row.e; phase = row.phase; flies = row.flies ∙ none; line = row.line; address = row.address; power = row.power } in
+      let landed : Row me a plan old since None q d now = record { k = row.k; n = row.n; e = row.e; phase = row.phase; flies = row.flies ∙ none; line = row.line; books = row.books; wants = row.wants; address = row.address; power = row.power } in
       row_more None d (con_of f error) (con_item f error ∙ ap told_if to) landed
 
   -- a frame that flies comes alone
@@ -160,15 +166,15 @@ module _ (me : IndAddr) (a : ℕ) (plan : Plan) (t : Attempts) (q : List Ldata) 
   both_empty (x ∷ l) k h = absurd (cc)
 
   -- and is this device's
-  row_lands : (d : DeviceState) (f : Ldata) → f.group ≡ false → f.destination ≡ a → is_to a f ≡ true → Row me a plan t (Some f) q d now
-      → (took_of d (on_bus me f) ≡ Taken) × Row me a plan t None (q ++ con_of f false ∷ []) (takes d (on_bus me f) now Whole) now
+  row_lands : (d : DeviceState) (f : Ldata) → f.group ≡ false → f.destination ≡ a → is_to a f ≡ true → Row me a plan old since (Some f) q d now
+      → (took_of d (on_bus me f) ≡ Taken) × Row me a plan old since None (q ++ con_of f false ∷ []) (takes d (on_bus me f) now Whole) now
   row_lands d f group at to row =
       let l = row.line in
       let fr : TransportFrame = frame_in f.tpdu in
       let flies : fly_at row.n row.phase ≡ Some fr = row.flies ∙ ap (λ b. to_it b fr) to in
       let empty = both_empty (items_in a q) (items_of d.unsent) (l.stream_is ∙ alone row.n row.e row.phase fr flies) in
-      let it : TakesIt me d.address plan row.n row.e now l.numbers d.frames d.kept d.values d.unsent d.last row.phase f.tpdu
-      = taken me d.address plan row.n row.e now l.numbers d.frames d.kept d.values d.unsent d.last row.phase fr f.tpdu flies refl empty.1 l.good in
+      let it : TakesIt me d.address plan row.n row.e now l.numbers d.frames d.kept d.values d.unsent d.last (Willing plan old) row.phase f.tpdu
+      = taken me d.address plan row.n row.e now l.numbers d.frames d.kept d.values d.unsent d.last (Willing plan old) row.phase fr f.tpdu flies refl empty.1 l.good in
       let F : Ldata = own_frame me false d.address.raw f.tpdu in
       let frame_is : on_bus me f ≡ F = ap (λ g. own_frame me g f.destination f.tpdu) group ∙ ap (λ z. own_frame me false z f.tpdu) (at ∙ sym row.address) in
       let on : d.power ≡ true = row.power in
@@ -178,7 +184,7 @@ module _ (me : IndAddr) (a : ℕ) (plan : Plan) (t : Attempts) (q : List Ldata) 
       let after_is : takes d (on_bus me f) now Whole ≡ it.after = ap (λ z. takes z (on_bus me f) now Whole) d_is ∙ ap (λ z. takes D z now Whole) frame_is ∙ it.is in
       let took : took_of d (on_bus me f) ≡ Taken = ap (λ z. took_of z (on_bus me f)) d_is ∙ ap (λ z. took_of D z) frame_is ∙ it.taken in
       let queue : items_in a (q ++ con_of f false ∷ []) ≡ Told ∷ [] = in_one a q (con_of f false) ∙ ap (λ z. z ++ item_in a (con_of f false)) empty.0 ∙ con_item f false ∙ ap told_if to in
-      let L : Line me d.address plan row.k row.n row.e it.next t (items_in a (q ++ con_of f false ∷ []) ++ items_of it.after.unsent) it.after.connection d.frames it.after.kept now
+      let L : Line me d.address plan row.k row.n row.e it.next (tried a plan since) (items_in a (q ++ con_of f false ∷ []) ++ items_of it.after.unsent) it.after.connection d.frames it.after.kept now
       = record {
         attempts_are = l.attempts_are ∙ sym (it.attempts row.k);
         stream_is = ap (λ z. z ++ items_of it.after.unsent) queue ∙ it.stream;
@@ -186,12 +192,12 @@ module _ (me : IndAddr) (a : ℕ) (plan : Plan) (t : Attempts) (q : List Ldata) 
         good = it.good;
         numbers = l.numbers;
       } in
-      let L2 : Line me it.after.address plan row.k row.n row.e it.next t (items_in a (q ++ con_of f false ∷ []) ++ items_of it.after.unsent) it.after.connection it.after.frames it.after.kept now
-      = subst (λ z. Line me z plan row.k row.n row.e it.next t (items_in a (q ++ con_of f false ∷ []) ++ items_of it.after.unsent) it.after.connection it.after.frames it.after.kept now) (sym it.same.2)
-      (subst (λ z. Line me d.address plan row.k row.n row.e it.next t (items_in a (q ++ con_of f false ∷ []) ++ items_of it.after.unsent) it.after.connection z it.after.kept now) (sym it.same.0) L) in
-      let there : Row me a plan t None (q ++ con_of f false ∷ []) it.after now
-      = record { k = row.k; n = row.n; e = row.e; phase = it.next; flies = it.lands; line = L2; address = ap (λ (z : IndAddr). z.raw) it.same.2 ∙ row.address; power = it.same.1 } in
-      (took, subst (λ z. Row me a plan t None (q ++ con_of f false ∷ []) z now) (sym after_is) there)
+      let L2 : Line me it.after.address plan row.k row.n row.e it.next (tried a plan since) (items_in a (q ++ con_of f false ∷ []) ++ items_of it.after.unsent) it.after.connection it.after.frames it.after.kept now
+      = subst (λ z. Line me z plan row.k row.n row.e it.next (tried a plan since) (items_in a (q ++ con_of f false ∷ []) ++ items_of it.after.unsent) it.after.connection it.after.frames it.after.kept now) (sym it.same.2)
+      (subst (λ z. Line me d.address plan row.k row.n row.e it.next (tried a plan since) (items_in a (q ++ con_of f false ∷ []) ++ items_of it.after.unsent) it.after.connection z it.after.kept now) (sym it.same.0) L) in
+      let there : Row me a plan old since None (q ++ con_of f false ∷ []) it.after now
+      = record { k = row.k; n = row.n; e = row.e; phase = it.next; flies = it.lands; line = L2; books = it.books row.k a since row.books; wants = subst (λ z. Wants (Willing plan old) plan row.k it.next z it.after.kept) (sym it.same.0) (it.wants row.k row.wants); address = ap (λ (z : IndAddr). z.raw) it.same.2 ∙ row.address; power = it.same.1 } in
+      (took, subst (λ z. Row me a plan old since None (q ++ con_of f false ∷ []) z now) (sym after_is) there)
 
 -- ---- all of them
 
@@ -205,39 +211,39 @@ mapped g None d h = absurd (cc)
 mapped g (Some x) d h = record { from = x; there = refl; is = (let e : g x ≡ d = cc in sym e) }
 
 -- the client's frame goes over the bus
-pub riders_bus : (me : IndAddr) (plans : ℕ → Plan) (attempts : ℕ → Attempts) (devices : Devices) (now : ℕ) (f : Ldata) (q : List Ldata) → Riders me plans attempts devices now (Some f) q → ldata_in (cemi_octets (record (on_bus me f) { code = Con; error = false })) ≡ Some (record (on_bus me f) { code = Con; error = false })
-    → Riders me plans attempts (all_take now [] (Some (on_bus me f)) devices) now None (q ++ record (on_bus me f) { code = Con; error = false } ∷ [])
-riders_bus me plans attempts devices now f q h reads =
+pub riders_bus : (me : IndAddr) (plans : ℕ → Plan) (olds : ℕ → Option DeviceState) (since : ℕ → List Moment) (devices : Devices) (now : ℕ) (f : Ldata) (q : List Ldata) → Riders me plans olds since devices now (Some f) q → ldata_in (cemi_octets (record (on_bus me f) { code = Con; error = false })) ≡ Some (record (on_bus me f) { code = Con; error = false })
+    → Riders me plans olds since (all_take now [] (Some (on_bus me f)) devices) now None (q ++ record (on_bus me f) { code = Con; error = false } ∷ [])
+riders_bus me plans olds since devices now f q h reads =
     let con : Ldata = record (on_bus me f) { code = Con; error = false } in
     let is_one : is_con_frame con ≡ true = ap is_confirmation reads in
     record {
       rows = λ a d is. (let m : Mapped (λ d. takes d (on_bus me f) now Whole) (devices a) d = mapped (λ d. takes d (on_bus me f) now Whole) (devices a) d is in
-          subst (λ z. Row me a (plans a) (attempts a) None (q ++ con ∷ []) z now) (sym m.is) (by_group a m.from (h.rows a m.from m.there) f.group refl));
+          subst (λ z. Row me a (plans a) (olds a) (since a) None (q ++ con ∷ []) z now) (sym m.is) (by_group a m.from (h.rows a m.from m.there) f.group refl));
       told = told_append q con h.told (record { con_is = is_one; not_req = λ c. cc; reads = inl reads; error = λ c. refl });
       one = (let o : 1 + cons_in q ≤ 1 = h.one in let c = cons_append q (con ∷ []) in let b : one_if (is_con_frame con) ≡ 1 = ap one_if is_one in omega (arith, o, c, b));
     }
   where
-    by_to : (a : ℕ) (d : DeviceState) → Row me a (plans a) (attempts a) (Some f) q d now → f.group ≡ false → (b : Bool) → (f.destination == a) ≡ b → Row me a (plans a) (attempts a) None (q ++ record (on_bus me f) { code = Con; error = false } ∷ []) (takes d (on_bus me f) now Whole) now
+    by_to : (a : ℕ) (d : DeviceState) → Row me a (plans a) (olds a) (since a) (Some f) q d now → f.group ≡ false → (b : Bool) → (f.destination == a) ≡ b → Row me a (plans a) (olds a) (since a) None (q ++ record (on_bus me f) { code = Con; error = false } ∷ []) (takes d (on_bus me f) now Whole) now
     by_to a d row group true at =
         let to : is_to a f ≡ true = rw (group, at) refl in
-        (row_lands me a (plans a) (attempts a) q now d f group (eqb-true f.destination a at) to row).1
+        (row_lands me a (plans a) (olds a) (since a) q now d f group (eqb-true f.destination a at) to row).1
     by_to a d row group false at =
         let to : is_to a f ≡ false = rw (group, at) refl in
         let apart : (f.destination == d.address.raw) ≡ false = ap (λ z. f.destination == z) row.address ∙ at in
-        subst (λ z. Row me a (plans a) (attempts a) None (q ++ record (on_bus me f) { code = Con; error = false } ∷ []) z now) (sym (other_taken d (on_bus me f) now group apart)) (row_passes me a (plans a) (attempts a) q now d f false to row)
+        subst (λ z. Row me a (plans a) (olds a) (since a) None (q ++ record (on_bus me f) { code = Con; error = false } ∷ []) z now) (sym (other_taken d (on_bus me f) now group apart)) (row_passes me a (plans a) (olds a) (since a) q now d f false to row)
 
-    by_group : (a : ℕ) (d : DeviceState) → Row me a (plans a) (attempts a) (Some f) q d now → (b : Bool) → f.group ≡ b → Row me a (plans a) (attempts a) None (q ++ record (on_bus me f) { code = Con; error = false } ∷ []) (takes d (on_bus me f) now Whole) now
+    by_group : (a : ℕ) (d : DeviceState) → Row me a (plans a) (olds a) (since a) (Some f) q d now → (b : Bool) → f.group ≡ b → Row me a (plans a) (olds a) (since a) None (q ++ record (on_bus me f) { code = Con; error = false } ∷ []) (takes d (on_bus me f) now Whole) now
     by_group a d row true group =
         let to : is_to a f ≡ false = rw group refl in
-        row_same me a (plans a) (attempts a) (q ++ record (on_bus me f) { code = Con; error = false } ∷ []) now None d (takes d (on_bus me f) now Whole) (group_taken d (on_bus me f) now group) (row_passes me a (plans a) (attempts a) q now d f false to row)
+        row_same me a (plans a) (olds a) (since a) (q ++ record (on_bus me f) { code = Con; error = false } ∷ []) now None d (takes d (on_bus me f) now Whole) (group_taken d (on_bus me f) now group) (row_passes me a (plans a) (olds a) (since a) q now d f false to row)
     by_group a d row false group = by_to a d row group (f.destination == a) refl
 
 -- so the device that it is for took it
-pub one_took : (me : IndAddr) (plans : ℕ → Plan) (attempts : ℕ → Attempts) (devices : Devices) (now : ℕ) (f : Ldata) (q : List Ldata) (d : DeviceState) → Riders me plans attempts devices now (Some f) q → f.group ≡ false → devices f.destination ≡ Some d
+pub one_took : (me : IndAddr) (plans : ℕ → Plan) (olds : ℕ → Option DeviceState) (since : ℕ → List Moment) (devices : Devices) (now : ℕ) (f : Ldata) (q : List Ldata) (d : DeviceState) → Riders me plans olds since devices now (Some f) q → f.group ≡ false → devices f.destination ≡ Some d
     → took_of d (on_bus me f) ≡ Taken
-one_took me plans attempts devices now f q d h group is =
+one_took me plans olds since devices now f q d h group is =
     let to : is_to f.destination f ≡ true = rw (group, eq-eqb f.destination f.destination refl) refl in
-    (row_lands me f.destination (plans f.destination) (attempts f.destination) q now d f group refl to (h.rows f.destination d is)).0
+    (row_lands me f.destination (plans f.destination) (olds f.destination) (since f.destination) q now d f group refl to (h.rows f.destination d is)).0
 
 -- ---- a device's frame goes over the bus: to the gateway, and one to a group to the other devices too
 
@@ -267,9 +273,9 @@ module _ (devices : Devices) (b now : ℕ) (f : Ldata) where
     by_group true group h = taken_by a d group (b == a) refl (sym (ap (λ z. cond z (devices a) (option_map (λ x. takes x f now Whole) (devices a))) (among (b == a) refl)) ∙ h)
     by_group false group h = unchanged a d h
 
-pub riders_send : (me : IndAddr) (plans : ℕ → Plan) (attempts : ℕ → Attempts) (devices : Devices) (b now : ℕ) (fly : Option Ldata) (f : Ldata) (q rest : List Ldata) (sender : DeviceState) → Riders me plans attempts devices now fly q
-    → devices b ≡ Some sender → sender.unsent ≡ f ∷ rest → IsFrameOf b f → Riders me plans attempts (changed b pops (others_take now (b ∷ []) (Some f) devices)) now fly (q ++ f ∷ [])
-riders_send me plans attempts devices b now fly f q rest sender h there unsent own =
+pub riders_send : (me : IndAddr) (plans : ℕ → Plan) (olds : ℕ → Option DeviceState) (since : ℕ → List Moment) (devices : Devices) (b now : ℕ) (fly : Option Ldata) (f : Ldata) (q rest : List Ldata) (sender : DeviceState) → Riders me plans olds since devices now fly q
+    → devices b ≡ Some sender → sender.unsent ≡ f ∷ rest → IsFrameOf b f → Riders me plans olds since (changed b pops (others_take now (b ∷ []) (Some f) devices)) now fly (q ++ f ∷ [])
+riders_send me plans olds since devices b now fly f q rest sender h there unsent own =
     record {
       rows = λ a d is. by_self a d (a == b) refl is;
       told = told_append q f h.told (record { con_is = ind_is f code ∙ sym ind; not_req = λ c. (let x : Ind ≡ Req = sym code ∙ c in cc); reads = by_read (own_read f own.1); error = λ c. absurd (let x : false ≡ true = sym ind ∙ c in cc) });
@@ -286,7 +292,7 @@ riders_send me plans attempts devices b now fly f q rest sender h there unsent o
     by_read (Read e) = inl e
     by_read (Unread e o) = inr (e, o)
 
-    by_self : (a : ℕ) (d : DeviceState) → (s : Bool) → (a == b) ≡ s → cond s (option_map pops (others_take now (b ∷ []) (Some f) devices a)) (others_take now (b ∷ []) (Some f) devices a) ≡ Some d → Row me a (plans a) (attempts a) fly (q ++ f ∷ []) d now
+    by_self : (a : ℕ) (d : DeviceState) → (s : Bool) → (a == b) ≡ s → cond s (option_map pops (others_take now (b ∷ []) (Some f) devices a)) (others_take now (b ∷ []) (Some f) devices a) ≡ Some d → Row me a (plans a) (olds a) (since a) fly (q ++ f ∷ []) d now
     by_self a d true at is =
         let m : Mapped pops (others_take now (b ∷ []) (Some f) devices a) d = mapped pops (others_take now (b ∷ []) (Some f) devices a) d is in
         let o : Others devices b a m.from = others devices b now f a m.from m.there in
@@ -294,12 +300,12 @@ riders_send me plans attempts devices b now fly f q rest sender h there unsent o
         let it : m.from ≡ o.from = o.itself (eq-eqb b a (sym same)) in
         let first : o.from ≡ sender = (let x : Some o.from ≡ Some sender = sym o.there ∙ ap devices same ∙ there in cc) in
         let left : o.from.unsent ≡ f ∷ rest = ap (λ (z : DeviceState). z.unsent) first ∙ unsent in
-        let row : Row me a (plans a) (attempts a) fly (q ++ f ∷ []) (pops o.from) now = row_pops me a (plans a) (attempts a) q now fly o.from f rest left (subst (λ z. IsFrameOf z f) (sym same) own) (h.rows a o.from o.there) in
-        subst (λ z. Row me a (plans a) (attempts a) fly (q ++ f ∷ []) z now) (sym (m.is ∙ ap pops it)) row
+        let row : Row me a (plans a) (olds a) (since a) fly (q ++ f ∷ []) (pops o.from) now = row_pops me a (plans a) (olds a) (since a) q now fly o.from f rest left (subst (λ z. IsFrameOf z f) (sym same) own) (h.rows a o.from o.there) in
+        subst (λ z. Row me a (plans a) (olds a) (since a) fly (q ++ f ∷ []) z now) (sym (m.is ∙ ap pops it)) row
     by_self a d false at is =
         let o : Others devices b a d = others devices b now f a d is in
         let apart : (b == a) ≡ false = not_same a b at in
-        row_same me a (plans a) (attempts a) (q ++ f ∷ []) now fly o.from d o.same (row_more me a (plans a) (attempts a) q now fly o.from f (other_item me a (plans a) (attempts a) q now b f own apart) (h.rows a o.from o.there))
+        row_same me a (plans a) (olds a) (since a) (q ++ f ∷ []) now fly o.from d o.same (row_more me a (plans a) (olds a) (since a) q now fly o.from f (other_item me a (plans a) (olds a) (since a) q now b f own apart) (h.rows a o.from o.there))
       where
         not_same : (x y : ℕ) → (x == y) ≡ false → (y == x) ≡ false
         not_same x y e = grind (arith, e)

@@ -19,11 +19,14 @@ use Rattle.knx_model.specs.Device.{NonVolatile, answer_in, effect_in, whole}
 use Rattle.knx_model.specs.DeviceConnection.{DeviceEnd, Closed, Idle, Answering, device_took, device_after, device_answered, after_answer, first_answer}
 use Rattle.knx_model.specs.DeviceState.{DeviceState, moved}
 use Rattle.knx_model.specs.DeviceFrames.{Whole, own_frame, took_of, is_too_long, takes, takes_so, taken_alone}
+use Rattle.knx_model.specs.GoodPlan.{AnswersAll}
 use Rattle.knx_model.specs.Plans.{Plan, Asks, Suits}
 use Rattle.knx_model.specs.Served.{FitsInto, IsServed}
 use Rattle.session_law.proofs.Frames.{numbered_read, ack_read}
 use Rattle.session_law.proofs.Apdus.{answer_is_apdu}
-use Rattle.calm_law.proofs.Phases.{Told, Heard, items_if, items_of, Phase, Rests, Opens, Ready, Sends, Served, Awaits, Owes, Acks, Leaves, fly_at, stream_at, attempts_at, answering_at, connection_at, device_at, Goes, Follows, IsGood}
+use Rattle.line_model.specs.Moments.{Moment}
+use Rattle.calm_law.proofs.Books.{Books}
+use Rattle.calm_law.proofs.Phases.{Told, Heard, items_if, items_of, Phase, Rests, Opens, Ready, Sends, Served, Awaits, Owes, Acks, Leaves, fly_at, stream_at, attempts_at, answering_at, connection_at, device_at, Goes, Wants, Follows, IsGood}
 
 -- ---- frames that the device takes
 
@@ -107,7 +110,7 @@ items_append (f ∷ l) k = by_group f.group (items_append l k) where
   by_group true h = h
   by_group false h = ap (λ z. Heard (frame_in f.tpdu) ∷ z) h
 
-module _ (me device : IndAddr) (plan : Plan) (n e now : ℕ) (small : (n < 16) × (e < 16)) (frames : FrameSupport) (kept : NonVolatile) (values : List (Option Value)) (unsent : List Ldata) (last : Option Ldata) where
+module _ (me device : IndAddr) (plan : Plan) (n e now : ℕ) (small : (n < 16) × (e < 16)) (frames : FrameSupport) (kept : NonVolatile) (values : List (Option Value)) (unsent : List Ldata) (last : Option Ldata) (W : Type 0) where
   -- the device, and the client's frame to it
   abbrev pub the_device : DeviceEnd → DeviceState
   the_device connection = record { address = device; frames = frames; kept = kept; power = true; connection = connection; values = values; unsent = unsent; last = last }
@@ -130,6 +133,8 @@ module _ (me device : IndAddr) (plan : Plan) (n e now : ℕ) (small : (n < 16) �
     pub stream : Told ∷ items_of after.unsent ≡ stream_at n e next
     pub good : IsGood plan e next frames after.kept
     pub same : (after.frames ≡ frames) × (after.power ≡ true) × (after.address ≡ device)
+    pub books : (k a : ℕ) (l : List Moment) → Books W a plan k n e phase l → Books W a plan k n e next l
+    pub wants : (k : ℕ) → Wants W plan k phase frames kept → Wants W plan k next frames after.kept
 
   -- it takes it by itself
   alone : (connection : DeviceEnd) (f : TransportFrame) (tpdu : List ℕ) → frame_in tpdu ≡ f → IsSent f → FitsAs frames f
@@ -152,6 +157,8 @@ module _ (me device : IndAddr) (plan : Plan) (n e now : ℕ) (small : (n < 16) �
         stream = refl;
         good = good;
         same = (refl, refl, refl);
+        books = λ k a l h. h;
+        wants = λ k h. h;
       }
 
   -- the T_ACK of its answer
@@ -170,6 +177,8 @@ module _ (me device : IndAddr) (plan : Plan) (n e now : ℕ) (small : (n < 16) �
         stream = ap (λ z. Told ∷ z) none;
         good = good;
         same = (refl, refl, refl);
+        books = λ k a l h. h;
+        wants = λ k h. h;
       }
 
   -- the T_Disconnect
@@ -188,6 +197,8 @@ module _ (me device : IndAddr) (plan : Plan) (n e now : ℕ) (small : (n < 16) �
         stream = ap (λ z. Told ∷ z) none;
         good = tt;
         same = (refl, refl, refl);
+        books = λ k a l h. h;
+        wants = λ k h. h;
       }
 
   -- a service
@@ -229,6 +240,8 @@ module _ (me device : IndAddr) (plan : Plan) (n e now : ℕ) (small : (n < 16) �
             served = λ suits. subst (λ z. IsServed frames (next z) (whole kept (effect_in apdu))) is (it.2 (subst (λ z. Suits apdu expect z) (sym is) suits));
           };
           same = (refl, refl, refl);
+          books = λ k a l h. h;
+          wants = λ k h w. (subst (λ z. Suits apdu expect z) is (h w).0, subst (λ z. AnswersAll (answer_in frames) (next z) (whole kept (effect_in apdu))) is (h w).1);
         }
     by_answer (Some v) is =
         let d : DeviceState = moved acked (whole kept (effect_in apdu)) in
@@ -248,6 +261,8 @@ module _ (me device : IndAddr) (plan : Plan) (n e now : ℕ) (small : (n < 16) �
             served = λ suits. subst (λ z. IsServed frames (next z) (whole kept (effect_in apdu))) is (it.2 (subst (λ z. Suits apdu expect z) (sym is) suits));
           };
           same = (refl, refl, refl);
+          books = λ k a l h. h;
+          wants = λ k h w. (subst (λ z. Suits apdu expect z) is (h w).0, subst (λ z. AnswersAll (answer_in frames) (next z) (whole kept (effect_in apdu))) is (h w).1);
         }
 
   -- each of them

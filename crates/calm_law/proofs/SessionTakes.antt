@@ -1,5 +1,5 @@
 -- One device of a calm line: what the client takes of it.
-use Rattle.std.proofs.Common.{◌≡◌, ℕ, ◌<◌, List, [], ◌∷◌, Bool, true, false, cond, Option, Some, None, refl, sym, ◌∙◌, ap, subst, arith}
+use Rattle.std.proofs.Common.{◌≡◌, ◌≢◌, ℕ, ◌<◌, List, [], ◌∷◌, Bool, true, false, cond, Option, Some, None, refl, sym, ◌∙◌, ap, subst, arith}
 use Rattle.std.proofs.lemmas.Bool.{eq-eqb}
 use Rattle.std.proofs.lemmas.Slice.Eq.{bytes_eq-Decides}
 use Rattle.knx_model.specs.declared.address.IndAddr.{IndAddr}
@@ -17,14 +17,22 @@ use Rattle.knx_model.specs.Device.{NonVolatile}
 use Rattle.knx_model.specs.Plans.{Plan, Asks, Suits, followed}
 use Rattle.line_model.specs.Progress.{suits}
 use Rattle.line_model.specs.Attempts.{Attempts, Running, sent_of, confirmed_so, heard_so, owing}
-use Rattle.calm_law.proofs.Phases.{Item, Told, Heard, Phase, Rests, Opens, Ready, Sends, Served, Awaits, Owes, Acks, Leaves, fly_at, stream_at, answer_items, attempts_at, connection_at, client_at, attempt_of, Answers, IsGood}
+use Rattle.line_model.specs.Moments.{Moment}
+use Rattle.calm_law.proofs.Books.{Says, Books}
+use Rattle.calm_law.proofs.BooksMoves.{opened_books, served_books, acks_books, leaves_books, lacks_books, next_books, wanted_books, refused_books}
+use Rattle.calm_law.proofs.Phases.{Item, Told, Heard, Phase, Rests, Opens, Ready, Sends, Served, Awaits, Owes, Acks, Leaves, fly_at, stream_at, answer_items, attempts_at, connection_at, client_at, attempt_of, Answers, Wants, IsGood}
 
 -- what an item is to the attempts
 abbrev pub taken_item : ℕ → Attempts → Item → Attempts
 taken_item now t Told = confirmed_so now t (Some false)
 taken_item now t (Heard f) = heard_so now t (Some f)
 
-module _ (me device : IndAddr) (plan : Plan) (k now : ℕ) (frames : FrameSupport) (kept : NonVolatile) where
+-- the moment by which it comes to the client of this device
+abbrev pub SaysItem : ℕ → Moment → Item → Type 0
+SaysItem a m Told = Says a m None (Some false) None
+SaysItem a m (Heard f) = Says a m None None (Some f)
+
+module _ (me device : IndAddr) (plan : Plan) (k now : ℕ) (frames : FrameSupport) (kept : NonVolatile) (W : Type 0) where
   pub record Got (n e : ℕ) (phase : Phase) (item : Item) (rest : List Item) : Type 0 where
     pub number : ℕ
     pub expected : ℕ
@@ -36,6 +44,8 @@ module _ (me device : IndAddr) (plan : Plan) (k now : ℕ) (frames : FrameSuppor
     pub connection : connection_at me device plan n e now phase ≡ connection_at me device plan number expected now next
     pub good : IsGood plan expected next frames kept
     pub numbers : (number < 16) × (expected < 16)
+    pub books : (a : ℕ) (m : Moment) (l : List Moment) → SaysItem a m item → Books W a plan k n e phase l → Books W a plan k number expected next (m ∷ l)
+    pub wants : Wants W plan k phase frames kept → Wants W plan k next frames kept
 
   next_small : (n : ℕ) → next_number n < 16
   next_small n = omega arith
@@ -46,18 +56,18 @@ module _ (me device : IndAddr) (plan : Plan) (k now : ℕ) (frames : FrameSuppor
   unfolding after_confirmed
   told n e Rests rest small good h = absurd (cc)
   told n e (Opens true) rest small good h = absurd (cc)
-  told n e (Opens false) rest small good h = record { number = 0; expected = 0; next = Ready plan false; lands = refl; flew = refl; is = refl; stream = (let r : rest ≡ [] = cc in r); connection = refl; good = good; numbers = (omega arith, omega arith) }
+  told n e (Opens false) rest small good h = record { number = 0; expected = 0; next = Ready plan false; lands = refl; flew = refl; is = refl; stream = (let r : rest ≡ [] = cc in r); connection = refl; good = good; numbers = (omega arith, omega arith); books = λ a m l says h. opened_books W a plan m l k n e says h; wants = λ h w. (refl, h w) }
   told n e (Ready left closing) rest small good h = absurd (cc)
   told n e (Sends apdu expect next) rest small good h = absurd (cc)
   told n e (Served true apdu expect next o) rest small good h =
-      record { number = n; expected = e; next = Served false apdu expect next o; lands = refl; flew = refl; is = refl; stream = (let r : rest ≡ Heard (Ack n) ∷ answer_items e o = cc in r); connection = refl; good = good; numbers = small }
+      record { number = n; expected = e; next = Served false apdu expect next o; lands = refl; flew = refl; is = refl; stream = (let r : rest ≡ Heard (Ack n) ∷ answer_items e o = cc in r); connection = refl; good = good; numbers = small; books = λ a m l says h. served_books W a plan m l k n e apdu expect next o says h; wants = λ h. h }
   told n e (Served false apdu expect next o) rest small good h = absurd (cc)
   told n e (Awaits apdu expect next v) rest small good h = absurd (cc)
   told n e (Owes left closing v m) rest small good h = absurd (cc)
   told n e (Acks true left closing v m) rest small good h = absurd (cc)
-  told n e (Acks false left closing v m) rest small good h = record { number = n; expected = e; next = Ready left closing; lands = refl; flew = refl; is = refl; stream = (let r : rest ≡ [] = cc in r); connection = refl; good = good.0; numbers = small }
+  told n e (Acks false left closing v m) rest small good h = record { number = n; expected = e; next = Ready left closing; lands = refl; flew = refl; is = refl; stream = (let r : rest ≡ [] = cc in r); connection = refl; good = good.0; numbers = small; books = λ a t l says h. acks_books W a plan t l k n e left closing v m says h; wants = λ h. h }
   told n e (Leaves true left) rest small good h = absurd (cc)
-  told n e (Leaves false left) rest small good h = record { number = n; expected = e; next = Rests; lands = refl; flew = refl; is = refl; stream = (let r : rest ≡ [] = cc in r); connection = refl; good = tt; numbers = small }
+  told n e (Leaves false left) rest small good h = record { number = n; expected = e; next = Rests; lands = refl; flew = refl; is = refl; stream = (let r : rest ≡ [] = cc in r); connection = refl; good = tt; numbers = small; books = λ a m l says h. leaves_books W a plan m l k n e left says h; wants = λ one none. absurd (let c : 1 ≡ 0 = sym one ∙ none in cc) }
 
   -- ---- the T_ACK
 
@@ -77,6 +87,8 @@ module _ (me device : IndAddr) (plan : Plan) (k now : ℕ) (frames : FrameSuppor
         connection = refl;
         good = good;
         numbers = (next_small n, small.1);
+        books = λ a m l says h. lacks_books W a plan m l k n e apdu expect next v says h;
+        wants = λ h. h;
       }
   ack_next n e apdu AckOnly next None rest small good r =
       record {
@@ -90,6 +102,8 @@ module _ (me device : IndAddr) (plan : Plan) (k now : ℕ) (frames : FrameSuppor
         connection = refl;
         good = record { sendable = good.sendable.2 None; served = λ z. good.served tt };
         numbers = (next_small n, small.1);
+        books = λ a m l says h. next_books W a plan m l k n e apdu next says h;
+        wants = λ h w. (refl, (h w).1);
       }
   ack_next n e apdu (Is wanted) next None rest small good r = absurd (let a : true ≡ has_answer apdu = good.sendable.1 in let b : false ≡ has_answer apdu = good.exactly in cc)
   ack_next n e apdu Note next None rest small good r = absurd (let a : true ≡ has_answer apdu = good.sendable.1 in let b : false ≡ has_answer apdu = good.exactly in cc)
@@ -112,9 +126,9 @@ module _ (me device : IndAddr) (plan : Plan) (k now : ℕ) (frames : FrameSuppor
   owing_as n e left goes v false = refl
 
   answer_by : (n e : ℕ) (apdu : List ℕ) (expect : Expect) (next : Option (List ℕ) → Plan) (v : List ℕ) (rest : List Item) → (n < 16) × (e < 16) → Answers apdu expect next (Some v) frames kept → rest ≡ []
-      → sent_of (Asks apdu expect next) ≡ Asks apdu expect next → (suits (Asks apdu expect next) v ≡ true → Suits apdu expect (Some v)) → (b : Bool) → suits (Asks apdu expect next) v ≡ b
+      → expect ≢ AckOnly → sent_of (Asks apdu expect next) ≡ Asks apdu expect next → (suits (Asks apdu expect next) v ≡ true → Suits apdu expect (Some v)) → (Suits apdu expect (Some v) → suits (Asks apdu expect next) v ≡ true) → (b : Bool) → suits (Asks apdu expect next) v ≡ b
       → Got n e (Awaits apdu expect next v) (Heard (Numbered e v)) rest
-  answer_by n e apdu expect next v rest small good r same fits true suit =
+  answer_by n e apdu expect next v rest small good r some same fits suits_it true suit =
       record {
         number = n;
         expected = next_number e;
@@ -127,8 +141,10 @@ module _ (me device : IndAddr) (plan : Plan) (k now : ℕ) (frames : FrameSuppor
         connection = refl;
         good = (record { sendable = good.sendable.2 (Some v); served = λ z. good.served (fits suit) }, (small.1, refl));
         numbers = (small.0, next_small e);
+        books = λ a m l says h. wanted_books W a plan m l k n e apdu expect next v says (fits suit) h;
+        wants = λ h w. (refl, (h w).1);
       }
-  answer_by n e apdu expect next v rest small good r same fits false suit =
+  answer_by n e apdu expect next v rest small good r some same fits suits_it false suit =
       record {
         number = n;
         expected = next_number e;
@@ -141,14 +157,16 @@ module _ (me device : IndAddr) (plan : Plan) (k now : ℕ) (frames : FrameSuppor
         connection = refl;
         good = (record { sendable = good.sendable; served = λ z. absurd (let a : true ≡ false = z in cc) }, (small.1, refl));
         numbers = (small.0, next_small e);
+        books = λ a m l says h. refused_books W a plan m l k n e apdu expect next v says some suit h;
+        wants = λ h w. absurd (let c : true ≡ false = sym (suits_it (h w).0) ∙ suit in cc);
       }
 
   answer_next : (n e : ℕ) (apdu : List ℕ) (expect : Expect) (next : Option (List ℕ) → Plan) (v : List ℕ) (rest : List Item) → (n < 16) × (e < 16) → Answers apdu expect next (Some v) frames kept → rest ≡ []
       → Got n e (Awaits apdu expect next v) (Heard (Numbered e v)) rest
   answer_next n e apdu AckOnly next v rest small good r = absurd (let a : false ≡ has_answer apdu = good.sendable.1 in let b : true ≡ has_answer apdu = good.exactly in cc)
   answer_next n e apdu (Is wanted) next v rest small good r =
-      answer_by n e apdu (Is wanted) next v rest small good r refl (λ h. (bytes_eq-Decides v wanted).0 h) (suits (Asks apdu (Is wanted) next) v) refl
-  answer_next n e apdu Note next v rest small good r = answer_by n e apdu Note next v rest small good r refl (λ h. h) (suits (Asks apdu Note next) v) refl
+      answer_by n e apdu (Is wanted) next v rest small good r (λ c. cc) refl (λ h. (bytes_eq-Decides v wanted).0 h) (λ h. (bytes_eq-Decides v wanted).1 h) (suits (Asks apdu (Is wanted) next) v) refl
+  answer_next n e apdu Note next v rest small good r = answer_by n e apdu Note next v rest small good r (λ c. cc) refl (λ h. h) (λ h. h) (suits (Asks apdu Note next) v) refl
 
   -- ---- each item
 

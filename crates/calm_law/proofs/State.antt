@@ -424,3 +424,16 @@ rides_over E F r t to g =
         rides = to (flies_of g.stage) (queue_of g.under g.waiting) h.rides;
       };
     }
+
+pub lives_over : (E F : Option Ldata → List Ldata → Type 0) (r : List Entry) (t : Tunnel) → ((fly : Option Ldata) (q : List Ldata) → E fly q → F fly q) → Lives E r t → Lives F r t
+unfolding rides_over
+lives_over E F r t to l = record { going = rides_over E F r t to l.going; put = l.put }
+
+-- what rides on it
+pub record Ridden (E : Option Ldata → List Ldata → Type 0) : Type 0 where
+  pub fly : Option Ldata
+  pub queue : List Ldata
+  pub so : E fly queue
+
+pub ridden : (E : Option Ldata → List Ldata → Type 0) (r : List Entry) (t : Tunnel) → Lives E r t → Ridden E
+ridden E r t l = record { fly = flies_of l.going.stage; queue = queue_of l.going.under l.going.waiting; so = l.going.goes.rides }

@@ -1,27 +1,24 @@
--- The tunnel of a calm line: each frame that a device sends fits into a request of the tunnel, and time passes only where the channel awaits nothing.
-use Rattle.std.specs.Prelude.{suc, ◌≤◌, List, [], ◌∷◌, length, Option, Some, None}
-use Rattle.knx_model.specs.declared.frames.cemi.Ldata.{Ldata}
+-- The tunnel of a calm line: each value that a device holds at the beginning fits into a response, and time passes only where the channel awaits nothing.
+use Rattle.std.specs.Prelude.{◌≡◌, ℕ, suc, ◌≤◌, List, [], ◌∷◌, length, Option, Some, None}
+use Rattle.std.specs.List.{AllByRecursion}
+use Rattle.knx_model.specs.declared.frames.value.Value.{Value}
 use Rattle.knx_model.specs.Apdu.{most_octets}
-use Rattle.line_model.specs.World.{World, Event, DevSend, DevRepeat, Pass, waiting_at, repeat_at, replay}
+use Rattle.knx_model.specs.DeviceFrames.{response_octets}
+use Rattle.knx_model.specs.DeviceState.{DeviceState}
+use Rattle.line_model.specs.World.{World, Event, Pass}
 use Rattle.line_model.specs.Record.{record_of}
 use Rattle.line_model.specs.ClientView.{ClientChannel, channel}
 use Rattle.line_model.specs.Undisturbed.{AwaitsNothing}
 
--- ---- frames of devices
+-- ---- the values that the devices hold
 
--- its TPDU is one that is sent
-abbrev pub IsShort : Option Ldata → Type 0
-IsShort None = Unit {0}
-IsShort (Some frame) = length frame.tpdu ≤ most_octets
+-- a value fits into a response
+abbrev pub FitsResponse : Option Value → Type 0
+FitsResponse None = Unit {0}
+FitsResponse (Some value) = length (response_octets value) ≤ most_octets
 
-abbrev pub SendsShort : World → Event → Type 0
-SendsShort w (DevSend device gateway left_out) = IsShort (waiting_at w device)
-SendsShort w (DevRepeat device gateway) = IsShort (repeat_at w device)
-SendsShort w _ = Unit {0}
-
-abbrev pub AreShort : World → List Event → Type 0
-AreShort start [] = Unit {0}
-AreShort start (e ∷ past) = SendsShort (replay start past) e × AreShort start past
+abbrev pub HaveShortValues : World → Type 0
+HaveShortValues start = (a : ℕ) (d : DeviceState) → start.devices a ≡ Some d → AllByRecursion FitsResponse d.values
 
 -- ---- where time passes
 

@@ -1,4 +1,6 @@
 pub mod CalmTunnel
 pub mod CalmLine
 pub mod CalmRun
-pub mod CalmSessions
+pub mod CalmJobs
+pub mod CalmSession
+pub mod CalmEnds

@@ -1,25 +1,32 @@
-//! The law of undisturbed tunnels: where nothing is lost and the client loses no time, time passes only where nothing is awaited.
+//! The law of undisturbed lines: where nothing is lost and the client loses no time, time passes only where nothing is awaited, and nothing fails.
 #![tactic(auto)]
 
-ghost use Rattle.std.specs.Prelude.{ℕ, List};
+ghost use Rattle.std.specs.Prelude.{ℕ, List, [], ◌∷◌};
+ghost use Rattle.std.specs.List.{AllByRecursion};
 ghost use Rattle.knx_model.specs.declared.address.IndAddr.{IndAddr as Address};
 ghost use Rattle.line_model.specs.Haste.{KeepsPaces};
 ghost use Rattle.line_model.specs.Record.{record_of, tunnel_record};
 ghost use Rattle.line_model.specs.Renews.{RenewsRightly, AcknowledgesRightly};
 ghost use Rattle.line_model.specs.Sendings.{SendsRightly};
+ghost use Rattle.knx_model.specs.Device.{NonVolatile, HasCapacities};
+ghost use Rattle.line_model.specs.Runs.{begin, job};
+ghost use Rattle.calm_law.specs.CalmSession.{calm_session, told};
 ghost use Rattle.line_model.specs.Tunnel.{TunnelEvent, Commissions, fresh, IsLegal};
 ghost use Rattle.line_model.specs.Calm.{AreCalm as AreCalmEvents};
 ghost use Rattle.line_model.specs.Follows.{Follows};
 ghost use Rattle.line_model.specs.Fresh.{IsFresh};
 ghost use Rattle.line_model.specs.Legal.{IsLegal as IsLegalOnLine};
 ghost use Rattle.line_model.specs.Lines.{Script};
-ghost use Rattle.line_model.specs.Undisturbed.{IsUndisturbed};
+ghost use Rattle.line_model.specs.Log.{Job};
+ghost use Rattle.line_model.specs.declared.group.GroupTurn.{GroupTurn};
+ghost use Rattle.line_model.specs.declared.log.LogEntry.{LogEntry};
+ghost use Rattle.line_model.specs.Undisturbed.{IsUndisturbed, HasDevices, IsServedJob, IsPrompt, IsUndisturbedRun, PromptWhereUndisturbed, RefusesRightly};
 ghost use Rattle.line_model.specs.World.{World, Event};
 ghost use Rattle.calm_law.specs.CalmTunnel.{AreCalm, PutsRightly, PassesIdly, KeepsItsChannel};
 ghost use Rattle.calm_law.specs.CalmRun.{gateway, calm_run};
-ghost use Rattle.calm_law.specs.CalmLine.{AreShort, PassesIdlyOnLine};
-ghost use Rattle.calm_law.specs.CalmSessions.{AreServed, HavePower, AskPromptly, PassesAtRest};
-ghost use Rattle.knx_model.specs.Plans.{Plan};
+ghost use Rattle.calm_law.specs.CalmLine.{HaveShortValues, PassesIdlyOnLine};
+ghost use Rattle.calm_law.specs.CalmEnds.{EndWell};
+ghost use Rattle.calm_law.specs.CalmJobs.{HavePower, IsPromptClient};
 
 /// In a calm tunnel, over every order of its events, time passes only where nothing is awaited: no connect request, tunnelling request or heartbeat
 /// of the client lacks its answer, and no request its confirmation. So no wait is reached, and the channel is lost only where the client asked for
@@ -47,12 +54,13 @@ pub fn a_frame_is_confirmed_in_a_calm_tunnel()
     ensures puts { PutsRightly (tunnel_record (fresh gateway) calm_run) }
 {}
 
-/// On the whole line, where each frame that a device sends fits into a request, time passes in the same way only where the channel awaits nothing.
+/// On the whole line, where each value that a device holds at the beginning fits into a response, time passes in the same way only where the channel
+/// awaits nothing.
 pub fn time_passes_where_nothing_is_awaited_on_the_line()
-    ensures idle { (start : World) (events : List Event) → IsFresh start → IsLegalOnLine Commissions start events → AreCalmEvents start events → AreShort start events
+    ensures idle { (start : World) (events : List Event) → IsFresh start → IsLegalOnLine Commissions start events → AreCalmEvents start events → HaveShortValues start
         → RenewsRightly (record_of start events) → SendsRightly (record_of start events) → AcknowledgesRightly (record_of start events) → KeepsPaces (record_of start events) → PutsRightly (record_of start events)
         → PassesIdlyOnLine start events }
-    ensures kept { (start : World) (events : List Event) → IsFresh start → IsLegalOnLine Commissions start events → AreCalmEvents start events → AreShort start events
+    ensures kept { (start : World) (events : List Event) → IsFresh start → IsLegalOnLine Commissions start events → AreCalmEvents start events → HaveShortValues start
         → RenewsRightly (record_of start events) → SendsRightly (record_of start events) → AcknowledgesRightly (record_of start events) → KeepsPaces (record_of start events) → PutsRightly (record_of start events)
         → KeepsItsChannel (record_of start events) }
 {}
@@ -62,10 +70,35 @@ pub fn undisturbing_scripts_are_calm()
     ensures { (script : Script) (start : World) (events : List Event) → IsUndisturbed script → IsLegalOnLine Commissions start events → Follows script Commissions start events → AreCalmEvents start events }
 {}
 
-/// Where each device has power and serves its plan, and the client asks only what the attempts may ask and waits only where they have nothing to
-/// send, no attempt at a device of the line runs where time passes while a channel is open: each has run to its end before.
-pub fn no_attempt_runs_where_time_passes()
-    ensures { (plans : ℕ → Plan) (start : World) (events : List Event) → AreServed plans → IsFresh start → HavePower start → IsLegalOnLine Commissions start events → AreCalmEvents start events → AreShort start events
-        → AskPromptly plans start (record_of start events) → RenewsRightly (record_of start events) → SendsRightly (record_of start events) → AcknowledgesRightly (record_of start events) → KeepsPaces (record_of start events) → PutsRightly (record_of start events)
-        → PassesAtRest plans start events }
+/// On a calm line whose client is safe and loses no time, where each device has power and values that fit into a response, and those of the jobs are
+/// there and serve their plans, time passes only where nothing is awaited and no job that is held has begun; and no job fails and no group telegram
+/// is lost. So it is over every order of the events, with any number of workers. A job is refused only where its device, with what it kept when the
+/// job was taken, doesn't answer the whole plan as wanted. So each job that is over was told done or refused, and one that a device answers wholly,
+/// whatever it keeps, was told done.
+pub fn nothing_fails_on_a_calm_line()
+    ensures prompt { (jobs : List Job) (turns : List GroupTurn) (start : World) (events : List Event) (log : List LogEntry) → AllByRecursion IsServedJob jobs → HasDevices jobs start → HavePower start
+        → IsPromptClient jobs turns start events log → AreCalmEvents start events → HaveShortValues start → IsPrompt jobs start log events }
+    ensures refuses { (jobs : List Job) (turns : List GroupTurn) (start : World) (events : List Event) (log : List LogEntry) → AllByRecursion IsServedJob jobs → HasDevices jobs start → HavePower start
+        → IsPromptClient jobs turns start events log → AreCalmEvents start events → HaveShortValues start → RefusesRightly jobs start events log }
+    ensures ended { (jobs : List Job) (turns : List GroupTurn) (start : World) (events : List Event) (log : List LogEntry) → AllByRecursion IsServedJob jobs → HasDevices jobs start → HavePower start
+        → IsPromptClient jobs turns start events log → AreCalmEvents start events → HaveShortValues start → EndWell jobs log }
+{}
+
+/// The same of a run that follows a script which disturbs nothing, whichever it is.
+pub fn undisturbed_runs_are_prompt()
+    ensures prompt { (jobs : List Job) (turns : List GroupTurn) (start : World) (events : List Event) (log : List LogEntry) → HavePower start → IsPromptClient jobs turns start events log → HaveShortValues start → PromptWhereUndisturbed jobs start log events }
+    ensures refuses { (jobs : List Job) (turns : List GroupTurn) (start : World) (events : List Event) (log : List LogEntry) (script : Script) → IsUndisturbedRun script jobs start events → HavePower start → IsPromptClient jobs turns start events log → HaveShortValues start
+        → RefusesRightly jobs start events log }
+    ensures ended { (jobs : List Job) (turns : List GroupTurn) (start : World) (events : List Event) (log : List LogEntry) (script : Script) → IsUndisturbedRun script jobs start events → HavePower start → IsPromptClient jobs turns start events log → HaveShortValues start
+        → EndWell jobs log }
+{}
+
+/// There is such a run: a job reads the descriptor of its device, and its end is told once its session has ended.
+pub fn a_job_is_done_on_a_calm_line()
+    ensures served { AllByRecursion IsServedJob (job ∷ []) }
+    ensures devices { (kept : NonVolatile) → HasDevices (job ∷ []) (begin kept) }
+    ensures power { (kept : NonVolatile) → HavePower (begin kept) }
+    ensures client { (kept : NonVolatile) → HasCapacities kept → IsPromptClient (job ∷ []) [] (begin kept) calm_session told }
+    ensures calm { (kept : NonVolatile) → AreCalmEvents (begin kept) calm_session }
+    ensures values { (kept : NonVolatile) → HaveShortValues (begin kept) }
 {}

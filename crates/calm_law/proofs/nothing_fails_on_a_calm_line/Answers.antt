@@ -1,0 +1,11 @@
+use Rattle.calm_law.proofs.nothing_fails_on_a_calm_line.Goals as goal
+use Rattle.calm_law.proofs.JoinedLaw.{nothing_fails, refuses_rightly, ends_well}
+
+pub returns-clause-prompt : goal.returns-clause-prompt
+returns-clause-prompt c = nothing_fails
+
+pub returns-clause-refuses : goal.returns-clause-refuses
+returns-clause-refuses c = refuses_rightly
+
+pub returns-clause-ended : goal.returns-clause-ended
+returns-clause-ended c = ends_well
