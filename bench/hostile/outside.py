@@ -10,7 +10,7 @@ import tempfile
 import threading
 import time
 
-from wire import EXAMPLES, HOST, LOADED, LONGEST, NEW, NOTHING, OLD, Client, Relay, Wrong, end_of, endpoint, free_port, is_bound, pour, served, start, want
+from wire import ENDED, EXAMPLES, HOST, LOADED, LONGEST, NEW, NOTHING, OLD, Client, Relay, Wrong, download, end_of, endpoint, free_port, is_bound, pour, served, start, want
 
 CASES = []
 
@@ -49,7 +49,7 @@ def wants(tried, *rows):
 
 @case("words that are no command, of any length and octets, are answered by the usage line")
 def words(tried):
-    usage = ("usage: knx check, tables, sim, download, gateway, decode or big, with their words\n", 2)
+    usage = ("usage: knx check, tables, sim, download, gateway, decode, find or big, with their words\n", 2)
     r = tried.random
     them = [[], [""], ["check"], ["check", NEW, NEW], [b"check", b"\xff"], [b"\xff\xfe"], ["sim"] * 50_000, ["decode", "06" * 513], ["decode", "0"],
             ["gateway", "127.0.0.1:0", OLD, NOTHING, "turns=1"], ["download", "127.0.0.1:99999", NEW], ["big", "1"],
@@ -233,6 +233,30 @@ def stopped_gateway(tried):
         line.serves()
 
 
+# ---- threads
+
+def alone():
+    """For a process that makes no thread beside its first; the system lets its administrator make more, so he becomes nobody."""
+    resource.setrlimit(resource.RLIMIT_NPROC, (1, 1))
+    if os.geteuid() == 0:
+        os.setgroups([])
+        os.setuid(65534)
+
+
+@case("where the system makes no thread, one does all, and what is told is the same")
+def no_thread(tried):
+    with tempfile.TemporaryDirectory() as folder:
+        os.chmod(folder, 0o755)
+        prog, new, old = (shutil.copy(it, folder) for it in (tried.prog, NEW, OLD))
+        script = pathlib.Path(folder) / "script"
+        script.write_text("then group 1/2/3 s01\n", encoding="ascii")
+        for words in (["sim", new, old, script], ["sim", new, old, script, "workers=8"], ["big", "60", "7"], ["tables", new]):
+            wanted = call(tried, *words)
+            ran = subprocess.run([prog, *words], stdin=subprocess.DEVNULL, capture_output=True, preexec_fn=alone, check=False, timeout=60)
+            found = ran.stdout.decode("utf-8", "replace"), ran.returncode
+            want(sorted(found[0].splitlines()) == sorted(wanted[0].splitlines()) and found[1] == wanted[1], f"{words[0]}: {found}")
+
+
 # ---- memory
 
 def limited(octets):
@@ -340,16 +364,16 @@ def each_growth_refused_of_download(tried):
         return f"{note}; the device was {', '.join(sorted(set(cases)))} then"
 
 
-@case("a gateway whose memory is used up by a flood says so")
-def refused_memory_of_gateway(tried):
-    port, start_of = free_port(), 1 << 25
-    gateway = start(tried.prog, "gateway", f"{HOST}:{port}", OLD, NOTHING, "turns=1000000000", preexec_fn=limited(start_of))
+@case("a gateway with 32 MiB serves on after a flood")
+def little_memory_of_gateway(tried):
+    port = free_port()
+    gateway = start(tried.prog, "gateway", f"{HOST}:{port}", OLD, NOTHING, "turns=1000000000", preexec_fn=limited(1 << 25))
     while gateway.poll() is None and not is_bound(port):
         time.sleep(0.01)
-    sent = 0
     with endpoint() as sock:
-        while gateway.poll() is None and sent < 2_000_000:
-            sent += pour(sock, port, (b"\xff" * 512 for _ in range(500)))
+        sent = pour(sock, port, (b"\xff" * 512 for _ in range(tried.count)))
+    found = download(tried.prog, port)
+    want(found == LOADED, f"an honest download after {sent} datagrams: {found}")
     found = end_of(gateway, 30)
-    want(found == ("no memory\n", 8), f"{found} after {sent} datagrams")
-    return f"after {sent} datagrams of 512 octets, with {start_of} octets"
+    want(found == ENDED, f"the gateway ended with {found}")
+    return f"{sent} datagrams of 512 octets"

@@ -1,10 +1,11 @@
 """What a network may send to `gateway`. After each case an honest client has to be served, and the gateway has to come to its own end."""
+import contextlib
 import socket
 import struct
 import time
 
-from wire import (CONNECT, HOST, LOADED, NOTHING, OLD, Client, Relay, acknowledgement, asks_state, connect, disconnect, download, drain, end_of, endpoint,
-                  free_port, is_bound, memory, pour, queued, request, served, service, start, to_device, want)
+from wire import (ACK, CONNECT, DISCONNECT, HOST, LOADED, NOTHING, OLD, REQUEST, Client, Relay, acknowledgement, asks_state, connect, disconnect, download, drain,
+                  end_of, endpoint, free_port, is_bound, memory, pour, queued, request, served, service, start, to_device, want)
 
 CASES = []
 
@@ -16,19 +17,31 @@ def case(promise):
     return add
 
 
-def grown(line, sent, before):
-    return f"{sent} datagrams, {(memory(line.process.pid) - before) / max(1, sent):.0f} octets of memory each"
+class Level:
+    """What a gateway has in memory while datagrams are poured into it. What is over takes none: at the end it has at most a tenth more than after the first tenth."""
+
+    def __init__(self, line):
+        self.pid, self.seen = line.process.pid, []
+
+    def look(self):
+        self.seen.append(memory(self.pid))
+
+    def told(self, sent):
+        self.look()
+        first, last = self.seen[len(self.seen) // 10], self.seen[-1]
+        want(last <= 1.1 * first, f"{sent} datagrams, {first >> 10} KiB of memory after the first tenth of them and {last >> 10} after the last")
+        return f"{sent} datagrams, {first >> 10} KiB of memory after the first tenth of them, {last >> 10} after the last"
 
 
 def poured(tried, make, hosts=(HOST,)):
     """Pours the datagrams into a fresh gateway, and serves an honest client afterwards; none may be lost before the program takes it."""
     with served(tried.prog) as line:
-        before, sent = memory(line.process.pid), 0
+        level, sent = Level(line), 0
         for host in hosts:
             with endpoint(host) as sock:
-                sent += pour(sock, line.port, make())
+                sent += pour(sock, line.port, make(), look=level.look)
         want(queued(line.port)[1] == 0, "the system threw datagrams away, so less was tried")
-        note = grown(line, sent, before)
+        note = level.told(sent)
         line.serves()
         return note
 
@@ -83,10 +96,8 @@ def no_channel(tried):
 def flooded(tried, make):
     """Pours datagrams into an open channel from its own address, and serves an honest client afterwards."""
     with served(tried.prog) as line:
-        client = Client(line.port)
-        before = memory(line.process.pid)
-        sent = pour(client.sock, line.port, (make(client.channel, k) for k in range(tried.count)))
-        note = grown(line, sent, before)
+        client, level = Client(line.port), Level(line)
+        note = level.told(pour(client.sock, line.port, (make(client.channel, k) for k in range(tried.count)), look=level.look))
         client.sock.close()
         line.serves()
         return note
@@ -133,7 +144,7 @@ def many_clients(tried):
                     drain(line.port)
             sent += 1
         drain(line.port)
-        note = grown(line, sent, before)
+        note = f"{sent} addresses, {(memory(line.process.pid) - before) / max(1, sent):.0f} octets of memory each"
         line.serves()
         return note
 
@@ -199,6 +210,25 @@ def gone_client(tried):
             # what the gateway sends now finds nobody, and the system says so (ICMP)
             client.sock.close()
         line.serves()
+
+
+@case("a stranger's hundred datagrams a second don't stop time: a request that isn't acknowledged comes again after a second, and after another the channel is closed")
+def time_goes_on(tried):
+    with served(tried.prog) as line, endpoint("127.0.0.66") as stranger, endpoint() as sock:
+        sock.sendto(connect(), (HOST, line.port))
+        sock.sendto(request(sock.recv(600)[6], 0, to_device(b"\x80")), (HOST, line.port))
+        begun, came = time.monotonic(), []
+        sock.settimeout(0.01)
+        while time.monotonic() < begun + 6 and (not came or came[-1][0] != DISCONNECT):
+            stranger.sendto(b"\x06", (HOST, line.port))
+            with contextlib.suppress(TimeoutError):
+                octets = sock.recv(600)
+                came.append((service(octets), time.monotonic() - begun))
+        want([it for it, _ in came] == [ACK, REQUEST, REQUEST, DISCONNECT], f"what the client got: {came}")
+        first, again, end = (at for _, at in came[1:])
+        want(0.8 < again - first < 2 and 0.8 < end - again < 2, f"the request again after {again - first:.2f} s, the end after another {end - again:.2f} s")
+        line.serves()
+        return f"the request again after {again - first:.2f} s, the end after another {end - again:.2f} s"
 
 
 # ---- addresses

@@ -119,10 +119,12 @@ def endpoint(host=HOST, port=0):
     return sock
 
 
-def pour(sock, port, octets, host=HOST):
-    """Sends datagrams no faster than they are taken, and answers how many were sent."""
+def pour(sock, port, octets, host=HOST, look=lambda: None):
+    """Sends datagrams no faster than they are taken, and answers how many were sent. At each five hundred `look` is called."""
     sent = waiting = 0
     for sent, it in enumerate(octets, 1):
+        if sent % 500 == 0:
+            look()
         # what a waiting datagram takes of the 212,992 octets that the system lends a socket
         waiting += len(it) + 800
         if waiting > 100_000:

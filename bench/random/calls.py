@@ -224,6 +224,10 @@ COUNTS = ("1", "2", "3", "0x4", "007", "0", "255", "0x", "-1", "")
 STARTS = ("0", "7", "18446744073709551615", "00000000000000000007", "18446744073709551616", "000000000000000000007", "0x7", "+7", "")
 
 
+def find(r):
+    return ["find", r.choice(GATEWAYS if r.random() < 0.1 else GATEWAYS[:5]), *["describe"] * (r.random() < 0.5), *["log"] * (r.random() < 0.05)], {}
+
+
 def big(r):
     count = r.choice(COUNTS if r.random() < 0.3 else COUNTS[:5])
     start = r.choice(STARTS) if r.random() < 0.5 else str(r.getrandbits(64))
@@ -274,7 +278,7 @@ def decode(r):
 
 
 def call(r):
-    words, files = r.choice((sim, sim, sim, sim, sim, sim, told, told, gateway, decode, decode, big))(r)
+    words, files = r.choice((sim, sim, sim, sim, sim, sim, told, told, gateway, find, decode, decode, big))(r)
     if files and r.random() < 0.01:
         del files[r.choice(sorted(files))]
     if r.random() < 0.01:

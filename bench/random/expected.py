@@ -7,7 +7,7 @@ from formats import CatalogueRefused, Project, Refused, group_text, individual, 
 from frames import datagram
 from plan import check_end, load_end
 
-USAGE = "usage: knx check, tables, sim, download, gateway, decode or big, with their words\n"
+USAGE = "usage: knx check, tables, sim, download, gateway, decode, find or big, with their words\n"
 SIGN = "(?: (?:nocon|closed|silent|tunnel))"
 OCTETS = "(?:-|(?:[0-9A-F]{2})+)"
 JOB = re.compile(rf"job (\d+) (load|check) (\S+) (done|open|failed{SIGN}{{3}}|refused \d+ got {OCTETS} expected {OCTETS})")
@@ -110,6 +110,8 @@ def asked(words, files):
         return "".join(line + "\n" for line in datagram(bytes.fromhex(rest[0])))
     if command == "gateway":
         served(rest, files)
+    if command == "find" and rest and is_gateway(rest[0]) and rest[1:] in ([], ["describe"]):
+        raise Stop(*DIALS)
     if command == "big" and are_of_a_line(rest):
         count = number(rest[0])
         return f"devices {count} objects {8 * count} links {32 * count} done {count} new {count}\n"

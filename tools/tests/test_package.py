@@ -13,7 +13,7 @@ from unittest import mock
 from called import EXAMPLES, TOOLS, ToolTest
 import manual
 
-COMMANDS = ["check", "tables", "sim", "download", "gateway", "big", "decode"]
+COMMANDS = ["check", "tables", "sim", "download", "gateway", "find", "big", "decode"]
 
 # What bash's own completions give, in a few lines.
 OF_BASH = """
@@ -32,7 +32,7 @@ class Manual(ToolTest):
         self.assertEqual(re.findall(r"knx (\w+)", parts["SYNOPSIS"]), COMMANDS)
         self.assertEqual(re.findall(r"^\\fBknx (\w+)", parts["COMMANDS"], re.MULTILINE), COMMANDS)
         found = {number for first in re.findall(r"^\.TP 7\n(\d[\d, ]*)$", parts["EXIT STATUS"], re.MULTILINE) for number in re.findall(r"\d+", first)}
-        self.assertEqual(found, {str(number) for number in range(14)})
+        self.assertEqual(found, {str(number) for number in range(15)})
 
     def test_no_text_is_a_request(self):
         requests = {line.split()[0] for line in manual.man_page("0~1", "2026-01-01").splitlines() if line.startswith((".", "'"))}

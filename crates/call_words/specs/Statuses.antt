@@ -19,3 +19,4 @@ status_number status.GatewayRefused = 10
 status_number status.Flooded = 11
 status_number status.WrongLine = 12
 status_number status.OpenTurns = 13
+status_number status.NothingFound = 14

@@ -36,10 +36,12 @@ pub enum Status {
     WrongLine,
     /// 13: the turns were used up before the end.
     OpenTurns,
+    /// 14: no gateway was found.
+    NothingFound,
 }
 
 impl Status {
-    /// Its number, 0 to 13.
+    /// Its number, 0 to 14.
     pub fn number(self) -> u8
         ensures { result ≡ status_number self }
     {
@@ -58,6 +60,7 @@ impl Status {
             Status::Flooded => 11,
             Status::WrongLine => 12,
             Status::OpenTurns => 13,
+            Status::NothingFound => 14,
         }
     }
 }

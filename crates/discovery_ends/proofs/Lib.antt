@@ -4,3 +4,5 @@ pub mod Polling
 pub mod AfterPolls
 pub mod Rounds
 pub mod Refused
+pub mod Named
+pub mod Told

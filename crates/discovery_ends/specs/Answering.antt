@@ -1,7 +1,7 @@
 -- A gateway's port at which requests of discovery are answered (ISO 22510, Core, search and self description). By the record of the port below it,
 -- each answered request stands as a datagram without octets, and its answer is left out. Once an answer has failed nothing more is done at
 -- the port below; the last request, and its answer where that went out nevertheless, are left out then.
-use Rattle.std.specs.Prelude.{◌≡◌, ℕ, ◌+◌, ◌<◌, ◌≤◌, Bool, false, ◌&&◌, ◌==◌, min, List, [], ◌∷◌, length, drop, Option, Some, None, is_some, if◌then◌else◌}
+use Rattle.std.specs.Prelude.{◌≡◌, ℕ, ◌+◌, ◌<◌, ◌≤◌, Bool, false, ◌&&◌, ◌==◌, min, List, [], ◌∷◌, ◌++◌, length, drop, Option, Some, None, is_some, if◌then◌else◌}
 use Rattle.std.specs.Str.{bytes_eq}
 use Rattle.knx_model.specs.Octets.{word_at}
 use Rattle.knx_model.specs.Outside.{greatest_count, one_more}
@@ -12,8 +12,9 @@ use Rattle.line_model.specs.Reading.{has_header, has_endpoint}
 use Rattle.discovery.specs.declared.about.About.{About}
 use Rattle.discovery.specs.declared.inquiry.Inquiry.{Inquiry}
 use Rattle.discovery.specs.declared.inquiry.Inquiry.TheVariants.{Search, Description}
-use Rattle.discovery.specs.Discovery.{Written}
+use Rattle.discovery.specs.Discovery.{Written, blocks_of, octets_of}
 use Rattle.discovery.specs.Finding.{response_of}
+use Rattle.discovery_ends.specs.Naming.{Naming, named_story}
 
 -- ---- requests and their answers
 
@@ -66,6 +67,20 @@ abbrev pub shown_story : About → Option PortFault → PortStory → PortStory
 shown_story about failed Untold = Untold
 shown_story about failed (Recorded items) = Recorded (shown_where about failed items)
 
+-- ---- what an answerer tells: that, over the record with the endpoints that are named
+
+-- Before all else stands what the gateway names and tells, as if it had been given to client 0: its own address and port, and its blocks. Who serves at the
+-- port knows nothing of it but that its record grows, and so keeps both.
+abbrev pub identity : List ℕ → About → List PortItem
+identity own about = Gave 0 (octets_of (blocks_of about)) ∷ Gave 0 own ∷ []
+
+abbrev pub behind : List PortItem → PortStory → PortStory
+behind first Untold = Untold
+behind first (Recorded items) = Recorded (items ++ first)
+
+abbrev pub answerer_story : List ℕ → About → Option PortFault → PortStory → PortStory
+answerer_story own about failed below = behind (identity own about) (shown_story about failed (named_story own below))
+
 -- ---- no request is open: the newest item of the record is none
 
 abbrev pub is_open : List PortItem → Bool
@@ -101,7 +116,7 @@ FailsFor why about (Some kept) before after = (kept ≡ why) × AnswerFails abou
 -- ---- what contracts see
 
 pub record Answering (P : Type 0) : Type 0 where
-  pub port : P
+  pub port : Naming P
   pub about : About
   pub failed : Option PortFault  -- how an answer failed
   pub refused : ℕ  -- how many calls were refused since

@@ -1,3 +1,4 @@
+pub mod Naming
 pub mod Answering
 pub mod Searching
 pub mod Going

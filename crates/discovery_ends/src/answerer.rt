@@ -1,20 +1,23 @@
-//! A port at which a gateway answers requests of discovery.
+//! A gateway's port at which it answers requests of discovery.
 
 ghost use Rattle.std.specs.Prelude.{◌≡◌, ◌<◌, ◌≤◌, Err, IfErr, None, OnErr, OnOk, Some, length};
 ghost use Rattle.line_model.specs.declared.outside.port.PortFault.{PortFault as Fault};
 ghost use Rattle.line_model.specs.PortStory.{Adds, FailsWhere, Gave, GivesOrNot, TakesSo};
-ghost use Rattle.discovery_ends.specs.Answering.{AllAnswered, FailsFor, NoneOpen, answer_of, faults_with, refused_for, shown_story};
+ghost use Rattle.discovery_ends.specs.Answering.{AllAnswered, FailsFor, NoneOpen, answer_of, answerer_story, faults_with, refused_for, shown_story};
+ghost use Rattle.discovery_ends.specs.Naming.{named_story};
 
+use crate::naming::NamedPort;
 use crate::request::{answer_of, request_in};
 use discovery::{About, Inquiry};
 use line_model::{Port, PortFault, PortPolled};
 use std::marker::Model;
 
-/// A port over another, at which each request of discovery is answered at once and told as a datagram without octets; all else is passed on. After
-/// an answer that failed each call fails with the same fault, and nothing more is done at the other port.
+/// A port over another, at which each request of discovery is answered at once and told as a datagram without octets; all else is passed on, but
+/// that the endpoint is named at which the gateway is bound. After an answer that failed each call fails with the same fault, and nothing more is
+/// done at the other port.
 #[derive(Drop)]
 pub struct Answerer<P: Port> {
-    port: P,
+    port: NamedPort<P>,
     about: About,
     /// How an answer failed.
     failed: Option<PortFault>,
@@ -24,23 +27,26 @@ pub struct Answerer<P: Port> {
 
 impl<P: Port> Model for Answerer<P> {
     ghost use Rattle.discovery_ends.specs.Answering.{Answering, Keeps};
+    ghost use Rattle.discovery_ends.specs.Naming.{named_story};
 
     ghost Value = { Answering P };
 
     ghost view = { λ a. record { port = a.port; about = a.about; failed = a.failed; refused = a.refused } };
 
-    ghost invariant = { λ a. Keeps a.about a.failed a.refused (P.faults a.port) (P.story a.port) };
+    ghost invariant = { λ a. Keeps a.about a.failed a.refused (P.faults a.port.port) (named_story a.port.own (P.story a.port.port)) };
 }
 
 impl<P: Port> Answerer<P> {
-    /// Answers at a port for a gateway that tells this of itself, with at most 64 service families. What was taken last at the port is no request.
-    pub fn new(port: P, about: About) -> Answerer<P>
+    /// Answers at a port for a gateway that is bound to the address (4) and port number (2) of these octets and tells this of itself, with at most
+    /// 64 service families. What was taken last at the port is no request.
+    #[tactic(auto, using(crate::proofs::Named::none_open_named))]
+    pub fn new(port: P, own: [u8; 6], about: About) -> Answerer<P>
         requires few { length about.families ≤ 64 }
         requires none_open { NoneOpen (P.story port) }
-        ensures { result ≡ record { port = port; about = about; failed = None; refused = 0 } }
+        ensures { result ≡ record { port = record { port = port; own = own }; about = about; failed = None; refused = 0 } }
     {
         Answerer {
-            port,
+            port: NamedPort::new(port, own),
             about,
             failed: None,
             refused: 0,
@@ -49,7 +55,7 @@ impl<P: Port> Answerer<P> {
 
     /// The port, once no more is to be answered.
     pub fn back(self) -> P
-        ensures port { result ≡ self.port }
+        ensures port { result ≡ self.port.port }
         // of calls that were refused there is one of this port that failed
         ensures refused { 0 < self.refused → 0 < P.faults result }
     {
@@ -59,7 +65,7 @@ impl<P: Port> Answerer<P> {
             failed: _,
             refused: _,
         } = self;
-        port
+        port.back()
     }
 
     /// How an answer failed, if so.
@@ -94,19 +100,20 @@ fn refused_for(fault: &PortFault, refused: u64) -> u64
 
 /// Answers the request of a client. Where that fails, it is kept how.
 fn answered<P: Port>(
-    port: &mut P,
+    port: &mut NamedPort<P>,
     about: &About,
     failed: &mut Option<PortFault>,
     to: u32,
     inquiry: Inquiry,
 ) -> Result<(), PortFault>
     requires { length about.now.families ≤ 64 }
-    ensures given { OnOk result (Adds (Gave to (answer_of about.now inquiry)) (P.story port.old) (P.story port.new)) }
+    ensures given { OnOk result (Adds (Gave to (answer_of about.now inquiry)) (named_story port.old.own (P.story port.old.port)) (named_story port.new.own (P.story port.new.port))) }
     ensures stands { OnOk result (failed.new ≡ failed.old) }
-    ensures broken { OnErr result (GivesOrNot to (answer_of about.now inquiry) (P.story port.old) (P.story port.new)) }
+    ensures broken { OnErr result (GivesOrNot to (answer_of about.now inquiry) (named_story port.old.own (P.story port.old.port)) (named_story port.new.own (P.story port.new.port))) }
     ensures kept { IfErr result (λ fault. failed.new ≡ Some fault) }
-    ensures cause { FailsWhere result (P.faults port.old) (P.faults port.new) }
-    ensures count { P.faults port.old ≤ P.faults port.new }
+    ensures cause { FailsWhere result (P.faults port.old.port) (P.faults port.new.port) }
+    ensures count { P.faults port.old.port ≤ P.faults port.new.port }
+    ensures own { port.new.own ≡ port.old.own }
 {
     let answer = answer_of(about, inquiry);
     match port.give(to, answer.as_slice()) {
@@ -122,7 +129,7 @@ fn answered<P: Port>(
 /// Takes a datagram at a port. A request is answered at once, and told as a datagram without octets.
 #[tactic(auto, using(crate::proofs::Shown::answered_shown))]
 fn taken<P: Port>(
-    port: &mut P,
+    port: &mut NamedPort<P>,
     about: &About,
     failed: &mut Option<PortFault>,
     into: &mut [u8; 512],
@@ -130,13 +137,14 @@ fn taken<P: Port>(
 ) -> Result<PortPolled, PortFault>
     requires few { length about.now.families ≤ 64 }
     requires stands { failed.old ≡ None }
-    requires none_open { NoneOpen (P.story port.old) }
-    ensures taken { TakesSo result into.new wait_ms (shown_story about.now None (P.story port.old)) (shown_story about.now failed.new (P.story port.new)) }
-    ensures answered { AllAnswered failed.new (P.story port.new) }
-    ensures broken { IfErr result (λ fault. FailsFor fault about.now failed.new (P.story port.old) (P.story port.new)) }
+    requires none_open { NoneOpen (named_story port.old.own (P.story port.old.port)) }
+    ensures taken { TakesSo result into.new wait_ms (shown_story about.now None (named_story port.old.own (P.story port.old.port))) (shown_story about.now failed.new (named_story port.new.own (P.story port.new.port))) }
+    ensures answered { AllAnswered failed.new (named_story port.new.own (P.story port.new.port)) }
+    ensures broken { IfErr result (λ fault. FailsFor fault about.now failed.new (named_story port.old.own (P.story port.old.port)) (named_story port.new.own (P.story port.new.port))) }
     ensures stands { OnOk result (failed.new ≡ None) }
-    ensures cause { FailsWhere result (P.faults port.old) (P.faults port.new) }
-    ensures count { P.faults port.old ≤ P.faults port.new }
+    ensures cause { FailsWhere result (P.faults port.old.port) (P.faults port.new.port) }
+    ensures count { P.faults port.old.port ≤ P.faults port.new.port }
+    ensures own { port.new.own ≡ port.old.own }
 {
     let polled = port.take(into, wait_ms)?;
     let PortPolled::Got { len, from } = polled else {
@@ -152,22 +160,23 @@ fn taken<P: Port>(
 }
 
 impl<P: Port> Port for Answerer<P> {
-    ghost use Rattle.discovery_ends.specs.Answering.{faults_with, shown_story};
+    ghost use Rattle.discovery_ends.specs.Answering.{answerer_story, faults_with};
 
-    ghost story = { λ a. shown_story a.about a.failed (P.story a.port) };
+    ghost story = { λ a. answerer_story a.port.own a.about a.failed (P.story a.port.port) };
 
-    ghost faults = { λ a. faults_with (P.faults a.port) a.refused };
+    ghost faults = { λ a. faults_with (P.faults a.port.port) a.refused };
 
-    #[tactic(auto, using(crate::proofs::Refused::refused_cause, crate::proofs::Refused::refused_count))]
+    #[tactic(auto, using(crate::proofs::Refused::refused_cause, crate::proofs::Refused::refused_count, crate::proofs::Told::takes_told))]
     fn take(&mut self, into: &mut [u8; 512], wait_ms: u32) -> Result<PortPolled, PortFault>
-        ensures taken { TakesSo result into.new wait_ms (shown_story self.old.about self.old.failed (P.story self.old.port)) (shown_story self.new.about self.new.failed (P.story self.new.port)) }
-        ensures cause { FailsWhere result (faults_with (P.faults self.old.port) self.old.refused) (faults_with (P.faults self.new.port) self.new.refused) }
-        ensures count { faults_with (P.faults self.old.port) self.old.refused ≤ faults_with (P.faults self.new.port) self.new.refused }
-        // it fails only where the other port does; once an answer has failed, with that fault, and then nothing is done
+        ensures taken { TakesSo result into.new wait_ms (answerer_story self.old.port.own self.old.about self.old.failed (P.story self.old.port.port)) (answerer_story self.new.port.own self.new.about self.new.failed (P.story self.new.port.port)) }
+        ensures cause { FailsWhere result (faults_with (P.faults self.old.port.port) self.old.refused) (faults_with (P.faults self.new.port.port) self.new.refused) }
+        ensures count { faults_with (P.faults self.old.port.port) self.old.refused ≤ faults_with (P.faults self.new.port.port) self.new.refused }
+        ensures own { self.new.port.own ≡ self.old.port.own }
         ensures about { self.new.about ≡ self.old.about }
-        ensures below { self.old.failed ≡ None → FailsWhere result (P.faults self.old.port) (P.faults self.new.port) }
-        ensures answered { AllAnswered self.new.failed (P.story self.new.port) }
-        ensures broken { self.old.failed ≡ None → IfErr result (λ fault. FailsFor fault self.old.about self.new.failed (P.story self.old.port) (P.story self.new.port)) }
+        // it fails only where the other port does; once an answer has failed, with that fault, and then nothing is done
+        ensures below { self.old.failed ≡ None → FailsWhere result (P.faults self.old.port.port) (P.faults self.new.port.port) }
+        ensures answered { AllAnswered self.new.failed (named_story self.new.port.own (P.story self.new.port.port)) }
+        ensures broken { self.old.failed ≡ None → IfErr result (λ fault. FailsFor fault self.old.about self.new.failed (named_story self.old.port.own (P.story self.old.port.port)) (named_story self.new.port.own (P.story self.new.port.port))) }
         ensures stands { OnOk result ((self.old.failed ≡ None) × (self.new.failed ≡ None)) }
         ensures refused { (fault : Fault) → self.old.failed ≡ Some fault → (result ≡ Err fault) × (self.new ≡ record self.old { refused = refused_for fault self.old.refused }) }
     {
@@ -175,13 +184,15 @@ impl<P: Port> Port for Answerer<P> {
         taken(&mut self.port, &self.about, &mut self.failed, into, wait_ms)
     }
 
-    #[tactic(auto, using(crate::proofs::Shown::gave_shown, crate::proofs::Refused::refused_cause, crate::proofs::Refused::refused_count))]
+    #[tactic(auto, using(crate::proofs::Told::gave_told, crate::proofs::Told::gave_or_not_told, crate::proofs::Refused::refused_cause, crate::proofs::Refused::refused_count))]
     fn give(&mut self, to: u32, octets: &[u8]) -> Result<(), PortFault>
-        ensures given { OnOk result (Adds (Gave to octets.now) (shown_story self.old.about self.old.failed (P.story self.old.port)) (shown_story self.new.about self.new.failed (P.story self.new.port))) }
-        ensures failed { OnErr result (GivesOrNot to octets.now (shown_story self.old.about self.old.failed (P.story self.old.port)) (shown_story self.new.about self.new.failed (P.story self.new.port))) }
-        ensures cause { FailsWhere result (faults_with (P.faults self.old.port) self.old.refused) (faults_with (P.faults self.new.port) self.new.refused) }
-        ensures count { faults_with (P.faults self.old.port) self.old.refused ≤ faults_with (P.faults self.new.port) self.new.refused }
-        ensures below { self.old.failed ≡ None → FailsWhere result (P.faults self.old.port) (P.faults self.new.port) }
+        ensures given { OnOk result (Adds (Gave to octets.now) (answerer_story self.old.port.own self.old.about self.old.failed (P.story self.old.port.port)) (answerer_story self.new.port.own self.new.about self.new.failed (P.story self.new.port.port))) }
+        ensures failed { OnErr result (GivesOrNot to octets.now (answerer_story self.old.port.own self.old.about self.old.failed (P.story self.old.port.port)) (answerer_story self.new.port.own self.new.about self.new.failed (P.story self.new.port.port))) }
+        ensures cause { FailsWhere result (faults_with (P.faults self.old.port.port) self.old.refused) (faults_with (P.faults self.new.port.port) self.new.refused) }
+        ensures count { faults_with (P.faults self.old.port.port) self.old.refused ≤ faults_with (P.faults self.new.port.port) self.new.refused }
+        ensures below { self.old.failed ≡ None → FailsWhere result (P.faults self.old.port.port) (P.faults self.new.port.port) }
+        ensures own { self.new.port.own ≡ self.old.port.own }
+        ensures about { self.new.about ≡ self.old.about }
         ensures others { self.old.failed ≡ None → self.new ≡ record self.old { port = self.new.port } }
         ensures refused { (fault : Fault) → self.old.failed ≡ Some fault → (result ≡ Err fault) × (self.new ≡ record self.old { refused = refused_for fault self.old.refused }) }
     {

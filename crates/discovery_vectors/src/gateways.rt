@@ -4,7 +4,7 @@ ghost use Rattle.std.specs.Prelude.{◌≡◌, [], IfOk};
 
 use crate::searches::gateway;
 use discovery::{Datagram, FindFrame, Inquiry, encode, encode_response};
-use discovery_ends::Answerer;
+use discovery_ends::{Answerer, NOWHERE};
 use line_fixed::{FixedPort, List, NoMemory, Octets, Port, PortItem, PortPolled};
 use std::alloc::Global;
 use std::test::Fail;
@@ -35,7 +35,7 @@ fn is_given(item: Option<&PortItem>, client: u32, answer: &Datagram) -> bool {
 
 #[test]
 fn requests_are_answered_and_all_else_is_passed_on(rt: HostRuntime) -> Result<(), Fail> {
-    let mut door = Answerer::new(port_of(rt.alloc(), &[])?, gateway());
+    let mut door = Answerer::new(port_of(rt.alloc(), &[])?, NOWHERE, gateway());
     let mut into = [0; 512];
     assert_eq!(rt;
         door.take(&mut into, 100).ok(),
@@ -73,7 +73,7 @@ fn requests_are_answered_and_all_else_is_passed_on(rt: HostRuntime) -> Result<()
 
 #[test]
 fn behind_an_answer_that_failed_nothing_is_done(rt: HostRuntime) -> Result<(), Fail> {
-    let mut door = Answerer::new(port_of(rt.alloc(), &[2])?, gateway());
+    let mut door = Answerer::new(port_of(rt.alloc(), &[2])?, NOWHERE, gateway());
     let mut into = [0; 512];
     assert!(rt; door.take(&mut into, 100).is_err());
     assert!(rt; door.failed().is_some());
@@ -82,5 +82,52 @@ fn behind_an_answer_that_failed_nothing_is_done(rt: HostRuntime) -> Result<(), F
     let port = door.back();
     assert_eq!(rt; port.items.as_slice().len(), 1);
     assert_eq!(rt; (port.calls, port.faults), (2, 1));
+    Ok(())
+}
+
+/// The octets that were given.
+fn given_in(item: Option<&PortItem>) -> Option<&[u8]> {
+    match item {
+        Some(PortItem::Gave { to: _, octets }) => Some(octets.as_slice()),
+        _ => None,
+    }
+}
+
+/// A connect response, and one that refuses.
+const CONNECTED: [u8; 20] = [
+    0x06, 0x10, 0x02, 0x06, 0x00, 0x14, 0x01, 0x00, 0x08, 0x01, 0x00, 0x00, 0x00, 0x00, 0x00, 0x00,
+    0x04, 0x04, 0x11, 0xFF,
+];
+
+const REFUSED: [u8; 8] = [0x06, 0x10, 0x02, 0x06, 0x00, 0x08, 0x00, 0x24];
+
+#[test]
+fn the_endpoint_that_is_bound_is_named(rt: HostRuntime) -> Result<(), Fail> {
+    let own = [192, 168, 1, 2, 0x0E, 0x57];
+    let mut door = Answerer::new(port_of(rt.alloc(), &[])?, own, gateway());
+    let mut into = [0; 512];
+    assert!(rt; door.take(&mut into, 100).is_ok());
+    assert!(rt; door.take(&mut into, 100).is_ok());
+    assert!(rt; door.give(9, &CONNECTED).is_ok());
+    assert!(rt; door.give(9, &REFUSED).is_ok());
+    let port = door.back();
+    let items = port.items.as_slice();
+    let found = given_in(items.get(1)).ok_or("no search response")?;
+    assert!(rt;
+        found.starts_with(&[
+            0x06, 0x10, 0x02, 0x02, 0x00, 0x4C, 0x08, 0x01, 192, 168, 1, 2, 0x0E, 0x57
+        ])
+    );
+    let described = encode_response(Inquiry::Description, &gateway());
+    assert!(rt; is_given(items.get(3), 8, &described));
+    let connected = given_in(items.get(4)).ok_or("no connect response")?;
+    assert!(rt;
+        connected.starts_with(&[
+            0x06, 0x10, 0x02, 0x06, 0x00, 0x14, 0x01, 0x00, 0x08, 0x01, 192, 168, 1, 2, 0x0E, 0x57,
+            0x04, 0x04, 0x11, 0xFF
+        ])
+    );
+    let refused = given_in(items.get(5)).ok_or("no refusal")?;
+    assert_eq!(rt; refused, REFUSED.as_slice());
     Ok(())
 }

@@ -20,6 +20,7 @@ same_status status.GatewayRefused = refl
 same_status status.Flooded = refl
 same_status status.WrongLine = refl
 same_status status.OpenTurns = refl
+same_status status.NothingFound = refl
 
 -- what is told as a number is the status of that number
 pub told : (s : Status) (number : ℕ) → number ≡ status_number s → status_of number ≡ s

@@ -7,8 +7,9 @@ use Rattle.call_words.specs.declared.status.Status.TheVariants as status
 abbrev pub statuses : List Status
 statuses =
     status.Done ∷ status.SomeFailed ∷ status.Usage ∷ status.Project ∷ status.Catalogue ∷ status.Script ∷ status.Read ∷ status.Write
-    ∷ status.NoMemory tt ∷ status.Link ∷ status.GatewayRefused ∷ status.Flooded ∷ status.WrongLine ∷ status.OpenTurns ∷ []
+    ∷ status.NoMemory tt ∷ status.Link ∷ status.GatewayRefused ∷ status.Flooded ∷ status.WrongLine ∷ status.OpenTurns
+    ∷ status.NothingFound ∷ []
 
 -- the status of a number
 abbrev pub status_of : ℕ → Status
-status_of number = slice_index_or statuses number status.OpenTurns
+status_of number = slice_index_or statuses number status.NothingFound

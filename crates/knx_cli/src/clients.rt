@@ -1,7 +1,6 @@
 //! The clients of a port, each by a number: the first is 0, and each new one has the next number. A number names its client for ever.
 
-ghost use Rattle.std.specs.Prelude.{◌≡◌, ◌<◌, ◌≤◌, ◌⊎◌, ◌++◌, ◌∷◌, [], Contains, IfNone, IfOk, IfSome, IsOk, Some, length, slice_get};
-ghost use Rattle.std.specs.List.{HoldsAt};
+ghost use Rattle.std.specs.Prelude.{◌≡◌, ◌≤◌, ◌⊎◌, ◌++◌, ◌∷◌, [], Contains, IfOk, IsOk, Some, length, slice_get};
 ghost use Rattle.knx_cli.specs.Datagrams.{NamesOn};
 
 use indexmap::IndexSet;

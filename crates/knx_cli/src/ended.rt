@@ -6,7 +6,7 @@ ghost use Rattle.knx_model.specs.Outside.{one_more};
 ghost use Rattle.call_words.specs.Statuses.{status_number};
 ghost use Rattle.knx_top.specs.declared.ending.End.TheVariants.{Stops};
 ghost use Rattle.knx_top.specs.Call.{AtMostOneRose, HasRunOf, files_of, touches};
-ghost use Rattle.knx_top.specs.Command.{asked, Big as AskedBig, Check as AskedCheck, Decode as AskedDecode, Download as AskedDownload, Gateway as AskedGateway, Sim as AskedSim, Tables as AskedTables};
+ghost use Rattle.knx_top.specs.Command.{asked, Big as AskedBig, Check as AskedCheck, Decode as AskedDecode, Download as AskedDownload, Find as AskedFind, Gateway as AskedGateway, Sim as AskedSim, Tables as AskedTables};
 ghost use Rattle.knx_top.specs.Ending.{Replies};
 ghost use Rattle.knx_top.specs.Headline.{ActsOnce, BeganRightly, ClosesToItsEnd, EndsEveryJob, EndsThoroughly, HasFaultRight, HasOldStoppedOrNew, HasTelegramsRight, IsOfItsWorkers, IsToldRightly, LeavesItsChannel, RunsWhereDone};
 ghost use Rattle.knx_top.specs.Ran.{FaultsOfLine};
@@ -14,6 +14,7 @@ ghost use Rattle.knx_top.specs.commands.Big.{BigWords, RunsMade};
 ghost use Rattle.knx_top.specs.commands.Check.{IsCountsText};
 ghost use Rattle.knx_top.specs.commands.Decode.{TellsOfFrame};
 ghost use Rattle.knx_top.specs.commands.Download.{DownloadWords, RunsDialled};
+ghost use Rattle.knx_top.specs.commands.Find.{FindWords, RunsFind};
 ghost use Rattle.knx_top.specs.commands.Gateway.{GatewayWords, RunsGateway};
 ghost use Rattle.knx_top.specs.commands.Project.{ProjectWords, TellsOfProject};
 ghost use Rattle.knx_top.specs.commands.Sim.{RunsScript, SimWords};
@@ -60,6 +61,7 @@ pub fn status_of<R: Threads + Wait + Sync, F: Files, K: Sink, D: Dialer, G: Gate
     ensures sim { IfOk words.now (λ words. (names : SimWords) → asked (map string_bytes words.items) ≡ Some (AskedSim names) → RunsScript names (F.now files.old) (F.now files.new) sim.old (record { line = sim.new; report = last.new }) (Replies (K.now out.old) (K.now out.new) (status_of result))) }
     ensures download { IfOk words.now (λ words. (names : DownloadWords) → asked (map string_bytes words.items) ≡ Some (AskedDownload names) → RunsDialled names (F.now files.old) (F.now files.new) (D.now dial.old) (D.now dial.new) last.new (Replies (K.now out.old) (K.now out.new) (status_of result))) }
     ensures gateway { IfOk words.now (λ words. (names : GatewayWords) → asked (map string_bytes words.items) ≡ Some (AskedGateway names) → RunsGateway names (F.now files.old) (F.now files.new) (D.now dial.old) (D.now dial.new) sim.old sim.new (Replies (K.now out.old) (K.now out.new) (status_of result))) }
+    ensures find { IfOk words.now (λ words. (names : FindWords) → asked (map string_bytes words.items) ≡ Some (AskedFind names) → RunsFind names (D.now dial.old) (D.now dial.new) (Replies (K.now out.old) (K.now out.new) (status_of result))) }
     ensures big { IfOk words.now (λ words. (names : BigWords) → asked (map string_bytes words.items) ≡ Some (AskedBig names) → RunsMade names sim.old (record { line = sim.new; report = last.new }) (Replies (K.now out.old) (K.now out.new) (status_of result))) }
     ensures begins { IfOk words.now (λ words. HasRunOf BeganRightly (map string_bytes words.items) (F.now files.old) sim.old (record { line = sim.new; report = last.new })) }
     ensures old_stopped_or_new { IfOk words.now (λ words. HasRunOf HasOldStoppedOrNew (map string_bytes words.items) (F.now files.old) sim.old (record { line = sim.new; report = last.new })) }

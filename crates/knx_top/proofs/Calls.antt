@@ -2,7 +2,7 @@
 use Rattle.std.proofs.Common.{◌≡◌, true, false, List, Option, Some, None, ◌⊎◌, refl, sym, ◌∙◌, subst, ℕ}
 use Rattle.knx_top.specs.Call.{AtMostOneRose, AtPort, Does, Elsewhere, HasRun, HasRunMade, HasRunOf, NoRun, Outside, left_in, touches}
 use Rattle.bus_sim.specs.Loaded.{BusNow}
-use Rattle.knx_top.specs.Command.{Big, Check, Command, Decode, Gateway, Sim, Tables, asked, Download}
+use Rattle.knx_top.specs.Command.{Big, Check, Command, Decode, Find, Gateway, Sim, Tables, asked, Download}
 use Rattle.knx_top.specs.declared.ending.End.{End}
 use Rattle.knx_top.specs.Ran.{FaultsOfLine, Ran, Left, Commission}
 use Rattle.knx_model.specs.Outside.{FilesNow}
@@ -16,6 +16,7 @@ use Rattle.call_words.specs.declared.stop.Stop.{Stop}
 use Rattle.knx_top.proofs.commands.Bigs.{made_written}
 use Rattle.knx_top.proofs.commands.Downloads.{dialled_written}
 use Rattle.knx_top.proofs.commands.Decodes.{frame_written}
+use Rattle.knx_top.proofs.commands.Finds.{find_written}
 use Rattle.knx_top.proofs.commands.Gateways.{gateway_written}
 use Rattle.knx_top.proofs.commands.Projects.{project_written}
 use Rattle.knx_top.proofs.commands.Sims.{script_written}
@@ -29,6 +30,7 @@ use Rattle.knx_top.specs.commands.Sim.{RunsScript, SimWords, commission_told, si
 use Rattle.knx_top.specs.commands.Decode.{TellsOfFrame}
 use Rattle.knx_top.specs.commands.Project.{TellsOfProject, ProjectWords, failed_of_project}
 use Rattle.knx_top.specs.commands.Download.{DownloadWords, RunsDialled, project_named}
+use Rattle.knx_top.specs.commands.Find.{FindWords, RunsFind}
 use Rattle.knx_top.specs.commands.Gateway.{GatewayWords, RunsGateway, failed_of_gateway}
 
 -- ---- what was done, and then written
@@ -40,6 +42,7 @@ written (Sim words) before after end Replied does replied = (script_written word
 written (Decode word) before after end Replied does replied = (frame_written word end Replied does.0 replied, does.1, does.2)
 written (Download words) before after end Replied does replied = (dialled_written words before.files after.files before.dialer after.dialer after.report end Replied does.0 replied, does.1)
 written (Gateway words) before after end Replied does replied = (gateway_written words before.files after.files before.dialer after.dialer before.line after.line end Replied does.0 replied, does.1)
+written (Find words) before after end Replied does replied = (find_written words before.dialer after.dialer end Replied does.0 replied, does.1, does.2)
 written (Big words) before after end Replied does replied = (made_written words before.line (left_in after) end Replied does.0 replied, does.1, does.2)
 
 -- ---- each clause of the whole call
@@ -68,6 +71,7 @@ link_of (Some (Sim words)) before after Replied does touched = does.1
 link_of (Some (Decode word)) before after Replied does touched = absurd (let e : false ≡ true = touched in cc)
 link_of (Some (Download words)) before after Replied does touched = absurd (let e : false ≡ true = touched in cc)
 link_of (Some (Gateway words)) before after Replied does touched = subst (λ (report : Option Report). FaultsOfLine report after.line) (sym does.1) tt
+link_of (Some (Find words)) before after Replied does touched = absurd (let e : false ≡ true = touched in cc)
 link_of (Some (Big words)) before after Replied does touched = does.2
 
 pub download_of : (command : Option Command) (before after : Outside) (Replied : End → Type 0) (words : DownloadWords) → Does command before after Replied → command ≡ Some (Download words)
@@ -77,6 +81,9 @@ download_of command before after Replied words does e = (subst (λ (o : Option C
 pub gateway_of : (command : Option Command) (before after : Outside) (Replied : End → Type 0) (words : GatewayWords) → Does command before after Replied → command ≡ Some (Gateway words)
     → RunsGateway words before.files after.files before.dialer after.dialer before.line after.line Replied
 gateway_of command before after Replied words does e = (subst (λ (o : Option Command). Does o before after Replied) e does).0
+
+pub find_of : (command : Option Command) (before after : Outside) (Replied : End → Type 0) (words : FindWords) → Does command before after Replied → command ≡ Some (Find words) → RunsFind words before.dialer after.dialer Replied
+find_of command before after Replied words does e = (subst (λ (o : Option Command). Does o before after Replied) e does).0
 
 pub big_of : (command : Option Command) (before after : Outside) (Replied : End → Type 0) (words : BigWords) → Does command before after Replied → command ≡ Some (Big words) → RunsMade words before.line (left_in after) Replied
 big_of command before after Replied words does e = (subst (λ (o : Option Command). Does o before after Replied) e does).0
@@ -90,6 +97,7 @@ line_of (Some (Sim words)) before after Replied does untouched = absurd (let e :
 line_of (Some (Decode word)) before after Replied does untouched = does.2.line
 line_of (Some (Download words)) before after Replied does untouched = does.1
 line_of (Some (Gateway words)) before after Replied does untouched = absurd (let e : true ≡ false = untouched in cc)
+line_of (Some (Find words)) before after Replied does untouched = does.2.line
 line_of (Some (Big words)) before after Replied does untouched = absurd (let e : true ≡ false = untouched in cc)
 
 pub no_run_of : (command : Option Command) (before after : Outside) (Replied : End → Type 0) → Does command before after Replied → (touches command).run ≡ false → after.report ≡ None
@@ -100,6 +108,7 @@ no_run_of (Some (Sim words)) before after Replied does untouched = absurd (let e
 no_run_of (Some (Decode word)) before after Replied does untouched = does.2.report
 no_run_of (Some (Download words)) before after Replied does untouched = absurd (let e : true ≡ false = untouched in cc)
 no_run_of (Some (Gateway words)) before after Replied does untouched = does.1
+no_run_of (Some (Find words)) before after Replied does untouched = does.2.report
 no_run_of (Some (Big words)) before after Replied does untouched = absurd (let e : true ≡ false = untouched in cc)
 
 pub faults_in : (command : Option Command) (before after : Outside) (Replied : End → Type 0) → Does command before after Replied → AtMostOneRose before.files.faults after.files.faults
@@ -110,6 +119,7 @@ faults_in (Some (Sim words)) before after Replied does = (failed_of_sim words do
 faults_in (Some (Decode word)) before after Replied does = (None, does.1)
 faults_in (Some (Download words)) before after Replied does = (failed_of_project (project_named words) does.0.texts, does.0.counts)
 faults_in (Some (Gateway words)) before after Replied does = (failed_of_gateway words does.0.texts, does.0.counts)
+faults_in (Some (Find words)) before after Replied does = (None, does.1)
 faults_in (Some (Big words)) before after Replied does = (None, does.1)
 
 -- ---- what is so of each run
@@ -124,6 +134,7 @@ begun_of P get words names files before after texts (ends.BreaksOff told want) r
 begun_of P get words names files before after texts (ends.Reports told) report e is passes runs = HasRun names texts told.report e is passes report (get (commission_told names texts) after.line.run told.report told.jobs runs.ran)
 begun_of P get words names files before after texts (ends.Sums told counts) report e is passes runs = absurd runs
 begun_of P get words names files before after texts (ends.Serves served) report e is passes runs = absurd runs
+begun_of P get words names files before after texts (ends.Finds searched) report e is passes runs = absurd runs
 
 tested : (P : Commission → RunNow → Report → Type 0) → ((c : Commission) (r : RunNow) (report : Report) (jobs : List JobWord) → Ran c r report jobs → P c r report)
     → (tests : Option Stop) (words : List (List ℕ)) (names : SimWords) (files files' : FilesNow) (before : BusNow) (after : Left) (Replied : End → Type 0) (run : RunsScript names files files' before after Replied)
@@ -140,6 +151,7 @@ made_of P get words names files before after (ends.BreaksOff told want) report e
 made_of P get words names files before after (ends.Reports told) report e runs = HasRunMade names told.report e report (get (commission_made names) after.line.run told.report told.jobs runs.ran)
 made_of P get words names files before after (ends.Sums told counts) report e runs = absurd runs
 made_of P get words names files before after (ends.Serves served) report e runs = absurd runs
+made_of P get words names files before after (ends.Finds searched) report e runs = absurd runs
 
 ran_in : (P : Commission → RunNow → Report → Type 0) → ((c : Commission) (r : RunNow) (report : Report) (jobs : List JobWord) → Ran c r report jobs → P c r report)
     → (command : Option Command) (words : List (List ℕ)) (before after : Outside) (Replied : End → Type 0) → asked words ≡ command → Does command before after Replied → HasRunOf P words before.files before.line (left_in after)
@@ -150,6 +162,7 @@ ran_in P get (Some (Sim names)) words before after Replied e does = tested P get
 ran_in P get (Some (Decode word)) words before after Replied e does = NoRun does.2
 ran_in P get (Some (Download names)) words before after Replied e does = Elsewhere names e does.1
 ran_in P get (Some (Gateway names)) words before after Replied e does = AtPort names e does.1
+ran_in P get (Some (Find names)) words before after Replied e does = NoRun does.2
 ran_in P get (Some (Big names)) words before after Replied e does = made_of P get words names before.files before.line (left_in after) does.0.end does.0.report e does.0.runs
 
 -- what is so of each run that a commission describes is so of the call's

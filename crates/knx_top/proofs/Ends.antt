@@ -21,6 +21,7 @@ stop_wants why (ends.BreaksOff report want) h = absurd h
 stop_wants why (ends.Reports told) h = absurd h
 stop_wants why (ends.Sums told counts) h = absurd h
 stop_wants why (ends.Serves served) h = absurd h
+stop_wants why (ends.Finds searched) h = absurd h
 
 -- the same run
 pub report_wants : (end : End) → report_in (wanting end) ≡ report_in end
@@ -31,6 +32,7 @@ report_wants (ends.BreaksOff report want) = refl
 report_wants (ends.Reports told) = refl
 report_wants (ends.Sums told counts) = refl
 report_wants (ends.Serves served) = refl
+report_wants (ends.Finds searched) = refl
 
 -- a call that stopped has none
 pub stopped_report : (why : Stop) (end : End) → StopsFor why end → report_in end ≡ None
@@ -41,6 +43,7 @@ stopped_report why (ends.BreaksOff report want) h = absurd h
 stopped_report why (ends.Reports told) h = absurd h
 stopped_report why (ends.Sums told counts) h = absurd h
 stopped_report why (ends.Serves served) h = absurd h
+stopped_report why (ends.Finds searched) h = absurd h
 
 -- a text is written, or that there was no memory for it
 pub text_replied : (end : End) (text : Result Text NoMemory) (out out' : SinkNow) (told : Status) → IfOk text (λ p. IsTextOf end p.octets p.status)

@@ -1,5 +1,5 @@
 -- A line that was served at a port, once the port was handed back.
-use Rattle.std.proofs.Common.{◌≡◌, ◌≤◌, List, [], ◌∷◌, Option, Result, Ok, Err, refl, sym, ap, ◌∙◌, subst, inl, inr, ◌⊎◌, ℕ}
+use Rattle.std.proofs.Common.{◌≡◌, ◌<◌, ◌≤◌, List, [], ◌∷◌, Option, None, Result, Ok, Err, refl, sym, ap, ◌∙◌, subst, inl, inr, ◌⊎◌, ℕ}
 use Rattle.std.specs.Prelude.{IfErr, IfOk, OnErr, OnOk}
 use Rattle.bus_sim.specs.declared.beginning.Beginning.{Beginning}
 use Rattle.bus_sim.specs.declared.serve.Served.{Served}
@@ -7,7 +7,10 @@ use Rattle.bus_sim.specs.declared.serve.Served.TheVariants as served
 use Rattle.bus_sim.specs.Begun.{mode_in}
 use Rattle.bus_sim.specs.Loaded.{BusNow}
 use Rattle.bus_sim.specs.RunNow.{RunNow, mode, script, start}
-use Rattle.bus_sim.specs.Serving.{BreaksOff, FailsAt, ServedSo, served_beginning}
+use Rattle.bus_sim.specs.Serving.{AddsAll, BreaksOff, FailsAt, ServedSo, served_beginning}
+use Rattle.discovery.specs.declared.about.About.{About}
+use Rattle.discovery_ends.specs.Answering.{answerer_story, faults_with, shown_story}
+use Rattle.discovery_ends.specs.Naming.{named_story}
 use Rattle.knx_model.specs.Outside.{one_more}
 use Rattle.line_model.specs.declared.outside.port.PortFault.{PortFault}
 use Rattle.line_model.specs.declared.outside.port.PortFault.TheVariants as fault
@@ -16,12 +19,14 @@ use Rattle.line_model.specs.Follows.{Follows}
 use Rattle.line_model.specs.Fresh.{IsFresh}
 use Rattle.line_model.specs.Legal.{IsLegal}
 use Rattle.line_model.specs.Lines.{Script, script_of}
-use Rattle.line_model.specs.PortStory.{PortStory, IsNewPort}
-use Rattle.line_model.specs.StartOf.{BusOf}
+use Rattle.line_model.specs.PortStory.{PortItem, PortStory, IsNewPort}
+use Rattle.line_model.specs.StartOf.{BusOf, tunnel_address}
 use Rattle.line_model.specs.Tunnel.{Mode, Serves as AtPort}
 use Rattle.line_model.specs.World.{World, Event}
 use Rattle.knx_top.specs.Begun.{BeginsLine}
+use Rattle.knx_top.proofs.Answered.{added_below, breaks_below, if_cause_below, so_below}
 use Rattle.knx_top.proofs.DialledRuns.{to_address}
+use Rattle.knx_top.specs.Identity.{about_gateway, own_endpoint}
 use Rattle.knx_top.specs.declared.ending.ServiceEnd.{ServiceEnd}
 use Rattle.knx_top.specs.commands.Gateway.{end_of_serving, HasCause, IsServed, ServedRun, Service, ServesTo, Serving}
 
@@ -86,23 +91,32 @@ is_served s began r begins same says fresh legal follows at = record {
 
 -- ---- the serving, and the port that comes back
 
-pub serving : (s : Service) (turns : ℕ) (result : Result Served PortFault) (begun line : BusNow) (new_port port port_back : PortStory) (faults faults' since after : ℕ) (end : ServiceEnd)
-    → BeginsLine s.before s.before s.script begun.run → s.turns ≡ turns → IsNewPort new_port → faults ≡ 0 → begun.faults ≡ 0
-    → IfOk result (λ as_served. ServedSo as_served turns begun.run line.run new_port port) → OnErr result (BreaksOff turns begun.run line.run new_port port)
-    → IfErr result (λ why. FailsAt why faults faults' begun.faults line.faults line.run) → OnOk result (line.faults ≡ begun.faults)
-    → start line.run ≡ start begun.run → script line.run ≡ script begun.run → IsFresh (start line.run) → IsLegal (mode line.run) (start line.run) line.run.events → Follows (script line.run) (mode line.run) (start line.run) line.run.events
-    → port_back ≡ port → TakesBack faults' since after → end ≡ end_of_serving turns result → Serving s line port_back since after end
-serving s turns result begun line new_port port port_back faults faults' since after end begins most new unfailed sound so broken cause still same says fresh legal follows told taken ended = record {
-  run = is_served s begun.run line.run begins same says fresh legal follows (is_at_port turns result begun.run line.run new_port port begins.nothing so broken);
-  began = begun.run;
-  begins = begins;
-  new_port = new_port;
-  new = new;
-  serves = rw (told, ended, most) (serves_to turns result begun.run line.run new_port port so broken);
-  faults = faults';
-  taken = taken;
-  cause = rw ended (has_cause turns result faults faults' begun.faults line unfailed sound cause still);
-}
+module _ (s : Service) (turns : ℕ) (result : Result Served PortFault) (begun line : BusNow) (own own' : List ℕ) (about about' : About) (failed : Option PortFault) (new_port port port_back : PortStory) where
+  pub serving : (faults faults' refused since after : ℕ) (end : ServiceEnd) → BeginsLine s.before s.before s.script begun.run → s.turns ≡ turns → own ≡ own_endpoint s.at → about ≡ about_gateway (tunnel_address s.before)
+      → IsNewPort new_port → faults ≡ 0 → begun.faults ≡ 0
+      → IfOk result (λ as_served. ServedSo as_served turns begun.run line.run (answerer_story own about None new_port) (answerer_story own' about' failed port))
+      → OnErr result (BreaksOff turns begun.run line.run (answerer_story own about None new_port) (answerer_story own' about' failed port))
+      → IfErr result (λ why. FailsAt why (faults_with faults 0) (faults_with faults' refused) begun.faults line.faults line.run) → OnOk result (line.faults ≡ begun.faults)
+      → start line.run ≡ start begun.run → script line.run ≡ script begun.run → IsFresh (start line.run) → IsLegal (mode line.run) (start line.run) line.run.events → Follows (script line.run) (mode line.run) (start line.run) line.run.events
+      → (0 < refused → 0 < faults') → port_back ≡ port → TakesBack faults' since after → end ≡ end_of_serving turns result → Serving s line port_back since after end
+  serving faults faults' refused since after end begins most named tells new unfailed sound so broken cause still same says fresh legal follows refuses told taken ended =
+      let below : PortStory = shown_story about failed (named_story own port) in
+      let added : (items : List PortItem) → AddsAll items (answerer_story own about None new_port) (answerer_story own' about' failed port) → AddsAll items new_port below = λ items h. added_below own own' about about' failed items new_port port new h in
+      let served_so : IfOk result (λ as_served. ServedSo as_served turns begun.run line.run new_port below) = so_below turns begun.run line.run _ _ new_port below added result so in
+      let broken_so : OnErr result (BreaksOff turns begun.run line.run new_port below) = breaks_below turns begun.run line.run _ _ new_port below added result broken in
+      let caused_so : IfErr result (λ why. FailsAt why faults faults' begun.faults line.faults line.run) = if_cause_below result faults faults' refused begun.faults line.faults line.run unfailed refuses cause in
+      record {
+        run = is_served s begun.run line.run begins same says fresh legal follows (is_at_port turns result begun.run line.run new_port below begins.nothing served_so broken_so);
+        began = begun.run;
+        begins = begins;
+        new_port = new_port;
+        new = new;
+        failed = failed;
+        serves = rw (told, ended, most, ← named, ← tells) (serves_to turns result begun.run line.run new_port below served_so broken_so);
+        faults = faults';
+        taken = taken;
+        cause = rw ended (has_cause turns result faults faults' begun.faults line unfailed sound caused_so still);
+      }
 
 -- ---- the port was bound
 

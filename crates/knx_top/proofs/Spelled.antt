@@ -3,7 +3,7 @@ use Rattle.std.proofs.Common.{ℕ, ◌≡◌, ◌↔◌, Bool, true, false, code
 use Rattle.std.specs.Prelude.{bytes_eq, if◌then◌else◌, option_and_then}
 use Rattle.std.specs.Option.{option_map}
 use Rattle.std.proofs.lemmas.Slice.Eq.{bytes_eq-Decides}
-use Rattle.knx_top.specs.Command.{Command, Check, Tables, Sim, Decode, SpellsCommand, SpellsCheck, SpellsTables, SpellsSim, SpellsDecode, SpellsDownload, SpellsGateway, SpellsBig, Big, Download, Gateway, asked}
+use Rattle.knx_top.specs.Command.{Command, Check, Tables, Sim, Decode, SpellsCommand, SpellsCheck, SpellsTables, SpellsSim, SpellsDecode, SpellsDownload, SpellsGateway, SpellsSearch, SpellsDescription, SpellsBig, Big, Download, Find, Gateway, asked}
 use Rattle.line_model.specs.Dialled.{Address}
 use Rattle.knx_top.specs.Fronts.{Spells, SpellsAll}
 use Rattle.knx_top.specs.Host.{address_value}
@@ -13,6 +13,9 @@ use Rattle.knx_top.specs.Options.{SimOptions, from_1_to, no_options, project_opt
 use Rattle.knx_top.specs.commands.Sim.{SimWords, sim_words}
 use Rattle.knx_top.specs.commands.Big.{BigWords, big_words, most_devices, start_value}
 use Rattle.knx_top.specs.commands.Download.{DownloadWords, download_words}
+use Rattle.discovery.specs.declared.inquiry.Inquiry.{Inquiry}
+use Rattle.discovery.specs.declared.inquiry.Inquiry.TheVariants.{Search, Description}
+use Rattle.knx_top.specs.commands.Find.{FindWords, find_words, inquiry_value}
 use Rattle.knx_top.specs.commands.Gateway.{GatewayWords, gateway_words, turns_rows, turns_value}
 use Rattle.knx_top.specs.commands.Decode.{decode_word}
 
@@ -45,6 +48,8 @@ asked_from words command (SpellsSim new old script others options o) = rw (run_f
 asked_from words command (SpellsDecode word) = refl
 asked_from words command (SpellsDownload address new others at options is o) = rw (is, run_from others options o) refl
 asked_from words command (SpellsGateway address old script number others at turns options is number_is o) = rw (is, turns_from number turns number_is, project_from others options o) refl
+asked_from words command (SpellsSearch address at is) = rw is refl
+asked_from words command (SpellsDescription address at is) = rw is refl
 asked_from words command (SpellsBig number start devices from is start_is) = rw (is, start_is) refl
 
 -- ---- from the command that is asked
@@ -124,6 +129,35 @@ gateway_of_words (address ∷ old ∷ []) command e = absurd cc
 gateway_of_words (address ∷ old ∷ script ∷ []) command e = absurd cc
 gateway_of_words (address ∷ old ∷ script ∷ word ∷ others) command e = gateway_to (address_value address) (turns_value word) (project_options others) address old script word others command refl refl refl e
 
+abbrev find_with : Address → Option Inquiry → Option FindWords
+find_with at asks = option_map (λ (inquiry : Inquiry). let w : FindWords = record { at = at; inquiry = inquiry } in w) asks
+
+find_to : (at : Option Address) (address : List ℕ) (command : Command) → address_value address ≡ at → option_map Find (option_and_then (λ (to : Address). find_with to (Some Search)) at) ≡ Some command
+    → SpellsCommand (codes "find" ∷ address ∷ []) command
+find_to None address command is e = absurd cc
+find_to (Some at) address command is e = subst (λ (c : Command). SpellsCommand (codes "find" ∷ address ∷ []) c) (some_command (Find (record { at = at; inquiry = Search })) command e) (SpellsSearch address at is)
+
+describe_to : (at : Option Address) (address : List ℕ) (command : Command) → address_value address ≡ at → option_map Find (option_and_then (λ (to : Address). find_with to (Some Description)) at) ≡ Some command
+    → SpellsCommand (codes "find" ∷ address ∷ codes "describe" ∷ []) command
+describe_to None address command is e = absurd cc
+describe_to (Some at) address command is e = subst (λ (c : Command). SpellsCommand (codes "find" ∷ address ∷ codes "describe" ∷ []) c) (some_command (Find (record { at = at; inquiry = Description })) command e) (SpellsDescription address at is)
+
+no_inquiry : (at : Option Address) (command : Command) → option_map Find (option_and_then (λ (to : Address). find_with to None) at) ≡ Some command → ⊥
+no_inquiry None command e = absurd cc
+no_inquiry (Some at) command e = absurd cc
+
+word_to : (is : Bool) (address word : List ℕ) (command : Command) → bytes_eq word (codes "describe") ≡ is
+    → option_map Find (option_and_then (λ (to : Address). find_with to (if is then Some Description else None)) (address_value address)) ≡ Some command → SpellsCommand (codes "find" ∷ address ∷ word ∷ []) command
+word_to false address word command same e = absurd (no_inquiry (address_value address) command e)
+word_to true address word command same e =
+    subst (λ (w : List ℕ). SpellsCommand (codes "find" ∷ address ∷ w ∷ []) command) (sym ((bytes_eq-Decides word (codes "describe")).0 same)) (describe_to (address_value address) address command refl e)
+
+find_of_words : (words : List (List ℕ)) (command : Command) → option_map Find (find_words words) ≡ Some command → SpellsCommand (codes "find" ∷ words) command
+find_of_words [] command e = absurd cc
+find_of_words (address ∷ []) command e = find_to (address_value address) address command refl e
+find_of_words (address ∷ word ∷ []) command e = word_to (bytes_eq word (codes "describe")) address word command refl e
+find_of_words (address ∷ word ∷ more ∷ others) command e = absurd (no_inquiry (address_value address) command e)
+
 abbrev big_with : ℕ → Option ℕ → Option BigWords
 big_with devices from = option_map (λ (x : ℕ). let w : BigWords = record { devices = devices; start = x } in w) from
 
@@ -143,22 +177,23 @@ big_of_words (number ∷ start ∷ more ∷ others) command e = absurd cc
 headed : (first text : List ℕ) (words : List (List ℕ)) (command : Command) → bytes_eq first text ≡ true → SpellsCommand (text ∷ words) command → SpellsCommand (first ∷ words) command
 headed first text words command is s = subst (λ (w : List ℕ). SpellsCommand (w ∷ words) command) (sym ((bytes_eq-Decides first text).0 is)) s
 
-asked_to : (a b c d f g h : Bool) (first : List ℕ) (words : List (List ℕ)) (command : Command) → bytes_eq first (codes "check") ≡ a → bytes_eq first (codes "tables") ≡ b → bytes_eq first (codes "sim") ≡ c → bytes_eq first (codes "decode") ≡ d → bytes_eq first (codes "download") ≡ f → bytes_eq first (codes "gateway") ≡ g → bytes_eq first (codes "big") ≡ h
-    → (if a then option_map Check (project_words words) else (if b then option_map Tables (project_words words) else (if c then option_map Sim (sim_words words) else (if d then option_map Decode (decode_word words) else (if f then option_map Download (download_words words) else (if g then option_map Gateway (gateway_words words) else (if h then option_map Big (big_words words) else None))))))) ≡ Some command
+asked_to : (a b c d f g i h : Bool) (first : List ℕ) (words : List (List ℕ)) (command : Command) → bytes_eq first (codes "check") ≡ a → bytes_eq first (codes "tables") ≡ b → bytes_eq first (codes "sim") ≡ c → bytes_eq first (codes "decode") ≡ d → bytes_eq first (codes "download") ≡ f → bytes_eq first (codes "gateway") ≡ g → bytes_eq first (codes "find") ≡ i → bytes_eq first (codes "big") ≡ h
+    → (if a then option_map Check (project_words words) else (if b then option_map Tables (project_words words) else (if c then option_map Sim (sim_words words) else (if d then option_map Decode (decode_word words) else (if f then option_map Download (download_words words) else (if g then option_map Gateway (gateway_words words) else (if i then option_map Find (find_words words) else (if h then option_map Big (big_words words) else None)))))))) ≡ Some command
     → SpellsCommand (first ∷ words) command
-asked_to true b c d f g h first words command is _ _ _ _ _ _ e = headed first (codes "check") words command is (check_words words command e)
-asked_to false true c d f g h first words command _ is _ _ _ _ _ e = headed first (codes "tables") words command is (tables_words words command e)
-asked_to false false true d f g h first words command _ _ is _ _ _ _ e = headed first (codes "sim") words command is (sim_of_words words command e)
-asked_to false false false true f g h first words command _ _ _ is _ _ _ e = headed first (codes "decode") words command is (decode_words words command e)
-asked_to false false false false true g h first words command _ _ _ _ is _ _ e = headed first (codes "download") words command is (download_of_words words command e)
-asked_to false false false false false true h first words command _ _ _ _ _ is _ e = headed first (codes "gateway") words command is (gateway_of_words words command e)
-asked_to false false false false false false true first words command _ _ _ _ _ _ is e = headed first (codes "big") words command is (big_of_words words command e)
-asked_to false false false false false false false first words command _ _ _ _ _ _ _ e = absurd cc
+asked_to true b c d f g i h first words command is _ _ _ _ _ _ _ e = headed first (codes "check") words command is (check_words words command e)
+asked_to false true c d f g i h first words command _ is _ _ _ _ _ _ e = headed first (codes "tables") words command is (tables_words words command e)
+asked_to false false true d f g i h first words command _ _ is _ _ _ _ _ e = headed first (codes "sim") words command is (sim_of_words words command e)
+asked_to false false false true f g i h first words command _ _ _ is _ _ _ _ e = headed first (codes "decode") words command is (decode_words words command e)
+asked_to false false false false true g i h first words command _ _ _ _ is _ _ _ e = headed first (codes "download") words command is (download_of_words words command e)
+asked_to false false false false false true i h first words command _ _ _ _ _ is _ _ e = headed first (codes "gateway") words command is (gateway_of_words words command e)
+asked_to false false false false false false true h first words command _ _ _ _ _ _ is _ e = headed first (codes "find") words command is (find_of_words words command e)
+asked_to false false false false false false false true first words command _ _ _ _ _ _ _ is e = headed first (codes "big") words command is (big_of_words words command e)
+asked_to false false false false false false false false first words command _ _ _ _ _ _ _ _ e = absurd cc
 
 spelled_to : (words : List (List ℕ)) (command : Command) → asked words ≡ Some command → SpellsCommand words command
 spelled_to [] command e = absurd cc
 spelled_to (first ∷ words) command e =
-    asked_to (bytes_eq first (codes "check")) (bytes_eq first (codes "tables")) (bytes_eq first (codes "sim")) (bytes_eq first (codes "decode")) (bytes_eq first (codes "download")) (bytes_eq first (codes "gateway")) (bytes_eq first (codes "big")) first words command refl refl refl refl refl refl refl e
+    asked_to (bytes_eq first (codes "check")) (bytes_eq first (codes "tables")) (bytes_eq first (codes "sim")) (bytes_eq first (codes "decode")) (bytes_eq first (codes "download")) (bytes_eq first (codes "gateway")) (bytes_eq first (codes "find")) (bytes_eq first (codes "big")) first words command refl refl refl refl refl refl refl refl e
 
 pub commands : (words : List (List ℕ)) (command : Command) → (asked words ≡ Some command) ↔ SpellsCommand words command
 commands words command = (spelled_to words command, asked_from words command)

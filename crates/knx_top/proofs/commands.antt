@@ -2,6 +2,7 @@
 pub mod Bigs
 pub mod Decodes
 pub mod Downloads
+pub mod Finds
 pub mod Gateways
 pub mod Projects
 pub mod Sims

@@ -1,11 +1,12 @@
 -- What a call of the program touches, reads and does, by what its words ask for.
 use Rattle.std.specs.Prelude.{ℕ, Bool, true, false, List, [], None, Option, Some, ◌≡◌}
 use Rattle.bus_sim.specs.Loaded.{BusNow}
-use Rattle.knx_top.specs.Command.{Big, Check, Command, Decode, Download, Gateway, Sim, Tables, asked}
+use Rattle.knx_top.specs.Command.{Big, Check, Command, Decode, Download, Find, Gateway, Sim, Tables, asked}
 use Rattle.knx_top.specs.Ran.{Commission, FaultsOfLine, Left}
 use Rattle.line_model.specs.Dialled.{DialerNow}
 use Rattle.knx_top.specs.commands.Big.{BigWords, RunsMade, commission_made}
 use Rattle.knx_top.specs.commands.Download.{DownloadWords, RunsDialled, files_of_download}
+use Rattle.knx_top.specs.commands.Find.{FindWords, RunsFind}
 use Rattle.knx_top.specs.declared.ending.End.{End}
 use Rattle.knx_model.specs.Outside.{FilesNow}
 use Rattle.knx_top.specs.commands.Gateway.{GatewayWords, RunsGateway, files_of_gateway}
@@ -37,6 +38,7 @@ touches (Some (Sim words)) = record { line = true; network = false; run = true }
 touches (Some (Decode word)) = record { line = false; network = false; run = false }
 touches (Some (Download words)) = record { line = false; network = true; run = true }
 touches (Some (Gateway words)) = record { line = true; network = true; run = false }
+touches (Some (Find words)) = record { line = false; network = true; run = false }
 touches (Some (Big words)) = record { line = true; network = false; run = true }
 
 -- the files that the words name, in the order in which they are read
@@ -48,6 +50,7 @@ files_of (Some (Sim words)) = files_of_sim words
 files_of (Some (Decode word)) = []
 files_of (Some (Download words)) = files_of_download words
 files_of (Some (Gateway words)) = files_of_gateway words
+files_of (Some (Find words)) = []
 files_of (Some (Big words)) = []
 
 -- ---- what it does
@@ -80,6 +83,7 @@ Does (Some (Sim words)) before after Replied = RunsScript words before.files aft
 Does (Some (Decode word)) before after Replied = TellsOfFrame word Replied × OnlyRose None before.files.faults after.files.faults × HasNoRun before.line (left_in after)
 Does (Some (Download words)) before after Replied = RunsDialled words before.files after.files before.dialer after.dialer after.report Replied × (after.line ≡ before.line)
 Does (Some (Gateway words)) before after Replied = RunsGateway words before.files after.files before.dialer after.dialer before.line after.line Replied × (after.report ≡ None)
+Does (Some (Find words)) before after Replied = RunsFind words before.dialer after.dialer Replied × OnlyRose None before.files.faults after.files.faults × HasNoRun before.line (left_in after)
 Does (Some (Big words)) before after Replied = RunsMade words before.line (left_in after) Replied × OnlyRose None before.files.faults after.files.faults × FaultsOfLine after.report after.line
 
 -- ---- the run of a call

@@ -3,6 +3,8 @@ use Rattle.std.specs.Prelude.{ℕ, List, None, Option, Some, bytes_eq, ◌≡◌
 use Rattle.line_model.specs.Dialled.{Address}
 use Rattle.knx_top.specs.commands.Big.{BigWords, big_words, most_devices, start_value}
 use Rattle.knx_top.specs.commands.Download.{DownloadWords, download_words, download_words_of}
+use Rattle.discovery.specs.declared.inquiry.Inquiry.TheVariants.{Search, Description}
+use Rattle.knx_top.specs.commands.Find.{FindWords, find_words, find_words_of}
 use Rattle.knx_top.specs.commands.Gateway.{GatewayWords, gateway_words, gateway_words_of, turns_rows}
 use Rattle.knx_top.specs.commands.Project.{ProjectWords, project_words, project_words_of}
 use Rattle.knx_top.specs.Options.{SimOptions, from_1_to, no_options, project_rows, run_rows}
@@ -21,12 +23,13 @@ pub data Command : Type 0 where
   Decode : List ℕ → Command
   Download : DownloadWords → Command
   Gateway : GatewayWords → Command
+  Find : FindWords → Command
   Big : BigWords → Command
 
 -- ---- the words that spell a command
 
 -- `check P`, `tables P`, each with its option behind, `sim NEW OLD SCRIPT` with options and jobs, `decode HEX`, `download ADDR NEW` with options and jobs,
--- `gateway ADDR OLD SCRIPT turns=N` with its option behind, and `big N START`
+-- `gateway ADDR OLD SCRIPT turns=N` with its option behind, `find ADDR`, `find ADDR describe`, and `big N START`
 pub data SpellsCommand : List (List ℕ) → Command → Type 0 where
   SpellsCheck : (project : List ℕ) (others : List (List ℕ)) (options : SimOptions) → SpellsAll project_rows others no_options options
       → SpellsCommand (codes "check" ∷ project ∷ others) (Check (record { project = project; catalogue = options.catalogue }))
@@ -39,6 +42,8 @@ pub data SpellsCommand : List (List ℕ) → Command → Type 0 where
       → SpellsCommand (codes "download" ∷ address ∷ new ∷ others) (Download (record { at = at; new = new; options = options }))
   SpellsGateway : (address old script number : List ℕ) (others : List (List ℕ)) (at : Address) (turns : ℕ) (options : SimOptions) → address_value address ≡ Some at → Spells turns_rows number turns → SpellsAll project_rows others no_options options
       → SpellsCommand (codes "gateway" ∷ address ∷ old ∷ script ∷ number ∷ others) (Gateway (record { at = at; old = old; script = script; turns = turns; catalogue = options.catalogue }))
+  SpellsSearch : (address : List ℕ) (at : Address) → address_value address ≡ Some at → SpellsCommand (codes "find" ∷ address ∷ []) (Find (record { at = at; inquiry = Search }))
+  SpellsDescription : (address : List ℕ) (at : Address) → address_value address ≡ Some at → SpellsCommand (codes "find" ∷ address ∷ codes "describe" ∷ []) (Find (record { at = at; inquiry = Description }))
   SpellsBig : (number start : List ℕ) (devices from : ℕ) → from_1_to most_devices number ≡ Some devices → start_value start ≡ Some from
       → SpellsCommand (codes "big" ∷ number ∷ start ∷ []) (Big (record { devices = devices; start = from }))
 
@@ -54,8 +59,9 @@ asked (command ∷ words) =
     else (if bytes_eq command (codes "decode") then option_map Decode (decode_word words)
     else (if bytes_eq command (codes "download") then option_map Download (download_words words)
     else (if bytes_eq command (codes "gateway") then option_map Gateway (gateway_words words)
+    else (if bytes_eq command (codes "find") then option_map Find (find_words words)
     else (if bytes_eq command (codes "big") then option_map Big (big_words words)
-    else None))))))
+    else None)))))))
 
 -- ---- the command in the code
 
@@ -66,4 +72,5 @@ command_of (parsed.Sim names) = Sim (sim_words_of names)
 command_of (parsed.Decode word) = Decode word.now
 command_of (parsed.Download names) = Download (download_words_of names)
 command_of (parsed.Gateway names) = Gateway (gateway_words_of names)
+command_of (parsed.Find names) = Find (find_words_of names)
 command_of (parsed.Big words) = Big words

@@ -1,6 +1,8 @@
+pub mod Searched
 pub mod Ending
 pub mod Fronts
 pub mod Host
+pub mod Identity
 pub mod Options
 pub mod Input
 pub mod OnLine

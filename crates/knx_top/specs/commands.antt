@@ -3,6 +3,7 @@ pub mod Big
 pub mod Check
 pub mod Decode
 pub mod Download
+pub mod Find
 pub mod Gateway
 pub mod Project
 pub mod Sim

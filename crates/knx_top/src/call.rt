@@ -5,7 +5,7 @@ ghost use Rattle.call_words.specs.declared.stop.Stop.TheVariants.{Usage};
 ghost use Rattle.knx_model.specs.Outside.{one_more};
 ghost use Rattle.knx_top.specs.declared.ending.End.TheVariants.{Stops};
 ghost use Rattle.knx_top.specs.Call.{AtMostOneRose, Does, HasRunOf, files_of, touches};
-ghost use Rattle.knx_top.specs.Command.{Big as AskedBig, Check as AskedCheck, Decode as AskedDecode, Download as AskedDownload, Gateway as AskedGateway, Sim as AskedSim, Tables as AskedTables, asked, command_of};
+ghost use Rattle.knx_top.specs.Command.{Big as AskedBig, Check as AskedCheck, Decode as AskedDecode, Download as AskedDownload, Find as AskedFind, Gateway as AskedGateway, Sim as AskedSim, Tables as AskedTables, asked, command_of};
 ghost use Rattle.knx_top.specs.Ending.{Is, Replies, report_in};
 ghost use Rattle.knx_top.specs.Headline.{ActsOnce, BeganRightly, ClosesToItsEnd, EndsEveryJob, EndsThoroughly, HasFaultRight, HasOldStoppedOrNew, HasTelegramsRight, IsOfItsWorkers, IsToldRightly, LeavesItsChannel, RunsWhereDone};
 ghost use Rattle.knx_top.specs.Ran.{FaultsOfLine};
@@ -13,12 +13,13 @@ ghost use Rattle.knx_top.specs.commands.Big.{BigWords, RunsMade};
 ghost use Rattle.knx_top.specs.commands.Check.{IsCountsText};
 ghost use Rattle.knx_top.specs.commands.Decode.{TellsOfFrame};
 ghost use Rattle.knx_top.specs.commands.Download.{DownloadWords, RunsDialled};
+ghost use Rattle.knx_top.specs.commands.Find.{FindWords, RunsFind};
 ghost use Rattle.knx_top.specs.commands.Gateway.{GatewayWords, RunsGateway};
 ghost use Rattle.knx_top.specs.commands.Project.{ProjectWords, TellsOfProject};
 ghost use Rattle.knx_top.specs.commands.Sim.{RunsScript, SimWords};
 ghost use Rattle.knx_top.specs.commands.Tables.{IsTablesText};
 
-use crate::commands::{Command, asked, big, check, decode, download, gateway, sim, tables};
+use crate::commands::{Command, asked, big, check, decode, download, find, gateway, sim, tables};
 use crate::ending::{End, tell, tell_end};
 use bus_sim::SimBus;
 use call_words::Status;
@@ -51,6 +52,7 @@ fn run<R: Threads + Wait + Sync, F: Files, D: Dialer, G: Gate + Sync>(
         Command::Decode(word) => decode::call(alloc, word),
         Command::Download(names) => download::call(rt, alloc, &names, files, dial, gate),
         Command::Gateway(names) => gateway::call(alloc, names, files, sim, dial),
+        Command::Find(names) => find::call(alloc, names, dial),
         Command::Big(numbers) => big::call(rt, alloc, &numbers, sim, gate),
     }
 }
@@ -108,6 +110,7 @@ pub fn knx<R: Threads + Wait + Sync, F: Files, K: Sink, D: Dialer, G: Gate + Syn
     ensures sim { (names : SimWords) → asked (map string_bytes words.now) ≡ Some (AskedSim names) → RunsScript names (F.now files.old) (F.now files.new) sim.old (record { line = sim.new; report = last.new }) (Replies (K.now out.old) (K.now out.new) result) }
     ensures download { (names : DownloadWords) → asked (map string_bytes words.now) ≡ Some (AskedDownload names) → RunsDialled names (F.now files.old) (F.now files.new) (D.now dial.old) (D.now dial.new) last.new (Replies (K.now out.old) (K.now out.new) result) }
     ensures gateway { (names : GatewayWords) → asked (map string_bytes words.now) ≡ Some (AskedGateway names) → RunsGateway names (F.now files.old) (F.now files.new) (D.now dial.old) (D.now dial.new) sim.old sim.new (Replies (K.now out.old) (K.now out.new) result) }
+    ensures find { (names : FindWords) → asked (map string_bytes words.now) ≡ Some (AskedFind names) → RunsFind names (D.now dial.old) (D.now dial.new) (Replies (K.now out.old) (K.now out.new) result) }
     // the line that the words of `big` make is run as by `sim`, and nothing is refused
     ensures big { (names : BigWords) → asked (map string_bytes words.now) ≡ Some (AskedBig names) → RunsMade names sim.old (record { line = sim.new; report = last.new }) (Replies (K.now out.old) (K.now out.new) result) }
     // a run begins as it is stated, and what happens on the line is legal and follows the script

@@ -6,6 +6,7 @@ ghost use Rattle.call_words.specs.ReportText.{stop_text};
 ghost use Rattle.knx_model.specs.Outside.{one_more};
 ghost use Rattle.knx_top.specs.Ending.{IsTextOf, RepliesOf, Writes, end_told, open_line, report_in};
 
+use crate::searched::{LINK_FAULT, SearchEnd, search_status, search_text};
 use call_words::{JobWord, Status, Stop};
 use knx_model::{Counts, List, NoMemory, Octets, Sink, put_number_word, put_word};
 use line_model::Report;
@@ -13,9 +14,6 @@ use report_text::{
     DeviceShown, NO_MEMORY, line_report_of, line_status, stop_status, stop_text, sums_text,
 };
 use std::alloc::Global;
-
-/// What is told where a gateway wasn't reached, a port not bound, or a serving failed.
-const LINK_FAULT: &[u8] = b"link fault\n";
 
 /// What is told where a serving came to its end.
 const ENDED: &[u8] = b"ended\n";
@@ -63,6 +61,8 @@ pub enum End {
     Sums(Reported, Counts),
     /// A serving is over.
     Serves(ServiceEnd),
+    /// A search for gateways is over.
+    Finds(SearchEnd),
 }
 
 impl End {
@@ -83,7 +83,7 @@ impl End {
         match self {
             End::BreaksOff(report, _) => Some(report),
             End::Reports(reported) | End::Sums(reported, _) => Some(reported.report),
-            End::Stops(_) | End::Tells(_) | End::NotOpened | End::Serves(_) => None,
+            End::Stops(_) | End::Tells(_) | End::NotOpened | End::Serves(_) | End::Finds(_) => None,
         }
     }
 }
@@ -129,6 +129,15 @@ fn text_of_sums(alloc: Global, reported: &Reported, counts: Counts) -> Result<Te
     let report = &reported.report;
     let octets = sums_text(alloc, report, counts, reported.devices.as_slice())?;
     let status = line_status(report);
+    Ok(Text { status, octets })
+}
+
+/// What is printed of a search.
+fn text_of_search(alloc: Global, end: &SearchEnd) -> Result<Text, NoMemory>
+    ensures { IfOk result (λ p. IsTextOf (End.Finds end.now) p.octets p.status) }
+{
+    let octets = search_text(alloc, end)?;
+    let status = search_status(end);
     Ok(Text { status, octets })
 }
 
@@ -202,5 +211,6 @@ pub fn tell_end<K: Sink>(alloc: Global, out: &mut K, end: &End) -> Status
         End::Reports(reported) => tell_or_want(out, text_of_report(alloc, reported)),
         End::Sums(reported, counts) => tell_or_want(out, text_of_sums(alloc, reported, *counts)),
         End::Serves(end) => tell_service(alloc, out, end),
+        End::Finds(end) => tell_or_want(out, text_of_search(alloc, end)),
     }
 }

@@ -6,11 +6,13 @@ mod commands;
 mod complete;
 mod ending;
 mod host;
+mod identity;
 mod input;
 mod jobs;
 mod line;
 mod options;
 mod project;
+mod searched;
 mod shown;
 mod turns;
 

@@ -37,7 +37,7 @@ fn tunnel_beside(first: Option<IndAddr>) -> IndAddr
 }
 
 /// The tunnel's address on the line of a project's first device.
-fn tunnel_address(new: &Checked<'_, '_>) -> IndAddr
+pub fn tunnel_address(new: &Checked<'_, '_>) -> IndAddr
     ensures { result ≡ tunnel_address new.now }
 {
     tunnel_beside(new.first())

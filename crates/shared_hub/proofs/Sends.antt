@@ -21,8 +21,10 @@ use Rattle.turn_cell.proofs.seat.Seat.TheSendSync as seat
 use Rattle.turn_cell.proofs.turn.Turn.TheSendSync as turn
 use Rattle.turn_cell.specs.contracts.seat.Seat as Seat
 use Rattle.turn_cell.specs.contracts.turn.Turn as Turn
+use Rattle.shared_hub.proofs.listener.Listener.TheSendSync as listener
 use Rattle.shared_hub.proofs.relay.Relay.TheSendSync as relay
 use Rattle.shared_hub.specs.contracts.item.Item as Item
+use Rattle.shared_hub.specs.contracts.listener.Listener as Listener
 use Rattle.shared_hub.specs.contracts.relay.Relay as Relay
 use Rattle.shared_hub.specs.contracts.site.Site.{the_row}
 use Rattle.shared_hub.specs.contracts.site.SiteLogged.TheImpl as logged
@@ -68,3 +70,14 @@ workers_send R T G g r t e layout name ℓ ℓ' ℓ'' ℓ''' κ κ' κ'' κ''' =
 -- and the seat that it comes to
 pub back_send : (T : RattleType) (g : Ghosts T.Denot) → IsSend T → (layout : Ty) → IsSend (param 3 (arg layout no (seat_row T g)))
 back_send T g s layout = param_send 3 _ (arg_send layout no _ (seat_send T g s))
+
+-- so the group thread's goes, which has the runtime, the cell, the relay, a seat and the listener
+pub group_send : (R T : RattleType) (g : Ghosts T.Denot) → IsSync R → IsSend T → (layout : Ty) (name : Sym) (ℓ ℓ' ℓ'' : Lifetime) (κ κ' κ'' : Lft)
+    → IsSend (param 1 (arg layout no (TupleAt name (ShrRef ℓ κ R ∷ ShrRef ℓ' κ' (cell_row T g) ∷ ShrRef ℓ'' κ'' Relay.the_row ∷ seat_row T g ∷ Listener.the_row ∷ []))))
+group_send R T g r t layout name ℓ ℓ' ℓ'' κ κ' κ'' =
+    closure_send 1 layout no name (ShrRef ℓ κ R ∷ ShrRef ℓ' κ' (cell_row T g) ∷ ShrRef ℓ'' κ'' Relay.the_row ∷ seat_row T g ∷ Listener.the_row ∷ [])
+    (shr_send ℓ κ R r, (shr_send ℓ' κ' (cell_row T g) (cell_sync T g t), (shr_send ℓ'' κ'' Relay.the_row relay.the_sync, (seat_send T g t, (listener.the_send, tt)))))
+
+-- and the seat and the listener that it comes to
+pub both_send : (T : RattleType) (g : Ghosts T.Denot) → IsSend T → (layout : Ty) (name : Sym) → IsSend (param 3 (arg layout no (TupleAt name (seat_row T g ∷ Listener.the_row ∷ []))))
+both_send T g s layout name = closure_send 3 layout no name (seat_row T g ∷ Listener.the_row ∷ []) (seat_send T g s, (listener.the_send, tt))

@@ -118,8 +118,13 @@ pub fn all_done<R: Threads + Wait + Sync, L: Link + Send, G: Gate + Sync>(
     let mut seat = first;
     let group = cell.split(&mut seat);
     let shared = &cell;
-    let (mut all, (last, listener)) = join(
+    // where no thread can be made the first comes last, when there is nothing more to wait for
+    let ((last, listener), mut all) = join(
         rt,
+        move || -> (Seat<Site<L>>, Listener)
+            requires { (group.cell ≡ shared.now.id) × (group.turn ≡ false) × Leads 0 relay.now group.seen × (listener.router ≡ relay.now) }
+            ensures { Sees group result.0 × WasDone HasTold result.0.seen × (result.1.router ≡ relay.entry.now) }
+        { sent(rt, shared, relay, group, listener) },
         move || -> Seat<Site<L>>
             requires { IsSync R.row × IsSync G.row × (seat.cell ≡ shared.now.id) × (seat.turn ≡ false) × (1 ≤ workers) × (workers ≤ seat.parts) × Leads workers relay.now seat.seen }
             ensures { Sees seat result × AllDone workers result.seen }
@@ -128,10 +133,6 @@ pub fn all_done<R: Threads + Wait + Sync, L: Link + Send, G: Gate + Sync>(
             relay.ring_last();
             all
         },
-        move || -> (Seat<Site<L>>, Listener)
-            requires { (group.cell ≡ shared.now.id) × (group.turn ≡ false) × Leads 0 relay.now group.seen × (listener.router ≡ relay.now) }
-            ensures { Sees group result.0 × WasDone HasTold result.0.seen × (result.1.router ≡ relay.entry.now) }
-        { sent(rt, shared, relay, group, listener) },
     );
     cell.join(&mut all, last);
     (cell.close(all), listener)

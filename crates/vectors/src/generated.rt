@@ -1,15 +1,13 @@
-//! Projects that a number makes: their text as another program works it out, their counts, and the images of all their devices.
+//! Projects that a number makes: their text as another program works it out, and their counts.
 
 ghost use Rattle.std.specs.Prelude.{◌≤◌};
 
 use knx_gen::{GroupNames, project_from};
-use knx_model::{Catalogue, Counts, Image, NoMemory, Octets};
-use project_check::{Checked, check};
+use knx_model::{Catalogue, Counts, NoMemory, Octets};
+use project_check::check;
 use project_text::print_project;
 use std::alloc::Global;
 use std::test::Fail;
-use std::thread::Threads;
-use table_compiler::{compile, compile_all};
 
 /// The last lines of the project of one device that the number 7 makes.
 const DEVICE: &[u8] =
@@ -53,45 +51,5 @@ fn counts_of_a_generated_project(rt: HostRuntime) -> Result<(), Fail> {
         links: 1920,
     };
     assert_eq!(rt; checked.counts(), wanted);
-    Ok(())
-}
-
-/// Whether two images are the same.
-fn is_same(one: &Image, other: &Image) -> bool {
-    one.addr.as_slice() == other.addr.as_slice()
-        && one.assoc.as_slice() == other.assoc.as_slice()
-        && one.objs.as_slice() == other.objs.as_slice()
-        && one.params.as_slice() == other.params.as_slice()
-}
-
-/// Whether each device of a project has, where all are compiled in threads, the image that it has alone.
-fn are_as_alone<R: Threads + Sync>(
-    rt: &R,
-    alloc: Global,
-    checked: &Checked<'_, '_>,
-) -> Result<bool, NoMemory> {
-    let images = compile_all(rt, alloc, checked)?;
-    let mut are_same = images.len() == checked.devices().len();
-    for (device, image) in checked.devices().iter().zip(images.as_slice()) {
-        let alone = compile(alloc, checked, *device)?;
-        are_same = are_same && is_same(image, &alone);
-    }
-    Ok(are_same)
-}
-
-#[test]
-fn images_of_all_devices(rt: HostRuntime) -> Result<(), Fail> {
-    let names = GroupNames::new(rt.alloc()).ok().ok_or("names")?;
-    let project = project_from(rt.alloc(), &names, 60, 7)
-        .ok()
-        .ok_or("a project")?;
-    let catalogue = Catalogue::empty(rt.alloc());
-    let checked = check(rt.alloc(), &project, &catalogue)
-        .ok()
-        .ok_or("no rule is broken")?;
-    let are_same = are_as_alone(&rt, rt.alloc(), &checked)
-        .ok()
-        .ok_or("images")?;
-    assert!(rt; are_same);
     Ok(())
 }

@@ -7,6 +7,8 @@ use Rattle.knx_top.specs.declared.ending.End.{End}
 use Rattle.knx_model.specs.Outside.{FileContent, FilesNow}
 use Rattle.knx_top.specs.Input.{OnlyRose, fault_in, first_some, goes_on, octets_of, failed}
 use Rattle.knx_top.specs.declared.commands.gateway.GatewayTexts.{GatewayTexts}
+use Rattle.knx_top.specs.declared.commands.gateway.Ready.{Ready}
+use Rattle.line_model.specs.StartOf.{tunnel_address}
 use Rattle.knx_model.specs.Meaning.{Installation}
 use Rattle.knx_top.specs.Ending.{Is, StopsFor, report_in, wanting, untold}
 use Rattle.knx_model.specs.declared.catalogue.model.NamedModel.{NamedModel}
@@ -62,8 +64,8 @@ judged_gateway_is words texts =
 
 -- ---- the last test
 
-pub line_for : (words : GatewayWords) (before : Installation) (ls : List ScriptLine) (line : BusNow) → BeginsLine before before ls line.run → line.faults ≡ 0 → LineFor (with_lines words before ls) line
-line_for words before ls line begins sound = rw begins.known (record { begins = begins; sound = sound })
+pub line_for : (words : GatewayWords) (before : Installation) (ls : List ScriptLine) (ready : Ready) → BeginsLine before before ls ready.line.run → ready.line.faults ≡ 0 → ready.tunnel ≡ tunnel_address before → LineFor (with_lines words before ls) ready
+line_for words before ls ready begins sound tunnel = rw begins.known (record { begins = begins; sound = sound; tunnel = tunnel })
 
 -- ---- the reads
 
@@ -86,23 +88,23 @@ gateway_stop j told now line h = stopped ((now ≡ now) × (line ≡ line)) (λ 
 -- ---- where it serves
 
 -- of what a line is for
-pub of_line : (P : Type 0) (j : Result Service Stop) (line : BusNow) → LineFor j line → ((s : Service) → IsLineOf s line → P) → P
-of_line P (Err why) line is h = absurd is
-of_line P (Ok s) line is h = h s is
+pub of_line : (P : Type 0) (j : Result Service Stop) (ready : Ready) → LineFor j ready → ((s : Service) → IsLineOf s ready → P) → P
+of_line P (Err why) ready is h = absurd is
+of_line P (Ok s) ready is h = h s is
 
-decided : (j : Result Service Stop) (words : GatewayWords) (begun : BusNow) (before after : DialerNow) (line line' : BusNow) (end : End) → ((s : Service) → j ≡ Ok s → (s.at ≡ words.at) × (s.turns ≡ words.turns)) → LineFor j begun
-    → ((s : Service) → BeginsLine s.before s.before s.script begun.run → s.at ≡ words.at → s.turns ≡ words.turns → Serves s before after line line' end) → ServesOr j before after line line' end
-decided (Err why) words begun before after line line' end has is serves = absurd is
-decided (Ok s) words begun before after line line' end has is serves = let h = has s refl in serves s is.begins h.0 h.1
+decided : (j : Result Service Stop) (words : GatewayWords) (ready : Ready) (before after : DialerNow) (line line' : BusNow) (end : End) → ((s : Service) → j ≡ Ok s → (s.at ≡ words.at) × (s.turns ≡ words.turns)) → LineFor j ready
+    → ((s : Service) → IsLineOf s ready → s.at ≡ words.at → s.turns ≡ words.turns → Serves s before after line line' end) → ServesOr j before after line line' end
+decided (Err why) words ready before after line line' end has is serves = absurd is
+decided (Ok s) words ready before after line line' end has is serves = let h = has s refl in serves s is h.0 h.1
 
 its_words : (words : GatewayWords) (texts : GatewayTexts) (s : Service) → judged_gateway words texts ≡ Ok s → (s.at ≡ words.at) × (s.turns ≡ words.turns)
 its_words words texts s e =
     let same : s ≡ gateway_told words texts = passed (gateway_tests words texts) (gateway_told words texts) s (sym (judged_gateway_is words texts) ∙ e) in
     (ap (λ (told : Service). told.at) same, ap (λ (told : Service). told.turns) same)
 
-pub served_line : (words : GatewayWords) (texts : GatewayTexts) (begun : BusNow) (before after : DialerNow) (line line' : BusNow) (end : End) → LineFor (judged_gateway words texts) begun
-    → ((s : Service) → BeginsLine s.before s.before s.script begun.run → s.at ≡ words.at → s.turns ≡ words.turns → Serves s before after line line' end) → ServesOr (judged_gateway words texts) before after line line' end
-served_line words texts begun before after line line' end is serves = decided (judged_gateway words texts) words begun before after line line' end (its_words words texts) is serves
+pub served_line : (words : GatewayWords) (texts : GatewayTexts) (ready : Ready) (before after : DialerNow) (line line' : BusNow) (end : End) → LineFor (judged_gateway words texts) ready
+    → ((s : Service) → IsLineOf s ready → s.at ≡ words.at → s.turns ≡ words.turns → Serves s before after line line' end) → ServesOr (judged_gateway words texts) before after line line' end
+served_line words texts ready before after line line' end is serves = decided (judged_gateway words texts) words ready before after line line' end (its_words words texts) is serves
 
 -- ---- the whole of it
 
@@ -130,6 +132,7 @@ serving_is_no_run s before after line line' (ends.BreaksOff report want) h = abs
 serving_is_no_run s before after line line' (ends.Reports told) h = absurd h
 serving_is_no_run s before after line line' (ends.Sums told counts) h = absurd h
 serving_is_no_run s before after line line' (ends.Serves served) h = refl
+serving_is_no_run s before after line line' (ends.Finds searched) h = absurd h
 
 pub begins_no_run : (j : Result Service Stop) (before after : DialerNow) (line line' : BusNow) (end : End) → ServesOr j before after line line' end → report_in end ≡ None
 begins_no_run (Err why) before after line line' end h = stopped_report why end h.0
@@ -145,6 +148,7 @@ untold_so s line port since after (over.OpenTurns turns) h = record {
   begins = h.begins;
   new_port = h.new_port;
   new = h.new;
+  failed = h.failed;
   serves = inr h.serves.1;
   faults = h.faults;
   taken = h.taken;
@@ -161,6 +165,7 @@ serves_wants s before after line line' (ends.BreaksOff report want) h = absurd h
 serves_wants s before after line line' (ends.Reports told) h = absurd h
 serves_wants s before after line line' (ends.Sums told counts) h = absurd h
 serves_wants s before after line line' (ends.Serves served) h = record { given = h.given; once = h.once; since = h.since; count = h.count; serving = untold_so s line' after.port_back h.since after.faults served h.serving }
+serves_wants s before after line line' (ends.Finds searched) h = absurd h
 
 pub gateway_written : (words : GatewayWords) (files files' : FilesNow) (before after : DialerNow) (line line' : BusNow) (end : End) (Replied : End → Type 0) → RunsGateway words files files' before after line line' (Is end)
     → Replied end ⊎ Replied (wanting end) → RunsGateway words files files' before after line line' Replied

@@ -1,13 +1,13 @@
 -- `gateway ADDR OLD SCRIPT turns=N` with its option. It reads the catalogue, OLD and the script and tells the first test that fails; no port is bound then. Else
 -- it binds the port that its words name. Where that fails, a link fault is told, and nothing else. Else it serves the line that OLD and the script say, at that
--- port, for at most so many turns, and hands the port back: all that is told is told of what that port told last. The dialer's count of faults takes in those of
--- the port.
+-- port, for at most so many turns, and hands the port back: all that is told is told of what that port told last. There it names the endpoint that is bound, and
+-- answers by itself who asks who it is. The dialer's count of faults takes in those of the port.
 use Rattle.std.specs.Prelude.{ℕ, Err, List, None, Ok, Option, Result, Some, option_to_list, ◌≡◌, ◌≤◌, ◌⊎◌, ◌++◌, ◌∷◌, codes, true, [], option_and_then}
 use Rattle.line_model.specs.Dialled.{Address, DialerNow, TakesBack, Tells}
 use Rattle.knx_top.specs.Begun.{BeginsLine}
 use Rattle.bus_sim.specs.Serving.{BreaksOff, FailsAt, ServedSo}
 use Rattle.bus_sim.specs.Loaded.{BusNow}
-use Rattle.line_model.specs.StartOf.{BusOf}
+use Rattle.line_model.specs.StartOf.{BusOf, tunnel_address}
 use Rattle.knx_top.specs.Judged.{ComesTo, models_of, read_of, unless_refused, unless_strange, installed, sound}
 use Rattle.knx_top.specs.declared.ending.End.{End}
 use Rattle.knx_top.specs.Dialled.{FailsToOpen}
@@ -15,6 +15,10 @@ use Rattle.knx_model.specs.Outside.{FileContent, FilesNow, one_more}
 use Rattle.line_model.specs.Follows.{Follows}
 use Rattle.knx_top.specs.declared.commands.gateway.GatewayNames.{GatewayNames}
 use Rattle.knx_top.specs.declared.commands.gateway.GatewayTexts.{GatewayTexts}
+use Rattle.knx_top.specs.declared.commands.gateway.Ready.{Ready}
+use Rattle.discovery_ends.specs.Answering.{shown_story}
+use Rattle.discovery_ends.specs.Naming.{named_story}
+use Rattle.knx_top.specs.Identity.{about_gateway, own_endpoint}
 use Rattle.knx_model.specs.Meaning.{Installation}
 use Rattle.line_model.specs.Fresh.{IsFresh}
 use Rattle.line_model.specs.Legal.{IsLegal}
@@ -116,6 +120,12 @@ gateway_tests words texts =
 
 -- ---- a serving at the port that came back
 
+-- What the port told, as the line was served with it (the newest first): each search or description request that was answered at once stands without octets,
+-- and its answer, which tells of this gateway, is left out. In connect responses and search responses 0.0.0.0:0 stands for the endpoint that is bound,
+-- which the port was given. Where an answer failed, the request that it was for is left out.
+abbrev pub line_story : Service → Option PortFault → PortStory → PortStory
+line_story s failed port = shown_story (about_gateway (tunnel_address s.before)) failed (named_story (own_endpoint s.at) port)
+
 -- the line began as OLD and the script say, its devices loaded with OLD's images; what happened on it is legal where clients come to a port, and follows the script,
 -- whose lines with `group` call for nothing here
 pub record IsServed (s : Service) (r : RunNow) : Type 0 where
@@ -146,7 +156,9 @@ pub record Serving (s : Service) (line : BusNow) (port : PortStory) (since after
   pub begins : BeginsLine s.before s.before s.script began
   pub new_port : PortStory
   pub new : IsNewPort new_port
-  pub serves : ServesTo end s.turns began line.run new_port port
+  -- how an answer failed, if one did
+  pub failed : Option PortFault
+  pub serves : ServesTo end s.turns began line.run new_port (line_story s failed port)
   -- the port's count of failed calls, which the dialer's takes in
   pub faults : ℕ
   pub taken : TakesBack faults since after
@@ -222,14 +234,15 @@ abbrev pub gateway_words_of : GatewayNames → GatewayWords
 gateway_words_of names = record { at = address_of names.at; old = names.old.now; script = names.script.now; turns = names.turns; catalogue = named names.catalogue }
 
 -- a line that begins as the service says, of which no call has failed
-pub record IsLineOf (s : Service) (line : BusNow) : Type 0 where
-  pub begins : BeginsLine s.before s.before s.script line.run
-  pub sound : line.faults ≡ 0
+pub record IsLineOf (s : Service) (ready : Ready) : Type 0 where
+  pub begins : BeginsLine s.before s.before s.script ready.line.run
+  pub sound : ready.line.faults ≡ 0
+  pub tunnel : ready.tunnel ≡ tunnel_address s.before
 
 -- what was judged has its line
-abbrev pub LineFor : Result Service Stop → BusNow → Type 0
-LineFor (Ok s) line = IsLineOf s line
-LineFor (Err why) line = ⊥
+abbrev pub LineFor : Result Service Stop → Ready → Type 0
+LineFor (Ok s) ready = IsLineOf s ready
+LineFor (Err why) ready = ⊥
 
 -- the end of a serving that broke off so
 abbrev pub end_of_fault : PortFault → ServiceEnd

@@ -4,21 +4,22 @@ ghost use Rattle.std.specs.Prelude.{◌≡◌, ◌≢◌, ◌≤◌, ◌+◌, �
 ghost use Rattle.std.specs.Option.{option_map};
 ghost use Rattle.call_words.specs.declared.stop.Stop.TheVariants.{NoMemory as OutOfMemory};
 ghost use Rattle.line_model.specs.PortStory.{IsNewPort};
-ghost use Rattle.knx_top.specs.Begun.{BeginsLine};
 ghost use Rattle.knx_top.specs.Ending.{Is, report_in};
 ghost use Rattle.knx_top.specs.Input.{OnlyRose};
 ghost use Rattle.knx_top.specs.Names.{address_of};
-ghost use Rattle.knx_top.specs.commands.Gateway.{GatewayIsRead, LineFor, RunsGateway, Serves, ServesOr, Service, Serving, end_of_fault, end_of_serving, failed_of_gateway, files_of_gateway, gateway_words, gateway_words_of, judged_gateway, turns_value, with_lines};
+ghost use Rattle.knx_top.specs.commands.Gateway.{GatewayIsRead, IsLineOf, LineFor, RunsGateway, Serves, ServesOr, Service, Serving, end_of_fault, end_of_serving, failed_of_gateway, files_of_gateway, gateway_words, gateway_words_of, judged_gateway, turns_value, with_lines};
 
 use crate::ending::{End, ServiceEnd};
 use crate::host::{GatewayAddress, address_in};
+use crate::identity::{about_gateway, own_endpoint};
 use crate::input::{Reading, read_after, read_named};
-use crate::line::line_begun;
+use crate::line::{line_begun, tunnel_address};
 use crate::options::{behind, from_1_to, project_options};
 use crate::project::{models_in, project_in, read_of, script_in, sound_in};
 use bus_sim::{Served, SimBus};
 use call_words::{InputFile, Stop};
-use knx_model::Files;
+use discovery_ends::Answerer;
+use knx_model::{Files, IndAddr};
 use line_model::{Dialer, PortFault};
 use project_check::Checked;
 use script_text::Script;
@@ -92,23 +93,31 @@ fn read_gateway_texts<F: Files>(
     }
 }
 
+/// A line that can be served, and its tunnel's address.
+#[derive(Drop)]
+pub struct Ready {
+    pub line: SimBus,
+    pub tunnel: IndAddr,
+}
+
 /// The last test, of the devices that a script names, and the line that begins.
 fn judge_script(
     alloc: Global,
     names: GatewayNames<'_>,
     old: &Checked<'_, '_>,
     script: &Script,
-) -> Result<SimBus, Stop>
-    ensures ok { IfOk result (λ line. LineFor (with_lines (gateway_words_of names.entry) old.now script.now.lines) line) }
+) -> Result<Ready, Stop>
+    ensures ok { IfOk result (λ ready. LineFor (with_lines (gateway_words_of names.entry) old.now script.now.lines) ready) }
     ensures err { IfErr result (λ why. why ≢ OutOfMemory tt → with_lines (gateway_words_of names.entry) old.now script.now.lines ≡ Err why) }
 {
     let line = line_begun(alloc, old, &*old, script)?;
-    Ok(line)
+    let tunnel = tunnel_address(old);
+    Ok(Ready { line, tunnel })
 }
 
 /// What was read is judged in order: the catalogue, OLD, then the script and its devices.
-fn judge(alloc: Global, names: GatewayNames<'_>, texts: &GatewayTexts) -> Result<SimBus, Stop>
-    ensures ok { IfOk result (λ line. LineFor (judged_gateway (gateway_words_of names.entry) texts.now) line) }
+fn judge(alloc: Global, names: GatewayNames<'_>, texts: &GatewayTexts) -> Result<Ready, Stop>
+    ensures ok { IfOk result (λ ready. LineFor (judged_gateway (gateway_words_of names.entry) texts.now) ready) }
     ensures err { IfErr result (λ why. why ≢ OutOfMemory tt → judged_gateway (gateway_words_of names.entry) texts.now ≡ Err why) }
 {
     read_of(alloc, names.catalogue, &texts.catalogue)?;
@@ -118,8 +127,8 @@ fn judge(alloc: Global, names: GatewayNames<'_>, texts: &GatewayTexts) -> Result
     let old = project_in(alloc, InputFile::Old, old)?;
     let old = sound_in(alloc, InputFile::Old, &old, &models)?;
     let script = script_in(alloc, script)?;
-    let line = judge_script(alloc, names, &old, &script)?;
-    Ok(line)
+    let ready = judge_script(alloc, names, &old, &script)?;
+    Ok(ready)
 }
 
 /// The end of a serving that broke off so.
@@ -143,44 +152,45 @@ fn end_of_serving(turns: u32, served: Result<Served, PortFault>) -> ServiceEnd
     }
 }
 
-/// Serves a line at a port that was bound, and hands the port back. The line is then the simulated one.
+/// Serves a line at a port that was bound, where its gateway tells of itself, and hands the port back. The line is then the simulated one.
 fn serve<D: Dialer>(
     alloc: Global,
-    turns: u32,
-    line: SimBus,
+    names: GatewayNames<'_>,
+    ready: Ready,
     door: D::P,
     sim: &mut SimBus,
     dial: &mut D,
 ) -> ServiceEnd
     requires new { IsNewPort (D.P.story door) }
     requires unfailed { D.P.faults door ≡ 0 }
-    requires sound { line.faults ≡ 0 }
-    ensures serving { (s : Service) → BeginsLine s.before s.before s.script line.run → s.turns ≡ turns → Serving s sim.new (D.now dial.new).port_back (D.now dial.old).faults (D.now dial.new).faults result }
+    requires sound { ready.line.faults ≡ 0 }
+    ensures serving { (s : Service) → IsLineOf s ready → s.at ≡ address_of names.entry.at → s.turns ≡ names.entry.turns → Serving s sim.new (D.now dial.new).port_back (D.now dial.old).faults (D.now dial.new).faults result }
     ensures given { (D.now dial.new).given ≡ (D.now dial.old).given }
     ensures dials { (D.now dial.new).dials ≡ (D.now dial.old).dials }
 {
+    let Ready { line, tunnel } = ready;
     let mut line = line;
-    let mut door = door;
-    let served = line.serve(alloc, &mut door, turns);
+    let mut door = Answerer::new(door, own_endpoint(names.at), about_gateway(tunnel));
+    let served = line.serve(alloc, &mut door, names.turns);
     line.keeps();
-    dial.shut(door);
+    dial.shut(door.back());
     *sim = line;
-    end_of_serving(turns, served)
+    end_of_serving(names.turns, served)
 }
 
 /// Binds the port, and serves a line there.
 fn bind_and_serve<D: Dialer>(
     alloc: Global,
     names: GatewayNames<'_>,
-    line: SimBus,
+    ready: Ready,
     sim: &mut SimBus,
     dial: &mut D,
 ) -> End
-    requires sound { line.faults ≡ 0 }
-    ensures { (s : Service) → BeginsLine s.before s.before s.script line.run → s.at ≡ address_of names.entry.at → s.turns ≡ names.entry.turns → Serves s (D.now dial.old) (D.now dial.new) sim.old sim.new result }
+    requires sound { ready.line.faults ≡ 0 }
+    ensures { (s : Service) → IsLineOf s ready → s.at ≡ address_of names.entry.at → s.turns ≡ names.entry.turns → Serves s (D.now dial.old) (D.now dial.new) sim.old sim.new result }
 {
     match dial.bind(names.at.host, names.at.port) {
-        Ok(door) => End::Serves(serve(alloc, names.turns, line, door, sim, dial)),
+        Ok(door) => End::Serves(serve(alloc, names, ready, door, sim, dial)),
         Err(_) => End::NotOpened,
     }
 }
@@ -196,7 +206,7 @@ fn gateway<D: Dialer>(
     ensures { ServesOr (judged_gateway (gateway_words_of names.entry) texts.now) (D.now dial.old) (D.now dial.new) sim.old sim.new result }
 {
     match judge(alloc, names, texts) {
-        Ok(line) => bind_and_serve(alloc, names, line, sim, dial),
+        Ok(ready) => bind_and_serve(alloc, names, ready, sim, dial),
         Err(why) => End::Stops(why),
     }
 }

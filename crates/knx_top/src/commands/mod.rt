@@ -8,6 +8,7 @@ pub mod big;
 pub mod check;
 pub mod decode;
 pub mod download;
+pub mod find;
 pub mod gateway;
 pub mod sim;
 pub mod tables;
@@ -15,6 +16,7 @@ pub mod tables;
 use crate::commands::big::{BigNumbers, big_numbers};
 use crate::commands::decode::decode_word;
 use crate::commands::download::{DownloadNames, download_names};
+use crate::commands::find::{FindNames, find_names};
 use crate::commands::gateway::{GatewayNames, gateway_names};
 use crate::commands::sim::{SimNames, sim_names};
 use crate::project::{ProjectNames, project_names};
@@ -34,6 +36,8 @@ pub enum Command<'a> {
     Download(DownloadNames<'a>),
     /// `gateway ADDR OLD SCRIPT turns=N [catalogue=F]`
     Gateway(GatewayNames<'a>),
+    /// `find ADDR [describe]`
+    Find(FindNames),
     /// `big N START`
     Big(BigNumbers),
 }
@@ -52,6 +56,7 @@ pub fn asked(words: &[String]) -> Option<Command<'_>>
         "decode" => Some(Command::Decode(decode_word(others)?)),
         "download" => Some(Command::Download(download_names(others)?)),
         "gateway" => Some(Command::Gateway(gateway_names(others)?)),
+        "find" => Some(Command::Find(find_names(others)?)),
         "big" => Some(Command::Big(big_numbers(others)?)),
         _ => None,
     }

@@ -49,6 +49,9 @@ returns-in-Ok-clause-leaves g c = rw (c.in-Ok.is, ← c.as_slice.ensures.value) 
 pub returns-in-Ok-clause-gateway : goal.returns-in-Ok-clause-gateway
 returns-in-Ok-clause-gateway g c = rw (c.in-Ok.is, ← c.as_slice.ensures.value, told c.knx.result c.number.result c.number.ensures) c.knx.ensures.gateway
 
+pub returns-in-Ok-clause-find : goal.returns-in-Ok-clause-find
+returns-in-Ok-clause-find g c = rw (c.in-Ok.is, ← c.as_slice.ensures.value, told c.knx.result c.number.result c.number.ensures) c.knx.ensures.find
+
 pub returns-in-Ok-clause-line : goal.returns-in-Ok-clause-line
 returns-in-Ok-clause-line g c = rw (c.in-Ok.is, ← c.as_slice.ensures.value) c.knx.ensures.line
 

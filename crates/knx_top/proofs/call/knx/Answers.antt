@@ -1,5 +1,5 @@
 use Rattle.knx_top.specs.Headline.{BeganRightly, HasOldStoppedOrNew, HasTelegramsRight, RunsWhereDone, ActsOnce, IsToldRightly, EndsThoroughly, LeavesItsChannel, HasFaultRight, EndsEveryJob, ClosesToItsEnd, IsOfItsWorkers}
-use Rattle.knx_top.proofs.Calls.{usage_of, check_of, tables_of, decode_of, sim_of, big_of, link_of, download_of, gateway_of, line_of, no_run_of, faults_in, ran_of}
+use Rattle.knx_top.proofs.Calls.{usage_of, check_of, tables_of, decode_of, sim_of, big_of, link_of, download_of, gateway_of, find_of, line_of, no_run_of, faults_in, ran_of}
 use Rattle.knx_top.proofs.Promised as promised
 use Rattle.knx_top.proofs.call.knx.Goals as goal
 
@@ -26,6 +26,9 @@ returns-clause-download g c = λ names. download_of _ _ _ _ names c.answer.ensur
 
 pub returns-clause-gateway : goal.returns-clause-gateway
 returns-clause-gateway g c = λ names. gateway_of _ _ _ _ names c.answer.ensures.does
+
+pub returns-clause-find : goal.returns-clause-find
+returns-clause-find g c = λ names. find_of _ _ _ _ names c.answer.ensures.does
 
 pub returns-clause-big : goal.returns-clause-big
 returns-clause-big g c = λ names. big_of _ _ _ _ names c.answer.ensures.does

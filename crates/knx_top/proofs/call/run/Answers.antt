@@ -2,6 +2,7 @@ use Rattle.std.proofs.Common.{◌≡◌, true, false, refl}
 use Rattle.knx_top.specs.commands.Check.{IsCountsText}
 use Rattle.knx_top.specs.commands.Tables.{IsTablesText}
 use Rattle.knx_top.proofs.commands.Decodes.{frame_no_run}
+use Rattle.knx_top.proofs.commands.Finds.{find_no_run}
 use Rattle.knx_top.proofs.commands.Projects.{project_no_run}
 use Rattle.knx_top.proofs.call.run.Goals as goal
 
@@ -31,3 +32,9 @@ returns-in-Gateway-clause-does g c = rw c.in-Gateway.is (c.call-in-Gateway.ensur
 
 pub returns-in-Gateway-clause-undialled : goal.returns-in-Gateway-clause-undialled
 returns-in-Gateway-clause-undialled g c = rw c.in-Gateway.is (λ untouched. absurd (let e : true ≡ false = untouched in cc))
+
+pub returns-in-Find-clause-does : goal.returns-in-Find-clause-does
+returns-in-Find-clause-does g c = rw c.in-Find.is (c.call-in-Find.ensures, (λ _. refl), record { line = refl; report = find_no_run _ _ _ c.call-in-Find.result c.call-in-Find.ensures })
+
+pub returns-in-Find-clause-undialled : goal.returns-in-Find-clause-undialled
+returns-in-Find-clause-undialled g c = rw c.in-Find.is (λ untouched. absurd (let e : true ≡ false = untouched in cc))

@@ -4,23 +4,24 @@ use denote.Param.Send.{arg_send, arg_sync, param_send, param_sync}
 use Rattle.std.proofs.Common.{ap, arith, subst, sym, ◌∙◌}
 use Rattle.shared_hub.specs.Items.{HasTold}
 use Rattle.shared_hub.specs.Works.{Leads}
-use Rattle.shared_hub.proofs.Sends.{back_send, workers_send}
+use Rattle.shared_hub.proofs.Sends.{both_send, group_send}
 use Rattle.shared_hub.proofs.Works.{all_later, leads_fewer, was_later}
 use Rattle.shared_hub.proofs.crew.all_done.Goals as goal
 
-pub join-all-requires-send-F : goal.join-all-requires-send-F
-join-all-requires-send-F g c κs within = workers_send (param 0 g.row.R) (param 1 g.row.L) (param 2 g.row.G) g.L.Link c.type_bounds.sync-R c.type_bounds.send-L c.type_bounds.sync-G _ _ _ _ _ _ _ _ _ _
+pub join-last-requires-send-F : goal.join-last-requires-send-F
+join-last-requires-send-F g c κs within = group_send (param 0 g.row.R) (param 1 g.row.L) g.L.Link c.type_bounds.sync-R c.type_bounds.send-L _ _ _ _ _ _ _ _
 
-pub join-all-requires-send-A : goal.join-all-requires-send-A
-join-all-requires-send-A g c κs within = back_send (param 1 g.row.L) g.L.Link c.type_bounds.send-L _
+pub join-last-requires-send-A : goal.join-last-requires-send-A
+join-last-requires-send-A g c κs within = both_send (param 1 g.row.L) g.L.Link c.type_bounds.send-L _ _
 
-pub join-all-requires-after_bounds : goal.join-all-requires-after_bounds
-join-all-requires-after_bounds g c κs within =
+pub join-last-requires-after_bounds : goal.join-last-requires-after_bounds
+join-last-requires-after_bounds g c κs within =
     let same = c.split-group.ensures.left in
     let group = c.split-group.ensures.right in
     let sync-R = param_sync _ _ (arg_sync _ no _ c.type_bounds.sync-R) in
     let sync-G = param_sync _ _ (arg_sync _ no _ c.type_bounds.sync-G) in
     let few = c.requires.few in let whole = c.requires.whole in let parts = ap (λ s. s.parts) same in (
+      (ap (λ s. s.cell) group ∙ c.requires.of, ap (λ s. s.turn) group, subst (λ s. Leads 0 c.args.relay.now s.seen) (sym group) (leads_fewer 0 c.args.workers c.args.relay.now _ (omega arith) c.requires.leads), c.requires.listens),
       (
         (
           sync-R,
@@ -33,11 +34,10 @@ join-all-requires-after_bounds g c κs within =
         ),
         (param_send _ _ (arg_send _ no _ c.type_bounds.send-L), sync-R, sync-G),
       ),
-      (ap (λ s. s.cell) group ∙ c.requires.of, ap (λ s. s.turn) group, subst (λ s. Leads 0 c.args.relay.now s.seen) (sym group) (leads_fewer 0 c.args.workers c.args.relay.now _ (omega arith) c.requires.leads), c.requires.listens),
     )
 
 pub returns-clause-done : goal.returns-clause-done
-returns-clause-done g c = all_later c.args.workers _ _ c.close.ensures.seen (all_later c.args.workers _ _ c.join.ensures.begins.0 c.join-all.ensures.first.1)
+returns-clause-done g c = all_later c.args.workers _ _ c.close.ensures.seen (all_later c.args.workers _ _ c.join.ensures.begins.0 c.join-last.ensures.second.1)
 
 pub returns-clause-told : goal.returns-clause-told
-returns-clause-told g c = was_later HasTold _ _ c.close.ensures.seen (was_later HasTold _ _ c.join.ensures.begins.1 c.join-all.ensures.second.1)
+returns-clause-told g c = was_later HasTold _ _ c.close.ensures.seen (was_later HasTold _ _ c.join.ensures.begins.1 c.join-last.ensures.first.1)
